@@ -1,0 +1,50 @@
+//! A growable list whose contracts speak of a plain list.
+
+ghost use Rattle.std.specs.Prelude.{◌≡◌, [], ◌∷◌, ◌++◌, OnOk, IfErr, length};
+
+use std::alloc::Global;
+use std::marker::Model;
+
+/// A list. Contracts see the list of its items; code may read and write `items` itself.
+#[derive(Debug, Drop)]
+pub struct List<T> {
+    pub items: Vec<T>,
+}
+
+impl<T> Model for List<T> {
+    ghost use Rattle.std.specs.Prelude.{List as ListOf};
+
+    ghost Value = { ListOf T };
+
+    ghost view = { λ list. list.items.items };
+}
+
+impl<T> List<T> {
+    /// The empty list, which takes no memory.
+    pub fn new(alloc: Global) -> List<T>
+        ensures { result ≡ [] }
+    {
+        List {
+            items: Vec::new(alloc),
+        }
+    }
+
+    /// Puts an item at the end. Where memory is refused the list stays and the item comes back.
+    pub fn push(&mut self, item: T) -> Result<(), T>
+        ensures ok { OnOk result (self.new ≡ self.old ++ item ∷ []) }
+        ensures unchanged { IfErr result (λ _. self.new ≡ self.old) }
+        ensures returned { IfErr result (λ back. back ≡ item) }
+    {
+        match self.items.push(item) {
+            Ok(()) => Ok(()),
+            Err(failed) => Err(failed.value),
+        }
+    }
+
+    /// All items in their order.
+    pub fn as_slice(&self) -> &[T]
+        ensures { result.now ≡ self.now }
+    {
+        self.items.as_slice()
+    }
+}
