@@ -1,5 +1,5 @@
 -- Addresses and prefixes of IPv4 (RFC 791; RFC 4632, section 3.1), as numbers below 2 ^ 32 and lengths.
-use Rattle.std.specs.Prelude.{◌≡◌, ℕ, ◌-◌, ◌*◌, ◌/◌, ◌^◌}
+use Rattle.std.specs.Prelude.{ℕ, ◌-◌, ◌*◌, ◌/◌, ◌^◌, ◌==◌, ◌&&◌, Bool}
 use Rattle.mw_text.specs.declared.address.Addr.{Addr}
 use Rattle.mw_text.specs.declared.address.Prefix.{Prefix}
 
@@ -16,5 +16,9 @@ abbrev pub prefix_at : Addr → ℕ → Prefix
 prefix_at d len = record { addr = record { 0 = d.0 / block len * block len }; len = len }
 
 -- the first bits of the address, as many as the prefix is long, are those of the prefix
-abbrev pub Covers : Prefix → Addr → Type 0
-Covers p d = d.0 / block p.len ≡ p.addr.0 / block p.len
+abbrev pub covers : Prefix → Addr → Bool
+covers p d = d.0 / block p.len == p.addr.0 / block p.len
+
+-- the same address and the same length
+abbrev pub same_prefix : Prefix → Prefix → Bool
+same_prefix p q = (p.addr.0 == q.addr.0) && (p.len == q.len)

@@ -1,7 +1,7 @@
 //! IPv4 addresses and prefixes (RFC 791; RFC 4632, section 3.1).
 
-ghost use Rattle.std.specs.Prelude.{◌≡◌, ◌↔◌, IsTrue};
-ghost use Rattle.mw_text.specs.Address.{mask_of, prefix_at, Covers};
+ghost use Rattle.std.specs.Prelude.{◌≡◌};
+ghost use Rattle.mw_text.specs.Address.{mask_of, prefix_at, covers};
 
 /// An IPv4 address as a number, its first octet highest.
 #[derive(Clone, Copy, Debug, PartialEq, Eq)]
@@ -43,7 +43,7 @@ pub fn prefix_of(d: Addr, len: u8) -> Prefix
 
 /// Whether the prefix contains the address: their first `p.len` bits are equal.
 pub fn contains(p: &Prefix, d: Addr) -> bool
-    ensures { IsTrue result ↔ Covers p.now d }
+    ensures { result ≡ covers p.now d }
 {
     let block = block_size(p.len);
     u64::from(d.0) / block == u64::from(p.addr.0) / block

@@ -1,6 +1,7 @@
 //! A growable list whose contracts speak of a plain list.
 
 ghost use Rattle.std.specs.Prelude.{◌≡◌, [], ◌∷◌, ◌++◌, OnOk, IfErr, IfOk, IsTrue, ◌↔◌};
+ghost use Rattle.mw_text.specs.Text.{same_text};
 
 use std::alloc::{AllocError, Global};
 use std::marker::Model;
@@ -60,7 +61,8 @@ pub fn list_of(alloc: Global, bytes: &[u8]) -> Result<List<u8>, AllocError>
 
 /// Whether two texts are the same bytes.
 pub fn same_bytes(a: &[u8], b: &[u8]) -> bool
-    ensures { IsTrue result ↔ (a.now ≡ b.now) }
+    ensures value { result ≡ same_text a.now b.now }
+    ensures same { IsTrue result ↔ (a.now ≡ b.now) }
 {
     a == b
 }
