@@ -1,5 +1,5 @@
 -- The routing table of a router for one prefix (RFC 1812, section 5.2.4; administrative distances as Cisco IOS has them).
-use Rattle.std.specs.Prelude.{ℕ, ◌==◌, ◌&&◌, Bool, true, false, not, List, [], ◌∷◌, ◌++◌, filter, map, nat_le, Option, Some, None, if◌then◌else◌}
+use Rattle.std.specs.Prelude.{ℕ, ◌==◌, ◌&&◌, Bool, true, false, not, List, [], ◌∷◌, ◌++◌, filter, map, nat_lt, fold, Option, Some, None, if◌then◌else◌}
 use Rattle.std.specs.List.{list_any}
 use Rattle.mw_text.specs.declared.address.Addr.{Addr}
 use Rattle.mw_text.specs.declared.address.Prefix.{Prefix}
@@ -47,13 +47,14 @@ candidates up statics p =
     (if is_direct up p then record { source = Connected; distance = 0 } ∷ [] else [])
     ++ map (λ route. record { source = Static; distance = route.distance }) (static_routes up statics p)
 
+-- of two entries the later one only where its distance is less
+abbrev pub closer : Option RibEntry → RibEntry → Option RibEntry
+closer None entry = Some entry
+closer (Some best) entry = if nat_lt entry.distance best.distance then Some entry else Some best
+
 -- the first candidate of least distance
 abbrev pub least_distance : List RibEntry → Option RibEntry
-least_distance [] = None
-least_distance (entry ∷ rest) = Some (nearer (least_distance rest)) where
-  nearer : Option RibEntry → RibEntry
-  nearer None = entry
-  nearer (Some other) = if nat_le entry.distance other.distance then entry else other
+least_distance entries = fold closer None entries
 
 -- the entry for that prefix
 abbrev pub table_entry : List File → Failures → ℕ → File → Prefix → Option RibEntry

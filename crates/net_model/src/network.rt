@@ -1,9 +1,10 @@
 //! The network of a list of files, where they form one.
 
-ghost use Rattle.std.specs.Prelude.{◌≡◌, ◌≤◌, All, IfOk, MatchOption, IsTrue, true, false, length, ◌&&◌};
+ghost use Rattle.std.specs.Prelude.{◌≡◌, ◌≤◌, All, IfOk, MatchOption, IfSome, ◌<◌, IsTrue, position, true, false, length, ◌&&◌};
 ghost use Rattle.std.specs.List.{list_all, list_any};
 ghost use Rattle.mw_text.specs.Text.{same_text};
-ghost use Rattle.net_model.specs.Network.{names_differ, all_pairs, overlap, fit_together, reaches, is_connected, statics_connected, is_network, most_interfaces};
+ghost use Rattle.net_model.specs.Network.{names_differ, all_pairs, overlap, fit_together, reaches, is_connected, statics_connected, is_network, most_interfaces, most_routers};
+ghost use Rattle.net_model.specs.Interfaces.{addressed};
 
 use crate::interfaces::{Addressed, addressed_of};
 use ios_ast::{File, Iface, StaticRoute, Via};
@@ -130,6 +131,15 @@ fn all_routes_connected(files: &[File]) -> bool
     files.iter().all(|file| routes_are_connected(file))
 }
 
+fn place_of(files: &[File], name: &[u8]) -> Option<usize>
+    ensures place { result ≡ position (λ file. same_text file.hostname name.now) files.now }
+    ensures within { IfSome result (λ at. at < length files.now) }
+{
+    files
+        .iter()
+        .position(|file| same_bytes(file.hostname.as_slice(), name))
+}
+
 impl Net {
     /// The network of these files. None exactly where they are none: two hostnames or two addresses are the same, two
     /// subnets clash, a static route has a next hop that is on no subnet of its router, or the routers are too many.
@@ -159,5 +169,22 @@ impl Net {
         ensures { result.now ≡ self.now }
     {
         self.routers.as_slice()
+    }
+
+    /// The interfaces that have an address, in the order of the files.
+    pub fn addresses(&self) -> &[Addressed]
+        ensures { result.now ≡ addressed self.now }
+    {
+        self.addresses.as_slice()
+    }
+
+    /// The router of that name. None exactly where there is none.
+    pub fn router_named(&self, name: &[u8]) -> Option<u32>
+        ensures { result ≡ position (λ file. same_text file.hostname name.now) self.now }
+    {
+        match place_of(self.routers.as_slice(), name) {
+            None => None,
+            Some(at) => Some(at as u32),
+        }
     }
 }
