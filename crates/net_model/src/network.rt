@@ -166,7 +166,9 @@ impl Net {
 
     /// The routers, in the order of the files.
     pub fn routers(&self) -> &[File]
-        ensures { result.now ≡ self.now }
+        ensures all { result.now ≡ self.now }
+        ensures few { length self.now ≤ most_routers }
+        ensures network { is_network self.now ≡ true }
     {
         self.routers.as_slice()
     }
