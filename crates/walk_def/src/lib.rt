@@ -1,0 +1,4 @@
+//! Walks of a packet: the next hops of each router, and a walk that breaks a question, if there is one.
+#![tactic(auto)]
+
+pub mod hops;
