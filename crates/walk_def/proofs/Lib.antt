@@ -1,2 +1,4 @@
 pub mod Inside
 pub mod Longest
+pub mod Members
+pub mod SafeWalks
