@@ -12,9 +12,9 @@ test-of_item test (y ∷ ys) x all (zero, within, is) = ap test (sym is) ∙ hea
   head false b h = h
 test-of_item test (y ∷ ys) x all (suc k, within, is) =
     test-of_item test ys x (tail (test y) (list_all test ys) all) (k, omega arith, is) where
-  tail : (a b : Bool) → (a && b) ≡ true → b ≡ true
-  tail true b h = h
-  tail false b h = cc
+      tail : (a b : Bool) → (a && b) ≡ true → b ≡ true
+      tail true b h = h
+      tail false b h = cc
 
 -- where no item fails the test, each passes
 one_more : {A : Type 0} (b : Bool) (x : A) (o : Option A) (rest : Bool) → (o ≡ None → rest ≡ true) →

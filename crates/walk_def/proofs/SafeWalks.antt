@@ -76,9 +76,9 @@ safe-goes hops target before now (then ∷ rest) end (by_hops _ ends tos) led go
     let hop : Contains (hops now.router) (To i) = goes.0.2 in
     let P : ℕ → Start → Type 0 = λ _ stood. (is : List IfaceId) × Leads hops stood.router is then.router in
     let earlier : AllLead hops before then.router =
-          λ k stood found. let back = led k stood found in (back.0 ++ i ∷ [], leads-on hops stood.router back.0 now.router i back.1 hop) in
+    λ k stood found. let back = led k stood found in (back.0 ++ i ∷ [], leads-on hops stood.router back.0 now.router i back.1 hop) in
     let arrived = safe-goes hops target (before ++ now ∷ []) then rest end (tos i hop)
-          (each_place-push P before now earlier (i ∷ [], (hop, refl))) goes.1 closed in
+    (each_place-push P before now earlier (i ∷ [], (hop, refl))) goes.1 closed in
     (arrived.0, (now ∷ arrived.1.0, arrived.1.1, ap (λ xs. now ∷ xs) arrived.1.2, arrived.1.3))
 
 -- no walk from a safe router goes wrong
@@ -97,15 +97,15 @@ pub safe-harmless : (hops : ℕ → List Hop) (target : ℕ) (safe : List Bool) 
 safe-harmless hops target safe router sound none =
     let all : list_all (is_harmless safe target router) (hops router) ≡ true = all-none_found (is_harmless safe target router) (hops router) none in
     by_hops router
-      (λ end item. delivered end (test-of_item (is_harmless safe target router) (hops router) (Ends end) all item))
-      (λ i item. sound i.router (test-of_item (is_harmless safe target router) (hops router) (To i) all item))
-    where
-  delivered : (end : End) → (is_delivered end && router == target) ≡ true → (end ≡ Delivered) × (router ≡ target)
-  delivered Delivered h = (refl, grind arith)
-  delivered (Left a) h = cc
-  delivered NoRoute h = cc
-  delivered Discarded h = cc
-  delivered (DeniedIn i) h = cc
-  delivered DeniedOut h = cc
-  delivered Loop h = cc
-  delivered Open h = cc
+    (λ end item. delivered end (test-of_item (is_harmless safe target router) (hops router) (Ends end) all item))
+    (λ i item. sound i.router (test-of_item (is_harmless safe target router) (hops router) (To i) all item))
+  where
+    delivered : (end : End) → (is_delivered end && router == target) ≡ true → (end ≡ Delivered) × (router ≡ target)
+    delivered Delivered h = (refl, grind arith)
+    delivered (Left a) h = cc
+    delivered NoRoute h = cc
+    delivered Discarded h = cc
+    delivered (DeniedIn i) h = cc
+    delivered DeniedOut h = cc
+    delivered Loop h = cc
+    delivered Open h = cc

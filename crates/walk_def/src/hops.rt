@@ -186,7 +186,8 @@ fn one_hop(alloc: Global, end: End) -> Result<List<Hop>, AllocError>
     Ok(hops)
 }
 
-fn hops_of(
+/// The next hops of a router, over the interfaces that are up: all of them, and its own.
+pub fn hops_of(
     alloc: Global,
     up: &[Addressed],
     own: &[Addressed],

@@ -3,3 +3,4 @@
 
 pub mod hops;
 pub mod safety;
+pub mod verdict;

@@ -1,6 +1,6 @@
 //! Which routers are safe: from these every walk is delivered at the target.
 
-ghost use Rattle.std.specs.Prelude.{◌≡◌, ◌<◌, ℕ, ◌^◌, List, Some, None, true, false, not, IfOk, IfSome, IfNone, IsSome, length, slice_get};
+ghost use Rattle.std.specs.Prelude.{◌≡◌, ◌<◌, ℕ, ◌^◌, List as ListOf, Some, None, true, false, not, IfOk, IfSome, IfNone, IsSome, length, replicate, slice_get};
 ghost use Rattle.std.specs.List.{find, list_all};
 ghost use Rattle.std.specs.Option.{option_copied};
 ghost use Rattle.question_lang.specs.declared.walk.Hop.{Hop as HopOf};
@@ -52,7 +52,7 @@ pub fn first_harmful(safe: &[bool], target: u32, router: u32, own: &[Hop]) -> Op
 fn next_safe(hops: &[List<Hop>], target: u32, safe: &[bool]) -> Option<u32>
     requires few { length hops.now < 2 ^ 32 }
     requires same { length safe.now ≡ length hops.now }
-    ensures found { IfSome result (λ router. (router < length hops.now) × (safety.known safe.now router ≡ false) × ((own : List HopOf) →
+    ensures found { IfSome result (λ router. (router < length hops.now) × (safety.known safe.now router ≡ false) × ((own : ListOf HopOf) →
         slice_get hops.now router ≡ Some own → safety.first_harmful safe.now target router own ≡ None)) }
     ensures none { IfNone result (safety.IsClosed hops.now target safe.now) }
 {
@@ -65,4 +65,25 @@ fn next_safe(hops: &[List<Hop>], target: u32, safe: &[bool]) -> Option<u32>
         }
     }
     None
+}
+
+/// A mark for each router, none of them set.
+pub fn no_marks(alloc: Global, count: usize) -> Result<Vec<bool>, AllocError>
+    ensures { IfOk result (λ marks. marks.items ≡ replicate count false) }
+{
+    vec![in alloc; false; count]
+}
+
+/// For each router whether it is safe, as far as that shows: a router that is not among those known has a hop that is
+/// not harmless.
+pub fn safe_routers(alloc: Global, hops: &[List<Hop>], target: u32) -> Result<Vec<bool>, AllocError>
+    requires { length hops.now < 2 ^ 32 }
+    ensures sound { IfOk result (λ safe. safety.AreSafe hops.now target safe.items) }
+    ensures closed { IfOk result (λ safe. safety.IsClosed hops.now target safe.items) }
+{
+    let mut safe = no_marks(alloc, hops.len())?;
+    'rounds: while let Some(router) = next_safe(hops, target, safe.as_slice()) {
+        safe[router as usize] = true;
+    }
+    Ok(safe)
 }
