@@ -24,6 +24,10 @@ EndsAt (Router router) walk = (walk.end ≡ Delivered) × LastStandsAt router wa
 EndsAt (Subnet p) walk = ⊥
 EndsAt (Peer router a) walk = ⊥
 
+-- that packets from a router reach a router
+abbrev pub reach_question : ℕ → ℕ → Kind
+reach_question start target = Reach (record { router = start; iface = None }) (Router target)
+
 -- the walk breaks the question: a `reach` is broken by a walk from its start that ends, and not at the target. No other
 -- kind is read today
 abbrev pub Breaks : Kind → Walk → Type 0

@@ -32,13 +32,13 @@ pub sent_here : (files routers : List File) (tables : Tables) (d : Addr) (all : 
     IsSent files tables d n hops
 sent_here files routers tables d all up own k n file hops same_files same_all is_up_list is_own within is_file made place =
     let read : slice_get files k ≡ Some file =
-          ap (λ fs. slice_get fs k) (sym same_files) ∙ slice_get_read routers (length routers) k file refl within is_file in
+    ap (λ fs. slice_get fs k) (sym same_files) ∙ slice_get_read routers (length routers) k file refl within is_file in
     let statics = ap (λ o. option_map_or (λ f. f.statics) o []) (sym read) in
     let e : hops ≡ sent files tables d k =
-          made
-          ∙ ap (λ xs. hops_over xs own file.statics tables k d) (is_up_list ∙ ap all_open same_all)
-          ∙ ap (λ xs. hops_over (all_open (addressed files)) xs file.statics tables k d) (is_own ∙ ap (λ xs. open_interfaces xs k) same_all)
-          ∙ ap (λ ss. hops_over (all_open (addressed files)) (open_interfaces (addressed files) k) ss tables k d) statics in
+    made
+    ∙ ap (λ xs. hops_over xs own file.statics tables k d) (is_up_list ∙ ap all_open same_all)
+    ∙ ap (λ xs. hops_over (all_open (addressed files)) xs file.statics tables k d) (is_own ∙ ap (λ xs. open_interfaces xs k) same_all)
+    ∙ ap (λ ss. hops_over (all_open (addressed files)) (open_interfaces (addressed files) k) ss tables k d) statics in
     let P : ℕ → Type 0 = λ r. IsSent files tables d r hops in
     let Q : List Hop → Type 0 = λ hs. list_all (is_inside (length files)) hs ≡ true in
     subst P (sym place) (e, subst Q (sym e) (sent_inside files tables d k))

@@ -72,10 +72,10 @@ pub marked_safe : (all : List (List Hop)) (target at : ℕ) (safe read : List Bo
 marked_safe all target at safe read same within harmless sound hops lists router marked =
     let own = item_there all at within in
     let none : first_harmful safe target at (hops at) ≡ None =
-          ap (λ xs. first_harmful xs target at (hops at)) (sym same)
-          ∙ ap (first_harmful read target at) (sym (lists at own.0 own.1)) ∙ harmless own.0 own.1 in
+    ap (λ xs. first_harmful xs target at (hops at)) (sym same)
+    ∙ ap (first_harmful read target at) (sym (lists at own.0 own.1)) ∙ harmless own.0 own.1 in
     known-set (λ r. Safe hops target r) safe at router (safe-harmless hops target safe at (sound hops lists) none)
-      (sound hops lists router) marked
+    (sound hops lists router) marked
 
 any-later : {A : Type 0} (P : A → Type 0) (y : A) (xs : List A) → Any P xs → Any P (y ∷ xs)
 any-later P y xs (k, x, within, is, holds) = (suc k, x, omega arith, is, holds)
@@ -96,5 +96,5 @@ pub seen-marked : (seen : List Bool) (stood : List Start) (now : Start) →
     (router : ℕ) → known (set seen now.router true) router ≡ true → Any (λ s. s.router ≡ router) (stood ++ now ∷ [])
 seen-marked seen stood now before router marked =
     known-set (λ r. Any (λ s. s.router ≡ r) (stood ++ now ∷ [])) seen now.router router
-      (any-last (λ s. s.router ≡ now.router) stood now refl)
-      (λ h. any-front (λ s. s.router ≡ router) stood (now ∷ []) (before router h)) marked
+    (any-last (λ s. s.router ≡ now.router) stood now refl)
+    (λ h. any-front (λ s. s.router ≡ router) stood (now ∷ []) (before router h)) marked

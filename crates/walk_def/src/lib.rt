@@ -4,3 +4,5 @@
 pub mod hops;
 pub mod safety;
 pub mod verdict;
+
+pub use verdict::breaking_walk;

@@ -16,7 +16,8 @@ fn is_delivered(end: &End) -> bool
     matches!(end, End::Delivered)
 }
 
-fn is_known(safe: &[bool], router: u32) -> bool
+/// Whether the router is among those known to be safe.
+pub fn is_known(safe: &[bool], router: u32) -> bool
     ensures { result ≡ safety.known safe.now router }
 {
     match safe.get(router as usize) {

@@ -1,14 +1,16 @@
 //! A walk that breaks that a router is reached, if there is one.
 
-ghost use Rattle.std.specs.Prelude.{◌≡◌, ◌<◌, ◌^◌, ℕ, List as ListOf, Some, None, true, false, IfOk, IfSome, IfNone, length, slice_get};
-ghost use Rattle.mw_text.specs.declared.address.Addr.{Addr as AddrOf};
+ghost use Rattle.std.specs.Prelude.{◌≡◌, ◌<◌, ◌^◌, ℕ, List as ListOf, Some, None, true, false, IfOk, IfSome, length, slice_get};
 ghost use Rattle.question_lang.specs.declared.walk.Hop.{Hop as HopOf};
 ghost use Rattle.question_lang.specs.declared.walk.Walk.{Walk as WalkOf};
+ghost use Rattle.net_model.specs.World.{no_failures};
+ghost use Rattle.question_lang.specs.Walks.{IsWalk};
+ghost use Rattle.question_lang.specs.Breaking.{Breaks, reach_question};
 ghost use Rattle.walk_def.specs.Safety as safety;
 ghost use Rattle.walk_def.specs.Sending.{sent, AreSent};
 
 use crate::hops::hops_of;
-use crate::safety::{first_harmful, no_marks, safe_routers};
+use crate::safety::{first_harmful, is_known, no_marks, safe_routers};
 use mw_text::{Addr, List};
 use net_model::Net;
 use net_model::routing::{all_open, open_interfaces};
@@ -24,6 +26,7 @@ fn all_hops(
     d: Addr,
 ) -> Result<List<List<Hop>>, AllocError>
     ensures len { IfOk result (λ hops. length hops ≡ length net.now) }
+    ensures few { IfOk result (λ hops. length hops < 2 ^ 32) }
     ensures sent { IfOk result (λ hops. AreSent net.now tables.now d hops) }
     ensures inside { IfOk result (λ hops. safety.StayInside hops) }
 {
@@ -96,4 +99,33 @@ fn follow(
         hops: stood,
         end: End::Loop,
     })
+}
+
+/// A walk from the router `start` of a packet for `d` that does not end delivered at the router `target`, where no link
+/// has failed. None exactly where there is no such walk.
+pub fn breaking_walk(
+    alloc: Global,
+    net: &Net,
+    tables: &Tables,
+    d: Addr,
+    start: u32,
+    target: u32,
+) -> Result<Option<Walk>, AllocError>
+    requires { start < length net.now }
+    ensures none { IfOk result (λ found. found ≡ None → (walk : WalkOf) →
+        IsWalk net.now no_failures tables.now d walk → Breaks (reach_question start target) walk → ⊥) }
+    ensures some { IfOk result (λ found. IfSome found (λ walk.
+        IsWalk net.now no_failures tables.now d walk × Breaks (reach_question start target) walk)) }
+{
+    let hops = all_hops(alloc, net, tables, d)?;
+    let safe = safe_routers(alloc, hops.as_slice(), target)?;
+    if is_known(safe.as_slice(), start) {
+        return Ok(None);
+    }
+    let from = Start {
+        router: start,
+        iface: None,
+    };
+    let walk = follow(alloc, hops.as_slice(), from, target, safe.as_slice())?;
+    Ok(Some(walk))
 }
