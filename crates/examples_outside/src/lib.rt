@@ -1,0 +1,4 @@
+//! Callers and tests of the outside.
+#![tactic(auto)]
+
+mod copies;

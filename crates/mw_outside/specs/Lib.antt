@@ -1,0 +1,4 @@
+pub mod Faults
+pub mod Contents
+pub mod Taken
+pub mod Reads

@@ -1,0 +1,13 @@
+//! What lies outside the program: files that are read, and sinks that are written to.
+//!
+//! Each keeps a count of its faults, so that a fault is answered only where one came, and may tell what it holds or
+//! has taken, so that the program's clauses can speak of bytes.
+#![tactic(auto)]
+
+mod files;
+mod sink;
+mod whole;
+
+pub use files::{Failed, Files};
+pub use sink::Sink;
+pub use whole::{ReadRefused, read_whole};
