@@ -2,3 +2,5 @@
 #![tactic(auto)]
 
 mod copies;
+mod loops;
+mod pieces;
