@@ -9,3 +9,7 @@ Rose before now = min (before + 1) (2 ^ 64 - 1) ≤ now
 pub record HasCause {T E : Type 0} (before now : ℕ) (result : Result T E) : Type 0 where
   pub later : before ≤ now
   pub rose : OnErr result (Rose before now)
+
+-- the number of a call after so many, which stands still at its last value
+abbrev pub next_call : ℕ → ℕ
+next_call calls = min (calls + 1) (2 ^ 64 - 1)
