@@ -4,10 +4,9 @@ ghost use Rattle.std.specs.Prelude.{◌≡◌, ◌≤◌, length, None, IfOk};
 
 use crate::faults::FaultCount;
 use crate::{Failed, Files, Sink};
-use std::rt::Files as System;
-use std::fs;
-use std::io;
 use std::io::{Read, Seek, SeekFrom, Write};
+use std::rt::Files as System;
+use std::{fs, io};
 
 /// The files of the machine, by their paths.
 #[derive(Drop)]
@@ -21,7 +20,10 @@ impl<R: System> DirFiles<R> {
     pub fn new(system: R) -> DirFiles<R>
         ensures { ⟦<DirFiles<R> as Files>⟧.faults result ≡ 0 }
     {
-        DirFiles { system, faults: FaultCount::new() }
+        DirFiles {
+            system,
+            faults: FaultCount::new(),
+        }
     }
 }
 
@@ -64,7 +66,10 @@ impl<R: Print> OutSink<R> {
     pub fn new(system: R) -> OutSink<R>
         ensures { ⟦<OutSink<R> as Sink>⟧.faults result ≡ 0 }
     {
-        OutSink { system, faults: FaultCount::new() }
+        OutSink {
+            system,
+            faults: FaultCount::new(),
+        }
     }
 }
 
@@ -97,7 +102,10 @@ impl<R: System> FileSink<R> {
         ensures { IfOk result (λ sink. ⟦<FileSink<R> as Sink>⟧.faults sink ≡ 0) }
     {
         match fs::create(system, name) {
-            Ok(file) => Ok(FileSink { file, faults: FaultCount::new() }),
+            Ok(file) => Ok(FileSink {
+                file,
+                faults: FaultCount::new(),
+            }),
             Err(_) => Err(Failed),
         }
     }
@@ -135,8 +143,7 @@ impl Sink for NoSink {
 
     ghost faults = { λ _. 0 };
 
-    fn write(&mut self, _bytes: &[u8]) -> Result<(), Failed>
-    {
+    fn write(&mut self, _bytes: &[u8]) -> Result<(), Failed> {
         Ok(())
     }
 }

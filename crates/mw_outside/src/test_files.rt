@@ -28,13 +28,15 @@ pub struct TestFiles {
 }
 
 impl TestFiles {
-    ghost use Rattle.mw_outside.specs.FilesInMemory.{named, files_in, reads_of, failing_reads};
+    ghost use Rattle.mw_outside.specs.FilesInMemory.{named, files_in, reads_of, failing_reads, read_faults, last_name};
 
     /// These files, of which the first of a name counts. `fail` lists the reads that fail, counted from 1.
     pub fn new(alloc: Global, files: List<TestFile>, fail: List<u64>) -> TestFiles
         ensures files { files_in result ≡ map named files }
         ensures fail { failing_reads result ≡ fail }
         ensures unread { reads_of result ≡ 0 }
+        ensures faultless { read_faults result ≡ 0 }
+        ensures nameless { last_name result ≡ None }
     {
         TestFiles {
             alloc,
@@ -50,21 +52,21 @@ impl TestFiles {
 impl Files for TestFiles {
     ghost use Rattle.mw_outside.specs.Faults.{HasCause, next_call};
     ghost use Rattle.mw_outside.specs.Contents.{Contents, Has, TellsOnly};
-    ghost use Rattle.mw_outside.specs.FilesInMemory.{files_in, reads_of, failing_reads, FailsAt};
+    ghost use Rattle.mw_outside.specs.FilesInMemory.{files_in, reads_of, failing_reads, read_faults, last_name, FailsAt};
 
     ghost contents = { λ files. Some (files_in files) };
 
-    ghost faults = { λ files. files.faults.value };
+    ghost faults = { read_faults };
 
-    ghost last_failed = { λ files. files.last_failed };
+    ghost last_failed = { last_name };
 
     fn read_at(&mut self, name: &str, at: u64, into: &mut [u8]) -> Result<usize, Failed>
         ensures kept { files_in self.new ≡ files_in self.old }
-        ensures cause { HasCause self.old.faults.value self.new.faults.value result }
-        ensures counted { self.new.faults.value ≤ 2 ^ 64 - 1 }
+        ensures cause { HasCause (read_faults self.old) (read_faults self.new) result }
+        ensures counted { read_faults self.new ≤ 2 ^ 64 - 1 }
 
-        ensures failed_name { OnErr result (TellsOnly name.now self.new.last_failed) }
-        ensures name_stays { OnOk result (self.new.last_failed ≡ self.old.last_failed) }
+        ensures failed_name { OnErr result (TellsOnly name.now (last_name self.new)) }
+        ensures name_stays { OnOk result (last_name self.new ≡ last_name self.old) }
 
         ensures within { IfOk result (λ count. count ≤ length into.old) }
         ensures bytes { IfOk result (λ count. Has (Some (files_in self.old)) name.now

@@ -20,7 +20,7 @@ pub struct TestSink {
 }
 
 impl TestSink {
-    ghost use Rattle.mw_outside.specs.SinkInMemory.{bytes_in, room_of, writes_of, failing_writes};
+    ghost use Rattle.mw_outside.specs.SinkInMemory.{bytes_in, room_of, writes_of, failing_writes, write_faults};
 
     /// A sink that takes `room` bytes, for which it reserves memory. `fail` lists the writes that fail, counted
     /// from 1.
@@ -29,6 +29,7 @@ impl TestSink {
         ensures room { IfOk result (λ sink. room_of sink ≡ room) }
         ensures fail { IfOk result (λ sink. failing_writes sink ≡ fail) }
         ensures unwritten { IfOk result (λ sink. writes_of sink ≡ 0) }
+        ensures faultless { IfOk result (λ sink. write_faults sink ≡ 0) }
     {
         let taken = Vec::with_capacity(alloc, room as usize)?;
         Ok(TestSink {
@@ -51,16 +52,16 @@ impl TestSink {
 impl Sink for TestSink {
     ghost use Rattle.mw_outside.specs.Faults.{HasCause, next_call};
     ghost use Rattle.mw_outside.specs.Taken.{Takes, TakesPart};
-    ghost use Rattle.mw_outside.specs.SinkInMemory.{bytes_in, room_of, writes_of, failing_writes, Refuses};
+    ghost use Rattle.mw_outside.specs.SinkInMemory.{bytes_in, room_of, writes_of, failing_writes, write_faults, Refuses};
 
     ghost taken = { λ sink. Some (bytes_in sink) };
 
-    ghost faults = { λ sink. sink.faults.value };
+    ghost faults = { write_faults };
 
     #[tactic(auto, using(crate::specs::Taken::parts))]
     fn write(&mut self, bytes: &[u8]) -> Result<(), Failed>
-        ensures cause { HasCause self.old.faults.value self.new.faults.value result }
-        ensures counted { self.new.faults.value ≤ 2 ^ 64 - 1 }
+        ensures cause { HasCause (write_faults self.old) (write_faults self.new) result }
+        ensures counted { write_faults self.new ≤ 2 ^ 64 - 1 }
         ensures takes { OnOk result (Takes (Some (bytes_in self.old)) (Some (bytes_in self.new)) bytes.now) }
         ensures part { TakesPart (Some (bytes_in self.old)) (Some (bytes_in self.new)) bytes.now }
 
