@@ -9,7 +9,7 @@ use mw_outside::{Files, ReadRefused, Sink, read_whole};
 use std::alloc::Global;
 
 #[derive(Clone, Copy, Debug, PartialEq, Eq)]
-enum Copied {
+pub enum Copied {
     Done,
     ReadFault,
     TooLong,
@@ -30,7 +30,7 @@ fn refusal(refused: ReadRefused) -> Copied
     }
 }
 
-fn copy_two<F: Files, O: Sink>(
+pub fn copy_two<F: Files, O: Sink>(
     alloc: Global,
     files: &mut F,
     out: &mut O,

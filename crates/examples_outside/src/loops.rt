@@ -11,7 +11,7 @@ use mw_outside::{Failed, Files, ReadRefused, Sink, read_whole};
 use mw_text::List;
 use std::alloc::Global;
 
-fn read_all<F: Files>(
+pub fn read_all<F: Files>(
     alloc: Global,
     files: &mut F,
     names: &[String],
@@ -33,7 +33,7 @@ fn read_all<F: Files>(
 }
 
 #[tactic(auto, using(mw_outside::specs::Taken::parts))]
-fn write_all<O: Sink>(out: &mut O, lines: &[String]) -> Result<(), Failed>
+pub fn write_all<O: Sink>(out: &mut O, lines: &[String]) -> Result<(), Failed>
     ensures takes { OnOk result (Takes (O.taken out.old) (O.taken out.new) (flat_map string_bytes lines.now)) }
     ensures part { TakesPart (O.taken out.old) (O.taken out.new) (flat_map string_bytes lines.now) }
     ensures later { O.faults out.old ≤ O.faults out.new }

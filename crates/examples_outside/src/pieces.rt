@@ -7,7 +7,7 @@ ghost use Rattle.mw_outside.specs.Taken.{Takes, TakesPart};
 use mw_outside::{Failed, Sink};
 
 #[tactic(auto, using(mw_outside::specs::Taken::parts))]
-fn write_two<O: Sink>(out: &mut O, first: &[u8], second: &[u8]) -> Result<(), Failed>
+pub fn write_two<O: Sink>(out: &mut O, first: &[u8], second: &[u8]) -> Result<(), Failed>
     ensures takes { OnOk result (Takes (O.taken out.old) (O.taken out.new) (first.now ++ second.now)) }
     ensures part { TakesPart (O.taken out.old) (O.taken out.new) (first.now ++ second.now) }
     ensures later { O.faults out.old ≤ O.faults out.new }
@@ -18,7 +18,7 @@ fn write_two<O: Sink>(out: &mut O, first: &[u8], second: &[u8]) -> Result<(), Fa
 }
 
 #[tactic(auto, using(mw_outside::specs::Taken::parts))]
-fn write_three<O: Sink>(
+pub fn write_three<O: Sink>(
     out: &mut O,
     first: &[u8],
     second: &[u8],

@@ -133,7 +133,9 @@ pub struct NoSink;
 
 impl NoSink {
     /// The sink.
-    pub fn new() -> NoSink {
+    pub fn new() -> NoSink
+        ensures { ⟦<NoSink as Sink>⟧.taken result ≡ None }
+    {
         NoSink
     }
 }
