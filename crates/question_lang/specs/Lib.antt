@@ -1,0 +1,4 @@
+pub mod Packets
+pub mod Hops
+pub mod Walks
+pub mod Breaking
