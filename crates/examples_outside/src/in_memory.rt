@@ -1,7 +1,6 @@
 //! Tests over files and a sink in memory.
 
 use crate::copies::{Copied, copy_two};
-use crate::loops::{read_all, write_all};
 use mw_outside::{Failed, Files, ReadRefused, Sink, TestFile, TestFiles, TestSink, read_whole};
 use mw_text::List;
 use std::alloc::{AllocError, Global};
@@ -30,27 +29,23 @@ fn two_files(alloc: Global, fail: &[u64]) -> Result<TestFiles, AllocError> {
     Ok(TestFiles::new(alloc, List { items: files }, fail))
 }
 
-// One file of so many bytes.
-fn one_file(alloc: Global, length: usize) -> Result<TestFiles, AllocError> {
-    let mut files = Vec::new(alloc);
-    files.push(TestFile {
-        name: list(alloc, b"long")?,
-        bytes: List {
-            items: vec![in alloc; 33u8; length]?,
-        },
-    })?;
-    Ok(TestFiles::new(alloc, List { items: files }, List::new(alloc)))
-}
-
-#[test]
-fn whole_files_are_read(rt: HostRuntime) -> Result<(), Fail> {
-    let alloc = rt.alloc();
-    let mut files = two_files(alloc, &[])?;
-    let second = read_whole(alloc, &mut files, "n2", 100)?;
-    assert_eq!(rt; second.as_slice(), "two and more\n".as_bytes());
-    let first = read_whole(alloc, &mut files, "n1", 100)?;
-    assert_eq!(rt; first.as_slice(), "one\n".as_bytes());
-    Ok(())
+// What a file of so many bytes is read as: how many bytes came.
+fn length_read(
+    alloc: Global,
+    length: usize,
+    limit: u64,
+) -> Result<Result<usize, ReadRefused>, AllocError> {
+    let bytes = List {
+        items: vec![in alloc; 33u8; length]?,
+    };
+    let name = list(alloc, b"long")?;
+    let mut files = List::new(alloc);
+    files
+        .push(TestFile { name, bytes })
+        .map_err(|_| AllocError)?;
+    let mut files = TestFiles::new(alloc, files, List::new(alloc));
+    let read = read_whole(alloc, &mut files, "long", limit);
+    Ok(read.map(|bytes| bytes.as_slice().len()))
 }
 
 #[test]
@@ -95,18 +90,14 @@ fn pieces_come_from_their_place(rt: HostRuntime) -> Result<(), Fail> {
 #[test]
 fn limit_is_the_last_length_taken(rt: HostRuntime) -> Result<(), Fail> {
     let alloc = rt.alloc();
-    let mut files = one_file(alloc, 10_000)?;
-    let bytes = read_whole(alloc, &mut files, "long", 10_000)?;
-    assert_eq!(rt; bytes.as_slice().len(), 10_000);
-    let refused = read_whole(alloc, &mut files, "long", 9_999);
-    assert_eq!(rt; refused.err(), Some(ReadRefused::TooLong));
-    let mut empty = one_file(alloc, 0)?;
-    let bytes = read_whole(alloc, &mut empty, "long", 0)?;
-    assert_eq!(rt; bytes.as_slice().len(), 0);
-    let refused = read_whole(alloc, &mut one_file(alloc, 1)?, "long", 0);
-    assert_eq!(rt; refused.err(), Some(ReadRefused::TooLong));
-    let bytes = read_whole(alloc, &mut one_file(alloc, 4096)?, "long", u64::MAX)?;
-    assert_eq!(rt; bytes.as_slice().len(), 4096);
+    assert_eq!(rt; length_read(alloc, 10_000, 10_000)?, Ok(10_000));
+    assert_eq!(rt;
+        length_read(alloc, 10_000, 9_999)?,
+        Err(ReadRefused::TooLong)
+    );
+    assert_eq!(rt; length_read(alloc, 0, 0)?, Ok(0));
+    assert_eq!(rt; length_read(alloc, 1, 0)?, Err(ReadRefused::TooLong));
+    assert_eq!(rt; length_read(alloc, 4096, u64::MAX)?, Ok(4096));
     Ok(())
 }
 
@@ -147,21 +138,5 @@ fn copies_go_to_the_sink(rt: HostRuntime) -> Result<(), Fail> {
     let copied = copy_two(alloc, &mut two_files(alloc, &[4])?, &mut out, "n2", "n1");
     assert_eq!(rt; copied, Copied::ReadFault);
     assert_eq!(rt; out.taken().len(), 17);
-    Ok(())
-}
-
-#[test]
-fn lists_are_read_and_written(rt: HostRuntime) -> Result<(), Fail> {
-    let alloc = rt.alloc();
-    let names = [
-        String::from_str(alloc, "n2")?,
-        String::from_str(alloc, "n1")?,
-    ];
-    let all = read_all(alloc, &mut two_files(alloc, &[])?, &names)?;
-    assert_eq!(rt; all.as_slice().len(), 2);
-    let mut out = TestSink::new(alloc, 4, List::new(alloc))?;
-    assert_eq!(rt; write_all(&mut out, &names), Ok(()));
-    assert_eq!(rt; out.taken(), "n2n1".as_bytes());
-    assert_eq!(rt; write_all(&mut out, &names), Err(Failed));
     Ok(())
 }

@@ -1,10 +1,9 @@
-//! Callers and tests of the outside.
+//! A caller and tests of the outside.
 #![tactic(auto)]
 
+#[cfg(test)]
 mod copies;
 #[cfg(test)]
 mod in_memory;
-mod loops;
 #[cfg(test)]
 mod on_the_machine;
-mod pieces;
