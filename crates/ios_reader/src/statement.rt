@@ -21,7 +21,8 @@ pub enum Statement {
     Other,
 }
 
-fn is_word(word: &[u8], keyword: &[u8]) -> bool
+/// Whether the word is that keyword, in any case; `keyword` is in lower case.
+pub fn is_word(word: &[u8], keyword: &[u8]) -> bool
     ensures { result ≡ is_keyword (map to_ascii_lowercase keyword.now) word.now }
 {
     word.eq_ignore_ascii_case(keyword)
@@ -178,7 +179,8 @@ fn of_sub_line(words: &[List<u8>]) -> Statement
     }
 }
 
-fn says_nothing(words: &[List<u8>]) -> bool
+/// Whether a line of these words says nothing: there are none, or the first begins with `!`.
+pub fn says_nothing(words: &[List<u8>]) -> bool
     ensures { result ≡ is_skipped words.now }
 {
     match words {

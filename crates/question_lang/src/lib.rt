@@ -1,6 +1,7 @@
 //! Questions about a network, and what walk of a packet breaks one.
 #![tactic(auto)]
 
+pub mod asking;
 pub mod question;
 pub mod walk;
 
