@@ -1,6 +1,6 @@
 //! Reads and parses the files that the words name.
 
-ghost use Rattle.std.specs.Prelude.{◌≡◌, ◌≤◌, ◌<◌, ◌^◌, ℕ, Ok, Err, IfOk, IfErr, IfSome, length, map, List as ListOf, string_bytes};
+ghost use Rattle.std.specs.Prelude.{◌≡◌, ◌≤◌, ◌<◌, Ok, Err, IfOk, IfErr, IfSome, length, map, string_bytes};
 ghost use Rattle.mw_outside.specs.Faults.{Rose};
 ghost use Rattle.mw_outside.specs.Contents.{TellsOnly, TellsAmong};
 ghost use Rattle.mw_verify.specs.Due as due;
@@ -24,16 +24,6 @@ pub enum Stop {
     Refused(List<u8>),
     ReadFault,
     Memory,
-}
-
-// The refusal with this line, unless memory is wanting.
-fn refused_with(line: Result<List<u8>, AllocError>) -> Stop
-    ensures { (text : ListOf ℕ) → result ≡ Stop.Refused text → line ≡ Ok text }
-{
-    match line {
-        Ok(line) => Stop::Refused(line),
-        Err(_) => Stop::Memory,
-    }
 }
 
 fn named(alloc: Global, name: &str, bytes: List<u8>) -> Result<Text, AllocError>
@@ -61,7 +51,10 @@ fn read_text<F: Files>(alloc: Global, files: &mut F, name: &str) -> Result<Text,
             Ok(text) => Ok(text),
             Err(_) => Err(Stop::Memory),
         },
-        Err(ReadRefused::TooLong) => Err(refused_with(too_long(alloc, name.as_bytes()))),
+        Err(ReadRefused::TooLong) => match too_long(alloc, name.as_bytes()) {
+            Ok(line) => Err(Stop::Refused(line)),
+            Err(_) => Err(Stop::Memory),
+        },
         Err(ReadRefused::Failed) => Err(Stop::ReadFault),
         Err(ReadRefused::Memory) => Err(Stop::Memory),
     }
@@ -102,7 +95,10 @@ fn parse_file(alloc: Global, text: &Text) -> Result<File, Stop>
         Ok(file) => Ok(file),
         Err(refused) => match refused.cause {
             Cause::Memory => Err(Stop::Memory),
-            _ => Err(refused_with(refusal(alloc, text.name.as_slice(), &refused))),
+            _ => match refusal(alloc, text.name.as_slice(), &refused) {
+                Ok(line) => Err(Stop::Refused(line)),
+                Err(_) => Err(Stop::Memory),
+            },
         },
     }
 }
