@@ -1,10 +1,13 @@
 -- Reading and parsing one after another.
-use Rattle.std.proofs.Common.{◌≡◌, ℕ, ◌+◌, ◌<◌, ◌≤◌, Bool, true, false, List, [], ◌∷◌, ◌++◌, length, drop, get_or, Option, Some, None, Result, Ok, Err, refl, ap, sym, arith, ◌∙◌, cond, append_assoc, nat_le}
-use Rattle.std.specs.Prelude.{IfSome, IsSomeAnd}
+use Rattle.std.proofs.Common.{◌≡◌, ℕ, zero, suc, ◌+◌, ◌<◌, ◌≤◌, Bool, true, false, List, [], ◌∷◌, ◌++◌, length, drop, get_or, Option, Some, None, Result, Ok, Err, refl, ap, sym, arith, ◌∙◌, cond, append_assoc, nat_le, map, subst}
+use Rattle.std.specs.Prelude.{Contains, IfSome, IsSomeAnd}
 use Rattle.std.specs.Option.{option_map_or}
 use Rattle.std.proofs.lemmas.List.{append-nil, drop_all}
 use Rattle.mw_text.proofs.Lists.{drop-read}
-use Rattle.mw_outside.specs.Contents.{Contents, get, Has}
+use Rattle.mw_outside.specs.Contents.{Contents, get, Has, TellsOnly, TellsAmong}
+use Rattle.mw_verify.specs.declared.load.Stop.{Stop}
+use Rattle.mw_verify.specs.declared.load.Stop.TheVariants.{Refused, ReadFault, Memory}
+use Rattle.mw_verify.specs.Loading.{OnStop}
 use Rattle.mw_verify.specs.declared.text.Text.{Text}
 use Rattle.mw_verify.specs.Due.{Outcome, unread, refused, following, each, text_of, most_bytes}
 use Rattle.mw_verify.specs.Texts.{too_long}
@@ -92,3 +95,37 @@ unfolding each
 after-all become all so_far i before done =
     before ∙ ap (λ left. following (λ rest. Ok (so_far ++ rest)) (each become left)) (drop_all i all done)
     ∙ ap Ok (append-nil so_far)
+
+-- what is said of a stop
+pub on_stop-map : (stop : Stop) (P P' : List ℕ → Type 0) (Q Q' : Type 0) → OnStop stop P Q → ((line : List ℕ) → P line → P' line) → (Q → Q') → OnStop stop P' Q'
+on_stop-map (Refused line) P P' Q Q' said lines faults = lines line said
+on_stop-map ReadFault P P' Q Q' said lines faults = faults said
+on_stop-map Memory P P' Q Q' said lines faults = tt
+
+-- two facts of what is told
+pub if_told : {A : Type 0} (told : Option A) (P Q R : A → Type 0) → IfSome told P → IfSome told Q → ((x : A) → P x → Q x → R x) → IfSome told R
+if_told None P Q R p q both = tt
+if_told (Some x) P Q R p q both = both x p q
+
+pub if_told_one : {A : Type 0} (told : Option A) (P R : A → Type 0) → IfSome told P → ((x : A) → P x → R x) → IfSome told R
+if_told_one None P R p one = tt
+if_told_one (Some x) P R p one = one x p
+
+-- an item of a list of images
+pub read-map : {A B : Type 0} (f : A → B) (xs : List A) (i : ℕ) (x : A) → i < length xs → x ≡ get_or xs i x → f x ≡ get_or (map f xs) i (f x)
+read-map f [] i x within is = absurd (omega arith)
+read-map f (y ∷ ys) zero x within is = ap f is
+read-map f (y ∷ ys) (suc i) x within is = read-map f ys i x (omega arith) is
+
+pub length-images : {A B : Type 0} (f : A → B) (xs : List A) → length (map f xs) ≡ length xs
+length-images f [] = refl
+length-images f (x ∷ xs) = ap suc (length-images f xs)
+
+-- an item is among the items
+pub image_among : {A B : Type 0} (f : A → B) (xs : List A) (i : ℕ) (x : A) → i < length xs → x ≡ get_or xs i x → Contains (map f xs) (f x)
+image_among f xs i x within is = (i, omega (arith, length-images f xs), sym (read-map f xs i x within is))
+
+-- the last failed name is that one, so it is among those
+pub tells-among : (told : Option (List ℕ)) (name : List ℕ) (names : List (List ℕ)) → TellsOnly name told → Contains names name → TellsAmong names told
+tells-among None name names only among = tt
+tells-among (Some other) name names only among = let P : List ℕ → Type 0 = λ n. Contains names n in subst P (sym only) among

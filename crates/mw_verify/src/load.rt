@@ -74,11 +74,10 @@ fn read_texts<F: Files>(alloc: Global, files: &mut F, names: &[String]) -> Resul
     let mut texts = List::new(alloc);
     for name in names {
         match read_text(alloc, files, name.as_str()) {
-            Ok(text) => {
-                if texts.items.push(text).is_err() {
-                    return Err(Stop::Memory);
-                }
-            }
+            Ok(text) => match texts.items.push(text) {
+                Ok(()) => {}
+                Err(_) => return Err(Stop::Memory),
+            },
             Err(stop) => return Err(stop),
         }
     }
@@ -112,11 +111,10 @@ fn parse_files(alloc: Global, texts: &[Text]) -> Result<List<File>, Stop>
     let mut files = List::new(alloc);
     for text in texts {
         match parse_file(alloc, text) {
-            Ok(file) => {
-                if files.items.push(file).is_err() {
-                    return Err(Stop::Memory);
-                }
-            }
+            Ok(file) => match files.items.push(file) {
+                Ok(()) => {}
+                Err(_) => return Err(Stop::Memory),
+            },
             Err(stop) => return Err(stop),
         }
     }
