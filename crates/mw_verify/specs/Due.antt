@@ -72,13 +72,17 @@ first_name (text ∷ texts) = text.name
 abbrev pub network_of : List Text → List File → Result (List File) Outcome
 network_of texts files = if is_network files then Ok files else Err (refused (no_network (first_name texts)))
 
+-- the network of some texts
+abbrev pub network_due : List Text → Result (List File) Outcome
+network_due texts = following (network_of texts) (each file_of texts)
+
 -- the questions of a text over a network
 abbrev pub questions_of : Text → List File → Result Outcome Outcome
 questions_of text files = following (λ questions. Ok (answering files questions)) (read_as text.name (asking files text.bytes))
 
 -- what the texts come to: each configuration is parsed, then the network, then the questions
 abbrev pub texts_due : List Text → Text → Result Outcome Outcome
-texts_due texts asked = following (λ files. following (questions_of asked) (network_of texts files)) (each file_of texts)
+texts_due texts asked = following (questions_of asked) (network_due texts)
 
 -- what the files come to: all are read, the configurations first, and then their texts are parsed
 abbrev pub files_due : Contents → List ℕ → List (List ℕ) → Result Outcome Outcome

@@ -14,8 +14,8 @@ pub struct Text {
     pub bytes: List<u8>,
 }
 
-// Puts bytes at the end.
-fn append(text: &mut List<u8>, more: &[u8]) -> Result<(), AllocError>
+/// Puts bytes at the end.
+pub fn append(text: &mut List<u8>, more: &[u8]) -> Result<(), AllocError>
     ensures { OnOk result (text.new ≡ text.old ++ more.now) }
 {
     text.items.extend_from_slice(more)

@@ -1,6 +1,6 @@
 //! Reads a questions file.
 
-ghost use Rattle.std.specs.Prelude.{◌≡◌, ◌≢◌, ◌<◌, ◌^◌, ℕ, IfOk, IfErr, IfSome, Ok, Err, None, Some, [], length};
+ghost use Rattle.std.specs.Prelude.{◌≡◌, ◌≢◌, ◌<◌, ◌≤◌, ◌^◌, ℕ, IfOk, IfErr, IfSome, Ok, Err, None, Some, [], length};
 ghost use Rattle.std.specs.List.{list_any};
 ghost use Rattle.mw_text.specs.Text.{same_text};
 ghost use Rattle.ios_reader.specs.Reading.{not_built};
@@ -38,6 +38,7 @@ fn put_question(
     ensures next { IfOk result (λ next. next ≡ asking.with_question questions question) }
     ensures single { IfOk result (λ next. (routers : ℕ) → AreSingle routers questions → IsSingleReach routers question →
         IfSome next (AreSingle routers)) }
+    ensures few { IfOk result (λ next. IfSome next (λ all. length all ≤ asking.most_questions)) }
 {
     if has_name(questions.as_slice(), question.name.as_slice()) {
         return Ok(None);
@@ -55,7 +56,9 @@ fn take_line(
     questions: List<Question>,
     line: &Line,
 ) -> Result<Option<List<Question>>, AllocError>
-    requires { AreSingle (length net.now) questions }
+    requires single { AreSingle (length net.now) questions }
+    requires few { length questions ≤ asking.most_questions }
+    ensures few { IfOk result (λ next. IfSome next (λ all. length all ≤ asking.most_questions)) }
     ensures next { IfOk result (λ next. next ≡ asking.with_asked net.now questions line.now) }
     ensures single { IfOk result (λ next. IfSome next (AreSingle (length net.now))) }
 {
@@ -76,7 +79,9 @@ fn next_questions(
     questions: List<Question>,
     line: &Line,
 ) -> Result<List<Question>, Refused>
-    requires { AreSingle (length net.now) questions }
+    requires single { AreSingle (length net.now) questions }
+    requires few { length questions ≤ asking.most_questions }
+    ensures few { IfOk result (λ next. length next ≤ asking.most_questions) }
     ensures single { IfOk result (AreSingle (length net.now)) }
     ensures taken { IfOk result (λ next. asking.with_asked net.now questions line.now ≡ Some next) }
     ensures refused { IfErr result (λ refused. refused.cause ≢ Cause.Memory →
@@ -94,6 +99,7 @@ fn next_questions(
 
 // The questions of all lines.
 fn read_all(alloc: Global, net: &Net, lines: &[Line]) -> Result<List<Question>, Refused>
+    ensures few { IfOk result (λ questions. length questions ≤ asking.most_questions) }
     ensures single { IfOk result (AreSingle (length net.now)) }
     ensures ok { IfOk result (λ questions. asking.ask_lines net.now [] lines.now ≡ Ok questions) }
     ensures refused { IfErr result (λ refused. refused.cause ≢ Cause.Memory → asking.ask_lines net.now [] lines.now ≡ Err refused) }
@@ -116,6 +122,7 @@ pub fn read_questions(alloc: Global, bytes: &[u8], net: &Net) -> Result<List<Que
     ensures ok { IfOk result (λ questions. asking.asking net.now bytes.now ≡ Ok questions) }
     ensures refused { IfErr result (λ refused. refused.cause ≢ Cause.Memory → asking.asking net.now bytes.now ≡ Err refused) }
     ensures single { IfOk result (AreSingle (length net.now)) }
+    ensures few { IfOk result (λ questions. length questions ≤ asking.most_questions) }
 {
     match lines_of(alloc, bytes) {
         Err(_) => Err(MEMORY),
