@@ -129,3 +129,7 @@ image_among f xs i x within is = (i, omega (arith, length-images f xs), sym (rea
 pub tells-among : (told : Option (List ℕ)) (name : List ℕ) (names : List (List ℕ)) → TellsOnly name told → Contains names name → TellsAmong names told
 tells-among None name names only among = tt
 tells-among (Some other) name names only among = let P : List ℕ → Type 0 = λ n. Contains names n in subst P (sym only) among
+
+pub tells-more : (told : Option (List ℕ)) (name : List ℕ) (names : List (List ℕ)) → TellsAmong names told → TellsAmong (name ∷ names) told
+tells-more None name names among = tt
+tells-more (Some other) name names (k, within, is) = (suc k, omega arith, is)
