@@ -52,7 +52,7 @@ pub true_from : (files : List File) (number : ℕ) (question : Question) (packet
     ((e : Environment) → Stable files packet.dst no_failures e tables) →
     IsWalk files no_failures tables packet.dst walk × Breaks kind walk →
     IsTrueCounterexample files number question
-      (record { question = number; packet = packet; failures = failures; env = environment; tables = tables; walk = Some walk })
+    (record { question = number; packet = packet; failures = failures; env = environment; tables = tables; walk = Some walk })
 true_from files number question packet tables walk kind failures environment is_kind inside unfailed ids announced stable wrong =
     let F : Failures → Type 0 = λ f. IsFailureSet files question.failures f in
     let S : Failures → Type 0 = λ f. Stable files packet.dst f environment tables in
@@ -64,5 +64,5 @@ true_from files number question packet tables walk kind failures environment is_
       environment = record { ids = ids; announced = announced };
       failures = subst F (sym unfailed) (record { ascending = refl; of_links = λ k d within. absurd (omega arith); at_most = omega arith });
       stable = subst S (sym unfailed) (stable environment);
-      walk = (walk, refl, subst W (sym unfailed) wrong.0, subst B (sym is_kind) wrong.1)
+      walk = (walk, refl, subst W (sym unfailed) wrong.0, subst B (sym is_kind) wrong.1);
     }

@@ -1,2 +1,4 @@
 pub mod Loading
 pub mod Deciding
+pub mod Answering
+pub mod Words

@@ -3,6 +3,8 @@ use Rattle.std.specs.Prelude.{◌≡◌, ℕ, Bool, true, false, List, [], take,
 use Rattle.mw_outside.specs.Taken.{Takes, TakesPart}
 use Rattle.ios_ast.specs.declared.file.File.{File}
 use Rattle.question_lang.specs.declared.question.Question.{Question}
+use Rattle.mw_verify.specs.declared.status.Status.{Status}
+use Rattle.mw_verify.specs.declared.status.Status.TheVariants.{Good, Bad, Unknown, Usage, Refused, ReadFault, WriteFault, Memory}
 use Rattle.mw_verify.specs.Due.{Outcome, usage, unread, refused, answering}
 use Rattle.mw_verify.specs.Texts.{usage_text}
 use Rattle.mw_verify.specs.Verdicts.{AreVerdicts}
@@ -24,3 +26,25 @@ MayPrint (answering files questions) text =
 -- a front of such a text stands
 abbrev pub PrintsPart : Outcome → Option (List ℕ) → Option (List ℕ) → Type 0
 PrintsPart outcome before now = (text : List ℕ) × MayPrint outcome text × TakesPart before now text
+
+-- P of whether some verdict is `broken`, where all questions were answered
+abbrev pub OnAnswered : Status → (Bool → Type 0) → Type 0
+OnAnswered Good P = P false
+OnAnswered Bad P = P true
+OnAnswered Unknown P = Unit {0}
+OnAnswered Usage P = Unit {0}
+OnAnswered Refused P = Unit {0}
+OnAnswered ReadFault P = Unit {0}
+OnAnswered WriteFault P = Unit {0}
+OnAnswered Memory P = Unit {0}
+
+-- P where the run ended early
+abbrev pub OnCut : Status → Type 0 → Type 0
+OnCut Good P = Unit {0}
+OnCut Bad P = Unit {0}
+OnCut Unknown P = Unit {0}
+OnCut Usage P = Unit {0}
+OnCut Refused P = Unit {0}
+OnCut ReadFault P = Unit {0}
+OnCut WriteFault P = P
+OnCut Memory P = P

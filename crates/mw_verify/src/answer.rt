@@ -102,8 +102,8 @@ pub struct Verdict {
     pub text: List<u8>,
 }
 
-// The right verdict for the question of that number.
-fn verdict_of(
+/// The right verdict for the question of that number.
+pub fn verdict_of(
     alloc: Global,
     net: &Net,
     questions: &[Question],

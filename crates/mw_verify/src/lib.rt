@@ -3,5 +3,6 @@
 
 pub mod answer;
 pub mod load;
+pub mod run;
 pub mod status;
 pub mod text;

@@ -8,6 +8,6 @@ pub returns-in-Err-clause-stop : goal.returns-in-Err-clause-stop
 returns-in-Err-clause-stop g c =
     let names : List (List ℕ) = map string_bytes c.args.names.now in
     on_stop-map c.in-Err.stop _ _ _ _ c.in-Err.ensures.stop
-      (λ line said. if_told_one (g.F.Files.contents c.args.files.now) _ _ said
-        (λ contents stopped. ap (λ r. following (λ texts. following (texts_due texts) (text_of contents c.args.questions.now)) r) stopped))
-      (λ said. (said.0, tells-more (g.F.Files.last_failed c.read_texts.new.files) c.args.questions.now names said.1))
+    (λ line said. if_told_one (g.F.Files.contents c.args.files.now) _ _ said
+    (λ contents stopped. ap (λ r. following (λ texts. following (texts_due texts) (text_of contents c.args.questions.now)) r) stopped))
+    (λ said. (said.0, tells-more (g.F.Files.last_failed c.read_texts.new.files) c.args.questions.now names said.1))
