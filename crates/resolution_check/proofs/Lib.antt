@@ -1,0 +1,6 @@
+pub mod Literals
+pub mod Pivots
+pub mod Chains
+pub mod Goods
+pub mod Truth
+pub mod Reading

@@ -1,0 +1,4 @@
+pub mod Clauses
+pub mod Entries
+pub mod Known
+pub mod Marked

@@ -1,0 +1,11 @@
+//! A log of clauses, the checker that decides whether each entry follows from those before it, and
+//! the log's text.
+#![tactic(auto)]
+
+mod chain;
+mod checking;
+mod log;
+mod marks;
+
+pub use checking::Checker;
+pub use log::{Bad, Clause, Entry, LineRefused, Lit};
