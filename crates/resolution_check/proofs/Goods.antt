@@ -68,6 +68,13 @@ good_after_push before (d ∷ es) e h k = (h.0, good_after_push (before ++ d ∷
 pub IsGood-push : (es : List Entry) (e : Entry) → IsGood es → KeepsGood es e → IsGood (es ++ e ∷ [])
 IsGood-push es e h k = good_after_push [] es e h k
 
+last_kept : (before es : List Entry) (e : Entry) → IsGoodAfter before (es ++ e ∷ []) → KeepsGood (before ++ es) e
+last_kept before [] e h = subst (λ front. KeepsGood front e) (sym (append-nil before)) h.0
+last_kept before (d ∷ es) e h = subst (λ front. KeepsGood front e) (append_assoc before (d ∷ []) es) (last_kept (before ++ d ∷ []) es e h.1)
+
+pub kept_from_good : (es : List Entry) (e : Entry) → IsGood (es ++ e ∷ []) → KeepsGood es e
+kept_from_good es e h = last_kept [] es e h
+
 -- ---- one entry more
 
 pub clause_given-push : (es : List Entry) (e : Entry) (id : ℕ) → clause_given (es ++ e ∷ []) id ≡ option_or (clause_given es id) (clause_by id e)

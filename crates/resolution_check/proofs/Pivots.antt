@@ -1,7 +1,7 @@
 -- Marks against clauses: the pivots, and the literals of the resolvent.
-use Rattle.std.proofs.Common.{◌≡◌, ◌↔◌, refl, sym, ◌∙◌, ap, ap₂, inl, inr, take-append-drop, ℕ, ◌<◌, Bool, true, false, not, ◌&&◌, ◌||◌, List, [], ◌∷◌, ◌++◌, map, take, drop, get_or, length, Option, Some, None, MatchOption, IsTrue}
-use Rattle.std.specs.List.{filter}
-use Rattle.std.proofs.lemmas.Bool.{cases_Bool, and_parts, and_from, true≢false, false≢true, or_left, false_from_ne_true}
+use Rattle.std.proofs.Common.{◌≡◌, ◌↔◌, refl, sym, ◌∙◌, ap, ap₂, inl, inr, take-append-drop, ℕ, ◌<◌, nat_eq, Bool, true, false, not, ◌&&◌, ◌||◌, List, [], ◌∷◌, ◌++◌, map, take, drop, get_or, length, Option, Some, None, MatchOption, IsTrue}
+use Rattle.std.specs.List.{filter, list_any}
+use Rattle.std.proofs.lemmas.Bool.{cases_Bool, and_parts, and_from, true≢false, false≢true, or_left, false_from_ne_true, cond_both, eq-eqb}
 use Rattle.std.proofs.lemmas.List.Folds.{list_any_at}
 use Rattle.resolution_check.specs.declared.log.Lit.{Lit}
 use Rattle.resolution_check.specs.declared.marks.Marks.{Marks}
@@ -72,10 +72,17 @@ resolvent_shown old new r d p shows marks l =
     ∙ ap (λ b. b || has (without d (opposite p)) l) (sym (has-filter (λ k. not (is_same p k)) r l))
     ∙ sym (has-append (without r p) (without d (opposite p)) l)
 
--- no literal is in the empty list, and in no other
-pub none_there : (xs : List Lit) → ((l : Lit) → has xs l ≡ false) → xs ≡ []
-none_there [] h = refl
-none_there (x ∷ xs) h = absurd (true≢false (sym (or_left _ _ (same_refl x)) ∙ h x))
+-- a list that has no number is empty
+no_number : (xs : List ℕ) → ((n : ℕ) → list_any (nat_eq n) xs ≡ false) → xs ≡ []
+no_number [] h = refl
+no_number (x ∷ xs) h = absurd (true≢false (sym (or_left (nat_eq x x) (list_any (nat_eq x) xs) (eq-eqb x x refl)) ∙ h x))
+
+-- no literal is marked exactly where no variable is marked in either sign
+pub none_marked : (m : Marks) → m.positive.keys ≡ [] → m.negative.keys ≡ [] → (l : Lit) → marked m l ≡ false
+none_marked m p n l = cond_both l.negated (list_any (nat_eq l.var) m.negative.keys) (list_any (nat_eq l.var) m.positive.keys) (λ b. b ≡ false) (λ _. ap (list_any (nat_eq l.var)) n) (λ _. ap (list_any (nat_eq l.var)) p)
+
+pub no_variables : (m : Marks) → ((l : Lit) → marked m l ≡ false) → (m.positive.keys ≡ []) × (m.negative.keys ≡ [])
+no_variables m h = (no_number m.positive.keys (λ v. h (record { var = v; negated = false })), no_number m.negative.keys (λ v. h (record { var = v; negated = true })))
 
 -- nothing is left of r without d exactly where r is inside d
 pub covered : (r d : List Lit) (m : Marks) (b : Bool) → ((l : Lit) → marked m l ≡ (not (has d l) && has r l)) → (IsTrue b ↔ ((l : Lit) → marked m l ≡ false)) → b ≡ is_inside r d

@@ -1,15 +1,15 @@
 -- Which literals a set of marks has.
-use Rattle.std.specs.Prelude.{◌≡◌, ◌⊎◌, Bool, List, Result, Ok, Err}
+use Rattle.std.specs.Prelude.{◌≡◌, ◌⊎◌, Bool, nat_eq, if◌then◌else◌, List, Result, Ok, Err}
 use Rattle.std.specs.HashSet.{contains}
 use Rattle.resolution_check.specs.declared.log.Lit.{Lit}
 use Rattle.resolution_check.specs.declared.marks.Marks.{Marks}
 use Rattle.resolution_check.specs.declared.log.Bad.{Bad}
 use Rattle.resolution_check.specs.declared.log.Bad.TheVariants.{Memory}
-use Rattle.resolution_check.specs.Clauses.{is_same, has}
+use Rattle.resolution_check.specs.Clauses.{has}
 
 -- whether the literal is in the set
 abbrev pub marked : Marks → Lit → Bool
-marked m l = contains is_same m.lits l
+marked m l = if l.negated then contains nat_eq m.negative l.var else contains nat_eq m.positive l.var
 
 -- the set has exactly the literals of the clause
 abbrev pub Shows : Marks → List Lit → Type 0

@@ -34,7 +34,7 @@ impl Model for Checker {
 }
 
 impl Checker {
-    ghost use Rattle.resolution_check.specs.Entries.{fault_of, KeepsGood, adds_empty, addition_count, inputs, IsUnsatisfiable};
+    ghost use Rattle.resolution_check.specs.Entries.{fault_of, IsGood, adds_empty, addition_count, inputs, IsUnsatisfiable};
     ghost use Rattle.resolution_check.specs.Known.{HasRead, Advances, fault_in, IsJudged};
 
     /// A checker that has read nothing. It takes no memory.
@@ -61,7 +61,7 @@ impl Checker {
             HasRead self.new (es ++ entry ∷ [])) }
         ensures refused { IfErr result (λ bad. (bad ≡ Bad.Memory) ⊎
             ((es : List Entry) → HasRead self.old es → fault_of es entry ≡ Some bad)) }
-        ensures exact { (es : List Entry) → HasRead self.old es → KeepsGood es entry →
+        ensures exact { (es : List Entry) → HasRead self.old es → IsGood (es ++ entry ∷ []) →
             IfErr result (λ bad. bad ≡ Bad.Memory) }
         ensures unchanged { OnErr result (self.new ≡ self.old) }
     {

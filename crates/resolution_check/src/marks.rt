@@ -7,10 +7,11 @@ use crate::log::Lit;
 use std::alloc::{AllocError, Global};
 use std::collections::HashSet;
 
-/// A set of literals.
+/// A set of literals: the variables of each sign.
 #[derive(Drop)]
 pub(crate) struct Marks {
-    lits: HashSet<Lit>,
+    positive: HashSet<u64>,
+    negative: HashSet<u64>,
 }
 
 impl Marks {
@@ -19,7 +20,8 @@ impl Marks {
         ensures { (l : Lit) → marked result l ≡ false }
     {
         Marks {
-            lits: HashSet::new(alloc),
+            positive: HashSet::new(alloc),
+            negative: HashSet::new(alloc),
         }
     }
 
@@ -27,28 +29,37 @@ impl Marks {
     pub(crate) fn clear(&mut self)
         ensures { (l : Lit) → marked self.new l ≡ false }
     {
-        self.lits.clear();
+        self.positive.clear();
+        self.negative.clear();
     }
 
     /// Whether a literal is in the set.
     pub(crate) fn has(&self, lit: Lit) -> bool
         ensures { result ≡ marked self.now lit }
     {
-        self.lits.contains(&lit)
+        if lit.negated {
+            self.negative.contains(&lit.var)
+        } else {
+            self.positive.contains(&lit.var)
+        }
     }
 
     /// Whether the set is empty.
     pub(crate) fn is_empty(&self) -> bool
         ensures { IsTrue result ↔ ((l : Lit) → marked self.now l ≡ false) }
     {
-        self.lits.is_empty()
+        self.positive.is_empty() && self.negative.is_empty()
     }
 
     /// Puts a literal in.
     pub(crate) fn mark(&mut self, lit: Lit) -> Result<(), AllocError>
         ensures { OnOk result ((l : Lit) → marked self.new l ≡ (is_same lit l || marked self.old l)) }
     {
-        self.lits.insert(lit)?;
+        if lit.negated {
+            self.negative.insert(lit.var)?;
+        } else {
+            self.positive.insert(lit.var)?;
+        }
         Ok(())
     }
 
@@ -56,6 +67,10 @@ impl Marks {
     pub(crate) fn unmark(&mut self, lit: Lit)
         ensures { (l : Lit) → marked self.new l ≡ (not (is_same lit l) && marked self.old l) }
     {
-        let _was_there = self.lits.remove(&lit);
+        let _was_there = if lit.negated {
+            self.negative.remove(&lit.var)
+        } else {
+            self.positive.remove(&lit.var)
+        };
     }
 }

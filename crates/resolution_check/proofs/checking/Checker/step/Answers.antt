@@ -1,3 +1,4 @@
+use Rattle.resolution_check.proofs.Goods.{kept_from_good}
 use Rattle.resolution_check.proofs.Reading.{stepped, refused, only_memory}
 use Rattle.resolution_check.proofs.checking.Checker.step.Goals as goal
 
@@ -8,4 +9,4 @@ pub returns-clause-refused : goal.returns-clause-refused
 returns-clause-refused c = refused c.args.self.now c.args.entry c.accept.result c.accept.ensures.judged
 
 pub returns-clause-exact : goal.returns-clause-exact
-returns-clause-exact c = λ es h kept. only_memory c.args.self.now es c.args.entry c.accept.result h kept c.accept.ensures.judged
+returns-clause-exact c = λ es h good. only_memory c.args.self.now es c.args.entry c.accept.result h (kept_from_good es c.args.entry good) c.accept.ensures.judged
