@@ -3,4 +3,6 @@ pub mod Pivots
 pub mod Chains
 pub mod Goods
 pub mod Truth
-pub mod Reading
+pub mod Accepted
+pub mod Texts
+pub mod Lines

@@ -2,3 +2,5 @@ pub mod Clauses
 pub mod Entries
 pub mod Known
 pub mod Marked
+pub mod Text
+pub mod Words

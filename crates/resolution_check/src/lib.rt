@@ -6,6 +6,8 @@ mod chain;
 mod checking;
 mod log;
 mod marks;
+mod reading;
 
 pub use checking::Checker;
 pub use log::{Bad, Clause, Entry, LineRefused, Lit};
+pub use reading::read_entry;

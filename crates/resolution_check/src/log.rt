@@ -86,6 +86,16 @@ impl<T: Drop> From<AllocFailed<T>> for Bad {
     }
 }
 
+impl<T: Drop> From<AllocFailed<T>> for LineRefused {
+    ghost use Rattle.resolution_check.specs.declared.log.LineRefused.TheVariants.{Memory};
+
+    ghost from_gives = { λ _ refusal. refusal ≡ Memory };
+
+    fn from(_error: AllocFailed<T>) -> LineRefused {
+        LineRefused::Memory
+    }
+}
+
 impl Lit {
     ghost use Rattle.resolution_check.specs.Clauses.{opposite};
 

@@ -1,5 +1,5 @@
 use Rattle.resolution_check.proofs.Goods.{kept_from_good}
-use Rattle.resolution_check.proofs.Reading.{stepped, refused, only_memory}
+use Rattle.resolution_check.proofs.Accepted.{stepped, refused, only_memory}
 use Rattle.resolution_check.proofs.checking.Checker.step.Goals as goal
 
 pub returns-clause-ok : goal.returns-clause-ok
