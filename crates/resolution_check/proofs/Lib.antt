@@ -6,3 +6,4 @@ pub mod Truth
 pub mod Accepted
 pub mod Texts
 pub mod Lines
+pub mod Written

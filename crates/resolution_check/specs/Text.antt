@@ -40,3 +40,7 @@ HasText (Input id clause) = IsNumber id × AllByRecursion IsSmall clause.lits
 HasText (Add id clause chain) = IsNumber id × AllByRecursion IsSmall clause.lits × AllByRecursion IsNumber chain
 HasText (Delete id) = IsNumber id
 HasText End = ⊤
+
+-- a word behind a space
+abbrev pub after_space : List ℕ → List ℕ
+after_space word = 32 ∷ word

@@ -7,7 +7,9 @@ mod checking;
 mod log;
 mod marks;
 mod reading;
+mod writing;
 
 pub use checking::Checker;
 pub use log::{Bad, Clause, Entry, LineRefused, Lit};
 pub use reading::read_entry;
+pub use writing::write_entry;
