@@ -10,7 +10,7 @@ use Rattle.resolution_check.specs.declared.log.Bad.{Bad}
 use Rattle.resolution_check.specs.declared.log.Bad.TheVariants.{Memory, AfterEnd}
 use Rattle.resolution_check.specs.Entries.{clause_by, deletes, is_end, is_refutation, additions_in, clause_given, is_given, is_deleted, clause_held, addition_count, entry_fault, fault_of, IsSound, KeepsGood, IsGood}
 use Rattle.resolution_check.specs.Known.{Known, shelved, clause_on, shelved_after, HasRead, fault_in, IsJudged, shelved_by, Advances}
-use Rattle.resolution_check.proofs.Goods.{kept_from_free, free_from_kept, IsGood-push, clause_given-push, any-push, given_from_deleted, given_from_held}
+use Rattle.resolution_check.proofs.Goods.{kept_from_free, free_from_kept, each_push, clause_given-push, any-push, given_from_deleted, given_from_held}
 
 -- ---- the checker's cause is the list's
 
@@ -78,7 +78,7 @@ pub reads_more : (old new : Known) (es : List Entry) (e : Entry) → HasRead old
 reads_more old new es e h free a =
     let kept = kept_from_free es e (sym (same_fault old es e h) ∙ free) in
     record {
-      good = IsGood-push es e h.good kept;
+      good = each_push KeepsGood es e h.good kept;
       shelf = λ id. a.shelf id ∙ ap (shelved_by e id) (h.shelf id) ∙ shelf_push es e id h.good kept.1;
       added = a.added ∙ ap (λ n. n + additions_in e) h.added ∙ sym (count-push es e);
       refuted = a.refuted ∙ ap (λ b. b || is_refutation e) h.refuted ∙ sym (any-push is_refutation es e);

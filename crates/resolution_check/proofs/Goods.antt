@@ -11,7 +11,7 @@ use Rattle.resolution_check.specs.declared.log.Entry.TheVariants.{Input, Add, De
 use Rattle.resolution_check.specs.declared.log.Bad.{Bad}
 use Rattle.resolution_check.specs.declared.log.Bad.TheVariants.{UnknownId, UsedId, AfterEnd}
 use Rattle.resolution_check.specs.Clauses.{is_inside}
-use Rattle.resolution_check.specs.Entries.{clause_by, deletes, clause_given, is_given, is_deleted, clause_held, has_ended, resolved, cover_fault, entry_fault, fault_of, IsSound, KeepsGood, IsGoodAfter, IsGood}
+use Rattle.resolution_check.specs.Entries.{clause_by, deletes, clause_given, is_given, is_deleted, clause_held, has_ended, resolved, cover_fault, entry_fault, fault_of, IsSound, KeepsGood, EachAfter, IsGood}
 
 -- ---- no fault exactly where the list stays good
 
@@ -52,28 +52,32 @@ free_from_sound es End h = refl
 pub free_from_kept : (es : List Entry) (e : Entry) → KeepsGood es e → fault_of es e ≡ None
 free_from_kept es e h = rw h.0 (free_from_sound es e h.1)
 
--- ---- what holds of the empty list and is kept by each entry that keeps the list good, holds of each good list
+-- ---- lists in which each entry is in a relation to those before it
 
-pub good_after : (P : List Entry → Type 0) → ((es : List Entry) (e : Entry) → KeepsGood es e → P es → P (es ++ e ∷ [])) → (before es : List Entry) → IsGoodAfter before es → P before → P (before ++ es)
-good_after P step before [] h p = subst P (sym (append-nil before)) p
-good_after P step before (e ∷ es) h p = subst P (append_assoc before (e ∷ []) es) (good_after P step (before ++ e ∷ []) es h.1 (step before e h.0 p))
+module _ (R : List Entry → Entry → Type 0) where
+  each_from : (P : List Entry → Type 0) → ((es : List Entry) (e : Entry) → R es e → P es → P (es ++ e ∷ [])) → (before es : List Entry) → EachAfter R before es → P before → P (before ++ es)
+  each_from P step before [] h p = subst P (sym (append-nil before)) p
+  each_from P step before (e ∷ es) h p = subst P (append_assoc before (e ∷ []) es) (each_from P step (before ++ e ∷ []) es h.1 (step before e h.0 p))
 
-pub good_by_steps : (P : List Entry → Type 0) → P [] → ((es : List Entry) (e : Entry) → KeepsGood es e → P es → P (es ++ e ∷ [])) → (es : List Entry) → IsGood es → P es
-good_by_steps P start step es h = good_after P step [] es h start
+  -- what holds of the empty list, and is kept by each entry, holds of the list
+  pub by_steps : (P : List Entry → Type 0) → P [] → ((es : List Entry) (e : Entry) → R es e → P es → P (es ++ e ∷ [])) → (es : List Entry) → EachAfter R [] es → P es
+  by_steps P start step es h = each_from P step [] es h start
 
-good_after_push : (before es : List Entry) (e : Entry) → IsGoodAfter before es → KeepsGood (before ++ es) e → IsGoodAfter before (es ++ e ∷ [])
-good_after_push before [] e h k = (subst (λ front. KeepsGood front e) (append-nil before) k, tt)
-good_after_push before (d ∷ es) e h k = (h.0, good_after_push (before ++ d ∷ []) es e h.1 (subst (λ front. KeepsGood front e) (sym (append_assoc before (d ∷ []) es)) k))
+  push_after : (before es : List Entry) (e : Entry) → EachAfter R before es → R (before ++ es) e → EachAfter R before (es ++ e ∷ [])
+  push_after before [] e h k = (subst (λ front. R front e) (append-nil before) k, tt)
+  push_after before (d ∷ es) e h k = (h.0, push_after (before ++ d ∷ []) es e h.1 (subst (λ front. R front e) (sym (append_assoc before (d ∷ []) es)) k))
 
-pub IsGood-push : (es : List Entry) (e : Entry) → IsGood es → KeepsGood es e → IsGood (es ++ e ∷ [])
-IsGood-push es e h k = good_after_push [] es e h k
+  -- one entry more
+  pub each_push : (es : List Entry) (e : Entry) → EachAfter R [] es → R es e → EachAfter R [] (es ++ e ∷ [])
+  each_push es e h k = push_after [] es e h k
 
-last_kept : (before es : List Entry) (e : Entry) → IsGoodAfter before (es ++ e ∷ []) → KeepsGood (before ++ es) e
-last_kept before [] e h = subst (λ front. KeepsGood front e) (sym (append-nil before)) h.0
-last_kept before (d ∷ es) e h = subst (λ front. KeepsGood front e) (append_assoc before (d ∷ []) es) (last_kept (before ++ d ∷ []) es e h.1)
+  last_after : (before es : List Entry) (e : Entry) → EachAfter R before (es ++ e ∷ []) → R (before ++ es) e
+  last_after before [] e h = subst (λ front. R front e) (sym (append-nil before)) h.0
+  last_after before (d ∷ es) e h = subst (λ front. R front e) (append_assoc before (d ∷ []) es) (last_after (before ++ d ∷ []) es e h.1)
 
-pub kept_from_good : (es : List Entry) (e : Entry) → IsGood (es ++ e ∷ []) → KeepsGood es e
-kept_from_good es e h = last_kept [] es e h
+  -- the last entry
+  pub each_last : (es : List Entry) (e : Entry) → EachAfter R [] (es ++ e ∷ []) → R es e
+  each_last es e h = last_after [] es e h
 
 -- ---- one entry more
 
@@ -128,5 +132,5 @@ deleted_now es (Delete own) id h d = given_from_held es id (subst (λ n. IsSome 
 deleted_now es End id h d = absurd (false≢true d)
 
 pub given_from_deleted : (es : List Entry) → IsGood es → Deletes es
-given_from_deleted = good_by_steps Deletes (λ id h. h) (λ es e kept earlier id h.
+given_from_deleted = by_steps KeepsGood Deletes (λ id h. h) (λ es e kept earlier id h.
     given-kept es e id (elim (or_cases _ _ (sym (any-push (deletes id) es e) ∙ h)) [ inl before ↦ earlier id before | inr now ↦ deleted_now es e id kept.1 now ]))

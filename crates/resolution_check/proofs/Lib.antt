@@ -7,3 +7,4 @@ pub mod Accepted
 pub mod Texts
 pub mod Lines
 pub mod Written
+pub mod Resolvents

@@ -241,3 +241,7 @@ read_exactly line (Ok d) h e has same = let one : d ≡ e = some_one d e (sym h 
     some_one x y k = cc
 read_exactly line (Err refusal) (inl memory) e has same = inr (ap (λ x. Err x) memory)
 read_exactly line (Err refusal) (inr bad) e has same = let none : None ≡ Some e = sym bad.1 ∙ entry_from_line line e has same in absurd (cc)
+
+-- no two entries have one text
+pub same_entry : (d e : Entry) → HasText d → HasText e → text_of d ≡ text_of e → d ≡ e
+same_entry d e h k same = let one : Some d ≡ Some e = sym (entry_from_line (text_of d) d h refl) ∙ entry_from_line (text_of d) e k same in cc

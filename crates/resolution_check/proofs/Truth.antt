@@ -14,7 +14,7 @@ use Rattle.resolution_check.specs.declared.log.Bad.TheVariants.{NoPivot, Unknown
 use Rattle.resolution_check.specs.Clauses.{opposite, is_same, has, is_inside, clashing, the_one, without, resolvent}
 use Rattle.resolution_check.specs.Entries.{lit_value, clause_value, satisfies, and_then, resolved_next, resolved_from, resolved, clause_by, clause_given, clause_held, is_deleted, input_of, inputs, is_empty, is_refutation, adds_empty, IsSound, KeepsGood, IsGood, IsUnsatisfiable}
 use Rattle.resolution_check.proofs.Literals.{alike}
-use Rattle.resolution_check.proofs.Goods.{good_by_steps, clause_given-push, any-push}
+use Rattle.resolution_check.proofs.Goods.{by_steps, clause_given-push, any-push}
 
 -- ---- clauses
 
@@ -160,4 +160,4 @@ follows_more v es e kept earlier t =
 
 -- a good list that adds the empty clause has inputs that no assignment satisfies
 pub unsatisfiable : (es : List Entry) → IsGood es → adds_empty es ≡ true → IsUnsatisfiable (inputs es)
-unsatisfiable es good adds v = false_from_ne_true _ (λ t. false≢true (sym (good_by_steps (Follows v) (λ s. record { given = λ id c e. absurd (cc); no_empty = refl }) (follows_more v) es good t).no_empty ∙ adds))
+unsatisfiable es good adds v = false_from_ne_true _ (λ t. false≢true (sym (by_steps KeepsGood (Follows v) (λ s. record { given = λ id c e. absurd (cc); no_empty = refl }) (follows_more v) es good t).no_empty ∙ adds))

@@ -1,5 +1,5 @@
 -- Clauses as sets of literals, and their resolvents.
-use Rattle.std.specs.Prelude.{Bool, not, ◌&&◌, ◌==◌, if◌then◌else◌, List, [], ◌∷◌, ◌++◌, filter}
+use Rattle.std.specs.Prelude.{◌≡◌, true, Bool, not, ◌&&◌, ◌==◌, if◌then◌else◌, List, [], ◌∷◌, ◌++◌, filter}
 use Rattle.std.specs.Option.{option_map}
 use Rattle.std.specs.List.{list_any, list_all}
 use Rattle.std.specs.Bool.{beq}
@@ -39,3 +39,13 @@ without c l = filter (λ k. not (is_same l k)) c
 -- that literal, together with the second without its negation
 abbrev pub resolvent : List Lit → List Lit → Option (List Lit)
 resolvent c d = option_map (λ l. without c l ++ without d (opposite l)) (the_one (clashing c d))
+
+-- the two have the same literals
+abbrev pub IsSameSet : List Lit → List Lit → Type 0
+IsSameSet c d = (l : Lit) → has c l ≡ has d l
+
+-- exactly this literal of the first clause has its negation in the second
+pub record IsPivot (c d : List Lit) (p : Lit) : Type 0 where
+  pub first : has c p ≡ true
+  pub second : has d (opposite p) ≡ true
+  pub only : (l : Lit) → has c l ≡ true → has d (opposite l) ≡ true → l ≡ p

@@ -143,13 +143,14 @@ IsSound es End = ⊤
 abbrev pub KeepsGood : List Entry → Entry → Type 0
 KeepsGood es e = (has_ended es ≡ false) × IsSound es e
 
-abbrev pub IsGoodAfter : List Entry → List Entry → Type 0
-IsGoodAfter before [] = ⊤
-IsGoodAfter before (e ∷ es) = KeepsGood before e × IsGoodAfter (before ++ e ∷ []) es
+-- each entry of the second list is in the relation to those before it, of which the first list stands in front
+abbrev pub EachAfter : (List Entry → Entry → Type 0) → List Entry → List Entry → Type 0
+EachAfter P before [] = ⊤
+EachAfter P before (e ∷ es) = P before e × EachAfter P (before ++ e ∷ []) es
 
 -- each entry keeps the list of those before it good
 abbrev pub IsGood : List Entry → Type 0
-IsGood es = IsGoodAfter [] es
+IsGood es = EachAfter KeepsGood [] es
 
 -- good, and the empty clause is added
 abbrev pub Refutes : List Entry → Type 0

@@ -4,3 +4,4 @@ pub mod Known
 pub mod Marked
 pub mod Text
 pub mod Words
+pub mod Earned

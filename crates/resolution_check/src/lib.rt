@@ -4,6 +4,7 @@
 
 mod chain;
 mod checking;
+pub mod laws;
 mod log;
 mod marks;
 mod reading;
