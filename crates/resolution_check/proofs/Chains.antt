@@ -1,8 +1,10 @@
 -- Steps of a chain.
-use Rattle.std.proofs.Common.{◌≡◌, inl, inr, refl, sym, ◌∙◌, ap, subst, ℕ, ◌+◌, not, ◌&&◌, ◌||◌, List, ◌∷◌, ◌++◌, Option, Some, Result, Ok, Err}
+use Rattle.std.proofs.Common.{◌≡◌, inl, inr, refl, sym, ◌∙◌, ap, subst, length, add-zero, arith, ℕ, ◌+◌, not, ◌&&◌, ◌||◌, List, [], ◌∷◌, ◌++◌, Option, Some, None, Result, Ok, Err}
+use Rattle.std.specs.Option.{option_map_or}
 use Rattle.resolution_check.specs.declared.log.Lit.{Lit}
 use Rattle.resolution_check.specs.declared.log.Clause.{Clause}
 use Rattle.resolution_check.specs.declared.log.Bad.{Bad}
+use Rattle.resolution_check.specs.declared.log.Bad.TheVariants.{UnknownId}
 use Rattle.resolution_check.specs.declared.marks.Marks.{Marks}
 use Rattle.resolution_check.specs.Clauses.{opposite, is_same, has, without, clashing, the_one}
 use Rattle.resolution_check.specs.Entries.{and_then, resolved, resolved_next, resolved_from}
@@ -42,3 +44,33 @@ pub begins : (held : ℕ → Option Clause) (id : ℕ) (c : Clause) (others chai
 begins held id c others chain e h =
     let answer : resolved held (id ∷ others) ≡ resolved_from held c.lits 1 others = rw h refl in
     sym (ap (resolved held) e ∙ answer)
+
+-- ---- a chain that is made longer at its end
+
+then_ok : (answer : Result (List Lit) Bad) → and_then answer (λ s. Ok s) ≡ answer
+then_ok (Ok s) = refl
+then_ok (Err bad) = refl
+
+then_then : (answer : Result (List Lit) Bad) (f g : List Lit → Result (List Lit) Bad) → and_then (and_then answer f) g ≡ and_then answer (λ s. and_then (f s) g)
+then_then (Ok s) f g = refl
+then_then (Err bad) f g = refl
+
+from_push : (held : ℕ → Option Clause) (r : List Lit) (at : ℕ) (ids : List ℕ) (id : ℕ) → resolved_from held r at (ids ++ id ∷ []) ≡ and_then (resolved_from held r at ids) (λ s. resolved_next held s (at + length ids) id)
+from_push held r at [] id = then_ok (resolved_next held r at id) ∙ ap (λ n. resolved_next held r n id) (sym (add-zero at))
+from_push held r at (first ∷ ids) id =
+    let place : at + 1 + length ids ≡ at + length (first ∷ ids) = omega arith in
+    let later : (λ s. resolved_from held s (at + 1) (ids ++ id ∷ [])) ≡ (λ s. and_then (resolved_from held s (at + 1) ids) (λ t. resolved_next held t (at + length (first ∷ ids)) id)) =
+    λ i s. (from_push held s (at + 1) ids id ∙ ap (λ n. and_then (resolved_from held s (at + 1) ids) (λ t. resolved_next held t n id)) place) i in
+    ap (and_then (resolved_next held r at first)) later ∙ sym (then_then (resolved_next held r at first) (λ s. resolved_from held s (at + 1) ids) (λ t. resolved_next held t (at + length (first ∷ ids)) id))
+
+-- one number more resolves the last resolvent with its clause
+pub resolved-push : (held : ℕ → Option Clause) (chain : List ℕ) (id : ℕ) (r : List Lit) → resolved held chain ≡ Ok r → resolved held (chain ++ id ∷ []) ≡ resolved_next held r (length chain) id
+resolved-push held [] id r h = absurd (cc)
+resolved-push held (first ∷ ids) id r h = by_first (held first) h
+  where
+    by_first : (o : Option Clause) → option_map_or (λ c. resolved_from held c.lits 1 ids) o (Err (UnknownId first)) ≡ Ok r
+        → option_map_or (λ c. resolved_from held c.lits 1 (ids ++ id ∷ [])) o (Err (UnknownId first)) ≡ resolved_next held r (length (first ∷ ids)) id
+    by_first None k = absurd (cc)
+    by_first (Some c) k =
+        let place : 1 + length ids ≡ length (first ∷ ids) = omega arith in
+        from_push held c.lits 1 ids id ∙ ap (λ answer. and_then answer (λ s. resolved_next held s (1 + length ids) id)) k ∙ ap (λ n. resolved_next held r n id) place

@@ -118,6 +118,13 @@ impl Checker {
     }
 }
 
+/// Whether a number was given.
+fn is_given(shelf: &Shelf, id: u64) -> bool
+    ensures { result ≡ is_some (shelved shelf.now.entries id) }
+{
+    shelf.contains_key(&id)
+}
+
 /// Whether an addition may follow: its number is new, and the chain's last resolvent is inside the
 /// claimed clause.
 fn judge(
@@ -129,7 +136,7 @@ fn judge(
 ) -> Result<(), Bad>
     ensures { IsJudged result (addition_fault (λ number. is_some (shelved shelf.now.entries number)) (clause_on shelf.now.entries) id clause.now chain.now) }
 {
-    if shelf.contains_key(&id) {
+    if is_given(shelf, id) {
         return Err(Bad::UsedId { id });
     }
     resolve_chain(marks, shelf, chain)?;
@@ -148,7 +155,7 @@ fn put(shelf: &mut Shelf, id: u64, clause: Clause) -> Result<(), Bad>
     ensures small { OnOk result (length shelf.new.entries < 2 ^ 63) }
     ensures unchanged { OnErr result (shelf.new.entries ≡ shelf.old.entries) }
 {
-    if shelf.contains_key(&id) {
+    if is_given(shelf, id) {
         return Err(Bad::UsedId { id });
     }
     shelf.insert(id, Some(clause))?;

@@ -1,12 +1,12 @@
 //! What the definitions of this crate say, in the words of logic. Each function only carries its law.
 
-ghost use Rattle.std.specs.Prelude.{◌≡◌, ◌↔◌, ◌+◌, ◌*◌, ◌≤◌, ◌||◌, ◌&&◌, ◌++◌, ◌∷◌, [], not, true, false, List, ℕ, Option, Some, None, Bool};
+ghost use Rattle.std.specs.Prelude.{◌≡◌, ◌↔◌, ◌+◌, ◌*◌, ◌≤◌, ◌||◌, ◌&&◌, ◌++◌, ◌∷◌, [], not, true, false, List, ℕ, Option, Some, None, Ok, length, Bool};
 ghost use Rattle.std.specs.List.{list_any};
 ghost use Rattle.resolution_check.specs.declared.log.Lit.{Lit};
 ghost use Rattle.resolution_check.specs.declared.log.Clause.{Clause};
 ghost use Rattle.resolution_check.specs.declared.log.Entry.{Entry};
 ghost use Rattle.resolution_check.specs.Clauses.{opposite, is_same, has, resolvent, IsPivot, IsSameSet};
-ghost use Rattle.resolution_check.specs.Entries.{addition_count, clause_held, fault_of, inputs, KeepsGood, Refutes, IsUnsatisfiable};
+ghost use Rattle.resolution_check.specs.Entries.{addition_count, clause_held, resolved, resolved_next, fault_of, inputs, KeepsGood, Refutes, IsUnsatisfiable};
 ghost use Rattle.resolution_check.specs.Earned.{IsEarnedAddition, IsSpaced, gives_input, ends_deleting, run_count};
 ghost use Rattle.resolution_check.specs.Text.{text_of, HasText};
 
@@ -22,6 +22,12 @@ pub fn resolvent_law()
 pub fn same_set_law()
     ensures { (a b c d s : List Lit) → IsSameSet a c → IsSameSet b d → resolvent a b ≡ Some s →
         (t : List Lit) × (resolvent c d ≡ Some t) × IsSameSet s t }
+{}
+
+/// A chain with one number more resolves the last resolvent with the clause of that number.
+pub fn chain_law()
+    ensures { (held : ℕ → Option Clause) (chain : List ℕ) (id : ℕ) (r : List Lit) → resolved held chain ≡ Ok r →
+        resolved held (chain ++ id ∷ []) ≡ resolved_next held r (length chain) id }
 {}
 
 /// There is a cause to refuse an entry exactly where the list would not stay good.
