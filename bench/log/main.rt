@@ -1,12 +1,14 @@
-//! Checks a log that it makes: 1,000 inputs, and then as many additions as its argument says, each
-//! with a chain of ten. Prints how many additions were accepted.
+//! Checks a log, and prints how many additions were accepted. With two numbers as its arguments it makes
+//! the log: 1,000 inputs, and then as many additions as the first says, each with a chain of ten, of
+//! which as many as the second says stay held. Without arguments it reads the log's lines.
 #![tactic(auto)]
 
 ghost use Rattle.std.specs.Prelude.{◌<◌};
 
 use mw_text::List;
-use resolution_check::{Bad, Checker, Clause, Entry, Lit};
+use resolution_check::{Bad, Checker, Clause, Entry, Lit, read_entry};
 use std::alloc::Global;
+use std::io::{BufRead, BufReader};
 use std::{env, io};
 
 const INPUTS: u64 = 1000;
@@ -72,19 +74,35 @@ fn run(alloc: Global, count: u32, held: u32) -> Result<u64, Bad> {
     Ok(checker.added())
 }
 
+/// Reads the lines of a log.
+fn read(rt: &(impl Input + AllocGlobal)) -> Result<u64, Bad> {
+    let mut checker = Checker::new(rt.alloc());
+    let reader = BufReader::new(rt.alloc(), rt.reader()).map_err(|_| Bad::Memory)?;
+    for line in reader.lines(rt.alloc()) {
+        let Ok(line) = line else {
+            return Err(Bad::Memory);
+        };
+        let Ok(entry) = read_entry(rt.alloc(), line.as_bytes()) else {
+            return Err(Bad::Memory);
+        };
+        checker.step(entry)?;
+    }
+    Ok(checker.added())
+}
+
 fn main(rt: HostRuntime) -> io::Result<()> {
-    let mut count = 1000;
-    let mut held = 1_000_000;
+    let mut numbers = [0, 0];
     for (i, word) in env::args(&rt)?.enumerate() {
-        if let Ok(n) = word.as_str().parse::<u32>() {
-            if i == 1 {
-                count = n;
-            } else {
-                held = n;
-            }
+        if i == 1 || i == 2 {
+            numbers[i - 1] = word.as_str().parse::<u32>().unwrap_or(0);
         }
     }
-    match run(rt.alloc(), count, held) {
+    let answer = if numbers[0] > 0 {
+        run(rt.alloc(), numbers[0], numbers[1])
+    } else {
+        read(&rt)
+    };
+    match answer {
         Ok(added) => println!(rt; "{added} additions accepted"),
         Err(_) => println!(rt; "refused"),
     }
