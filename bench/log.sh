@@ -23,7 +23,7 @@ cd "$work"
 rt all check > "$work/check.txt" 2>&1 || { tail -20 "$work/check.txt"; exit 1; }
 for crate in mw_text resolution_check; do (cd "crates/$crate" && rt lib > /dev/null); done
 cd crates/bench_log
-rt run < /dev/null > /dev/null
+rt run < /dev/null > run.txt 2>&1 || { tail -20 run.txt; exit 1; }
 for count in 1000000 10000000; do
     for held in 1000 1000000; do
         printf '%s additions, %s held: ' "$count" "$held"

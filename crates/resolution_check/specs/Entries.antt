@@ -20,6 +20,10 @@ clause_by id (Add own clause chain) = if own == id then Some clause else None
 clause_by id (Delete own) = None
 clause_by id End = None
 
+-- whether the entry gives this number
+abbrev pub gives : ℕ → Entry → Bool
+gives id e = is_some (clause_by id e)
+
 -- whether the entry deletes this number
 abbrev pub deletes : ℕ → Entry → Bool
 deletes id (Input own clause) = false

@@ -1,27 +1,16 @@
 //! Chains of clauses, resolved from the front by marks of the literals of the resolvent so far.
 
 ghost use Rattle.std.specs.Prelude.{◌≡◌, ◌||◌, ◌&&◌, not, List, OnOk};
-ghost use Rattle.std.specs.Option.{option_copied};
 ghost use Rattle.resolution_check.specs.declared.log.Lit.{Lit};
 ghost use Rattle.resolution_check.specs.Clauses.{has, without, clashing, the_one, is_inside};
 ghost use Rattle.resolution_check.specs.Entries.{resolved, resolved_next};
-ghost use Rattle.resolution_check.specs.Known.{clause_on};
+ghost use Rattle.resolution_check.specs.Known.{held_on};
 ghost use Rattle.resolution_check.specs.Marked.{marked, Shows, Resolves};
 
-use crate::log::{Bad, Clause, Lit};
+use crate::log::{Bad, Lit};
 use crate::marks::Marks;
+use crate::shelf::Shelf;
 use std::alloc::AllocError;
-use std::collections::HashMap;
-
-/// Each number that was given, with its clause while that is held.
-pub(crate) type Shelf = HashMap<u64, Option<Clause>>;
-
-/// The clause that is held under a number.
-pub(crate) fn find_clause(shelf: &Shelf, id: u64) -> Option<&Clause>
-    ensures { option_copied result ≡ clause_on shelf.now.entries id }
-{
-    shelf.get(&id)?.as_ref()
-}
 
 /// The one marked literal whose negation stands in the clause.
 fn find_pivot(marks: &Marks, clause: &[Lit]) -> Option<Lit>
@@ -79,9 +68,9 @@ fn unmark_all(marks: &mut Marks, clause: &[Lit])
 /// Resolves what is marked with the clause of a number, which stands at this place of the chain.
 fn resolve_next(marks: &mut Marks, shelf: &Shelf, at: u64, id: u64) -> Result<(), Bad>
     ensures { (r : List Lit) → Shows marks.old r →
-        Resolves marks.new result (resolved_next (clause_on shelf.now.entries) r at id) }
+        Resolves marks.new result (resolved_next (held_on shelf.now) r at id) }
 {
-    let Some(clause) = find_clause(shelf, id) else {
+    let Some(clause) = shelf.find(id) else {
         return Err(Bad::UnknownId { id });
     };
     let lits = clause.lits.as_slice();
@@ -95,13 +84,13 @@ fn resolve_next(marks: &mut Marks, shelf: &Shelf, at: u64, id: u64) -> Result<()
 
 /// Resolves the clauses of a chain from its front. What is marked is then the last resolvent.
 pub(crate) fn resolve_chain(marks: &mut Marks, shelf: &Shelf, chain: &[u64]) -> Result<(), Bad>
-    ensures { Resolves marks.new result (resolved (clause_on shelf.now.entries) chain.now) }
+    ensures { Resolves marks.new result (resolved (held_on shelf.now) chain.now) }
 {
     marks.clear();
     let Some((first, others)) = chain.split_first() else {
         return Err(Bad::NoPivot { at: 0 });
     };
-    let Some(clause) = find_clause(shelf, *first) else {
+    let Some(clause) = shelf.find(*first) else {
         return Err(Bad::UnknownId { id: *first });
     };
     mark_all(marks, clause.lits.as_slice())?;

@@ -3,13 +3,13 @@
 ghost use Rattle.std.specs.Prelude.{◌≡◌, ◌≢◌, ◌↔◌, ◌⊎◌, ◌+◌, ◌^◌, ◌<◌, ◌++◌, ◌∷◌, [], true, List, Some, IsTrue, OnOk, OnErr, IfErr, is_some, length};
 ghost use Rattle.resolution_check.specs.declared.log.Entry.{Entry};
 ghost use Rattle.resolution_check.specs.Entries.{addition_fault};
-ghost use Rattle.resolution_check.specs.Known.{IsJudged, open_fault, Shelves, shelved, clause_on};
+ghost use Rattle.resolution_check.specs.Known.{IsJudged, given_on, held_on};
 
-use crate::chain::{Shelf, find_clause, is_covered, resolve_chain};
-use crate::log::{Bad, Clause, Entry, Lit};
+use crate::chain::{is_covered, resolve_chain};
+use crate::log::{Bad, Entry, Lit};
 use crate::marks::Marks;
+use crate::shelf::Shelf;
 use std::alloc::Global;
-use std::collections::HashMap;
 use std::marker::Model;
 
 /// Checks the entries of a log one after another. It needs no trust in whoever made the log.
@@ -23,14 +23,14 @@ pub struct Checker {
 }
 
 impl Model for Checker {
-    ghost use Rattle.std.specs.Prelude.{◌≤◌, length};
-    ghost use Rattle.resolution_check.specs.Known.{Known};
+    ghost use Rattle.std.specs.Prelude.{◌≤◌};
+    ghost use Rattle.resolution_check.specs.Known.{Known, count_of};
 
     ghost Value = { Known };
 
-    ghost view = { λ c. record { shelf = c.shelf.entries; added = c.added; refuted = c.refuted; ended = c.ended } };
+    ghost view = { λ c. record { shelf = c.shelf; added = c.added; refuted = c.refuted; ended = c.ended } };
 
-    ghost invariant = { λ c. c.added ≤ length c.shelf.entries };
+    ghost invariant = { λ c. c.added ≤ count_of c.shelf };
 }
 
 impl Checker {
@@ -42,7 +42,7 @@ impl Checker {
         ensures { HasRead result [] }
     {
         Checker {
-            shelf: HashMap::new(alloc),
+            shelf: Shelf::new(alloc),
             marks: Marks::new(alloc),
             added: 0,
             refuted: false,
@@ -78,7 +78,7 @@ impl Checker {
             return Err(Bad::AfterEnd);
         }
         match entry {
-            Entry::Input { id, clause } => put(&mut self.shelf, id, clause),
+            Entry::Input { id, clause } => self.shelf.put(id, clause),
             Entry::Add { id, clause, chain } => {
                 judge(
                     &self.shelf,
@@ -88,12 +88,12 @@ impl Checker {
                     chain.as_slice(),
                 )?;
                 let is_empty = clause.lits.as_slice().is_empty();
-                put(&mut self.shelf, id, clause)?;
+                self.shelf.put(id, clause)?;
                 self.added += 1;
                 self.refuted = self.refuted || is_empty;
                 Ok(())
             }
-            Entry::Delete { id } => delete(&mut self.shelf, id),
+            Entry::Delete { id } => self.shelf.delete(id),
             Entry::End => {
                 self.ended = true;
                 Ok(())
@@ -118,13 +118,6 @@ impl Checker {
     }
 }
 
-/// Whether a number was given.
-fn is_given(shelf: &Shelf, id: u64) -> bool
-    ensures { result ≡ is_some (shelved shelf.now.entries id) }
-{
-    shelf.contains_key(&id)
-}
-
 /// Whether an addition may follow: its number is new, and the chain's last resolvent is inside the
 /// claimed clause.
 fn judge(
@@ -134,9 +127,9 @@ fn judge(
     clause: &[Lit],
     chain: &[u64],
 ) -> Result<(), Bad>
-    ensures { IsJudged result (addition_fault (λ number. is_some (shelved shelf.now.entries number)) (clause_on shelf.now.entries) id clause.now chain.now) }
+    ensures { IsJudged result (addition_fault (given_on shelf.now) (held_on shelf.now) id clause.now chain.now) }
 {
-    if is_given(shelf, id) {
+    if shelf.is_given(id) {
         return Err(Bad::UsedId { id });
     }
     resolve_chain(marks, shelf, chain)?;
@@ -145,37 +138,4 @@ fn judge(
     } else {
         Err(Bad::NotCovered)
     }
-}
-
-/// Puts a clause on the shelf under a new number.
-fn put(shelf: &mut Shelf, id: u64, clause: Clause) -> Result<(), Bad>
-    ensures judged { IsJudged result (open_fault shelf.old.entries (Entry.Input id clause)) }
-    ensures ok { OnOk result (Shelves shelf.old.entries shelf.new.entries (Entry.Input id clause)) }
-    ensures longer { OnOk result (length shelf.new.entries ≡ length shelf.old.entries + 1) }
-    ensures small { OnOk result (length shelf.new.entries < 2 ^ 63) }
-    ensures unchanged { OnErr result (shelf.new.entries ≡ shelf.old.entries) }
-{
-    if is_given(shelf, id) {
-        return Err(Bad::UsedId { id });
-    }
-    shelf.insert(id, Some(clause))?;
-    let _count = shelf.len();
-    Ok(())
-}
-
-/// Takes the clause of a number off the shelf. The number stays given.
-fn delete(shelf: &mut Shelf, id: u64) -> Result<(), Bad>
-    ensures judged { IsJudged result (open_fault shelf.old.entries (Entry.Delete id)) }
-    ensures memory { IfErr result (λ bad. bad ≢ Bad.Memory) }
-    ensures ok { OnOk result (Shelves shelf.old.entries shelf.new.entries (Entry.Delete id)) }
-    ensures same_length { length shelf.new.entries ≡ length shelf.old.entries }
-    ensures unchanged { OnErr result (shelf.new.entries ≡ shelf.old.entries) }
-{
-    if find_clause(shelf, id).is_none() {
-        return Err(Bad::UnknownId { id });
-    }
-    if let Some(place) = shelf.get_mut(&id) {
-        *place = None;
-    }
-    Ok(())
 }

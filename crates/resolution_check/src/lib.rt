@@ -8,6 +8,7 @@ pub mod laws;
 mod log;
 mod marks;
 mod reading;
+mod shelf;
 mod writing;
 
 pub use checking::Checker;
