@@ -70,8 +70,8 @@ fn first_place(word: &[u8], byte: u8) -> Option<usize>
     word.iter().position(|b| *b == byte)
 }
 
-// What stands before and after the first such byte.
-fn cut(word: &[u8], byte: u8) -> Option<(&[u8], &[u8])>
+/// What stands before and after the first such byte.
+pub fn cut(word: &[u8], byte: u8) -> Option<(&[u8], &[u8])>
     ensures { option_map (λ pair. (pair.0.now, pair.1.now)) result ≡ cut_at byte word.now }
 {
     match first_place(word, byte) {

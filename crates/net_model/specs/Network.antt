@@ -56,9 +56,12 @@ most_routers = 32
 abbrev pub most_interfaces : ℕ
 most_interfaces = 64
 
--- the files are a network: hostnames differ, addresses and subnets fit together, the next hop of each static route is
--- connected, and there are not too many routers
+-- there are not too many routers, nor interfaces of one router
+abbrev pub is_small : List File → Bool
+is_small files = nat_le (length files) most_routers && list_all (λ file. nat_le (length file.interfaces) most_interfaces) files
+
+-- the files are a network: they are not too many, hostnames differ, addresses and subnets fit together, and the next
+-- hop of each static route is connected
 abbrev pub is_network : List File → Bool
 is_network files =
-    all_pairs names_differ files && all_pairs fit_together (addressed files)
-    && (list_all statics_connected files && nat_le (length files) most_routers)
+    is_small files && (all_pairs names_differ files && (all_pairs fit_together (addressed files) && list_all statics_connected files))

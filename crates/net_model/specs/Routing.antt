@@ -20,6 +20,13 @@ abbrev pub up_interfaces : List File → Failures → ℕ → List Addressed
 up_interfaces files failures router =
     filter (λ x. (x.id.router == router) && is_up files failures x) (addressed files)
 
+-- where no link has failed, the interfaces that are up are those not shut down: all of them, and those of a router
+abbrev pub all_open : List Addressed → List Addressed
+all_open all = filter (λ x. not x.shutdown && true) all
+
+abbrev pub open_interfaces : List Addressed → ℕ → List Addressed
+open_interfaces all router = filter (λ x. (x.id.router == router) && (not x.shutdown && true)) all
+
 -- an interface that is up has that subnet
 abbrev pub is_direct : List Addressed → Prefix → Bool
 is_direct up p = list_any (λ x. same_prefix x.subnet p) up

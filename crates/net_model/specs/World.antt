@@ -52,6 +52,10 @@ abbrev pub is_failed : List File → Failures → Prefix → Bool
 is_failed files failures p =
     list_any (λ at. option_map_or (same_prefix p) (slice_get (links_of files) at) Bool.false) failures.links
 
+-- no link has failed
+abbrev pub no_failures : Failures
+no_failures = record { links = [] }
+
 -- an interface with an address is up where it is not shut down and its subnet is no failed link
 abbrev pub is_up : List File → Failures → Addressed → Bool
 is_up files failures x = not x.shutdown && not (is_failed files failures x.subnet)

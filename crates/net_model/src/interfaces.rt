@@ -1,8 +1,8 @@
 //! The interfaces of a network that have an address.
 
-ghost use Rattle.std.specs.Prelude.{◌≡◌, ◌≤◌, ◌<◌, ◌++◌, ◌^◌, All, IfOk, OnOk, length};
+ghost use Rattle.std.specs.Prelude.{◌≡◌, ◌≤◌, ◌++◌, IfOk, true, OnOk, length};
 ghost use Rattle.net_model.specs.Interfaces.{is_loopback, addressed_iface, addressed_from, addressed};
-ghost use Rattle.net_model.specs.Network.{most_routers, most_interfaces};
+ghost use Rattle.net_model.specs.Network.{most_interfaces, is_small};
 
 use ios_ast::{File, IfAddr, Iface};
 use mw_text::{Addr, List, Prefix, prefix_of};
@@ -67,8 +67,7 @@ fn add_router(
 
 /// All interfaces of the files that have an address, in the order of the files.
 pub fn addressed_of(alloc: Global, files: &[File]) -> Result<List<Addressed>, AllocError>
-    requires few { length files.now ≤ most_routers }
-    requires small { All (λ file. length file.interfaces ≤ most_interfaces) files.now }
+    requires { is_small files.now ≡ true }
     ensures { IfOk result (λ all. all ≡ addressed files.now) }
 {
     let mut all = List::new(alloc);

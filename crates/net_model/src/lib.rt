@@ -3,6 +3,7 @@
 
 pub mod interfaces;
 pub mod network;
+pub mod routing;
 
 pub use interfaces::{Addressed, IfaceId};
 pub use network::Net;

@@ -1,9 +1,9 @@
 //! The network of a list of files, where they form one.
 
-ghost use Rattle.std.specs.Prelude.{◌≡◌, ◌≤◌, All, IfOk, MatchOption, IfSome, ◌<◌, IsTrue, position, true, false, length, ◌&&◌};
+ghost use Rattle.std.specs.Prelude.{◌≡◌, ◌≤◌, nat_le, IfOk, MatchOption, IfSome, ◌<◌, IsTrue, position, true, false, length, ◌&&◌};
 ghost use Rattle.std.specs.List.{list_all, list_any};
 ghost use Rattle.mw_text.specs.Text.{same_text};
-ghost use Rattle.net_model.specs.Network.{names_differ, all_pairs, overlap, fit_together, reaches, is_connected, statics_connected, is_network, most_interfaces, most_routers};
+ghost use Rattle.net_model.specs.Network.{names_differ, all_pairs, overlap, fit_together, reaches, is_connected, statics_connected, is_small, is_network, most_interfaces, most_routers};
 ghost use Rattle.net_model.specs.Interfaces.{addressed};
 
 use crate::interfaces::{Addressed, addressed_of};
@@ -14,6 +14,9 @@ use std::marker::Model;
 
 /// How many routers a network has at most.
 pub const MOST_ROUTERS: usize = 32;
+
+/// How many interfaces a router has at most.
+pub const MOST_INTERFACES: usize = 64;
 
 /// A network. Contracts see the list of its files; all else that a network has follows from these.
 #[derive(Drop)]
@@ -33,6 +36,20 @@ impl Model for Net {
     ghost view = { λ net. net.routers };
 
     ghost invariant = { λ net. (net.addresses ≡ addressed net.routers) × IsTrue (is_network net.routers) };
+}
+
+fn few_interfaces(files: &[File]) -> bool
+    ensures { result ≡ list_all (λ file. nat_le (length file.interfaces) most_interfaces) files.now }
+{
+    files
+        .iter()
+        .all(|file| file.interfaces.items.len() <= MOST_INTERFACES)
+}
+
+fn few_enough(files: &[File]) -> bool
+    ensures { result ≡ is_small files.now }
+{
+    files.len() <= MOST_ROUTERS && few_interfaces(files)
 }
 
 fn differs_from_all(a: &File, rest: &[File]) -> bool
@@ -144,10 +161,9 @@ impl Net {
     /// The network of these files. None exactly where they are none: two hostnames or two addresses are the same, two
     /// subnets clash, a static route has a next hop that is on no subnet of its router, or the routers are too many.
     pub fn of(alloc: Global, files: List<File>) -> Result<Option<Net>, AllocError>
-        requires { All (λ file. length file.interfaces ≤ most_interfaces) files }
         ensures { IfOk result (λ found. MatchOption found (is_network files ≡ false) (λ net. (net ≡ files) × (is_network files ≡ true))) }
     {
-        if files.items.len() > MOST_ROUTERS {
+        if !few_enough(files.as_slice()) {
             return Ok(None);
         }
         let addresses = addressed_of(alloc, files.as_slice())?;
@@ -182,7 +198,8 @@ impl Net {
 
     /// The router of that name. None exactly where there is none.
     pub fn router_named(&self, name: &[u8]) -> Option<u32>
-        ensures { result ≡ position (λ file. same_text file.hostname name.now) self.now }
+        ensures place { result ≡ position (λ file. same_text file.hostname name.now) self.now }
+        ensures within { IfSome result (λ at. at < length self.now) }
     {
         match place_of(self.routers.as_slice(), name) {
             None => None,

@@ -2,6 +2,7 @@
 use Rattle.std.proofs.Common.{◌≡◌, ℕ, zero, suc, ◌+◌, ◌*◌, ◌/◌, ◌%◌, ◌<◌, ◌≤◌, List, [], ◌∷◌, ◌++◌, length, Option, Some, None, refl, ap, arith, sym, ◌∙◌, subst, get_or}
 use Rattle.std.specs.Prelude.{slice_get}
 use Rattle.std.proofs.lemmas.Option.{slice_get_within, get_or_from_slice_get}
+use Rattle.mw_text.proofs.Lists.{list_ext, item_there}
 use Rattle.mw_text.specs.declared.address.Addr.{Addr}
 use Rattle.mw_text.specs.declared.address.Prefix.{Prefix}
 use Rattle.mw_text.specs.Address.{prefix_at}
@@ -14,37 +15,9 @@ use Rattle.route_record.specs.declared.Slot.{Slot}
 use Rattle.route_record.specs.declared.Tables.{Tables}
 use Rattle.net_model.specs.declared.interfaces.Addressed.{Addressed}
 use Rattle.net_model.specs.Interfaces.{addressed}
-use Rattle.net_model.specs.Routing.{table_entry}
+use Rattle.net_model.specs.World.{no_failures}
 use Rattle.net_model.specs.Stable.{lengths, slot_at, IsStableSlot, Stable}
-use Rattle.proto_rib.specs.Unfailed.{no_failures, slot_over, IsSlotFor, IsSlotAt}
-
--- one more item at the end, which has the fact of its place
-pub each_place-push : {A : Type 0} (P : ℕ → A → Type 0) (xs : List A) (x : A) →
-    ((k : ℕ) (y : A) → slice_get xs k ≡ Some y → P k y) → P (length xs) x →
-    (k : ℕ) (y : A) → slice_get (xs ++ x ∷ []) k ≡ Some y → P k y
-each_place-push {A} P [] x before here zero y e =
-    let same : x ≡ y = cc in
-    let Q : A → Type 0 = λ w. P 0 w in subst Q same here
-each_place-push P [] x before here (suc k) y e = cc
-each_place-push P (z ∷ zs) x before here zero y e = before zero y e
-each_place-push P (z ∷ zs) x before here (suc k) y e =
-    each_place-push (λ j. P (suc j)) zs x (λ j w found. before (suc j) w found) here k y e
-
--- two lists of one length whose items agree are one list
-pub list_ext : {A : Type 0} (xs ys : List A) → length xs ≡ length ys →
-    ((k : ℕ) (x y : A) → slice_get xs k ≡ Some x → slice_get ys k ≡ Some y → x ≡ y) → xs ≡ ys
-list_ext [] [] same agree = refl
-list_ext [] (y ∷ ys) same agree = absurd (omega arith)
-list_ext (x ∷ xs) [] same agree = absurd (omega arith)
-list_ext (x ∷ xs) (y ∷ ys) same agree =
-    let tail : xs ≡ ys = list_ext xs ys (omega arith) (λ k. agree (suc k)) in
-    let head : x ≡ y = agree zero x y refl refl in cc
-
--- a list has an item at each place below its length
-file_there : {A : Type 0} (xs : List A) (k : ℕ) → k < length xs → (x : A) × (slice_get xs k ≡ Some x)
-file_there [] k within = absurd (omega arith)
-file_there (x ∷ xs) zero within = (x, refl)
-file_there (x ∷ xs) (suc k) within = file_there xs k (omega arith)
+use Rattle.proto_rib.specs.Unfailed.{slot_over, IsSlotFor, IsSlotAt}
 
 slot_by_parts : (a b : Slot) → a.ospf ≡ b.ospf → a.bgp ≡ b.bgp → a.rib ≡ b.rib → a ≡ b
 slot_by_parts a b ospf bgp rib =
@@ -108,7 +81,7 @@ stable-only files d slots environment other size each stable =
     let same : other.slots ≡ slots =
     list_ext other.slots slots (stable.size ∙ sym size) (λ k x y is_x is_y.
     let within : k < length slots = slice_get_within slots k y is_y in
-    let is_file = file_there files (k / lengths) (omega arith) in
+    let is_file = item_there files (k / lengths) (omega arith) in
     slot-of_stable files d environment other stable k x is_x is_file.0 is_file.1
     ∙ sym (each k y is_y is_file.0 is_file.1)) in
     let with_slots : List Slot → Tables = λ s. record { slots = s } in ap with_slots same

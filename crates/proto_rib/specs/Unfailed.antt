@@ -1,23 +1,14 @@
 -- Routing where no link has failed and no router runs OSPF or BGP.
-use Rattle.std.specs.Prelude.{◌≡◌, ℕ, ◌/◌, ◌%◌, ◌==◌, ◌&&◌, true, not, filter, List, [], Some, None, slice_get}
+use Rattle.std.specs.Prelude.{◌≡◌, ℕ, ◌/◌, ◌%◌, List, Some, None, slice_get}
 use Rattle.mw_text.specs.declared.address.Addr.{Addr}
 use Rattle.mw_text.specs.declared.address.Prefix.{Prefix}
 use Rattle.mw_text.specs.Address.{prefix_at}
 use Rattle.ios_ast.specs.declared.file.File.{File}
-use Rattle.route_record.specs.declared.Failures.{Failures}
 use Rattle.route_record.specs.declared.Slot.{Slot}
 use Rattle.net_model.specs.declared.interfaces.Addressed.{Addressed}
 use Rattle.net_model.specs.Interfaces.{addressed}
-use Rattle.net_model.specs.Routing.{candidates, least_distance}
+use Rattle.net_model.specs.Routing.{candidates, least_distance, open_interfaces}
 use Rattle.net_model.specs.Stable.{lengths}
-
--- no link has failed
-abbrev pub no_failures : Failures
-no_failures = record { links = [] }
-
--- the interfaces of a router that are not shut down
-abbrev pub open_interfaces : List Addressed → ℕ → List Addressed
-open_interfaces all router = filter (λ x. (x.id.router == router) && (not x.shutdown && true)) all
 
 -- the slot of a router for a prefix, over all interfaces with an address
 abbrev pub slot_over : List Addressed → ℕ → File → Prefix → Slot

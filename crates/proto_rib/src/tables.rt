@@ -1,61 +1,22 @@
 //! The tables of a network of connected and static routes, no link of which has failed.
 
-ghost use Rattle.std.specs.Prelude.{◌≡◌, ◌==◌, ◌&&◌, true, not, filter, IfOk};
-ghost use Rattle.mw_text.specs.Address.{same_prefix};
+ghost use Rattle.std.specs.Prelude.{◌≡◌, IfOk};
 ghost use Rattle.route_record.specs.declared.Environment.{Environment};
 ghost use Rattle.route_record.specs.declared.Tables.{Tables as TablesOf};
-ghost use Rattle.net_model.specs.Routing.{is_direct, is_reached, counts, candidates, closer, least_distance};
+ghost use Rattle.net_model.specs.World.{no_failures};
+ghost use Rattle.net_model.specs.Routing.{candidates, closer, least_distance};
 ghost use Rattle.net_model.specs.Stable.{Stable};
-ghost use Rattle.proto_rib.specs.Unfailed.{no_failures, open_interfaces, slot_over};
+ghost use Rattle.proto_rib.specs.Unfailed.{slot_over};
 
-use ios_ast::{File, StaticRoute, Via};
-use mw_text::{Addr, List, Prefix, contains, prefix_of};
+use ios_ast::{File, StaticRoute};
+use mw_text::{Addr, List, Prefix, prefix_of};
+use net_model::routing::{is_direct, open_interfaces, route_counts};
 use net_model::{Addressed, Net};
 use route_record::{RibEntry, RibSource, Slot, Tables};
 use std::alloc::{AllocError, Global};
 
 /// How many prefix lengths there are.
 pub const LENGTHS: usize = 33;
-
-fn is_up_on(x: &Addressed, router: u32) -> bool
-    ensures { result ≡ ((x.now.id.router == router) && (not x.now.shutdown && true)) }
-{
-    x.id.router == router && !x.shutdown
-}
-
-// The interfaces of a router that are up.
-fn up_of(alloc: Global, addresses: &[Addressed], router: u32) -> Result<Vec<Addressed>, AllocError>
-    ensures { IfOk result (λ up. up.items ≡ open_interfaces addresses.now router) }
-{
-    addresses
-        .iter()
-        .copied()
-        .filter(|x| is_up_on(x, router))
-        .collect(alloc)
-}
-
-fn is_direct_prefix(up: &[Addressed], p: &Prefix) -> bool
-    ensures { result ≡ is_direct up.now p.now }
-{
-    up.iter().any(|x| x.subnet == *p)
-}
-
-fn reaches(up: &[Addressed], a: Addr) -> bool
-    ensures { result ≡ is_reached up.now a }
-{
-    up.iter().any(|x| contains(&x.subnet, a))
-}
-
-fn route_counts(up: &[Addressed], route: &StaticRoute) -> bool
-    ensures { result ≡ counts up.now route.now }
-{
-    route.distance != 255
-        && match &route.via {
-            Via::Null0 => true,
-            Via::Next(a) => reaches(up, *a),
-            Via::Out(_, a) => reaches(up, *a),
-        }
-}
 
 fn closer_of(best: Option<RibEntry>, entry: RibEntry) -> Option<RibEntry>
     ensures { result ≡ closer best entry }
@@ -77,7 +38,7 @@ fn entry_of(up: &[Addressed], statics: &[StaticRoute], p: &Prefix) -> Option<Rib
     ensures { result ≡ least_distance (candidates up.now statics.now p.now) }
 {
     let mut best = None;
-    if is_direct_prefix(up, p) {
+    if is_direct(up, p) {
         best = Some(RibEntry {
             source: RibSource::Connected,
             distance: 0,
@@ -105,7 +66,7 @@ fn slot_of(
 ) -> Result<Slot, AllocError>
     ensures { IfOk result (λ slot. slot ≡ slot_over addresses.now router file.now p.now) }
 {
-    let up = up_of(alloc, addresses, router)?;
+    let up = open_interfaces(alloc, addresses, router)?;
     let rib = entry_of(up.as_slice(), file.statics.as_slice(), p);
     Ok(Slot {
         ospf: None,

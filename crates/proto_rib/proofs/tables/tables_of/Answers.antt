@@ -1,7 +1,8 @@
 use Rattle.std.proofs.Common.{rules, ◌≡◌, arith, sym, ◌∙◌, ap, length}
 use Rattle.std.specs.Prelude.{slice_get}
+use Rattle.mw_text.proofs.Lists.{each_place-push}
 use Rattle.proto_rib.specs.Unfailed.{IsSlotAt}
-use Rattle.proto_rib.proofs.Places.{each_place-push, slot_here, stable-from_places, stable-only}
+use Rattle.proto_rib.proofs.Places.{slot_here, stable-from_places, stable-only}
 use Rattle.proto_rib.proofs.tables.tables_of.Goals as goal
 
 pub loop-place-preserved : goal.loop-place-preserved
