@@ -1,0 +1,7 @@
+pub mod Clauses
+pub mod Entries
+pub mod Known
+pub mod Marked
+pub mod Text
+pub mod Words
+pub mod Earned
