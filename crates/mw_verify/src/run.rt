@@ -68,15 +68,16 @@ fn is_command(word: &String) -> bool
 }
 
 // Whether the words are `verify QUESTIONS CONFIG...`.
-#[tactic(auto, using(crate::proofs::Words::options))]
+#[tactic(auto, using(crate::proofs::Words::verify_words))]
 fn is_verify(words: &[String]) -> bool
     ensures value { result ≡ due.is_verify (map string_bytes words.now) }
     ensures long { result ≡ true → 3 ≤ length words.now }
 {
-    match words.split_first() {
-        None => false,
-        Some((command, names)) => is_command(command) && names.len() >= 2 && !has_option(names),
+    if words.is_empty() {
+        return false;
     }
+    let (_, names) = words.split_at(1);
+    is_command(&words[0]) && names.len() >= 2 && !has_option(names)
 }
 
 /// The whole run: reads the words and the files that they name, and prints a verdict for each question. The words are
@@ -122,7 +123,8 @@ pub fn run<F: Files, O: Sink, L: Sink>(
             Err(_) => Status::WriteFault,
         };
     }
-    match load(alloc, files, words[1].as_str(), &words[2..]) {
+    let (_, names) = words.split_at(2);
+    match load(alloc, files, words[1].as_str(), names) {
         Ok(loaded) => put_verdicts(alloc, &loaded.net, loaded.questions.as_slice(), out),
         Err(Stop::Refused(line)) => match out.write(line.as_slice()) {
             Ok(()) => Status::Refused,
