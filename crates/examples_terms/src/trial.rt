@@ -3,7 +3,7 @@
 ghost use Rattle.std.specs.Prelude.{◌≡◌, ℕ, ◌+◌, ◌*◌, ◌<◌, ◌≤◌, Bool, not, ◌&&◌, ◌||◌, nat_lt, if◌then◌else◌, IfOk, length};
 ghost use Rattle.examples_terms.specs.Offer.{offer_of, offer_end};
 ghost use Rattle.term_store.specs.Terms.{Reading, size, at, differ};
-ghost use Rattle.term_store.specs.Reading.{Reads, Grows, Gives};
+ghost use Rattle.term_store.specs.Reading.{Reads, Builds, Grows, Gives};
 ghost use Rattle.term_arith.specs.Bits.{bit, number, ids_end};
 
 use std::alloc::{AllocError, Global};
@@ -24,8 +24,7 @@ pub fn majority(terms: &mut Terms, a: NodeId, b: NodeId, c: NodeId) -> Result<No
     requires first { a.0 < size terms.old }
     requires second { b.0 < size terms.old }
     requires third { c.0 < size terms.old }
-    ensures grows { Grows terms.old terms.new }
-    ensures no_variable { terms.new.vars ≡ terms.old.vars }
+    ensures builds { Builds terms.old terms.new }
     ensures within { IfOk result (λ r. r.0 < size terms.new) }
     ensures value { Gives terms.new result (λ w r. at w r ≡ nat_lt 1 (bit (at w a) + bit (at w b) + bit (at w c))) }
 {
@@ -46,8 +45,7 @@ pub fn add_three(
     requires first { ids_end a.now.nodes ≤ size terms.old }
     requires second { ids_end b.now.nodes ≤ size terms.old }
     requires third { ids_end c.now.nodes ≤ size terms.old }
-    ensures grows { Grows terms.old terms.new }
-    ensures no_variable { terms.new.vars ≡ terms.old.vars }
+    ensures builds { Builds terms.old terms.new }
     ensures within { IfOk result (λ r. ids_end r.nodes ≤ size terms.new) }
     ensures value { Gives terms.new result (λ w r. number w r.nodes ≡ number w a.now.nodes + number w b.now.nodes + number w c.now.nodes) }
 {
@@ -59,8 +57,7 @@ pub fn add_three(
 pub fn ten_gates(terms: &mut Terms, a: NodeId, b: NodeId) -> Result<NodeId, AllocError>
     requires first { a.0 < size terms.old }
     requires second { b.0 < size terms.old }
-    ensures grows { Grows terms.old terms.new }
-    ensures no_variable { terms.new.vars ≡ terms.old.vars }
+    ensures builds { Builds terms.old terms.new }
     ensures within { IfOk result (λ r. r.0 < size terms.new) }
     ensures value { Gives terms.new result (λ w r. at w r ≡ (at w a && not (at w b))) }
 {
@@ -77,12 +74,11 @@ pub fn ten_gates(terms: &mut Terms, a: NodeId, b: NodeId) -> Result<NodeId, Allo
 }
 
 /// The better of two offers: the one that is there, and of two the one of the smaller cost.
-pub fn better(alloc: Global, terms: &mut Terms, a: &Offer, b: &Offer) -> Result<NodeId, AllocError>
+pub fn better(terms: &mut Terms, a: &Offer, b: &Offer) -> Result<NodeId, AllocError>
     requires width { length b.now.cost.nodes ≡ length a.now.cost.nodes }
     requires first { offer_end a.now ≤ size terms.old }
     requires second { offer_end b.now ≤ size terms.old }
-    ensures grows { Grows terms.old terms.new }
-    ensures no_variable { terms.new.vars ≡ terms.old.vars }
+    ensures builds { Builds terms.old terms.new }
     ensures within { IfOk result (λ r. r.0 < size terms.new) }
     ensures value { Gives terms.new result (λ w r. at w r ≡ (at w a.now.there && (not (at w b.now.there) || not (nat_lt (number w b.now.cost.nodes) (number w a.now.cost.nodes))))) }
 {
@@ -106,8 +102,7 @@ pub fn choose_offer(
     requires test { c.0 < size terms.old }
     requires first { offer_end a.now ≤ size terms.old }
     requires second { offer_end b.now ≤ size terms.old }
-    ensures grows { Grows terms.old terms.new }
-    ensures no_variable { terms.new.vars ≡ terms.old.vars }
+    ensures builds { Builds terms.old terms.new }
     ensures within { IfOk result (λ r. offer_end r ≤ size terms.new) }
     ensures value { Gives terms.new result (λ w r. offer_of w r ≡ (if at w c then offer_of w a.now else offer_of w b.now)) }
 {
@@ -119,4 +114,17 @@ pub fn choose_offer(
         preference,
         there,
     })
+}
+
+/// A node that is true only where a new variable is.
+pub fn guarded(terms: &mut Terms, a: NodeId) -> Result<NodeId, AllocError>
+    requires { a.0 < size terms.old }
+    ensures grows { Grows terms.old terms.new }
+    ensures within { IfOk result (λ r. r.0 < size terms.new) }
+    ensures value { Gives terms.new result (λ w r. at w r ≡ (w.variable terms.old.vars && at w a)) }
+{
+    let other = negate(terms, a)?;
+    let var = terms.fresh()?;
+    let open = negate(terms, other)?;
+    both(terms, var, open)
 }

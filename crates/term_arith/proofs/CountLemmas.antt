@@ -1,7 +1,7 @@
 -- The row of a counter: what each of its bits says, and one more bit.
-use Rattle.std.proofs.Common.{◌≡◌, ℕ, ◌+◌, ◌<◌, ◌≤◌, zero, suc, Bool, true, false, not, ◌&&◌, ◌||◌, nat_lt, nat_le, List, [], ◌∷◌, ◌++◌, take, drop, get_or, replicate, count_by, length, refl, sym, ap, ◌∙◌, arith, append_assoc}
+use Rattle.std.proofs.Common.{◌≡◌, ℕ, ◌+◌, ◌<◌, ◌≤◌, zero, suc, Bool, true, false, not, ◌&&◌, ◌||◌, nat_lt, nat_le, List, [], ◌∷◌, take, get_or, replicate, count_by, length, refl, sym, ap, ◌∙◌, arith}
 use Rattle.std.proofs.lemmas.Bool.Decides.{nat_tests}
-use Rattle.std.proofs.lemmas.List.{drop_more, get_or-map, map-append, take_all}
+use Rattle.std.proofs.lemmas.List.{get_or-map, take_all}
 use Rattle.std.proofs.lemmas.Bool.{le-leb}
 use Rattle.std.proofs.lemmas.List.Sums.{count_by_more_no, count_by_more_yes, count_by-le-length}
 use Rattle.term_store.specs.declared.NodeId.{NodeId}
@@ -45,19 +45,6 @@ count_by_more w ids i d h = by (at w (get_or ids i d)) refl
 pub tally-none : (w : Reading) (m j : ℕ) (off : NodeId) → at w off ≡ false → bits w (replicate m off) ≡ tally j m 0
 tally-none w zero j off h = refl
 tally-none w (suc m) j off h = let first : at w off ≡ nat_lt j 0 = h ∙ grind (arith, nat_tests) in let rest = tally-none w m (j + 1) off h in cc
-
--- one bit of a row
-pub raise_step : (w : Reading) (row out : List NodeId) (i : ℕ) (d last node passed next : NodeId) (whole : List Bool) → i < length row
-    → at w passed ≡ (at w last && at w node) → at w next ≡ (at w (get_or row i d) || at w passed)
-    → bits w out ++ raised (at w last) (at w node) (bits w (drop i row)) ≡ whole
-    → bits w (out ++ next ∷ []) ++ raised (at w (get_or row i d)) (at w node) (bits w (drop (i + 1) row)) ≡ whole
-raise_step w row out i d last node passed next whole h carried value so_far =
-    let after = raised (at w (get_or row i d)) (at w node) (bits w (drop (i + 1) row)) in
-    ap (λ l. l ++ after) (map-append (at w) out (next ∷ []))
-    ∙ append_assoc (bits w out) (at w next ∷ []) after
-    ∙ ap (λ b. bits w out ++ b ∷ after) (value ∙ ap (λ b. at w (get_or row i d) || b) carried)
-    ∙ ap (λ l. bits w out ++ raised (at w last) (at w node) (bits w l)) (sym (drop_more row i d h))
-    ∙ so_far
 
 -- a row at its last bit
 pub at_tally : (w : Reading) (row : List NodeId) (k c : ℕ) (d : NodeId) → length row ≡ k + 1 → bits w row ≡ tally 0 (k + 1) c → at w (get_or row k d) ≡ nat_lt k c

@@ -1,12 +1,13 @@
 -- Lists of nodes, item by item: their ends, their bits and the numbers of these.
-use Rattle.std.proofs.Common.{◌≡◌, ℕ, ◌+◌, ◌*◌, ◌/◌, ◌%◌, ◌^◌, nat_eq, if◌then◌else◌, ◌<◌, ◌≤◌, zero, suc, max, Bool, true, false, List, [], ◌∷◌, ◌++◌, take, drop, get_or, length, refl, sym, ap, subst, ◌∙◌, arith}
+use Rattle.std.proofs.Common.{◌≡◌, ℕ, ◌+◌, ◌*◌, ◌/◌, ◌%◌, ◌^◌, nat_eq, ◌<◌, ◌≤◌, zero, suc, max, Bool, true, false, List, [], ◌∷◌, ◌++◌, take, drop, get_or, length, refl, sym, ap, subst, ◌∙◌, arith}
 use Rattle.std.proofs.lemmas.List.{drop_more, drop_all, take_more, map-append, get_or-map, length-map}
 use Rattle.std.proofs.lemmas.Bool.{eqb-true}
 use Rattle.std.proofs.lemmas.Bool.Decides.{nat_tests}
+use Rattle.std.proofs.lemmas.Grind.{common_steps}
 use Rattle.std.proofs.Math.Nat.{pow-suc, pow-succ', div-one, div-div-eq-div-mul, zero-div}
 use Rattle.term_store.specs.declared.NodeId.{NodeId}
 use Rattle.term_store.specs.Terms.{Reading, at}
-use Rattle.term_arith.specs.Bits.{bit, number_of, bits, number, ids_end}
+use Rattle.term_arith.specs.Bits.{bit, bits, number, ids_end}
 
 -- a bit is 0 or 1
 pub bit_small : (b : Bool) → bit b ≤ 1
@@ -100,24 +101,6 @@ constant_done w ids width rest total long fits so_far =
     let small : onto (bits w ids) rest < 2 ^ length ids = subst (λ n. n < 2 ^ length ids) (sym so_far) (subst (λ n. total < 2 ^ n) (sym long) fits) in
     sym (onto_zero w ids) ∙ ap (onto (bits w ids)) (sym (onto_fits w ids rest small)) ∙ so_far
 
--- one bit of a choice
-pub choose_step : (w : Reading) (a b out : List NodeId) (i : ℕ) (d c id : NodeId) → i < length a → i < length b
-    → at w id ≡ (if at w c then at w (get_or a i d) else at w (get_or b i d))
-    → bits w out ≡ (if at w c then bits w (take i a) else bits w (take i b))
-    → bits w (out ++ id ∷ []) ≡ (if at w c then bits w (take (i + 1) a) else bits w (take (i + 1) b))
-choose_step w a b out i d c id in_a in_b value so_far =
-    bits_push w out id ∙ by (at w c) value so_far
-  where
-    by : (t : Bool) → at w id ≡ (if t then at w (get_or a i d) else at w (get_or b i d)) → bits w out ≡ (if t then bits w (take i a) else bits w (take i b))
-        → bits w out ++ at w id ∷ [] ≡ (if t then bits w (take (i + 1) a) else bits w (take (i + 1) b))
-    by true e f = let more = bits_take w a i d in_a in cc
-    by false e f = let more = bits_take w b i d in_b in cc
-
--- a choice between lists of bits is one between their numbers
-pub number_choice : (t : Bool) (xs ys : List Bool) → number_of (if t then xs else ys) ≡ (if t then number_of xs else number_of ys)
-number_choice true xs ys = refl
-number_choice false xs ys = refl
-
 -- as many bits as nodes
 pub length_bits : (w : Reading) (ids : List NodeId) → length (bits w ids) ≡ length ids
 length_bits w ids = length-map ids (at w)
@@ -150,3 +133,6 @@ pub ids_end_drop : (ids : List NodeId) (i : ℕ) → ids_end (drop i ids) ≤ id
 ids_end_drop ids zero = omega arith
 ids_end_drop [] (suc i) = omega arith
 ids_end_drop (id ∷ ids) (suc i) = let rest = ids_end_drop ids i in omega arith
+
+-- for a loop over nodes, in `using`: the usual steps on lists, and those on ends, bits and numbers
+pub ruleset node_steps = (common_steps, ids_end_at, ids_end_push, ids_end_take, ids_end_drop, bits_push, bits_take, number_drop, length_bits)

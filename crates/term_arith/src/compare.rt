@@ -2,7 +2,7 @@
 
 ghost use Rattle.std.specs.Prelude.{◌≡◌, ◌==◌, ℕ, ◌+◌, ◌<◌, ◌≤◌, Bool, not, nat_lt, if◌then◌else◌, IfOk, length};
 ghost use Rattle.term_store.specs.Terms.{Reading, size, at, differ};
-ghost use Rattle.term_store.specs.Reading.{Reads, Grows, Gives};
+ghost use Rattle.term_store.specs.Reading.{Reads, Builds, Gives};
 ghost use Rattle.term_arith.specs.Bits.{bits, number, ids_end};
 
 use crate::Bits;
@@ -17,8 +17,7 @@ pub fn less(terms: &mut Terms, a: &Bits, b: &Bits) -> Result<NodeId, AllocError>
     requires same_width { length a.now.nodes ≡ length b.now.nodes }
     requires first { ids_end a.now.nodes ≤ size terms.old }
     requires second { ids_end b.now.nodes ≤ size terms.old }
-    ensures grows { Grows terms.old terms.new }
-    ensures no_variable { terms.new.vars ≡ terms.old.vars }
+    ensures builds { Builds terms.old terms.new }
     ensures within { IfOk result (λ r. r.0 < size terms.new) }
     ensures value { Gives terms.new result (λ w r. at w r ≡ nat_lt (number w a.now.nodes) (number w b.now.nodes)) }
 {
@@ -26,13 +25,12 @@ pub fn less(terms: &mut Terms, a: &Bits, b: &Bits) -> Result<NodeId, AllocError>
 }
 
 /// The comparison from the lowest bit on: the highest bit in which the numbers differ decides.
-#[tactic(auto, using(crate::proofs::NumberLemmas::ids_end_at))]
+#[tactic(auto, using(crate::proofs::NumberLemmas::node_steps))]
 fn less_nodes(terms: &mut Terms, a: &[NodeId], b: &[NodeId]) -> Result<NodeId, AllocError>
     requires same_width { length a.now ≡ length b.now }
     requires first { ids_end a.now ≤ size terms.old }
     requires second { ids_end b.now ≤ size terms.old }
-    ensures grows { Grows terms.old terms.new }
-    ensures no_variable { terms.new.vars ≡ terms.old.vars }
+    ensures builds { Builds terms.old terms.new }
     ensures within { IfOk result (λ r. r.0 < size terms.new) }
     ensures value { Gives terms.new result (λ w r. at w r ≡ nat_lt (number w a.now) (number w b.now)) }
 {
@@ -49,8 +47,7 @@ pub fn equal(terms: &mut Terms, a: &Bits, b: &Bits) -> Result<NodeId, AllocError
     requires same_width { length a.now.nodes ≡ length b.now.nodes }
     requires first { ids_end a.now.nodes ≤ size terms.old }
     requires second { ids_end b.now.nodes ≤ size terms.old }
-    ensures grows { Grows terms.old terms.new }
-    ensures no_variable { terms.new.vars ≡ terms.old.vars }
+    ensures builds { Builds terms.old terms.new }
     ensures within { IfOk result (λ r. r.0 < size terms.new) }
     ensures value { Gives terms.new result (λ w r. at w r ≡ (number w a.now.nodes == number w b.now.nodes)) }
 {
@@ -58,13 +55,12 @@ pub fn equal(terms: &mut Terms, a: &Bits, b: &Bits) -> Result<NodeId, AllocError
 }
 
 /// Whether the numbers agree in each bit.
-#[tactic(auto, using(crate::proofs::NumberLemmas::ids_end_at))]
+#[tactic(auto, using(crate::proofs::NumberLemmas::node_steps))]
 fn equal_nodes(terms: &mut Terms, a: &[NodeId], b: &[NodeId]) -> Result<NodeId, AllocError>
     requires same_width { length a.now ≡ length b.now }
     requires first { ids_end a.now ≤ size terms.old }
     requires second { ids_end b.now ≤ size terms.old }
-    ensures grows { Grows terms.old terms.new }
-    ensures no_variable { terms.new.vars ≡ terms.old.vars }
+    ensures builds { Builds terms.old terms.new }
     ensures within { IfOk result (λ r. r.0 < size terms.new) }
     ensures value { Gives terms.new result (λ w r. at w r ≡ (number w a.now == number w b.now)) }
 {
@@ -79,8 +75,7 @@ fn equal_nodes(terms: &mut Terms, a: &[NodeId], b: &[NodeId]) -> Result<NodeId, 
 /// Whether a node has a known value.
 fn is_bit(terms: &mut Terms, node: NodeId, value: bool) -> Result<NodeId, AllocError>
     requires { node.0 < size terms.old }
-    ensures grows { Grows terms.old terms.new }
-    ensures no_variable { terms.new.vars ≡ terms.old.vars }
+    ensures builds { Builds terms.old terms.new }
     ensures within { IfOk result (λ r. r.0 < size terms.new) }
     ensures value { Gives terms.new result (λ w r. at w r ≡ not (differ (at w node) value)) }
 {
@@ -88,11 +83,10 @@ fn is_bit(terms: &mut Terms, node: NodeId, value: bool) -> Result<NodeId, AllocE
 }
 
 /// Whether the number of some nodes, lowest first, is a known one. They may be part of a number.
-#[tactic(auto, using(crate::proofs::NumberLemmas::ids_end_at))]
+#[tactic(auto, using(crate::proofs::NumberLemmas::node_steps))]
 pub fn equal_number(terms: &mut Terms, nodes: &[NodeId], value: u64) -> Result<NodeId, AllocError>
     requires { ids_end nodes.now ≤ size terms.old }
-    ensures grows { Grows terms.old terms.new }
-    ensures no_variable { terms.new.vars ≡ terms.old.vars }
+    ensures builds { Builds terms.old terms.new }
     ensures within { IfOk result (λ r. r.0 < size terms.new) }
     ensures value { Gives terms.new result (λ w r. at w r ≡ (number w nodes.now == value)) }
 {
@@ -122,8 +116,7 @@ pub fn choose(
     requires test { c.0 < size terms.old }
     requires first { ids_end a.now.nodes ≤ size terms.old }
     requires second { ids_end b.now.nodes ≤ size terms.old }
-    ensures grows { Grows terms.old terms.new }
-    ensures no_variable { terms.new.vars ≡ terms.old.vars }
+    ensures builds { Builds terms.old terms.new }
     ensures within { IfOk result (λ r. ids_end r.nodes ≤ size terms.new) }
     ensures width { IfOk result (λ r. length r.nodes ≡ length a.now.nodes) }
     ensures value { Gives terms.new result (λ w r. bits w r.nodes ≡ (if at w c then bits w a.now.nodes else bits w b.now.nodes)) }
@@ -134,7 +127,7 @@ pub fn choose(
 }
 
 /// The choice bit by bit.
-#[tactic(auto, using(crate::proofs::NumberLemmas::ids_end_at, crate::proofs::NumberLemmas::ids_end_push))]
+#[tactic(auto, using(crate::proofs::NumberLemmas::node_steps))]
 fn choose_nodes(
     alloc: Global,
     terms: &mut Terms,
@@ -146,8 +139,7 @@ fn choose_nodes(
     requires test { c.0 < size terms.old }
     requires first { ids_end a.now ≤ size terms.old }
     requires second { ids_end b.now ≤ size terms.old }
-    ensures grows { Grows terms.old terms.new }
-    ensures no_variable { terms.new.vars ≡ terms.old.vars }
+    ensures builds { Builds terms.old terms.new }
     ensures within { IfOk result (λ r. ids_end r ≤ size terms.new) }
     ensures width { IfOk result (λ r. length r ≡ length a.now) }
     ensures value { Gives terms.new result (λ w r. bits w r ≡ (if at w c then bits w a.now else bits w b.now)) }

@@ -2,7 +2,7 @@
 
 ghost use Rattle.std.specs.Prelude.{◌≡◌, ℕ, ◌+◌, ◌^◌, ◌<◌, ◌≤◌, Bool, IfOk, length};
 ghost use Rattle.term_store.specs.Terms.{Reading, size};
-ghost use Rattle.term_store.specs.Reading.{Reads, Grows, Gives};
+ghost use Rattle.term_store.specs.Reading.{Reads, Builds, Gives};
 ghost use Rattle.term_arith.specs.Bits.{number, ids_end};
 
 use crate::Bits;
@@ -13,12 +13,11 @@ use std::alloc::{AllocError, Global};
 use term_store::Terms;
 
 /// The bits of a number of which all bits from `width` on are 0.
-#[tactic(auto, using(crate::proofs::NumberLemmas::ids_end_push))]
+#[tactic(auto, using(crate::proofs::NumberLemmas::node_steps))]
 pub fn constant(alloc: Global, terms: &mut Terms, value: u64, width: u8) -> Result<Bits, AllocError>
     requires at_most_64 { width ≤ 64 }
     requires fits { value < 2 ^ width }
-    ensures grows { Grows terms.old terms.new }
-    ensures no_variable { terms.new.vars ≡ terms.old.vars }
+    ensures builds { Builds terms.old terms.new }
     ensures within { IfOk result (λ r. ids_end r.nodes ≤ size terms.new) }
     ensures width { IfOk result (λ r. length r.nodes ≡ width) }
     ensures value { Gives terms.new result (λ w r. number w r.nodes ≡ value) }

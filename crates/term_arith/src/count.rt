@@ -2,7 +2,7 @@
 
 ghost use Rattle.std.specs.Prelude.{◌≡◌, ℕ, ◌+◌, ◌<◌, ◌≤◌, Bool, nat_le, count_by, replicate, IfOk, length};
 ghost use Rattle.term_store.specs.Terms.{Reading, size, at};
-ghost use Rattle.term_store.specs.Reading.{Reads, Grows, Gives};
+ghost use Rattle.term_store.specs.Reading.{Reads, Builds, Gives};
 ghost use Rattle.term_arith.specs.Bits.{bits, ids_end, raised};
 
 use crate::gates::{both, constant_node, either, negate};
@@ -12,7 +12,7 @@ use std::alloc::{AllocError, Global};
 use term_store::{NodeId, Terms};
 
 /// One more bit is counted by a row that says "more than 0", "more than 1" and so on. `before` is the bit before the row.
-#[tactic(auto, using(crate::proofs::NumberLemmas::ids_end_at, crate::proofs::NumberLemmas::ids_end_push))]
+#[tactic(auto, using(crate::proofs::NumberLemmas::node_steps))]
 fn raise(
     alloc: Global,
     terms: &mut Terms,
@@ -23,8 +23,7 @@ fn raise(
     requires row { ids_end row.now ≤ size terms.old }
     requires before { before.0 < size terms.old }
     requires node { node.0 < size terms.old }
-    ensures grows { Grows terms.old terms.new }
-    ensures no_variable { terms.new.vars ≡ terms.old.vars }
+    ensures builds { Builds terms.old terms.new }
     ensures within { IfOk result (λ r. ids_end r ≤ size terms.new) }
     ensures width { IfOk result (λ r. length r ≡ length row.now) }
     ensures value { Gives terms.new result (λ w r. bits w r ≡ raised (at w before) (at w node) (bits w row.now)) }
@@ -41,7 +40,7 @@ fn raise(
 }
 
 /// A row of one node.
-#[tactic(auto, using(crate::proofs::NumberLemmas::ids_end_push))]
+#[tactic(auto, using(crate::proofs::NumberLemmas::node_steps))]
 fn copies(alloc: Global, node: NodeId, count: u64) -> Result<List<NodeId>, AllocError>
     ensures items { IfOk result (λ r. r ≡ replicate count node) }
     ensures within { IfOk result (λ r. ids_end r ≤ node.0 + 1) }
@@ -54,7 +53,7 @@ fn copies(alloc: Global, node: NodeId, count: u64) -> Result<List<NodeId>, Alloc
 }
 
 /// Whether at most `k` of the nodes are true, by a row of k + 1 counting bits.
-#[tactic(auto, using(crate::proofs::NumberLemmas::ids_end_at))]
+#[tactic(auto, using(crate::proofs::NumberLemmas::node_steps))]
 pub fn at_most(
     alloc: Global,
     terms: &mut Terms,
@@ -62,8 +61,7 @@ pub fn at_most(
     k: u32,
 ) -> Result<NodeId, AllocError>
     requires { ids_end bits.now ≤ size terms.old }
-    ensures grows { Grows terms.old terms.new }
-    ensures no_variable { terms.new.vars ≡ terms.old.vars }
+    ensures builds { Builds terms.old terms.new }
     ensures within { IfOk result (λ r. r.0 < size terms.new) }
     ensures value { Gives terms.new result (λ w r. at w r ≡ nat_le (count_by (at w) bits.now) k) }
 {

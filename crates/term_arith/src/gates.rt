@@ -2,7 +2,7 @@
 
 ghost use Rattle.std.specs.Prelude.{◌≡◌, ℕ, ◌+◌, ◌<◌, ◌≤◌, Bool, not, ◌&&◌, ◌||◌, if◌then◌else◌, IfOk, IfSome};
 ghost use Rattle.term_store.specs.Terms.{Reading, size, at, differ};
-ghost use Rattle.term_store.specs.Reading.{Reads, Grows, Gives};
+ghost use Rattle.term_store.specs.Reading.{Reads, Builds, Gives};
 
 use std::alloc::AllocError;
 use term_store::{Node, NodeId, Terms};
@@ -20,8 +20,7 @@ fn known(terms: &Terms, id: NodeId) -> Option<bool>
 
 /// A constant.
 pub fn constant_node(terms: &mut Terms, value: bool) -> Result<NodeId, AllocError>
-    ensures grows { Grows terms.old terms.new }
-    ensures no_variable { terms.new.vars ≡ terms.old.vars }
+    ensures builds { Builds terms.old terms.new }
     ensures within { IfOk result (λ r. r.0 < size terms.new) }
     ensures value { Gives terms.new result (λ w r. at w r ≡ value) }
 {
@@ -31,8 +30,7 @@ pub fn constant_node(terms: &mut Terms, value: bool) -> Result<NodeId, AllocErro
 /// The negation of a node.
 pub fn negate(terms: &mut Terms, a: NodeId) -> Result<NodeId, AllocError>
     requires { a.0 < size terms.old }
-    ensures grows { Grows terms.old terms.new }
-    ensures no_variable { terms.new.vars ≡ terms.old.vars }
+    ensures builds { Builds terms.old terms.new }
     ensures within { IfOk result (λ r. r.0 < size terms.new) }
     ensures value { Gives terms.new result (λ w r. at w r ≡ not (at w a)) }
 {
@@ -47,8 +45,7 @@ pub fn negate(terms: &mut Terms, a: NodeId) -> Result<NodeId, AllocError>
 pub fn both(terms: &mut Terms, a: NodeId, b: NodeId) -> Result<NodeId, AllocError>
     requires first { a.0 < size terms.old }
     requires second { b.0 < size terms.old }
-    ensures grows { Grows terms.old terms.new }
-    ensures no_variable { terms.new.vars ≡ terms.old.vars }
+    ensures builds { Builds terms.old terms.new }
     ensures within { IfOk result (λ r. r.0 < size terms.new) }
     ensures value { Gives terms.new result (λ w r. at w r ≡ (at w a && at w b)) }
 {
@@ -68,8 +65,7 @@ pub fn both(terms: &mut Terms, a: NodeId, b: NodeId) -> Result<NodeId, AllocErro
 pub fn either(terms: &mut Terms, a: NodeId, b: NodeId) -> Result<NodeId, AllocError>
     requires first { a.0 < size terms.old }
     requires second { b.0 < size terms.old }
-    ensures grows { Grows terms.old terms.new }
-    ensures no_variable { terms.new.vars ≡ terms.old.vars }
+    ensures builds { Builds terms.old terms.new }
     ensures within { IfOk result (λ r. r.0 < size terms.new) }
     ensures value { Gives terms.new result (λ w r. at w r ≡ (at w a || at w b)) }
 {
@@ -89,8 +85,7 @@ pub fn either(terms: &mut Terms, a: NodeId, b: NodeId) -> Result<NodeId, AllocEr
 pub fn differs(terms: &mut Terms, a: NodeId, b: NodeId) -> Result<NodeId, AllocError>
     requires first { a.0 < size terms.old }
     requires second { b.0 < size terms.old }
-    ensures grows { Grows terms.old terms.new }
-    ensures no_variable { terms.new.vars ≡ terms.old.vars }
+    ensures builds { Builds terms.old terms.new }
     ensures within { IfOk result (λ r. r.0 < size terms.new) }
     ensures value { Gives terms.new result (λ w r. at w r ≡ differ (at w a) (at w b)) }
 {
@@ -110,8 +105,7 @@ pub fn differs(terms: &mut Terms, a: NodeId, b: NodeId) -> Result<NodeId, AllocE
 pub fn agree(terms: &mut Terms, a: NodeId, b: NodeId) -> Result<NodeId, AllocError>
     requires first { a.0 < size terms.old }
     requires second { b.0 < size terms.old }
-    ensures grows { Grows terms.old terms.new }
-    ensures no_variable { terms.new.vars ≡ terms.old.vars }
+    ensures builds { Builds terms.old terms.new }
     ensures within { IfOk result (λ r. r.0 < size terms.new) }
     ensures value { Gives terms.new result (λ w r. at w r ≡ not (differ (at w a) (at w b))) }
 {
@@ -123,8 +117,7 @@ pub fn agree(terms: &mut Terms, a: NodeId, b: NodeId) -> Result<NodeId, AllocErr
 pub fn implies(terms: &mut Terms, a: NodeId, b: NodeId) -> Result<NodeId, AllocError>
     requires first { a.0 < size terms.old }
     requires second { b.0 < size terms.old }
-    ensures grows { Grows terms.old terms.new }
-    ensures no_variable { terms.new.vars ≡ terms.old.vars }
+    ensures builds { Builds terms.old terms.new }
     ensures within { IfOk result (λ r. r.0 < size terms.new) }
     ensures value { Gives terms.new result (λ w r. at w r ≡ (not (at w a) || at w b)) }
 {
@@ -137,8 +130,7 @@ pub fn select(terms: &mut Terms, c: NodeId, a: NodeId, b: NodeId) -> Result<Node
     requires test { c.0 < size terms.old }
     requires first { a.0 < size terms.old }
     requires second { b.0 < size terms.old }
-    ensures grows { Grows terms.old terms.new }
-    ensures no_variable { terms.new.vars ≡ terms.old.vars }
+    ensures builds { Builds terms.old terms.new }
     ensures within { IfOk result (λ r. r.0 < size terms.new) }
     ensures value { Gives terms.new result (λ w r. at w r ≡ (if at w c then at w a else at w b)) }
 {

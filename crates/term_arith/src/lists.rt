@@ -3,7 +3,7 @@
 ghost use Rattle.std.specs.Prelude.{◌≡◌, ℕ, ◌+◌, ◌<◌, ◌≤◌, Bool, IfOk, OnOk, [], ◌∷◌, ◌++◌};
 ghost use Rattle.std.specs.List.{list_all, list_any};
 ghost use Rattle.term_store.specs.Terms.{Reading, size, at};
-ghost use Rattle.term_store.specs.Reading.{Reads, Grows, Gives};
+ghost use Rattle.term_store.specs.Reading.{Reads, Builds, Gives};
 ghost use Rattle.term_arith.specs.Bits.{ids_end};
 
 use crate::gates::{both, constant_node, either};
@@ -15,8 +15,7 @@ use term_store::{NodeId, Terms};
 #[tactic(auto, using(crate::proofs::NumberLemmas::ids_end_at))]
 pub fn all_of(terms: &mut Terms, ids: &[NodeId]) -> Result<NodeId, AllocError>
     requires { ids_end ids.now ≤ size terms.old }
-    ensures grows { Grows terms.old terms.new }
-    ensures no_variable { terms.new.vars ≡ terms.old.vars }
+    ensures builds { Builds terms.old terms.new }
     ensures within { IfOk result (λ r. r.0 < size terms.new) }
     ensures value { Gives terms.new result (λ w r. at w r ≡ list_all (at w) ids.now) }
 {
@@ -31,8 +30,7 @@ pub fn all_of(terms: &mut Terms, ids: &[NodeId]) -> Result<NodeId, AllocError>
 #[tactic(auto, using(crate::proofs::NumberLemmas::ids_end_at))]
 pub fn any_of(terms: &mut Terms, ids: &[NodeId]) -> Result<NodeId, AllocError>
     requires { ids_end ids.now ≤ size terms.old }
-    ensures grows { Grows terms.old terms.new }
-    ensures no_variable { terms.new.vars ≡ terms.old.vars }
+    ensures builds { Builds terms.old terms.new }
     ensures within { IfOk result (λ r. r.0 < size terms.new) }
     ensures value { Gives terms.new result (λ w r. at w r ≡ list_any (at w) ids.now) }
 {
@@ -44,7 +42,7 @@ pub fn any_of(terms: &mut Terms, ids: &[NodeId]) -> Result<NodeId, AllocError>
 }
 
 /// Puts a node at the end of a list.
-pub(crate) fn put(nodes: &mut List<NodeId>, node: NodeId) -> Result<(), AllocError>
+pub fn put(nodes: &mut List<NodeId>, node: NodeId) -> Result<(), AllocError>
     ensures { OnOk result (nodes.new ≡ nodes.old ++ node ∷ []) }
 {
     nodes.items.push(node)?;

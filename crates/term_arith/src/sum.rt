@@ -2,7 +2,7 @@
 
 ghost use Rattle.std.specs.Prelude.{◌≡◌, ℕ, ◌+◌, ◌*◌, ◌<◌, ◌≤◌, Bool, IfOk, length};
 ghost use Rattle.term_store.specs.Terms.{Reading, size, at};
-ghost use Rattle.term_store.specs.Reading.{Reads, Grows, Gives};
+ghost use Rattle.term_store.specs.Reading.{Reads, Builds, Gives};
 ghost use Rattle.term_arith.specs.Bits.{bit, number, ids_end};
 
 use crate::Bits;
@@ -24,8 +24,7 @@ fn add_bits(terms: &mut Terms, a: NodeId, b: NodeId, carry: NodeId) -> Result<Bi
     requires first { a.0 < size terms.old }
     requires second { b.0 < size terms.old }
     requires third { carry.0 < size terms.old }
-    ensures grows { Grows terms.old terms.new }
-    ensures no_variable { terms.new.vars ≡ terms.old.vars }
+    ensures builds { Builds terms.old terms.new }
     ensures low { IfOk result (λ r. r.low.0 < size terms.new) }
     ensures carry { IfOk result (λ r. r.carry.0 < size terms.new) }
     ensures value { Gives terms.new result (λ w r. bit (at w r.low) + 2 * bit (at w r.carry) ≡ bit (at w a) + bit (at w b) + bit (at w carry)) }
@@ -43,8 +42,7 @@ pub fn add(alloc: Global, terms: &mut Terms, a: &Bits, b: &Bits) -> Result<Bits,
     requires same_width { length a.now.nodes ≡ length b.now.nodes }
     requires first { ids_end a.now.nodes ≤ size terms.old }
     requires second { ids_end b.now.nodes ≤ size terms.old }
-    ensures grows { Grows terms.old terms.new }
-    ensures no_variable { terms.new.vars ≡ terms.old.vars }
+    ensures builds { Builds terms.old terms.new }
     ensures within { IfOk result (λ r. ids_end r.nodes ≤ size terms.new) }
     ensures width { IfOk result (λ r. length r.nodes ≡ length a.now.nodes + 1) }
     ensures value { Gives terms.new result (λ w r. number w r.nodes ≡ number w a.now.nodes + number w b.now.nodes) }
@@ -54,7 +52,7 @@ pub fn add(alloc: Global, terms: &mut Terms, a: &Bits, b: &Bits) -> Result<Bits,
 }
 
 /// The sum of two numbers by their nodes.
-#[tactic(auto, using(crate::proofs::NumberLemmas::ids_end_at, crate::proofs::NumberLemmas::ids_end_push))]
+#[tactic(auto, using(crate::proofs::NumberLemmas::node_steps))]
 fn add_nodes(
     alloc: Global,
     terms: &mut Terms,
@@ -64,8 +62,7 @@ fn add_nodes(
     requires same_width { length a.now ≡ length b.now }
     requires first { ids_end a.now ≤ size terms.old }
     requires second { ids_end b.now ≤ size terms.old }
-    ensures grows { Grows terms.old terms.new }
-    ensures no_variable { terms.new.vars ≡ terms.old.vars }
+    ensures builds { Builds terms.old terms.new }
     ensures within { IfOk result (λ r. ids_end r ≤ size terms.new) }
     ensures width { IfOk result (λ r. length r ≡ length a.now + 1) }
     ensures value { Gives terms.new result (λ w r. number w r ≡ number w a.now + number w b.now) }

@@ -7,7 +7,7 @@ use Rattle.std.proofs.lemmas.Bool.{cases_lt}
 use Rattle.term_store.specs.declared.Node.{Node}
 use Rattle.term_store.specs.declared.Node.TheVariants.{Const, Var, Not, And, Or, Xor, Ite}
 use Rattle.term_store.specs.Terms.{Store, Reading, size, gate, IsBelow, IsSound, Puts}
-use Rattle.term_store.specs.Reading.{Reads, Stands, Grows}
+use Rattle.term_store.specs.Reading.{Reads, Stands, Grows, Builds}
 
 pub length-push : {X : Type 0} (xs : List X) (x : X) → length (xs ++ x ∷ []) ≡ length xs + 1
 length-push xs x = length-append xs (x ∷ [])
@@ -113,5 +113,11 @@ Grows-same s t e more = record {
   keeps = λ i m h. ap (λ l. slice_get l i) e ∙ h;
 }
 
-pub Grows-Puts : (s t : Store) (n : Node) → Puts s.nodes n t.nodes → s.vars ≤ t.vars → Grows s t
+Grows-Puts : (s t : Store) (n : Node) → Puts s.nodes n t.nodes → s.vars ≤ t.vars → Grows s t
 Grows-Puts s t n puts more = ⊎_elim (λ known. Grows-same s t known.1 more) (λ last. Grows-push s t n last.1 more) puts
+
+pub Builds-Puts : (s t : Store) (n : Node) → Puts s.nodes n t.nodes → t.vars ≡ s.vars → Builds s t
+Builds-Puts s t n puts same =
+    let more : s.vars ≤ t.vars = omega arith in
+    let grows = Grows-Puts s t n puts more in
+    record { larger = grows.larger; same_vars = same; reads = grows.reads; keeps = grows.keeps }

@@ -20,6 +20,13 @@ pub record Grows (s t : Store) : Type 0 where
   pub reads : (w : Reading) → Reads w t → Reads w s
   pub keeps : (i : ℕ) (n : Node) → Stands s i n → Stands t i n
 
+-- the later store has all that the earlier one had, and no further variable
+pub record Builds (s t : Store) : Type 0 where
+  pub larger : size s ≤ size t
+  pub same_vars : t.vars ≡ s.vars
+  pub reads : (w : Reading) → Reads w t → Reads w s
+  pub keeps : (i : ℕ) (n : Node) → Stands s i n → Stands t i n
+
 -- whatever reads the store gives the result this meaning
 abbrev pub Gives : {R : Type 0} → Store → Result R AllocError → (Reading → R → Type 0) → Type 0
 Gives t result P = IfOk result (λ r. (w : Reading) → Reads w t → P w r)

@@ -8,7 +8,7 @@
 
 ghost use Rattle.std.specs.Prelude.{◌≡◌, ℕ, ◌+◌, ◌<◌, ◌≤◌, Bool, List, [], ◌∷◌, ◌++◌, Some, slice_get, IfOk, OnOk, OnErr, ◌^◌, ◌↔◌, IsTrue};
 ghost use Rattle.term_store.specs.Terms.{Store, Reading, size, at, gate, value_of, reading_of, IsBelow, IsSound, StandsOnce, Puts, Agrees};
-ghost use Rattle.term_store.specs.Reading.{Reads, Stands, Grows, Gives};
+ghost use Rattle.term_store.specs.Reading.{Reads, Stands, Grows, Builds, Gives};
 
 use indexmap::IndexSet;
 use std::alloc::{AllocError, Global};
@@ -94,10 +94,9 @@ impl Terms {
         requires { IsBelow (size self.old) self.old.vars node }
         ensures stands { IfOk result (λ id. Stands self.new id.0 node) }
         ensures puts { OnOk result (Puts self.old.nodes node self.new.nodes) }
-        ensures vars { self.new.vars ≡ self.old.vars }
         ensures unchanged { OnErr result (self.new ≡ self.old) }
 
-        ensures grows { Grows self.old self.new }
+        ensures builds { Builds self.old self.new }
         ensures within { IfOk result (λ id. id.0 < size self.new) }
         ensures value { Gives self.new result (λ w id. at w id ≡ gate w node) }
     {

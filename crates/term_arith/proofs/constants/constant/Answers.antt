@@ -8,11 +8,10 @@ loop-i-preserved c =
     let old = c.loop-i.invariant in
     let node = c.in_ok-node.ensures in
     record {
-      grows = search rules;
-      no_variable = search rules;
+      builds = search rules;
       within = grind (arith, common_steps, ids_end_push);
       width = grind (arith, common_steps);
-      value = λ w reads. rw c.in_ok-put.ensures (constant_step w c.loop-i.nodes _ c.loop-i.rest _ (node.value w reads) (old.value w (node.grows.reads w reads)));
+      value = λ w reads. rw c.in_ok-put.ensures (constant_step w c.loop-i.nodes _ c.loop-i.rest _ (node.value w reads) (old.value w (node.builds.reads w reads)));
     }
 
 pub returns-clause-value : goal.returns-clause-value

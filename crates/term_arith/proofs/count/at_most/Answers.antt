@@ -9,8 +9,7 @@ loop-node-init c =
     let no = c.in_ok-no.ensures in
     let row = c.in_ok-row.ensures in
     record {
-      grows = search rules;
-      no_variable = search rules;
+      builds = search rules;
       within = search rules;
       yes_within = search rules;
       width = grind (arith, common_steps);
@@ -23,14 +22,13 @@ loop-node-preserved c =
     let old = c.loop-node.invariant in
     let row = c.in_ok-row-2.ensures in
     record {
-      grows = search rules;
-      no_variable = search rules;
+      builds = search rules;
       within = search rules;
       yes_within = search rules;
       width = grind (arith, common_steps);
       yes_value = search rules;
       value = λ w reads.
-          let before = row.grows.reads w reads in
+          let before = row.builds.reads w reads in
           row.value w reads ∙ rw c.as_slice.ensures (count_step w _ c.loop-node.row c.loop-node.node-index _ _ _ (omega arith) (old.yes_value w before) (old.value w before));
     }
 
@@ -38,4 +36,4 @@ pub returns-clause-value : goal.returns-clause-value
 returns-clause-value c = λ w reads.
     let few = c.in_ok-few.ensures in
     let old = c.loop-node.invariant in
-    few.value w reads ∙ rw c.as_slice-2.ensures (count_done w _ c.loop-node.row c.loop-node.node-index _ _ (omega arith) old.width (old.value w (few.grows.reads w reads)))
+    few.value w reads ∙ rw c.as_slice-2.ensures (count_done w _ c.loop-node.row c.loop-node.node-index _ _ (omega arith) old.width (old.value w (few.builds.reads w reads)))

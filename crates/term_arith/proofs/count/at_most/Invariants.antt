@@ -1,14 +1,13 @@
 use Rattle.std.proofs.Common.{◌≡◌, ◌<◌, ◌≤◌, ◌+◌, true, count_by, take, length}
 use Rattle.term_store.specs.Terms.{Reading, at, size}
-use Rattle.term_store.specs.Reading.{Reads, Grows}
+use Rattle.term_store.specs.Reading.{Reads, Builds}
 use Rattle.term_arith.specs.Bits.{bits, ids_end}
 use Rattle.term_arith.proofs.CountLemmas.{tally}
 use Rattle.term_arith.proofs.count.at_most.Given as goal
 
 abbrev pub invariant-loop-node : goal.invariant-loop-node
 invariant-loop-node l = record {
-  grows : Grows l.fn.terms l.terms;
-  no_variable : l.terms.vars ≡ l.fn.terms.vars;
+  builds : Builds l.fn.terms l.terms;
   within : ids_end l.row ≤ size l.terms;
   yes_within : l.yes.0 < size l.terms;
   width : length l.row ≡ l.k + 1;

@@ -8,12 +8,11 @@ loop-i-preserved c =
     let old = c.loop-i.invariant in
     let sum = c.in_ok-sum.ensures in
     record {
-      grows = search rules;
-      no_variable = search rules;
+      builds = search rules;
       within = grind (arith, common_steps, ids_end_push);
       carry_within = search rules;
       width = grind (arith, common_steps);
-      value = λ w reads. rw c.in_ok-put.ensures (add_step w _ _ c.loop-i.out c.loop-i.i _ _ _ _ _ (omega arith) (omega arith) (sum.value w reads) (old.value w (sum.grows.reads w reads)));
+      value = λ w reads. rw c.in_ok-put.ensures (add_step w _ _ c.loop-i.out c.loop-i.i _ _ _ _ _ (omega arith) (omega arith) (sum.value w reads) (old.value w (sum.builds.reads w reads)));
     }
 
 pub returns-clause-value : goal.returns-clause-value

@@ -1,10 +1,10 @@
-use Rattle.std.proofs.Common.{◌≤◌, arith}
+use Rattle.std.proofs.Common.{refl}
 use Rattle.std.proofs.lemmas.Option.{slice_get_within}
-use Rattle.term_store.proofs.Growth.{Grows-Puts, Reads-at, Stands-from}
+use Rattle.term_store.proofs.Growth.{Builds-Puts, Reads-at, Stands-from}
 use Rattle.term_store.proofs.Terms.add.Goals as goal
 
-pub returns-clause-grows : goal.returns-clause-grows
-returns-clause-grows c = let same : c.self.inside.vars ≤ c.self.inside.vars = omega arith in rw (← c.self.view_is) (Grows-Puts _ _ c.args.node c.in_ok-index.ensures.puts same)
+pub returns-clause-builds : goal.returns-clause-builds
+returns-clause-builds c = rw (← c.self.view_is) (Builds-Puts _ _ c.args.node c.in_ok-index.ensures.puts refl)
 
 pub returns-clause-within : goal.returns-clause-within
 returns-clause-within c = slice_get_within _ _ c.args.node c.in_ok-index.ensures.stands
