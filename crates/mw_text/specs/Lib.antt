@@ -1,0 +1,4 @@
+pub mod Address
+pub mod Digits
+pub mod Words
+pub mod Text

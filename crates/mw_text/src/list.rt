@@ -1,12 +1,13 @@
 //! A growable list whose contracts speak of a plain list.
 
-ghost use Rattle.std.specs.Prelude.{◌≡◌, [], ◌∷◌, ◌++◌, OnOk, IfErr, length};
+ghost use Rattle.std.specs.Prelude.{◌≡◌, [], ◌∷◌, ◌++◌, OnOk, IfErr, IfOk, IsTrue, ◌↔◌};
+ghost use Rattle.mw_text.specs.Text.{same_text};
 
-use std::alloc::Global;
+use std::alloc::{AllocError, Global};
 use std::marker::Model;
 
 /// A list. Contracts see the list of its items; code may read and write `items` itself.
-#[derive(Debug, Drop)]
+#[derive(Clone, Debug, Drop)]
 pub struct List<T> {
     pub items: Vec<T>,
 }
@@ -47,4 +48,21 @@ impl<T> List<T> {
     {
         self.items.as_slice()
     }
+}
+
+/// A list of these bytes.
+pub fn list_of(alloc: Global, bytes: &[u8]) -> Result<List<u8>, AllocError>
+    ensures { IfOk result (λ list. list ≡ bytes.now) }
+{
+    Ok(List {
+        items: Vec::from_slice(alloc, bytes)?,
+    })
+}
+
+/// Whether two texts are the same bytes.
+pub fn same_bytes(a: &[u8], b: &[u8]) -> bool
+    ensures value { result ≡ same_text a.now b.now }
+    ensures same { IsTrue result ↔ (a.now ≡ b.now) }
+{
+    a == b
 }

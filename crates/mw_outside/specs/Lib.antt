@@ -1,0 +1,6 @@
+pub mod Faults
+pub mod Contents
+pub mod Taken
+pub mod Reads
+pub mod FilesInMemory
+pub mod SinkInMemory

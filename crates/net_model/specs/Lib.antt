@@ -1,0 +1,5 @@
+pub mod Interfaces
+pub mod Network
+pub mod World
+pub mod Routing
+pub mod Stable

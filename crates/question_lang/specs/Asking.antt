@@ -1,0 +1,113 @@
+-- Which text reads as which questions.
+use Rattle.std.specs.Prelude.{ℕ, ◌+◌, ◌==◌, ◌&&◌, ◌||◌, Bool, List, [], ◌∷◌, ◌++◌, length, nat_lt, nat_le, codes, position, Option, Some, None, option_and_then, option_map, Result, Ok, Err, if◌then◌else◌}
+use Rattle.std.specs.List.{list_all, list_any}
+use Rattle.std.specs.Option.{option_map_or}
+use Rattle.mw_text.specs.declared.address.Prefix.{Prefix}
+use Rattle.mw_text.specs.declared.words.Line.{Line}
+use Rattle.mw_text.specs.Digits.{cut_at, number_of, prefix_of_text}
+use Rattle.mw_text.specs.Text.{same_text}
+use Rattle.mw_text.specs.Words.{text_lines}
+use Rattle.ios_ast.specs.declared.file.File.{File}
+use Rattle.ios_reader.specs.declared.refused.Refused.{Refused}
+use Rattle.ios_reader.specs.Reading.{not_built}
+use Rattle.ios_reader.specs.Statements.{is_keyword, is_skipped}
+use Rattle.question_lang.specs.declared.question.PacketSet.{PacketSet}
+use Rattle.question_lang.specs.declared.question.Question.{Question}
+use Rattle.question_lang.specs.Breaking.{reach_question}
+
+-- '!' to '~'
+abbrev pub is_printable : ℕ → Bool
+is_printable b = nat_le 33 b && nat_le b 126
+
+-- 1 to 64 of these
+abbrev pub is_name : List ℕ → Bool
+is_name word = nat_lt 0 (length word) && (nat_le (length word) 64 && list_all is_printable word)
+
+-- the router of that name
+abbrev pub router_named : List File → List ℕ → Option ℕ
+router_named files name = position (λ file. same_text file.hostname name) files
+
+-- the number of a protocol, by its name or as a number (IANA protocol numbers)
+abbrev pub protocol_of : List ℕ → Option ℕ
+protocol_of word =
+    if is_keyword (codes "icmp") word then Some 1
+    else (if is_keyword (codes "tcp") word then Some 6
+    else (if is_keyword (codes "udp") word then Some 17 else number_of 255 word))
+
+abbrev pub range_of : Option ℕ → Option ℕ → Option (ℕ × ℕ)
+range_of (Some low) (Some high) = if nat_le low high then Some (low, high) else None
+range_of _ _ = None
+
+-- `any`, a port, or LO-HI with LO not above HI
+abbrev pub ports_of : List ℕ → Option (ℕ × ℕ)
+ports_of word =
+    if is_keyword (codes "any") word then Some (0, 65535)
+    else option_map_or (λ cut. range_of (number_of 65535 cut.0) (number_of 65535 cut.1)) (cut_at 45 word)
+    (range_of (number_of 65535 word) (number_of 65535 word))
+
+-- a protocol and two port ranges have one packet: with TCP (6) and UDP (17) one value each, else 0, as both ports are then 0
+abbrev pub has_one : ℕ → ℕ × ℕ → ℕ × ℕ → Bool
+has_one proto sport dport =
+    if (proto == 6) || (proto == 17) then (sport.0 == sport.1) && (dport.0 == dport.1) else (sport.0 == 0) && (dport.0 == 0)
+
+-- a set of exactly one packet
+abbrev pub set_of : Option ℕ → Option Prefix → Option (ℕ × ℕ) → Option Prefix → Option (ℕ × ℕ) → Option PacketSet
+set_of (Some proto) (Some src) (Some sport) (Some dst) (Some dport) =
+    if (src.len == 32) && ((dst.len == 32) && has_one proto sport dport)
+    then Some (record { proto = Some proto; src = src; sport = sport; dst = dst; dport = dport }) else None
+set_of _ _ _ _ _ = None
+
+-- a question with its name and no failed links
+abbrev pub question_of : List ℕ → Option ℕ → Option ℕ → Option PacketSet → Option ℕ → Option Question
+question_of name (Some start) (Some target) (Some set) (Some none) =
+    if is_name name
+    then Some (record { name = name; kind = reach_question start target; packets = set; failures = none }) else None
+question_of name _ _ _ _ = None
+
+-- the fixed words of a question
+unfoldable pub are_keywords : List ℕ → List ℕ → List ℕ → List ℕ → List ℕ → List ℕ → Bool
+are_keywords reach from to router packets failures =
+    is_keyword (codes "reach") reach && (is_keyword (codes "from") from && (is_keyword (codes "to") to
+    && (is_keyword (codes "router") router && (is_keyword (codes "packets") packets && is_keyword (codes "failures") failures))))
+
+-- the words of a set
+unfoldable pub set_in : List ℕ → List ℕ → List ℕ → List ℕ → List ℕ → Option PacketSet
+set_in proto src sport dst dport =
+    set_of (protocol_of proto) (prefix_of_text src) (ports_of sport) (prefix_of_text dst) (ports_of dport)
+
+-- the question of a name, two routers, a set and a number of failed links
+unfoldable pub question_in : List File → List ℕ → List ℕ → List ℕ → Option PacketSet → List ℕ → Option Question
+question_in files name start target set none =
+    question_of name (router_named files start) (router_named files target) set (number_of 0 none)
+
+-- NAME reach from R to router R packets PROTO SRC SPORTS DST DPORTS failures 0
+abbrev pub asked : List File → List (List ℕ) → Option Question
+asked files (name ∷ reach ∷ from ∷ start ∷ to ∷ router ∷ target ∷ packets ∷ proto ∷ src ∷ sport ∷ dst ∷ dport ∷ failures ∷ none ∷ []) =
+    if are_keywords reach from to router packets failures
+    then question_in files name start target (set_in proto src sport dst dport) none else None
+asked files _ = None
+
+-- how many questions a file has at most
+abbrev pub most_questions : ℕ
+most_questions = 64
+
+-- each question has another name, and there are not too many
+abbrev pub with_question : List Question → Question → Option (List Question)
+with_question so_far question =
+    if list_any (λ q. same_text q.name question.name) so_far then None
+    else (if nat_le most_questions (length so_far) then None else Some (so_far ++ question ∷ []))
+
+-- the questions with a line more, where that line may stand there
+abbrev pub with_asked : List File → List Question → Line → Option (List Question)
+with_asked files so_far line =
+    if is_skipped line.words then Some so_far else option_and_then (with_question so_far) (asked files line.words)
+
+-- the questions so far and those of the lines after them, or the refusal at the first line that may not stand there
+unfoldable pub ask_lines : List File → List Question → List Line → Result (List Question) Refused
+ask_lines files so_far [] = Ok so_far
+ask_lines files so_far (line ∷ rest) =
+    option_map_or (λ next. ask_lines files next rest) (with_asked files so_far line) (Err (not_built line.number))
+
+-- the questions that a text reads as, over the files, or its refusal
+abbrev pub asking : List File → List ℕ → Result (List Question) Refused
+asking files bytes = ask_lines files [] (text_lines bytes)

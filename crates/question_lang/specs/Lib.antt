@@ -1,0 +1,6 @@
+pub mod Packets
+pub mod Hops
+pub mod Walks
+pub mod Breaking
+pub mod Asking
+pub mod Single

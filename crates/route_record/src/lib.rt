@@ -1,0 +1,115 @@
+//! Packets, and the records of routes that a router holds, as plain data.
+#![tactic(auto)]
+
+use mw_text::{Addr, List};
+
+/// A packet, by the fields of its IP header (RFC 791) and the ports of TCP or UDP.
+#[derive(Clone, Copy)]
+pub struct Packet {
+    pub src: Addr,
+    pub dst: Addr,
+    pub proto: u8,
+    pub sport: u16,
+    pub dport: u16,
+}
+
+/// The kind of an OSPF route (RFC 2328, section 11).
+#[derive(Clone, Copy)]
+pub enum OspfKind {
+    Internal,
+    Ext1,
+    Ext2,
+}
+
+/// An OSPF route with its external metric and its cost.
+#[derive(Clone, Copy)]
+pub struct OspfRec {
+    pub kind: OspfKind,
+    pub metric: u32,
+    pub cost: u32,
+}
+
+/// The ORIGIN of a BGP route (RFC 4271, section 5.1.1).
+#[derive(Clone, Copy)]
+pub enum Origin {
+    Igp,
+    Egp,
+    Incomplete,
+}
+
+/// Where a BGP route was learnt.
+#[derive(Clone, Copy)]
+pub enum Learnt {
+    Local,
+    Peer(Addr),
+}
+
+/// A BGP route that a router holds (RFC 4271, section 5; RFC 4456; RFC 1997).
+#[derive(Drop)]
+pub struct BgpRec {
+    pub from: Learnt,
+    pub weight: u32,
+    pub local_pref: u32,
+    pub path: List<u32>,
+    pub origin: Origin,
+    pub med: u32,
+    pub communities: List<u32>,
+    pub next_hop: Addr,
+    pub originator: Option<Addr>,
+    pub clusters: List<Addr>,
+}
+
+/// What an external peer announces for one prefix length of the destination.
+#[derive(Drop)]
+pub struct Announcement {
+    pub end: u32,
+    pub len: u8,
+    pub path: List<u32>,
+    pub med: u32,
+    pub origin: Origin,
+    pub communities: List<u32>,
+}
+
+/// The identifier of each external peer, and all that these peers announce.
+#[derive(Drop)]
+pub struct Environment {
+    pub ids: List<Addr>,
+    pub announced: List<Announcement>,
+}
+
+/// The failed links, by their positions in ascending order.
+#[derive(Drop)]
+pub struct Failures {
+    pub links: List<u32>,
+}
+
+/// The protocol from which an entry of the routing table comes.
+#[derive(Clone, Copy)]
+pub enum RibSource {
+    Connected,
+    Static,
+    Ebgp,
+    Ospf,
+    Ibgp,
+}
+
+/// An entry of the routing table, with its administrative distance.
+#[derive(Clone, Copy)]
+pub struct RibEntry {
+    pub source: RibSource,
+    pub distance: u8,
+}
+
+/// What a router holds for one prefix of the destination.
+#[derive(Drop)]
+pub struct Slot {
+    pub ospf: Option<OspfRec>,
+    pub bgp: Option<BgpRec>,
+    pub rib: Option<RibEntry>,
+}
+
+/// The slots of all routers: that of router `r` and length `l` stands at `33 * r + l`.
+#[derive(Drop)]
+pub struct Tables {
+    pub slots: List<Slot>,
+}
