@@ -1,0 +1,33 @@
+//! Numbers that are known.
+
+ghost use Rattle.std.specs.Prelude.{◌≡◌, ℕ, ◌+◌, ◌^◌, ◌<◌, ◌≤◌, Bool, IfOk, length};
+ghost use Rattle.term_store.specs.Terms.{Reading, size};
+ghost use Rattle.term_store.specs.Reading.{Reads, Builds, Gives};
+ghost use Rattle.term_arith.specs.Bits.{number, ids_end};
+
+use crate::Bits;
+use crate::gates::constant_node;
+use crate::lists::put;
+use mw_text::List;
+use std::alloc::{AllocError, Global};
+use term_store::Terms;
+
+/// The bits of a number of which all bits from `width` on are 0.
+#[tactic(auto, using(crate::proofs::NumberLemmas::node_steps))]
+pub fn constant(alloc: Global, terms: &mut Terms, value: u64, width: u8) -> Result<Bits, AllocError>
+    requires at_most_64 { width ≤ 64 }
+    requires fits { value < 2 ^ width }
+    ensures builds { Builds terms.old terms.new }
+    ensures within { IfOk result (λ r. ids_end r.nodes ≤ size terms.new) }
+    ensures width { IfOk result (λ r. length r.nodes ≡ width) }
+    ensures value { Gives terms.new result (λ w r. number w r.nodes ≡ value) }
+{
+    let mut nodes = List::new(alloc);
+    let mut rest = value;
+    for i in 0..width {
+        let node = constant_node(terms, rest % 2 == 1)?;
+        put(&mut nodes, node)?;
+        rest /= 2;
+    }
+    Ok(Bits { nodes })
+}

@@ -1,0 +1,27 @@
+//! Arithmetic over terms: numbers as lists of nodes, and gates over nodes.
+//!
+//! No call here adds a variable. What a call says of its result holds under every reading of the store
+//! (`term_store`), so it holds while the store grows.
+#![tactic(auto)]
+
+mod compare;
+mod constants;
+mod count;
+pub mod gates;
+pub mod lists;
+mod sum;
+mod values;
+
+pub use compare::{choose, equal, equal_number, less};
+pub use constants::constant;
+pub use count::at_most;
+use mw_text::List;
+pub use sum::add;
+use term_store::NodeId;
+pub use values::values_of;
+
+/// A number by its bits, lowest first.
+#[derive(Debug, Drop)]
+pub struct Bits {
+    pub nodes: List<NodeId>,
+}

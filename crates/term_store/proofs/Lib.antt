@@ -1,0 +1,4 @@
+pub mod NodeSet
+pub mod Growth
+pub mod Values
+pub mod EqualNodes
