@@ -1,0 +1,33 @@
+//! The program: it hands the words, the files of the machine and the standard output to `run`.
+#![tactic(auto)]
+
+use mw_outside::{DirFiles, NoSink, OutSink};
+use mw_verify::{Status, run};
+use std::alloc::Global;
+use std::process::ExitCode;
+use std::rt::Env;
+use std::{env, io};
+
+// The words after the program's name. A word that is not UTF-8 makes the whole line no command.
+fn words_of(rt: &(impl Env + AllocGlobal)) -> Result<Vec<String>, Status> {
+    let alloc: Global = rt.alloc();
+    match env::args(rt) {
+        Ok(args) => args.skip(1).collect(alloc).map_err(|_| Status::Memory),
+        Err(error) if error.kind() == io::ErrorKind::OutOfMemory => Err(Status::Memory),
+        Err(_) => Ok(Vec::new(alloc)),
+    }
+}
+
+fn main(rt: HostRuntime) -> ExitCode {
+    let status = match words_of(&rt) {
+        Err(status) => status,
+        Ok(words) => run(
+            rt.alloc(),
+            words.as_slice(),
+            &mut DirFiles::new(rt),
+            &mut OutSink::new(rt),
+            &mut NoSink::new(),
+        ),
+    };
+    ExitCode::from(status as u8)
+}
