@@ -1,0 +1,6 @@
+//! Whole runs over files in memory: what is printed, and the status.
+#![tactic(auto)]
+
+mod networks;
+mod refusals;
+mod running;

@@ -1,0 +1,68 @@
+//! A run over files in memory.
+
+use mw_outside::{NoSink, TestFile, TestFiles, TestSink};
+use mw_text::{List, list_of};
+use mw_verify::{Status, run};
+use std::alloc::{AllocError, Global};
+
+/// The question of the two routers.
+pub const Q1: &str =
+    "q1 reach from N1 to router N2 packets icmp 10.0.0.1/32 any 10.2.0.1/32 any failures 0\n";
+
+/// The first router, its fourth line a route to the second's loopback.
+pub const N1: &str =
+    "hostname N1\ninterface GigabitEthernet0/0\n ip address 10.0.0.1 255.255.255.252\nip route 10.2.0.1 255.255.255.255 10.0.0.2\n";
+
+/// The second router.
+pub const N2: &str =
+    "hostname N2\ninterface GigabitEthernet0/0\n ip address 10.0.0.2 255.255.255.252\ninterface Loopback0\n ip address 10.2.0.1 255.255.255.255\n";
+
+/// How a run ended, and what it printed.
+#[derive(Drop)]
+pub struct Ran {
+    pub status: Status,
+    pub text: List<u8>,
+}
+
+fn files_of(alloc: Global, files: &[(&str, &[u8])]) -> Result<List<TestFile>, AllocError> {
+    let mut all = List::new(alloc);
+    for (name, bytes) in files {
+        all.items.push(TestFile {
+            name: list_of(alloc, name.as_bytes())?,
+            bytes: list_of(alloc, bytes)?,
+        })?;
+    }
+    Ok(all)
+}
+
+fn words_of(alloc: Global, words: &[&str]) -> Result<Vec<String>, AllocError> {
+    let mut all = Vec::new(alloc);
+    for word in words {
+        all.push(String::from_str(alloc, word)?)?;
+    }
+    Ok(all)
+}
+
+/// Runs these words over these files, of whose reads those of these numbers fail; the output has ample room.
+pub fn run_over(
+    alloc: Global,
+    files: &[(&str, &[u8])],
+    words: &[&str],
+    fail: &[u64],
+) -> Result<Ran, AllocError> {
+    let failing = List {
+        items: Vec::from_slice(alloc, fail)?,
+    };
+    let mut files = TestFiles::new(alloc, files_of(alloc, files)?, failing);
+    let mut out = TestSink::new(alloc, 100_000, List::new(alloc))?;
+    let words = words_of(alloc, words)?;
+    let status = run(
+        alloc,
+        words.as_slice(),
+        &mut files,
+        &mut out,
+        &mut NoSink::new(),
+    );
+    let text = list_of(alloc, out.taken())?;
+    Ok(Ran { status, text })
+}
