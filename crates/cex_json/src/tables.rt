@@ -11,8 +11,8 @@ use route_record::{RibEntry, RibSource, Slot};
 use serde_json::{Value, json};
 use std::alloc::{AllocError, Global};
 
-/// How many prefix lengths there are.
-pub const LENGTHS: usize = 33;
+// How many prefix lengths there are.
+const LENGTHS: usize = 33;
 
 fn source_value(alloc: Global, source: RibSource) -> Result<Value, AllocError>
     ensures { IfOk result (λ value. view value ≡ string (parts.source_text source)) }
