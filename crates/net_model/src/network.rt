@@ -198,7 +198,8 @@ impl Net {
 
     /// The router of that name. None exactly where there is none.
     pub fn router_named(&self, name: &[u8]) -> Option<u32>
-        ensures { result ≡ position (λ file. same_text file.hostname name.now) self.now }
+        ensures place { result ≡ position (λ file. same_text file.hostname name.now) self.now }
+        ensures within { IfSome result (λ at. at < length self.now) }
     {
         match place_of(self.routers.as_slice(), name) {
             None => None,

@@ -1,10 +1,11 @@
 //! What a line of a questions file asks.
 
-ghost use Rattle.std.specs.Prelude.{◌≡◌, IfOk};
+ghost use Rattle.std.specs.Prelude.{◌≡◌, ◌≤◌, ◌<◌, ℕ, IfOk, IfSome, length};
 ghost use Rattle.std.specs.Option.{ForSome};
 ghost use Rattle.std.specs.List.{list_all};
 ghost use Rattle.mw_text.specs.Digits.{number_of};
 ghost use Rattle.question_lang.specs.Asking as asking;
+ghost use Rattle.question_lang.specs.Single.{IsSinglePacket, IsSingleReach};
 
 use crate::question::{Kind, PacketSet, Question, Start, Target};
 use ios_reader::statement::is_word;
@@ -59,7 +60,8 @@ fn read_port(word: &[u8]) -> Option<u16>
 }
 
 fn range_of(low: Option<u16>, high: Option<u16>) -> Option<(u16, u16)>
-    ensures { result ≡ asking.range_of low high }
+    ensures range { result ≡ asking.range_of low high }
+    ensures ordered { ForSome result (λ range. range.0 ≤ range.1) }
 {
     match (low, high) {
         (Some(low), Some(high)) if low <= high => Some((low, high)),
@@ -68,7 +70,8 @@ fn range_of(low: Option<u16>, high: Option<u16>) -> Option<(u16, u16)>
 }
 
 fn read_ports(word: &[u8]) -> Option<(u16, u16)>
-    ensures { result ≡ asking.ports_of word.now }
+    ensures range { result ≡ asking.ports_of word.now }
+    ensures ordered { ForSome result (λ range. range.0 ≤ range.1) }
 {
     if is_word(word, b"any") {
         return Some((0, 65535));
@@ -97,7 +100,10 @@ fn set_of(
     dst: Option<Prefix>,
     dport: Option<(u16, u16)>,
 ) -> Option<PacketSet>
-    ensures { result ≡ asking.set_of proto src sport dst dport }
+    requires sport { ForSome sport (λ range. range.0 ≤ range.1) }
+    requires dport { ForSome dport (λ range. range.0 ≤ range.1) }
+    ensures set { result ≡ asking.set_of proto src sport dst dport }
+    ensures single { IfSome result IsSinglePacket }
 {
     let (Some(proto), Some(src), Some(sport), Some(dst), Some(dport)) = (
         proto, src, sport, dst, dport,
@@ -126,7 +132,9 @@ fn question_of(
     none: Option<u64>,
 ) -> Result<Option<Question>, AllocError>
     requires { ForSome none (λ n. n ≡ 0) }
-    ensures { IfOk result (λ question. question ≡ asking.question_of name.now start target set none) }
+    ensures question { IfOk result (λ question. question ≡ asking.question_of name.now start target set none) }
+    ensures single { IfOk result (λ question. (routers : ℕ) → IfSome start (λ at. at < routers) → IfSome set IsSinglePacket →
+        IfSome question (IsSingleReach routers)) }
 {
     let (Some(start), Some(target), Some(packets), Some(none)) = (start, target, set, none) else {
         return Ok(None);
@@ -167,7 +175,8 @@ fn are_keywords(
 
 #[tactic(auto, unfolding(crate::specs::Asking::set_in))]
 fn read_set(proto: &[u8], src: &[u8], sport: &[u8], dst: &[u8], dport: &[u8]) -> Option<PacketSet>
-    ensures { result ≡ asking.set_in proto.now src.now sport.now dst.now dport.now }
+    ensures set { result ≡ asking.set_in proto.now src.now sport.now dst.now dport.now }
+    ensures single { IfSome result IsSinglePacket }
 {
     set_of(
         read_protocol(proto),
@@ -195,7 +204,9 @@ fn question_over(
     set: Option<PacketSet>,
     none: &[u8],
 ) -> Result<Option<Question>, AllocError>
-    ensures { IfOk result (λ question. question ≡ asking.question_in net.now name.now start.now target.now set none.now) }
+    requires { IfSome set IsSinglePacket }
+    ensures question { IfOk result (λ question. question ≡ asking.question_in net.now name.now start.now target.now set none.now) }
+    ensures single { IfOk result (λ question. IfSome question (IsSingleReach (length net.now))) }
 {
     question_of(
         alloc,
@@ -213,7 +224,8 @@ pub fn read_question(
     net: &Net,
     words: &[List<u8>],
 ) -> Result<Option<Question>, AllocError>
-    ensures { IfOk result (λ question. question ≡ asking.asked net.now words.now) }
+    ensures question { IfOk result (λ question. question ≡ asking.asked net.now words.now) }
+    ensures single { IfOk result (λ question. IfSome question (IsSingleReach (length net.now))) }
 {
     let [
         name,

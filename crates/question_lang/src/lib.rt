@@ -2,8 +2,12 @@
 #![tactic(auto)]
 
 pub mod asking;
+pub mod packet;
 pub mod question;
+pub mod reader;
 pub mod walk;
 
+pub use packet::single_packet;
 pub use question::{Kind, PacketSet, Question, Start, Target};
+pub use reader::read_questions;
 pub use walk::{End, Hop, Walk};

@@ -1,0 +1,8 @@
+use Rattle.std.proofs.Common.{drop}
+use Rattle.mw_verify.specs.Due.{file_of}
+use Rattle.mw_verify.proofs.Loading.{After}
+use Rattle.mw_verify.proofs.load.parse_files.Given as goal
+
+-- the files so far are those of the texts so far
+abbrev pub invariant-loop-text : goal.invariant-loop-text
+invariant-loop-text l = After file_of l.texts l.files-inside.items.items (drop l.text-index l.texts)

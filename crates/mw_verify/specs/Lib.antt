@@ -1,0 +1,5 @@
+pub mod Texts
+pub mod Due
+pub mod Loading
+pub mod Verdicts
+pub mod Running

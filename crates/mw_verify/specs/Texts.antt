@@ -1,0 +1,50 @@
+-- The lines that are printed.
+use Rattle.std.specs.Prelude.{ℕ, ◌++◌, ◌∷◌, [], List, codes}
+use Rattle.std.specs.Fmt.{decimal}
+use Rattle.ios_reader.specs.declared.refused.Cause.{Cause}
+use Rattle.ios_reader.specs.declared.refused.Cause.TheVariants.{UnknownCommand, BadWord, NotBuilt, Repeated, OutOfPlace, Limit, NoHostname, UnknownRouter, UnknownPeer, TooManyQuestions, Undefined, Memory}
+use Rattle.ios_reader.specs.declared.refused.Refused.{Refused}
+use Rattle.question_lang.specs.declared.question.Question.{Question}
+
+-- the line feed
+abbrev pub newline : List ℕ
+newline = 10 ∷ []
+
+-- a cause by its number and its name
+abbrev pub cause_text : Cause → List ℕ
+cause_text UnknownCommand = codes "1 UnknownCommand"
+cause_text (BadWord word) = codes "2 BadWord " ++ decimal word
+cause_text NotBuilt = codes "3 NotBuilt"
+cause_text Repeated = codes "4 Repeated"
+cause_text OutOfPlace = codes "5 OutOfPlace"
+cause_text Limit = codes "6 Limit"
+cause_text Undefined = codes "7 Undefined"
+cause_text UnknownRouter = codes "15 UnknownRouter"
+cause_text UnknownPeer = codes "16 UnknownPeer"
+cause_text TooManyQuestions = codes "17 TooManyQuestions"
+cause_text NoHostname = codes "24 NoHostname"
+cause_text Memory = []
+
+-- refused FILE:LINE NUMBER CAUSE
+abbrev pub refused_text : List ℕ → ℕ → List ℕ → List ℕ
+refused_text name line cause = codes "refused " ++ name ++ codes ":" ++ decimal line ++ codes " " ++ cause ++ newline
+
+-- a file that is refused at a line
+abbrev pub refusal : List ℕ → Refused → List ℕ
+refusal name refused = refused_text name refused.line (cause_text refused.cause)
+
+-- a file with more bytes than its limit
+abbrev pub too_long : List ℕ → List ℕ
+too_long name = refused_text name 0 (codes "25 TooLong")
+
+-- files that are no network are refused at line 0 of the first
+abbrev pub no_network : List ℕ → List ℕ
+no_network name = refused_text name 0 (codes "3 NotBuilt")
+
+-- words that are no command
+abbrev pub usage_text : List ℕ
+usage_text = codes "usage: mw_cli verify, check, replay, simulate or gen" ++ newline
+
+-- holds NAME
+abbrev pub holds_text : Question → List ℕ
+holds_text question = codes "holds " ++ question.name ++ newline

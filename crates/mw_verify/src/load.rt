@@ -1,0 +1,217 @@
+//! Reads and parses the files that the words name.
+
+ghost use Rattle.std.specs.Prelude.{◌≡◌, ◌≤◌, ◌<◌, Ok, Err, IfOk, IfErr, IfSome, length, map, string_bytes, ◌∷◌};
+ghost use Rattle.mw_outside.specs.Faults.{Rose};
+ghost use Rattle.mw_outside.specs.Contents.{TellsOnly, TellsAmong};
+ghost use Rattle.question_lang.specs.Asking.{most_questions};
+ghost use Rattle.question_lang.specs.Single.{AreSingle};
+ghost use Rattle.mw_verify.specs.Due as due;
+ghost use Rattle.mw_verify.specs.Loading.{OnStop, AreSmall};
+
+use crate::text::{Text, no_network, refusal, too_long};
+use ios_ast::File;
+use ios_reader::{Cause, read_file};
+use mw_outside::{Files, ReadRefused, read_whole};
+use mw_text::{List, list_of};
+use net_model::Net;
+use question_lang::{Question, read_questions};
+use std::alloc::{AllocError, Global};
+
+/// How many bytes a configuration or a questions file has at most.
+pub const MOST_BYTES: u64 = 1_048_576;
+
+/// Why a run ends before the answers: with the line of a refusal, at a read that failed, or for want of memory.
+#[derive(Drop)]
+pub enum Stop {
+    Refused(List<u8>),
+    ReadFault,
+    Memory,
+}
+
+fn named(alloc: Global, name: &str, bytes: List<u8>) -> Result<Text, AllocError>
+    ensures { IfOk result (λ text. text ≡ record { name = name.now; bytes = bytes }) }
+{
+    Ok(Text {
+        name: list_of(alloc, name.as_bytes())?,
+        bytes,
+    })
+}
+
+// The text of the file of that name.
+#[tactic(auto, using(crate::proofs::Loading::text_whole, crate::proofs::Loading::text_too_long))]
+fn read_text<F: Files>(alloc: Global, files: &mut F, name: &str) -> Result<Text, Stop>
+    ensures kept { F.contents files.new ≡ F.contents files.old }
+    ensures later { F.faults files.old ≤ F.faults files.new }
+    ensures ok { IfOk result (λ text. IfSome (F.contents files.old) (λ contents. due.text_of contents name.now ≡ Ok text)) }
+    ensures small { IfOk result (λ text. length text.bytes ≤ due.most_bytes) }
+    ensures stop { IfErr result (λ stop. OnStop stop
+        (λ line. IfSome (F.contents files.old) (λ contents. due.text_of contents name.now ≡ Err (due.refused line)))
+        (Rose (F.faults files.old) (F.faults files.new) × TellsOnly name.now (F.last_failed files.new))) }
+{
+    match read_whole(alloc, files, name, MOST_BYTES) {
+        Ok(bytes) => match named(alloc, name, bytes) {
+            Ok(text) => Ok(text),
+            Err(_) => Err(Stop::Memory),
+        },
+        Err(ReadRefused::TooLong) => match too_long(alloc, name.as_bytes()) {
+            Ok(line) => Err(Stop::Refused(line)),
+            Err(_) => Err(Stop::Memory),
+        },
+        Err(ReadRefused::Failed) => Err(Stop::ReadFault),
+        Err(ReadRefused::Memory) => Err(Stop::Memory),
+    }
+}
+
+// The texts of the files of these names.
+fn read_texts<F: Files>(alloc: Global, files: &mut F, names: &[String]) -> Result<List<Text>, Stop>
+    ensures kept { F.contents files.new ≡ F.contents files.old }
+    ensures later { F.faults files.old ≤ F.faults files.new }
+    ensures ok { IfOk result (λ texts. IfSome (F.contents files.old) (λ contents.
+        due.each (due.text_of contents) (map string_bytes names.now) ≡ Ok texts)) }
+    ensures small { IfOk result AreSmall }
+    ensures stop { IfErr result (λ stop. OnStop stop
+        (λ line. IfSome (F.contents files.old) (λ contents. due.each (due.text_of contents) (map string_bytes names.now) ≡ Err (due.refused line)))
+        (Rose (F.faults files.old) (F.faults files.new) × TellsAmong (map string_bytes names.now) (F.last_failed files.new))) }
+{
+    let mut texts = List::new(alloc);
+    for name in names {
+        match read_text(alloc, files, name.as_str()) {
+            Ok(text) => match texts.items.push(text) {
+                Ok(()) => {}
+                Err(_) => return Err(Stop::Memory),
+            },
+            Err(stop) => return Err(stop),
+        }
+    }
+    Ok(texts)
+}
+
+// The file that a text reads as.
+fn parse_file(alloc: Global, text: &Text) -> Result<File, Stop>
+    requires { length text.now.bytes ≤ due.most_bytes }
+    ensures ok { IfOk result (λ file. due.file_of text.now ≡ Ok file) }
+    ensures stop { IfErr result (λ stop. OnStop stop (λ line. due.file_of text.now ≡ Err (due.refused line)) ⊥) }
+{
+    match read_file(alloc, text.bytes.as_slice()) {
+        Ok(file) => Ok(file),
+        Err(refused) => match refused.cause {
+            Cause::Memory => Err(Stop::Memory),
+            _ => match refusal(alloc, text.name.as_slice(), &refused) {
+                Ok(line) => Err(Stop::Refused(line)),
+                Err(_) => Err(Stop::Memory),
+            },
+        },
+    }
+}
+
+// The files that the texts read as.
+fn parse_files(alloc: Global, texts: &[Text]) -> Result<List<File>, Stop>
+    requires { AreSmall texts.now }
+    ensures ok { IfOk result (λ files. due.each due.file_of texts.now ≡ Ok files) }
+    ensures stop { IfErr result (λ stop. OnStop stop (λ line. due.each due.file_of texts.now ≡ Err (due.refused line)) ⊥) }
+{
+    let mut files = List::new(alloc);
+    for text in texts {
+        match parse_file(alloc, text) {
+            Ok(file) => match files.items.push(file) {
+                Ok(()) => {}
+                Err(_) => return Err(Stop::Memory),
+            },
+            Err(stop) => return Err(stop),
+        }
+    }
+    Ok(files)
+}
+
+fn first_name(texts: &[Text]) -> &[u8]
+    ensures { result.now ≡ due.first_name texts.now }
+{
+    match texts {
+        [] => b"",
+        [text, ..] => text.name.as_slice(),
+    }
+}
+
+// The network of the texts.
+fn parse_network(alloc: Global, texts: &[Text]) -> Result<Net, Stop>
+    requires { AreSmall texts.now }
+    ensures ok { IfOk result (λ net. due.network_due texts.now ≡ Ok net) }
+    ensures stop { IfErr result (λ stop. OnStop stop (λ line. due.network_due texts.now ≡ Err (due.refused line)) ⊥) }
+{
+    let files = match parse_files(alloc, texts) {
+        Ok(files) => files,
+        Err(stop) => return Err(stop),
+    };
+    match Net::of(alloc, files) {
+        Err(_) => Err(Stop::Memory),
+        Ok(Some(net)) => Ok(net),
+        Ok(None) => match no_network(alloc, first_name(texts)) {
+            Ok(line) => Err(Stop::Refused(line)),
+            Err(_) => Err(Stop::Memory),
+        },
+    }
+}
+
+// The questions of the text over the network.
+fn parse_questions(alloc: Global, asked: &Text, net: &Net) -> Result<List<Question>, Stop>
+    requires { length asked.now.bytes ≤ due.most_bytes }
+    ensures ok { IfOk result (λ questions. due.questions_of asked.now net.now ≡ Ok (due.answering net.now questions)) }
+    ensures single { IfOk result (AreSingle (length net.now)) }
+    ensures few { IfOk result (λ questions. length questions ≤ most_questions) }
+    ensures stop { IfErr result (λ stop. OnStop stop (λ line. due.questions_of asked.now net.now ≡ Err (due.refused line)) ⊥) }
+{
+    match read_questions(alloc, asked.bytes.as_slice(), net) {
+        Ok(questions) => Ok(questions),
+        Err(refused) => match refused.cause {
+            Cause::Memory => Err(Stop::Memory),
+            _ => match refusal(alloc, asked.name.as_slice(), &refused) {
+                Ok(line) => Err(Stop::Refused(line)),
+                Err(_) => Err(Stop::Memory),
+            },
+        },
+    }
+}
+
+/// A network and the questions about it.
+#[derive(Drop)]
+pub struct Loaded {
+    pub net: Net,
+    pub questions: List<Question>,
+}
+
+/// Reads the configurations of these names and then the questions file, and parses them in this order. A read fault is
+/// answered only where a read of one of these files failed in this call, and a refusal is the first in this order.
+pub fn load<F: Files>(
+    alloc: Global,
+    files: &mut F,
+    questions: &str,
+    names: &[String],
+) -> Result<Loaded, Stop>
+    ensures kept { F.contents files.new ≡ F.contents files.old }
+    ensures ok { IfOk result (λ loaded. IfSome (F.contents files.old) (λ contents.
+        due.files_due contents questions.now (map string_bytes names.now) ≡ Ok (due.answering loaded.net loaded.questions))) }
+    ensures single { IfOk result (λ loaded. AreSingle (length loaded.net) loaded.questions) }
+    ensures few { IfOk result (λ loaded. length loaded.questions ≤ most_questions) }
+    ensures stop { IfErr result (λ stop. OnStop stop
+        (λ line. IfSome (F.contents files.old) (λ contents.
+        due.files_due contents questions.now (map string_bytes names.now) ≡ Err (due.refused line)))
+        (Rose (F.faults files.old) (F.faults files.new) × TellsAmong (questions.now ∷ map string_bytes names.now) (F.last_failed files.new))) }
+{
+    let texts = match read_texts(alloc, files, names) {
+        Ok(texts) => texts,
+        Err(stop) => return Err(stop),
+    };
+    let asked = match read_text(alloc, files, questions) {
+        Ok(asked) => asked,
+        Err(stop) => return Err(stop),
+    };
+    let net = match parse_network(alloc, texts.as_slice()) {
+        Ok(net) => net,
+        Err(stop) => return Err(stop),
+    };
+    let questions = match parse_questions(alloc, &asked, &net) {
+        Ok(questions) => questions,
+        Err(stop) => return Err(stop),
+    };
+    Ok(Loaded { net, questions })
+}

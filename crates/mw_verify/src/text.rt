@@ -1,0 +1,82 @@
+//! The text of a file, and the lines that are printed.
+
+ghost use Rattle.std.specs.Prelude.{◌≡◌, ◌++◌, IfOk, OnOk};
+ghost use Rattle.mw_verify.specs.Texts as texts;
+
+use ios_reader::{Cause, Refused};
+use mw_text::List;
+use std::alloc::{AllocError, Global};
+
+/// The bytes of a file with its name.
+#[derive(Drop)]
+pub struct Text {
+    pub name: List<u8>,
+    pub bytes: List<u8>,
+}
+
+/// Puts bytes at the end.
+pub fn append(text: &mut List<u8>, more: &[u8]) -> Result<(), AllocError>
+    ensures { OnOk result (text.new ≡ text.old ++ more.now) }
+{
+    text.items.extend_from_slice(more)
+}
+
+fn cause_text(alloc: Global, cause: Cause) -> Result<List<u8>, AllocError>
+    ensures { IfOk result (λ text. text ≡ texts.cause_text cause) }
+{
+    let mut text = List::new(alloc);
+    match cause {
+        Cause::UnknownCommand => append(&mut text, b"1 UnknownCommand")?,
+        Cause::BadWord { word } => {
+            append(&mut text, b"2 BadWord ")?;
+            append(&mut text, word.to_string(alloc)?.as_bytes())?;
+        }
+        Cause::NotBuilt => append(&mut text, b"3 NotBuilt")?,
+        Cause::Repeated => append(&mut text, b"4 Repeated")?,
+        Cause::OutOfPlace => append(&mut text, b"5 OutOfPlace")?,
+        Cause::Limit => append(&mut text, b"6 Limit")?,
+        Cause::Undefined => append(&mut text, b"7 Undefined")?,
+        Cause::UnknownRouter => append(&mut text, b"15 UnknownRouter")?,
+        Cause::UnknownPeer => append(&mut text, b"16 UnknownPeer")?,
+        Cause::TooManyQuestions => append(&mut text, b"17 TooManyQuestions")?,
+        Cause::NoHostname => append(&mut text, b"24 NoHostname")?,
+        Cause::Memory => {}
+    }
+    Ok(text)
+}
+
+fn refused_text(alloc: Global, name: &[u8], line: u32, cause: &[u8]) -> Result<List<u8>, AllocError>
+    ensures { IfOk result (λ text. text ≡ texts.refused_text name.now line cause.now) }
+{
+    let mut text = List::new(alloc);
+    append(&mut text, b"refused ")?;
+    append(&mut text, name)?;
+    append(&mut text, b":")?;
+    append(&mut text, line.to_string(alloc)?.as_bytes())?;
+    append(&mut text, b" ")?;
+    append(&mut text, cause)?;
+    append(&mut text, b"\n")?;
+    Ok(text)
+}
+
+/// The line of a file that is refused.
+pub fn refusal(alloc: Global, name: &[u8], refused: &Refused) -> Result<List<u8>, AllocError>
+    ensures { IfOk result (λ text. text ≡ texts.refusal name.now refused.now) }
+{
+    let cause = cause_text(alloc, refused.cause)?;
+    refused_text(alloc, name, refused.line, cause.as_slice())
+}
+
+/// The line of a file with more bytes than its limit.
+pub fn too_long(alloc: Global, name: &[u8]) -> Result<List<u8>, AllocError>
+    ensures { IfOk result (λ text. text ≡ texts.too_long name.now) }
+{
+    refused_text(alloc, name, 0, b"25 TooLong")
+}
+
+/// The line of files that are no network, by the name of the first.
+pub fn no_network(alloc: Global, name: &[u8]) -> Result<List<u8>, AllocError>
+    ensures { IfOk result (λ text. text ≡ texts.no_network name.now) }
+{
+    refused_text(alloc, name, 0, b"3 NotBuilt")
+}

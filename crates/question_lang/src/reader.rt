@@ -1,0 +1,131 @@
+//! Reads a questions file.
+
+ghost use Rattle.std.specs.Prelude.{◌≡◌, ◌≢◌, ◌<◌, ◌≤◌, ◌^◌, ℕ, IfOk, IfErr, IfSome, Ok, Err, None, Some, [], length};
+ghost use Rattle.std.specs.List.{list_any};
+ghost use Rattle.mw_text.specs.Text.{same_text};
+ghost use Rattle.ios_reader.specs.Reading.{not_built};
+ghost use Rattle.question_lang.specs.Asking as asking;
+ghost use Rattle.question_lang.specs.Single.{AreSingle, IsSingleReach};
+
+use crate::asking::read_question;
+use crate::question::Question;
+use ios_reader::statement::says_nothing;
+use ios_reader::{Cause, Refused};
+use mw_text::{Line, List, lines_of, same_bytes};
+use net_model::Net;
+use std::alloc::{AllocError, Global};
+
+/// How many questions a file has at most.
+pub const MOST_QUESTIONS: usize = 64;
+
+const MEMORY: Refused = Refused {
+    line: 0,
+    cause: Cause::Memory,
+};
+
+fn has_name(questions: &[Question], name: &[u8]) -> bool
+    ensures { result ≡ list_any (λ q. same_text q.name name.now) questions.now }
+{
+    questions
+        .iter()
+        .any(|q| same_bytes(q.name.as_slice(), name))
+}
+
+fn put_question(
+    mut questions: List<Question>,
+    question: Question,
+) -> Result<Option<List<Question>>, AllocError>
+    ensures next { IfOk result (λ next. next ≡ asking.with_question questions question) }
+    ensures single { IfOk result (λ next. (routers : ℕ) → AreSingle routers questions → IsSingleReach routers question →
+        IfSome next (AreSingle routers)) }
+    ensures few { IfOk result (λ next. IfSome next (λ all. length all ≤ asking.most_questions)) }
+{
+    if has_name(questions.as_slice(), question.name.as_slice()) {
+        return Ok(None);
+    }
+    if questions.items.len() >= MOST_QUESTIONS {
+        return Ok(None);
+    }
+    questions.items.push(question)?;
+    Ok(Some(questions))
+}
+
+fn take_line(
+    alloc: Global,
+    net: &Net,
+    questions: List<Question>,
+    line: &Line,
+) -> Result<Option<List<Question>>, AllocError>
+    requires single { AreSingle (length net.now) questions }
+    requires few { length questions ≤ asking.most_questions }
+    ensures few { IfOk result (λ next. IfSome next (λ all. length all ≤ asking.most_questions)) }
+    ensures next { IfOk result (λ next. next ≡ asking.with_asked net.now questions line.now) }
+    ensures single { IfOk result (λ next. IfSome next (AreSingle (length net.now))) }
+{
+    let words = line.words.as_slice();
+    if says_nothing(words) {
+        return Ok(Some(questions));
+    }
+    match read_question(alloc, net, words)? {
+        None => Ok(None),
+        Some(question) => put_question(questions, question),
+    }
+}
+
+// The questions with a line more.
+fn next_questions(
+    alloc: Global,
+    net: &Net,
+    questions: List<Question>,
+    line: &Line,
+) -> Result<List<Question>, Refused>
+    requires single { AreSingle (length net.now) questions }
+    requires few { length questions ≤ asking.most_questions }
+    ensures few { IfOk result (λ next. length next ≤ asking.most_questions) }
+    ensures single { IfOk result (AreSingle (length net.now)) }
+    ensures taken { IfOk result (λ next. asking.with_asked net.now questions line.now ≡ Some next) }
+    ensures refused { IfErr result (λ refused. refused.cause ≢ Cause.Memory →
+        (asking.with_asked net.now questions line.now ≡ None) × (refused ≡ not_built line.now.number)) }
+{
+    match take_line(alloc, net, questions, line) {
+        Err(_) => Err(MEMORY),
+        Ok(None) => Err(Refused {
+            line: line.number,
+            cause: Cause::NotBuilt,
+        }),
+        Ok(Some(next)) => Ok(next),
+    }
+}
+
+// The questions of all lines.
+fn read_all(alloc: Global, net: &Net, lines: &[Line]) -> Result<List<Question>, Refused>
+    ensures few { IfOk result (λ questions. length questions ≤ asking.most_questions) }
+    ensures single { IfOk result (AreSingle (length net.now)) }
+    ensures ok { IfOk result (λ questions. asking.ask_lines net.now [] lines.now ≡ Ok questions) }
+    ensures refused { IfErr result (λ refused. refused.cause ≢ Cause.Memory → asking.ask_lines net.now [] lines.now ≡ Err refused) }
+{
+    let mut questions = List::new(alloc);
+    for line in lines {
+        match next_questions(alloc, net, questions, line) {
+            Ok(next) => questions = next,
+            Err(refused) => return Err(refused),
+        }
+    }
+    Ok(questions)
+}
+
+/// The questions that a text asks over a network. The one form that is read today is
+/// `NAME reach from R to router R packets PROTO SRC SPORTS DST DPORTS failures 0` with a set of exactly one packet. A text
+/// is refused at its first line that says something else, names no router, repeats a name or is one question too many.
+pub fn read_questions(alloc: Global, bytes: &[u8], net: &Net) -> Result<List<Question>, Refused>
+    requires { length bytes.now < 2 ^ 32 }
+    ensures ok { IfOk result (λ questions. asking.asking net.now bytes.now ≡ Ok questions) }
+    ensures refused { IfErr result (λ refused. refused.cause ≢ Cause.Memory → asking.asking net.now bytes.now ≡ Err refused) }
+    ensures single { IfOk result (AreSingle (length net.now)) }
+    ensures few { IfOk result (λ questions. length questions ≤ asking.most_questions) }
+{
+    match lines_of(alloc, bytes) {
+        Err(_) => Err(MEMORY),
+        Ok(lines) => read_all(alloc, net, lines.as_slice()),
+    }
+}
