@@ -13,8 +13,8 @@ use Rattle.serde_json.specs.View.{items_of}
 use Rattle.serde_json.specs.Written.{has_float, items_have_float}
 use Rattle.cex_json.specs.declared.counterexample.Counterexample.{Counterexample}
 use Rattle.cex_json.specs.Parts.{packet_data, rib_data, entry_data, slots_from, hop_data, walk_data}
-use Rattle.cex_json.specs.Json.{text_of}
-use Rattle.cex_json.specs.Text.{counterexample_of, cex_data, question_name}
+use Rattle.cex_json.specs.Json.{object_of, text_of}
+use Rattle.cex_json.specs.Text.{fields_of, cex_data, question_name}
 
 packet_plain : (packet : Packet) → has_float (packet_data packet) ≡ false
 unfolding packet_data
@@ -49,7 +49,7 @@ pub cex_plain : (files : List File) (questions : List Question) (cex : Counterex
 unfolding cex_data
 cex_plain files questions cex = with_walk cex.walk where
   with_walk : (walk : Option Walk) →
-      has_float (counterexample_of (packet_data cex.packet) (text_of (question_name questions cex.question))
-      (slots_from files 0 cex.tables.slots) (option_map (walk_data files) walk)) ≡ false
+      has_float (object_of (fields_of (packet_data cex.packet) (text_of (question_name questions cex.question))
+      (slots_from files 0 cex.tables.slots) (option_map (walk_data files) walk))) ≡ false
   with_walk None = rw (packet_plain cex.packet, slots_plain files 0 cex.tables.slots)
   with_walk (Some walk) = rw (packet_plain cex.packet, slots_plain files 0 cex.tables.slots, walk_plain files walk)

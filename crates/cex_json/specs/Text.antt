@@ -15,8 +15,8 @@ question_name questions at = option_map_or (λ question. question.name) (slice_g
 
 -- the fields of a counterexample, by name. No line that is read today makes an external session, so there is no peer
 -- and no announcement; and no question that is read today allows a failed link
-abbrev pub counterexample_of : Data → Data → List Data → Option Data → Data
-counterexample_of packet question slots walk = object_of (
+abbrev pub fields_of : Data → Data → List Data → Option Data → List (List ℕ × Option Data)
+fields_of packet question slots walk =
     (codes "announcements", Some (array_of []))
     ∷ (codes "failures", Some (array_of []))
     ∷ (codes "format", Some (number_of 1))
@@ -25,13 +25,14 @@ counterexample_of packet question slots walk = object_of (
     ∷ (codes "question", Some question)
     ∷ (codes "tables", Some (array_of slots))
     ∷ (codes "walk", walk)
-    ∷ [])
+    ∷ []
 
 -- the JSON value of a counterexample to one of the questions over the files
 unfoldable pub cex_data : List File → List Question → Counterexample → Data
 cex_data files questions cex =
-    counterexample_of (packet_data cex.packet) (text_of (question_name questions cex.question))
-    (slots_from files 0 cex.tables.slots) (option_map (walk_data files) cex.walk)
+    object_of (
+    fields_of (packet_data cex.packet) (text_of (question_name questions cex.question)) (slots_from files 0 cex.tables.slots)
+    (option_map (walk_data files) cex.walk))
 
 -- its text, without blanks, the names of each object ascending
 abbrev pub cex_text : List File → List Question → Counterexample → List ℕ

@@ -1,7 +1,8 @@
 //! A counterexample and its text.
 
 ghost use Rattle.std.specs.Prelude.{◌≡◌, IfOk, map, option_map};
-ghost use Rattle.serde_json.specs.View.{view};
+ghost use Rattle.serde_json.specs.View.{view, members_view};
+ghost use Rattle.cex_json.specs.Json.{members_with, object_of};
 ghost use Rattle.cex_json.specs.Parts as parts;
 ghost use Rattle.cex_json.specs.Text as text;
 
@@ -13,7 +14,7 @@ use mw_text::List;
 use net_model::Net;
 use question_lang::{Question, Walk};
 use route_record::{Environment, Failures, Packet, Tables};
-use serde_json::{Value, json};
+use serde_json::{Map, Value, put};
 use std::alloc::{AllocError, Global};
 
 /// A packet and a stable routing that break a question: the number of the question, its packet, the failed links, what
@@ -50,7 +51,37 @@ fn walk_part(
     }
 }
 
-fn whole_value(
+fn fields_before_walk(
+    alloc: Global,
+    packet: Value,
+    question: Value,
+    slots: Vec<Value>,
+) -> Result<Map<String, Value>, AllocError>
+    ensures { IfOk result (λ fields. members_view fields.entries
+        ≡ members_with (text.fields_of (view packet) (view question) (map view slots.items) None)) }
+{
+    let mut fields = Map::new(alloc);
+    put(
+        &mut fields,
+        alloc,
+        "announcements",
+        Value::Array(Vec::new(alloc)),
+    )?;
+    put(
+        &mut fields,
+        alloc,
+        "failures",
+        Value::Array(Vec::new(alloc)),
+    )?;
+    put(&mut fields, alloc, "format", Value::from(1u8))?;
+    put(&mut fields, alloc, "packet", packet)?;
+    put(&mut fields, alloc, "peers", Value::Array(Vec::new(alloc)))?;
+    put(&mut fields, alloc, "question", question)?;
+    put(&mut fields, alloc, "tables", Value::Array(slots))?;
+    Ok(fields)
+}
+
+fn with_walk(
     alloc: Global,
     packet: Value,
     question: Value,
@@ -58,17 +89,15 @@ fn whole_value(
     walk: Option<Value>,
 ) -> Result<Value, AllocError>
     ensures { IfOk result (λ value. view value
-        ≡ text.counterexample_of (view packet) (view question) (map view slots.items) (option_map view walk)) }
+        ≡ object_of (text.fields_of (view packet) (view question) (map view slots.items) (option_map view walk))) }
 {
+    let mut fields = fields_before_walk(alloc, packet, question, slots)?;
     match walk {
-        None => json!(in alloc; {
-            "announcements": [], "failures": [], "format": 1u8, "packet": packet,
-            "peers": [], "question": question, "tables": slots
-        }),
-        Some(walk) => json!(in alloc; {
-            "announcements": [], "failures": [], "format": 1u8, "packet": packet,
-            "peers": [], "question": question, "tables": slots, "walk": walk
-        }),
+        None => Ok(Value::Object(fields)),
+        Some(walk) => {
+            put(&mut fields, alloc, "walk", walk)?;
+            Ok(Value::Object(fields))
+        }
     }
 }
 
@@ -85,7 +114,7 @@ fn cex_value(
     let question = text_value(alloc, question_name(questions, cex.question))?;
     let slots = slot_values(alloc, files, cex.tables.slots.as_slice())?;
     let walk = walk_part(alloc, files, &cex.walk)?;
-    whole_value(alloc, packet, question, slots, walk)
+    with_walk(alloc, packet, question, slots, walk)
 }
 
 /// The text of a counterexample to one of the questions: compact JSON, the names of each object ascending. A router,

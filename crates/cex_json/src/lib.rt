@@ -2,8 +2,8 @@
 #![tactic(auto)]
 
 pub mod counterexample;
-pub mod parts;
-pub mod tables;
-pub mod walks;
+mod parts;
+mod tables;
+mod walks;
 
 pub use counterexample::{Counterexample, write_cex};

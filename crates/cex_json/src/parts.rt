@@ -1,6 +1,6 @@
 //! The JSON values of addresses, names and packets.
 
-ghost use Rattle.std.specs.Prelude.{◌≡◌, IfOk, string_bytes};
+ghost use Rattle.std.specs.Prelude.{◌≡◌, IfOk, IsUtf8, string_bytes};
 ghost use Rattle.serde_json.specs.Data.{string};
 ghost use Rattle.serde_json.specs.View.{view};
 ghost use Rattle.cex_json.specs.Json.{text_of};
@@ -30,9 +30,10 @@ fn addr_value(alloc: Global, a: Addr) -> Result<Value, AllocError>
     Ok(Value::String(addr_string(alloc, a)?))
 }
 
-/// The text of a name; bytes in it that are no UTF-8 become U+FFFD.
+/// The text of a name. UTF-8, as all ASCII is, stays as it is; other bytes become U+FFFD.
 pub fn text_value(alloc: Global, bytes: &[u8]) -> Result<Value, AllocError>
-    ensures { IfOk result (λ value. view value ≡ text_of bytes.now) }
+    ensures value { IfOk result (λ value. view value ≡ text_of bytes.now) }
+    ensures kept { IfOk result (λ value. IsUtf8 bytes.now → view value ≡ string bytes.now) }
 {
     Ok(Value::String(String::from_utf8_lossy(alloc, bytes)?))
 }

@@ -11,20 +11,19 @@ use route_record::{RibEntry, RibSource, Slot};
 use serde_json::{Value, json};
 use std::alloc::{AllocError, Global};
 
-/// How many prefix lengths there are.
-pub const LENGTHS: usize = 33;
+// How many prefix lengths there are.
+const LENGTHS: usize = 33;
 
 fn source_value(alloc: Global, source: RibSource) -> Result<Value, AllocError>
     ensures { IfOk result (λ value. view value ≡ string (parts.source_text source)) }
 {
-    let text = match source {
-        RibSource::Connected => "connected",
-        RibSource::Static => "static",
-        RibSource::Ebgp => "ebgp",
-        RibSource::Ospf => "ospf",
-        RibSource::Ibgp => "ibgp",
-    };
-    Value::try_from_str(alloc, text)
+    match source {
+        RibSource::Connected => Value::try_from_str(alloc, "connected"),
+        RibSource::Static => Value::try_from_str(alloc, "static"),
+        RibSource::Ebgp => Value::try_from_str(alloc, "ebgp"),
+        RibSource::Ospf => Value::try_from_str(alloc, "ospf"),
+        RibSource::Ibgp => Value::try_from_str(alloc, "ibgp"),
+    }
 }
 
 #[tactic(auto, unfolding(crate::specs::Parts::rib_data))]

@@ -6,12 +6,12 @@ ghost use Rattle.cex_json.specs.Parts as parts;
 
 use crate::parts::{addr_string, iface_name, router_name, text_value};
 use ios_ast::File;
+use mw_text::Addr;
 use net_model::IfaceId;
 use question_lang::{End, Start, Walk};
 use serde_json::{Value, json};
 use std::alloc::{AllocError, Global};
 
-// A text of the files, as UTF-8.
 fn denied_in(alloc: Global, files: &[File], id: IfaceId) -> Result<String, AllocError>
     ensures { IfOk result (λ text. string_bytes text ≡ parts.end_text files.now (End.DeniedIn id)) }
 {
@@ -21,7 +21,7 @@ fn denied_in(alloc: Global, files: &[File], id: IfaceId) -> Result<String, Alloc
     format!(in alloc; "deniedin {router} {iface}")
 }
 
-fn left_at(alloc: Global, files: &[File], a: mw_text::Addr) -> Result<String, AllocError>
+fn left_at(alloc: Global, files: &[File], a: Addr) -> Result<String, AllocError>
     ensures { IfOk result (λ text. string_bytes text ≡ parts.end_text files.now (End.Left a)) }
 {
     let addr = addr_string(alloc, a)?;

@@ -1,0 +1,5 @@
+//! Tests of the text of a counterexample.
+#![tactic(auto)]
+
+#[cfg(test)]
+mod written;
