@@ -133,3 +133,7 @@ tells-among (Some other) name names only among = let P : List ℕ → Type 0 = �
 pub tells-more : (told : Option (List ℕ)) (name : List ℕ) (names : List (List ℕ)) → TellsAmong names told → TellsAmong (name ∷ names) told
 tells-more None name names among = tt
 tells-more (Some other) name names (k, within, is) = (suc k, omega arith, is)
+
+pub all_told : {A : Type 0} (told : Option A) (P : A → Type 0) → ((x : A) → P x) → IfSome told P
+all_told None P each = tt
+all_told (Some x) P each = each x

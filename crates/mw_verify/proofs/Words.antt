@@ -1,8 +1,8 @@
 -- The words of a command.
-use Rattle.std.proofs.Common.{◌≡◌, ℕ, zero, suc, ◌||◌, ◌+◌, ◌<◌, ◌≤◌, Bool, true, false, ◌&&◌, not, List, [], ◌∷◌, length, drop, get_or, refl, ap, map, sym, arith, ◌∙◌, nat_le}
+use Rattle.std.proofs.Common.{◌≡◌, ℕ, zero, suc, ◌||◌, ◌+◌, ◌<◌, ◌≤◌, Bool, true, false, ◌&&◌, not, List, [], ◌∷◌, length, drop, get_or, refl, ap, map, sym, arith, ◌∙◌, nat_le, le-leb}
 use Rattle.std.specs.List.{list_any}
 use Rattle.mw_text.specs.Text.{same_text}
-use Rattle.std.specs.Prelude.{codes, IfSome}
+use Rattle.std.specs.Prelude.{codes, Contains, IfSome}
 use Rattle.std.proofs.Common.{Option, Some, None, Result, cond, subst}
 use Rattle.mw_outside.specs.Taken.{part_of_none}
 use Rattle.ios_ast.specs.declared.file.File.{File}
@@ -13,7 +13,7 @@ use Rattle.mw_verify.specs.Due.{Outcome, usage, unread, refused, answering, due,
 use Rattle.mw_verify.specs.Loading.{AnswersSo}
 use Rattle.mw_verify.specs.Running.{Answers, PrintsPart, OnAnswered, OnCut}
 use Rattle.mw_verify.specs.Texts.{usage_text}
-use Rattle.mw_outside.specs.Contents.{Contents}
+use Rattle.mw_outside.specs.Contents.{Contents, TellsAmong}
 
 any-map : {A B : Type 0} (test : B → Bool) (f : A → B) (xs : List A) → list_any test (map f xs) ≡ list_any (λ x. test (f x)) xs
 any-map test f [] = refl
@@ -40,13 +40,34 @@ named_words f (y ∷ []) x contents some is = absurd (omega arith)
 named_words f (y ∷ z ∷ rest) x contents some is = ap (λ w. either (files_due contents (f w) (map f rest))) (sym is)
 
 -- what the files come to is due
-pub due_of : {A : Type 0} (f : A → List ℕ) (words : List A) (x : A) (told : Option Contents) (outcome : Outcome) (wanted : Result Outcome Outcome) →
+due_here : {A : Type 0} (f : A → List ℕ) (words : List A) (x : A) (told : Option Contents) (outcome : Outcome) (wanted : Result Outcome Outcome) →
     is_verify (map f words) ≡ true → 1 < length words → x ≡ get_or words 1 x → either wanted ≡ outcome →
     IfSome told (λ contents. files_due contents (f x) (map f (drop 2 words)) ≡ wanted) → IfSome told (λ contents. due contents (map f words) ≡ outcome)
-due_of f words x None outcome wanted is_command some is same said = tt
-due_of f words x (Some contents) outcome wanted is_command some is same said =
+due_here f words x None outcome wanted is_command some is same said = tt
+due_here f words x (Some contents) outcome wanted is_command some is same said =
     ap (λ b. cond b (named_due contents (map f words)) usage) is_command
     ∙ named_words f words x contents some is ∙ ap either said ∙ same
+
+pub due_of : {A : Type 0} (f : A → List ℕ) (words : List A) (x : A) (told : Option Contents) (outcome : Outcome) (wanted : Result Outcome Outcome)
+    (name : List ℕ) (names : List A) → is_verify (map f words) ≡ true → 1 < length words → x ≡ get_or words 1 x → either wanted ≡ outcome →
+    name ≡ f x → names ≡ drop 2 words → IfSome told (λ contents. files_due contents name (map f names) ≡ wanted) →
+    IfSome told (λ contents. due contents (map f words) ≡ outcome)
+due_of {A} f words x told outcome wanted name names is_command some is same is_name are_names said =
+    let T : List ℕ → Type 0 = λ q. IfSome told (λ contents. files_due contents q (map f names) ≡ wanted) in
+    let U : List A → Type 0 = λ ws. IfSome told (λ contents. files_due contents (f x) (map f ws) ≡ wanted) in
+    due_here f words x told outcome wanted is_command some is same (subst U are_names (subst T is_name said))
+
+-- a name among the words
+pub told_among : {A : Type 0} (f : A → List ℕ) (words : List A) (x : A) (told : Option (List ℕ)) (name : List ℕ) (names : List A) →
+    1 < length words → x ≡ get_or words 1 x → name ≡ f x → names ≡ drop 2 words → TellsAmong (name ∷ map f names) told → TellsAmong (map f words) told
+told_among f words x None name names some is is_name are_names among = tt
+told_among f [] x (Some other) name names some is is_name are_names among = absurd (omega arith)
+told_among f (y ∷ []) x (Some other) name names some is is_name are_names among = absurd (omega arith)
+told_among {A} f (y ∷ z ∷ rest) x (Some other) name names some is is_name are_names among =
+    let P : List ℕ → Type 0 = λ n. Contains (n ∷ map f names) other in
+    let Q : List A → Type 0 = λ ws. Contains (f z ∷ map f ws) other in
+    let there : Contains (f z ∷ map f rest) other = subst Q are_names (subst P (is_name ∙ ap f is) among) in
+    (suc there.0, omega (arith, there.1), there.2)
 
 -- a run of answers is one of what is due
 pub answered_from : (files : List File) (questions : List Question) (status : Status) (before now : Option (List ℕ)) (rose : Type 0) (outcome : Outcome) →
@@ -80,3 +101,16 @@ nothing_cut usage taken = (usage_text, refl, part_of_none taken usage_text)
 nothing_cut unread taken = ([], refl, part_of_none taken [])
 nothing_cut (refused line) taken = (line, refl, part_of_none taken line)
 nothing_cut (answering files questions) taken = ([], (0, false, (refl, refl)), part_of_none taken [])
+
+-- words that begin with the command, of which there are enough
+pub verify_here : {A : Type 0} (f : A → List ℕ) (words names : List A) (x : A) (command option : Bool) → 0 < length words → x ≡ get_or words 0 x →
+    names ≡ drop 1 words → command ≡ same_text (f x) (codes "verify") → command ≡ true → 2 ≤ length names →
+    option ≡ list_any (λ w. is_option (f w)) names → not option ≡ is_verify (map f words)
+verify_here {A} f words names x command option some is are_names is_command commanded enough is_some =
+    let long : nat_le 2 (length names) ≡ true = le-leb 2 (length names) enough in
+    let P : List A → Type 0 = λ ns. not option ≡ (same_text (f x) (codes "verify") && (nat_le 2 (length ns) && not (list_any (λ w. is_option (f w)) ns))) in
+    let here : P names =
+    ap not is_some
+    ∙ ap (λ b. b && not (list_any (λ w. is_option (f w)) names)) (sym long)
+    ∙ ap (λ b. b && (nat_le 2 (length names) && not (list_any (λ w. is_option (f w)) names))) (sym commanded ∙ is_command) in
+    subst P are_names here ∙ sym (verify_words f words x some is)

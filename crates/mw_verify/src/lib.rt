@@ -3,6 +3,9 @@
 
 pub mod answer;
 pub mod load;
-pub mod run;
+pub mod running;
 pub mod status;
 pub mod text;
+
+pub use running::run;
+pub use status::Status;

@@ -1,7 +1,7 @@
 use Rattle.std.proofs.Common.{◌≡◌, ℕ, ◌+◌, ◌||◌, Bool, List, Option, arith, subst, sym}
 use Rattle.mw_outside.specs.Taken.{Takes, TakesPart}
 use Rattle.mw_verify.proofs.Answering.{PutSoFar, put-more, put-cut}
-use Rattle.mw_verify.proofs.run.put_verdicts.Goals as goal
+use Rattle.mw_verify.proofs.running.put_verdicts.Goals as goal
 
 pub returns-in-Err-write : goal.returns-in-Err-write
 returns-in-Err-write g c =

@@ -68,7 +68,6 @@ fn is_command(word: &String) -> bool
 }
 
 // Whether the words are `verify QUESTIONS CONFIG...`.
-#[tactic(auto, using(crate::proofs::Words::verify_words))]
 fn is_verify(words: &[String]) -> bool
     ensures value { result ≡ due.is_verify (map string_bytes words.now) }
     ensures long { result ≡ true → 3 ≤ length words.now }

@@ -1,6 +1,6 @@
 use Rattle.std.proofs.Common.{◌≤◌}
 use Rattle.mw_verify.proofs.Answering.{PutSoFar}
-use Rattle.mw_verify.proofs.run.put_verdicts.Given as goal
+use Rattle.mw_verify.proofs.running.put_verdicts.Given as goal
 
 -- a right verdict for each question so far is put, and no count fell
 abbrev pub invariant-loop-at : goal.invariant-loop-at
