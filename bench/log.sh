@@ -1,6 +1,6 @@
 #!/bin/sh
 # Times the checker on logs of additions with chains of ten, of which some stay held: on entries, and on
-# lines of text. Proves and builds the program bench/log/main.rt in a temporary folder, and prints for each
+# lines of text. Proves and builds the program bench/log/main.rt.in in a temporary folder, and prints for each
 # run the additions, how many are held at most, the seconds, and the peak of memory. Needs rt and GNU time.
 set -e
 top=$(cd "$(dirname "$0")/.." && pwd)
@@ -15,7 +15,7 @@ for crate in mw_text resolution_check; do
     done
 done
 mkdir "$work/crates/bench_log/src"
-cp "$top/bench/log/main.rt" "$work/crates/bench_log/src/"
+cp "$top/bench/log/main.rt.in" "$work/crates/bench_log/src/main.rt"
 echo '0 additions accepted' > "$work/crates/bench_log/stdout"
 cp "$top/HANDLES" "$work/"
 printf 'mw_text: bstr\nresolution_check: mw_text\nbench_log: mw_text resolution_check\n' > "$work/crates.txt"
