@@ -14,7 +14,7 @@ cd "$work"
 # lead there too, up to about so many bytes.
 router() {
     awk -v me="$1" -v last="$2" -v size="$3" 'BEGIN {
-        line = "hostname R" me; bytes = length(line) + 1; print line;
+        line = "hostname Hop" me; bytes = length(line) + 1; print line;
         if (me > 1) add("interface Ethernet0\n ip address 10.0." (me - 1) ".2 255.255.255.252");
         if (me < last) add("interface Ethernet1\n ip address 10.0." me ".1 255.255.255.252");
         if (me == last) add("interface Loopback0\n ip address 10.9.0.1 255.255.255.255");
@@ -35,7 +35,7 @@ timed() {
     /usr/bin/time -f '%e s, %M KiB' "$program" verify questions "$@"
 }
 
-echo 'q1 reach from R1 to router R2 packets icmp 10.0.1.1/32 any 10.9.0.1/32 any failures 0' > questions
+echo 'q1 reach from Hop1 to router Hop2 packets icmp 10.0.1.1/32 any 10.9.0.1/32 any failures 0' > questions
 router 1 2 1048576 > first
 router 2 2 100 > second
 timed "$(wc -c < first) bytes, $(wc -l < first) lines" first second
@@ -46,6 +46,6 @@ for size in 8192 16384 32768; do
         router "$me" 32 "$size" > "r$me"
         names="$names r$me"
     done
-    echo 'q1 reach from R1 to router R32 packets icmp 10.0.1.1/32 any 10.9.0.1/32 any failures 0' > questions
+    echo 'q1 reach from Hop1 to router Hop32 packets icmp 10.0.1.1/32 any 10.9.0.1/32 any failures 0' > questions
     timed "32 files of $size bytes" $names
 done
