@@ -3,6 +3,7 @@
 #![tactic(auto)]
 
 mod gates;
+pub mod laws;
 mod lists;
 mod marks;
 
