@@ -1,0 +1,2 @@
+pub mod Cnf
+pub mod Laws

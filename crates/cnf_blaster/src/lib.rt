@@ -1,0 +1,66 @@
+//! The clauses of terms: a variable for each node that a root reaches, clauses that tie it to its operands' variables,
+//! and a clause for each root.
+#![tactic(auto)]
+
+mod gates;
+pub mod laws;
+mod lists;
+mod marks;
+
+ghost use Rattle.std.specs.Prelude.{◌≡◌, IfOk, length};
+ghost use Rattle.cnf_blaster.specs.Cnf.{clauses_by, clauses_of, members, nodes_of};
+ghost use Rattle.cnf_blaster.specs.Laws.{marked, AreBelow};
+ghost use Rattle.term_store.specs.Terms.{size};
+
+use crate::gates::{put_nodes, put_roots};
+use crate::marks::{number_marked, reached_marks};
+use mw_text::List;
+use resolution_check::Clause;
+use std::alloc::{AllocError, Global};
+use term_store::{NodeId, Terms};
+
+/// Clauses over variables that are numbered from 0.
+#[derive(Debug, Drop)]
+pub struct Cnf {
+    /// How many variables there are.
+    pub vars: u64,
+    pub clauses: List<Clause>,
+    /// The node of each variable.
+    pub node_of: List<NodeId>,
+}
+
+/// The clauses of the marked nodes and the roots.
+fn clauses_from(
+    alloc: Global,
+    terms: &Terms,
+    roots: &[NodeId],
+    marks: &[bool],
+) -> Result<Cnf, AllocError>
+    requires roots { AreBelow (size terms.now) roots.now }
+    requires marks { length marks.now ≡ size terms.now }
+    ensures clauses { IfOk result (λ cnf. cnf.clauses ≡ clauses_by (marked marks.now) terms.now.nodes roots.now) }
+    ensures nodes { IfOk result (λ cnf. cnf.node_of ≡ members (marked marks.now) (size terms.now)) }
+    ensures vars { IfOk result (λ cnf. cnf.vars ≡ length cnf.node_of) }
+{
+    let numbering = number_marked(alloc, marks)?;
+    let numbers = numbering.numbers.as_slice();
+    let mut clauses = List::new(alloc);
+    put_nodes(alloc, &mut clauses, terms, marks, numbers)?;
+    put_roots(alloc, &mut clauses, roots, numbers)?;
+    Ok(Cnf {
+        vars: numbering.node_of.as_slice().len() as u64,
+        clauses,
+        node_of: numbering.node_of,
+    })
+}
+
+/// The clauses of the terms that the roots reach.
+pub fn blast(alloc: Global, terms: &Terms, roots: &[NodeId]) -> Result<Cnf, AllocError>
+    requires { AreBelow (size terms.now) roots.now }
+    ensures clauses { IfOk result (λ cnf. cnf.clauses ≡ clauses_of terms.now.nodes roots.now) }
+    ensures nodes { IfOk result (λ cnf. cnf.node_of ≡ nodes_of terms.now.nodes roots.now) }
+    ensures vars { IfOk result (λ cnf. cnf.vars ≡ length cnf.node_of) }
+{
+    let marks = reached_marks(alloc, terms, roots)?;
+    clauses_from(alloc, terms, roots, marks.as_slice())
+}

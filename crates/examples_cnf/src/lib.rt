@@ -1,0 +1,5 @@
+//! Tests of the clauses of terms.
+#![tactic(auto)]
+
+#[cfg(test)]
+mod gates;
