@@ -57,17 +57,16 @@ due_of {A} f words x told outcome wanted name names is_command some is same is_n
     let U : List A → Type 0 = λ ws. IfSome told (λ contents. files_due contents (f x) (map f ws) ≡ wanted) in
     due_here f words x told outcome wanted is_command some is same (subst U are_names (subst T is_name said))
 
--- a name among the words
+-- a name among the words after the first
 pub told_among : {A : Type 0} (f : A → List ℕ) (words : List A) (x : A) (told : Option (List ℕ)) (name : List ℕ) (names : List A) →
-    1 < length words → x ≡ get_or words 1 x → name ≡ f x → names ≡ drop 2 words → TellsAmong (name ∷ map f names) told → TellsAmong (map f words) told
+    1 < length words → x ≡ get_or words 1 x → name ≡ f x → names ≡ drop 2 words → TellsAmong (name ∷ map f names) told → TellsAmong (drop 1 (map f words)) told
 told_among f words x None name names some is is_name are_names among = tt
 told_among f [] x (Some other) name names some is is_name are_names among = absurd (omega arith)
 told_among f (y ∷ []) x (Some other) name names some is is_name are_names among = absurd (omega arith)
 told_among {A} f (y ∷ z ∷ rest) x (Some other) name names some is is_name are_names among =
     let P : List ℕ → Type 0 = λ n. Contains (n ∷ map f names) other in
     let Q : List A → Type 0 = λ ws. Contains (f z ∷ map f ws) other in
-    let there : Contains (f z ∷ map f rest) other = subst Q are_names (subst P (is_name ∙ ap f is) among) in
-    (suc there.0, omega (arith, there.1), there.2)
+    subst Q are_names (subst P (is_name ∙ ap f is) among)
 
 -- a run of answers is one of what is due
 pub answered_from : (files : List File) (questions : List Question) (status : Status) (before now : Option (List ℕ)) (rose : Type 0) (outcome : Outcome) →

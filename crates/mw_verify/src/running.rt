@@ -1,6 +1,6 @@
 //! The whole run of the program.
 
-ghost use Rattle.std.specs.Prelude.{◌≡◌, ◌≢◌, ◌≤◌, ◌⊎◌, ◌||◌, ℕ, List, true, false, IfSome, length, map, string_bytes, codes};
+ghost use Rattle.std.specs.Prelude.{◌≡◌, ◌≢◌, ◌≤◌, ◌⊎◌, ◌||◌, ℕ, List, true, false, IfSome, length, map, drop, string_bytes, codes};
 ghost use Rattle.std.specs.List.{list_any};
 ghost use Rattle.mw_text.specs.Text.{same_text};
 ghost use Rattle.mw_outside.specs.Faults.{Rose};
@@ -103,7 +103,7 @@ pub fn run<F: Files, O: Sink, L: Sink>(
 
     // With 5 a read of a file that the words name failed in this call, and nothing is printed.
     ensures read_fault { result ≡ Status.ReadFault → Rose (F.faults files.old) (F.faults files.new)
-        × TellsAmong (map string_bytes words.now) (F.last_failed files.new) × (O.taken out.new ≡ O.taken out.old) }
+        × TellsAmong (drop 1 (map string_bytes words.now)) (F.last_failed files.new) × (O.taken out.new ≡ O.taken out.old) }
 
     // With 6 a write failed in this call.
     ensures write_fault { result ≡ Status.WriteFault → Rose (O.faults out.old) (O.faults out.new) }
