@@ -1,2 +1,3 @@
 pub mod Cnf
 pub mod Laws
+pub mod Proper

@@ -17,6 +17,9 @@ pub struct File {
     pub policies: Policies,
 }
 
+/// How many interfaces a router has at most.
+pub const MOST_INTERFACES: usize = 64;
+
 /// An interface. The bandwidth is in kilobits a second.
 #[derive(Drop)]
 pub struct Iface {

@@ -7,6 +7,7 @@ use Rattle.mw_text.specs.declared.address.Prefix.{Prefix}
 use Rattle.mw_text.specs.declared.words.Line.{Line}
 use Rattle.mw_text.specs.Text.{same_text}
 use Rattle.mw_text.specs.Words.{text_lines}
+use Rattle.ios_ast.specs.Limits.{most_interfaces}
 use Rattle.ios_ast.specs.declared.file.File.{File}
 use Rattle.ios_ast.specs.declared.file.IfAddr.{IfAddr}
 use Rattle.ios_ast.specs.declared.file.Iface.{Iface}
@@ -19,12 +20,9 @@ use Rattle.ios_reader.specs.declared.statement.Statement.{Statement}
 use Rattle.ios_reader.specs.declared.statement.Statement.TheVariants.{Skipped, Hostname, Interface, Address, Route, Other}
 use Rattle.ios_reader.specs.Statements.{statement_of}
 
--- how many lines and interfaces a file has at most
+-- how many lines a file has at most
 abbrev pub most_lines : ℕ
 most_lines = 20000
-
-abbrev pub most_interfaces : ℕ
-most_interfaces = 64
 
 -- nothing is read yet
 abbrev pub empty_draft : Draft

@@ -6,15 +6,12 @@ ghost use Rattle.mw_text.specs.Text.{same_text};
 ghost use Rattle.ios_reader.specs.Reading.{empty_draft, new_interface, with_hostname, with_interface, address_last, with_address, with_route, with_statement, with_line};
 
 use crate::statement::{Statement, read_statement};
-use ios_ast::{File, IfAddr, Iface, Policies, StaticRoute, Via};
+use ios_ast::{File, IfAddr, Iface, MOST_INTERFACES, Policies, StaticRoute, Via};
 use mw_text::{Addr, Line, List, Prefix, same_bytes};
 use std::alloc::{AllocError, Global};
 
 /// How many lines a file has at most.
 pub const MOST_LINES: u32 = 20_000;
-
-/// How many interfaces a file has at most.
-pub const MOST_INTERFACES: usize = 64;
 
 /// The file of the lines so far, and whether the block of its last interface is open.
 #[derive(Drop)]

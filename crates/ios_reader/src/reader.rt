@@ -1,7 +1,7 @@
 //! Reads a configuration file.
 
 ghost use Rattle.std.specs.Prelude.{◌≡◌, ◌≢◌, ◌≤◌, ◌<◌, ◌^◌, IfOk, IfErr, Ok, Err, length};
-ghost use Rattle.ios_reader.specs.Reading.{reading, read_lines, most_interfaces, empty_draft, finished, with_line, not_built};
+ghost use Rattle.ios_reader.specs.Reading.{reading, read_lines, empty_draft, finished, with_line, not_built};
 
 use crate::draft::{Draft, new_draft, take_line};
 use crate::refused::{Cause, Refused};

@@ -6,6 +6,7 @@ use Rattle.mw_text.specs.declared.address.Addr.{Addr}
 use Rattle.mw_text.specs.declared.address.Prefix.{Prefix}
 use Rattle.mw_text.specs.Address.{covers, prefix_at, same_prefix}
 use Rattle.mw_text.specs.Text.{same_text}
+use Rattle.ios_ast.specs.Limits.{most_interfaces}
 use Rattle.ios_ast.specs.declared.file.File.{File}
 use Rattle.ios_ast.specs.declared.file.Iface.{Iface}
 use Rattle.ios_ast.specs.declared.file.StaticRoute.{StaticRoute}
@@ -49,12 +50,9 @@ is_connected interfaces route = leads route.via where
 abbrev pub statics_connected : File → Bool
 statics_connected file = list_all (is_connected file.interfaces) file.statics
 
--- how many routers a network has at most, and interfaces a router
+-- how many routers a network has at most
 abbrev pub most_routers : ℕ
 most_routers = 32
-
-abbrev pub most_interfaces : ℕ
-most_interfaces = 64
 
 -- there are not too many routers, nor interfaces of one router
 abbrev pub is_small : List File → Bool

@@ -2,7 +2,8 @@
 
 ghost use Rattle.std.specs.Prelude.{◌≡◌, ◌≤◌, ◌++◌, IfOk, true, OnOk, length};
 ghost use Rattle.net_model.specs.Interfaces.{is_loopback, addressed_iface, addressed_from, addressed};
-ghost use Rattle.net_model.specs.Network.{most_interfaces, is_small};
+ghost use Rattle.net_model.specs.Network.{is_small};
+ghost use Rattle.ios_ast.specs.Limits.{most_interfaces};
 
 use ios_ast::{File, IfAddr, Iface};
 use mw_text::{Addr, List, Prefix, prefix_of};

@@ -3,20 +3,18 @@
 ghost use Rattle.std.specs.Prelude.{◌≡◌, ◌≤◌, nat_le, IfOk, MatchOption, IfSome, ◌<◌, IsTrue, position, true, false, length, ◌&&◌};
 ghost use Rattle.std.specs.List.{list_all, list_any};
 ghost use Rattle.mw_text.specs.Text.{same_text};
-ghost use Rattle.net_model.specs.Network.{names_differ, all_pairs, overlap, fit_together, reaches, is_connected, statics_connected, is_small, is_network, most_interfaces, most_routers};
+ghost use Rattle.net_model.specs.Network.{names_differ, all_pairs, overlap, fit_together, reaches, is_connected, statics_connected, is_small, is_network, most_routers};
+ghost use Rattle.ios_ast.specs.Limits.{most_interfaces};
 ghost use Rattle.net_model.specs.Interfaces.{addressed};
 
 use crate::interfaces::{Addressed, addressed_of};
-use ios_ast::{File, Iface, StaticRoute, Via};
+use ios_ast::{File, Iface, MOST_INTERFACES, StaticRoute, Via};
 use mw_text::{Addr, List, Prefix, contains, prefix_of, same_bytes};
 use std::alloc::{AllocError, Global};
 use std::marker::Model;
 
 /// How many routers a network has at most.
 pub const MOST_ROUTERS: usize = 32;
-
-/// How many interfaces a router has at most.
-pub const MOST_INTERFACES: usize = 64;
 
 /// A network. Contracts see the list of its files; all else that a network has follows from these.
 #[derive(Drop)]

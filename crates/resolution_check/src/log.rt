@@ -4,7 +4,7 @@ use mw_text::List;
 use std::alloc::{AllocError, AllocFailed};
 
 /// A literal: a variable, or its negation.
-#[derive(Clone, Copy, Debug, PartialEq, Eq)]
+#[derive(Clone, Copy, Debug, Default, PartialEq, Eq)]
 pub struct Lit {
     /// The variable's number, from 0 on.
     pub var: u64,
