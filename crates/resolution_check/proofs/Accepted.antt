@@ -65,7 +65,7 @@ held_push es (Add own clause chain) id g s = gives_new (own == id) (is_deleted e
 held_push es (Delete own) id g s = takes_off (own == id) (is_deleted es id) (clause_given es id) ∙ sym (held_more es (Delete own) id)
 held_push es End id g s = or_none (is_deleted es id) (clause_given es id) ∙ sym (held_more es End id)
 
-count-push : (es : List Entry) (e : Entry) → addition_count (es ++ e ∷ []) ≡ addition_count es + additions_in e
+pub count-push : (es : List Entry) (e : Entry) → addition_count (es ++ e ∷ []) ≡ addition_count es + additions_in e
 count-push es e = grind (arith, common_steps)
 
 -- the checker that has read es and accepts e has read both

@@ -1,6 +1,6 @@
 -- The text of an entry: its line in the log, without the line feed.
 use Rattle.std.specs.Prelude.{ℕ, ◌+◌, ◌^◌, ◌<◌, ◌≤◌, if◌then◌else◌, ⊤, List, [], ◌∷◌, ◌++◌, map, codes}
-use Rattle.std.specs.List.{AllByRecursion, join_with_byte}
+use Rattle.std.specs.List.{AllByRecursion, flat_map, join_with_byte}
 use Rattle.std.specs.Fmt.{decimal}
 use Rattle.resolution_check.specs.declared.log.Lit.{Lit}
 use Rattle.resolution_check.specs.declared.log.Entry.{Entry}
@@ -44,3 +44,12 @@ HasText End = ⊤
 -- a word behind a space
 abbrev pub after_space : List ℕ → List ℕ
 after_space word = 32 ∷ word
+
+-- ---- the lines of a log
+
+-- an entry's line, ended by a line feed
+abbrev pub line_of : Entry → List ℕ
+line_of e = text_of e ++ 10 ∷ []
+
+abbrev pub log_text : List Entry → List ℕ
+log_text es = flat_map line_of es

@@ -13,7 +13,7 @@ pub struct Lit {
 }
 
 /// A clause: true where one of its literals is. Their order and repetitions mean nothing.
-#[derive(Debug, Drop)]
+#[derive(Clone, Debug, Drop)]
 pub struct Clause {
     pub lits: List<Lit>,
 }

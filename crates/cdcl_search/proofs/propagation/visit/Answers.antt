@@ -1,0 +1,12 @@
+use Rattle.std.proofs.Common.{subst, ◌<◌}
+use Rattle.cdcl_search.proofs.Trails.{below_at, forced_by, goes_same, goes_push}
+use Rattle.cdcl_search.proofs.propagation.visit.Goals as goal
+
+pub push-requires-clause-below : goal.push-requires-clause-below
+push-requires-clause-below c = subst (λ n. c.in-Forces.lit.var < n) c.requires.vars (below_at c.args.book.now.vars c.lits.result.now c.in-Forces.lit c.lits.ensures.below c.in-Forces.ensures.inside)
+
+pub returns-in_err-push-in-Forces-clause-goes : goal.returns-in_err-push-in-Forces-clause-goes
+returns-in_err-push-in-Forces-clause-goes c = goes_same c.args.book.now.clauses c.args.trail.now c.push.new.self c.in_err-push-in-Forces.ensures.unchanged c.push.ensures.vars
+
+pub returns-in_ok-push-in-Forces-clause-goes : goal.returns-in_ok-push-in-Forces-clause-goes
+returns-in_ok-push-in-Forces-clause-goes c = goes_push c.args.book.now.clauses c.args.trail.now c.push.new.self _ c.in_ok-push-in-Forces.ensures.ok c.push.ensures.vars (forced_by c.args.book.now.clauses c.args.trail.now.steps c.lits.result.now c.in-Forces.lit c.args.place c.lits.ensures.there c.in-Forces.ensures)

@@ -1,0 +1,5 @@
+use Rattle.cdcl_search.specs.Trails.{Goes}
+use Rattle.cdcl_search.proofs.propagation.visit_each.Given as goal
+
+abbrev pub invariant-loop-place : goal.invariant-loop-place
+invariant-loop-place l = Goes l.book.clauses l.fn.trail l.trail

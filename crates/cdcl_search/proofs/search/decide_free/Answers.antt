@@ -1,0 +1,18 @@
+use Rattle.std.proofs.Common.{◌≡◌, ◌∙◌, ap, true, None, is_some}
+use Rattle.cdcl_search.specs.declared.trail.Step.{Step}
+use Rattle.cdcl_search.specs.Trails.{value_of}
+use Rattle.cdcl_search.proofs.Trails.{goes_then, goes_push, value_of-last}
+use Rattle.cdcl_search.proofs.Values.{if_ok_any}
+use Rattle.cdcl_search.proofs.search.decide_free.Goals as goal
+
+pub returns-clause-goes : goal.returns-clause-goes
+returns-clause-goes c =
+    let step : Step = record { lit = record { var = c.args.var; negated = true }; reason = None } in
+    goes_then c.args.book.now.clauses c.args.trail.now c.push.new.self c.propagate.new.trail
+    (goes_push c.args.book.now.clauses c.args.trail.now c.push.new.self step c.in_ok-push.ensures.ok c.push.ensures.vars tt) c.propagate.ensures.goes
+
+pub returns-clause-value : goal.returns-clause-value
+returns-clause-value c =
+    let step : Step = record { lit = record { var = c.args.var; negated = true }; reason = None } in
+    let decided : is_some (value_of c.push.new.self.steps c.args.var) ≡ true = ap (λ ss. is_some (value_of ss c.args.var)) c.in_ok-push.ensures.ok ∙ ap is_some (value_of-last c.args.trail.now.steps step c.requires.free) in
+    if_ok_any c.propagate.result (c.propagate.ensures.goes.keeps c.args.var decided)

@@ -1,0 +1,93 @@
+-- Trails: which literals were made true, in their order, and by which clauses.
+use Rattle.std.specs.Prelude.{◌≡◌, ◌⊎◌, ℕ, ◌<◌, ◌==◌, Bool, true, false, not, if◌then◌else◌, List, [], ◌∷◌, length, take, Option, Some, None, is_some, slice_get}
+use Rattle.resolution_check.specs.declared.log.Clause.{Clause}
+use Rattle.resolution_check.specs.Clauses.{has}
+use Rattle.std.specs.Bool.{beq}
+use Rattle.std.specs.List.{list_any, list_all}
+use Rattle.resolution_check.specs.declared.log.Lit.{Lit}
+use Rattle.cdcl_search.specs.declared.trail.Step.{Step}
+
+-- the value of a variable after these steps, if it has one
+abbrev pub value_of : List Step → ℕ → Option Bool
+value_of [] var = None
+value_of (s ∷ ss) var = if s.lit.var == var then Some (not s.lit.negated) else value_of ss var
+
+-- what contracts see of a trail: its steps, and how many variables there are
+pub record Assigned : Type 0 where
+  pub steps : List Step
+  pub vars : ℕ
+
+-- each variable has the value that the steps give it, and none had one before its step
+pub record IsSound (steps : List Step) (values : List (Option Bool)) : Type 0 where
+  pub same : (var : ℕ) → var < length values → slice_get values var ≡ Some (value_of steps var)
+  pub below : (i : ℕ) (s : Step) → slice_get steps i ≡ Some s → s.lit.var < length values
+  pub fresh : (i : ℕ) (s : Step) → slice_get steps i ≡ Some s → value_of (take i steps) s.lit.var ≡ None
+
+-- ---- literals under a trail
+
+-- whether the variable has this value
+abbrev pub is_value : Option Bool → Bool → Bool
+is_value None b = false
+is_value (Some a) b = beq a b
+
+-- whether the literal is true, and whether it is false
+abbrev pub holds : List Step → Lit → Bool
+holds steps l = is_value (value_of steps l.var) (not l.negated)
+
+abbrev pub fails : List Step → Lit → Bool
+fails steps l = is_value (value_of steps l.var) l.negated
+
+-- each literal of the clause is false
+abbrev pub AllFail : List Step → List Lit → Type 0
+AllFail steps c = (l : Lit) → has c l ≡ true → fails steps l ≡ true
+
+-- each literal of the clause but this one is false
+abbrev pub OthersFail : List Step → List Lit → Lit → Type 0
+OthersFail steps c l = (k : Lit) → has c k ≡ true → (k ≡ l) ⊎ (fails steps k ≡ true)
+
+-- this literal of the clause has no value, and all others are false
+pub record IsForced (steps : List Step) (c : List Lit) (l : Lit) : Type 0 where
+  pub inside : has c l ≡ true
+  pub free : value_of steps l.var ≡ None
+  pub others : OthersFail steps c l
+
+-- ---- why the literals are true
+
+-- the clause at this place holds the literal, and all its other literals were false before
+pub record IsForcedBy (clauses : List Clause) (before : List Step) (l : Lit) (place : ℕ) : Type 0 where
+  pub clause : Clause
+  pub there : slice_get clauses place ≡ Some clause
+  pub inside : has clause.lits l ≡ true
+  pub others : OthersFail before clause.lits l
+
+abbrev pub HasReason : List Clause → List Step → Lit → Option ℕ → Type 0
+HasReason clauses before l None = Unit {0}
+HasReason clauses before l (Some place) = IsForcedBy clauses before l place
+
+-- each step but a decision is forced by its clause
+unfoldable pub Follows : List Clause → List Step → Type 0
+Follows clauses steps = (i : ℕ) (s : Step) → slice_get steps i ≡ Some s → HasReason clauses (take i steps) s.lit s.reason
+
+-- the clause at this place is false
+pub record IsFalseAt (clauses : List Clause) (steps : List Step) (place : ℕ) : Type 0 where
+  pub clause : Clause
+  pub there : slice_get clauses place ≡ Some clause
+  pub false_all : AllFail steps clause.lits
+
+-- a variable that had a value has one
+abbrev pub Keeps : List Step → List Step → Type 0
+Keeps old new = (var : ℕ) → is_some (value_of old var) ≡ true → is_some (value_of new var) ≡ true
+
+-- The later trail follows from the clauses where the earlier one does; no variable lost its value.
+pub record Goes (clauses : List Clause) (old new : Assigned) : Type 0 where
+  pub follows : Follows clauses old.steps → Follows clauses new.steps
+  pub keeps : Keeps old.steps new.steps
+  pub vars : new.vars ≡ old.vars
+
+-- each variable has a value
+abbrev pub IsTotal : ℕ → List Step → Type 0
+IsTotal vars steps = (var : ℕ) → var < vars → is_some (value_of steps var) ≡ true
+
+-- a literal of each clause is true
+abbrev pub all_hold : List Step → List Clause → Bool
+all_hold steps clauses = list_all (λ c. list_any (holds steps) c.lits) clauses

@@ -1,0 +1,108 @@
+//! The log of a search: one line for each entry.
+
+ghost use Rattle.std.specs.Prelude.{◌≡◌, ◌+◌, ◌<◌, ◌≤◌, ◌^◌, ◌∷◌, [], ◌++◌, true, IfOk, OnOk, length};
+ghost use Rattle.std.specs.List.{list_all};
+ghost use Rattle.mw_outside.specs.Faults.{Rose};
+ghost use Rattle.mw_outside.specs.Taken.{Takes, TakesPart};
+ghost use Rattle.resolution_check.specs.Text.{text_of, line_of, log_text, HasText};
+ghost use Rattle.cdcl_search.specs.Books.{is_below};
+ghost use Rattle.cdcl_search.specs.Learning.{are_numbers};
+ghost use Rattle.cdcl_search.specs.Outcomes.{OnLogFault, input_entries};
+
+use crate::book::copy_of;
+use crate::learning::Lesson;
+use crate::outcome::SolveFault;
+use mw_outside::Sink;
+use mw_text::List;
+use resolution_check::{Clause, Entry, write_entry};
+use std::alloc::{AllocError, Global};
+
+/// The line of an entry.
+fn line_text(alloc: Global, entry: &Entry) -> Result<List<u8>, AllocError>
+    requires { HasText entry.now }
+    ensures { IfOk result (λ line. line ≡ line_of entry.now) }
+{
+    let mut line = write_entry(alloc, entry)?;
+    line.items.push(b'\n')?;
+    Ok(line)
+}
+
+/// Writes the line of an entry.
+#[tactic(auto, using(mw_outside::specs::Taken::parts))]
+fn write_line<L: Sink>(alloc: Global, log: &mut L, entry: &Entry) -> Result<(), SolveFault>
+    requires { HasText entry.now }
+    ensures takes { OnOk result (Takes (L.taken log.old) (L.taken log.new) (line_of entry.now)) }
+    ensures part { TakesPart (L.taken log.old) (L.taken log.new) (line_of entry.now) }
+    ensures fault { OnLogFault result (Rose (L.faults log.old) (L.faults log.new)) }
+    ensures later { L.faults log.old ≤ L.faults log.new }
+{
+    let line = line_text(alloc, entry)?;
+    match log.write(line.as_slice()) {
+        Ok(()) => Ok(()),
+        Err(_) => Err(SolveFault::LogFault),
+    }
+}
+
+/// Writes a clause as the input of this number.
+#[tactic(auto, using(mw_outside::specs::Taken::parts))]
+fn write_input<L: Sink>(
+    alloc: Global,
+    log: &mut L,
+    id: u64,
+    clause: &Clause,
+) -> Result<(), SolveFault>
+    requires { HasText (Entry.Input id clause.now) }
+    ensures takes { OnOk result (Takes (L.taken log.old) (L.taken log.new) (line_of (Entry.Input id clause.now))) }
+    ensures part { TakesPart (L.taken log.old) (L.taken log.new) (line_of (Entry.Input id clause.now)) }
+    ensures fault { OnLogFault result (Rose (L.faults log.old) (L.faults log.new)) }
+    ensures later { L.faults log.old ≤ L.faults log.new }
+{
+    let entry = Entry::Input {
+        id,
+        clause: copy_of(clause)?,
+    };
+    write_line(alloc, log, &entry)
+}
+
+/// Writes the clauses as inputs, numbered from 1.
+pub(crate) fn write_inputs<L: Sink>(
+    alloc: Global,
+    log: &mut L,
+    clauses: &[Clause],
+) -> Result<(), SolveFault>
+    requires small { list_all (λ c. is_below (2 ^ 63) c.lits) clauses.now ≡ true }
+    requires few { length clauses.now ≤ 2 ^ 63 }
+    ensures takes { OnOk result (Takes (L.taken log.old) (L.taken log.new) (log_text (input_entries 1 clauses.now))) }
+    ensures part { TakesPart (L.taken log.old) (L.taken log.new) (log_text (input_entries 1 clauses.now)) }
+    ensures fault { OnLogFault result (Rose (L.faults log.old) (L.faults log.new)) }
+    ensures later { L.faults log.old ≤ L.faults log.new }
+{
+    for (at, clause) in clauses.iter().enumerate() {
+        write_input(alloc, log, at as u64 + 1, clause)?;
+    }
+    Ok(())
+}
+
+/// Writes the addition of a learnt clause under this number, and answers the clause.
+#[tactic(auto, using(mw_outside::specs::Taken::parts))]
+pub(crate) fn write_lesson<L: Sink>(
+    alloc: Global,
+    log: &mut L,
+    id: u64,
+    lesson: Lesson,
+) -> Result<Clause, SolveFault>
+    requires { HasText (Entry.Add id (record { lits = lesson.lits }) lesson.chain) }
+    ensures clause { IfOk result (λ clause. clause.lits ≡ lesson.lits) }
+    ensures takes { OnOk result (Takes (L.taken log.old) (L.taken log.new) (line_of (Entry.Add id (record { lits = lesson.lits }) lesson.chain))) }
+    ensures part { TakesPart (L.taken log.old) (L.taken log.new) (line_of (Entry.Add id (record { lits = lesson.lits }) lesson.chain)) }
+    ensures fault { OnLogFault result (Rose (L.faults log.old) (L.faults log.new)) }
+    ensures later { L.faults log.old ≤ L.faults log.new }
+{
+    let Lesson { lits, chain } = lesson;
+    let clause = Clause {
+        lits: lits.clone()?,
+    };
+    let entry = Entry::Add { id, clause, chain };
+    write_line(alloc, log, &entry)?;
+    Ok(Clause { lits })
+}

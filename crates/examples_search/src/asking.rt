@@ -1,0 +1,194 @@
+//! A search over clauses that are written as numbers.
+
+ghost use Rattle.std.specs.Prelude.{◌≡◌, not, nat_lt, true};
+ghost use Rattle.std.specs.List.{list_all};
+ghost use Rattle.resolution_check.specs.Earned.{has_var, vars_differ};
+ghost use Rattle.resolution_check.specs.Entries.{is_empty};
+ghost use Rattle.cnf_blaster.specs.Proper.{IsProper};
+
+use cdcl_search::{Outcome, SolveFault, solve};
+use cnf_blaster::Cnf;
+use mw_outside::TestSink;
+use mw_text::List;
+use resolution_check::{Bad, Checker, Clause, LineRefused, Lit, read_entry};
+use std::alloc::{AllocError, Global};
+use std::test::Fail;
+
+/// The most variables that a search takes, and the most clauses, those that it may add included.
+const MOST: u64 = 1 << 63;
+
+/// The literal of a number: its variable plus 1, negative where it is negated.
+fn lit_of(number: i64) -> Lit {
+    Lit {
+        var: number.unsigned_abs().saturating_sub(1),
+        negated: number < 0,
+    }
+}
+
+/// The clause of these numbers.
+fn clause_of(alloc: Global, numbers: &[i64]) -> Result<Clause, AllocError> {
+    let mut lits = List::new(alloc);
+    for number in numbers {
+        lits.items.push(lit_of(*number))?;
+    }
+    Ok(Clause { lits })
+}
+
+/// The clauses of these numbers.
+pub fn cnf_of(alloc: Global, vars: u64, clauses: &[&[i64]]) -> Result<Cnf, AllocError> {
+    let mut all = List::new(alloc);
+    for numbers in clauses {
+        all.items.push(clause_of(alloc, numbers)?)?;
+    }
+    Ok(Cnf {
+        vars,
+        clauses: all,
+        node_of: List::new(alloc),
+    })
+}
+
+/// Whether a literal of this variable is among these.
+fn uses(lits: &[Lit], var: u64) -> bool
+    ensures { result ≡ has_var lits.now var }
+{
+    lits.iter().any(|lit| lit.var == var)
+}
+
+/// Whether no variable stands twice among these literals.
+fn are_distinct(lits: &[Lit]) -> bool
+    ensures { result ≡ vars_differ lits.now }
+{
+    match lits {
+        [] => true,
+        [first, rest @ ..] => !uses(rest, first.var) && are_distinct(rest),
+    }
+}
+
+/// Whether all variables of these literals are below `vars`.
+fn are_below(lits: &[Lit], vars: u64) -> bool
+    ensures { result ≡ list_all (λ l. nat_lt l.var vars) lits.now }
+{
+    lits.iter().all(|lit| lit.var < vars)
+}
+
+/// Whether no clause is empty.
+fn all_filled(clauses: &[Clause]) -> bool
+    ensures { result ≡ list_all (λ c. not (is_empty c.lits)) clauses.now }
+{
+    clauses
+        .iter()
+        .all(|clause| !clause.lits.as_slice().is_empty())
+}
+
+/// Whether no clause has a variable twice.
+fn all_distinct(clauses: &[Clause]) -> bool
+    ensures { result ≡ list_all (λ c. vars_differ c.lits) clauses.now }
+{
+    clauses
+        .iter()
+        .all(|clause| are_distinct(clause.lits.as_slice()))
+}
+
+/// Whether all variables of the clauses are below `vars`.
+fn all_below(clauses: &[Clause], vars: u64) -> bool
+    ensures { result ≡ list_all (λ c. list_all (λ l. nat_lt l.var vars) c.lits) clauses.now }
+{
+    clauses
+        .iter()
+        .all(|clause| are_below(clause.lits.as_slice(), vars))
+}
+
+/// Whether no clause is empty, none has a variable twice, and each variable is one of the formula's.
+pub fn is_proper(cnf: &Cnf) -> bool
+    ensures { result ≡ true → IsProper cnf.now }
+{
+    let clauses = cnf.clauses.as_slice();
+    all_filled(clauses) && all_distinct(clauses) && all_below(clauses, cnf.vars)
+}
+
+/// How a search ended, and what it logged.
+#[derive(Debug, Drop)]
+pub struct Searched {
+    pub answer: Result<Outcome, SolveFault>,
+    pub log: List<u8>,
+}
+
+/// Why there is no answer to look at.
+#[derive(Clone, Copy, Debug, PartialEq, Eq)]
+pub enum NotSearched {
+    /// A search does not take these clauses.
+    BadClauses,
+    /// A search does not take this budget.
+    BadBudget,
+    /// Memory was refused.
+    Memory,
+}
+
+impl From<AllocError> for NotSearched {
+    fn from(_error: AllocError) -> NotSearched {
+        NotSearched::Memory
+    }
+}
+
+/// A search with this budget, of whose writes those of these numbers fail.
+pub fn search(
+    alloc: Global,
+    cnf: &Cnf,
+    budget: u64,
+    fail: &[u64],
+) -> Result<Searched, NotSearched> {
+    let count = cnf.clauses.as_slice().len() as u64;
+    if budget == 0 || budget > MOST || count > MOST - budget {
+        return Err(NotSearched::BadBudget);
+    }
+    if cnf.vars > MOST || !is_proper(cnf) {
+        return Err(NotSearched::BadClauses);
+    }
+    let failing = List {
+        items: Vec::from_slice(alloc, fail)?,
+    };
+    let mut sink = TestSink::new(alloc, 1_000_000, failing)?;
+    let answer = solve(alloc, cnf, budget, &mut sink);
+    if let Err(SolveFault::Memory) = answer {
+        return Err(NotSearched::Memory);
+    }
+    let log = List {
+        items: Vec::from_slice(alloc, sink.taken())?,
+    };
+    Ok(Searched { answer, log })
+}
+
+/// Whether the checker takes a line.
+fn takes(alloc: Global, checker: &mut Checker, line: &str) -> Result<bool, Fail> {
+    match read_entry(alloc, line.as_bytes()) {
+        Ok(entry) => match checker.step(entry) {
+            Err(Bad::Memory) => Err(Bad::Memory.into()),
+            answer => Ok(answer.is_ok()),
+        },
+        Err(LineRefused::Memory) => Err(LineRefused::Memory.into()),
+        Err(LineRefused::BadLine) => Ok(false),
+    }
+}
+
+/// What the checker says of a log: whether the empty clause was added, and how many additions there are. None where it
+/// refuses a line.
+pub fn checked(alloc: Global, log: &[u8]) -> Result<Option<(bool, u64)>, Fail> {
+    let mut checker = Checker::new(alloc);
+    for line in std::str::from_utf8(log)?.lines() {
+        if !takes(alloc, &mut checker, line)? {
+            return Ok(None);
+        }
+    }
+    Ok(Some((checker.refuted(), checker.added())))
+}
+
+/// Whether these values make a literal of each clause true.
+pub fn is_satisfied(cnf: &Cnf, values: &[bool]) -> bool {
+    cnf.clauses.as_slice().iter().all(|clause| {
+        clause
+            .lits
+            .as_slice()
+            .iter()
+            .any(|lit| values.get(lit.var as usize) == Some(&!lit.negated))
+    })
+}
