@@ -1,3 +1,4 @@
 pub mod Cnf
 pub mod Laws
+pub mod Meaning
 pub mod Proper

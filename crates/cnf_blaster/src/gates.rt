@@ -9,6 +9,7 @@ ghost use Rattle.term_store.specs.Terms.{size};
 use crate::lists::put_last;
 use mw_text::List;
 use resolution_check::{Clause, Lit};
+use smallvec::SmallVec;
 use std::alloc::{AllocError, Global};
 use term_store::{Node, NodeId, Terms};
 
@@ -54,15 +55,13 @@ fn clashes(lits: &[Lit]) -> bool
 }
 
 /// The literals, each once.
-fn once_each(alloc: Global, lits: &[Lit]) -> Result<List<Lit>, AllocError>
-    ensures { IfOk result (λ r. r ≡ distinct lits.now) }
+fn once_each(alloc: Global, lits: &[Lit]) -> Result<SmallVec<Lit, 3>, AllocError>
+    ensures { IfOk result (λ once. once.items ≡ distinct lits.now) }
 {
-    let mut once = List {
-        items: Vec::with_capacity(alloc, lits.len())?,
-    };
+    let mut once = SmallVec::new(alloc);
     for i in 0..lits.len() {
         if !has_literal(&lits[i + 1..], lits[i]) {
-            put_last(&mut once, lits[i])?;
+            once.push(lits[i])?;
         }
     }
     Ok(once)
@@ -75,7 +74,10 @@ fn put(alloc: Global, clauses: &mut List<Clause>, lits: &[Lit]) -> Result<(), Al
     if clashes(lits) {
         return Ok(());
     }
-    let lits = once_each(alloc, lits)?;
+    let once = once_each(alloc, lits)?;
+    let lits = List {
+        items: Vec::from_slice(alloc, once.as_slice())?,
+    };
     put_last(clauses, Clause { lits })
 }
 

@@ -7,9 +7,12 @@ pub mod laws;
 mod lists;
 mod marks;
 
-ghost use Rattle.std.specs.Prelude.{◌≡◌, IfOk, length};
+ghost use Rattle.std.specs.Prelude.{◌≡◌, ℕ, Bool, true, List as ListOf, ◌↔◌, IfOk, length};
 ghost use Rattle.cnf_blaster.specs.Cnf.{clauses_by, clauses_of, members, nodes_of};
 ghost use Rattle.cnf_blaster.specs.Laws.{marked, AreBelow};
+ghost use Rattle.cnf_blaster.specs.Meaning.{roots_value, IsDecoded, encoded, IsSatisfiable, CanBeTrue};
+ghost use Rattle.cnf_blaster.specs.Proper.{IsProper};
+ghost use Rattle.resolution_check.specs.Entries.{satisfies};
 ghost use Rattle.term_store.specs.Terms.{size};
 
 use crate::gates::{put_nodes, put_roots};
@@ -60,7 +63,15 @@ pub fn blast(alloc: Global, terms: &Terms, roots: &[NodeId]) -> Result<Cnf, Allo
     ensures clauses { IfOk result (λ cnf. cnf.clauses ≡ clauses_of terms.now.nodes roots.now) }
     ensures nodes { IfOk result (λ cnf. cnf.node_of ≡ nodes_of terms.now.nodes roots.now) }
     ensures vars { IfOk result (λ cnf. cnf.vars ≡ length cnf.node_of) }
+    ensures proper { IfOk result (λ cnf. IsProper cnf) }
+
+    ensures decodes { IfOk result (λ cnf. (v : ℕ → Bool) (valuation : ListOf Bool) → satisfies v cnf.clauses ≡ true
+        → IsDecoded terms.now.nodes cnf.node_of v valuation → roots_value terms.now.nodes roots.now valuation ≡ true) }
+    ensures encodes { IfOk result (λ cnf. (valuation : ListOf Bool) → roots_value terms.now.nodes roots.now valuation ≡ true
+        → satisfies (encoded terms.now.nodes cnf.node_of valuation) cnf.clauses ≡ true) }
+    ensures equal { IfOk result (λ cnf. IsSatisfiable cnf.clauses ↔ CanBeTrue terms.now.nodes roots.now) }
 {
+    terms.stands_in_order();
     let marks = reached_marks(alloc, terms, roots)?;
     clauses_from(alloc, terms, roots, marks.as_slice())
 }

@@ -1,20 +1,13 @@
-//! Gates and what is dropped of their clauses.
+//! What is dropped of the clauses of gates.
 
-ghost use Rattle.std.specs.Prelude.{◌<◌};
-ghost use Rattle.term_store.specs.Terms.{size};
+ghost use Rattle.term_store.specs.Terms.{IsBelow};
 
-use cnf_blaster::{Cnf, blast};
+use crate::assignments::blast_gate;
+use cnf_blaster::Cnf;
 use mw_text::List;
 use std::alloc::{AllocError, Global};
 use std::test::Fail;
-use term_store::{Node, NodeId, Terms};
-
-/// The clauses of one root.
-fn blast_one(alloc: Global, terms: &Terms, root: NodeId) -> Result<Cnf, AllocError>
-    requires { root.0 < size terms.now }
-{
-    blast(alloc, terms, &[root])
-}
+use term_store::{Node, NodeId};
 
 /// The clauses one after another: each literal's variable and sign, and after each clause its length.
 fn flat(alloc: Global, cnf: &Cnf) -> Result<List<(u64, bool)>, AllocError> {
@@ -29,68 +22,55 @@ fn flat(alloc: Global, cnf: &Cnf) -> Result<List<(u64, bool)>, AllocError> {
     Ok(out)
 }
 
+/// The clauses of a gate, one after another.
+fn flat_gate(alloc: Global, gate: Node) -> Result<List<(u64, bool)>, AllocError>
+    requires { IsBelow 3 3 gate }
+{
+    let cnf = blast_gate(alloc, gate)?;
+    flat(alloc, &cnf)
+}
+
 #[test]
 fn and_of_a_node_with_itself_repeats_no_literal(rt: HostRuntime) -> Result<(), Fail> {
-    let mut terms = Terms::new(rt.alloc());
-    terms.fresh()?;
-    let a = terms.fresh()?;
-    let root = terms.add(Node::And(a, a))?;
-    let cnf = blast_one(rt.alloc(), &terms, root)?;
-    assert_eq!(rt; cnf.vars, 2);
-    assert_eq!(rt; cnf.node_of.as_slice(), [NodeId(1), NodeId(2)].as_slice());
-    let no_g = (1, true);
-    let g = (1, false);
-    assert_eq!(rt;
-        flat(rt.alloc(), &cnf)?.as_slice(),
-        [
-            no_g,
-            (0, false),
-            (2, false),
-            no_g,
-            (0, false),
-            (2, false),
-            g,
-            (0, true),
-            (2, false),
-            g,
-            (1, false)
-        ]
-        .as_slice()
-    );
+    let found = flat_gate(rt.alloc(), Node::And(NodeId(1), NodeId(1)))?;
+    let expected = [
+        (1, true),
+        (0, false),
+        (2, false),
+        (1, true),
+        (0, false),
+        (2, false),
+        (1, false),
+        (0, true),
+        (2, false),
+        (1, false),
+        (1, false),
+    ];
+    assert_eq!(rt; found.as_slice(), expected.as_slice());
     Ok(())
 }
 
 #[test]
 fn xor_of_a_node_with_itself_drops_two_clauses(rt: HostRuntime) -> Result<(), Fail> {
-    let mut terms = Terms::new(rt.alloc());
-    let a = terms.fresh()?;
-    let root = terms.add(Node::Xor(a, a))?;
-    let cnf = blast_one(rt.alloc(), &terms, root)?;
-    assert_eq!(rt;
-        flat(rt.alloc(), &cnf)?.as_slice(),
-        [
-            (1, true),
-            (0, false),
-            (2, false),
-            (1, true),
-            (0, true),
-            (2, false),
-            (1, false),
-            (1, false)
-        ]
-        .as_slice()
-    );
+    let found = flat_gate(rt.alloc(), Node::Xor(NodeId(0), NodeId(0)))?;
+    let expected = [
+        (1, true),
+        (0, false),
+        (2, false),
+        (1, true),
+        (0, true),
+        (2, false),
+        (1, false),
+        (1, false),
+    ];
+    assert_eq!(rt; found.as_slice(), expected.as_slice());
     Ok(())
 }
 
 #[test]
 fn a_root_that_is_false_has_two_opposite_clauses(rt: HostRuntime) -> Result<(), Fail> {
-    let mut terms = Terms::new(rt.alloc());
-    let root = terms.add(Node::Const(false))?;
-    let cnf = blast_one(rt.alloc(), &terms, root)?;
-    assert_eq!(rt;
-        flat(rt.alloc(), &cnf)?.as_slice(),
-        [(0, true), (1, false), (0, false), (1, false)].as_slice()
-    );
+    let found = flat_gate(rt.alloc(), Node::Const(false))?;
+    let expected = [(0, true), (1, false), (0, false), (1, false)];
+    assert_eq!(rt; found.as_slice(), expected.as_slice());
     Ok(())
 }

@@ -2,4 +2,10 @@
 #![tactic(auto)]
 
 #[cfg(test)]
+mod assignments;
+#[cfg(test)]
 mod gates;
+#[cfg(test)]
+mod reach;
+#[cfg(test)]
+mod tables;

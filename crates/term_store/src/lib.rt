@@ -138,6 +138,15 @@ impl Terms {
         self.vars
     }
 
+    /// A law, with no effect: each node stands once, above its operands.
+    pub fn stands_in_order(&self)
+        ensures sound { IsSound self.now.nodes self.now.vars }
+        ensures once { StandsOnce self.now.nodes }
+    {
+        let _ = &self.nodes;
+        self.len();
+    }
+
     /// A law, with no effect: each valuation gives a reading of the store, by the values of the nodes under it.
     pub fn valuation_reads(&self)
         ensures { (valuation : List Bool) → Reads (reading_of self.now.nodes valuation) self.now }

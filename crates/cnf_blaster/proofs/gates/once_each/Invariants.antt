@@ -3,4 +3,4 @@ use Rattle.cnf_blaster.specs.Cnf.{distinct}
 use Rattle.cnf_blaster.proofs.gates.once_each.Given as goal
 
 abbrev pub invariant-loop-i : goal.invariant-loop-i
-invariant-loop-i l = l.once ++ distinct (drop l.i l.lits) ≡ distinct l.lits
+invariant-loop-i l = l.once.items ++ distinct (drop l.i l.lits) ≡ distinct l.lits
