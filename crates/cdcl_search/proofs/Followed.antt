@@ -1,5 +1,5 @@
 -- Steps that are followed back from a false clause.
-use Rattle.std.proofs.Common.{◌≡◌, ℕ, ◌+◌, ◌<◌, ◌==◌, Bool, true, false, not, cond, ◌&&◌, ◌||◌, nat_lt, nat_le, List, [], ◌∷◌, ◌++◌, length, take, drop, slice_get, Option, Some, None, is_some, Result, Ok, Err, OnOk, inl, inr, refl, sym, ap, subst, ◌∙◌, arith, add-one, take-append-drop}
+use Rattle.std.proofs.Common.{◌≡◌, ℕ, ◌+◌, ◌<◌, ◌==◌, Bool, true, false, not, cond, ◌&&◌, ◌||◌, nat_lt, nat_le, List, [], ◌∷◌, ◌++◌, length, take, drop, slice_get, Option, Some, None, is_some, Ok, Err, inl, inr, refl, sym, ap, subst, ◌∙◌, arith, add-one, take-append-drop}
 use Rattle.std.specs.Option.{option_map_or, ok_or}
 use Rattle.std.proofs.lemmas.Bool.{cases_Bool, eqb-true, eq-eqb, false≢true, true≢false, or_cases, or_left, or_right, and_parts, and_from, lt-ltb, le-leb}
 use Rattle.std.specs.Bool.{beq}
@@ -9,8 +9,9 @@ use Rattle.resolution_check.specs.declared.log.Bad.TheVariants.{NoPivot, Unknown
 use Rattle.resolution_check.specs.Clauses.{opposite, is_same, has, without, resolvent, IsPivot}
 use Rattle.resolution_check.specs.Entries.{resolved, resolved_from}
 use Rattle.std.proofs.Math.Seq.{take-length}
+use Rattle.std.proofs.lemmas.List.Folds.{list_any-append}
 use Rattle.std.proofs.Math.Bool.{or-false}
-use Rattle.resolution_check.specs.Earned.{has_var}
+use Rattle.resolution_check.specs.Earned.{has_var, vars_differ}
 use Rattle.resolution_check.proofs.Literals.{same_lit, same_refl, opposite_twice, has-append}
 use Rattle.resolution_check.proofs.Resolvents.{resolvent-pivot, has-resolved}
 use Rattle.resolution_check.proofs.Chains.{resolved-push}
@@ -34,6 +35,17 @@ not-true false h = refl
 true-not : (b : Bool) → not b ≡ true → b ≡ false
 true-not true h = absurd (false≢true h)
 true-not false h = refl
+
+or_none_parts : (a b : Bool) → (a || b) ≡ false → (a ≡ false) × (b ≡ false)
+or_none_parts true b h = absurd (true≢false h)
+or_none_parts false b h = (refl, h)
+
+or_both_false : (a b : Bool) → a ≡ false → b ≡ false → (a || b) ≡ false
+or_both_false true b h g = h
+or_both_false false b h g = g
+
+other_way : (m n : ℕ) → (m == n) ≡ false → (n == m) ≡ false
+other_way m n h = elim (cases_Bool (n == m)) [ inl e ↦ absurd (false≢true (sym h ∙ eq-eqb m n (sym (eqb-true n m e)))) | inr other ↦ other ]
 
 -- ---- literals that are false
 
@@ -85,6 +97,22 @@ of_var (k ∷ c) v h = elim (or_cases _ _ h) [
   | inr later ↦ let found = of_var c v later in (found.0, or_right (is_same found.0 k) _ found.1, found.2)
 ]
 
+no_var : (c : List Lit) (v : ℕ) → ((l : Lit) → has c l ≡ true → l.var ≡ v → ⊥) → has_var c v ≡ false
+no_var c v none = elim (cases_Bool (has_var c v)) [
+  | inl some ↦ let found = of_var c v some in absurd (none found.0 found.1 found.2)
+  | inr h ↦ h
+]
+
+-- one literal more, of a variable that is not there yet
+vars_differ-push : (c : List Lit) (l : Lit) → vars_differ c ≡ true → has_var c l.var ≡ false → vars_differ (c ++ l ∷ []) ≡ true
+vars_differ-push [] l once new = refl
+vars_differ-push (k ∷ c) l once new =
+    let both = and_parts _ _ once in
+    let parts = or_none_parts _ _ new in
+    let unlike : has_var (c ++ l ∷ []) k.var ≡ false =
+    list_any-append (λ (m : Lit). m.var == k.var) c (l ∷ []) ∙ or_both_false _ _ (true-not _ both.0) (or_both_false _ false (other_way k.var l.var parts.0) refl) in
+    and_from _ _ (not-true _ unlike) (vars_differ-push c l both.1 parts.1)
+
 apart : (k l : Lit) → (k.var == l.var) ≡ false → is_same k l ≡ false
 apart k l h = ap (λ b. b && beq k.negated l.negated) h
 
@@ -124,7 +152,7 @@ module _ (ss : List Step) (at : ℕ) (s : Step) (there : slice_get ss at ≡ Som
   nearer : (v : ℕ) → (s.lit.var == v) ≡ false → value_of (take (at + 1) ss) v ≡ value_of (take at ss) v
   nearer v other = ap (λ l. value_of l v) (take_at ss at s there) ∙ value_of-other (take at ss) s v other
 
-  none_before : (v : ℕ) → value_of (take (at + 1) ss) v ≡ None → value_of (take at ss) v ≡ None
+  pub none_before : (v : ℕ) → value_of (take (at + 1) ss) v ≡ None → value_of (take at ss) v ≡ None
   none_before v h = value_of-none (take at ss) (s ∷ []) v (ap (λ l. value_of l v) (sym (take_at ss at s there)) ∙ h)
 
   other_var : (l : Lit) → is_same (opposite s.lit) l ≡ false → fails ss l ≡ true → (s.lit.var == l.var) ≡ false
@@ -139,11 +167,12 @@ module _ (ss : List Step) (at : ℕ) (s : Step) (there : slice_get ss at ≡ Som
   unlike_other l other = apart (opposite s.lit) l other
 
   -- a literal whose step is behind is not the step's
+  pub not_behind : (l : Lit) → value_of (take (at + 1) ss) l.var ≡ None → l.var ≡ s.lit.var → ⊥
+  not_behind l none e = let both : None ≡ Some (not s.lit.negated) = sym none ∙ ap (value_of (take (at + 1) ss)) e ∙ own_next in absurd (cc)
+
   unlike_behind : (l : Lit) → value_of (take (at + 1) ss) l.var ≡ None → is_same (opposite s.lit) l ≡ false
   unlike_behind l none = elim (cases_Bool (is_same (opposite s.lit) l)) [
-    | inl same ↦
-        let e : s.lit.var ≡ l.var = ap (λ (m : Lit). m.var) (same_lit (opposite s.lit) l same) in
-        let both : None ≡ Some (not s.lit.negated) = sym none ∙ ap (value_of (take (at + 1) ss)) (sym e) ∙ own_next in absurd (cc)
+    | inl same ↦ absurd (not_behind l none (sym (ap (λ (m : Lit). m.var) (same_lit (opposite s.lit) l same))))
     | inr other ↦ other
   ]
 
@@ -170,11 +199,13 @@ module _ (ss : List Step) (at : ℕ) (s : Step) (there : slice_get ss at ≡ Som
         | inr other ↦ before_it v other m
       ];
       behind = λ l h. none_before l.var (f.behind l h);
+      once = f.once;
+      negated = f.negated;
     }
 
     -- a decision
-    pub followed_decision : (lits' : List Lit) → lits' ≡ lits ++ opposite s.lit ∷ [] → marks s.lit.var ≡ true → ((v : ℕ) → marks' v ≡ cond (s.lit.var == v) false (marks v)) → IsFollowed clauses ss at marks' lits' chain
-    followed_decision lits' e marked new =
+    pub followed_decision : s.reason ≡ None → (lits' : List Lit) → lits' ≡ lits ++ opposite s.lit ∷ [] → marks s.lit.var ≡ true → ((v : ℕ) → marks' v ≡ cond (s.lit.var == v) false (marks v)) → IsFollowed clauses ss at marks' lits' chain
+    followed_decision chosen lits' e marked new =
         let p = opposite s.lit in
         let more : (l : Lit) → has lits' l ≡ (has lits l || has (p ∷ []) l) = λ l. ap (λ c. has c l) e ∙ has-append lits (p ∷ []) l in
         let last : (l : Lit) → has (p ∷ []) l ≡ true → l ≡ p = λ l h. elim (or_cases _ _ h) [ inl same ↦ same_lit l p same | inr none ↦ absurd (false≢true none) ] in
@@ -207,6 +238,11 @@ module _ (ss : List Step) (at : ℕ) (s : Step) (there : slice_get ss at ≡ Som
           behind = λ l h. elim (or_cases _ _ (sym (more l) ∙ h)) [
             | inl before ↦ none_before l.var (f.behind l before)
             | inr here ↦ ap (λ (m : Lit). value_of (take at ss) m.var) (last l here) ∙ fresh
+          ];
+          once = ap vars_differ e ∙ vars_differ-push lits p f.once (no_var lits s.lit.var (λ l h. not_behind l (f.behind l h)));
+          negated = λ l h. elim (or_cases _ _ (sym (more l) ∙ h)) [
+            | inl before ↦ f.negated l before
+            | inr here ↦ record { at = at; decision = record { step = s; there = there; chosen = chosen }; is_negation = last l here }
           ];
         }
 
@@ -298,6 +334,8 @@ module _ (ss : List Step) (at : ℕ) (s : Step) (there : slice_get ss at ≡ Som
                   | inr before ↦ before_it v lost.0 before
                 ];
             behind = λ l h. none_before l.var (f.behind l h);
+            once = f.once;
+            negated = f.negated;
           }
 
 -- ---- the first clause and the last
@@ -325,14 +363,18 @@ followed_first clauses ss place marks f new =
           let found = of_var c v (sym (new v) ∙ m) in
           ap (λ t. is_some (value_of t v)) (take-length ss) ∙ ap (λ w. is_some (value_of ss w)) (sym found.2) ∙ some_value _ _ (f.false_all found.0 found.1);
       behind = λ l h. absurd (false≢true h);
+      once = refl;
+      negated = λ l h. absurd (false≢true h);
     }
 
-pub lesson_from : (clauses : List Clause) (ss : List Step) (marks : ℕ → Bool) (lits : List Lit) (chain : List ℕ) → are_numbers (length clauses) chain ≡ true → IsFollowed clauses ss 0 marks lits chain → IsLesson clauses lits chain
+pub lesson_from : (clauses : List Clause) (ss : List Step) (marks : ℕ → Bool) (lits : List Lit) (chain : List ℕ) → are_numbers (length clauses) chain ≡ true → IsFollowed clauses ss 0 marks lits chain → IsLesson clauses ss lits chain
 lesson_from clauses ss marks lits chain numbers f = record {
   clause = f.clause;
   resolves = f.resolves;
   same = λ l. f.parts l ∙ ap (λ b. has lits l || (b && fails ss l)) (unmarked l.var) ∙ or-false (has lits l);
   numbers = numbers;
+  once = f.once;
+  negated = f.negated;
 }
   where
     unmarked : (v : ℕ) → marks v ≡ false
@@ -341,9 +383,3 @@ lesson_from clauses ss marks lits chain numbers f = record {
 pub numbers_push : (count place : ℕ) (chain chain' : List ℕ) → place < count → chain' ≡ chain ++ (place + 1) ∷ [] → are_numbers count chain ≡ true → are_numbers count chain' ≡ true
 numbers_push count place chain chain' within e all =
     ap (are_numbers count) e ∙ all_push (λ id. nat_lt 0 id && nat_le id count) chain (place + 1) all (and_from _ _ (lt-ltb 0 (place + 1) (omega arith)) (le-leb (place + 1) count (omega arith)))
-
--- ---- what follows from two clauses on one outcome
-
-pub ok_both : {A E P Q R : Type 0} (r : Result A E) → OnOk r P → OnOk r Q → (P → Q → R) → OnOk r R
-ok_both (Ok a) p q go = go p q
-ok_both (Err e) p q go = tt

@@ -1,6 +1,10 @@
 pub mod Books
+pub mod Earned
 pub mod Followed
+pub mod Kept
+pub mod Levels
 pub mod Logs
 pub mod Places
+pub mod Results
 pub mod Trails
 pub mod Values

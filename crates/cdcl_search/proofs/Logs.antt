@@ -1,5 +1,5 @@
 -- The log of a search: its entries and their lines.
-use Rattle.std.proofs.Common.{◌≡◌, ℕ, zero, suc, ◌+◌, ◌<◌, ◌≤◌, ◌==◌, Bool, true, false, cond, ◌||◌, List, [], ◌∷◌, ◌++◌, length, take, drop, slice_get, Option, Some, None, is_some, Result, Ok, Err, IfOk, OnErr, refl, sym, ap, ap₂, subst, ◌∙◌, arith, inl, inr, add-zero, add-one, append_assoc, length-append, take-append-drop}
+use Rattle.std.proofs.Common.{◌≡◌, ℕ, zero, suc, ◌+◌, ◌<◌, ◌≤◌, ◌==◌, Bool, true, false, cond, ◌||◌, List, [], ◌∷◌, ◌++◌, length, take, drop, slice_get, Option, Some, None, is_some, Result, Ok, Err, IfOk, refl, sym, ap, ap₂, subst, ◌∙◌, arith, inl, inr, add-zero, add-one, append_assoc, length-append, take-append-drop}
 use Rattle.std.specs.Option.{option_or}
 use Rattle.std.specs.List.{list_all, AllByRecursion}
 use Rattle.std.proofs.lemmas.Bool.{and_parts, ltb-true, leb-true, cases_Bool, eqb-true, eq-eqb}
@@ -14,6 +14,9 @@ use Rattle.resolution_check.specs.declared.log.Entry.{Entry}
 use Rattle.resolution_check.specs.declared.log.Entry.TheVariants.{Input, Add, Delete, End}
 use Rattle.resolution_check.specs.Entries.{clause_by, deletes, is_end, is_empty, is_refutation, clause_given, is_given, is_deleted, clause_held, has_ended, adds_empty, addition_count, inputs, resolved, KeepsGood, IsGood, IsUnsatisfiable}
 use Rattle.resolution_check.proofs.Truth.{unsatisfiable}
+use Rattle.resolution_check.specs.Earned.{AllEarned, IsEarned, IsSpaced, MayFollow}
+use Rattle.resolution_check.specs.Clauses.{is_inside}
+use Rattle.cdcl_search.specs.declared.trail.Step.{Step}
 use Rattle.resolution_check.specs.Text.{line_of, log_text}
 use Rattle.resolution_check.proofs.Goods.{each_push, clause_given-push, any-push}
 use Rattle.resolution_check.proofs.Accepted.{count-push}
@@ -90,6 +93,8 @@ pub record IsHeld (es : List Entry) (clauses : List Clause) : Type 0 where
   pub given : (id : ℕ) → clause_given es id ≡ numbered clauses id
   pub kept : (id : ℕ) → is_deleted es id ≡ false
   pub not_ended : has_ended es ≡ false
+  pub earned : AllEarned es
+  pub spaced : IsSpaced es
 
 -- the next number is not given yet
 pub next_is_new : (es : List Entry) (clauses : List Clause) → IsHeld es clauses → is_given es (length clauses + 1) ≡ false
@@ -114,18 +119,20 @@ numbered-push cs c (suc k) = by cs k ∙ ap (λ b. option_or (slice_get cs k) (c
     by (d ∷ ds) (suc j) = by ds j ∙ ap (λ b. option_or (slice_get ds j) (cond b (Some c) None)) (same_test (length ds) j (length (d ∷ ds)) (suc j) (λ h. omega arith) (λ h. omega arith))
 
 -- one entry more, which gives the next number
-pub held_more : (es : List Entry) (e : Entry) (clauses : List Clause) (c : Clause) → IsHeld es clauses → KeepsGood es e
+pub held_more : (es : List Entry) (e : Entry) (clauses : List Clause) (c : Clause) → IsHeld es clauses → KeepsGood es e → IsEarned es e → MayFollow es e
     → ((id : ℕ) → clause_by id e ≡ cond (length clauses + 1 == id) (Some c) None) → ((id : ℕ) → deletes id e ≡ false) → is_end e ≡ false
     → IsHeld (es ++ e ∷ []) (clauses ++ c ∷ [])
-held_more es e clauses c h good gives_it keeps goes_on = record {
+held_more es e clauses c h good earned may gives_it keeps goes_on = record {
   good = each_push KeepsGood es e h.good good;
   given = λ id. clause_given-push es e id ∙ ap₂ option_or (h.given id) (gives_it id) ∙ sym (numbered-push clauses c id);
   kept = λ id. any-push (deletes id) es e ∙ ap₂ (λ a b. a || b) (h.kept id) (keeps id);
   not_ended = any-push is_end es e ∙ ap₂ (λ a b. a || b) h.not_ended goes_on;
+  earned = each_push IsEarned es e h.earned earned;
+  spaced = each_push MayFollow es e h.spaced may;
 }
 
 pub held_none : IsHeld [] []
-held_none = record { good = tt; given = none; kept = λ id. refl; not_ended = refl }
+held_none = record { good = tt; given = none; kept = λ id. refl; not_ended = refl; earned = tt; spaced = tt }
   where
     none : (id : ℕ) → clause_given [] id ≡ numbered [] id
     none zero = refl
@@ -137,7 +144,7 @@ held_inputs before [] es h =
     subst P (sym (append-nil es)) (subst (λ ds. IsHeld es ds) (sym (append-nil before)) h)
 held_inputs before (c ∷ cs) es h =
     let e = Input (length before + 1) c in
-    let one : IsHeld (es ++ e ∷ []) (before ++ c ∷ []) = held_more es e before c h (h.not_ended, next_is_new es before h) (λ id. refl) (λ id. refl) refl in
+    let one : IsHeld (es ++ e ∷ []) (before ++ c ∷ []) = held_more es e before c h (h.not_ended, next_is_new es before h) tt tt (λ id. refl) (λ id. refl) refl in
     let rest = held_inputs (before ++ c ∷ []) cs (es ++ e ∷ []) one in
     let number : length (before ++ c ∷ []) + 1 ≡ (length before + 1) + 1 = ap (λ n. n + 1) (length-append before (c ∷ [])) in
     let P : List Entry → Type 0 = λ l. IsHeld l (before ++ c ∷ cs) in
@@ -178,7 +185,7 @@ going_first before now cs takes =
     let h = inputs_held cs in
     record {
       entries = input_entries 1 cs;
-      log = record { learnt = []; order = sym (append-nil (input_entries 1 cs)); only = refl; good = h.good };
+      log = record { learnt = []; order = sym (append-nil (input_entries 1 cs)); only = refl; good = h.good; earned = h.earned; spaced = h.spaced };
       text = takes;
       given = h.given;
       kept = h.kept;
@@ -189,15 +196,17 @@ going_first before now cs takes =
 
 -- a front of the inputs
 pub cut_first : (before now : Option (List ℕ)) (cs : List Clause) → TakesPart before now (log_text (input_entries 1 cs)) → IsCut before now cs
-cut_first before now cs part = record {
-  entries = input_entries 1 cs;
-  log = record { learnt = []; order = sym (append-nil (input_entries 1 cs)); only = refl; good = (inputs_held cs).good };
-  text = part;
-}
+cut_first before now cs part =
+    let h = inputs_held cs in
+    record {
+      entries = input_entries 1 cs;
+      log = record { learnt = []; order = sym (append-nil (input_entries 1 cs)); only = refl; good = h.good; earned = h.earned; spaced = h.spaced };
+      text = part;
+    }
 
 module _ (before middle : Option (List ℕ)) (ins clauses : List Clause) (added : ℕ) (g : IsGoing before middle ins clauses added) where
   abbrev held : IsHeld g.entries clauses
-  held = record { good = g.log.good; given = g.given; kept = g.kept; not_ended = g.not_ended }
+  held = record { good = g.log.good; given = g.given; kept = g.kept; not_ended = g.not_ended; earned = g.log.earned; spaced = g.log.spaced }
 
   pub cut_here : (now : Option (List ℕ)) → now ≡ middle → IsCut before now ins
   cut_here now e = record {
@@ -206,14 +215,30 @@ module _ (before middle : Option (List ℕ)) (ins clauses : List Clause) (added 
     text = part_of_all before now (log_text g.entries) (e ∙ g.text);
   }
 
-  module _ (lits : List Lit) (chain : List ℕ) (l : IsLesson clauses lits chain) where
+  module _ (steps : List Step) (lits : List Lit) (chain : List ℕ) (l : IsLesson clauses steps lits chain) (small : (place : ℕ) (c : Clause) → slice_get clauses place ≡ Some c → is_inside c.lits lits ≡ false) where
     abbrev addition : Entry
     addition = Add (length clauses + 1) (record { lits = lits }) chain
 
+    holds : clause_held g.entries ≡ numbered clauses
+    holds = fun_ext (λ id. ap₂ (λ b o. cond b None o) (g.kept id) (g.given id))
+
+    resolves : resolved (clause_held g.entries) chain ≡ Ok l.clause
+    resolves = ap (λ h. resolved h chain) holds ∙ l.resolves
+
     keeps_good : KeepsGood g.entries addition
-    keeps_good =
-        let holds : clause_held g.entries ≡ numbered clauses = fun_ext (λ id. ap₂ (λ b o. cond b None o) (g.kept id) (g.given id)) in
-        (g.not_ended, (next_is_new g.entries clauses held, l.clause, ap (λ h. resolved h chain) holds ∙ l.resolves, inside-same l.clause lits l.same))
+    keeps_good = (g.not_ended, (next_is_new g.entries clauses held, l.clause, resolves, inside-same l.clause lits l.same))
+
+    contains_none : (other : ℕ) (c : Clause) → numbered clauses other ≡ Some c → is_inside c.lits lits ≡ false
+    contains_none zero c h = absurd cc
+    contains_none (suc place) c h = small place c h
+
+    is_earned : IsEarned g.entries addition
+    is_earned = record {
+      good = keeps_good;
+      exact = (l.clause, resolves, inside-same l.clause lits l.same, inside-same lits l.clause (λ k. sym (l.same k)));
+      once = l.once;
+      smallest = λ other c h. contains_none other c (sym (ap (λ f. f other) holds) ∙ h);
+    }
 
     log_more : IsSearchLog ins (g.entries ++ addition ∷ [])
     log_more = record {
@@ -221,11 +246,13 @@ module _ (before middle : Option (List ℕ)) (ins clauses : List Clause) (added 
       order = ap (λ es. es ++ addition ∷ []) g.log.order ∙ append_assoc (input_entries 1 ins) g.log.learnt (addition ∷ []);
       only = all_push adds_or_deletes g.log.learnt addition g.log.only refl;
       good = each_push KeepsGood g.entries addition g.log.good keeps_good;
+      earned = each_push IsEarned g.entries addition g.log.earned is_earned;
+      spaced = each_push MayFollow g.entries addition g.log.spaced tt;
     }
 
     pub going_more : (now : Option (List ℕ)) → is_empty lits ≡ false → Takes middle now (line_of addition) → IsGoing before now ins (clauses ++ record { lits = lits } ∷ []) (added + 1)
     going_more now full takes =
-        let h = held_more g.entries addition clauses (record { lits = lits }) held keeps_good (λ id. refl) (λ id. refl) refl in
+        let h = held_more g.entries addition clauses (record { lits = lits }) held keeps_good is_earned tt (λ id. refl) (λ id. refl) refl in
         record {
           entries = g.entries ++ addition ∷ [];
           log = log_more;
@@ -269,15 +296,3 @@ unsat_shown before now cs budget (Ok Unsat) l = subst IsUnsatisfiable (inputs_of
 unsat_shown before now cs budget (Ok (Sat values)) l = tt
 unsat_shown before now cs budget (Ok (Unknown added)) l = tt
 unsat_shown before now cs budget (Err e) l = tt
-
-pub ok_then : {A E : Type 0} {P Q : A → Type 0} (r : Result A E) → IfOk r P → ((a : A) → P a → Q a) → IfOk r Q
-ok_then (Ok a) p go = go a p
-ok_then (Err e) p go = tt
-
-pub err_then : {A E P Q : Type 0} (r : Result A E) → OnErr r P → (P → Q) → OnErr r Q
-err_then (Ok a) p go = tt
-err_then (Err e) p go = go p
-
-pub on_err : {A E P : Type 0} (r : Result A E) → P → OnErr r P
-on_err (Ok a) p = tt
-on_err (Err e) p = p

@@ -13,7 +13,7 @@ use Rattle.cdcl_search.specs.declared.trail.Step.{Step}
 use Rattle.resolution_check.specs.declared.log.Lit.{Lit}
 use Rattle.resolution_check.specs.declared.log.Clause.{Clause}
 use Rattle.resolution_check.specs.Clauses.{has}
-use Rattle.cdcl_search.specs.Trails.{value_of, IsSound, AllFail, IsForced, IsForcedBy, HasReason, Follows, IsFalseAt, Keeps, Assigned, Goes}
+use Rattle.cdcl_search.specs.Trails.{value_of, IsSound, AllFail, IsForced, IsForcedBy, HasReason, Follows, IsFalseAt, Keeps}
 
 pub value_of-append : (ss ts : List Step) (v : ℕ) → value_of (ss ++ ts) v ≡ option_or (value_of ss v) (value_of ts v)
 value_of-append [] ts v = refl
@@ -136,31 +136,6 @@ keeps_push ss s v h = by (value_of ss v) refl
     by : (o : Option Bool) → value_of ss v ≡ o → is_some (value_of (ss ++ s ∷ []) v) ≡ true
     by None e = absurd (false≢true (sym (ap is_some e) ∙ h))
     by (Some b) e = ap is_some (value_of-keeps ss (s ∷ []) v b e)
-
--- ---- from one trail to a later one
-
-pub goes_same : (clauses : List Clause) (old new : Assigned) → new.steps ≡ old.steps → new.vars ≡ old.vars → Goes clauses old new
-goes_same clauses old new same vars = record {
-  follows = λ f. subst (λ ss. Follows clauses ss) (sym same) f;
-  keeps = λ v h. ap (λ ss. is_some (value_of ss v)) same ∙ h;
-  vars = vars;
-}
-
-pub goes_then : (clauses : List Clause) (old middle new : Assigned) → Goes clauses old middle → Goes clauses middle new → Goes clauses old new
-goes_then clauses old middle new first second = record {
-  follows = λ f. second.follows (first.follows f);
-  keeps = λ v h. second.keeps v (first.keeps v h);
-  vars = second.vars ∙ first.vars;
-}
-
-pub goes_push : (clauses : List Clause) (old new : Assigned) (s : Step) → new.steps ≡ old.steps ++ s ∷ [] → new.vars ≡ old.vars → HasReason clauses old.steps s.lit s.reason → Goes clauses old new
-goes_push clauses old new s more vars reason = record {
-  follows = λ f. subst (λ ss. Follows clauses ss) (sym more) (follows_push clauses old.steps s f reason);
-  keeps = λ v h. ap (λ ss. is_some (value_of ss v)) more ∙ keeps_push old.steps s v h;
-  vars = vars;
-}
-
-pub ruleset going = (goes_then, goes_same)
 
 -- a literal of a clause whose variables are below the limit
 pub below_at : (limit : ℕ) (c : List Lit) (l : Lit) → is_below limit c ≡ true → has c l ≡ true → l.var < limit

@@ -1,7 +1,7 @@
 -- Literals and clauses by the values of variables.
-use Rattle.std.proofs.Common.{◌≡◌, ℕ, ◌+◌, ◌<◌, Bool, true, false, not, cond, ◌||◌, List, [], ◌∷◌, ◌++◌, take, slice_get, Option, Some, None, is_some, Result, IfOk, Ok, Err, inl, inr, refl, sym, ap, ◌∙◌}
+use Rattle.std.proofs.Common.{◌≡◌, ℕ, zero, suc, ◌<◌, Bool, true, false, not, cond, List, [], ◌∷◌, ◌++◌, slice_get, Option, Some, None, is_some, inl, inr, refl, sym, ap, ◌∙◌}
 use Rattle.std.specs.List.{list_any, list_all}
-use Rattle.std.proofs.lemmas.Bool.{false≢true, or_cases, and_parts, and_from, cases_Bool, true≢false, or_left, or_right, ltb-true}
+use Rattle.std.proofs.lemmas.Bool.{false≢true, or_cases, and_parts, and_from, or_left, or_right, ltb-true}
 use Rattle.std.proofs.lemmas.List.Folds.{list_all-append}
 use Rattle.term_store.specs.Terms.{truth}
 use Rattle.resolution_check.specs.Entries.{lit_value, clause_value, satisfies}
@@ -11,44 +11,31 @@ use Rattle.resolution_check.specs.Clauses.{has}
 use Rattle.resolution_check.proofs.Literals.{alike}
 use Rattle.cdcl_search.specs.declared.trail.Step.{Step}
 use Rattle.cdcl_search.specs.Books.{is_below}
-use Rattle.cdcl_search.specs.Trails.{value_of, is_value, holds, AllFail, IsFalseAt, IsTotal, all_hold}
-use Rattle.cdcl_search.proofs.Places.{all_push, take_at}
-use Rattle.cdcl_search.proofs.Trails.{below_at, false_at}
+use Rattle.cdcl_search.specs.Levels.{IsSettled, AllSettled}
+use Rattle.cdcl_search.specs.Trails.{value_of, is_value, holds, IsTotal, all_hold}
+use Rattle.cdcl_search.proofs.Places.{all_at}
+use Rattle.cdcl_search.proofs.Trails.{below_at}
 
-pub if_ok_any : {A E P : Type 0} (r : Result A E) → P → IfOk r (λ a. P)
-if_ok_any (Ok a) p = p
-if_ok_any (Err e) p = tt
+any_true : (p : Lit → Bool) (c : List Lit) (l : Lit) → has c l ≡ true → p l ≡ true → list_any p c ≡ true
+any_true p [] l h t = h
+any_true p (k ∷ c) l h t = elim (or_cases _ _ h) [ inl here ↦ or_left _ _ (sym (alike p l k here) ∙ t) | inr later ↦ or_right (p k) _ (any_true p c l later t) ]
 
--- no literal of the list passes, so this one does not
-any_false : (p : Lit → Bool) (c : List Lit) (l : Lit) → list_any p c ≡ false → has c l ≡ true → p l ≡ false
-any_false p [] l none h = absurd (false≢true h)
-any_false p (k ∷ c) l none h = elim (cases_Bool (p k)) [
-  | inl passes ↦ absurd (true≢false (sym (ap (λ b. b || list_any p c) passes) ∙ none))
-  | inr misses ↦
-      let rest : list_any p c ≡ false = sym (ap (λ b. b || list_any p c) misses) ∙ none in
-      elim (or_cases _ _ h) [ inl here ↦ alike p l k here ∙ misses | inr later ↦ any_false p c l rest later ]
-]
+-- a clause that is settled where every variable has a value has a true literal
+settled_true_now : (ss : List Step) (vars : ℕ) (c : List Lit) → IsTotal vars ss → is_below vars c ≡ true → IsSettled ss c → list_any (holds ss) c ≡ true
+settled_true_now ss vars c total below (inl t) = any_true (holds ss) c t.lit t.inside t.is_true
+settled_true_now ss vars c total below (inr t) =
+    let some : is_some (value_of ss t.one.var) ≡ true = total t.one.var (below_at vars c t.one below t.inside_one) in
+    absurd (false≢true (sym (ap is_some t.free_one) ∙ some))
 
--- a literal whose variable has a value is false where it is not true
-other_value : (o : Option Bool) (negated : Bool) → is_some o ≡ true → is_value o (not negated) ≡ false → is_value o negated ≡ true
-other_value None negated some h = absurd (false≢true some)
-other_value (Some true) true some h = refl
-other_value (Some true) false some h = absurd (true≢false h)
-other_value (Some false) true some h = absurd (true≢false h)
-other_value (Some false) false some h = refl
+all_from_places : (p : Clause → Bool) (cs : List Clause) → ((place : ℕ) (c : Clause) → slice_get cs place ≡ Some c → p c ≡ true) → list_all p cs ≡ true
+all_from_places p [] each = refl
+all_from_places p (c ∷ cs) each = and_from _ _ (each zero c refl) (all_from_places p cs (λ place d there. each (suc place) d there))
 
-pub all_fail : (ss : List Step) (vars : ℕ) (c : List Lit) → IsTotal vars ss → is_below vars c ≡ true → list_any (holds ss) c ≡ false → AllFail ss c
-all_fail ss vars c total below none l h = other_value (value_of ss l.var) l.negated (total l.var (below_at vars c l below h)) (any_false (holds ss) c l none h)
-
-pub false_clause : (clauses : List Clause) (ss : List Step) (vars : ℕ) (c : List Lit) (place : ℕ) → slice_get clauses place ≡ Some (record { lits = c }) → IsTotal vars ss → is_below vars c ≡ true
-    → list_any (holds ss) c ≡ false → IsFalseAt clauses ss place
-false_clause clauses ss vars c place there total below none = false_at clauses ss c place there (all_fail ss vars c total below none)
-
-pub all_hold_more : (clauses : List Clause) (ss : List Step) (c : List Lit) (place : ℕ) → slice_get clauses place ≡ Some (record { lits = c }) → all_hold ss (take place clauses) ≡ true
-    → list_any (holds ss) c ≡ true → all_hold ss (take (place + 1) clauses) ≡ true
-all_hold_more clauses ss c place there so_far one =
-    let d : Clause = record { lits = c } in
-    ap (all_hold ss) (take_at clauses place d there) ∙ all_push (λ (k : Clause). list_any (holds ss) k.lits) (take place clauses) d so_far one
+pub all_hold_settled : (ss : List Step) (vars : ℕ) (cs : List Clause) → IsTotal vars ss → list_all (λ c. is_below vars c.lits) cs ≡ true → AllSettled cs ss → all_hold ss cs ≡ true
+unfolding AllSettled
+all_hold_settled ss vars cs total below settled =
+    all_from_places (λ (k : Clause). list_any (holds ss) k.lits) cs (λ place c there.
+    settled_true_now ss vars c.lits total (all_at (λ (k : Clause). is_below vars k.lits) cs place c below there) (settled place c there))
 
 -- ---- the values of a trail satisfy what is true under it
 

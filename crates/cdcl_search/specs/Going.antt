@@ -1,13 +1,14 @@
 -- What a search has logged while it goes on.
-use Rattle.std.specs.Prelude.{ℕ, ◌≡◌, ◌+◌, Bool, true, false, List, length, Option}
+use Rattle.std.specs.Prelude.{ℕ, ◌≡◌, ◌+◌, ◌<◌, Bool, true, false, List, length, Option}
 use Rattle.mw_outside.specs.Taken.{Takes}
 use Rattle.resolution_check.specs.declared.log.Clause.{Clause}
 use Rattle.resolution_check.specs.declared.log.Entry.{Entry}
 use Rattle.resolution_check.specs.Entries.{adds_empty, addition_count, clause_given, is_deleted, has_ended, satisfies}
 use Rattle.resolution_check.specs.Text.{log_text}
 use Rattle.cdcl_search.specs.Outcomes.{IsSearchLog, IsCut}
-use Rattle.cdcl_search.specs.Books.{Shelf}
+use Rattle.cdcl_search.specs.Books.{Shelf, Finds, are_filled}
 use Rattle.cdcl_search.specs.Trails.{Assigned, Follows}
+use Rattle.cdcl_search.specs.Levels.{AreFull, IsSettledAt}
 use Rattle.cdcl_search.specs.Learning.{numbered}
 
 -- between these two moments the log of a search for the inputs was written so far: it gives exactly these clauses by
@@ -40,10 +41,15 @@ Refutes old new clauses = (before : Option (List ℕ)) (ins : List Clause) (adde
 abbrev pub Cuts : (old new : Option (List ℕ)) → (clauses : List Clause) → Type 0
 Cuts old new clauses = (before : Option (List ℕ)) (ins : List Clause) (added : ℕ) → IsGoing before old ins clauses added → IsCut before new ins
 
--- one clause more is held, the trail follows from the clauses, and what satisfies them satisfied those before
+-- One clause more is held and can be found, none is empty. The trail follows from the clauses and was full before each
+-- decision; the clauses held before are settled under it. What satisfies the clauses satisfied those before.
 pub record IsNext (old new : Shelf) (trail : Assigned) : Type 0 where
   pub longer : length new.clauses ≡ length old.clauses + 1
   pub vars : new.vars ≡ old.vars
+  pub finds : Finds new
+  pub filled : are_filled new.clauses ≡ true
   pub trail_vars : trail.vars ≡ new.vars
   pub follows : Follows new.clauses trail.steps
+  pub full : AreFull new.clauses trail.steps
+  pub settled : (place : ℕ) → place < length old.clauses → IsSettledAt new.clauses trail.steps place
   pub weaker : (v : ℕ → Bool) → satisfies v new.clauses ≡ true → satisfies v old.clauses ≡ true

@@ -4,3 +4,4 @@ pub mod Standings
 pub mod Learning
 pub mod Outcomes
 pub mod Going
+pub mod Levels

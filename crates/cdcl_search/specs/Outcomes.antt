@@ -6,6 +6,7 @@ use Rattle.resolution_check.specs.declared.log.Clause.{Clause}
 use Rattle.resolution_check.specs.declared.log.Entry.{Entry}
 use Rattle.resolution_check.specs.declared.log.Entry.TheVariants.{Input, Add, Delete, End}
 use Rattle.resolution_check.specs.Entries.{IsGood, adds_empty, addition_count}
+use Rattle.resolution_check.specs.Earned.{AllEarned, IsSpaced}
 use Rattle.resolution_check.specs.Text.{log_text}
 use Rattle.cdcl_search.specs.declared.outcome.Outcome.{Outcome}
 use Rattle.cdcl_search.specs.declared.outcome.Outcome.TheVariants.{Unsat, Sat, Unknown}
@@ -47,12 +48,15 @@ adds_or_deletes (Add id clause chain) = true
 adds_or_deletes (Delete id) = true
 adds_or_deletes End = false
 
--- the clauses as inputs, numbered from 1, and then additions and deletions; a good list
+-- the clauses as inputs, numbered from 1, and then additions and deletions; a good list, in which every addition is
+-- earned and deletions are spaced
 pub record IsSearchLog (clauses : List Clause) (es : List Entry) : Type 0 where
   pub learnt : List Entry
   pub order : es ≡ input_entries 1 clauses ++ learnt
   pub only : list_all adds_or_deletes learnt ≡ true
   pub good : IsGood es
+  pub earned : AllEarned es
+  pub spaced : IsSpaced es
 
 -- which entries show the outcome: the empty clause is added; or it is not; or there are as many additions as were
 -- allowed, and none is empty

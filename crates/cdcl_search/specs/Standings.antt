@@ -5,6 +5,7 @@ use Rattle.cdcl_search.specs.declared.trail.Step.{Step}
 use Rattle.cdcl_search.specs.declared.standing.Standing.{Standing}
 use Rattle.cdcl_search.specs.declared.standing.Standing.TheVariants.{Settled, Forces, False}
 use Rattle.cdcl_search.specs.Trails.{AllFail, IsForced}
+use Rattle.cdcl_search.specs.Levels.{IsSettled}
 
 -- all literals are false but this one, where there is one, which has no value
 abbrev pub IsLeft : List Step → List Lit → Option Lit → Type 0
@@ -13,6 +14,6 @@ IsLeft steps c (Some l) = IsForced steps c l
 
 -- what is known of a clause that stands so
 abbrev pub StandsSo : List Step → List Lit → Standing → Type 0
-StandsSo steps c Settled = Unit {0}
+StandsSo steps c Settled = IsSettled steps c
 StandsSo steps c (Forces l) = IsForced steps c l
 StandsSo steps c False = AllFail steps c

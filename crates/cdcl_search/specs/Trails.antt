@@ -78,12 +78,6 @@ pub record IsFalseAt (clauses : List Clause) (steps : List Step) (place : ℕ) :
 abbrev pub Keeps : List Step → List Step → Type 0
 Keeps old new = (var : ℕ) → is_some (value_of old var) ≡ true → is_some (value_of new var) ≡ true
 
--- The later trail follows from the clauses where the earlier one does; no variable lost its value.
-pub record Goes (clauses : List Clause) (old new : Assigned) : Type 0 where
-  pub follows : Follows clauses old.steps → Follows clauses new.steps
-  pub keeps : Keeps old.steps new.steps
-  pub vars : new.vars ≡ old.vars
-
 -- each variable has a value
 abbrev pub IsTotal : ℕ → List Step → Type 0
 IsTotal vars steps = (var : ℕ) → var < vars → is_some (value_of steps var) ≡ true
@@ -91,3 +85,7 @@ IsTotal vars steps = (var : ℕ) → var < vars → is_some (value_of steps var)
 -- a literal of each clause is true
 abbrev pub all_hold : List Step → List Clause → Bool
 all_hold steps clauses = list_all (λ c. list_any (holds steps) c.lits) clauses
+
+-- no variable had a value before its step
+abbrev pub AreFresh : List Step → Type 0
+AreFresh steps = (i : ℕ) (s : Step) → slice_get steps i ≡ Some s → value_of (take i steps) s.lit.var ≡ None

@@ -1,8 +1,10 @@
 //! The clauses held, and for each literal the clauses that hold it.
 
-ghost use Rattle.std.specs.Prelude.{◌≡◌, ℕ, ◌+◌, ◌<◌, ◌^◌, [], ◌∷◌, ◌++◌, true, Some, IfOk, OnOk, length, slice_get};
+ghost use Rattle.std.specs.Prelude.{◌≡◌, ℕ, ◌+◌, ◌<◌, ◌^◌, ◌==◌, ◌||◌, ◌&&◌, slice_index_or, [], ◌∷◌, ◌++◌, true, Some, IfOk, OnOk, length, slice_get};
 ghost use Rattle.std.specs.List.{list_all};
-ghost use Rattle.cdcl_search.specs.Books.{is_below, are_places, IsIndexed};
+ghost use Rattle.cdcl_search.specs.Books.{is_below, are_places, IsIndexed, listed, has_place, Finds};
+ghost use Rattle.resolution_check.specs.declared.log.Lit.{Lit};
+ghost use Rattle.resolution_check.specs.Clauses.{has, is_same};
 
 use mw_text::List;
 use resolution_check::{Clause, Lit};
@@ -23,7 +25,7 @@ impl Model for Book {
 
     ghost Value = { Shelf };
 
-    ghost view = { λ b. record { clauses = b.clauses; vars = count b.positive } };
+    ghost view = { λ b. record { clauses = b.clauses; vars = count b.positive; positive = b.positive; negative = b.negative } };
 
     ghost invariant = { λ b. Sound b.clauses b.positive b.negative };
 }
@@ -50,8 +52,10 @@ pub(crate) fn copy_of(clause: &Clause) -> Result<Clause, AllocError>
 /// Puts a place last in the list of a variable.
 fn put_place(lists: &mut [List<u64>], var: u64, place: u64) -> Result<(), AllocError>
     requires { var < length lists.old }
-    ensures { (count : ℕ) → place < count → list_all (are_places count) lists.old ≡ true
+    ensures places { (count : ℕ) → place < count → list_all (are_places count) lists.old ≡ true
         → list_all (are_places count) lists.new ≡ true }
+    ensures listed { OnOk result ((v k : ℕ) → has_place (slice_index_or lists.new v []) k
+        ≡ (has_place (slice_index_or lists.old v []) k || ((var == v) && (place == k)))) }
 {
     let list = &mut lists[var as usize];
     list.items.push(place)?;
@@ -71,6 +75,8 @@ fn put_lit(
         → list_all (are_places count) positive.new ≡ true }
     ensures negative { (count : ℕ) → place < count → list_all (are_places count) negative.old ≡ true
         → list_all (are_places count) negative.new ≡ true }
+    ensures listed { OnOk result ((l : Lit) (k : ℕ) → has_place (listed positive.new negative.new l) k
+        ≡ (has_place (listed positive.old negative.old l) k || (is_same l lit && (place == k)))) }
 {
     if lit.negated {
         put_place(negative, lit.var, place)
@@ -92,6 +98,8 @@ fn put_lits(
         → list_all (are_places count) positive.new ≡ true }
     ensures negative { (count : ℕ) → place < count → list_all (are_places count) negative.old ≡ true
         → list_all (are_places count) negative.new ≡ true }
+    ensures listed { OnOk result ((l : Lit) (k : ℕ) → has_place (listed positive.new negative.new l) k
+        ≡ (has_place (listed positive.old negative.old l) k || (has lits.now l && (place == k)))) }
 {
     for lit in lits {
         put_lit(positive, negative, *lit, place)?;
@@ -111,6 +119,8 @@ fn put_clause(
     ensures ok { OnOk result (clauses.new ≡ clauses.old ++ clause ∷ []) }
     ensures vars { length positive.new ≡ length positive.old }
     ensures sound { IsIndexed clauses.new positive.new negative.new }
+    ensures listed { OnOk result ((l : Lit) (k : ℕ) → has_place (listed positive.new negative.new l) k
+        ≡ (has_place (listed positive.old negative.old l) k || (has clause.lits l && (length clauses.old == k)))) }
 {
     let place = clauses.as_slice().len();
     clauses.items.push(clause)?;
@@ -128,6 +138,7 @@ impl Book {
     pub(crate) fn new(alloc: Global, vars: u64) -> Result<Book, AllocError>
         ensures clauses { IfOk result (λ book. book.clauses ≡ []) }
         ensures vars { IfOk result (λ book. book.vars ≡ vars) }
+        ensures finds { IfOk result Finds }
     {
         Ok(Book {
             clauses: List::new(alloc),
@@ -166,7 +177,8 @@ impl Book {
     /// The places of the clauses that hold a literal.
     pub(crate) fn holders(&self, lit: Lit) -> &[u64]
         requires { lit.var < self.now.vars }
-        ensures { are_places (length self.now.clauses) result.now ≡ true }
+        ensures places { are_places (length self.now.clauses) result.now ≡ true }
+        ensures listed { result.now ≡ listed self.now.positive self.now.negative lit }
     {
         if lit.negated {
             self.negative.as_slice()[lit.var as usize].as_slice()
@@ -180,6 +192,7 @@ impl Book {
         requires { is_below self.old.vars clause.lits ≡ true }
         ensures ok { OnOk result (self.new.clauses ≡ self.old.clauses ++ clause ∷ []) }
         ensures vars { self.new.vars ≡ self.old.vars }
+        ensures finds { OnOk result (Finds self.old → Finds self.new) }
     {
         put_clause(
             &mut self.clauses,

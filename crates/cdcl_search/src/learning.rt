@@ -1,12 +1,13 @@
 //! What a false clause teaches: the decisions on which it rests cannot all stand together.
 
-ghost use Rattle.std.specs.Prelude.{◌≡◌, ℕ, ◌+◌, ◌<◌, ◌≤◌, ◌∷◌, [], ◌++◌, ◌==◌, ◌&&◌, ◌||◌, not, true, false, Some, IfOk, OnOk, length, slice_get, replicate, if◌then◌else◌};
+ghost use Rattle.std.specs.Prelude.{◌≡◌, ℕ, ◌+◌, ◌<◌, ◌≤◌, ◌∷◌, [], ◌++◌, ◌==◌, ◌&&◌, ◌||◌, not, true, false, Some, IfOk, OnOk, length, take, slice_get, replicate, if◌then◌else◌};
 ghost use Rattle.resolution_check.specs.declared.log.Clause.{Clause};
-ghost use Rattle.resolution_check.specs.Clauses.{opposite};
+ghost use Rattle.resolution_check.specs.Clauses.{opposite, has};
 ghost use Rattle.resolution_check.specs.Earned.{has_var};
 ghost use Rattle.cnf_blaster.specs.Laws.{marked};
 ghost use Rattle.cdcl_search.specs.Books.{is_below};
 ghost use Rattle.cdcl_search.specs.Trails.{Follows, IsFalseAt};
+ghost use Rattle.cdcl_search.specs.Levels.{IsDecision, IsSettled};
 ghost use Rattle.cdcl_search.specs.Learning.{are_numbers, IsFollowed, IsLesson};
 
 use crate::book::Book;
@@ -172,7 +173,7 @@ fn learn_by(
     requires vars { book.now.vars ≡ trail.now.vars }
     requires follows { Follows book.now.clauses trail.now.steps }
     requires conflict { IsFalseAt book.now.clauses trail.now.steps conflict }
-    ensures lesson { IfOk result (λ lesson. IsLesson book.now.clauses lesson.lits lesson.chain) }
+    ensures lesson { IfOk result (λ lesson. IsLesson book.now.clauses trail.now.steps lesson.lits lesson.chain) }
     ensures below { IfOk result (λ lesson. is_below trail.now.vars lesson.lits ≡ true) }
 {
     let mut lesson = first_lesson(alloc, marks, book, conflict)?;
@@ -190,25 +191,43 @@ pub(crate) fn learn(
     requires vars { book.now.vars ≡ trail.now.vars }
     requires follows { Follows book.now.clauses trail.now.steps }
     requires conflict { IsFalseAt book.now.clauses trail.now.steps conflict }
-    ensures lesson { IfOk result (λ lesson. IsLesson book.now.clauses lesson.lits lesson.chain) }
+    ensures lesson { IfOk result (λ lesson. IsLesson book.now.clauses trail.now.steps lesson.lits lesson.chain) }
     ensures below { IfOk result (λ lesson. is_below trail.now.vars lesson.lits ≡ true) }
 {
     let mut marks = no_marks(alloc, trail.vars())?;
     learn_by(alloc, marks.items.as_mut_slice(), trail, book, conflict)
 }
 
-/// How many steps to keep so that of the negated decisions only the first has no value: those before the decision that
-/// follows the second one.
+/// Whether the literal stands among these.
+fn has_literal(lits: &[Lit], lit: Lit) -> bool
+    ensures { result ≡ has lits.now lit }
+{
+    for other in lits {
+        if *other == lit {
+            return true;
+        }
+    }
+    false
+}
+
+/// How many steps to keep so that before each decision that is kept two of the negated decisions have no value: those
+/// before the decision that follows the last but one of them.
 pub(crate) fn kept_steps(trail: &Trail, lits: &[Lit]) -> usize
-    ensures { result ≤ length trail.now.steps }
+    ensures settled { (at : ℕ) → at < result → IsDecision trail.now.steps at → IsSettled (take at trail.now.steps) lits.now }
+    ensures decision { (at : ℕ) → IsDecision trail.now.steps at → IsDecision trail.now.steps result }
 {
     let mut kept = trail.len();
+    let mut last: Option<Lit> = None;
     for at in (0..trail.len()).rev() {
         let step = trail.step(at);
-        if lits.len() > 1 && lits[1].var == step.lit.var {
-            return kept;
-        }
         if step.reason.is_none() {
+            let negated = step.lit.opposite();
+            if has_literal(lits, negated) {
+                if last.is_some() {
+                    return kept;
+                }
+                last = Some(negated);
+            }
             kept = at;
         }
     }

@@ -1,8 +1,9 @@
 //! Full propagation: what clauses force is made true, until nothing is forced or a clause is false.
 
-ghost use Rattle.std.specs.Prelude.{◌≡◌, ◌<◌, true, IfOk, IfSome, length};
-ghost use Rattle.cdcl_search.specs.Books.{are_places};
-ghost use Rattle.cdcl_search.specs.Trails.{IsFalseAt, Goes};
+ghost use Rattle.std.specs.Prelude.{◌≡◌, ℕ, ◌<◌, ◌≤◌, true, false, None, IfOk, IfSome, length};
+ghost use Rattle.cdcl_search.specs.Books.{are_places, has_place, Finds};
+ghost use Rattle.cdcl_search.specs.Trails.{IsFalseAt};
+ghost use Rattle.cdcl_search.specs.Levels.{Goes, IsSettledAt, IsSeenSince, AllSeen, AllSettled};
 
 use crate::book::Book;
 use crate::standing::{Standing, standing_of};
@@ -15,6 +16,7 @@ fn visit(trail: &mut Trail, book: &Book, place: u64) -> Result<bool, AllocError>
     requires vars { book.now.vars ≡ trail.old.vars }
     ensures goes { Goes book.now.clauses trail.old trail.new }
     ensures conflict { IfOk result (λ is_false. is_false ≡ true → IsFalseAt book.now.clauses trail.new.steps place) }
+    ensures settled { IfOk result (λ is_false. is_false ≡ false → IsSettledAt book.now.clauses trail.new.steps place) }
 {
     match standing_of(trail, book.lits(place)) {
         Standing::Settled => Ok(false),
@@ -30,12 +32,13 @@ fn visit(trail: &mut Trail, book: &Book, place: u64) -> Result<bool, AllocError>
 }
 
 /// Looks at these clauses in turn, and answers the first that is false.
-#[tactic(auto, using(crate::proofs::Trails::going))]
 fn visit_each(trail: &mut Trail, book: &Book, places: &[u64]) -> Result<Option<u64>, AllocError>
     requires places { are_places (length book.now.clauses) places.now ≡ true }
     requires vars { book.now.vars ≡ trail.old.vars }
     ensures goes { Goes book.now.clauses trail.old trail.new }
     ensures conflict { IfOk result (λ found. IfSome found (IsFalseAt book.now.clauses trail.new.steps)) }
+    ensures seen { IfOk result (λ found. found ≡ None → (place : ℕ) → has_place places.now place ≡ true
+        → IsSeenSince book.now.clauses trail.old.steps trail.new.steps place) }
 {
     for place in places {
         if visit(trail, book, *place)? {
@@ -46,7 +49,6 @@ fn visit_each(trail: &mut Trail, book: &Book, places: &[u64]) -> Result<Option<u
 }
 
 /// Looks at all clauses from a place on, and answers the first that is false.
-#[tactic(auto, using(crate::proofs::Trails::going))]
 pub(crate) fn visit_from(
     trail: &mut Trail,
     book: &Book,
@@ -55,6 +57,8 @@ pub(crate) fn visit_from(
     requires { book.now.vars ≡ trail.old.vars }
     ensures goes { Goes book.now.clauses trail.old trail.new }
     ensures conflict { IfOk result (λ found. IfSome found (IsFalseAt book.now.clauses trail.new.steps)) }
+    ensures seen { IfOk result (λ found. found ≡ None → (place : ℕ) → first ≤ place
+        → IsSeenSince book.now.clauses trail.old.steps trail.new.steps place) }
 {
     for place in first..book.len() {
         if visit(trail, book, place)? {
@@ -66,17 +70,19 @@ pub(crate) fn visit_from(
 
 /// Looks, for each step from one on, at the clauses in which it makes a literal false, further steps included. Answers
 /// a clause that is false, if there is one.
-#[tactic(auto, using(crate::proofs::Trails::going))]
 pub(crate) fn propagate(
     trail: &mut Trail,
     book: &Book,
     from: usize,
 ) -> Result<Option<u64>, AllocError>
-    requires { book.now.vars ≡ trail.old.vars }
+    requires vars { book.now.vars ≡ trail.old.vars }
+    requires finds { Finds book.now }
+    requires seen { AllSeen book.now.clauses trail.old.steps from }
     ensures goes { Goes book.now.clauses trail.old trail.new }
     ensures conflict { IfOk result (λ found. IfSome found (IsFalseAt book.now.clauses trail.new.steps)) }
+    ensures settled { IfOk result (λ found. found ≡ None → AllSettled book.now.clauses trail.new.steps) }
 {
-    for at in from..trail.vars() as usize {
+    for at in from..usize::MAX {
         if at >= trail.len() {
             return Ok(None);
         }
@@ -85,5 +91,7 @@ pub(crate) fn propagate(
             return Ok(Some(place));
         }
     }
+    // No trail is so long.
+    let _count = trail.len();
     Ok(None)
 }

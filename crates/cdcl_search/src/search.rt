@@ -1,25 +1,29 @@
 //! From one conflict to the next: propagation and decisions.
 
-ghost use Rattle.std.specs.Prelude.{◌≡◌, ℕ, ◌<◌, true, None, IfOk, IfSome, MatchOption, is_some, length};
+ghost use Rattle.std.specs.Prelude.{◌≡◌, ℕ, ◌<◌, true, None, IfOk, IfSome, is_some, length};
 ghost use Rattle.term_store.specs.Terms.{truth};
-ghost use Rattle.cdcl_search.specs.Trails.{IsFalseAt, Goes, IsTotal, all_hold, value_of, is_value};
+ghost use Rattle.cdcl_search.specs.Books.{Finds};
+ghost use Rattle.cdcl_search.specs.Trails.{IsFalseAt, IsTotal, value_of, is_value};
+ghost use Rattle.cdcl_search.specs.Levels.{Goes, AllSettled, IsSettledAt};
 
 use crate::book::Book;
 use crate::propagation::{propagate, visit_from};
-use crate::standing::{is_satisfied, is_true};
+use crate::standing::is_true;
 use crate::trail::{Step, Trail};
 use mw_text::List;
 use resolution_check::Lit;
 use std::alloc::{AllocError, Global};
 
 /// Makes a variable false that has no value, and propagates.
-#[tactic(auto, using(crate::proofs::Trails::going))]
 fn decide_free(trail: &mut Trail, book: &Book, var: u64) -> Result<Option<u64>, AllocError>
     requires vars { book.now.vars ≡ trail.old.vars }
+    requires finds { Finds book.now }
+    requires settled { AllSettled book.now.clauses trail.old.steps }
     requires below { var < trail.old.vars }
     requires free { value_of trail.old.steps var ≡ None }
     ensures goes { Goes book.now.clauses trail.old trail.new }
     ensures conflict { IfOk result (λ found. IfSome found (IsFalseAt book.now.clauses trail.new.steps)) }
+    ensures settled { IfOk result (λ found. found ≡ None → AllSettled book.now.clauses trail.new.steps) }
     ensures value { IfOk result (λ found. is_some (value_of trail.new.steps var) ≡ true) }
 {
     let from = trail.len();
@@ -29,12 +33,14 @@ fn decide_free(trail: &mut Trail, book: &Book, var: u64) -> Result<Option<u64>, 
 }
 
 /// Makes a variable false where it has no value, and propagates.
-#[tactic(auto, using(crate::proofs::Trails::going))]
 fn decide(trail: &mut Trail, book: &Book, var: u64) -> Result<Option<u64>, AllocError>
     requires vars { book.now.vars ≡ trail.old.vars }
+    requires finds { Finds book.now }
+    requires settled { AllSettled book.now.clauses trail.old.steps }
     requires below { var < trail.old.vars }
     ensures goes { Goes book.now.clauses trail.old trail.new }
     ensures conflict { IfOk result (λ found. IfSome found (IsFalseAt book.now.clauses trail.new.steps)) }
+    ensures settled { IfOk result (λ found. found ≡ None → AllSettled book.now.clauses trail.new.steps) }
     ensures value { IfOk result (λ found. is_some (value_of trail.new.steps var) ≡ true) }
 {
     match trail.value(var) {
@@ -44,11 +50,13 @@ fn decide(trail: &mut Trail, book: &Book, var: u64) -> Result<Option<u64>, Alloc
 }
 
 /// Decides the least variable without a value, as long as there is one and no clause is false.
-#[tactic(auto, using(crate::proofs::Trails::going))]
 fn decide_all(trail: &mut Trail, book: &Book) -> Result<Option<u64>, AllocError>
-    requires { book.now.vars ≡ trail.old.vars }
+    requires vars { book.now.vars ≡ trail.old.vars }
+    requires finds { Finds book.now }
+    requires settled { AllSettled book.now.clauses trail.old.steps }
     ensures goes { Goes book.now.clauses trail.old trail.new }
     ensures conflict { IfOk result (λ found. IfSome found (IsFalseAt book.now.clauses trail.new.steps)) }
+    ensures settled { IfOk result (λ found. found ≡ None → AllSettled book.now.clauses trail.new.steps) }
     ensures total { IfOk result (λ found. found ≡ None → IsTotal trail.new.vars trail.new.steps) }
 {
     for var in 0..trail.vars() {
@@ -59,32 +67,20 @@ fn decide_all(trail: &mut Trail, book: &Book) -> Result<Option<u64>, AllocError>
     Ok(None)
 }
 
-/// The first clause none of whose literals is true, where every variable has a value.
-fn first_false(trail: &Trail, book: &Book) -> Option<u64>
-    requires vars { book.now.vars ≡ trail.now.vars }
-    requires total { IsTotal trail.now.vars trail.now.steps }
-    ensures { MatchOption result (all_hold trail.now.steps book.now.clauses ≡ true) (IsFalseAt book.now.clauses trail.now.steps) }
-{
-    for place in 0..book.len() {
-        if !is_satisfied(trail, book.lits(place)) {
-            return Some(place);
-        }
-    }
-    None
-}
-
-/// Propagates and decides until a clause is false, whose place is answered, or each variable has a value and each clause
-/// a true literal. The clauses from `first` on were not looked at before.
-#[tactic(auto, using(crate::proofs::Trails::going))]
+/// Propagates and decides until a clause is false, whose place is answered, or each variable has a value and no clause is
+/// false. The clauses from `first` on were not looked at before.
 pub(crate) fn find_conflict(
     trail: &mut Trail,
     book: &Book,
     first: u64,
 ) -> Result<Option<u64>, AllocError>
-    requires { book.now.vars ≡ trail.old.vars }
+    requires vars { book.now.vars ≡ trail.old.vars }
+    requires finds { Finds book.now }
+    requires settled { (place : ℕ) → place < first → IsSettledAt book.now.clauses trail.old.steps place }
     ensures goes { Goes book.now.clauses trail.old trail.new }
     ensures conflict { IfOk result (λ found. IfSome found (IsFalseAt book.now.clauses trail.new.steps)) }
-    ensures satisfied { IfOk result (λ found. found ≡ None → all_hold trail.new.steps book.now.clauses ≡ true) }
+    ensures settled { IfOk result (λ found. found ≡ None → AllSettled book.now.clauses trail.new.steps) }
+    ensures total { IfOk result (λ found. found ≡ None → IsTotal trail.new.vars trail.new.steps) }
 {
     let from = trail.len();
     if let Some(place) = visit_from(trail, book, first)? {
@@ -93,10 +89,7 @@ pub(crate) fn find_conflict(
     if let Some(place) = propagate(trail, book, from)? {
         return Ok(Some(place));
     }
-    if let Some(place) = decide_all(trail, book)? {
-        return Ok(Some(place));
-    }
-    Ok(first_false(trail, book))
+    decide_all(trail, book)
 }
 
 /// The value of each variable.

@@ -7,8 +7,9 @@ ghost use Rattle.resolution_check.specs.declared.log.Clause.{Clause};
 ghost use Rattle.resolution_check.specs.Entries.{is_empty, satisfies, IsUnsatisfiable};
 ghost use Rattle.cnf_blaster.specs.Proper.{IsProper};
 ghost use Rattle.mw_outside.specs.Faults.{Rose};
-ghost use Rattle.cdcl_search.specs.Books.{is_below};
+ghost use Rattle.cdcl_search.specs.Books.{is_below, are_filled, Finds};
 ghost use Rattle.cdcl_search.specs.Trails.{Follows, IsFalseAt};
+ghost use Rattle.cdcl_search.specs.Levels.{AreFull};
 ghost use Rattle.cdcl_search.specs.Outcomes.{OnUnsat, OnSat, OnUnknown, OnLogFault, IsLogged, IsCut};
 ghost use Rattle.cdcl_search.specs.Going.{IsGoing, GoesOn, Refutes, Cuts, IsNext};
 
@@ -27,6 +28,7 @@ use std::alloc::{AllocError, Global};
 fn book_of(alloc: Global, vars: u64, clauses: &[Clause]) -> Result<Book, AllocError>
     requires { list_all (λ c. is_below vars c.lits) clauses.now ≡ true }
     ensures clauses { IfOk result (λ book. book.clauses ≡ clauses.now) }
+    ensures finds { IfOk result Finds }
     ensures vars { IfOk result (λ book. book.vars ≡ vars) }
 {
     let mut book = Book::new(alloc, vars)?;
@@ -58,7 +60,10 @@ fn take_lesson<L: Sink>(
     requires vars { book.old.vars ≡ trail.old.vars }
     requires small { book.old.vars ≤ 2 ^ 63 }
     requires room { length book.old.clauses < 2 ^ 63 }
+    requires finds { Finds book.old }
+    requires filled { are_filled book.old.clauses ≡ true }
     requires follows { Follows book.old.clauses trail.old.steps }
+    requires full { AreFull book.old.clauses trail.old.steps }
     requires conflict { IsFalseAt book.old.clauses trail.old.steps conflict }
     ensures next { IfOk result (λ empty. empty ≡ false → IsNext book.old book.new trail.new) }
     ensures going { IfOk result (λ empty. empty ≡ false → GoesOn (L.taken log.old) (L.taken log.new) book.old.clauses book.new.clauses) }
@@ -67,6 +72,7 @@ fn take_lesson<L: Sink>(
     ensures fault { OnLogFault result (Rose (L.faults log.old) (L.faults log.new)) }
     ensures later { L.faults log.old ≤ L.faults log.new }
 {
+    trail.steps_are_fresh();
     let lesson = learn(alloc, trail, book, conflict)?;
     let kept = kept_steps(trail, lesson.lits.as_slice());
     let clause = write_lesson(alloc, log, book.len() + 1, lesson)?;
@@ -89,7 +95,10 @@ fn search<L: Sink>(
     requires vars { book.old.vars ≡ trail.old.vars }
     requires small { book.old.vars ≤ 2 ^ 63 }
     requires room { length book.old.clauses + budget ≤ 2 ^ 63 }
+    requires finds { Finds book.old }
+    requires filled { are_filled book.old.clauses ≡ true }
     requires follows { Follows book.old.clauses trail.old.steps }
+    requires full { AreFull book.old.clauses trail.old.steps }
     ensures logged { IfOk result (λ outcome. (before : Option (List ℕ)) (ins : List Clause) →
         IsGoing before (L.taken log.old) ins book.old.clauses 0 → IsLogged before (L.taken log.new) ins budget outcome) }
     ensures sat { IfOk result (λ outcome. OnSat outcome (λ values. satisfies (truth values) book.old.clauses ≡ true)) }

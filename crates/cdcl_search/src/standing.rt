@@ -1,9 +1,9 @@
 //! How a clause stands under a trail.
 
-ghost use Rattle.std.specs.Prelude.{◌≡◌, ◌<◌, true, IfSome};
-ghost use Rattle.std.specs.List.{list_any};
+ghost use Rattle.std.specs.Prelude.{◌≡◌, ◌<◌, true, MatchOption};
 ghost use Rattle.cdcl_search.specs.Books.{is_below};
 ghost use Rattle.cdcl_search.specs.Trails.{holds};
+ghost use Rattle.cdcl_search.specs.Levels.{IsSettled};
 ghost use Rattle.cdcl_search.specs.Standings.{IsLeft, StandsSo};
 
 use crate::trail::Trail;
@@ -24,7 +24,7 @@ pub(crate) enum Standing {
 /// no value.
 fn left_over(trail: &Trail, lits: &[Lit]) -> Option<Option<Lit>>
     requires { is_below trail.now.vars lits.now ≡ true }
-    ensures { IfSome result (IsLeft trail.now.steps lits.now) }
+    ensures { MatchOption result (IsSettled trail.now.steps lits.now) (IsLeft trail.now.steps lits.now) }
 {
     let mut free: Option<Lit> = None;
     for lit in lits {
@@ -34,12 +34,14 @@ fn left_over(trail: &Trail, lits: &[Lit]) -> Option<Option<Lit>>
                     return None;
                 }
             }
-            None => {
-                if free.is_some() {
-                    return None;
+            None => match free {
+                None => free = Some(*lit),
+                Some(other) => {
+                    if other != *lit {
+                        return None;
+                    }
                 }
-                free = Some(*lit);
-            }
+            },
         }
     }
     Some(free)
@@ -66,17 +68,4 @@ pub(crate) fn is_true(trail: &Trail, lit: Lit) -> bool
         Some(value) => value != lit.negated,
         None => false,
     }
-}
-
-/// Whether one of these literals is true.
-pub(crate) fn is_satisfied(trail: &Trail, lits: &[Lit]) -> bool
-    requires { is_below trail.now.vars lits.now ≡ true }
-    ensures { result ≡ list_any (holds trail.now.steps) lits.now }
-{
-    for lit in lits {
-        if is_true(trail, *lit) {
-            return true;
-        }
-    }
-    false
 }

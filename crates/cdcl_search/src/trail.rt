@@ -1,7 +1,7 @@
 //! The literals that were made true, in their order, and the values that they give.
 
-ghost use Rattle.std.specs.Prelude.{◌≡◌, ◌<◌, ◌-◌, [], ◌∷◌, ◌++◌, replicate, Some, None, IfOk, OnOk, OnErr, length, take, slice_get};
-ghost use Rattle.cdcl_search.specs.Trails.{value_of};
+ghost use Rattle.std.specs.Prelude.{◌≡◌, ◌<◌, ◌-◌, ◌^◌, [], ◌∷◌, ◌++◌, replicate, Some, None, IfOk, OnOk, OnErr, length, take, slice_get};
+ghost use Rattle.cdcl_search.specs.Trails.{value_of, AreFresh};
 
 use resolution_check::Lit;
 use std::alloc::{AllocError, Global};
@@ -58,7 +58,8 @@ impl Trail {
 
     /// How many steps there are.
     pub(crate) fn len(&self) -> usize
-        ensures { result ≡ length self.now.steps }
+        ensures len { result ≡ length self.now.steps }
+        ensures small { result < 2 ^ 63 }
     {
         self.steps.len()
     }
@@ -86,6 +87,13 @@ impl Trail {
         ensures { result ≡ value_of self.now.steps var }
     {
         self.values[var as usize]
+    }
+
+    /// A law, with no effect: no variable had a value before its step.
+    pub(crate) fn steps_are_fresh(&self)
+        ensures { AreFresh self.now.steps }
+    {
+        let _ = &self.steps;
     }
 
     /// Makes a literal true whose variable has no value yet.

@@ -1,5 +1,5 @@
-use Rattle.std.proofs.Common.{◌≤◌, length}
+use Rattle.cdcl_search.proofs.Kept.{IsPassed}
 use Rattle.cdcl_search.proofs.learning.kept_steps.Given as goal
 
 abbrev pub invariant-loop-at : goal.invariant-loop-at
-invariant-loop-at l = l.kept ≤ length l.trail.steps
+invariant-loop-at l = IsPassed l.trail.steps l.lits l.at l.kept l.last

@@ -1,7 +1,8 @@
 use Rattle.std.proofs.Common.{◌<◌, length}
 use Rattle.std.proofs.lemmas.Option.{slice_get_within}
 use Rattle.cnf_blaster.specs.Laws.{marked}
-use Rattle.cdcl_search.proofs.Followed.{forced_at, followed_past, followed_decision, followed_forced, numbers_push, ok_both}
+use Rattle.cdcl_search.proofs.Followed.{forced_at, followed_past, followed_decision, followed_forced, numbers_push}
+use Rattle.cdcl_search.proofs.Results.{ok_both}
 use Rattle.cdcl_search.proofs.learning.trace.Goals as goal
 
 pub returns-then-not-marks-step-clause-followed : goal.returns-then-not-marks-step-clause-followed
@@ -33,4 +34,4 @@ returns-in-None-clause-followed c =
     ok_both c.trace_decision.result c.trace_decision.ensures.lits c.trace_decision.ensures.marks (λ lits marks f.
     followed_decision c.args.trail.now.steps c.args.at c.step-step.result c.step-step.ensures.there c.step-step.ensures.fresh
     c.args.book.now.clauses (marked c.args.marks.now) (marked c.trace_decision.new.marks) c.args.lesson.now.lits c.args.lesson.now.chain f
-    c.trace_decision.new.lits lits c.if-not-marks-step.false marks)
+    c.in-None.is c.trace_decision.new.lits lits c.if-not-marks-step.false marks)

@@ -17,4 +17,5 @@ loop-clause-preserved c =
     record {
       clauses = c.in_ok-add.ensures.ok ∙ ap₂ (λ cs (k : Clause). cs ++ k ∷ []) c.loop-clause.invariant.clauses c.in_ok-copy_of.ensures ∙ sym (take_at c.args.clauses.now c.loop-clause.clause-index c.clause-item.result there);
       vars = c.add.ensures.vars ∙ c.loop-clause.invariant.vars;
+      finds = c.in_ok-add.ensures.finds c.loop-clause.invariant.finds;
     }

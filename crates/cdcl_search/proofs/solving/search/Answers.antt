@@ -1,12 +1,14 @@
-use Rattle.std.proofs.Common.{◌≡◌, ◌∙◌, ℕ, List, Option, ap, sym, refl, arith}
+use Rattle.std.proofs.Common.{true, ◌≡◌, ◌∙◌, ℕ, List, Option, ap, sym, refl, arith}
 use Rattle.term_store.specs.Terms.{truth}
 use Rattle.resolution_check.specs.declared.log.Clause.{Clause}
 use Rattle.std.specs.List.{list_all}
 use Rattle.cdcl_search.specs.Books.{is_below}
 use Rattle.cdcl_search.specs.Outcomes.{IsCut}
 use Rattle.cdcl_search.specs.Going.{IsGoing}
-use Rattle.cdcl_search.proofs.Logs.{cut_here, logged_sat, logged_unsat, logged_unknown, on_err}
-use Rattle.cdcl_search.proofs.Values.{all_true}
+use Rattle.cdcl_search.proofs.Logs.{cut_here, logged_sat, logged_unsat, logged_unknown}
+use Rattle.cdcl_search.proofs.Results.{on_err}
+use Rattle.cdcl_search.proofs.Values.{all_true, all_hold_settled}
+use Rattle.cdcl_search.specs.Trails.{all_hold}
 use Rattle.cdcl_search.proofs.solving.search.Goals as goal
 
 pub returns-in_err-conflict-clause-cut : goal.returns-in_err-conflict-clause-cut
@@ -30,11 +32,11 @@ returns-in_default-clause-logged g c = λ before ins going.
 pub returns-in_default-clause-sat : goal.returns-in_default-clause-sat
 returns-in_default-clause-sat g c =
     let trail = c.find_conflict.new.trail in
+    let clauses = c.loop.book.clauses in
     let vars : c.loop.book.vars ≡ trail.vars = c.loop.invariant.vars ∙ sym c.find_conflict.ensures.goes.vars in
-    c.loop.invariant.weaker (truth c.in_ok-values.values)
-    (all_true trail.steps trail.vars c.in_ok-values.values c.loop.book.clauses c.in_ok-values.ensures.values
-    (ap (λ n. list_all (λ (k : Clause). is_below n k.lits) c.loop.book.clauses) (sym vars) ∙ c.len-held.ensures.below)
-    (c.in_ok-conflict.ensures.satisfied c.in_default.is))
+    let below : list_all (λ (k : Clause). is_below trail.vars k.lits) clauses ≡ true = ap (λ n. list_all (λ (k : Clause). is_below n k.lits) clauses) (sym vars) ∙ c.len-held.ensures.below in
+    let hold : all_hold trail.steps clauses ≡ true = all_hold_settled trail.steps trail.vars clauses (c.in_ok-conflict.ensures.total c.in_default.is) below (c.in_ok-conflict.ensures.settled c.in_default.is) in
+    c.loop.invariant.weaker (truth c.in_ok-values.values) (all_true trail.steps trail.vars c.in_ok-values.values clauses c.in_ok-values.ensures.values below hold)
 
 pub returns-in_err-take_lesson-clause-cut : goal.returns-in_err-take_lesson-clause-cut
 returns-in_err-take_lesson-clause-cut g c =

@@ -9,7 +9,10 @@ use Rattle.cdcl_search.specs.Outcomes.{input_entries}
 use Rattle.cdcl_search.specs.Going.{IsGoing}
 use Rattle.cdcl_search.proofs.Places.{all_more}
 use Rattle.cdcl_search.proofs.Trails.{follows_none, below_larger}
-use Rattle.cdcl_search.proofs.Logs.{going_first, cut_first, cut_here, unsat_shown, ok_then, err_then, on_err}
+use Rattle.cdcl_search.proofs.Logs.{going_first, cut_first, cut_here, unsat_shown}
+use Rattle.cdcl_search.proofs.Results.{on_err, err_then, ok_then}
+use Rattle.cdcl_search.proofs.Levels.{full_none}
+use Rattle.cdcl_search.specs.Levels.{AreFull}
 use Rattle.cdcl_search.proofs.solving.solve.Goals as goal
 
 pub write_inputs-requires-clause-small : goal.write_inputs-requires-clause-small
@@ -77,3 +80,6 @@ returns-clause-cut g c =
     let same : c.in_ok-book.book.clauses ≡ cs = c.in_ok-book.ensures.clauses ∙ c.as_slice-2.ensures in
     let going : IsGoing before middle cs c.in_ok-book.book.clauses 0 = subst (λ ds. IsGoing before middle cs ds 0) (sym same) (going_first before middle cs (subst P c.as_slice.ensures c.in_ok-write_inputs.ensures.takes)) in
     err_then c.search.result c.search.ensures.cut (λ cuts. cuts before cs going)
+
+pub search-requires-clause-full : goal.search-requires-clause-full
+search-requires-clause-full g c = subst (λ ss. AreFull c.in_ok-book.book.clauses ss) (sym c.in_ok-trail.ensures.steps) (full_none c.in_ok-book.book.clauses)
