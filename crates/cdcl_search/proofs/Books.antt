@@ -4,6 +4,7 @@ use Rattle.std.specs.List.{list_all, list_any}
 use Rattle.std.specs.Bool.{beq}
 use Rattle.std.proofs.lemmas.Bool.{ltb-true, lt-ltb, cases_Bool, eqb-true, eq-eqb, false≢true, or_left, or_right, and_from}
 use Rattle.std.proofs.lemmas.Option.{slice_get_read, get_or_from_slice_get}
+use Rattle.std.proofs.lemmas.List.Folds.{list_any-append}
 use Rattle.std.proofs.lemmas.List.{get_or-set_same, get_or-set_other}
 use Rattle.std.proofs.Math.Bool.{or-false, and-false, and-true}
 use Rattle.std.proofs.Math.Seq.{take-append_seam}
@@ -59,12 +60,7 @@ indexed_put clauses more clause pos neg pos' neg' y n e f g long_yes long_no bel
 -- ---- which places are listed
 
 any-push : {X : Type 0} (p : X → Bool) (xs : List X) (x : X) → list_any p (xs ++ x ∷ []) ≡ (list_any p xs || p x)
-any-push p [] x = or-false (p x)
-any-push p (z ∷ xs) x = ap (λ b. p z || b) (any-push p xs x) ∙ or_assoc (p z) (list_any p xs) (p x)
-  where
-    or_assoc : (a b c : Bool) → (a || (b || c)) ≡ ((a || b) || c)
-    or_assoc true b c = refl
-    or_assoc false b c = refl
+any-push p xs x = list_any-append p xs (x ∷ []) ∙ ap (λ b. list_any p xs || b) (or-false (p x))
 
 -- a place put last in one list
 pub listed-put : (lists : List (List ℕ)) (var place : ℕ) (old new : List ℕ) → var < length lists → old ≡ get_or lists var old → new ≡ old ++ place ∷ []

@@ -1,7 +1,7 @@
 -- Steps that are followed back from a false clause.
 use Rattle.std.proofs.Common.{◌≡◌, ℕ, ◌+◌, ◌<◌, ◌==◌, Bool, true, false, not, cond, ◌&&◌, ◌||◌, nat_lt, nat_le, List, [], ◌∷◌, ◌++◌, length, take, drop, slice_get, Option, Some, None, is_some, Ok, Err, inl, inr, refl, sym, ap, subst, ◌∙◌, arith, add-one, take-append-drop}
 use Rattle.std.specs.Option.{option_map_or, ok_or}
-use Rattle.std.proofs.lemmas.Bool.{cases_Bool, eqb-true, eq-eqb, false≢true, true≢false, or_cases, or_left, or_right, and_parts, and_from, lt-ltb, le-leb}
+use Rattle.std.proofs.lemmas.Bool.{not-true, not_from_false, cases_Bool, eqb-true, eq-eqb, false≢true, true≢false, or_cases, or_left, or_right, and_parts, and_from, lt-ltb, le-leb}
 use Rattle.std.specs.Bool.{beq}
 use Rattle.resolution_check.specs.declared.log.Lit.{Lit}
 use Rattle.resolution_check.specs.declared.log.Clause.{Clause}
@@ -27,14 +27,6 @@ pub same_bool : (a b : Bool) → (a ≡ true → b ≡ true) → (b ≡ true →
 same_bool true b there back = sym (there refl)
 same_bool false true there back = back refl
 same_bool false false there back = refl
-
-not-true : (b : Bool) → b ≡ false → not b ≡ true
-not-true true h = absurd (true≢false h)
-not-true false h = refl
-
-true-not : (b : Bool) → not b ≡ true → b ≡ false
-true-not true h = absurd (false≢true h)
-true-not false h = refl
 
 or_none_parts : (a b : Bool) → (a || b) ≡ false → (a ≡ false) × (b ≡ false)
 or_none_parts true b h = absurd (true≢false h)
@@ -110,8 +102,8 @@ vars_differ-push (k ∷ c) l once new =
     let both = and_parts _ _ once in
     let parts = or_none_parts _ _ new in
     let unlike : has_var (c ++ l ∷ []) k.var ≡ false =
-    list_any-append (λ (m : Lit). m.var == k.var) c (l ∷ []) ∙ or_both_false _ _ (true-not _ both.0) (or_both_false _ false (other_way k.var l.var parts.0) refl) in
-    and_from _ _ (not-true _ unlike) (vars_differ-push c l both.1 parts.1)
+    list_any-append (λ (m : Lit). m.var == k.var) c (l ∷ []) ∙ or_both_false _ _ (not-true _ both.0) (or_both_false _ false (other_way k.var l.var parts.0) refl) in
+    and_from _ _ (not_from_false _ unlike) (vars_differ-push c l both.1 parts.1)
 
 apart : (k l : Lit) → (k.var == l.var) ≡ false → is_same k l ≡ false
 apart k l h = ap (λ b. b && beq k.negated l.negated) h
@@ -299,16 +291,16 @@ module _ (ss : List Step) (at : ℕ) (s : Step) (there : slice_get ss at ≡ Som
                         | inl learnt ↦ or_left _ _ learnt
                         | inr pending ↦
                             let parts = and_parts _ _ pending in
-                            or_right (has lits l) _ (and_from _ _ (new l.var ∙ gain _ _ (other_var l (true-not _ both.0) parts.1) (or_right (has_var c l.var) _ parts.0)) parts.1)
+                            or_right (has lits l) _ (and_from _ _ (new l.var ∙ gain _ _ (other_var l (not-true _ both.0) parts.1) (or_right (has_var c l.var) _ parts.0)) parts.1)
                       ]
                   | inr second ↦
                       let both = and_parts _ _ second in
-                      let unlike : is_same s.lit l ≡ false = ap (λ k. is_same k l) (sym (opposite_twice s.lit)) ∙ true-not _ both.0 in
+                      let unlike : is_same s.lit l ≡ false = ap (λ k. is_same k l) (sym (opposite_twice s.lit)) ∙ not-true _ both.0 in
                       let falls = rest_fails l both.1 unlike in
                       or_right (has lits l) _ (and_from _ _ (new l.var ∙ gain _ _ (not_own l falls) (or_left _ _ (has_var_from c l both.1))) (front_fails ss at l falls))
                 ])
                 (λ h. has-resolved f.clause c p l ∙ elim (or_cases _ _ h) [
-                  | inl learnt ↦ or_left _ _ (and_from _ _ (not-true _ (unlike_behind l (f.behind l learnt))) (f.parts l ∙ or_left _ _ learnt))
+                  | inl learnt ↦ or_left _ _ (and_from _ _ (not_from_false _ (unlike_behind l (f.behind l learnt))) (f.parts l ∙ or_left _ _ learnt))
                   | inr pending ↦
                       let both = and_parts _ _ pending in
                       let lost = lose _ _ (sym (new l.var) ∙ both.0) in
@@ -319,8 +311,8 @@ module _ (ss : List Step) (at : ℕ) (s : Step) (there : slice_get ss at ≡ Som
                             let falls = rest_fails found.0 found.1 (apart s.lit found.0 other) in
                             let same : found.0 ≡ l = same_fails ss found.0 l found.2 (front_fails ss at found.0 falls) both.1 in
                             let unlike : is_same (opposite p) l ≡ false = apart (opposite p) l lost.0 in
-                            or_right (not (is_same p l) && has f.clause l) _ (and_from _ _ (not-true _ unlike) (ap (has c) (sym same) ∙ found.1))
-                        | inr before ↦ or_left _ _ (and_from _ _ (not-true _ (unlike_other l lost.0)) (f.parts l ∙ or_right (has lits l) _ (and_from _ _ before both.1)))
+                            or_right (not (is_same p l) && has f.clause l) _ (and_from _ _ (not_from_false _ unlike) (ap (has c) (sym same) ∙ found.1))
+                        | inr before ↦ or_left _ _ (and_from _ _ (not_from_false _ (unlike_other l lost.0)) (f.parts l ∙ or_right (has lits l) _ (and_from _ _ before both.1)))
                       ]
                 ]);
             learnt_false = f.learnt_false;

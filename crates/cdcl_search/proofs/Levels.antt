@@ -1,7 +1,7 @@
 -- Settled clauses: one step more, and decisions.
 use Rattle.std.proofs.Common.{◌≡◌, ◌⊎◌, ℕ, zero, suc, ◌+◌, ◌<◌, ◌≤◌, ◌==◌, Bool, true, false, not, List, [], ◌∷◌, ◌++◌, length, length-append, get_or, take, drop, take-append-drop, slice_get, Option, Some, None, is_some, inl, inr, refl, sym, ap, subst, ◌∙◌, arith}
 use Rattle.std.specs.Bool.{beq}
-use Rattle.std.proofs.lemmas.Bool.{cases_Bool, cases_lt, eqb-true, false≢true, true≢false, or_left, or_cases}
+use Rattle.std.proofs.lemmas.Bool.{not-true, cases_Bool, cases_lt, eqb-true, false≢true, true≢false, or_left, or_cases}
 use Rattle.std.proofs.lemmas.List.Folds.{list_any_at}
 use Rattle.std.proofs.lemmas.Option.{slice_get_within, same_Some, get_or_from_slice_get, slice_get-get_or}
 use Rattle.std.proofs.lemmas.List.{take-append-le, take-take, length-take, get_or_append_left}
@@ -164,14 +164,10 @@ settled_two ss c i d m free within e left is ne =
       two = get_or c i d;
       inside_one = ap (λ xs. has xs m) (sym (take-append-drop i c)) ∙ has-append (take i c) (drop i c) m ∙ or_left _ _ forced.inside;
       inside_two = has_at c i d within;
-      apart = true-not _ ne;
+      apart = not-true _ ne;
       free_one = forced.free;
       free_two = sym e;
     })
-  where
-    true-not : (b : Bool) → not b ≡ true → b ≡ false
-    true-not true h = absurd (false≢true h)
-    true-not false h = refl
 
 -- ---- one clause looked at
 

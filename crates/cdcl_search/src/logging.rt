@@ -57,11 +57,11 @@ fn write_input<L: Sink>(
     ensures fault { OnLogFault result (Rose (L.faults log.old) (L.faults log.new)) }
     ensures later { L.faults log.old ≤ L.faults log.new }
 {
-    let entry = Entry::Input {
+    let input = Entry::Input {
         id,
         clause: copy_of(clause)?,
     };
-    write_line(alloc, log, &entry)
+    write_line(alloc, log, &input)
 }
 
 /// Writes the clauses as inputs, numbered from 1.
@@ -102,7 +102,7 @@ pub(crate) fn write_lesson<L: Sink>(
     let clause = Clause {
         lits: lits.clone()?,
     };
-    let entry = Entry::Add { id, clause, chain };
-    write_line(alloc, log, &entry)?;
+    let addition = Entry::Add { id, clause, chain };
+    write_line(alloc, log, &addition)?;
     Ok(Clause { lits })
 }
