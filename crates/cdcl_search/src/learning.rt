@@ -1,6 +1,6 @@
 //! What a false clause teaches: the decisions on which it rests cannot all stand together.
 
-ghost use Rattle.std.specs.Prelude.{◌≡◌, ℕ, ◌+◌, ◌<◌, ◌≤◌, ◌∷◌, [], ◌++◌, ◌==◌, ◌&&◌, ◌||◌, not, true, false, Some, IfOk, OnOk, length, take, slice_get, replicate, if◌then◌else◌};
+ghost use Rattle.std.specs.Prelude.{◌≡◌, ℕ, ◌+◌, ◌<◌, ◌∷◌, [], ◌++◌, ◌==◌, ◌||◌, true, false, Some, IfOk, OnOk, length, take, slice_get, replicate, if◌then◌else◌};
 ghost use Rattle.resolution_check.specs.declared.log.Clause.{Clause};
 ghost use Rattle.resolution_check.specs.Clauses.{opposite, has};
 ghost use Rattle.resolution_check.specs.Earned.{has_var};
