@@ -1,4 +1,6 @@
 pub mod Books
+pub mod Bound
+pub mod Codes
 pub mod Earned
 pub mod Followed
 pub mod Kept

@@ -3,6 +3,7 @@
 #![tactic(auto)]
 
 mod book;
+pub mod laws;
 mod learning;
 mod logging;
 mod outcome;
