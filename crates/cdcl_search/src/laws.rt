@@ -9,7 +9,8 @@ ghost use Rattle.resolution_check.specs.Earned.{is_deletion};
 ghost use Rattle.cdcl_search.specs.Books.{is_below};
 ghost use Rattle.cdcl_search.specs.Outcomes.{IsSearchLog};
 
-/// A search that deletes nothing logs at most 3^V additions over V variables, since each is earned: so a budget above that is never used up.
+/// A search that deletes nothing logs at most 3^V additions over V variables, since each is earned: so a budget above
+/// that is never used up.
 pub fn bound_law()
     ensures { (vars : ℕ) (clauses : List Clause) (es : List Entry) → list_all (λ c. is_below vars c.lits) clauses ≡ true
         → IsSearchLog clauses es → list_any is_deletion es ≡ false → addition_count es ≤ 3 ^ vars }
