@@ -1,9 +1,10 @@
--- How many additions a log has that deletes nothing.
-use Rattle.std.proofs.Common.{◌≡◌, ◌⊎◌, ℕ, ◌+◌, ◌^◌, ◌<◌, ◌≤◌, ◌||◌, ◌&&◌, ◌==◌, Bool, true, false, not, cond, List, [], ◌∷◌, ◌++◌, length, Option, Some, None, is_some, Ok, Err, inl, inr, refl, sym, ap, subst, ◌∙◌, arith, nat_lt}
+-- How many additions a log has.
+use Rattle.std.proofs.Common.{◌≡◌, ◌⊎◌, ℕ, suc, ◌+◌, ◌*◌, ◌^◌, ◌<◌, ◌≤◌, ◌||◌, ◌&&◌, ◌==◌, Bool, true, false, not, cond, List, [], ◌∷◌, ◌++◌, length, Option, Some, None, is_some, Result, Ok, Err, IfOk, inl, inr, refl, sym, ap, ap₂, subst, ◌∙◌, add-zero, zero-mul, arith, nat_lt}
 use Rattle.std.specs.Option.{option_or, option_map_or, ok_or}
 use Rattle.std.specs.List.{list_any, list_all, IsDistinct, AllByRecursion}
 use Rattle.std.proofs.Math.Dec.{eqb}
-use Rattle.std.proofs.lemmas.Bool.{and_parts, cases_Bool, false≢true, or_cases, eqb-true, eq-eqb}
+use Rattle.std.proofs.Math.Nat.{le_of_mul-le-mul_left, mul-le-mul_right}
+use Rattle.std.proofs.lemmas.Bool.{and_parts, cases_Bool, false_from_ne_true, false≢true, or_cases, eqb-true, eq-eqb}
 use Rattle.std.proofs.lemmas.List.Elements.{filter_map-append}
 use Rattle.std.proofs.lemmas.List.Folds.{list_all-append}
 use Rattle.std.proofs.lemmas.Map.Keys.{IsDistinct-cons}
@@ -14,14 +15,16 @@ use Rattle.resolution_check.specs.declared.log.Entry.{Entry}
 use Rattle.resolution_check.specs.declared.log.Entry.TheVariants.{Input, Add, Delete, End}
 use Rattle.resolution_check.specs.declared.log.Bad.TheVariants.{UnknownId, NoPivot}
 use Rattle.resolution_check.specs.Clauses.{has, is_same, opposite, resolvent}
-use Rattle.resolution_check.specs.Entries.{clause_by, clause_given, is_deleted, clause_held, addition_count, additions_in, inputs, input_of, resolved, resolved_from, and_then}
-use Rattle.resolution_check.specs.Earned.{vars_differ, is_deletion, IsEarned, IsEarnedAddition, AllEarned}
+use Rattle.resolution_check.specs.Entries.{clause_by, deletes, clause_given, is_given, is_deleted, clause_held, addition_count, additions_in, inputs, input_of, resolved, resolved_from, and_then, KeepsGood, EachAfter, IsGood}
+use Rattle.resolution_check.specs.Earned.{vars_differ, is_deletion, ends_deleting, run_count, IsEarned, IsEarnedAddition, MayDelete, MayFollow}
 use Rattle.resolution_check.proofs.Accepted.{count-push}
-use Rattle.resolution_check.proofs.Goods.{by_steps, clause_given-push, any-push}
+use Rattle.resolution_check.proofs.Goods.{by_steps, each_push, clause_given-push, any-push, given_from_deleted}
 use Rattle.resolution_check.proofs.Literals.{all_at, all_from}
 use Rattle.resolution_check.proofs.Resolvents.{has-resolvent}
 use Rattle.cdcl_search.specs.Books.{is_below}
-use Rattle.cdcl_search.specs.Outcomes.{IsSearchLog}
+use Rattle.cdcl_search.specs.declared.outcome.Outcome.{Outcome}
+use Rattle.cdcl_search.specs.declared.outcome.Outcome.TheVariants.{Unsat, Sat, Unknown}
+use Rattle.cdcl_search.specs.Outcomes.{IsSearchLog, IsLogged, OnUnknown}
 use Rattle.cdcl_search.proofs.Codes.{code, code_below, inside_from_code}
 use Rattle.cdcl_search.proofs.Logs.{inputs_of}
 
@@ -78,41 +81,112 @@ module _ (limit : ℕ) (held : ℕ → Option Clause) (below : (id : ℕ) (c : C
       by None there h = absurd (cc)
       by (Some c) there h = from_below c.lits 1 ids s (below id c there) h
 
--- ---- where nothing is deleted, each clause that was given is held
+-- ---- one entry more: runs of deletions
 
-none_deleted : (es : List Entry) (id : ℕ) → list_any is_deletion es ≡ false → is_deleted es id ≡ false
-none_deleted [] id h = refl
-none_deleted (Input own c ∷ es) id h = none_deleted es id h
-none_deleted (Add own c chain ∷ es) id h = none_deleted es id h
-none_deleted (Delete own ∷ es) id h = absurd (false≢true (sym h))
-none_deleted (End ∷ es) id h = none_deleted es id h
+runs-push : (deleting : Bool) (es : List Entry) (e : Entry) → run_count deleting (es ++ e ∷ []) ≡ run_count deleting es + cond (is_deletion e && not (ends_deleting deleting es)) 1 0
+runs-push deleting [] e = omega arith
+runs-push deleting (d ∷ es) e = let rest = runs-push (is_deletion d) es e in omega arith
 
-held_given : (es : List Entry) (id : ℕ) → list_any is_deletion es ≡ false → clause_held es id ≡ clause_given es id
-held_given es id h = ap (λ b. cond b None (clause_given es id)) (none_deleted es id h)
+ends-push : (deleting : Bool) (es : List Entry) (e : Entry) → ends_deleting deleting (es ++ e ∷ []) ≡ is_deletion e
+ends-push deleting [] e = refl
+ends-push deleting (d ∷ es) e = ends-push (is_deletion d) es e
+
+-- where nothing is deleted there is no run
+no_runs : (deleting : Bool) (es : List Entry) → list_any is_deletion es ≡ false → run_count deleting es ≡ 0
+no_runs deleting [] h = refl
+no_runs deleting (Input id c ∷ es) h = let rest = no_runs false es h in omega arith
+no_runs deleting (Add id c chain ∷ es) h = let rest = no_runs false es h in omega arith
+no_runs deleting (Delete id ∷ es) h = absurd (false≢true (sym h))
+no_runs deleting (End ∷ es) h = let rest = no_runs false es h in omega arith
+
+-- ---- one entry more: clauses that are held
+
+given_of_held : (es : List Entry) (id : ℕ) (c : Clause) → clause_held es id ≡ Some c → clause_given es id ≡ Some c
+given_of_held es id c there = by (is_deleted es id) (clause_given es id) there
+  where
+    by : (b : Bool) (o : Option Clause) → cond b None o ≡ Some c → o ≡ Some c
+    by true o h = absurd (cc)
+    by false o h = h
+
+held_both : (es : List Entry) (e : Entry) (id : ℕ) → clause_held (es ++ e ∷ []) id ≡ cond (is_deleted es id || deletes id e) None (option_or (clause_given es id) (clause_by id e))
+held_both es e id = ap₂ (λ b o. cond b None o) (any-push (deletes id) es e) (clause_given-push es e id)
+
+deletes_none : (e : Entry) (id : ℕ) → is_deletion e ≡ false → deletes id e ≡ false
+deletes_none (Input own c) id h = refl
+deletes_none (Add own c chain) id h = refl
+deletes_none (Delete own) id h = absurd (false≢true (sym h))
+deletes_none End id h = refl
+
+held_still : (es : List Entry) (e : Entry) (id : ℕ) (c : Clause) → is_deletion e ≡ false → clause_held es id ≡ Some c → clause_held (es ++ e ∷ []) id ≡ Some c
+held_still es e id c keeps there = held_both es e id ∙ by (is_deleted es id) (deletes id e) (clause_given es id) (clause_by id e) (deletes_none e id keeps) there
+  where
+    by : (b d : Bool) (o n : Option Clause) → d ≡ false → cond b None o ≡ Some c → cond (b || d) None (option_or o n) ≡ Some c
+    by true d o n none h = absurd (cc)
+    by false d None n none h = absurd (cc)
+    by false d (Some k) n none h = ap (λ b. cond b None (Some k)) none ∙ h
+
+held_now : (es : List Entry) (id : ℕ) (clause : Clause) (chain : List ℕ) → IsGood es → is_given es id ≡ false → clause_held (es ++ Add id clause chain ∷ []) id ≡ Some clause
+held_now es id clause chain good new = held_both es (Add id clause chain) id ∙ by (is_deleted es id) (clause_given es id) (false_from_ne_true (is_deleted es id) (λ d. false≢true (sym new ∙ given_from_deleted es good id d))) new
+  where
+    by : (b : Bool) (o : Option Clause) → b ≡ false → is_some o ≡ false → cond (b || false) None (option_or o (cond (id == id) (Some clause) None)) ≡ Some clause
+    by true o kept h = absurd (false≢true (sym kept))
+    by false None kept h = ap (λ b. cond b (Some clause) None) (eq-eqb id id refl)
+    by false (Some c) kept h = absurd (false≢true (sym h))
+
+-- ---- powers
+
+-- a new run after as many additions as a run owes
+spread : (runs power count added : ℕ) → added ≤ runs * power + count → count ≤ power → 1000 * (runs + 1) * (runs + 2) ≤ added → runs + 2 ≤ power
+spread runs power count added few small owed =
+    let product : (runs + 1) * (1000 * (runs + 2)) ≤ (runs + 1) * power = omega arith in
+    let far = le_of_mul-le-mul_left {m = 1000 * (runs + 2)} {n = power} {k = runs + 1} product (omega arith) in
+    omega arith
+
+most : (runs power count added : ℕ) → added ≤ runs * power + count → count ≤ power → (runs ≡ 0) ⊎ (runs + 1 ≤ power) → added ≤ power * (power + 1)
+most runs power count added few small (inl none) = let nothing : runs * power ≡ 0 = ap (λ n. n * power) none ∙ zero-mul power in omega arith
+most runs power count added few small (inr apart) = let product = mul-le-mul_right {m = runs + 1} {n = power} power apart in omega arith
 
 -- ---- the codes of the additions
 
--- a clause that was given, with no variable twice, has this code
+-- a clause that is held, with no variable twice, has this code
 record IsCodeOf (limit : ℕ) (es : List Entry) (q : ℕ) : Type 0 where
   id : ℕ
   clause : Clause
-  given : clause_given es id ≡ Some clause
+  held : clause_held es id ≡ Some clause
   once : vars_differ clause.lits ≡ true
   same : code clause.lits limit ≡ q
 
--- the clauses given have variables below the limit only, and the additions have codes, no two of them the same
+-- the clauses given have variables below the limit only, and the additions since the last deletion have codes, no two of
+-- them the same; before each run of deletions there are few additions, and so there are few runs
 record IsCoded (limit : ℕ) (es : List Entry) : Type 0 where
+  good : IsGood es
   below : (id : ℕ) (c : Clause) → clause_given es id ≡ Some c → is_below limit c.lits ≡ true
   codes : List ℕ
-  count : length codes ≡ addition_count es
   distinct : IsDistinct eqb codes
   coded : (q : ℕ) → list_any (eqb q) codes ≡ true → IsCodeOf limit es q
+  few : addition_count es ≤ run_count false es * 3 ^ limit + length codes
+  fresh : ends_deleting false es ≡ true → length codes ≡ 0
+  apart : (run_count false es ≡ 0) ⊎ (run_count false es + 1 ≤ 3 ^ limit)
 
 none_same : (x : ℕ) (xs : List ℕ) → list_any (eqb x) xs ≡ false → AllByRecursion (λ y. eqb x y ≡ false) xs
 none_same x [] h = tt
 none_same x (y ∷ xs) h = let both = neither (eqb x y) (list_any (eqb x) xs) h in (both.0, none_same x xs both.1)
 
+-- what an entry owes in such a log
+abbrev Owes : List Entry → Entry → Type 0
+Owes es e = KeepsGood es e × IsEarned es e × MayFollow es e
+
+owes_each : (before es : List Entry) → EachAfter KeepsGood before es → EachAfter IsEarned before es → EachAfter MayFollow before es → EachAfter Owes before es
+owes_each before [] good earned spaced = tt
+owes_each before (e ∷ es) good earned spaced = ((good.0, earned.0, spaced.0), owes_each (before ++ e ∷ []) es good.1 earned.1 spaced.1)
+
 module _ (limit : ℕ) (es : List Entry) (h : IsCoded limit es) where
+  few_codes : length h.codes ≤ 3 ^ limit
+  few_codes = length-le_from_distinct_below h.codes (3 ^ limit) h.distinct (λ q there. let k = h.coded q there in subst (λ n. n < 3 ^ limit) k.same (code_below k.clause.lits limit))
+
+  below_held : (id : ℕ) (c : Clause) → clause_held es id ≡ Some c → is_below limit c.lits ≡ true
+  below_held id c there = h.below id c (given_of_held es id c there)
+
   below_more : (e : Entry) → ((id : ℕ) (c : Clause) → clause_by id e ≡ Some c → is_below limit c.lits ≡ true) → (id : ℕ) (c : Clause) → clause_given (es ++ e ∷ []) id ≡ Some c → is_below limit c.lits ≡ true
   below_more e small id c there = by (clause_given es id) refl (sym (clause_given-push es e id) ∙ there)
     where
@@ -120,17 +194,38 @@ module _ (limit : ℕ) (es : List Entry) (h : IsCoded limit es) where
       by None before now = small id c now
       by (Some d) before now = h.below id c (before ∙ now)
 
-  code_more : (e : Entry) (q : ℕ) → IsCodeOf limit es q → IsCodeOf limit (es ++ e ∷ []) q
-  code_more e q k = record { id = k.id; clause = k.clause; given = clause_given-push es e k.id ∙ ap (λ o. option_or o (clause_by k.id e)) k.given; once = k.once; same = k.same }
+  code_more : (e : Entry) (q : ℕ) → is_deletion e ≡ false → IsCodeOf limit es q → IsCodeOf limit (es ++ e ∷ []) q
+  code_more e q keeps k = record { id = k.id; clause = k.clause; held = held_still es e k.id k.clause keeps k.held; once = k.once; same = k.same }
 
-  -- an entry that is no addition
-  plain_more : (e : Entry) → additions_in e ≡ 0 → ((id : ℕ) (c : Clause) → clause_by id e ≡ Some c → is_below limit c.lits ≡ true) → IsCoded limit (es ++ e ∷ [])
-  plain_more e none small =
-      let before = h.count in
-      let now = count-push es e in
-      record { below = below_more e small; codes = h.codes; count = omega arith; distinct = h.distinct; coded = λ q there. code_more e q (h.coded q there) }
+  same_runs : (e : Entry) → is_deletion e ≡ false → run_count false (es ++ e ∷ []) ≡ run_count false es
+  same_runs e keeps = runs-push false es e ∙ by (is_deletion e) keeps
+    where
+      by : (b : Bool) → b ≡ false → run_count false es + cond (b && not (ends_deleting false es)) 1 0 ≡ run_count false es
+      by true h = absurd (false≢true (sym h))
+      by false h = omega arith
 
-  module _ (id : ℕ) (clause : Clause) (chain : List ℕ) (earned : IsEarnedAddition es id clause chain) (kept : list_any is_deletion es ≡ false) where
+  same_apart : (e : Entry) → is_deletion e ≡ false → (run_count false (es ++ e ∷ []) ≡ 0) ⊎ (run_count false (es ++ e ∷ []) + 1 ≤ 3 ^ limit)
+  same_apart e keeps = subst (λ n. (n ≡ 0) ⊎ (n + 1 ≤ 3 ^ limit)) (sym (same_runs e keeps)) h.apart
+
+  not_ending : (e : Entry) (n : ℕ) → is_deletion e ≡ false → ends_deleting false (es ++ e ∷ []) ≡ true → n ≡ 0
+  not_ending e n keeps ends = absurd (false≢true (sym keeps ∙ sym (ends-push false es e) ∙ ends))
+
+  -- an entry that is no addition and no deletion
+  plain_more : (e : Entry) → KeepsGood es e → is_deletion e ≡ false → additions_in e ≡ 0 → ((id : ℕ) (c : Clause) → clause_by id e ≡ Some c → is_below limit c.lits ≡ true) → IsCoded limit (es ++ e ∷ [])
+  plain_more e keeps_good keeps none small =
+      let count : addition_count (es ++ e ∷ []) ≡ addition_count es = count-push es e ∙ ap (λ n. addition_count es + n) none ∙ add-zero (addition_count es) in
+      record {
+        good = each_push KeepsGood es e h.good keeps_good;
+        below = below_more e small;
+        codes = h.codes;
+        distinct = h.distinct;
+        coded = λ q there. code_more e q keeps (h.coded q there);
+        few = rw (count, same_runs e keeps) h.few;
+        fresh = not_ending e (length h.codes) keeps;
+        apart = same_apart e keeps;
+      }
+
+  module _ (id : ℕ) (clause : Clause) (chain : List ℕ) (earned : IsEarnedAddition es id clause chain) where
     abbrev own : ℕ
     own = code clause.lits limit
 
@@ -142,65 +237,121 @@ module _ (limit : ℕ) (es : List Entry) (h : IsCoded limit es) where
       | inr none ↦ none
       | inl there ↦
           let k = h.coded own there in
-          let outside = earned.smallest k.id k.clause (held_given es k.id kept ∙ k.given) in
-          absurd (false≢true (sym outside ∙ inside_from_code k.clause.lits clause.lits limit k.once (h.below k.id k.clause k.given) k.same))
+          let outside = earned.smallest k.id k.clause k.held in
+          absurd (false≢true (sym outside ∙ inside_from_code k.clause.lits clause.lits limit k.once (below_held k.id k.clause k.held) k.same))
     ]
 
     is_below_too : is_below limit clause.lits ≡ true
     is_below_too =
         let r = earned.exact.0 in
-        let small = resolved_below limit (clause_held es) (λ n c there. h.below n c (sym (held_given es n kept) ∙ there)) chain r earned.exact.1 in
+        let small = resolved_below limit (clause_held es) below_held chain r earned.exact.1 in
         all_from (λ k. nat_lt k.var limit) clause.lits (λ l there. all_at (λ k. nat_lt k.var limit) r small l (all_at (has r) clause.lits earned.exact.3 l there))
-
-    is_given_now : clause_given (es ++ addition ∷ []) id ≡ Some clause
-    is_given_now = clause_given-push es addition id ∙ by (clause_given es id) earned.good.1.0
-      where
-        by : (o : Option Clause) → is_some o ≡ false → option_or o (cond (id == id) (Some clause) None) ≡ Some clause
-        by None new = ap (λ b. cond b (Some clause) None) (eq-eqb id id refl)
-        by (Some c) new = absurd (false≢true (sym new))
 
     code_now : (q : ℕ) → list_any (eqb q) (own ∷ h.codes) ≡ true → IsCodeOf limit (es ++ addition ∷ []) q
     code_now q there = elim (or_cases (eqb q own) (list_any (eqb q) h.codes) there) [
-      | inl here ↦ record { id = id; clause = clause; given = is_given_now; once = earned.once; same = sym (eqb-true q own here) }
-      | inr before ↦ code_more addition q (h.coded q before)
+      | inl here ↦ record { id = id; clause = clause; held = held_now es id clause chain h.good earned.good.1.0; once = earned.once; same = sym (eqb-true q own here) }
+      | inr before ↦ code_more addition q refl (h.coded q before)
     ]
 
+    one_more : (added runs power count : ℕ) → added ≤ runs * power + count → added + 1 ≤ runs * power + suc count
+    one_more added runs power count few = omega arith
+
     addition_more : IsCoded limit (es ++ addition ∷ [])
-    addition_more =
-        let before = h.count in
-        let now = count-push es addition in
-        record {
-          below = below_more addition (own_below limit id clause is_below_too);
-          codes = own ∷ h.codes;
-          count = omega arith;
-          distinct = IsDistinct-cons eqb own h.codes (none_same own h.codes new_code) h.distinct;
-          coded = code_now;
-        }
+    addition_more = record {
+      good = each_push KeepsGood es addition h.good earned.good;
+      below = below_more addition (own_below limit id clause is_below_too);
+      codes = own ∷ h.codes;
+      distinct = IsDistinct-cons eqb own h.codes (none_same own h.codes new_code) h.distinct;
+      coded = code_now;
+      few = rw (count-push es addition, same_runs addition refl) (one_more (addition_count es) (run_count false es) (3 ^ limit) (length h.codes) h.few);
+      fresh = not_ending addition (length (own ∷ h.codes)) refl;
+      apart = same_apart addition refl;
+    }
 
-  coded_more : (e : Entry) → IsEarned es e → list_any is_deletion es ≡ false → is_deletion e ≡ false → are_below limit (inputs (e ∷ [])) ≡ true → IsCoded limit (es ++ e ∷ [])
-  coded_more (Input id clause) earned kept keeps small = plain_more (Input id clause) refl (own_below limit id clause (and_parts _ _ small).0)
-  coded_more (Add id clause chain) earned kept keeps small = addition_more id clause chain earned kept
-  coded_more (Delete id) earned kept keeps small = absurd (false≢true (sym keeps))
-  coded_more End earned kept keeps small = plain_more End refl (λ id c there. absurd (cc))
+  module _ (id : ℕ) (keeps_good : KeepsGood es (Delete id)) (may : MayDelete es id) where
+    abbrev deletion : Entry
+    deletion = Delete id
 
--- where nothing is deleted and the inputs have variables below the limit only
-coded_all : (limit : ℕ) (es : List Entry) → AllEarned es → list_any is_deletion es ≡ false → are_below limit (inputs es) ≡ true → IsCoded limit es
+    same_count : addition_count (es ++ deletion ∷ []) ≡ addition_count es
+    same_count = count-push es deletion ∙ add-zero (addition_count es)
+
+    -- no code is left, whatever the new count of runs is
+    none_left : (runs : ℕ) → run_count false (es ++ deletion ∷ []) ≡ runs → addition_count es ≤ runs * 3 ^ limit + 0 → (runs ≡ 0) ⊎ (runs + 1 ≤ 3 ^ limit) → IsCoded limit (es ++ deletion ∷ [])
+    unfolding IsDistinct
+    none_left runs is few apart = record {
+      good = each_push KeepsGood es deletion h.good keeps_good;
+      below = below_more deletion (λ own c there. absurd (cc));
+      codes = [];
+      distinct = tt;
+      coded = λ q there. absurd (false≢true there);
+      few = rw (same_count, is) few;
+      fresh = λ ends. refl;
+      apart = subst (λ n. (n ≡ 0) ⊎ (n + 1 ≤ 3 ^ limit)) (sym is) apart;
+    }
+
+    runs_by : (ends : Bool) → ends_deleting false es ≡ ends → run_count false (es ++ deletion ∷ []) ≡ run_count false es + cond (not ends) 1 0
+    runs_by ends is = runs-push false es deletion ∙ ap (λ b. run_count false es + cond (not b) 1 0) is
+
+    run_goes_on : ends_deleting false es ≡ true → IsCoded limit (es ++ deletion ∷ [])
+    run_goes_on ends = none_left (run_count false es) (runs_by true ends ∙ add-zero (run_count false es)) (subst (λ n. addition_count es ≤ run_count false es * 3 ^ limit + n) (h.fresh ends) h.few) h.apart
+
+    run_begins : ends_deleting false es ≡ false → IsCoded limit (es ++ deletion ∷ [])
+    run_begins none =
+        let owed : 1000 * (run_count false es + 1) * (run_count false es + 2) ≤ addition_count es = elim may.apart [ inl ends ↦ absurd (false≢true (sym none ∙ ends)) | inr owed ↦ owed ] in
+        none_left (run_count false es + 1) (runs_by false none) (next_few (run_count false es) (3 ^ limit) (length h.codes) (addition_count es) h.few few_codes)
+        (inr (next_apart (run_count false es) (3 ^ limit) (spread (run_count false es) (3 ^ limit) (length h.codes) (addition_count es) h.few few_codes owed)))
+      where
+        next_few : (runs power count added : ℕ) → added ≤ runs * power + count → count ≤ power → added ≤ (runs + 1) * power + 0
+        next_few runs power count added few small = grind arith
+
+        next_apart : (runs power : ℕ) → runs + 2 ≤ power → (runs + 1) + 1 ≤ power
+        next_apart runs power within = omega arith
+
+    deletion_more : IsCoded limit (es ++ deletion ∷ [])
+    deletion_more = elim (cases_Bool (ends_deleting false es)) [ inl ends ↦ run_goes_on ends | inr none ↦ run_begins none ]
+
+  coded_more : (e : Entry) → Owes es e → are_below limit (inputs (e ∷ [])) ≡ true → IsCoded limit (es ++ e ∷ [])
+  coded_more (Input id clause) owes small = plain_more (Input id clause) owes.0 refl refl (own_below limit id clause (and_parts _ _ small).0)
+  coded_more (Add id clause chain) owes small = addition_more id clause chain owes.1
+  coded_more (Delete id) owes small = deletion_more id owes.0 owes.2
+  coded_more End owes small = plain_more End owes.0 refl refl (λ id c there. absurd (cc))
+
+-- where the inputs have variables below the limit only
+coded_all : (limit : ℕ) (es : List Entry) → EachAfter Owes [] es → are_below limit (inputs es) ≡ true → IsCoded limit es
 unfolding IsDistinct
-coded_all limit = by_steps IsEarned (λ es. list_any is_deletion es ≡ false → are_below limit (inputs es) ≡ true → IsCoded limit es) start step
+coded_all limit = by_steps Owes (λ es. are_below limit (inputs es) ≡ true → IsCoded limit es) start step
   where
-    start : list_any is_deletion [] ≡ false → are_below limit (inputs []) ≡ true → IsCoded limit []
-    start kept small = record { below = λ id c there. absurd (cc); codes = []; count = refl; distinct = tt; coded = λ q there. absurd (false≢true there) }
+    start : are_below limit (inputs []) ≡ true → IsCoded limit []
+    start small = record { good = tt; below = λ id c there. absurd (cc); codes = []; distinct = tt; coded = λ q there. absurd (false≢true there); few = omega arith; fresh = λ ends. refl; apart = inl refl }
 
-    step : (es : List Entry) (e : Entry) → IsEarned es e → (list_any is_deletion es ≡ false → are_below limit (inputs es) ≡ true → IsCoded limit es) → list_any is_deletion (es ++ e ∷ []) ≡ false → are_below limit (inputs (es ++ e ∷ [])) ≡ true → IsCoded limit (es ++ e ∷ [])
-    step es e earned before kept small =
-        let none = neither (list_any is_deletion es) (is_deletion e) (sym (any-push is_deletion es e) ∙ kept) in
+    step : (es : List Entry) (e : Entry) → Owes es e → (are_below limit (inputs es) ≡ true → IsCoded limit es) → are_below limit (inputs (es ++ e ∷ [])) ≡ true → IsCoded limit (es ++ e ∷ [])
+    step es e owes before small =
         let split : are_below limit (inputs (es ++ e ∷ [])) ≡ (are_below limit (inputs es) && are_below limit (inputs (e ∷ []))) =
         ap (are_below limit) (filter_map-append input_of es (e ∷ [])) ∙ list_all-append (λ c. is_below limit c.lits) (inputs es) (inputs (e ∷ [])) in
         let both = and_parts (are_below limit (inputs es)) (are_below limit (inputs (e ∷ []))) (sym split ∙ small) in
-        coded_more limit es (before none.0 both.0) e earned none.0 none.1 both.1
+        coded_more limit es (before both.0) e owes both.1
 
-pub few_additions : (vars : ℕ) (clauses : List Clause) (es : List Entry) → list_all (λ c. is_below vars c.lits) clauses ≡ true → IsSearchLog clauses es → list_any is_deletion es ≡ false → addition_count es ≤ 3 ^ vars
-few_additions vars clauses es small log kept =
-    let h = coded_all vars es log.earned kept (ap (are_below vars) (inputs_of clauses es log) ∙ small) in
-    let each : (q : ℕ) → list_any (eqb q) h.codes ≡ true → q < 3 ^ vars = λ q there. let k = h.coded q there in subst (λ n. n < 3 ^ vars) k.same (code_below k.clause.lits vars) in
-    subst (λ n. n ≤ 3 ^ vars) h.count (length-le_from_distinct_below h.codes (3 ^ vars) h.distinct each)
+-- ---- the bounds
+
+coded_log : (vars : ℕ) (clauses : List Clause) (es : List Entry) → are_below vars clauses ≡ true → IsSearchLog clauses es → IsCoded vars es
+coded_log vars clauses es small log = coded_all vars es (owes_each [] es log.good log.earned log.spaced) (ap (are_below vars) (inputs_of clauses es log) ∙ small)
+
+pub undeleted_bound : (vars : ℕ) (clauses : List Clause) (es : List Entry) → list_all (λ c. is_below vars c.lits) clauses ≡ true → IsSearchLog clauses es → list_any is_deletion es ≡ false → addition_count es ≤ 3 ^ vars
+undeleted_bound vars clauses es small log kept =
+    let h = coded_log vars clauses es small log in
+    none (run_count false es) (3 ^ vars) (length h.codes) (addition_count es) h.few (few_codes vars es h) (no_runs false es kept)
+  where
+    none : (runs power count added : ℕ) → added ≤ runs * power + count → count ≤ power → runs ≡ 0 → added ≤ power
+    none runs power count added few fits is = grind arith
+
+pub spaced_bound : (vars : ℕ) (clauses : List Clause) (es : List Entry) → list_all (λ c. is_below vars c.lits) clauses ≡ true → IsSearchLog clauses es → addition_count es ≤ 3 ^ vars * (3 ^ vars + 1)
+spaced_bound vars clauses es small log =
+    let h = coded_log vars clauses es small log in
+    most (run_count false es) (3 ^ vars) (length h.codes) (addition_count es) h.few (few_codes vars es h) h.apart
+
+-- an outcome that comes with the budget as its count comes with no more than a log can have
+pub unknown_within : {E : Type 0} (before now : Option (List ℕ)) (vars : ℕ) (cs : List Clause) (budget : ℕ) (r : Result Outcome E) → list_all (λ c. is_below vars c.lits) cs ≡ true → IfOk r (λ o. IsLogged before now cs budget o) → IfOk r (λ o. OnUnknown o (λ added. added ≡ budget)) → IfOk r (λ o. OnUnknown o (λ added. added ≤ 3 ^ vars * (3 ^ vars + 1)))
+unknown_within before now vars cs budget (Ok Unsat) small l same = tt
+unknown_within before now vars cs budget (Ok (Sat values)) small l same = tt
+unknown_within before now vars cs budget (Ok (Unknown added)) small l same = subst (λ n. n ≤ 3 ^ vars * (3 ^ vars + 1)) (l.shows.0 ∙ sym same) (spaced_bound vars cs l.entries small l.log)
+unknown_within before now vars cs budget (Err e) small l same = tt

@@ -1,6 +1,6 @@
 //! What follows of a search's log, in the words of logic. Each function only carries its law.
 
-ghost use Rattle.std.specs.Prelude.{◌≡◌, ◌≤◌, ◌^◌, true, false, List, ℕ};
+ghost use Rattle.std.specs.Prelude.{◌≡◌, ◌+◌, ◌*◌, ◌≤◌, ◌^◌, true, false, List, ℕ};
 ghost use Rattle.std.specs.List.{list_all, list_any};
 ghost use Rattle.resolution_check.specs.declared.log.Clause.{Clause};
 ghost use Rattle.resolution_check.specs.declared.log.Entry.{Entry};
@@ -9,9 +9,11 @@ ghost use Rattle.resolution_check.specs.Earned.{is_deletion};
 ghost use Rattle.cdcl_search.specs.Books.{is_below};
 ghost use Rattle.cdcl_search.specs.Outcomes.{IsSearchLog};
 
-/// A search that deletes nothing logs at most 3^V additions over V variables, since each is earned: so a budget above
-/// that is never used up.
+/// A search that deletes nothing logs at most 3^V additions over V variables, since each is earned; and one whose deletions
+/// are spaced at most 3^V (3^V + 1): so a budget above that is never used up.
 pub fn bound_law()
-    ensures { (vars : ℕ) (clauses : List Clause) (es : List Entry) → list_all (λ c. is_below vars c.lits) clauses ≡ true
+    ensures undeleted { (vars : ℕ) (clauses : List Clause) (es : List Entry) → list_all (λ c. is_below vars c.lits) clauses ≡ true
         → IsSearchLog clauses es → list_any is_deletion es ≡ false → addition_count es ≤ 3 ^ vars }
+    ensures spaced { (vars : ℕ) (clauses : List Clause) (es : List Entry) → list_all (λ c. is_below vars c.lits) clauses ≡ true
+        → IsSearchLog clauses es → addition_count es ≤ 3 ^ vars * (3 ^ vars + 1) }
 {}

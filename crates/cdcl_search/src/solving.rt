@@ -1,6 +1,6 @@
 //! The search as a whole.
 
-ghost use Rattle.std.specs.Prelude.{◌≡◌, ℕ, ◌+◌, ◌<◌, ◌≤◌, ◌^◌, true, false, List, Option, IfOk, OnErr, length};
+ghost use Rattle.std.specs.Prelude.{◌≡◌, ℕ, ◌+◌, ◌*◌, ◌<◌, ◌≤◌, ◌^◌, true, false, List, Option, IfOk, OnErr, length};
 ghost use Rattle.std.specs.List.{list_all};
 ghost use Rattle.term_store.specs.Terms.{truth};
 ghost use Rattle.resolution_check.specs.declared.log.Clause.{Clause};
@@ -144,6 +144,7 @@ pub fn solve<L: Sink>(
     ensures sat { IfOk result (λ outcome. OnSat outcome (λ values. satisfies (truth values) cnf.now.clauses ≡ true)) }
     ensures values { IfOk result (λ outcome. OnSat outcome (λ values. length values ≡ cnf.now.vars)) }
     ensures unknown { IfOk result (λ outcome. OnUnknown outcome (λ added. added ≡ budget)) }
+    ensures bound { IfOk result (λ outcome. OnUnknown outcome (λ added. added ≤ 3 ^ cnf.now.vars * (3 ^ cnf.now.vars + 1))) }
 
     ensures logged { IfOk result (IsLogged (L.taken log.old) (L.taken log.new) cnf.now.clauses budget) }
     ensures cut { OnErr result (IsCut (L.taken log.old) (L.taken log.new) cnf.now.clauses) }

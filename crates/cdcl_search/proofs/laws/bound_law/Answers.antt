@@ -1,5 +1,8 @@
-use Rattle.cdcl_search.proofs.Bound.{few_additions}
+use Rattle.cdcl_search.proofs.Bound.{undeleted_bound, spaced_bound}
 use Rattle.cdcl_search.proofs.laws.bound_law.Goals as goal
 
-pub returns : goal.returns
-returns c = few_additions
+pub returns-clause-undeleted : goal.returns-clause-undeleted
+returns-clause-undeleted c = undeleted_bound
+
+pub returns-clause-spaced : goal.returns-clause-spaced
+returns-clause-spaced c = spaced_bound

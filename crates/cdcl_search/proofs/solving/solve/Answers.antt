@@ -10,6 +10,7 @@ use Rattle.cdcl_search.specs.Going.{IsGoing}
 use Rattle.cdcl_search.proofs.Places.{all_more}
 use Rattle.cdcl_search.proofs.Trails.{follows_none, below_larger}
 use Rattle.cdcl_search.proofs.Logs.{going_first, cut_first, cut_here, unsat_shown}
+use Rattle.cdcl_search.proofs.Bound.{unknown_within}
 use Rattle.cdcl_search.proofs.Results.{on_err, err_then, ok_then}
 use Rattle.cdcl_search.proofs.Levels.{full_none}
 use Rattle.cdcl_search.specs.Levels.{AreFull}
@@ -61,15 +62,10 @@ returns-clause-logged g c =
     ok_then c.search.result c.search.ensures.logged (λ o logs. logs before cs going)
 
 pub returns-clause-unsat : goal.returns-clause-unsat
-returns-clause-unsat g c =
-    let before = g.L.Sink.taken c.args.log.now in
-    let middle = g.L.Sink.taken c.write_inputs.new.log in
-    let now = g.L.Sink.taken c.search.new.log in
-    let cs = c.args.cnf.now.clauses in
-    let P : List Clause → Type 0 = λ ds. Takes before middle (log_text (input_entries 1 ds)) in
-    let same : c.in_ok-book.book.clauses ≡ cs = c.in_ok-book.ensures.clauses ∙ c.as_slice-2.ensures in
-    let going : IsGoing before middle cs c.in_ok-book.book.clauses 0 = subst (λ ds. IsGoing before middle cs ds 0) (sym same) (going_first before middle cs (subst P c.as_slice.ensures c.in_ok-write_inputs.ensures.takes)) in
-    unsat_shown before now cs c.args.budget c.search.result (ok_then c.search.result c.search.ensures.logged (λ o logs. logs before cs going))
+returns-clause-unsat g c = unsat_shown _ _ c.args.cnf.now.clauses c.args.budget c.search.result (returns-clause-logged g c)
+
+pub returns-clause-bound : goal.returns-clause-bound
+returns-clause-bound g c = unknown_within _ _ c.args.cnf.now.vars c.args.cnf.now.clauses c.args.budget c.search.result c.requires.proper.below (returns-clause-logged g c) c.search.ensures.unknown
 
 pub returns-clause-cut : goal.returns-clause-cut
 returns-clause-cut g c =
