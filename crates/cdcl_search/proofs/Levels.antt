@@ -13,8 +13,7 @@ use Rattle.resolution_check.specs.declared.log.Clause.{Clause}
 use Rattle.resolution_check.specs.Clauses.{opposite, is_same, has}
 use Rattle.resolution_check.proofs.Literals.{same_refl, has-append}
 use Rattle.cdcl_search.specs.declared.trail.Step.{Step}
-use Rattle.cdcl_search.specs.Trails.{Assigned, value_of, is_value, holds, IsForced, HasReason, Follows, Keeps, IsTotal}
-use Rattle.cdcl_search.specs.Standings.{IsLeft}
+use Rattle.cdcl_search.specs.Trails.{Assigned, value_of, is_value, holds, AllFail, IsForced, HasReason, Follows, Keeps, IsTotal}
 use Rattle.cdcl_search.specs.Books.{Shelf, listed, has_place, Finds}
 use Rattle.cdcl_search.specs.Levels.{IsSettled, AllSettled, IsDecision, AreFull, IsSeen, AllSeen, IsSettledAt, IsSeenSince, Goes, IsNegated}
 use Rattle.cdcl_search.proofs.Places.{slice_get-front, slice_get-seam, slice_get-take}
@@ -140,6 +139,11 @@ goes_push clauses old new s more vars reason settled = record {
 pub ruleset going = (goes_then, goes_same)
 
 -- ---- a clause that is looked through up to a literal
+
+-- all literals are false but this one, where there is one, which has no value
+abbrev pub IsLeft : List Step → List Lit → Option Lit → Type 0
+IsLeft steps c None = AllFail steps c
+IsLeft steps c (Some l) = IsForced steps c l
 
 flip : (b n : Bool) → not (beq b n) ≡ true → beq b (not n) ≡ true
 flip true true h = absurd (false≢true h)

@@ -12,9 +12,13 @@ use Rattle.resolution_check.proofs.Literals.{alike}
 use Rattle.cdcl_search.specs.declared.trail.Step.{Step}
 use Rattle.cdcl_search.specs.Books.{is_below}
 use Rattle.cdcl_search.specs.Levels.{IsSettled, AllSettled}
-use Rattle.cdcl_search.specs.Trails.{value_of, is_value, holds, IsTotal, all_hold}
+use Rattle.cdcl_search.specs.Trails.{value_of, is_value, holds, IsTotal}
 use Rattle.cdcl_search.proofs.Places.{all_at}
 use Rattle.cdcl_search.proofs.Trails.{below_at}
+
+-- a literal of each clause is true
+abbrev pub all_hold : List Step → List Clause → Bool
+all_hold steps clauses = list_all (λ c. list_any (holds steps) c.lits) clauses
 
 any_true : (p : Lit → Bool) (c : List Lit) (l : Lit) → has c l ≡ true → p l ≡ true → list_any p c ≡ true
 any_true p [] l h t = h

@@ -1,16 +1,11 @@
 -- How a clause stands under a trail.
-use Rattle.std.specs.Prelude.{List, Option, Some, None}
+use Rattle.std.specs.Prelude.{List}
 use Rattle.resolution_check.specs.declared.log.Lit.{Lit}
 use Rattle.cdcl_search.specs.declared.trail.Step.{Step}
 use Rattle.cdcl_search.specs.declared.standing.Standing.{Standing}
 use Rattle.cdcl_search.specs.declared.standing.Standing.TheVariants.{Settled, Forces, False}
 use Rattle.cdcl_search.specs.Trails.{AllFail, IsForced}
 use Rattle.cdcl_search.specs.Levels.{IsSettled}
-
--- all literals are false but this one, where there is one, which has no value
-abbrev pub IsLeft : List Step → List Lit → Option Lit → Type 0
-IsLeft steps c None = AllFail steps c
-IsLeft steps c (Some l) = IsForced steps c l
 
 -- what is known of a clause that stands so
 abbrev pub StandsSo : List Step → List Lit → Standing → Type 0

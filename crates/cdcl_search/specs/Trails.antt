@@ -3,7 +3,6 @@ use Rattle.std.specs.Prelude.{◌≡◌, ◌⊎◌, ℕ, ◌<◌, ◌==◌, Bool
 use Rattle.resolution_check.specs.declared.log.Clause.{Clause}
 use Rattle.resolution_check.specs.Clauses.{has}
 use Rattle.std.specs.Bool.{beq}
-use Rattle.std.specs.List.{list_any, list_all}
 use Rattle.resolution_check.specs.declared.log.Lit.{Lit}
 use Rattle.cdcl_search.specs.declared.trail.Step.{Step}
 
@@ -17,11 +16,15 @@ pub record Assigned : Type 0 where
   pub steps : List Step
   pub vars : ℕ
 
+-- no variable had a value before its step
+abbrev pub AreFresh : List Step → Type 0
+AreFresh steps = (i : ℕ) (s : Step) → slice_get steps i ≡ Some s → value_of (take i steps) s.lit.var ≡ None
+
 -- each variable has the value that the steps give it, and none had one before its step
 pub record IsSound (steps : List Step) (values : List (Option Bool)) : Type 0 where
   pub same : (var : ℕ) → var < length values → slice_get values var ≡ Some (value_of steps var)
   pub below : (i : ℕ) (s : Step) → slice_get steps i ≡ Some s → s.lit.var < length values
-  pub fresh : (i : ℕ) (s : Step) → slice_get steps i ≡ Some s → value_of (take i steps) s.lit.var ≡ None
+  pub fresh : AreFresh steps
 
 -- ---- literals under a trail
 
@@ -81,11 +84,3 @@ Keeps old new = (var : ℕ) → is_some (value_of old var) ≡ true → is_some 
 -- each variable has a value
 abbrev pub IsTotal : ℕ → List Step → Type 0
 IsTotal vars steps = (var : ℕ) → var < vars → is_some (value_of steps var) ≡ true
-
--- a literal of each clause is true
-abbrev pub all_hold : List Step → List Clause → Bool
-all_hold steps clauses = list_all (λ c. list_any (holds steps) c.lits) clauses
-
--- no variable had a value before its step
-abbrev pub AreFresh : List Step → Type 0
-AreFresh steps = (i : ℕ) (s : Step) → slice_get steps i ≡ Some s → value_of (take i steps) s.lit.var ≡ None

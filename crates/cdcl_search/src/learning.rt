@@ -2,7 +2,7 @@
 
 ghost use Rattle.std.specs.Prelude.{◌≡◌, ℕ, ◌+◌, ◌<◌, ◌∷◌, [], ◌++◌, ◌==◌, ◌||◌, true, false, Some, IfOk, OnOk, length, take, slice_get, replicate, if◌then◌else◌};
 ghost use Rattle.resolution_check.specs.declared.log.Clause.{Clause};
-ghost use Rattle.resolution_check.specs.Clauses.{opposite, has};
+ghost use Rattle.resolution_check.specs.Clauses.{opposite};
 ghost use Rattle.resolution_check.specs.Earned.{has_var};
 ghost use Rattle.cnf_blaster.specs.Laws.{marked};
 ghost use Rattle.cdcl_search.specs.Books.{is_below};
@@ -13,7 +13,7 @@ ghost use Rattle.cdcl_search.specs.Learning.{are_numbers, IsFollowed, IsLesson};
 use crate::book::Book;
 use crate::trail::Trail;
 use mw_text::List;
-use resolution_check::Lit;
+use resolution_check::{Lit, has_literal};
 use std::alloc::{AllocError, Global};
 
 /// A learnt clause: the negated decisions, the last one first; and the numbers of the clauses that give it when they are
@@ -22,17 +22,6 @@ use std::alloc::{AllocError, Global};
 pub(crate) struct Lesson {
     pub(crate) lits: List<Lit>,
     pub(crate) chain: List<u64>,
-}
-
-/// A list in which no variable is marked.
-fn no_marks(alloc: Global, vars: u64) -> Result<List<bool>, AllocError>
-    ensures { IfOk result (λ marks. marks ≡ replicate vars false) }
-{
-    let mut marks = List::new(alloc);
-    for var in 0..vars {
-        marks.items.push(false)?;
-    }
-    Ok(marks)
 }
 
 /// Marks a variable, or takes its mark.
@@ -194,20 +183,8 @@ pub(crate) fn learn(
     ensures lesson { IfOk result (λ lesson. IsLesson book.now.clauses trail.now.steps lesson.lits lesson.chain) }
     ensures below { IfOk result (λ lesson. is_below trail.now.vars lesson.lits ≡ true) }
 {
-    let mut marks = no_marks(alloc, trail.vars())?;
-    learn_by(alloc, marks.items.as_mut_slice(), trail, book, conflict)
-}
-
-/// Whether the literal stands among these.
-fn has_literal(lits: &[Lit], lit: Lit) -> bool
-    ensures { result ≡ has lits.now lit }
-{
-    for other in lits {
-        if *other == lit {
-            return true;
-        }
-    }
-    false
+    let mut marks = vec![in alloc; false; trail.vars() as usize]?;
+    learn_by(alloc, &mut marks, trail, book, conflict)
 }
 
 /// How many steps to keep so that before each decision that is kept two of the negated decisions have no value: those

@@ -1,10 +1,9 @@
 //! How a clause stands under a trail.
 
-ghost use Rattle.std.specs.Prelude.{◌≡◌, ◌<◌, true, MatchOption};
+ghost use Rattle.std.specs.Prelude.{◌≡◌, ◌<◌, true};
 ghost use Rattle.cdcl_search.specs.Books.{is_below};
 ghost use Rattle.cdcl_search.specs.Trails.{holds};
-ghost use Rattle.cdcl_search.specs.Levels.{IsSettled};
-ghost use Rattle.cdcl_search.specs.Standings.{IsLeft, StandsSo};
+ghost use Rattle.cdcl_search.specs.Standings.{StandsSo};
 
 use crate::trail::Trail;
 use resolution_check::Lit;
@@ -20,42 +19,32 @@ pub(crate) enum Standing {
     False,
 }
 
-/// The literal without a value, if there is one, where all others are false. None where one is true, or where two have
-/// no value.
-fn left_over(trail: &Trail, lits: &[Lit]) -> Option<Option<Lit>>
+/// How these literals stand.
+pub(crate) fn standing_of(trail: &Trail, lits: &[Lit]) -> Standing
     requires { is_below trail.now.vars lits.now ≡ true }
-    ensures { MatchOption result (IsSettled trail.now.steps lits.now) (IsLeft trail.now.steps lits.now) }
+    ensures { StandsSo trail.now.steps lits.now result }
 {
     let mut free: Option<Lit> = None;
     for lit in lits {
         match trail.value(lit.var) {
             Some(value) => {
                 if value != lit.negated {
-                    return None;
+                    return Standing::Settled;
                 }
             }
             None => match free {
                 None => free = Some(*lit),
                 Some(other) => {
                     if other != *lit {
-                        return None;
+                        return Standing::Settled;
                     }
                 }
             },
         }
     }
-    Some(free)
-}
-
-/// How these literals stand.
-pub(crate) fn standing_of(trail: &Trail, lits: &[Lit]) -> Standing
-    requires { is_below trail.now.vars lits.now ≡ true }
-    ensures { StandsSo trail.now.steps lits.now result }
-{
-    match left_over(trail, lits) {
-        None => Standing::Settled,
-        Some(Some(lit)) => Standing::Forces(lit),
-        Some(None) => Standing::False,
+    match free {
+        Some(lit) => Standing::Forces(lit),
+        None => Standing::False,
     }
 }
 

@@ -33,17 +33,6 @@ impl Model for Trail {
     ghost invariant = { λ t. Sound t.steps.items t.values.items };
 }
 
-/// A list in which no variable has a value.
-fn no_values(alloc: Global, vars: u64) -> Result<Vec<Option<bool>>, AllocError>
-    ensures { IfOk result (λ values. values.items ≡ replicate vars None) }
-{
-    let mut values = Vec::new(alloc);
-    for var in 0..vars {
-        values.push(None)?;
-    }
-    Ok(values)
-}
-
 impl Trail {
     /// No step so far.
     pub(crate) fn new(alloc: Global, vars: u64) -> Result<Trail, AllocError>
@@ -52,7 +41,7 @@ impl Trail {
     {
         Ok(Trail {
             steps: Vec::new(alloc),
-            values: no_values(alloc, vars)?,
+            values: vec![in alloc; None; vars as usize]?,
         })
     }
 

@@ -1,5 +1,5 @@
 -- What a solver may ask of clauses.
-use Rattle.std.specs.Prelude.{◌≡◌, Bool, true, not, nat_lt}
+use Rattle.std.specs.Prelude.{◌≡◌, true, not, nat_lt}
 use Rattle.std.specs.List.{list_all}
 use Rattle.resolution_check.specs.Entries.{is_empty}
 use Rattle.resolution_check.specs.Earned.{vars_differ}

@@ -3,12 +3,11 @@
 ghost use Rattle.std.specs.Prelude.{◌≡◌, ℕ, ◌<◌, ◌≤◌, ◌++◌, ◌∷◌, [], OnOk, IfOk, length};
 ghost use Rattle.cnf_blaster.specs.Cnf.{has_both_signs, distinct, kept, all_kept, not_clauses, and_clauses, or_clauses, xor_clauses, ite_clauses, gate_clauses, clauses_below, root_clauses, yes, no};
 ghost use Rattle.cnf_blaster.specs.Laws.{marked, number_at, AreBelow, IsOver};
-ghost use Rattle.resolution_check.specs.Clauses.{has};
 ghost use Rattle.term_store.specs.Terms.{size};
 
 use crate::lists::put_last;
 use mw_text::List;
-use resolution_check::{Clause, Lit};
+use resolution_check::{Clause, Lit, has_literal};
 use smallvec::SmallVec;
 use std::alloc::{AllocError, Global};
 use term_store::{Node, NodeId, Terms};
@@ -28,18 +27,6 @@ fn no_of(var: u64) -> Lit
     ensures { result ≡ no var }
 {
     Lit { var, negated: true }
-}
-
-/// Whether the literal stands among these.
-fn has_literal(lits: &[Lit], lit: Lit) -> bool
-    ensures { result ≡ has lits.now lit }
-{
-    for other in lits {
-        if lit.var == other.var && lit.negated == other.negated {
-            return true;
-        }
-    }
-    false
 }
 
 /// Whether a variable stands among these in both signs.

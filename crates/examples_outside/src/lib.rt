@@ -1,8 +1,7 @@
 //! A caller and tests of the outside.
 #![tactic(auto)]
 
-#[cfg(test)]
-mod copies;
+pub mod copies;
 #[cfg(test)]
 mod in_memory;
 #[cfg(test)]

@@ -1,8 +1,8 @@
-//! Tests of the search: its outcomes held against worked examples and plain enumeration, its logs against the checker.
+//! Tests of the search: its outcomes held against worked examples and plain enumeration, its logs against the checker;
+//! and a caller that asks only what the search takes.
 #![tactic(auto)]
 
-#[cfg(test)]
-mod asking;
+pub mod asking;
 #[cfg(test)]
 mod faults;
 #[cfg(test)]

@@ -12,6 +12,6 @@ mod shelf;
 mod writing;
 
 pub use checking::Checker;
-pub use log::{Bad, Clause, Entry, LineRefused, Lit};
+pub use log::{Bad, Clause, Entry, LineRefused, Lit, has_literal};
 pub use reading::read_entry;
 pub use writing::write_entry;

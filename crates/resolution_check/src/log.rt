@@ -1,4 +1,5 @@
 ghost use Rattle.std.specs.Prelude.{◌≡◌};
+ghost use Rattle.resolution_check.specs.Clauses.{has};
 
 use mw_text::List;
 use std::alloc::{AllocError, AllocFailed};
@@ -108,4 +109,16 @@ impl Lit {
             negated: !self.negated,
         }
     }
+}
+
+/// Whether the literal stands among these.
+pub fn has_literal(lits: &[Lit], lit: Lit) -> bool
+    ensures { result ≡ has lits.now lit }
+{
+    for other in lits {
+        if *other == lit {
+            return true;
+        }
+    }
+    false
 }

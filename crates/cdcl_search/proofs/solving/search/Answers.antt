@@ -7,8 +7,7 @@ use Rattle.cdcl_search.specs.Outcomes.{IsCut}
 use Rattle.cdcl_search.specs.Going.{IsGoing}
 use Rattle.cdcl_search.proofs.Logs.{cut_here, logged_sat, logged_unsat, logged_unknown}
 use Rattle.cdcl_search.proofs.Results.{on_err}
-use Rattle.cdcl_search.proofs.Values.{all_true, all_hold_settled}
-use Rattle.cdcl_search.specs.Trails.{all_hold}
+use Rattle.cdcl_search.proofs.Values.{all_hold, all_true, all_hold_settled}
 use Rattle.cdcl_search.proofs.solving.search.Goals as goal
 
 pub returns-in_err-conflict-clause-cut : goal.returns-in_err-conflict-clause-cut

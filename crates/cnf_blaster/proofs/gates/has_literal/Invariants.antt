@@ -1,6 +1,0 @@
-use Rattle.std.proofs.Common.{◌≡◌, false, take}
-use Rattle.resolution_check.specs.Clauses.{has}
-use Rattle.cnf_blaster.proofs.gates.has_literal.Given as goal
-
-abbrev pub invariant-loop-other : goal.invariant-loop-other
-invariant-loop-other l = has (take l.other-index l.lits) l.lit ≡ false
