@@ -7,22 +7,19 @@ use Rattle.mw_text.specs.declared.address.Prefix.{Prefix}
 use Rattle.mw_text.specs.declared.words.Line.{Line}
 use Rattle.mw_text.specs.Text.{same_text}
 use Rattle.mw_text.specs.Words.{text_lines}
-use Rattle.ios_ast.specs.Limits.{most_interfaces}
+use Rattle.ios_ast.specs.declared.file.TheConstants.{MOST_INTERFACES}
 use Rattle.ios_ast.specs.declared.file.File.{File}
 use Rattle.ios_ast.specs.declared.file.IfAddr.{IfAddr}
 use Rattle.ios_ast.specs.declared.file.Iface.{Iface}
 use Rattle.ios_ast.specs.declared.file.StaticRoute.{StaticRoute}
 use Rattle.ios_ast.specs.declared.file.Via.TheVariants.{Next}
 use Rattle.ios_reader.specs.declared.draft.Draft.{Draft}
+use Rattle.ios_reader.specs.declared.draft.TheConstants.{MOST_LINES}
 use Rattle.ios_reader.specs.declared.refused.Cause.TheVariants.{NotBuilt}
 use Rattle.ios_reader.specs.declared.refused.Refused.{Refused}
 use Rattle.ios_reader.specs.declared.statement.Statement.{Statement}
 use Rattle.ios_reader.specs.declared.statement.Statement.TheVariants.{Skipped, Hostname, Interface, Address, Route, Other}
 use Rattle.ios_reader.specs.Statements.{statement_of}
-
--- how many lines a file has at most
-abbrev pub most_lines : ℕ
-most_lines = 20000
 
 -- nothing is read yet
 abbrev pub empty_draft : Draft
@@ -62,7 +59,7 @@ with_hostname draft line name =
 -- each interface has another name, and there are not too many
 abbrev pub with_interface : Draft → ℕ → List ℕ → Option Draft
 with_interface draft line name =
-    if list_any (λ iface. same_text iface.name name) draft.file.interfaces || nat_le most_interfaces (length draft.file.interfaces)
+    if list_any (λ iface. same_text iface.name name) draft.file.interfaces || nat_le MOST_INTERFACES (length draft.file.interfaces)
     then None
     else Some (record {
       file = record draft.file { interfaces = draft.file.interfaces ++ new_interface line name ∷ [] };
@@ -104,7 +101,7 @@ with_statement draft line (Route prefix next) = Some (with_route draft line pref
 with_statement draft line Other = None
 
 abbrev pub with_line : Draft → Line → Option Draft
-with_line draft line = if nat_le line.number most_lines then with_statement draft line.number (statement_of line) else None
+with_line draft line = if nat_le line.number MOST_LINES then with_statement draft line.number (statement_of line) else None
 
 -- refused at that line
 abbrev pub not_built : ℕ → Refused

@@ -1,12 +1,13 @@
 -- Which files are a network.
-use Rattle.std.specs.Prelude.{ℕ, ◌==◌, ◌&&◌, ◌||◌, Bool, true, false, not, List, [], ◌∷◌, length, nat_le}
+use Rattle.std.specs.Prelude.{ℕ, ◌==◌, ◌&&◌, ◌||◌, Bool, true, false, not, List, [], ◌∷◌, length, nat_le, is_some}
 use Rattle.std.specs.List.{list_all, list_any}
 use Rattle.std.specs.Option.{option_map_or}
 use Rattle.mw_text.specs.declared.address.Addr.{Addr}
 use Rattle.mw_text.specs.declared.address.Prefix.{Prefix}
 use Rattle.mw_text.specs.Address.{covers, prefix_at, same_prefix}
 use Rattle.mw_text.specs.Text.{same_text}
-use Rattle.ios_ast.specs.Limits.{most_interfaces}
+use Rattle.ios_ast.specs.declared.file.TheConstants.{MOST_INTERFACES}
+use Rattle.net_model.specs.declared.network.TheConstants.{MOST_ROUTERS}
 use Rattle.ios_ast.specs.declared.file.File.{File}
 use Rattle.ios_ast.specs.declared.file.Iface.{Iface}
 use Rattle.ios_ast.specs.declared.file.StaticRoute.{StaticRoute}
@@ -50,16 +51,23 @@ is_connected interfaces route = leads route.via where
 abbrev pub statics_connected : File → Bool
 statics_connected file = list_all (is_connected file.interfaces) file.statics
 
--- how many routers a network has at most
-abbrev pub most_routers : ℕ
-most_routers = 32
-
 -- there are not too many routers, nor interfaces of one router
 abbrev pub is_small : List File → Bool
-is_small files = nat_le (length files) most_routers && list_all (λ file. nat_le (length file.interfaces) most_interfaces) files
+is_small files = nat_le (length files) MOST_ROUTERS && list_all (λ file. nat_le (length file.interfaces) MOST_INTERFACES) files
 
--- the files are a network: they are not too many, hostnames differ, addresses and subnets fit together, and the next
--- hop of each static route is connected
+-- an access list is applied to the interface
+abbrev pub is_filtered : Iface → Bool
+is_filtered iface = is_some iface.list_in || is_some iface.list_out
+
+-- what the file asks for is defined: its router runs neither OSPF nor BGP, and no access list is applied. Whoever
+-- writes one of these definitions (see Undefined) lifts its guard here
+abbrev pub is_defined : File → Bool
+is_defined file =
+    not (is_some file.ospf) && (not (is_some file.bgp) && not (list_any is_filtered file.interfaces))
+
+-- the files are a network: they are not too many, hostnames differ, addresses and subnets fit together, the next hop of
+-- each static route is connected, and all that they ask for is defined
 abbrev pub is_network : List File → Bool
 is_network files =
-    is_small files && (all_pairs names_differ files && (all_pairs fit_together (addressed files) && list_all statics_connected files))
+    is_small files && (all_pairs names_differ files && (all_pairs fit_together (addressed files)
+    && (list_all statics_connected files && list_all is_defined files)))

@@ -1,14 +1,19 @@
 -- Links and their failures, and what the external peers of a network send.
-use Rattle.std.specs.Prelude.{◌≡◌, ℕ, ◌+◌, ◌==◌, ◌&&◌, ◌||◌, ◌<◌, ◌≤◌, Bool, not, List, [], ◌∷◌, length, filter, map, nat_lt, nat_le, fold, IsTrue, Option, Some, None, slice_get, All, if◌then◌else◌}
+use Rattle.std.specs.Prelude.{◌≡◌, ℕ, ◌+◌, ◌==◌, ◌&&◌, ◌||◌, ◌<◌, ◌≤◌, Bool, not, List, [], ◌∷◌, length, filter, map, nat_lt, nat_le, fold, IsTrue, Option, Some, None, slice_get, All, AllPairs, IfSome, ◌^◌, if◌then◌else◌}
 use Rattle.std.specs.List.{list_any, list_all}
 use Rattle.std.specs.Option.{option_map_or}
 use Rattle.mw_text.specs.declared.address.Prefix.{Prefix}
 use Rattle.mw_text.specs.Address.{same_prefix}
 use Rattle.ios_ast.specs.declared.file.File.{File}
+use Rattle.route_record.specs.declared.Announcement.{Announcement}
 use Rattle.route_record.specs.declared.Failures.{Failures}
 use Rattle.route_record.specs.declared.Environment.{Environment}
 use Rattle.net_model.specs.declared.interfaces.Addressed.{Addressed}
+use Rattle.route_record.specs.declared.TheConstants.{LENGTHS}
+use Rattle.net_model.specs.declared.sessions.SessionEnd.{SessionEnd}
 use Rattle.net_model.specs.Interfaces.{addressed}
+use Rattle.net_model.specs.Sessions.{ends_of, external_ends, is_outside, neighbour_of, runs_bgp}
+use Rattle.net_model.specs.Undefined.{is_peered_by_bgp}
 
 -- in ascending order of prefixes p comes before q
 abbrev pub comes_before : Prefix → Prefix → Bool
@@ -18,7 +23,7 @@ comes_before p q = nat_lt p.addr.0 q.addr.0 || ((p.addr.0 == q.addr.0) && nat_lt
 abbrev pub put_in_order : List Prefix → Prefix → List Prefix
 put_in_order [] p = p ∷ []
 put_in_order (q ∷ rest) p =
-    if comes_before p q then p ∷ q ∷ rest else (if same_prefix p q then q ∷ rest else q ∷ put_in_order rest p)
+    if comes_before q p then q ∷ put_in_order rest p else (if same_prefix q p then q ∷ rest else p ∷ q ∷ rest)
 
 -- two interfaces that are not shut down, of two routers on that subnet, none of them a loopback
 abbrev pub is_joined_by : List Addressed → Prefix → Addressed → Bool
@@ -28,11 +33,15 @@ is_joined_by all p x =
     joins : Addressed → Bool
     joins y = same_prefix y.subnet p && not (y.shutdown || y.loopback)
 
-abbrev pub is_link : List File → Prefix → Bool
-is_link files p = list_any (is_joined_by (addressed files) p) (addressed files)
+-- an external peer lies on the subnet. Where no router runs BGP there is none
+abbrev pub is_peered : List File → Prefix → Bool
+is_peered files p = if list_any runs_bgp files then is_peered_by_bgp files p else Bool.false
 
--- the links of a network: the subnets on which at least two routers have an interface that is not shut down, of no
--- loopback, in ascending order
+abbrev pub is_link : List File → Prefix → Bool
+is_link files p = list_any (is_joined_by (addressed files) p) (addressed files) || is_peered files p
+
+-- the links of a network: the subnets of no loopback on which at least two routers have an interface that is not shut
+-- down, or on which an external peer lies, in ascending order
 abbrev pub links_of : List File → List Prefix
 links_of files = filter (is_link files) (fold put_in_order [] (map (λ x. x.subnet) (addressed files)))
 
@@ -60,8 +69,31 @@ no_failures = record { links = [] }
 abbrev pub is_up : List File → Failures → Addressed → Bool
 is_up files failures x = not x.shutdown && not (is_failed files failures x.subnet)
 
--- an environment: an identifier for each external session, and what is announced over these. No line that is read
--- today makes an external session, so there is nothing in it
+-- the first number of the path is that of the peer's AS
+abbrev pub BeginsWithPeer : List File → SessionEnd → List ℕ → Type 0
+BeginsWithPeer files end path =
+    IfSome (neighbour_of files end) (λ neighbour. (rest : List ℕ) × (path ≡ neighbour.asn ∷ rest))
+
+-- an AS number (RFC 6793)
+abbrev pub IsAsNumber : ℕ → Type 0
+IsAsNumber n = (0 < n) × (n < 2 ^ 32)
+
+-- what an external peer may announce for one prefix length (RFC 4271, section 4.3; RFC 1997)
+pub record IsAnnouncement (files : List File) (announcement : Announcement) : Type 0 where
+  pub from : (end : SessionEnd) × (slice_get (ends_of files) announcement.end ≡ Some end) × IsTrue (is_outside end.far)
+      × BeginsWithPeer files end announcement.path
+  pub len : announcement.len < LENGTHS
+  pub path : (length announcement.path ≤ 255) × All IsAsNumber announcement.path
+  pub med : announcement.med < 2 ^ 32
+  pub communities : IsTrue (ascends announcement.communities) × All (λ c. c < 2 ^ 32) announcement.communities
+
+-- two announcements are of two ends or of two prefix lengths
+abbrev pub Differ : Announcement → Announcement → Type 0
+Differ a b = a.end ≡ b.end → a.len ≡ b.len → ⊥
+
+-- an environment: an identifier for each external session, and at most one announcement of each for each prefix length
 pub record IsEnvironment (files : List File) (environment : Environment) : Type 0 where
-  pub ids : environment.ids ≡ []
-  pub announced : environment.announced ≡ []
+  pub ids : length environment.ids ≡ length (external_ends files)
+  pub fit : All (λ id. id.0 < 2 ^ 32) environment.ids
+  pub announced : All (IsAnnouncement files) environment.announced
+  pub once : AllPairs Differ environment.announced

@@ -3,9 +3,8 @@
 ghost use Rattle.std.specs.Prelude.{◌≡◌, ◌≤◌, ◌++◌, IfOk, true, OnOk, length};
 ghost use Rattle.net_model.specs.Interfaces.{is_loopback, addressed_iface, addressed_from, addressed};
 ghost use Rattle.net_model.specs.Network.{is_small};
-ghost use Rattle.ios_ast.specs.Limits.{most_interfaces};
 
-use ios_ast::{File, IfAddr, Iface};
+use ios_ast::{File, IfAddr, Iface, MOST_INTERFACES};
 use mw_text::{Addr, List, Prefix, prefix_of};
 use std::alloc::{AllocError, Global};
 
@@ -51,7 +50,7 @@ fn add_router(
     router: u32,
     interfaces: &[Iface],
 ) -> Result<(), AllocError>
-    requires { length interfaces.now ≤ most_interfaces }
+    requires { length interfaces.now ≤ MOST_INTERFACES }
     ensures { OnOk result (out.new ≡ out.old ++ addressed_from router 0 interfaces.now) }
 {
     for (at, iface) in interfaces.iter().enumerate() {

@@ -2,8 +2,11 @@
 #![tactic(auto)]
 
 pub mod interfaces;
+pub mod links;
 pub mod network;
 pub mod routing;
+pub mod sessions;
 
 pub use interfaces::{Addressed, IfaceId};
-pub use network::Net;
+pub use network::{MOST_ROUTERS, Net};
+pub use sessions::{Far, SessionEnd};

@@ -3,11 +3,15 @@
 ghost use Rattle.std.specs.Prelude.{◌≡◌, ◌≤◌, nat_le, IfOk, MatchOption, IfSome, ◌<◌, IsTrue, position, true, false, length, ◌&&◌};
 ghost use Rattle.std.specs.List.{list_all, list_any};
 ghost use Rattle.mw_text.specs.Text.{same_text};
-ghost use Rattle.net_model.specs.Network.{names_differ, all_pairs, overlap, fit_together, reaches, is_connected, statics_connected, is_small, is_network, most_routers};
-ghost use Rattle.ios_ast.specs.Limits.{most_interfaces};
+ghost use Rattle.net_model.specs.Network.{names_differ, all_pairs, overlap, fit_together, reaches, is_connected, statics_connected, is_small, is_network, is_filtered, is_defined};
 ghost use Rattle.net_model.specs.Interfaces.{addressed};
+ghost use Rattle.net_model.specs.Kept.{IsKept};
+ghost use Rattle.net_model.specs.Sessions.{ends_of};
+ghost use Rattle.net_model.specs.World.{links_of};
 
 use crate::interfaces::{Addressed, addressed_of};
+use crate::links::link_prefixes;
+use crate::sessions::SessionEnd;
 use ios_ast::{File, Iface, MOST_INTERFACES, StaticRoute, Via};
 use mw_text::{Addr, List, Prefix, contains, prefix_of, same_bytes};
 use std::alloc::{AllocError, Global};
@@ -21,23 +25,24 @@ pub const MOST_ROUTERS: usize = 32;
 pub struct Net {
     routers: List<File>,
     addresses: List<Addressed>,
+    links: List<Prefix>,
+    ends: List<SessionEnd>,
 }
 
 impl Model for Net {
-    ghost use Rattle.std.specs.Prelude.{◌≡◌, List as ListOf, IsTrue};
+    ghost use Rattle.std.specs.Prelude.{List as ListOf};
     ghost use Rattle.ios_ast.specs.declared.file.File.{File};
-    ghost use Rattle.net_model.specs.Interfaces.{addressed};
-    ghost use Rattle.net_model.specs.Network.{is_network};
+    ghost use Rattle.net_model.specs.Kept.{IsKept};
 
     ghost Value = { ListOf File };
 
     ghost view = { λ net. net.routers };
 
-    ghost invariant = { λ net. (net.addresses ≡ addressed net.routers) × IsTrue (is_network net.routers) };
+    ghost invariant = { λ net. IsKept net.routers net.addresses net.links net.ends };
 }
 
 fn few_interfaces(files: &[File]) -> bool
-    ensures { result ≡ list_all (λ file. nat_le (length file.interfaces) most_interfaces) files.now }
+    ensures { result ≡ list_all (λ file. nat_le (length file.interfaces) MOST_INTERFACES) files.now }
 {
     files
         .iter()
@@ -146,6 +151,31 @@ fn all_routes_connected(files: &[File]) -> bool
     files.iter().all(|file| routes_are_connected(file))
 }
 
+fn is_filtered_iface(iface: &Iface) -> bool
+    ensures { result ≡ is_filtered iface.now }
+{
+    iface.list_in.is_some() || iface.list_out.is_some()
+}
+
+fn some_filtered(interfaces: &[Iface]) -> bool
+    ensures { result ≡ list_any is_filtered interfaces.now }
+{
+    interfaces.iter().any(|iface| is_filtered_iface(iface))
+}
+
+// Whether all that the file asks for is defined.
+fn asks_for_defined(file: &File) -> bool
+    ensures { result ≡ is_defined file.now }
+{
+    file.ospf.is_none() && file.bgp.is_none() && !some_filtered(file.interfaces.as_slice())
+}
+
+fn all_defined(files: &[File]) -> bool
+    ensures { result ≡ list_all is_defined files.now }
+{
+    files.iter().all(|file| asks_for_defined(file))
+}
+
 fn place_of(files: &[File], name: &[u8]) -> Option<usize>
     ensures place { result ≡ position (λ file. same_text file.hostname name.now) files.now }
     ensures within { IfSome result (λ at. at < length files.now) }
@@ -155,33 +185,68 @@ fn place_of(files: &[File], name: &[u8]) -> Option<usize>
         .position(|file| same_bytes(file.hostname.as_slice(), name))
 }
 
+// What a network keeps beside its files.
+#[derive(Drop)]
+struct Parts {
+    addresses: List<Addressed>,
+    links: List<Prefix>,
+    ends: List<SessionEnd>,
+}
+
+#[tactic(auto, using(crate::proofs::Defined::no_ends))]
+fn no_sessions(alloc: Global, files: &[File]) -> List<SessionEnd>
+    requires { list_all is_defined files.now ≡ true }
+    ensures { result ≡ ends_of files.now }
+{
+    let _routers = files.len();
+    List::new(alloc)
+}
+
+// What a network of these files keeps. None where they are none.
+fn parts_of(alloc: Global, files: &[File]) -> Result<Option<Parts>, AllocError>
+    ensures { IfOk result (λ found. MatchOption found (is_network files.now ≡ false)
+        (λ parts. IsKept files.now parts.addresses parts.links parts.ends)) }
+{
+    if !few_enough(files) {
+        return Ok(None);
+    }
+    let addresses = addressed_of(alloc, files)?;
+    if !(all_names_differ(files) && all_fit(addresses.as_slice()) && all_routes_connected(files)) {
+        return Ok(None);
+    }
+    if !all_defined(files) {
+        return Ok(None);
+    }
+    let links = link_prefixes(alloc, files, addresses.as_slice())?;
+    Ok(Some(Parts {
+        addresses,
+        links,
+        ends: no_sessions(alloc, files),
+    }))
+}
+
 impl Net {
     /// The network of these files. None exactly where they are none: two hostnames or two addresses are the same, two
-    /// subnets clash, a static route has a next hop that is on no subnet of its router, or the routers are too many.
+    /// subnets clash, a static route has a next hop that is on no subnet of its router, the routers are too many, or a
+    /// file asks for what is not defined yet: OSPF, BGP, or an access list on an interface.
     pub fn of(alloc: Global, files: List<File>) -> Result<Option<Net>, AllocError>
         ensures { IfOk result (λ found. MatchOption found (is_network files ≡ false) (λ net. (net ≡ files) × (is_network files ≡ true))) }
     {
-        if !few_enough(files.as_slice()) {
-            return Ok(None);
-        }
-        let addresses = addressed_of(alloc, files.as_slice())?;
-        let sound = all_names_differ(files.as_slice())
-            && all_fit(addresses.as_slice())
-            && all_routes_connected(files.as_slice());
-        if sound {
-            Ok(Some(Net {
+        match parts_of(alloc, files.as_slice())? {
+            None => Ok(None),
+            Some(parts) => Ok(Some(Net {
                 routers: files,
-                addresses,
-            }))
-        } else {
-            Ok(None)
+                addresses: parts.addresses,
+                links: parts.links,
+                ends: parts.ends,
+            })),
         }
     }
 
     /// The routers, in the order of the files.
     pub fn routers(&self) -> &[File]
         ensures all { result.now ≡ self.now }
-        ensures few { length self.now ≤ most_routers }
+        ensures few { length self.now ≤ MOST_ROUTERS }
         ensures network { is_network self.now ≡ true }
     {
         self.routers.as_slice()
@@ -192,6 +257,20 @@ impl Net {
         ensures { result.now ≡ addressed self.now }
     {
         self.addresses.as_slice()
+    }
+
+    /// The prefixes of the links, ascending: a link is named by its place here.
+    pub fn link_prefixes(&self) -> &[Prefix]
+        ensures { result.now ≡ links_of self.now }
+    {
+        self.links.as_slice()
+    }
+
+    /// The ends of all BGP sessions, by router and then by neighbour line.
+    pub fn ends(&self) -> &[SessionEnd]
+        ensures { result.now ≡ ends_of self.now }
+    {
+        self.ends.as_slice()
     }
 
     /// The router of that name. None exactly where there is none.

@@ -8,7 +8,7 @@ use Rattle.route_record.specs.declared.Slot.{Slot}
 use Rattle.net_model.specs.declared.interfaces.Addressed.{Addressed}
 use Rattle.net_model.specs.Interfaces.{addressed}
 use Rattle.net_model.specs.Routing.{candidates, least_distance, open_interfaces}
-use Rattle.net_model.specs.Stable.{lengths}
+use Rattle.route_record.specs.declared.TheConstants.{LENGTHS}
 
 -- the slot of a router for a prefix, over all interfaces with an address
 abbrev pub slot_over : List Addressed → ℕ → File → Prefix → Slot
@@ -26,4 +26,4 @@ IsSlotFor files destination router len slot =
 
 -- the slot at that place of the tables
 abbrev pub IsSlotAt : List File → Addr → ℕ → Slot → Type 0
-IsSlotAt files destination place slot = IsSlotFor files destination (place / lengths) (place % lengths) slot
+IsSlotAt files destination place slot = IsSlotFor files destination (place / LENGTHS) (place % LENGTHS) slot

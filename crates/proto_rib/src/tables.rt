@@ -12,11 +12,8 @@ use ios_ast::{File, StaticRoute};
 use mw_text::{Addr, List, Prefix, prefix_of};
 use net_model::routing::{is_direct, open_interfaces, route_counts};
 use net_model::{Addressed, Net};
-use route_record::{RibEntry, RibSource, Slot, Tables};
+use route_record::{LENGTHS, RibEntry, RibSource, Slot, Tables};
 use std::alloc::{AllocError, Global};
-
-/// How many prefix lengths there are.
-pub const LENGTHS: usize = 33;
 
 fn closer_of(best: Option<RibEntry>, entry: RibEntry) -> Option<RibEntry>
     ensures { result ≡ closer best entry }
@@ -75,8 +72,8 @@ fn slot_of(
     })
 }
 
-/// The one stable routing of the network for the destination `d` where no link has failed and, as in every file that
-/// is read today, no router runs OSPF or BGP.
+/// The one stable routing of the network for the destination `d` where no link has failed. In a network of today no
+/// router runs OSPF or BGP.
 pub fn tables_of(alloc: Global, net: &Net, d: Addr) -> Result<Tables, AllocError>
     ensures stable { IfOk result (λ tables. (environment : Environment) → Stable net.now d no_failures environment tables) }
     ensures only { IfOk result (λ tables. (environment : Environment) (other : TablesOf) →

@@ -1,7 +1,13 @@
 //! Packets, and the records of routes that a router holds, as plain data.
 #![tactic(auto)]
 
+ghost use Rattle.std.specs.Prelude.{◌≡◌};
+ghost use Rattle.std.specs.Option.{option_copied};
+
 use mw_text::{Addr, List};
+
+/// How many prefix lengths there are: 0 to 32.
+pub const LENGTHS: usize = 33;
 
 /// A packet, by the fields of its IP header (RFC 791) and the ports of TCP or UDP.
 #[derive(Clone, Copy)]
@@ -112,4 +118,24 @@ pub struct Slot {
 #[derive(Drop)]
 pub struct Tables {
     pub slots: List<Slot>,
+}
+
+impl Tables {
+    ghost use Rattle.route_record.specs.Places.{slot_at};
+
+    /// The slot of a router for a prefix length. None exactly where the tables have none there.
+    pub fn slot(&self, router: u32, len: u8) -> Option<&Slot>
+        ensures { option_copied result ≡ slot_at self.entry.now router len }
+    {
+        let place = LENGTHS * router as usize + len as usize;
+        self.slots.as_slice().get(place)
+    }
+}
+
+/// What a packet meets: the links that have failed, the packet itself, and the tables of all routers.
+#[derive(Drop)]
+pub struct World {
+    pub failures: Failures,
+    pub packet: Packet,
+    pub tables: Tables,
 }

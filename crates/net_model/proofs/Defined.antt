@@ -1,0 +1,104 @@
+-- What a network does not have, since its definition is not written yet.
+use Rattle.std.proofs.Common.{◌≡◌, ℕ, zero, suc, Bool, true, false, ◌&&◌, ◌||◌, not, List, [], ◌∷◌, Option, Some, None, refl, ap, arith, ◌∙◌, sym, subst}
+use Rattle.std.specs.Prelude.{filter, fold, is_some, map, slice_get}
+use Rattle.std.specs.List.{list_all, list_any}
+use Rattle.std.proofs.lemmas.Grind.{common_steps}
+use Rattle.ios_ast.specs.declared.file.File.{File}
+use Rattle.ios_ast.specs.declared.file.Iface.{Iface}
+use Rattle.ios_ast.specs.declared.file.Use.{Use}
+use Rattle.ios_ast.specs.declared.bgp.Bgp.{Bgp}
+use Rattle.ios_ast.specs.declared.ospf.Ospf.{Ospf}
+use Rattle.mw_text.specs.declared.address.Prefix.{Prefix}
+use Rattle.net_model.specs.declared.interfaces.Addressed.{Addressed}
+use Rattle.net_model.specs.declared.sessions.SessionEnd.{SessionEnd}
+use Rattle.net_model.specs.Network.{all_pairs, fit_together, is_defined, is_filtered, is_network, is_small, names_differ, statics_connected}
+use Rattle.net_model.specs.Interfaces.{addressed}
+use Rattle.net_model.specs.Sessions.{ends_of, runs_bgp}
+use Rattle.net_model.specs.World.{is_joined_by, is_link, links_of, put_in_order}
+
+-- what two tests and a third say together
+all_three : (a b c : Bool) → (not a && (not b && not c)) ≡ true → (a ≡ false) × (b ≡ false) × (c ≡ false)
+all_three true b c h = cc
+all_three false true c h = cc
+all_three false false true h = cc
+all_three false false false h = (refl, refl, refl)
+
+-- a file that asks for what is defined runs no protocol and has no filter
+parts : (file : File) → is_defined file ≡ true →
+    (is_some file.ospf ≡ false) × (is_some file.bgp ≡ false) × (list_any is_filtered file.interfaces ≡ false)
+parts file defined = all_three (is_some file.ospf) (is_some file.bgp) (list_any is_filtered file.interfaces) defined
+
+pub no_bgp : (files : List File) → list_all is_defined files ≡ true → list_any runs_bgp files ≡ false
+no_bgp [] all = refl
+no_bgp (file ∷ rest) all =
+    let both = two (is_defined file) (list_all is_defined rest) all in
+    rw ((parts file both.0).1, no_bgp rest both.1) refl
+  where
+    two : (a b : Bool) → (a && b) ≡ true → (a ≡ true) × (b ≡ true)
+    two true true h = (refl, refl)
+    two true false h = cc
+    two false b h = cc
+
+-- a network runs no BGP, so it has no ends of sessions
+pub no_ends : (files : List File) → list_all is_defined files ≡ true → ends_of files ≡ []
+no_ends files all = rw (no_bgp files all) refl
+
+-- without BGP a link is where two routers meet
+is_link-joined : (files : List File) → list_all is_defined files ≡ true → (p : Prefix) →
+    list_any (is_joined_by (addressed files) p) (addressed files) ≡ is_link files p
+is_link-joined files all p = rw (no_bgp files all) (or_false _)
+  where
+    or_false : (b : Bool) → b ≡ (b || false)
+    or_false true = refl
+    or_false false = refl
+
+filter_same : (test other : Prefix → Bool) → ((p : Prefix) → test p ≡ other p) → (ps : List Prefix) →
+    filter test ps ≡ filter other ps
+filter_same test other same [] = refl
+filter_same test other same (p ∷ ps) = rw (same p, filter_same test other same ps) refl
+
+-- the links of a network without BGP
+pub links_without_bgp : (files : List File) (all : List Addressed) (links : List Prefix) → all ≡ addressed files →
+    list_all is_defined files ≡ true →
+    links ≡ filter (λ p. list_any (is_joined_by all p) all) (fold put_in_order [] (map (λ x. x.subnet) all)) →
+    links ≡ links_of files
+links_without_bgp files all links same defined made =
+    let P : List Addressed → Type 0 = λ xs. links ≡ filter (λ p. list_any (is_joined_by xs p) xs) (fold put_in_order [] (map (λ x. x.subnet) xs)) in
+    subst P same made ∙ filter_same (λ p. list_any (is_joined_by (addressed files) p) (addressed files)) (is_link files) (is_link-joined files defined)
+    (fold put_in_order [] (map (λ x. x.subnet) (addressed files)))
+
+two : (a b : Bool) → (a && b) ≡ true → (a ≡ true) × (b ≡ true)
+two true true h = (refl, refl)
+two true false h = cc
+two false b h = cc
+
+-- all files of a network ask for what is defined
+pub all_defined : (files : List File) → is_network files ≡ true → list_all is_defined files ≡ true
+all_defined files network =
+    let tests : Bool = list_all statics_connected files && list_all is_defined files in
+    let fits : Bool = all_pairs fit_together (addressed files) && tests in
+    let named : Bool = all_pairs names_differ files && fits in
+    (two (list_all statics_connected files) (list_all is_defined files)
+    (two (all_pairs fit_together (addressed files)) tests
+    (two (all_pairs names_differ files) fits (two (is_small files) named network).1).1).1).1
+
+none_here : {A : Type 0} (o : Option A) → is_some o ≡ false → o ≡ None
+none_here None h = refl
+none_here (Some x) h = cc
+
+-- a file of a network asks for what is defined
+pub defined_at : (files : List File) → list_all is_defined files ≡ true → (router : ℕ) (file : File) →
+    slice_get files router ≡ Some file → is_defined file ≡ true
+defined_at [] all router file found = cc
+defined_at (x ∷ xs) all zero file found =
+    let same : x ≡ file = cc in
+    let P : File → Type 0 = λ f. is_defined f ≡ true in subst P same (two (is_defined x) (list_all is_defined xs) all).0
+defined_at (x ∷ xs) all (suc router) file found =
+    defined_at xs (two (is_defined x) (list_all is_defined xs) all).1 router file found
+
+-- a router of a network runs neither OSPF nor BGP
+pub no_protocol : (files : List File) → is_network files ≡ true → (router : ℕ) (file : File) →
+    slice_get files router ≡ Some file → (file.ospf ≡ None) × (file.bgp ≡ None)
+no_protocol files network router file found =
+    let here = parts file (defined_at files (all_defined files network) router file found) in
+    (none_here file.ospf here.0, none_here file.bgp here.1)
