@@ -13,6 +13,8 @@ use Rattle.ios_reader.specs.Reading.{not_built}
 use Rattle.ios_reader.specs.Statements.{is_keyword, is_skipped}
 use Rattle.question_lang.specs.declared.question.PacketSet.{PacketSet}
 use Rattle.question_lang.specs.declared.question.Question.{Question}
+use Rattle.question_lang.specs.declared.asking.TheConstants.{MOST_FAILURES}
+use Rattle.question_lang.specs.declared.reader.TheConstants.{MOST_QUESTIONS}
 use Rattle.question_lang.specs.Breaking.{reach_question}
 
 -- '!' to '~'
@@ -27,12 +29,18 @@ is_name word = nat_lt 0 (length word) && (nat_le (length word) 64 && list_all is
 abbrev pub router_named : List File → List ℕ → Option ℕ
 router_named files name = position (λ file. same_text file.hostname name) files
 
--- the number of a protocol, by its name or as a number (IANA protocol numbers)
-abbrev pub protocol_of : List ℕ → Option ℕ
+-- a protocol, by its name or its number (IANA protocol numbers); `ip` is any
+abbrev pub protocol_of : List ℕ → Option (Option ℕ)
 protocol_of word =
-    if is_keyword (codes "icmp") word then Some 1
-    else (if is_keyword (codes "tcp") word then Some 6
-    else (if is_keyword (codes "udp") word then Some 17 else number_of 255 word))
+    if is_keyword (codes "ip") word then Some None
+    else (if is_keyword (codes "icmp") word then Some (Some 1)
+    else (if is_keyword (codes "tcp") word then Some (Some 6)
+    else (if is_keyword (codes "udp") word then Some (Some 17) else option_map Some (number_of 255 word))))
+
+-- `any`, or A/L
+abbrev pub addresses_of : List ℕ → Option Prefix
+addresses_of word =
+    if is_keyword (codes "any") word then Some (record { addr = record { 0 = 0 }; len = 0 }) else prefix_of_text word
 
 abbrev pub range_of : Option ℕ → Option ℕ → Option (ℕ × ℕ)
 range_of (Some low) (Some high) = if nat_le low high then Some (low, high) else None
@@ -45,23 +53,17 @@ ports_of word =
     else option_map_or (λ cut. range_of (number_of 65535 cut.0) (number_of 65535 cut.1)) (cut_at 45 word)
     (range_of (number_of 65535 word) (number_of 65535 word))
 
--- a protocol and two port ranges have one packet: with TCP (6) and UDP (17) one value each, else 0, as both ports are then 0
-abbrev pub has_one : ℕ → ℕ × ℕ → ℕ × ℕ → Bool
-has_one proto sport dport =
-    if (proto == 6) || (proto == 17) then (sport.0 == sport.1) && (dport.0 == dport.1) else (sport.0 == 0) && (dport.0 == 0)
-
--- a set of exactly one packet
-abbrev pub set_of : Option ℕ → Option Prefix → Option (ℕ × ℕ) → Option Prefix → Option (ℕ × ℕ) → Option PacketSet
+-- a set of packets
+abbrev pub set_of : Option (Option ℕ) → Option Prefix → Option (ℕ × ℕ) → Option Prefix → Option (ℕ × ℕ) → Option PacketSet
 set_of (Some proto) (Some src) (Some sport) (Some dst) (Some dport) =
-    if (src.len == 32) && ((dst.len == 32) && has_one proto sport dport)
-    then Some (record { proto = Some proto; src = src; sport = sport; dst = dst; dport = dport }) else None
+    Some (record { proto = proto; src = src; sport = sport; dst = dst; dport = dport })
 set_of _ _ _ _ _ = None
 
--- a question with its name and no failed links
+-- a question with its name
 abbrev pub question_of : List ℕ → Option ℕ → Option ℕ → Option PacketSet → Option ℕ → Option Question
-question_of name (Some start) (Some target) (Some set) (Some none) =
+question_of name (Some start) (Some target) (Some set) (Some failures) =
     if is_name name
-    then Some (record { name = name; kind = reach_question start target; packets = set; failures = none }) else None
+    then Some (record { name = name; kind = reach_question start target; packets = set; failures = failures }) else None
 question_of name _ _ _ _ = None
 
 -- the fixed words of a question
@@ -73,29 +75,25 @@ are_keywords reach from to router packets failures =
 -- the words of a set
 unfoldable pub set_in : List ℕ → List ℕ → List ℕ → List ℕ → List ℕ → Option PacketSet
 set_in proto src sport dst dport =
-    set_of (protocol_of proto) (prefix_of_text src) (ports_of sport) (prefix_of_text dst) (ports_of dport)
+    set_of (protocol_of proto) (addresses_of src) (ports_of sport) (addresses_of dst) (ports_of dport)
 
 -- the question of a name, two routers, a set and a number of failed links
 unfoldable pub question_in : List File → List ℕ → List ℕ → List ℕ → Option PacketSet → List ℕ → Option Question
-question_in files name start target set none =
-    question_of name (router_named files start) (router_named files target) set (number_of 0 none)
+question_in files name start target set failures =
+    question_of name (router_named files start) (router_named files target) set (number_of MOST_FAILURES failures)
 
--- NAME reach from R to router R packets PROTO SRC SPORTS DST DPORTS failures 0
+-- NAME reach from R to router R packets PROTO SRC SPORTS DST DPORTS failures K
 abbrev pub asked : List File → List (List ℕ) → Option Question
-asked files (name ∷ reach ∷ from ∷ start ∷ to ∷ router ∷ target ∷ packets ∷ proto ∷ src ∷ sport ∷ dst ∷ dport ∷ failures ∷ none ∷ []) =
+asked files (name ∷ reach ∷ from ∷ start ∷ to ∷ router ∷ target ∷ packets ∷ proto ∷ src ∷ sport ∷ dst ∷ dport ∷ failures ∷ most ∷ []) =
     if are_keywords reach from to router packets failures
-    then question_in files name start target (set_in proto src sport dst dport) none else None
+    then question_in files name start target (set_in proto src sport dst dport) most else None
 asked files _ = None
-
--- how many questions a file has at most
-abbrev pub most_questions : ℕ
-most_questions = 64
 
 -- each question has another name, and there are not too many
 abbrev pub with_question : List Question → Question → Option (List Question)
 with_question so_far question =
     if list_any (λ q. same_text q.name question.name) so_far then None
-    else (if nat_le most_questions (length so_far) then None else Some (so_far ++ question ∷ []))
+    else (if nat_le MOST_QUESTIONS (length so_far) then None else Some (so_far ++ question ∷ []))
 
 -- the questions with a line more, where that line may stand there
 abbrev pub with_asked : List File → List Question → Line → Option (List Question)

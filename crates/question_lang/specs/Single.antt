@@ -1,23 +1,25 @@
--- The questions that are read today.
-use Rattle.std.specs.Prelude.{◌≡◌, ◌≢◌, ℕ, ◌<◌, ◌≤◌, List, Some, slice_get}
+-- Questions that are read today, and sets of exactly one packet.
+use Rattle.std.specs.Prelude.{◌≡◌, ℕ, ◌==◌, ◌&&◌, ◌||◌, ◌<◌, Bool, true, false, List, Option, Some, None, slice_get, if◌then◌else◌}
 use Rattle.question_lang.specs.declared.question.PacketSet.{PacketSet}
 use Rattle.question_lang.specs.declared.question.Question.{Question}
 use Rattle.question_lang.specs.Breaking.{reach_question}
 
--- a set of exactly one packet
-pub record IsSinglePacket (set : PacketSet) : Type 0 where
-  pub proto : (p : ℕ) × (set.proto ≡ Some p) × (p ≢ 6 → p ≢ 17 → (set.sport.0 ≡ 0) × (set.dport.0 ≡ 0))
-  pub src : set.src.len ≡ 32
-  pub dst : set.dst.len ≡ 32
-  pub sport : set.sport.0 ≤ set.sport.1
-  pub dport : set.dport.0 ≤ set.dport.1
+-- with TCP (6) and UDP (17) a port range has one port where it has one value; else both ports are 0, which it must have
+abbrev pub has_one_port : ℕ → ℕ × ℕ → Bool
+has_one_port proto range = if (proto == 6) || (proto == 17) then range.0 == range.1 else range.0 == 0
 
--- one packet from a router of so many to a router, while no link fails
-pub record IsSingleReach (routers : ℕ) (question : Question) : Type 0 where
-  pub kind : (start : ℕ) × (target : ℕ) × (question.kind ≡ reach_question start target) × (start < routers)
-  pub failures : question.failures ≡ 0
-  pub packets : IsSinglePacket question.packets
+-- a test of sets: those that pass have exactly one packet (see `single_packet`)
+abbrev pub is_single : PacketSet → Bool
+is_single set = of_protocol set.proto where
+  of_protocol : Option ℕ → Bool
+  of_protocol None = false
+  of_protocol (Some proto) =
+      (set.src.len == 32) && ((set.dst.len == 32) && (has_one_port proto set.sport && has_one_port proto set.dport))
+
+-- whether packets from a router of so many reach a router
+abbrev pub IsReach : ℕ → Question → Type 0
+IsReach routers question = (start : ℕ) × (target : ℕ) × (question.kind ≡ reach_question start target) × (start < routers)
 
 -- each question is one of these
-abbrev pub AreSingle : ℕ → List Question → Type 0
-AreSingle routers questions = (k : ℕ) (question : Question) → slice_get questions k ≡ Some question → IsSingleReach routers question
+abbrev pub AreReach : ℕ → List Question → Type 0
+AreReach routers questions = (k : ℕ) (question : Question) → slice_get questions k ≡ Some question → IsReach routers question

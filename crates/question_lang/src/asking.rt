@@ -1,18 +1,20 @@
 //! What a line of a questions file asks.
 
-ghost use Rattle.std.specs.Prelude.{◌≡◌, ◌≤◌, ◌<◌, ℕ, IfOk, IfSome, length};
-ghost use Rattle.std.specs.Option.{ForSome};
+ghost use Rattle.std.specs.Prelude.{◌≡◌, ◌<◌, ℕ, IfOk, IfSome, length};
 ghost use Rattle.std.specs.List.{list_all};
 ghost use Rattle.mw_text.specs.Digits.{number_of};
 ghost use Rattle.question_lang.specs.Asking as asking;
-ghost use Rattle.question_lang.specs.Single.{IsSinglePacket, IsSingleReach};
+ghost use Rattle.question_lang.specs.Single.{IsReach};
 
 use crate::question::{Kind, PacketSet, Question, Start, Target};
 use ios_reader::statement::is_word;
 use mw_text::digits::cut;
-use mw_text::{List, Prefix, list_of, read_number, read_prefix};
+use mw_text::{Addr, List, Prefix, list_of, read_number, read_prefix};
 use net_model::Net;
 use std::alloc::{AllocError, Global};
+
+/// How many links may fail in a question at most.
+pub const MOST_FAILURES: u64 = 8;
 
 fn is_printable(b: u8) -> bool
     ensures { result ≡ asking.is_printable b }
@@ -32,22 +34,37 @@ fn is_name(word: &[u8]) -> bool
     !word.is_empty() && word.len() <= 64 && all_printable(word)
 }
 
-fn read_protocol(word: &[u8]) -> Option<u8>
+fn read_protocol(word: &[u8]) -> Option<Option<u8>>
     ensures { result ≡ asking.protocol_of word.now }
 {
+    if is_word(word, b"ip") {
+        return Some(None);
+    }
     if is_word(word, b"icmp") {
-        return Some(1);
+        return Some(Some(1));
     }
     if is_word(word, b"tcp") {
-        return Some(6);
+        return Some(Some(6));
     }
     if is_word(word, b"udp") {
-        return Some(17);
+        return Some(Some(17));
     }
     match read_number(word, 255) {
         None => None,
-        Some(number) => Some(number as u8),
+        Some(number) => Some(Some(number as u8)),
     }
+}
+
+fn read_addresses(word: &[u8]) -> Option<Prefix>
+    ensures { result ≡ asking.addresses_of word.now }
+{
+    if is_word(word, b"any") {
+        return Some(Prefix {
+            addr: Addr(0),
+            len: 0,
+        });
+    }
+    read_prefix(word)
 }
 
 fn read_port(word: &[u8]) -> Option<u16>
@@ -60,8 +77,7 @@ fn read_port(word: &[u8]) -> Option<u16>
 }
 
 fn range_of(low: Option<u16>, high: Option<u16>) -> Option<(u16, u16)>
-    ensures range { result ≡ asking.range_of low high }
-    ensures ordered { ForSome result (λ range. range.0 ≤ range.1) }
+    ensures { result ≡ asking.range_of low high }
 {
     match (low, high) {
         (Some(low), Some(high)) if low <= high => Some((low, high)),
@@ -70,8 +86,7 @@ fn range_of(low: Option<u16>, high: Option<u16>) -> Option<(u16, u16)>
 }
 
 fn read_ports(word: &[u8]) -> Option<(u16, u16)>
-    ensures range { result ≡ asking.ports_of word.now }
-    ensures ordered { ForSome result (λ range. range.0 ≤ range.1) }
+    ensures { result ≡ asking.ports_of word.now }
 {
     if is_word(word, b"any") {
         return Some((0, 65535));
@@ -82,45 +97,27 @@ fn read_ports(word: &[u8]) -> Option<(u16, u16)>
     }
 }
 
-fn has_one(proto: u8, sport: (u16, u16), dport: (u16, u16)) -> bool
-    ensures { result ≡ asking.has_one proto sport dport }
-{
-    if proto == 6 || proto == 17 {
-        sport.0 == sport.1 && dport.0 == dport.1
-    } else {
-        sport.0 == 0 && dport.0 == 0
-    }
-}
-
-// The set of exactly one packet.
 fn set_of(
-    proto: Option<u8>,
+    proto: Option<Option<u8>>,
     src: Option<Prefix>,
     sport: Option<(u16, u16)>,
     dst: Option<Prefix>,
     dport: Option<(u16, u16)>,
 ) -> Option<PacketSet>
-    requires sport { ForSome sport (λ range. range.0 ≤ range.1) }
-    requires dport { ForSome dport (λ range. range.0 ≤ range.1) }
-    ensures set { result ≡ asking.set_of proto src sport dst dport }
-    ensures single { IfSome result IsSinglePacket }
+    ensures { result ≡ asking.set_of proto src sport dst dport }
 {
     let (Some(proto), Some(src), Some(sport), Some(dst), Some(dport)) = (
         proto, src, sport, dst, dport,
     ) else {
         return None;
     };
-    if src.len == 32 && dst.len == 32 && has_one(proto, sport, dport) {
-        Some(PacketSet {
-            proto: Some(proto),
-            src,
-            sport,
-            dst,
-            dport,
-        })
-    } else {
-        None
-    }
+    Some(PacketSet {
+        proto,
+        src,
+        sport,
+        dst,
+        dport,
+    })
 }
 
 fn question_of(
@@ -129,14 +126,13 @@ fn question_of(
     start: Option<u32>,
     target: Option<u32>,
     set: Option<PacketSet>,
-    none: Option<u64>,
+    failures: Option<u32>,
 ) -> Result<Option<Question>, AllocError>
-    requires { ForSome none (λ n. n ≡ 0) }
-    ensures question { IfOk result (λ question. question ≡ asking.question_of name.now start target set none) }
-    ensures single { IfOk result (λ question. (routers : ℕ) → IfSome start (λ at. at < routers) → IfSome set IsSinglePacket →
-        IfSome question (IsSingleReach routers)) }
+    ensures question { IfOk result (λ question. question ≡ asking.question_of name.now start target set failures) }
+    ensures reach { IfOk result (λ question. (routers : ℕ) → IfSome start (λ at. at < routers) → IfSome question (IsReach routers)) }
 {
-    let (Some(start), Some(target), Some(packets), Some(none)) = (start, target, set, none) else {
+    let (Some(start), Some(target), Some(packets), Some(failures)) = (start, target, set, failures)
+    else {
         return Ok(None);
     };
     if !is_name(name) {
@@ -150,7 +146,7 @@ fn question_of(
         name: list_of(alloc, name)?,
         kind: Kind::Reach(from, Target::Router(target)),
         packets,
-        failures: none as u32,
+        failures,
     }))
 }
 
@@ -175,23 +171,24 @@ fn are_keywords(
 
 #[tactic(auto, unfolding(crate::specs::Asking::set_in))]
 fn read_set(proto: &[u8], src: &[u8], sport: &[u8], dst: &[u8], dport: &[u8]) -> Option<PacketSet>
-    ensures set { result ≡ asking.set_in proto.now src.now sport.now dst.now dport.now }
-    ensures single { IfSome result IsSinglePacket }
+    ensures { result ≡ asking.set_in proto.now src.now sport.now dst.now dport.now }
 {
     set_of(
         read_protocol(proto),
-        read_prefix(src),
+        read_addresses(src),
         read_ports(sport),
-        read_prefix(dst),
+        read_addresses(dst),
         read_ports(dport),
     )
 }
 
-fn read_none(word: &[u8]) -> Option<u64>
-    ensures value { result ≡ number_of 0 word.now }
-    ensures zero { ForSome result (λ n. n ≡ 0) }
+fn read_failures(word: &[u8]) -> Option<u32>
+    ensures { result ≡ number_of MOST_FAILURES word.now }
 {
-    read_number(word, 0)
+    match read_number(word, MOST_FAILURES) {
+        None => None,
+        Some(most) => Some(most as u32),
+    }
 }
 
 #[tactic(auto, unfolding(crate::specs::Asking::question_in))]
@@ -202,11 +199,10 @@ fn question_over(
     start: &[u8],
     target: &[u8],
     set: Option<PacketSet>,
-    none: &[u8],
+    failures: &[u8],
 ) -> Result<Option<Question>, AllocError>
-    requires { IfSome set IsSinglePacket }
-    ensures question { IfOk result (λ question. question ≡ asking.question_in net.now name.now start.now target.now set none.now) }
-    ensures single { IfOk result (λ question. IfSome question (IsSingleReach (length net.now))) }
+    ensures question { IfOk result (λ question. question ≡ asking.question_in net.now name.now start.now target.now set failures.now) }
+    ensures reach { IfOk result (λ question. IfSome question (IsReach (length net.now))) }
 {
     question_of(
         alloc,
@@ -214,7 +210,7 @@ fn question_over(
         net.router_named(start),
         net.router_named(target),
         set,
-        read_none(none),
+        read_failures(failures),
     )
 }
 
@@ -225,7 +221,7 @@ pub fn read_question(
     words: &[List<u8>],
 ) -> Result<Option<Question>, AllocError>
     ensures question { IfOk result (λ question. question ≡ asking.asked net.now words.now) }
-    ensures single { IfOk result (λ question. IfSome question (IsSingleReach (length net.now))) }
+    ensures reach { IfOk result (λ question. IfSome question (IsReach (length net.now))) }
 {
     let [
         name,
@@ -242,7 +238,7 @@ pub fn read_question(
         dst,
         dport,
         failures,
-        none,
+        most,
     ] = words
     else {
         return Ok(None);
@@ -271,6 +267,6 @@ pub fn read_question(
         start.as_slice(),
         target.as_slice(),
         set,
-        none.as_slice(),
+        most.as_slice(),
     )
 }

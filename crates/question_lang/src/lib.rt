@@ -7,7 +7,8 @@ pub mod question;
 pub mod reader;
 pub mod walk;
 
-pub use packet::single_packet;
+pub use asking::MOST_FAILURES;
+pub use packet::{is_single, single_packet};
 pub use question::{Kind, PacketSet, Question, Start, Target};
-pub use reader::read_questions;
+pub use reader::{MOST_QUESTIONS, read_questions};
 pub use walk::{End, Hop, Walk};

@@ -1,21 +1,36 @@
 //! The one packet of a set that has exactly one.
 
-ghost use Rattle.std.specs.Prelude.{◌≡◌, Some};
+ghost use Rattle.std.specs.Prelude.{◌≡◌, true};
 ghost use Rattle.route_record.specs.declared.Packet.{Packet as PacketOf};
 ghost use Rattle.question_lang.specs.Packets.{IsInSet, IsPacket};
-ghost use Rattle.question_lang.specs.Single.{IsSinglePacket};
+ghost use Rattle.question_lang.specs.Single as single;
 
 use crate::question::PacketSet;
 use mw_text::Addr;
 use route_record::Packet;
 
-fn protocol_of(set: &PacketSet) -> u8
-    requires { IsSinglePacket set.now }
-    ensures { set.now.proto ≡ Some result }
+fn has_one_port(proto: u8, range: (u16, u16)) -> bool
+    ensures { result ≡ single.has_one_port proto range }
+{
+    if proto == 6 || proto == 17 {
+        range.0 == range.1
+    } else {
+        range.0 == 0
+    }
+}
+
+/// Whether the set has one protocol, one source, one destination and, for that protocol, one port of each kind.
+pub fn is_single(set: &PacketSet) -> bool
+    ensures { result ≡ single.is_single set.now }
 {
     match set.proto {
-        None => unreachable!(),
-        Some(proto) => proto,
+        None => false,
+        Some(proto) => {
+            set.src.len == 32
+                && set.dst.len == 32
+                && has_one_port(proto, set.sport)
+                && has_one_port(proto, set.dport)
+        }
     }
 }
 
@@ -32,16 +47,20 @@ fn packet_of(src: Addr, dst: Addr, proto: u8, sport: u16, dport: u16) -> Packet
     }
 }
 
-/// The packet of a set of exactly one.
+/// The packet of a set that has exactly one.
 pub fn single_packet(set: &PacketSet) -> Packet
-    requires { IsSinglePacket set.now }
+    requires { single.is_single set.now ≡ true }
     ensures inside { IsInSet set.now result }
-    ensures only { (packet : PacketOf) → IsInSet set.now packet → packet.dst ≡ result.dst }
+    ensures only { (packet : PacketOf) → IsInSet set.now packet → packet ≡ result }
 {
+    let proto = match set.proto {
+        None => unreachable!(),
+        Some(proto) => proto,
+    };
     packet_of(
         set.src.addr,
         set.dst.addr,
-        protocol_of(set),
+        proto,
         set.sport.0,
         set.dport.0,
     )

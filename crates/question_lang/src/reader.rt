@@ -5,7 +5,7 @@ ghost use Rattle.std.specs.List.{list_any};
 ghost use Rattle.mw_text.specs.Text.{same_text};
 ghost use Rattle.ios_reader.specs.Reading.{not_built};
 ghost use Rattle.question_lang.specs.Asking as asking;
-ghost use Rattle.question_lang.specs.Single.{AreSingle, IsSingleReach};
+ghost use Rattle.question_lang.specs.Single.{AreReach, IsReach};
 
 use crate::asking::read_question;
 use crate::question::Question;
@@ -36,9 +36,9 @@ fn put_question(
     question: Question,
 ) -> Result<Option<List<Question>>, AllocError>
     ensures next { IfOk result (λ next. next ≡ asking.with_question questions question) }
-    ensures single { IfOk result (λ next. (routers : ℕ) → AreSingle routers questions → IsSingleReach routers question →
-        IfSome next (AreSingle routers)) }
-    ensures few { IfOk result (λ next. IfSome next (λ all. length all ≤ asking.most_questions)) }
+    ensures reach { IfOk result (λ next. (routers : ℕ) → AreReach routers questions → IsReach routers question →
+        IfSome next (AreReach routers)) }
+    ensures few { IfOk result (λ next. IfSome next (λ all. length all ≤ MOST_QUESTIONS)) }
 {
     if has_name(questions.as_slice(), question.name.as_slice()) {
         return Ok(None);
@@ -56,11 +56,11 @@ fn take_line(
     questions: List<Question>,
     line: &Line,
 ) -> Result<Option<List<Question>>, AllocError>
-    requires single { AreSingle (length net.now) questions }
-    requires few { length questions ≤ asking.most_questions }
-    ensures few { IfOk result (λ next. IfSome next (λ all. length all ≤ asking.most_questions)) }
+    requires reach { AreReach (length net.now) questions }
+    requires few { length questions ≤ MOST_QUESTIONS }
+    ensures few { IfOk result (λ next. IfSome next (λ all. length all ≤ MOST_QUESTIONS)) }
     ensures next { IfOk result (λ next. next ≡ asking.with_asked net.now questions line.now) }
-    ensures single { IfOk result (λ next. IfSome next (AreSingle (length net.now))) }
+    ensures reach { IfOk result (λ next. IfSome next (AreReach (length net.now))) }
 {
     let words = line.words.as_slice();
     if says_nothing(words) {
@@ -79,10 +79,10 @@ fn next_questions(
     questions: List<Question>,
     line: &Line,
 ) -> Result<List<Question>, Refused>
-    requires single { AreSingle (length net.now) questions }
-    requires few { length questions ≤ asking.most_questions }
-    ensures few { IfOk result (λ next. length next ≤ asking.most_questions) }
-    ensures single { IfOk result (AreSingle (length net.now)) }
+    requires reach { AreReach (length net.now) questions }
+    requires few { length questions ≤ MOST_QUESTIONS }
+    ensures few { IfOk result (λ next. length next ≤ MOST_QUESTIONS) }
+    ensures reach { IfOk result (AreReach (length net.now)) }
     ensures taken { IfOk result (λ next. asking.with_asked net.now questions line.now ≡ Some next) }
     ensures refused { IfErr result (λ refused. refused.cause ≢ Cause.Memory →
         (asking.with_asked net.now questions line.now ≡ None) × (refused ≡ not_built line.now.number)) }
@@ -99,8 +99,8 @@ fn next_questions(
 
 // The questions of all lines.
 fn read_all(alloc: Global, net: &Net, lines: &[Line]) -> Result<List<Question>, Refused>
-    ensures few { IfOk result (λ questions. length questions ≤ asking.most_questions) }
-    ensures single { IfOk result (AreSingle (length net.now)) }
+    ensures few { IfOk result (λ questions. length questions ≤ MOST_QUESTIONS) }
+    ensures reach { IfOk result (AreReach (length net.now)) }
     ensures ok { IfOk result (λ questions. asking.ask_lines net.now [] lines.now ≡ Ok questions) }
     ensures refused { IfErr result (λ refused. refused.cause ≢ Cause.Memory → asking.ask_lines net.now [] lines.now ≡ Err refused) }
 {
@@ -115,14 +115,13 @@ fn read_all(alloc: Global, net: &Net, lines: &[Line]) -> Result<List<Question>, 
 }
 
 /// The questions that a text asks over a network. The one form that is read today is
-/// `NAME reach from R to router R packets PROTO SRC SPORTS DST DPORTS failures 0` with a set of exactly one packet. A text
-/// is refused at its first line that says something else, names no router, repeats a name or is one question too many.
+/// `NAME reach from R to router R packets PROTO SRC SPORTS DST DPORTS failures K` with K from 0 to 8. A text is refused at its first line that says something else, names no router, repeats a name or is one question too many.
 pub fn read_questions(alloc: Global, bytes: &[u8], net: &Net) -> Result<List<Question>, Refused>
     requires { length bytes.now < 2 ^ 32 }
     ensures ok { IfOk result (λ questions. asking.asking net.now bytes.now ≡ Ok questions) }
     ensures refused { IfErr result (λ refused. refused.cause ≢ Cause.Memory → asking.asking net.now bytes.now ≡ Err refused) }
-    ensures single { IfOk result (AreSingle (length net.now)) }
-    ensures few { IfOk result (λ questions. length questions ≤ asking.most_questions) }
+    ensures reach { IfOk result (AreReach (length net.now)) }
+    ensures few { IfOk result (λ questions. length questions ≤ MOST_QUESTIONS) }
 {
     match lines_of(alloc, bytes) {
         Err(_) => Err(MEMORY),

@@ -13,7 +13,7 @@ pub loop-line-preserved : goal.loop-line-preserved
 loop-line-preserved c = (
   c.loop-line.invariant.0
       ∙ ask_lines_taken c.args.net.now c.loop-line.questions c.in-Ok.next c.args.lines.now c.loop-line.line-index c.line-item.result c.loop-line-test.true c.line-item.is c.in-Ok.ensures.taken,
-  c.in-Ok.ensures.single,
+  c.in-Ok.ensures.reach,
   c.in-Ok.ensures.few,
 )
 
