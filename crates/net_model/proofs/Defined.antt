@@ -102,3 +102,36 @@ pub no_protocol : (files : List File) → is_network files ≡ true → (router 
 no_protocol files network router file found =
     let here = parts file (defined_at files (all_defined files network) router file found) in
     (none_here file.ospf here.0, none_here file.bgp here.1)
+
+none_of_both : (iface : Iface) → is_filtered iface ≡ false → (iface.list_in ≡ None) × (iface.list_out ≡ None)
+none_of_both iface plain =
+    let both = neither (is_some iface.list_in) (is_some iface.list_out) plain in
+    (none_here iface.list_in both.0, none_here iface.list_out both.1)
+  where
+    neither : (a b : Bool) → (a || b) ≡ false → (a ≡ false) × (b ≡ false)
+    neither false false h = (refl, refl)
+    neither false true h = cc
+    neither true b h = cc
+
+plain_at : (interfaces : List Iface) → list_any is_filtered interfaces ≡ false → (at : ℕ) (iface : Iface) →
+    slice_get interfaces at ≡ Some iface → is_filtered iface ≡ false
+plain_at [] none at iface found = cc
+plain_at (x ∷ xs) none zero iface found =
+    let same : x ≡ iface = cc in
+    let P : Iface → Type 0 = λ i. is_filtered i ≡ false in subst P same (first_false (is_filtered x) (list_any is_filtered xs) none)
+  where
+    first_false : (a b : Bool) → (a || b) ≡ false → a ≡ false
+    first_false false b h = refl
+    first_false true b h = cc
+plain_at (x ∷ xs) none (suc at) iface found = plain_at xs (rest_false (is_filtered x) (list_any is_filtered xs) none) at iface found
+  where
+    rest_false : (a b : Bool) → (a || b) ≡ false → b ≡ false
+    rest_false false b h = h
+    rest_false true b h = cc
+
+-- no interface of a network has an access list
+pub no_filter : (files : List File) → is_network files ≡ true → (router : ℕ) (file : File) → slice_get files router ≡ Some file →
+    (at : ℕ) (iface : Iface) → slice_get file.interfaces at ≡ Some iface → (iface.list_in ≡ None) × (iface.list_out ≡ None)
+no_filter files network router file found at iface is =
+    let here = parts file (defined_at files (all_defined files network) router file found) in
+    none_of_both iface (plain_at file.interfaces here.2 at iface is)

@@ -5,7 +5,7 @@ use mw_text::{Addr, List};
 use net_model::IfaceId;
 
 /// How a walk ends.
-#[derive(Clone, Copy)]
+#[derive(Clone, Copy, PartialEq, Eq)]
 pub enum End {
     /// At the packet's destination, or on its subnet.
     Delivered,
@@ -26,7 +26,7 @@ pub enum End {
 }
 
 /// What a router does with a packet: it sends it in at an interface of a router, or the walk ends.
-#[derive(Clone, Copy)]
+#[derive(Clone, Copy, PartialEq, Eq)]
 pub enum Hop {
     To(IfaceId),
     Ends(End),

@@ -73,8 +73,8 @@ harmful-end hops start target bound safe stood now end own so_far begun is_own f
     by_end (Left a) has is_proper harmful = wrong-end hops start target stood now (Left a) so_far begun has (λ h. cc) (λ h. cc)
     by_end NoRoute has is_proper harmful = wrong-end hops start target stood now NoRoute so_far begun has (λ h. cc) (λ h. cc)
     by_end Discarded has is_proper harmful = wrong-end hops start target stood now Discarded so_far begun has (λ h. cc) (λ h. cc)
-    by_end (DeniedIn i) has is_proper harmful = cc
-    by_end DeniedOut has is_proper harmful = cc
+    by_end (DeniedIn i) has is_proper harmful = wrong-end hops start target stood now (DeniedIn i) so_far begun has (λ h. cc) (λ h. cc)
+    by_end DeniedOut has is_proper harmful = wrong-end hops start target stood now DeniedOut so_far begun has (λ h. cc) (λ h. cc)
     by_end Loop has is_proper harmful = cc
     by_end Open has is_proper harmful = cc
 

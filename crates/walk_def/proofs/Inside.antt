@@ -1,4 +1,4 @@
--- Each next hop leads to a router of the network, or ends delivered, left, without a route or discarded.
+-- Each next hop leads to a router of the network, or ends there.
 use Rattle.std.proofs.Common.{◌≡◌, ℕ, ◌+◌, ◌<◌, ◌≤◌, Bool, true, false, ◌&&◌, List, [], ◌∷◌, ◌++◌, length, Option, Some, None, refl, ap, arith, ◌∙◌, sym, cond, eqb}
 use Rattle.std.specs.Prelude.{nat_lt, filter, option_map, slice_get, IsTrue}
 use Rattle.std.specs.List.{find, flat_map, list_all, list_any}
@@ -7,7 +7,7 @@ use Rattle.std.proofs.lemmas.List.Folds.{list_all-append}
 use Rattle.std.proofs.lemmas.Grind.{common_steps}
 use Rattle.mw_text.specs.declared.address.Addr.{Addr}
 use Rattle.mw_text.specs.declared.address.Prefix.{Prefix}
-use Rattle.mw_text.specs.Address.{prefix_at}
+use Rattle.mw_text.specs.Address.{covers, prefix_at, same_prefix}
 use Rattle.ios_ast.specs.declared.file.File.{File}
 use Rattle.ios_ast.specs.declared.file.Iface.{Iface}
 use Rattle.ios_ast.specs.declared.file.IfAddr.{IfAddr}
@@ -16,16 +16,25 @@ use Rattle.ios_ast.specs.declared.file.Via.{Via}
 use Rattle.ios_ast.specs.declared.file.Via.TheVariants.{Null0, Next, Out}
 use Rattle.route_record.specs.declared.RibEntry.{RibEntry}
 use Rattle.route_record.specs.declared.RibSource.{RibSource}
+use Rattle.route_record.specs.declared.BgpRec.{BgpRec}
+use Rattle.route_record.specs.declared.OspfRec.{OspfRec}
+use Rattle.route_record.specs.declared.Packet.{Packet}
 use Rattle.route_record.specs.declared.RibSource.TheVariants.{Connected, Static, Ebgp, Ospf, Ibgp}
-use Rattle.route_record.specs.declared.Tables.{Tables}
+use Rattle.route_record.specs.declared.Slot.{Slot}
+use Rattle.route_record.specs.declared.TheConstants.{LENGTHS}
+use Rattle.route_record.specs.declared.World.{World}
 use Rattle.net_model.specs.declared.interfaces.Addressed.{Addressed}
 use Rattle.net_model.specs.declared.interfaces.IfaceId.{IfaceId}
 use Rattle.net_model.specs.Interfaces.{addressed, addressed_from, addressed_routers, addressed_iface}
-use Rattle.net_model.specs.Routing.{static_routes, is_direct}
+use Rattle.net_model.proofs.Defined.{no_protocol}
+use Rattle.net_model.specs.Network.{is_network}
+use Rattle.net_model.specs.Routing.{static_routes, up_interfaces}
+use Rattle.net_model.specs.World.{is_up}
 use Rattle.question_lang.specs.declared.walk.End.{End}
+use Rattle.question_lang.specs.declared.walk.End.TheVariants.{Left, DeniedIn, DeniedOut}
 use Rattle.question_lang.specs.declared.walk.Hop.{Hop}
 use Rattle.question_lang.specs.declared.walk.Hop.TheVariants.{To, Ends}
-use Rattle.question_lang.specs.Hops.{owner_on, send_to, send_over, static_hops, connected_hops, entry_hops, hops_over, longest_below}
+use Rattle.question_lang.specs.Hops.{all_up, arrive, bgp_hops, connected_hops, depart, entry_hops, hops_over, longest_below, next_hops, ospf_hops, owner_on, permits_in, permits_out, send_over, send_to, static_hops}
 use Rattle.walk_def.specs.Safety.{is_inside, is_end}
 
 -- the interface is of a router below the bound
@@ -99,65 +108,125 @@ below-routers bound router (file ∷ rest) h =
     all-append (of_router_below bound) (addressed_from router 0 file.interfaces) (addressed_routers (router + 1) rest)
     (below-from bound router 0 file.interfaces (omega arith)) (below-routers bound (router + 1) rest (omega arith))
 
-hop_of_found : (bound : ℕ) (end : End) (o : Option Addressed) → PassesIfThere (of_router_below bound) o → is_end end ≡ true →
-    is_inside bound (option_map_or To (option_map (λ x. x.id) o) (Ends end)) ≡ true
-hop_of_found bound end None found ends = ends
-hop_of_found bound end (Some x) found ends = found
+inside_if : (bound : ℕ) (b : Bool) (hop other : Hop) → is_inside bound hop ≡ true → is_inside bound other ≡ true →
+    is_inside bound (cond b hop other) ≡ true
+inside_if bound true hop other h k = h
+inside_if bound false hop other h k = k
 
-over_found : (bound : ℕ) (up : List Addressed) (a : Addr) (o : Option Addressed) → list_all (of_router_below bound) up ≡ true →
-    list_all (is_inside bound) (option_map_or (λ x. send_to up x.subnet a ∷ []) o []) ≡ true
-over_found bound up a None all = refl
-over_found bound up a (Some x) all =
-    both (is_inside bound (send_to up x.subnet a)) true (hop_of_found bound _ _ (found_passes (of_router_below bound) _ up all) refl) refl
+-- a hop of the files, of a packet
+arrive_inside : (bound : ℕ) (files : List File) (packet : Packet) (i : IfaceId) → nat_lt i.router bound ≡ true →
+    is_inside bound (arrive files packet i) ≡ true
+arrive_inside bound files packet i below = inside_if bound (permits_in files packet i) (To i) (Ends (DeniedIn i)) below refl
 
-static_inside : (bound : ℕ) (up own : List Addressed) (route : StaticRoute) → list_all (of_router_below bound) up ≡ true →
-    list_all (is_inside bound) (static_hops up own route) ≡ true
-static_inside bound up own route all = by_via route.via where
-  by_via : (via : Via) → list_all (is_inside bound) (static_hops up own (record route { via = via })) ≡ true
+depart_inside : (bound : ℕ) (files : List File) (packet : Packet) (out : IfaceId) (hop : Hop) → is_inside bound hop ≡ true →
+    is_inside bound (depart files packet out hop) ≡ true
+depart_inside bound files packet out hop inside = inside_if bound (permits_out files packet out) hop (Ends DeniedOut) inside refl
+
+owner_inside : (bound : ℕ) (files : List File) (packet : Packet) (end : End) (o : Option Addressed) →
+    PassesIfThere (of_router_below bound) o → is_end end ≡ true →
+    is_inside bound (option_map_or (arrive files packet) (option_map (λ x. x.id) o) (Ends end)) ≡ true
+owner_inside bound files packet end None found ends = ends
+owner_inside bound files packet end (Some x) found ends = arrive_inside bound files packet x.id found
+
+one_inside : (bound : ℕ) (hop : Hop) → is_inside bound hop ≡ true → list_all (is_inside bound) (hop ∷ []) ≡ true
+one_inside bound hop inside = both (is_inside bound hop) true inside refl
+
+-- out of an interface, to an address of a subnet or else so
+out_inside : (bound : ℕ) (files : List File) (packet : Packet) (up : List Addressed) (out : IfaceId) (subnet : Prefix) (a : Addr) (end : End) →
+    list_all (of_router_below bound) up ≡ true → is_end end ≡ true →
+    is_inside bound (depart files packet out (option_map_or (arrive files packet) (owner_on up subnet a) (Ends end))) ≡ true
+out_inside bound files packet up out subnet a end all ends =
+    depart_inside bound files packet out _
+    (owner_inside bound files packet end _ (found_passes (of_router_below bound) _ up all) ends)
+
+over_inside : (bound : ℕ) (files : List File) (packet : Packet) (up own : List Addressed) (a : Addr) →
+    list_all (of_router_below bound) up ≡ true → list_all (is_inside bound) (send_over files packet up own a) ≡ true
+over_inside bound files packet up own a all = by_out (find (λ x. covers x.subnet a) own) where
+  by_out : (o : Option Addressed) → list_all (is_inside bound) (option_map_or (λ out. send_to files packet up out a ∷ []) o []) ≡ true
+  by_out None = refl
+  by_out (Some out) = one_inside bound _ (out_inside bound files packet up out.id out.subnet a (Left a) all refl)
+
+static_inside : (bound : ℕ) (files : List File) (packet : Packet) (up own : List Addressed) (route : StaticRoute) →
+    list_all (of_router_below bound) up ≡ true → list_all (is_inside bound) (static_hops files packet up own route) ≡ true
+static_inside bound files packet up own route all = by_via route.via where
+  by_via : (via : Via) → list_all (is_inside bound) (static_hops files packet up own (record route { via = via })) ≡ true
   by_via Null0 = refl
-  by_via (Next a) = over_found bound up a _ all
-  by_via (Out named a) = over_found bound up a _ all
+  by_via (Next a) = over_inside bound files packet up own a all
+  by_via (Out named a) = over_inside bound files packet up own a all
 
-statics_inside : (bound : ℕ) (up own : List Addressed) (routes : List StaticRoute) → list_all (of_router_below bound) up ≡ true →
-    list_all (is_inside bound) (flat_map (static_hops up own) routes) ≡ true
-statics_inside bound up own [] all = refl
-statics_inside bound up own (route ∷ rest) all =
-    all-append (is_inside bound) (static_hops up own route) (flat_map (static_hops up own) rest)
-    (static_inside bound up own route all) (statics_inside bound up own rest all)
+statics_inside : (bound : ℕ) (files : List File) (packet : Packet) (up own : List Addressed) (routes : List StaticRoute) →
+    list_all (of_router_below bound) up ≡ true → list_all (is_inside bound) (flat_map (static_hops files packet up own) routes) ≡ true
+statics_inside bound files packet up own [] all = refl
+statics_inside bound files packet up own (route ∷ rest) all =
+    all-append (is_inside bound) (static_hops files packet up own route) (flat_map (static_hops files packet up own) rest)
+    (static_inside bound files packet up own route all) (statics_inside bound files packet up own rest all)
 
-connected_inside : (bound : ℕ) (up own : List Addressed) (p : Prefix) (d : Addr) (direct : Bool) → list_all (of_router_below bound) up ≡ true →
-    list_all (is_inside bound) (cond direct (option_map_or To (owner_on up p d) (Ends End.Delivered) ∷ []) []) ≡ true
-connected_inside bound up own p d true all =
-    both (is_inside bound (option_map_or To (owner_on up p d) (Ends End.Delivered))) true
-    (hop_of_found bound _ _ (found_passes (of_router_below bound) _ up all) refl) refl
-connected_inside bound up own p d false all = refl
+connected_inside : (bound : ℕ) (files : List File) (packet : Packet) (up own : List Addressed) (p : Prefix) →
+    list_all (of_router_below bound) up ≡ true → list_all (is_inside bound) (connected_hops files packet up own p) ≡ true
+connected_inside bound files packet up own p all = by_out (find (λ x. same_prefix x.subnet p) own) where
+  by_out : (o : Option Addressed) → list_all (is_inside bound)
+      (option_map_or (λ out. depart files packet out.id (option_map_or (arrive files packet) (owner_on up p packet.dst) (Ends End.Delivered)) ∷ []) o []) ≡ true
+  by_out None = refl
+  by_out (Some out) = one_inside bound _ (out_inside bound files packet up out.id p packet.dst End.Delivered all refl)
 
-entry_inside : (bound : ℕ) (up own : List Addressed) (statics : List StaticRoute) (d : Addr) (len : ℕ) (entry : RibEntry) →
-    list_all (of_router_below bound) up ≡ true → list_all (is_inside bound) (entry_hops up own statics d (len, entry)) ≡ true
-entry_inside bound up own statics d len entry all = by_source entry.source where
-  by_source : (source : RibSource) → list_all (is_inside bound) (entry_hops up own statics d (len, record entry { source = source })) ≡ true
-  by_source Connected = connected_inside bound up own (prefix_at d len) d (is_direct own (prefix_at d len)) all
+-- without an OSPF process
+ospf_inside : (bound : ℕ) (files : List File) (world : World) (router : ℕ) (file : File) (p : Prefix) (slot : Slot) → file.ospf ≡ None →
+    list_all (is_inside bound) (ospf_hops files world router file p slot) ≡ true
+ospf_inside bound files world router file p slot none = rw none (by_held slot.ospf) where
+  by_held : (held : Option OspfRec) → list_all (is_inside bound) (option_map_or (λ _. []) held []) ≡ true
+  by_held None = refl
+  by_held (Some held) = refl
+
+bgp_inside : (bound : ℕ) (files : List File) (world : World) (up own : List Addressed) (router : ℕ) (file : File) (slot : Slot) →
+    list_all (of_router_below bound) up ≡ true → file.ospf ≡ None →
+    list_all (is_inside bound) (bgp_hops files world up own router file slot) ≡ true
+bgp_inside bound files world up own router file slot all none = rw none (by_held slot.bgp) where
+  by_next : (b : Bool) (a : Addr) → list_all (is_inside bound) (cond b (send_over files world.packet up own a) []) ≡ true
+  by_next true a = over_inside bound files world.packet up own a all
+  by_next false a = refl
+  by_held : (held : Option BgpRec) → list_all (is_inside bound)
+      (option_map_or (λ h. cond (list_any (λ x. covers x.subnet h.next_hop) own) (send_over files world.packet up own h.next_hop) []) held []) ≡ true
+  by_held None = refl
+  by_held (Some held) = by_next (list_any (λ x. covers x.subnet held.next_hop) own) held.next_hop
+
+entry_inside : (bound : ℕ) (files : List File) (world : World) (up own : List Addressed) (router : ℕ) (file : File) (len : ℕ) (slot : Slot) (entry : RibEntry) →
+    list_all (of_router_below bound) up ≡ true → file.ospf ≡ None →
+    list_all (is_inside bound) (entry_hops files world up own router file (len, slot, entry)) ≡ true
+entry_inside bound files world up own router file len slot entry all none = by_source entry.source where
+  by_source : (source : RibSource) →
+      list_all (is_inside bound) (entry_hops files world up own router file (len, slot, record entry { source = source })) ≡ true
+  by_source Connected = connected_inside bound files world.packet up own (prefix_at world.packet.dst len) all
   by_source Static =
-      statics_inside bound up own (filter (λ route. eqb route.distance entry.distance) (static_routes own statics (prefix_at d len))) all
-  by_source Ebgp = refl
-  by_source Ospf = refl
-  by_source Ibgp = refl
+      statics_inside bound files world.packet up own
+      (filter (λ route. eqb route.distance entry.distance) (static_routes own file.statics (prefix_at world.packet.dst len))) all
+  by_source Ebgp = bgp_inside bound files world up own router file slot all none
+  by_source Ospf = ospf_inside bound files world router file (prefix_at world.packet.dst len) slot none
+  by_source Ibgp = bgp_inside bound files world up own router file slot all none
 
-found_inside : (bound : ℕ) (up own : List Addressed) (statics : List StaticRoute) (d : Addr) (o : Option (ℕ × RibEntry)) →
-    list_all (of_router_below bound) up ≡ true →
-    list_all (is_inside bound) (option_map_or (entry_hops up own statics d) o (Ends End.NoRoute ∷ [])) ≡ true
-found_inside bound up own statics d None all = refl
-found_inside bound up own statics d (Some (len, entry)) all = entry_inside bound up own statics d len entry all
+over_inside_all : (bound : ℕ) (files : List File) (world : World) (up own : List Addressed) (router : ℕ) (file : File) →
+    list_all (of_router_below bound) up ≡ true → file.ospf ≡ None →
+    list_all (is_inside bound) (hops_over files world up own router file) ≡ true
+over_inside_all bound files world up own router file all none =
+    by_own (list_any (λ x. eqb x.addr.0 world.packet.dst.0) own) (longest_below world.tables router LENGTHS)
+  where
+    by_longest : (o : Option (ℕ × Slot × RibEntry)) → list_all (is_inside bound)
+        (option_map_or (entry_hops files world up own router file) o (Ends End.NoRoute ∷ [])) ≡ true
+    by_longest None = refl
+    by_longest (Some (len, slot, entry)) = entry_inside bound files world up own router file len slot entry all none
+    by_own : (b : Bool) (o : Option (ℕ × Slot × RibEntry)) → list_all (is_inside bound)
+        (cond b (Ends End.Delivered ∷ []) (option_map_or (entry_hops files world up own router file) o (Ends End.NoRoute ∷ []))) ≡ true
+    by_own true o = refl
+    by_own false o = by_longest o
 
-hops_inside : (bound : ℕ) (up own : List Addressed) (statics : List StaticRoute) (d : Addr) (is_own : Bool) (o : Option (ℕ × RibEntry)) →
-    list_all (of_router_below bound) up ≡ true →
-    list_all (is_inside bound) (cond is_own (Ends End.Delivered ∷ []) (option_map_or (entry_hops up own statics d) o (Ends End.NoRoute ∷ []))) ≡ true
-hops_inside bound up own statics d true o all = refl
-hops_inside bound up own statics d false o all = found_inside bound up own statics d o all
-
--- the hops of a router over interfaces of the network
-pub hops_over_inside : (files : List File) (keep : Addressed → Bool) (own : List Addressed) (statics : List StaticRoute) (tables : Tables) (router : ℕ) (d : Addr) →
-    list_all (is_inside (length files)) (hops_over (filter keep (addressed files)) own statics tables router d) ≡ true
-hops_over_inside files keep own statics tables router d =
-    hops_inside (length files) (filter keep (addressed files)) own statics d (list_any (λ x. eqb x.addr.0 d.0) own) (longest_below tables router 33)
-    (all-filter (of_router_below (length files)) keep (addressed files) (below-routers (length files) 0 files (omega arith)))
+-- the next hops of a router of a network
+pub next_hops_inside : (files : List File) → is_network files ≡ true → (world : World) (router : ℕ) →
+    list_all (is_inside (length files)) (next_hops files world router) ≡ true
+next_hops_inside files network world router = by_file (slice_get files router) refl where
+  below : list_all (of_router_below (length files)) (all_up files world.failures) ≡ true
+  below = all-filter (of_router_below (length files)) (is_up files world.failures) (addressed files) (below-routers (length files) 0 files (omega arith))
+  by_file : (file : Option File) → slice_get files router ≡ file → list_all (is_inside (length files))
+      (option_map_or (hops_over files world (all_up files world.failures) (up_interfaces files world.failures router) router) file []) ≡ true
+  by_file None is = refl
+  by_file (Some file) is =
+      over_inside_all (length files) files world (all_up files world.failures) (up_interfaces files world.failures router) router file
+      below (no_protocol files network router file is).0

@@ -5,3 +5,7 @@ pub mod SafeWalks
 pub mod Following
 pub mod Known
 pub mod AllHops
+pub mod Unfiltered
+pub mod Worlds
+pub mod Routers
+pub mod EachOnce

@@ -6,14 +6,12 @@ use Rattle.std.proofs.lemmas.Option.{slice_get_read}
 use Rattle.mw_text.proofs.Lists.{each_place-push}
 use Rattle.net_model.specs.declared.interfaces.IfaceId.{IfaceId}
 use Rattle.question_lang.specs.declared.question.Start.{Start}
-use Rattle.question_lang.specs.declared.question.Target.TheVariants.{Router}
 use Rattle.question_lang.specs.declared.walk.End.{End}
 use Rattle.question_lang.specs.declared.walk.End.TheVariants.{Delivered, Left, NoRoute, Discarded, DeniedIn, DeniedOut, Loop, Open}
 use Rattle.question_lang.specs.declared.walk.Hop.{Hop}
 use Rattle.question_lang.specs.declared.walk.Hop.TheVariants.{To, Ends}
 use Rattle.question_lang.specs.declared.walk.Walk.{Walk}
 use Rattle.question_lang.specs.Walks.{GoesOn, LeadsTo, MayEnd}
-use Rattle.question_lang.specs.Breaking.{BeginsAt, EndsAt, LastStandsAt}
 use Rattle.walk_def.proofs.Members.{test-of_item, all-none_found}
 use Rattle.walk_def.specs.Safety.{Safe, by_hops, known, is_harmless, is_delivered, first_harmful, Lists, GoesWrong}
 

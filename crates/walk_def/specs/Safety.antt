@@ -1,13 +1,11 @@
 -- Routers from which every walk ends at the target.
-use Rattle.std.specs.Prelude.{◌≡◌, ℕ, ◌==◌, ◌&&◌, Bool, true, false, not, List, [], length, Contains, Option, Some, IsSome, slice_get, unwrap_or, nat_lt}
+use Rattle.std.specs.Prelude.{◌≡◌, ◌≢◌, ◌∷◌, [], ℕ, ◌==◌, ◌&&◌, Bool, true, false, not, List, [], length, Contains, Option, Some, IsSome, slice_get, unwrap_or, nat_lt}
 use Rattle.std.specs.List.{find, list_all}
 use Rattle.net_model.specs.declared.interfaces.IfaceId.{IfaceId}
-use Rattle.question_lang.specs.declared.question.Kind.TheVariants.{Reach}
 use Rattle.question_lang.specs.declared.question.Start.{Start}
-use Rattle.question_lang.specs.declared.question.Target.TheVariants.{Router}
 use Rattle.question_lang.specs.declared.walk.Walk.{Walk}
 use Rattle.question_lang.specs.Walks.{GoesOn}
-use Rattle.question_lang.specs.Breaking.{Breaks}
+use Rattle.question_lang.specs.Breaking.{LastStands}
 use Rattle.question_lang.specs.declared.walk.End.{End}
 use Rattle.question_lang.specs.declared.walk.End.TheVariants.{Delivered, Left, NoRoute, Discarded, DeniedIn, DeniedOut, Loop, Open}
 use Rattle.question_lang.specs.declared.walk.Hop.{Hop}
@@ -19,8 +17,8 @@ is_end Delivered = true
 is_end (Left a) = true
 is_end NoRoute = true
 is_end Discarded = true
-is_end (DeniedIn i) = false
-is_end DeniedOut = false
+is_end (DeniedIn i) = true
+is_end DeniedOut = true
 is_end Loop = false
 is_end Open = false
 
@@ -75,6 +73,9 @@ IsClosed all target safe = (router : ℕ) (own : List Hop) → slice_get all rou
 abbrev pub AreSafe : List (List Hop) → ℕ → List Bool → Type 0
 AreSafe all target safe = (hops : ℕ → List Hop) → Lists hops all → (router : ℕ) → known safe router ≡ true → Safe hops target router
 
--- the walk goes from the start over these hops, and breaks that it reaches the target
+-- a walk from the start over these hops that ends, and not delivered at the target
 abbrev pub GoesWrong : (ℕ → List Hop) → Start → ℕ → Walk → Type 0
-GoesWrong hops start target walk = GoesOn hops [] walk.hops walk.end × Breaks (Reach start (Router target)) walk
+GoesWrong hops start target walk =
+    GoesOn hops [] walk.hops walk.end
+    × (((rest : List Start) × (walk.hops ≡ start ∷ rest)) × (walk.end ≢ Open)
+    × ((walk.end ≡ Delivered) × LastStands (λ r. r ≡ target) walk → ⊥))

@@ -1,20 +1,20 @@
-//! The next hops of a router, where no link has failed.
+//! The next hops of a router.
 
-ghost use Rattle.std.specs.Prelude.{◌≡◌, ◌<◌, ◌==◌, ◌&&◌, ◌++◌, ◌∷◌, [], filter, IfOk, OnOk};
+ghost use Rattle.std.specs.Prelude.{◌≡◌, ◌==◌, ◌&&◌, ◌++◌, ◌∷◌, [], None, filter, IfOk, IfSome, OnOk, option_map, slice_get};
 ghost use Rattle.std.specs.List.{find, flat_map, list_any};
-ghost use Rattle.net_model.specs.Routing.{static_routes};
-ghost use Rattle.std.specs.Option.{option_copied};
+ghost use Rattle.std.specs.Option.{option_copied, option_map_or};
 ghost use Rattle.mw_text.specs.Address.{covers, same_prefix};
-ghost use Rattle.net_model.specs.Stable.{lengths};
-ghost use Rattle.question_lang.specs.Hops.{owner_on, send_to, send_over, static_hops, connected_hops, entry_hops, entry_at, longest_below, hops_over};
-ghost use Rattle.walk_def.specs.Sending.{sent, AreSent};
+ghost use Rattle.net_model.specs.Routing.{static_routes};
+ghost use Rattle.question_lang.specs.Hops as hops;
 
-use ios_ast::{StaticRoute, Via};
+use crate::filters::{arrive, depart};
+use crate::open::{all_up, own_up};
+use ios_ast::{File, StaticRoute, Via};
 use mw_text::{Addr, List, Prefix, contains, prefix_of};
-use net_model::routing::{all_open, is_direct, open_interfaces, route_counts};
+use net_model::routing::route_counts;
 use net_model::{Addressed, IfaceId, Net};
 use question_lang::{End, Hop};
-use route_record::{RibEntry, RibSource, Tables};
+use route_record::{LENGTHS, Packet, RibEntry, RibSource, Slot, Tables, World};
 use std::alloc::{AllocError, Global};
 
 fn find_owner<'a>(up: &'a [Addressed], subnet: &Prefix, a: Addr) -> Option<&'a Addressed>
@@ -25,12 +25,29 @@ fn find_owner<'a>(up: &'a [Addressed], subnet: &Prefix, a: Addr) -> Option<&'a A
 
 // The interface that has the address, on that subnet.
 fn owner_of(up: &[Addressed], subnet: &Prefix, a: Addr) -> Option<IfaceId>
-    ensures { result ≡ owner_on up.now subnet.now a }
+    ensures { result ≡ hops.owner_on up.now subnet.now a }
 {
     match find_owner(up, subnet, a) {
         None => None,
         Some(x) => Some(x.id),
     }
+}
+
+// To the router that has the address on the subnet, else this end.
+fn hop_or(net: &Net, packet: &Packet, up: &[Addressed], subnet: &Prefix, a: Addr, end: End) -> Hop
+    ensures { result ≡ option_map_or (hops.arrive net.now packet.now) (hops.owner_on up.now subnet.now a) (Hop.Ends end) }
+{
+    match owner_of(up, subnet, a) {
+        None => Hop::Ends(end),
+        Some(id) => arrive(net, packet, id),
+    }
+}
+
+fn hop_to(net: &Net, packet: &Packet, up: &[Addressed], out: &Addressed, a: Addr) -> Hop
+    ensures { result ≡ hops.send_to net.now packet.now up.now out.now a }
+{
+    let hop = hop_or(net, packet, up, &out.subnet, a, End::Left(a));
+    depart(net, packet, out.id, hop)
 }
 
 fn find_over<'a>(own: &'a [Addressed], a: Addr) -> Option<&'a Addressed>
@@ -39,134 +56,188 @@ fn find_over<'a>(own: &'a [Addressed], a: Addr) -> Option<&'a Addressed>
     own.iter().find(|x| contains(&x.subnet, a))
 }
 
-fn hop_to(up: &[Addressed], subnet: &Prefix, a: Addr) -> Hop
-    ensures { result ≡ send_to up.now subnet.now a }
-{
-    match owner_of(up, subnet, a) {
-        None => Hop::Ends(End::Left(a)),
-        Some(id) => Hop::To(id),
-    }
-}
-
 // Puts the hop over the interface of the router whose subnet has the address at the end.
 fn push_over(
-    hops: &mut List<Hop>,
+    out: &mut List<Hop>,
+    net: &Net,
+    packet: &Packet,
     up: &[Addressed],
     own: &[Addressed],
     a: Addr,
 ) -> Result<(), AllocError>
-    ensures { OnOk result (hops.new ≡ hops.old ++ send_over up.now own.now a) }
+    ensures { OnOk result (out.new ≡ out.old ++ hops.send_over net.now packet.now up.now own.now a) }
 {
     if let Some(x) = find_over(own, a) {
-        hops.items.push(hop_to(up, &x.subnet, a))?;
+        out.items.push(hop_to(net, packet, up, x, a))?;
     }
     Ok(())
 }
 
 // Puts the hops of a static route at the end.
 fn push_static(
-    hops: &mut List<Hop>,
+    out: &mut List<Hop>,
+    net: &Net,
+    packet: &Packet,
     up: &[Addressed],
     own: &[Addressed],
     route: &StaticRoute,
 ) -> Result<(), AllocError>
-    ensures { OnOk result (hops.new ≡ hops.old ++ static_hops up.now own.now route.now) }
+    ensures { OnOk result (out.new ≡ out.old ++ hops.static_hops net.now packet.now up.now own.now route.now) }
 {
     match &route.via {
         Via::Null0 => {
-            hops.items.push(Hop::Ends(End::Discarded))?;
+            out.items.push(Hop::Ends(End::Discarded))?;
             Ok(())
         }
-        Via::Next(a) => push_over(hops, up, own, *a),
-        Via::Out(_, a) => push_over(hops, up, own, *a),
+        Via::Next(a) => push_over(out, net, packet, up, own, *a),
+        Via::Out(_, a) => push_over(out, net, packet, up, own, *a),
     }
 }
 
 // The hops of the static routes of the prefix that have the distance.
 fn static_hops_of(
     alloc: Global,
+    net: &Net,
+    packet: &Packet,
     up: &[Addressed],
     own: &[Addressed],
     statics: &[StaticRoute],
     p: &Prefix,
     distance: u8,
 ) -> Result<List<Hop>, AllocError>
-    ensures { IfOk result (λ hops. hops ≡ flat_map (static_hops up.now own.now)
+    ensures { IfOk result (λ all. all ≡ flat_map (hops.static_hops net.now packet.now up.now own.now)
         (filter (λ route. route.distance == distance) (static_routes own.now statics.now p.now))) }
 {
-    let mut hops = List::new(alloc);
+    let mut out = List::new(alloc);
     for route in statics {
         if route.prefix == *p && route_counts(own, route) && route.distance == distance {
-            push_static(&mut hops, up, own, route)?;
+            push_static(&mut out, net, packet, up, own, route)?;
         }
     }
-    Ok(hops)
+    Ok(out)
 }
 
-fn connected_hop(up: &[Addressed], p: &Prefix, d: Addr) -> Hop
-    ensures { result ≡ Rattle.std.specs.Option.option_map_or Hop.To (owner_on up.now p.now d) (Hop.Ends End.Delivered) }
+fn find_direct<'a>(own: &'a [Addressed], p: &Prefix) -> Option<&'a Addressed>
+    ensures { option_copied result ≡ find (λ x. same_prefix x.subnet p.now) own.now }
 {
-    match owner_of(up, p, d) {
-        None => Hop::Ends(End::Delivered),
-        Some(id) => Hop::To(id),
-    }
+    own.iter().find(|x| x.subnet == *p)
+}
+
+fn connected_hop(net: &Net, packet: &Packet, up: &[Addressed], out: &Addressed, p: &Prefix) -> Hop
+    ensures { result ≡ hops.depart net.now packet.now out.now.id
+        (option_map_or (hops.arrive net.now packet.now) (hops.owner_on up.now p.now packet.now.dst) (Hop.Ends End.Delivered)) }
+{
+    let hop = hop_or(net, packet, up, p, packet.dst, End::Delivered);
+    depart(net, packet, out.id, hop)
 }
 
 fn connected_hops_of(
     alloc: Global,
+    net: &Net,
+    packet: &Packet,
     up: &[Addressed],
     own: &[Addressed],
     p: &Prefix,
-    d: Addr,
 ) -> Result<List<Hop>, AllocError>
-    ensures { IfOk result (λ hops. hops ≡ connected_hops up.now own.now p.now d) }
+    ensures { IfOk result (λ all. all ≡ hops.connected_hops net.now packet.now up.now own.now p.now) }
 {
-    let mut hops = List::new(alloc);
-    if is_direct(own, p) {
-        hops.items.push(connected_hop(up, p, d))?;
+    let mut out = List::new(alloc);
+    if let Some(x) = find_direct(own, p) {
+        out.items.push(connected_hop(net, packet, up, x, p))?;
     }
-    Ok(hops)
+    Ok(out)
 }
+
+fn some_subnet_has(own: &[Addressed], a: Addr) -> bool
+    ensures { result ≡ list_any (λ x. covers x.subnet a) own.now }
+{
+    own.iter().any(|x| contains(&x.subnet, a))
+}
+
+// The hops of a BGP entry at a router that runs no OSPF: to the next hop, where that is on a subnet of the router.
+fn bgp_hops_of(
+    alloc: Global,
+    net: &Net,
+    world: &World,
+    up: &[Addressed],
+    own: &[Addressed],
+    router: u32,
+    file: &File,
+    slot: &Slot,
+) -> Result<List<Hop>, AllocError>
+    requires { file.now.ospf ≡ None }
+    ensures { IfOk result (λ all. all ≡ hops.bgp_hops net.now world.now up.now own.now router file.now slot.now) }
+{
+    let _places = (router, file.hostname_line);
+    let mut out = List::new(alloc);
+    if let Some(held) = &slot.bgp {
+        if some_subnet_has(own, held.next_hop) {
+            push_over(&mut out, net, &world.packet, up, own, held.next_hop)?;
+        }
+    }
+    Ok(out)
+}
+
+// The hops of an OSPF entry at a router that runs no OSPF: none.
+fn ospf_hops_of(alloc: Global, net: &Net, world: &World, router: u32, file: &File, p: &Prefix, slot: &Slot) -> List<Hop>
+    requires { file.now.ospf ≡ None }
+    ensures { result ≡ hops.ospf_hops net.now world.now router file.now p.now slot.now }
+{
+    let _places = (net.routers().len(), world.packet.dst, router, file.hostname_line, p.len);
+    let _held = slot.ospf.is_some();
+    List::new(alloc)
+}
+
+// The longest prefix with an entry: its length, its slot and that entry.
+type Longest<'a> = (u8, &'a Slot, RibEntry);
 
 fn entry_hops_of(
     alloc: Global,
+    net: &Net,
+    world: &World,
     up: &[Addressed],
     own: &[Addressed],
-    statics: &[StaticRoute],
-    d: Addr,
-    len: u8,
-    entry: &RibEntry,
+    router: u32,
+    file: &File,
+    found: &Longest<'_>,
 ) -> Result<List<Hop>, AllocError>
-    ensures { IfOk result (λ hops. hops ≡ entry_hops up.now own.now statics.now d (len, entry.now)) }
+    requires { file.now.ospf ≡ None }
+    ensures { IfOk result (λ all. all ≡ hops.entry_hops net.now world.now up.now own.now router file.now
+        (found.now.0, found.now.1.now, found.now.2)) }
 {
-    let p = prefix_of(d, len);
+    let (len, slot, entry) = found;
+    let packet = &world.packet;
+    let p = prefix_of(packet.dst, *len);
     match entry.source {
-        RibSource::Connected => connected_hops_of(alloc, up, own, &p, d),
-        RibSource::Static => static_hops_of(alloc, up, own, statics, &p, entry.distance),
-        RibSource::Ebgp => Ok(List::new(alloc)),
-        RibSource::Ospf => Ok(List::new(alloc)),
-        RibSource::Ibgp => Ok(List::new(alloc)),
+        RibSource::Connected => connected_hops_of(alloc, net, packet, up, own, &p),
+        RibSource::Static => static_hops_of(alloc, net, packet, up, own, file.statics.as_slice(), &p, entry.distance),
+        RibSource::Ebgp => bgp_hops_of(alloc, net, world, up, own, router, file, slot),
+        RibSource::Ospf => Ok(ospf_hops_of(alloc, net, world, router, file, &p, slot)),
+        RibSource::Ibgp => bgp_hops_of(alloc, net, world, up, own, router, file, slot),
     }
 }
 
-fn entry_of(tables: &Tables, router: u32, len: u8) -> Option<RibEntry>
-    ensures { result ≡ entry_at tables.now router len }
+fn entry_of(tables: &Tables, router: u32, len: u8) -> Option<(&Slot, RibEntry)>
+    ensures { option_map (λ found. (found.0.now, found.1)) result ≡ hops.entry_at tables.entry.now router len }
 {
-    match tables.slots.items.get(33 * router as usize + len as usize) {
+    match tables.slot(router, len) {
         None => None,
-        Some(slot) => slot.rib,
+        Some(slot) => match slot.rib {
+            None => None,
+            Some(entry) => Some((slot, entry)),
+        },
     }
 }
 
 // The entry of the longest prefix.
 #[tactic(auto, using(crate::proofs::Longest::longest_found, crate::proofs::Longest::longest_shorter, crate::proofs::Longest::longest_end))]
-fn longest_of(tables: &Tables, router: u32) -> Option<(u8, RibEntry)>
-    ensures { result ≡ longest_below tables.now router lengths }
+fn longest_of(tables: &Tables, router: u32) -> Option<Longest<'_>>
+    ensures { option_map (λ found. (found.0, found.1.now, found.2)) result ≡ hops.longest_below tables.entry.now router LENGTHS }
 {
-    for shorter in 0..33u8 {
+    for shorter in 0..LENGTHS as u8 {
         let len = 32 - shorter;
-        if let Some(entry) = entry_of(tables, router, len) {
-            return Some((len, entry));
+        if let Some((slot, entry)) = entry_of(tables, router, len) {
+            return Some((len, slot, entry));
         }
     }
     None
@@ -179,30 +250,52 @@ fn is_own(own: &[Addressed], d: Addr) -> bool
 }
 
 fn one_hop(alloc: Global, end: End) -> Result<List<Hop>, AllocError>
-    ensures { IfOk result (λ hops. hops ≡ Hop.Ends end ∷ []) }
+    ensures { IfOk result (λ all. all ≡ Hop.Ends end ∷ []) }
 {
-    let mut hops = List::new(alloc);
-    hops.items.push(Hop::Ends(end))?;
-    Ok(hops)
+    let mut out = List::new(alloc);
+    out.items.push(Hop::Ends(end))?;
+    Ok(out)
 }
 
-/// The next hops of a router, over the interfaces that are up: all of them, and its own.
-pub fn hops_of(
+// The next hops of a router over the interfaces that are up: all of them, and its own.
+fn hops_of(
     alloc: Global,
+    net: &Net,
+    world: &World,
     up: &[Addressed],
     own: &[Addressed],
-    statics: &[StaticRoute],
-    tables: &Tables,
     router: u32,
-    d: Addr,
+    file: &File,
 ) -> Result<List<Hop>, AllocError>
-    ensures { IfOk result (λ hops. hops ≡ hops_over up.now own.now statics.now tables.now router d) }
+    requires { file.now.ospf ≡ None }
+    ensures { IfOk result (λ all. all ≡ hops.hops_over net.now world.now up.now own.now router file.now) }
 {
-    if is_own(own, d) {
+    if is_own(own, world.packet.dst) {
         return one_hop(alloc, End::Delivered);
     }
-    match longest_of(tables, router) {
+    match longest_of(&world.tables, router) {
         None => one_hop(alloc, End::NoRoute),
-        Some((len, entry)) => entry_hops_of(alloc, up, own, statics, d, len, &entry),
+        Some(found) => entry_hops_of(alloc, net, world, up, own, router, file, &found),
+    }
+}
+
+// The file of a router, which runs no OSPF in a network of today.
+#[tactic(auto, using(crate::proofs::Routers::runs_no_ospf))]
+fn file_of(net: &Net, router: u32) -> Option<&File>
+    ensures value { option_copied result ≡ slice_get net.entry.now router }
+    ensures plain { IfSome result (λ file. file.now.ospf ≡ None) }
+{
+    net.routers().get(router as usize)
+}
+
+/// The next hops of a router, as a list.
+pub fn list_hops(alloc: Global, net: &Net, world: &World, router: u32) -> Result<List<Hop>, AllocError>
+    ensures { IfOk result (λ all. all ≡ hops.next_hops net.now world.now router) }
+{
+    let up = all_up(alloc, net, &world.failures)?;
+    let own = own_up(alloc, net, &world.failures, router)?;
+    match file_of(net, router) {
+        None => Ok(List::new(alloc)),
+        Some(file) => Ok(hops_of(alloc, net, world, up.as_slice(), own.as_slice(), router, file)?),
     }
 }

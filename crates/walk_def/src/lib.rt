@@ -1,8 +1,13 @@
 //! Walks of a packet: the next hops of each router, and a walk that breaks a question, if there is one.
 #![tactic(auto)]
 
+mod filters;
 pub mod hops;
+pub mod once;
+mod open;
 pub mod safety;
 pub mod verdict;
 
+pub use once::next_hops;
+pub use route_record::World;
 pub use verdict::breaking_walk;

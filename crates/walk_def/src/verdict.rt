@@ -1,50 +1,30 @@
 //! A walk that breaks that a router is reached, if there is one.
 
-ghost use Rattle.std.specs.Prelude.{◌≡◌, ◌<◌, ◌^◌, ℕ, List as ListOf, Some, None, true, false, IfOk, IfSome, length, slice_get};
+ghost use Rattle.std.specs.Prelude.{◌≡◌, ◌<◌, ◌^◌, ℕ, List as ListOf, Option, Some, None, true, false, IfOk, IfSome, length, slice_get};
 ghost use Rattle.question_lang.specs.declared.walk.Hop.{Hop as HopOf};
 ghost use Rattle.question_lang.specs.declared.walk.Walk.{Walk as WalkOf};
-ghost use Rattle.net_model.specs.World.{no_failures};
-ghost use Rattle.question_lang.specs.Walks.{IsWalk};
 ghost use Rattle.question_lang.specs.Breaking.{Breaks, reach_question};
 ghost use Rattle.walk_def.specs.Safety as safety;
-ghost use Rattle.walk_def.specs.Sending.{sent, AreSent};
+ghost use Rattle.walk_def.specs.Sending.{AreSent};
 
-use crate::hops::hops_of;
+use crate::hops::list_hops;
 use crate::safety::{first_harmful, is_known, no_marks, safe_routers};
-use mw_text::{Addr, List};
+use mw_text::List;
 use net_model::Net;
-use net_model::routing::{all_open, open_interfaces};
 use question_lang::{End, Hop, Start, Walk};
-use route_record::Tables;
+use route_record::World;
 use std::alloc::{AllocError, Global};
 
 // The next hops of each router.
-fn all_hops(
-    alloc: Global,
-    net: &Net,
-    tables: &Tables,
-    d: Addr,
-) -> Result<List<List<Hop>>, AllocError>
+fn all_hops(alloc: Global, net: &Net, world: &World) -> Result<List<List<Hop>>, AllocError>
     ensures len { IfOk result (λ hops. length hops ≡ length net.now) }
     ensures few { IfOk result (λ hops. length hops < 2 ^ 32) }
-    ensures sent { IfOk result (λ hops. AreSent net.now tables.now d hops) }
+    ensures sent { IfOk result (λ hops. AreSent net.now world.now hops) }
     ensures inside { IfOk result (λ hops. safety.StayInside hops) }
 {
-    let up = all_open(alloc, net.addresses())?;
     let mut hops = List::new(alloc);
-    for (at, file) in net.routers().iter().enumerate() {
-        let router = at as u32;
-        let own = open_interfaces(alloc, net.addresses(), router)?;
-        let statics = file.statics.as_slice();
-        hops.items.push(hops_of(
-            alloc,
-            up.as_slice(),
-            own.as_slice(),
-            statics,
-            tables,
-            router,
-            d,
-        )?)?;
+    for at in 0..net.routers().len() {
+        hops.items.push(list_hops(alloc, net, world, at as u32)?)?;
     }
     Ok(hops)
 }
@@ -101,23 +81,21 @@ fn follow(
     })
 }
 
-/// A walk from the router `start` of a packet for `d` that does not end delivered at the router `target`, where no link
-/// has failed. None exactly where there is no such walk.
+/// A walk of the world's packet from the router `start` that ends, and not delivered at the router `target`. None exactly
+/// where there is no such walk.
 pub fn breaking_walk(
     alloc: Global,
     net: &Net,
-    tables: &Tables,
-    d: Addr,
+    world: &World,
     start: u32,
     target: u32,
 ) -> Result<Option<Walk>, AllocError>
     requires { start < length net.now }
-    ensures none { IfOk result (λ found. found ≡ None → (walk : WalkOf) →
-        IsWalk net.now no_failures tables.now d walk → Breaks (reach_question start target) walk → ⊥) }
-    ensures some { IfOk result (λ found. IfSome found (λ walk.
-        IsWalk net.now no_failures tables.now d walk × Breaks (reach_question start target) walk)) }
+    ensures none { IfOk result (λ found. found ≡ None → (walk : Option WalkOf) →
+        Breaks net.now world.now (reach_question start target) walk → ⊥) }
+    ensures some { IfOk result (λ found. IfSome found (λ walk. Breaks net.now world.now (reach_question start target) (Some walk))) }
 {
-    let hops = all_hops(alloc, net, tables, d)?;
+    let hops = all_hops(alloc, net, world)?;
     let safe = safe_routers(alloc, hops.as_slice(), target)?;
     if is_known(safe.as_slice(), start) {
         return Ok(None);
