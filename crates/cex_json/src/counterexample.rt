@@ -1,14 +1,15 @@
 //! A counterexample and its text.
 
-ghost use Rattle.std.specs.Prelude.{◌≡◌, IfOk, map, option_map};
+ghost use Rattle.std.specs.Prelude.{◌≡◌, IfOk, option_map};
 ghost use Rattle.serde_json.specs.View.{view, members_view};
-ghost use Rattle.cex_json.specs.Json.{members_with, object_of};
 ghost use Rattle.cex_json.specs.Parts as parts;
 ghost use Rattle.cex_json.specs.Text as text;
 
 use crate::parts::{packet_value, text_value};
+use crate::routes::put_field;
 use crate::tables::slot_values;
 use crate::walks::walk_value;
+use crate::worlds::{announcement_values, failure_values, peer_values};
 use ios_ast::File;
 use mw_text::List;
 use net_model::Net;
@@ -51,70 +52,40 @@ fn walk_part(
     }
 }
 
-fn fields_before_walk(
-    alloc: Global,
-    packet: Value,
-    question: Value,
-    slots: Vec<Value>,
-) -> Result<Map<String, Value>, AllocError>
-    ensures { IfOk result (λ fields. members_view fields.entries
-        ≡ members_with (text.fields_of (view packet) (view question) (map view slots.items) None)) }
+#[tactic(auto, unfolding(crate::specs::Text::surroundings_of))]
+fn surroundings_of(alloc: Global, net: &Net, cex: &Counterexample) -> Result<Map<String, Value>, AllocError>
+    ensures { IfOk result (λ fields. members_view fields.entries ≡ text.surroundings_of net.now cex.now) }
 {
+    let announcements = announcement_values(alloc, net, cex.env.announced.as_slice())?;
+    let failures = failure_values(alloc, net, cex.failures.links.as_slice())?;
+    let packet = packet_value(alloc, &cex.packet)?;
+    let peers = peer_values(alloc, net, cex.env.ids.as_slice())?;
     let mut fields = Map::new(alloc);
-    put(
-        &mut fields,
-        alloc,
-        "announcements",
-        Value::Array(Vec::new(alloc)),
-    )?;
-    put(
-        &mut fields,
-        alloc,
-        "failures",
-        Value::Array(Vec::new(alloc)),
-    )?;
+    put(&mut fields, alloc, "announcements", Value::Array(announcements))?;
+    put(&mut fields, alloc, "failures", Value::Array(failures))?;
     put(&mut fields, alloc, "format", Value::from(1u8))?;
     put(&mut fields, alloc, "packet", packet)?;
-    put(&mut fields, alloc, "peers", Value::Array(Vec::new(alloc)))?;
-    put(&mut fields, alloc, "question", question)?;
-    put(&mut fields, alloc, "tables", Value::Array(slots))?;
+    put(&mut fields, alloc, "peers", Value::Array(peers))?;
     Ok(fields)
-}
-
-fn with_walk(
-    alloc: Global,
-    packet: Value,
-    question: Value,
-    slots: Vec<Value>,
-    walk: Option<Value>,
-) -> Result<Value, AllocError>
-    ensures { IfOk result (λ value. view value
-        ≡ object_of (text.fields_of (view packet) (view question) (map view slots.items) (option_map view walk))) }
-{
-    let mut fields = fields_before_walk(alloc, packet, question, slots)?;
-    match walk {
-        None => Ok(Value::Object(fields)),
-        Some(walk) => {
-            put(&mut fields, alloc, "walk", walk)?;
-            Ok(Value::Object(fields))
-        }
-    }
 }
 
 #[tactic(auto, unfolding(crate::specs::Text::cex_data))]
 fn cex_value(
     alloc: Global,
-    files: &[File],
+    net: &Net,
     questions: &[Question],
     cex: &Counterexample,
 ) -> Result<Value, AllocError>
-    ensures { IfOk result (λ value. view value ≡ text.cex_data files.now questions.now cex.now) }
+    ensures { IfOk result (λ value. view value ≡ text.cex_data net.now questions.now cex.now) }
 {
-    let packet = packet_value(alloc, &cex.packet)?;
     let question = text_value(alloc, question_name(questions, cex.question))?;
-    let slots = slot_values(alloc, files, cex.tables.slots.as_slice())?;
-    let walk = walk_part(alloc, files, &cex.walk)?;
-    with_walk(alloc, packet, question, slots, walk)
+    let slots = slot_values(alloc, net.routers(), cex.tables.slots.as_slice())?;
+    let walk = walk_part(alloc, net.routers(), &cex.walk)?;
+    let mut fields = surroundings_of(alloc, net, cex)?;
+    put(&mut fields, alloc, "question", question)?;
+    put(&mut fields, alloc, "tables", Value::Array(slots))?;
+    put_field(&mut fields, alloc, "walk", walk)?;
+    Ok(Value::Object(fields))
 }
 
 /// The text of a counterexample to one of the questions: compact JSON, the names of each object ascending. A router,
@@ -128,7 +99,25 @@ pub fn write_cex(
 ) -> Result<List<u8>, AllocError>
     ensures { IfOk result (λ written. written ≡ text.cex_text net.now questions.now cex.now) }
 {
-    let value = cex_value(alloc, net.routers(), questions, cex)?;
+    let value = cex_value(alloc, net, questions, cex)?;
+    Ok(List {
+        items: value.to_vec(alloc)?,
+    })
+}
+
+#[tactic(auto, unfolding(crate::specs::Text::tables_data))]
+fn tables_value(alloc: Global, files: &[File], tables: &Tables) -> Result<Value, AllocError>
+    ensures { IfOk result (λ value. view value ≡ text.tables_data files.now tables.now) }
+{
+    Ok(Value::Array(slot_values(alloc, files, tables.slots.as_slice())?))
+}
+
+/// The text of tables: compact JSON, the slots with a part in their order.
+#[tactic(auto, using(crate::proofs::Plain::tables_plain))]
+pub fn write_tables(alloc: Global, net: &Net, tables: &Tables) -> Result<List<u8>, AllocError>
+    ensures { IfOk result (λ written. written ≡ text.tables_text net.now tables.now) }
+{
+    let value = tables_value(alloc, net.routers(), tables)?;
     Ok(List {
         items: value.to_vec(alloc)?,
     })

@@ -3,7 +3,9 @@
 
 pub mod counterexample;
 mod parts;
+mod routes;
 mod tables;
 mod walks;
+mod worlds;
 
-pub use counterexample::{Counterexample, write_cex};
+pub use counterexample::{Counterexample, write_cex, write_tables};

@@ -24,7 +24,8 @@ pub fn addr_string(alloc: Global, a: Addr) -> Result<String, AllocError>
     format!(in alloc; "{first}.{second}.{third}.{fourth}")
 }
 
-fn addr_value(alloc: Global, a: Addr) -> Result<Value, AllocError>
+/// The address in dotted decimal.
+pub fn addr_value(alloc: Global, a: Addr) -> Result<Value, AllocError>
     ensures { IfOk result (λ value. view value ≡ string (parts.addr_text a)) }
 {
     Ok(Value::String(addr_string(alloc, a)?))

@@ -6,13 +6,11 @@ ghost use Rattle.serde_json.specs.View.{view};
 ghost use Rattle.cex_json.specs.Parts as parts;
 
 use crate::parts::{router_name, text_value};
+use crate::routes::{bgp_value, ospf_value, put_field};
 use ios_ast::File;
-use route_record::{RibEntry, RibSource, Slot};
-use serde_json::{Value, json};
+use route_record::{LENGTHS, RibEntry, RibSource, Slot};
+use serde_json::{Map, Value, json, put};
 use std::alloc::{AllocError, Global};
-
-// How many prefix lengths there are.
-const LENGTHS: usize = 33;
 
 fn source_value(alloc: Global, source: RibSource) -> Result<Value, AllocError>
     ensures { IfOk result (λ value. view value ≡ string (parts.source_text source)) }
@@ -34,32 +32,56 @@ fn rib_value(alloc: Global, entry: &RibEntry) -> Result<Value, AllocError>
     json!(in alloc; {"distance": entry.distance, "source": source})
 }
 
-#[tactic(auto, unfolding(crate::specs::Parts::entry_data))]
-fn entry_value(
-    alloc: Global,
-    files: &[File],
-    place: usize,
-    entry: &RibEntry,
-) -> Result<Value, AllocError>
-    ensures { IfOk result (λ value. view value ≡ parts.entry_data files.now place entry.now) }
+fn ospf_part(alloc: Global, slot: &Slot) -> Result<Option<Value>, AllocError>
+    ensures { IfOk result (λ value. option_map view value ≡ option_map parts.ospf_data slot.now.ospf) }
 {
-    let rib = rib_value(alloc, entry)?;
-    let router = text_value(alloc, router_name(files, place / LENGTHS))?;
-    json!(in alloc; {"len": place % LENGTHS, "rib": rib, "router": router})
+    match &slot.ospf {
+        None => Ok(None),
+        Some(held) => Ok(Some(ospf_value(alloc, held)?)),
+    }
 }
 
+fn bgp_part(alloc: Global, slot: &Slot) -> Result<Option<Value>, AllocError>
+    ensures { IfOk result (λ value. option_map view value ≡ option_map parts.bgp_data slot.now.bgp) }
+{
+    match &slot.bgp {
+        None => Ok(None),
+        Some(held) => Ok(Some(bgp_value(alloc, held)?)),
+    }
+}
+
+fn rib_part(alloc: Global, slot: &Slot) -> Result<Option<Value>, AllocError>
+    ensures { IfOk result (λ value. option_map view value ≡ option_map parts.rib_data slot.now.rib) }
+{
+    match &slot.rib {
+        None => Ok(None),
+        Some(entry) => Ok(Some(rib_value(alloc, entry)?)),
+    }
+}
+
+fn has_part(slot: &Slot) -> bool
+    ensures { result ≡ parts.has_part slot.now }
+{
+    slot.bgp.is_some() || slot.ospf.is_some() || slot.rib.is_some()
+}
+
+#[tactic(auto, unfolding(crate::specs::Parts::parts_data))]
 fn slot_value(
     alloc: Global,
     files: &[File],
     place: usize,
     slot: &Slot,
-) -> Result<Option<Value>, AllocError>
-    ensures { IfOk result (λ value. option_map view value ≡ parts.slot_data files.now place slot.now) }
+) -> Result<Value, AllocError>
+    ensures { IfOk result (λ value. view value ≡ parts.parts_data files.now place slot.now) }
 {
-    match &slot.rib {
-        None => Ok(None),
-        Some(entry) => Ok(Some(entry_value(alloc, files, place, entry)?)),
-    }
+    let router = text_value(alloc, router_name(files, place / LENGTHS))?;
+    let mut fields = Map::new(alloc);
+    put_field(&mut fields, alloc, "bgp", bgp_part(alloc, slot)?)?;
+    put(&mut fields, alloc, "len", Value::from(place % LENGTHS))?;
+    put_field(&mut fields, alloc, "ospf", ospf_part(alloc, slot)?)?;
+    put_field(&mut fields, alloc, "rib", rib_part(alloc, slot)?)?;
+    put(&mut fields, alloc, "router", router)?;
+    Ok(Value::Object(fields))
 }
 
 /// The slots with a part, in the order of the tables.
@@ -68,8 +90,8 @@ pub fn slot_values(alloc: Global, files: &[File], slots: &[Slot]) -> Result<Vec<
 {
     let mut values = Vec::new(alloc);
     for (place, slot) in slots.iter().enumerate() {
-        if let Some(value) = slot_value(alloc, files, place, slot)? {
-            values.push(value)?;
+        if has_part(slot) {
+            values.push(slot_value(alloc, files, place, slot)?)?;
         }
     }
     Ok(values)

@@ -1,5 +1,5 @@
 -- Links and their failures, and what the external peers of a network send.
-use Rattle.std.specs.Prelude.{◌≡◌, ℕ, ◌+◌, ◌==◌, ◌&&◌, ◌||◌, ◌<◌, ◌≤◌, Bool, not, List, [], ◌∷◌, length, filter, map, nat_lt, nat_le, fold, IsTrue, Option, Some, None, slice_get, All, AllPairs, IfSome, ◌^◌, if◌then◌else◌}
+use Rattle.std.specs.Prelude.{◌≡◌, ℕ, ◌+◌, ◌==◌, ◌&&◌, ◌||◌, ◌<◌, ◌≤◌, Bool, not, List, [], ◌∷◌, length, filter, map, nat_lt, nat_le, fold, IsTrue, Option, Some, None, slice_get, All, AllPairs, IfSome, ◌^◌, ◌⊎◌, if◌then◌else◌}
 use Rattle.std.specs.List.{list_any, list_all}
 use Rattle.std.specs.Option.{option_map_or}
 use Rattle.mw_text.specs.declared.address.Prefix.{Prefix}
@@ -87,13 +87,14 @@ pub record IsAnnouncement (files : List File) (announcement : Announcement) : Ty
   pub med : announcement.med < 2 ^ 32
   pub communities : IsTrue (ascends announcement.communities) × All (λ c. c < 2 ^ 32) announcement.communities
 
--- two announcements are of two ends or of two prefix lengths
-abbrev pub Differ : Announcement → Announcement → Type 0
-Differ a b = a.end ≡ b.end → a.len ≡ b.len → ⊥
+-- an announcement of an earlier end, or of the same and of a shorter prefix
+abbrev pub IsEarlier : Announcement → Announcement → Type 0
+IsEarlier a b = (a.end < b.end) ⊎ ((a.end ≡ b.end) × (a.len < b.len))
 
--- an environment: an identifier for each external session, and at most one announcement of each for each prefix length
+-- an environment: an identifier for each external session, and at most one announcement of each for each prefix length,
+-- which stand in this order
 pub record IsEnvironment (files : List File) (environment : Environment) : Type 0 where
   pub ids : length environment.ids ≡ length (external_ends files)
   pub fit : All (λ id. id.0 < 2 ^ 32) environment.ids
   pub announced : All (IsAnnouncement files) environment.announced
-  pub once : AllPairs Differ environment.announced
+  pub once : AllPairs IsEarlier environment.announced
