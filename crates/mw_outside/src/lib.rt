@@ -11,10 +11,12 @@ mod sink;
 mod test_files;
 mod test_sink;
 mod whole;
+mod writers;
 
 pub use files::{Failed, Files};
-pub use machine::{DirFiles, FileSink, NoSink, OutSink};
+pub use machine::{DirFiles, NoSink};
 pub use sink::Sink;
 pub use test_files::{TestFile, TestFiles};
 pub use test_sink::TestSink;
 pub use whole::{ReadRefused, read_whole};
+pub use writers::{FileSink, OutSink};

@@ -1,10 +1,10 @@
-//! The files, the standard output and the written files of the machine. They tell no bytes and no names.
+//! The files of the machine, and a sink that takes all. They tell no bytes and no names.
 
 ghost use Rattle.std.specs.Prelude.{◌≡◌, ◌≤◌, length, None, IfOk};
 
 use crate::faults::FaultCount;
 use crate::{Failed, Files, Sink};
-use std::io::{Read, Seek, SeekFrom, Write};
+use std::io::{Read, Seek, SeekFrom};
 use std::rt::Files as System;
 use std::{fs, io};
 
@@ -52,79 +52,6 @@ fn read_from<R: System>(system: &R, name: &str, at: u64, into: &mut [u8]) -> io:
     let mut file = fs::open(system, name)?;
     file.seek(SeekFrom::Start(at))?;
     file.read(into)
-}
-
-/// The standard output.
-#[derive(Drop)]
-pub struct OutSink<R: Print> {
-    system: R,
-    faults: FaultCount,
-}
-
-impl<R: Print> OutSink<R> {
-    /// The standard output that the runtime hands in.
-    pub fn new(system: R) -> OutSink<R>
-        ensures { ⟦<OutSink<R> as Sink>⟧.faults result ≡ 0 }
-    {
-        OutSink {
-            system,
-            faults: FaultCount::new(),
-        }
-    }
-}
-
-impl<R: Print> Sink for OutSink<R> {
-    ghost taken = { λ _. None };
-
-    ghost faults = { λ sink. sink.faults.value };
-
-    fn write(&mut self, bytes: &[u8]) -> Result<(), Failed> {
-        match self.system.write_all(bytes) {
-            Ok(()) => Ok(()),
-            Err(_) => {
-                self.faults.rise();
-                Err(Failed)
-            }
-        }
-    }
-}
-
-/// A file that is written from its start.
-#[derive(Drop)]
-pub struct FileSink<R: System> {
-    file: R::File,
-    faults: FaultCount,
-}
-
-impl<R: System> FileSink<R> {
-    /// Creates the named file, or empties it. `Failed` where that cannot be done.
-    pub fn new(system: &R, name: &str) -> Result<FileSink<R>, Failed>
-        ensures { IfOk result (λ sink. ⟦<FileSink<R> as Sink>⟧.faults sink ≡ 0) }
-    {
-        match fs::create(system, name) {
-            Ok(file) => Ok(FileSink {
-                file,
-                faults: FaultCount::new(),
-            }),
-            Err(_) => Err(Failed),
-        }
-    }
-}
-
-impl<R: System> Sink for FileSink<R> {
-    ghost taken = { λ _. None };
-
-    ghost faults = { λ sink. sink.faults.value };
-
-    fn write(&mut self, bytes: &[u8]) -> Result<(), Failed> {
-        match self.file.write_all(bytes) {
-            Ok(()) => Ok(()),
-            Err(_) => {
-                self.faults.rise();
-                Err(Failed)
-            }
-        }
-    }
 }
 
 /// A sink that takes all, tells nothing and never fails.
