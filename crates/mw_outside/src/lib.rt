@@ -6,7 +6,9 @@
 
 mod faults;
 mod files;
+mod folder;
 mod machine;
+mod no_sink;
 mod sink;
 mod test_files;
 mod test_sink;
@@ -14,7 +16,9 @@ mod whole;
 mod writers;
 
 pub use files::{Failed, Files};
-pub use machine::{DirFiles, NoSink};
+pub use folder::{Folder, Stamp};
+pub use machine::DirFiles;
+pub use no_sink::NoSink;
 pub use sink::Sink;
 pub use test_files::{TestFile, TestFiles};
 pub use test_sink::TestSink;
