@@ -4,8 +4,8 @@ ghost use Rattle.std.specs.Prelude.{◌≡◌, ℕ, ◌<◌, ◌≤◌, ◌↔�
 ghost use Rattle.mw_outside.specs.Contents.{Contents, Has};
 
 use std::alloc::Global;
-use std::io::{Read, Seek, SeekFrom};
 use std::fs::OpenFile;
+use std::io::{Read, Seek, SeekFrom};
 use std::os::unix::fs::MetadataExt;
 use std::rt::Files as System;
 use std::{fs, io};

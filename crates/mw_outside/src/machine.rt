@@ -19,8 +19,7 @@ pub struct DirFiles<D: Folder + Drop> {
     folder: D,
     reading: Option<Reading<D>>,
     faults: FaultCount,
-    ghost named: { IfSome reading (λ it. Has (D.contents folder) it.name (λ file. D.held it.handle ≡ Some file)) }
-        by { Prim.hlevel props },
+    ghost named: { IfSome reading (λ it. Has (D.contents folder) it.name (λ file. D.held it.handle ≡ Some file)) } by { Prim.hlevel props },
 }
 
 // A file that is being read: its name, its handle, and its stamp when it was opened.
