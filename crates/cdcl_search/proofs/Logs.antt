@@ -212,7 +212,7 @@ module _ (before middle : Option (List ℕ)) (ins clauses : List Clause) (added 
   cut_here now e = record {
     entries = g.entries;
     log = g.log;
-    text = part_of_all before now (log_text g.entries) (e ∙ g.text);
+    text = part_of_all before now (log_text g.entries) (rw e g.text);
   }
 
   module _ (steps : List Step) (lits : List Lit) (chain : List ℕ) (l : IsLesson clauses steps lits chain) (small : (place : ℕ) (c : Clause) → slice_get clauses place ≡ Some c → is_inside c.lits lits ≡ false) where

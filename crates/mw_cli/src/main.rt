@@ -25,7 +25,7 @@ fn main(rt: HostRuntime) -> ExitCode {
             rt.alloc(),
             words.as_slice(),
             &mut DirFiles::new(rt),
-            &mut OutSink::new(rt),
+            &mut OutSink::new(rt.stdout()),
             &mut NoSink::new(),
         ),
     };

@@ -17,6 +17,10 @@ files_in files = map named files.files
 abbrev pub reads_of : TestFiles → ℕ
 reads_of files = files.calls
 
+-- how many bytes of a file reads have asked for at most
+abbrev pub reach_of : TestFiles → ℕ
+reach_of files = files.reach
+
 -- the reads that fail, counted from 1
 abbrev pub failing_reads : TestFiles → List ℕ
 failing_reads files = files.fail

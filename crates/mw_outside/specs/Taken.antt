@@ -1,39 +1,34 @@
 -- What a sink has taken, where it tells.
-use Rattle.std.specs.Prelude.{ℕ, ◌≡◌, ◌+◌, ◌-◌, ◌<◌, min, List, ◌++◌, length, take, drop, Option, Some, None, refl}
+use Rattle.std.specs.Prelude.{ℕ, ◌≡◌, ◌+◌, ◌-◌, ◌<◌, min, List, ◌++◌, length, take, drop, Option, Some, None, IfSome, refl}
 use Rattle.std.proofs.Common.{sym, ◌∙◌, ap, get_or, append_assoc, arith, take-append-drop, length-append}
 use Rattle.std.specs.List.{flat_map}
 use Rattle.std.proofs.lemmas.Grind.{common_steps, flat_map-append}
 use Rattle.std.proofs.Math.Seq.{take-append-add, take-length}
 use Rattle.std.proofs.lemmas.List.{take-append-le, take_min, append-nil, length-take}
 
--- The bytes taken and then more, where they are told.
-abbrev pub appended : Option (List ℕ) → List ℕ → Option (List ℕ)
-appended None bytes = None
-appended (Some taken) bytes = Some (taken ++ bytes)
-
--- How many bytes were taken between, where they are told.
+-- Of bytes that were told before, so many more are told now.
 abbrev pub grown : Option (List ℕ) → Option (List ℕ) → ℕ
 grown (Some before) (Some now) = length now - length before
 grown _ _ = 0
 
--- All of these bytes were appended.
+-- Where the bytes taken were told, all of these were appended, and that is told.
 abbrev pub Takes : Option (List ℕ) → Option (List ℕ) → List ℕ → Type 0
-Takes before now bytes = now ≡ appended before bytes
+Takes before now bytes = IfSome before (λ taken. now ≡ Some (taken ++ bytes))
 
--- A front of these bytes was appended: as many of them as were taken.
+-- Where the bytes taken were told, a front of these was appended: as many of them as were taken.
 pub record TakesPart (before now : Option (List ℕ)) (bytes : List ℕ) : Type 0 where
-  pub front : now ≡ appended before (take (grown before now) bytes)
+  pub front : Takes before now (take (grown before now) bytes)
 
 -- So many of these bytes were appended.
-pub part_by_count : (before now : Option (List ℕ)) (bytes : List ℕ) (count : ℕ) → now ≡ appended before (take count bytes) → TakesPart before now bytes
-part_by_count None now bytes count front = record { front = front }
+pub part_by_count : (before now : Option (List ℕ)) (bytes : List ℕ) (count : ℕ) → Takes before now (take count bytes) → TakesPart before now bytes
+part_by_count None now bytes count front = record { front = tt }
 part_by_count (Some taken) now bytes count front =
     let len : length (taken ++ take count bytes) - length taken ≡ min count (length bytes) = omega (arith, length-append taken (take count bytes), length-take count bytes) in
     record { front = rw (front, len, take_min count bytes) refl }
 
 -- One write after another appends both pieces.
 pub takes_more : (before middle now : Option (List ℕ)) (xs ys : List ℕ) → Takes before middle xs → Takes middle now ys → Takes before now (xs ++ ys)
-takes_more None middle now xs ys first second = rw first at second
+takes_more None middle now xs ys first second = tt
 takes_more (Some taken) middle now xs ys first second = rw first at second ∙ ap Some (append_assoc taken xs ys)
 
 -- All of it is a front of it.
@@ -42,7 +37,7 @@ part_of_all before now xs takes = part_by_count before now xs (length xs) (rw ta
 
 -- Nothing is a front of it.
 pub part_of_none : (taken : Option (List ℕ)) (xs : List ℕ) → TakesPart taken taken xs
-part_of_none None xs = record { front = refl }
+part_of_none None xs = record { front = tt }
 part_of_none (Some taken) xs = part_by_count (Some taken) (Some taken) xs 0 (ap Some (sym (append-nil taken)))
 
 -- A front of a piece is a front of that piece and more.

@@ -6,15 +6,21 @@
 
 mod faults;
 mod files;
+mod folder;
 mod machine;
+mod no_sink;
 mod sink;
 mod test_files;
 mod test_sink;
 mod whole;
+mod writers;
 
 pub use files::{Failed, Files};
-pub use machine::{DirFiles, FileSink, NoSink, OutSink};
+pub use folder::{Folder, Stamp};
+pub use machine::DirFiles;
+pub use no_sink::NoSink;
 pub use sink::Sink;
 pub use test_files::{TestFile, TestFiles};
 pub use test_sink::TestSink;
 pub use whole::{ReadRefused, read_whole};
+pub use writers::{FileSink, OutSink};

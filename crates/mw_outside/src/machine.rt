@@ -1,41 +1,91 @@
-//! The files, the standard output and the written files of the machine. They tell no bytes and no names.
+//! The files of the machine.
 
-ghost use Rattle.std.specs.Prelude.{◌≡◌, ◌≤◌, length, None, IfOk};
+ghost use Rattle.std.specs.Prelude.{◌≡◌, ◌<◌, ◌≤◌, ◌↔◌, Some, None, length, take, drop, IfOk, IfSome};
+ghost use Rattle.std.proofs.Props.{props};
+ghost use Rattle.mw_outside.specs.Contents.{Has};
 
 use crate::faults::FaultCount;
-use crate::{Failed, Files, Sink};
-use std::io::{Read, Seek, SeekFrom, Write};
-use std::rt::Files as System;
-use std::{fs, io};
+use crate::folder::{Folder, Stamp};
+use crate::{Failed, Files};
+use mw_text::{List, list_of, same_bytes};
+use std::io;
+use std::io::ErrorKind;
 
-/// The files of the machine, by their paths.
+/// The files of a folder, as those of the machine by their paths. A read from a file's start opens it, and the reads
+/// behind go through that one handle, to the file's end or until another name is read. It is a fault where the file
+/// was written to since it was opened.
 #[derive(Drop)]
-pub struct DirFiles<R: System> {
-    system: R,
+pub struct DirFiles<D: Folder + Drop> {
+    folder: D,
+    reading: Option<Reading<D>>,
     faults: FaultCount,
+    ghost named: { IfSome reading (λ it. Has (D.contents folder) it.name (λ file. D.held it.handle ≡ Some file)) } by { Prim.hlevel props },
 }
 
-impl<R: System> DirFiles<R> {
-    /// The files that the runtime reaches.
-    pub fn new(system: R) -> DirFiles<R>
-        ensures { ⟦<DirFiles<R> as Files>⟧.faults result ≡ 0 }
+// A file that is being read: its name, its handle, and its stamp when it was opened.
+#[derive(Drop)]
+struct Reading<D: Folder> {
+    name: List<u8>,
+    handle: D::Handle,
+    stamp: Stamp,
+}
+
+impl<D: Folder + Drop> DirFiles<D> {
+    /// The files that a folder reaches, as the machine's that the runtime hands in.
+    pub fn new(folder: D) -> DirFiles<D>
+        ensures faultless { ⟦<DirFiles<D> as Files>⟧.faults result ≡ 0 }
+        ensures contents { ⟦<DirFiles<D> as Files>⟧.contents result ≡ D.contents folder }
     {
         DirFiles {
-            system,
+            folder,
+            reading: None,
             faults: FaultCount::new(),
+        }
+    }
+
+    // Reads a piece through the handle of the file, which is let go at the end of the file.
+    fn read_piece(&mut self, name: &str, at: u64, into: &mut [u8]) -> io::Result<usize>
+        ensures kept { self.new.folder ≡ self.old.folder }
+        ensures faults { self.new.faults ≡ self.old.faults }
+        ensures within { IfOk result (λ count. count ≤ length into.old) }
+        ensures bytes { IfOk result (λ count. Has (D.contents self.old.folder) name.now
+            (λ file. take count into.new ≡ take count (drop at file))) }
+        ensures end { IfOk result (λ count. 0 < length into.old → Has (D.contents self.old.folder) name.now
+            (λ file. (count ≡ 0) ↔ (length file ≤ at))) }
+    {
+        let mut reading = self.take_reading(name, at)?;
+        let count = reading.read_from(at, into)?;
+        if count > 0 || into.is_empty() {
+            self.reading = Some(reading);
+        }
+        Ok(count)
+    }
+
+    // Takes the file that is being read, where it has this name, and else opens it. The start is read anew.
+    fn take_reading(&mut self, name: &str, at: u64) -> io::Result<Reading<D>>
+        ensures kept { self.new.folder ≡ self.old.folder }
+        ensures faults { self.new.faults ≡ self.old.faults }
+        ensures name { IfOk result (λ it. it.name ≡ name.now) }
+        ensures held { IfOk result (λ it. Has (D.contents self.old.folder) name.now (λ file. D.held it.handle ≡ Some file)) }
+    {
+        match self.reading.take() {
+            Some(reading) if at > 0 && same_bytes(reading.name.as_slice(), name.as_bytes()) => {
+                Ok(reading)
+            }
+            _ => open_reading(&self.folder, name),
         }
     }
 }
 
-impl<R: System> Files for DirFiles<R> {
-    ghost contents = { λ _. None };
+impl<D: Folder + Drop> Files for DirFiles<D> {
+    ghost contents = { λ files. D.contents files.folder };
 
     ghost faults = { λ files. files.faults.value };
 
     ghost last_failed = { λ _. None };
 
     fn read_at(&mut self, name: &str, at: u64, into: &mut [u8]) -> Result<usize, Failed> {
-        match read_from(&self.system, name, at, into) {
+        match self.read_piece(name, at, into) {
             Ok(count) => Ok(count),
             Err(_) => {
                 self.faults.rise();
@@ -45,107 +95,36 @@ impl<R: System> Files for DirFiles<R> {
     }
 }
 
-// Opens a file and reads a piece of it.
-fn read_from<R: System>(system: &R, name: &str, at: u64, into: &mut [u8]) -> io::Result<usize>
-    ensures { IfOk result (λ count. count ≤ length into.old) }
+// Opens a file and takes its stamp.
+fn open_reading<D: Folder>(folder: &D, name: &str) -> io::Result<Reading<D>>
+    ensures name { IfOk result (λ it. it.name ≡ name.now) }
+    ensures held { IfOk result (λ it. Has (D.contents folder.now) name.now (λ file. D.held it.handle ≡ Some file)) }
 {
-    let mut file = fs::open(system, name)?;
-    file.seek(SeekFrom::Start(at))?;
-    file.read(into)
+    let handle = folder.open(name)?;
+    let stamp = D::stamp(&handle)?;
+    let name = list_of(folder.memory(), name.as_bytes())?;
+    Ok(Reading {
+        name,
+        handle,
+        stamp,
+    })
 }
 
-/// The standard output.
-#[derive(Drop)]
-pub struct OutSink<R: Print> {
-    system: R,
-    faults: FaultCount,
-}
-
-impl<R: Print> OutSink<R> {
-    /// The standard output that the runtime hands in.
-    pub fn new(system: R) -> OutSink<R>
-        ensures { ⟦<OutSink<R> as Sink>⟧.faults result ≡ 0 }
+impl<D: Folder> Reading<D> {
+    // Reads a piece. It is an error where the file was written to since it was opened.
+    fn read_from(&mut self, at: u64, into: &mut [u8]) -> io::Result<usize>
+        ensures name { self.new.name ≡ self.old.name }
+        ensures held { D.held self.new.handle ≡ D.held self.old.handle }
+        ensures within { IfOk result (λ count. count ≤ length into.old) }
+        ensures bytes { IfOk result (λ count. IfSome (D.held self.old.handle)
+            (λ file. take count into.new ≡ take count (drop at file))) }
+        ensures end { IfOk result (λ count. 0 < length into.old → IfSome (D.held self.old.handle)
+            (λ file. (count ≡ 0) ↔ (length file ≤ at))) }
     {
-        OutSink {
-            system,
-            faults: FaultCount::new(),
+        let count = D::read_from(&mut self.handle, at, into)?;
+        if D::stamp(&self.handle)? != self.stamp {
+            return Err(io::Error::from(ErrorKind::StaleNetworkFileHandle));
         }
-    }
-}
-
-impl<R: Print> Sink for OutSink<R> {
-    ghost taken = { λ _. None };
-
-    ghost faults = { λ sink. sink.faults.value };
-
-    fn write(&mut self, bytes: &[u8]) -> Result<(), Failed> {
-        match self.system.write_all(bytes) {
-            Ok(()) => Ok(()),
-            Err(_) => {
-                self.faults.rise();
-                Err(Failed)
-            }
-        }
-    }
-}
-
-/// A file that is written from its start.
-#[derive(Drop)]
-pub struct FileSink<R: System> {
-    file: R::File,
-    faults: FaultCount,
-}
-
-impl<R: System> FileSink<R> {
-    /// Creates the named file, or empties it. `Failed` where that cannot be done.
-    pub fn new(system: &R, name: &str) -> Result<FileSink<R>, Failed>
-        ensures { IfOk result (λ sink. ⟦<FileSink<R> as Sink>⟧.faults sink ≡ 0) }
-    {
-        match fs::create(system, name) {
-            Ok(file) => Ok(FileSink {
-                file,
-                faults: FaultCount::new(),
-            }),
-            Err(_) => Err(Failed),
-        }
-    }
-}
-
-impl<R: System> Sink for FileSink<R> {
-    ghost taken = { λ _. None };
-
-    ghost faults = { λ sink. sink.faults.value };
-
-    fn write(&mut self, bytes: &[u8]) -> Result<(), Failed> {
-        match self.file.write_all(bytes) {
-            Ok(()) => Ok(()),
-            Err(_) => {
-                self.faults.rise();
-                Err(Failed)
-            }
-        }
-    }
-}
-
-/// A sink that takes all, tells nothing and never fails.
-#[derive(Clone, Copy, Debug)]
-pub struct NoSink;
-
-impl NoSink {
-    /// The sink.
-    pub fn new() -> NoSink
-        ensures { ⟦<NoSink as Sink>⟧.taken result ≡ None }
-    {
-        NoSink
-    }
-}
-
-impl Sink for NoSink {
-    ghost taken = { λ _. None };
-
-    ghost faults = { λ _. 0 };
-
-    fn write(&mut self, _bytes: &[u8]) -> Result<(), Failed> {
-        Ok(())
+        Ok(count)
     }
 }

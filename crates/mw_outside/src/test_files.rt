@@ -23,18 +23,20 @@ pub struct TestFiles {
     files: List<TestFile>,
     fail: List<u64>,
     calls: u64,
+    reach: u64,
     faults: FaultCount,
     last_failed: Option<List<u8>>,
 }
 
 impl TestFiles {
-    ghost use Rattle.mw_outside.specs.FilesInMemory.{named, files_in, reads_of, failing_reads, read_faults, last_name};
+    ghost use Rattle.mw_outside.specs.FilesInMemory.{named, files_in, reads_of, reach_of, failing_reads, read_faults, last_name};
 
     /// These files, of which the first of a name counts. `fail` lists the reads that fail, counted from 1.
     pub fn new(alloc: Global, files: List<TestFile>, fail: List<u64>) -> TestFiles
         ensures files { files_in result ≡ map named files }
         ensures fail { failing_reads result ≡ fail }
         ensures unread { reads_of result ≡ 0 }
+        ensures unasked { reach_of result ≡ 0 }
         ensures faultless { read_faults result ≡ 0 }
         ensures nameless { last_name result ≡ None }
     {
@@ -43,6 +45,7 @@ impl TestFiles {
             files,
             fail,
             calls: 0,
+            reach: 0,
             faults: FaultCount::new(),
             last_failed: None,
         }
@@ -52,7 +55,8 @@ impl TestFiles {
 impl Files for TestFiles {
     ghost use Rattle.mw_outside.specs.Faults.{HasCause, next_call};
     ghost use Rattle.mw_outside.specs.Contents.{Contents, Has, TellsOnly};
-    ghost use Rattle.mw_outside.specs.FilesInMemory.{files_in, reads_of, failing_reads, read_faults, last_name, FailsAt};
+    ghost use Rattle.mw_outside.specs.Asked.{AsksTo};
+    ghost use Rattle.mw_outside.specs.FilesInMemory.{files_in, reads_of, reach_of, failing_reads, read_faults, last_name, FailsAt};
 
     ghost contents = { λ files. Some (files_in files) };
 
@@ -60,14 +64,18 @@ impl Files for TestFiles {
 
     ghost last_failed = { last_name };
 
+    ghost reach = { λ files. Some (reach_of files) };
+
     fn read_at(&mut self, name: &str, at: u64, into: &mut [u8]) -> Result<usize, Failed>
         ensures kept { files_in self.new ≡ files_in self.old }
         ensures cause { HasCause (read_faults self.old) (read_faults self.new) result }
+        ensures stays { OnOk result (read_faults self.new ≡ read_faults self.old) }
         ensures counted { read_faults self.new ≤ 2 ^ 64 - 1 }
 
         ensures failed_name { OnErr result (TellsOnly name.now (last_name self.new)) }
         ensures name_stays { OnOk result (last_name self.new ≡ last_name self.old) }
 
+        ensures asks { AsksTo (Some (reach_of self.old)) (Some (reach_of self.new)) (at + length into.old) }
         ensures within { IfOk result (λ count. count ≤ length into.old) }
         ensures bytes { IfOk result (λ count. Has (Some (files_in self.old)) name.now
             (λ file. take count into.new ≡ take count (drop at file))) }
@@ -80,6 +88,7 @@ impl Files for TestFiles {
         ensures listed { failing_reads self.new ≡ failing_reads self.old }
     {
         self.calls = self.calls.saturating_add(1);
+        self.reach = self.reach.max(at.saturating_add(into.len() as u64));
         if self.fail.items.contains(&self.calls) {
             self.count_fault(name);
             return Err(Failed);
@@ -102,6 +111,7 @@ impl TestFiles {
         ensures files { self.new.files ≡ self.old.files }
         ensures fail { self.new.fail ≡ self.old.fail }
         ensures calls { self.new.calls ≡ self.old.calls }
+        ensures reach { self.new.reach ≡ self.old.reach }
     {
         self.faults.rise();
         self.last_failed = match name.as_bytes().to_vec(self.alloc) {

@@ -1,9 +1,10 @@
 //! A whole file, up to a limit.
 
-ghost use Rattle.std.specs.Prelude.{◌≡◌, ◌<◌, ◌≤◌, length, IfOk, OnOk};
+ghost use Rattle.std.specs.Prelude.{◌≡◌, ◌+◌, ◌<◌, ◌≤◌, length, IfOk, OnOk};
 ghost use Rattle.std.specs.Bool.{OnTrue, OnFalse};
 ghost use Rattle.mw_outside.specs.Faults.{Rose};
 ghost use Rattle.mw_outside.specs.Contents.{Has, IsFront, TellsOnly};
+ghost use Rattle.mw_outside.specs.Asked.{AsksWithin};
 ghost use Rattle.mw_outside.specs.Reads.{OnFailed, UnlessFailed, OnTooLong};
 
 use crate::Files;
@@ -28,7 +29,8 @@ pub enum ReadRefused {
 /// The longest piece that one read asks for, in bytes.
 const PIECE: usize = 4096;
 
-/// All bytes of a file, of which there are at most `limit`. It reads no more than `limit + 1` bytes.
+/// All bytes of a file, of which there are at most `limit`. It asks for no more than its first `limit + 1` bytes.
+#[tactic(auto, using(crate::specs::Asked::asks_again, crate::specs::Asked::asks_nothing))]
 pub fn read_whole<F: Files>(
     alloc: Global,
     files: &mut F,
@@ -40,9 +42,11 @@ pub fn read_whole<F: Files>(
 
     ensures whole { IfOk result (λ bytes. Has (F.contents files.old) name.now (λ file. file ≡ bytes)) }
     ensures within { IfOk result (λ bytes. length bytes ≤ limit) }
+    ensures asks { AsksWithin (F.reach files.old) (F.reach files.new) (limit + 1) }
     ensures too_long { OnTooLong result (Has (F.contents files.old) name.now (λ file. limit < length file)) }
 
     ensures cause { OnFailed result (Rose (F.faults files.old) (F.faults files.new)) }
+    ensures stays { UnlessFailed result (F.faults files.new ≡ F.faults files.old) }
     ensures failed_name { OnFailed result (TellsOnly name.now (F.last_failed files.new)) }
     ensures name_stays { UnlessFailed result (F.last_failed files.new ≡ F.last_failed files.old) }
 {
@@ -58,7 +62,7 @@ pub fn read_whole<F: Files>(
 }
 
 // Reads the next piece of a file, behind the bytes that stand there. Answers whether there was one.
-#[tactic(auto, using(crate::proofs::Fronts::front_more))]
+#[tactic(auto, using(crate::proofs::Fronts::front_more, crate::specs::Asked::asks_once))]
 fn read_piece<F: Files>(
     files: &mut F,
     name: &str,
@@ -76,9 +80,11 @@ fn read_piece<F: Files>(
     ensures within { OnOk result (length bytes.new ≤ limit) }
     ensures grows { IfOk result (λ more. OnTrue more (length bytes.old < length bytes.new)) }
     ensures whole { IfOk result (λ more. OnFalse more (Has (F.contents files.old) name.now (λ file. file ≡ bytes.new))) }
+    ensures asks { AsksWithin (F.reach files.old) (F.reach files.new) (limit + 1) }
     ensures too_long { OnTooLong result (Has (F.contents files.old) name.now (λ file. limit < length file)) }
 
     ensures cause { OnFailed result (Rose (F.faults files.old) (F.faults files.new)) }
+    ensures stays { UnlessFailed result (F.faults files.new ≡ F.faults files.old) }
     ensures failed_name { OnFailed result (TellsOnly name.now (F.last_failed files.new)) }
     ensures name_stays { UnlessFailed result (F.last_failed files.new ≡ F.last_failed files.old) }
 {

@@ -1,0 +1,73 @@
+#!/bin/sh
+# Runs the built program once for each exit status that comes, and once with more configurations than a network has.
+# The program is the proved one that `rt ci` leaves, or the one that PROGRAM names.
+set -u
+top=$(cd -P -- "$(dirname -- "$0")/.." && pwd -P)
+program=${PROGRAM:-$top/crates/mw_cli/out/mw_cli}
+[ -x "$program" ] || { echo "there is no program at $program" >&2; exit 1; }
+work=$(mktemp -d)
+trap 'rm -rf "$work"' EXIT
+cp "$top"/examples/two-routers/* "$work"
+cd "$work" || exit 1
+failed=0
+
+# ended WHAT STATUS TEXT: what the last run ended with, and what it wrote to `printed`.
+ended() {
+    if [ "$status" -eq "$2" ] && [ "$(head -n 1 printed)" = "$3" ]; then
+        echo "ok: $1"
+    else
+        echo "FAILED: $1: status $status and '$(head -n 1 printed)', not $2 and '$3'"
+        failed=1
+    fi
+}
+
+run() {
+    "$program" "$@" >printed
+    status=$?
+}
+
+run verify questions.txt n1.cfg n2.cfg
+ended "0, every verdict is holds" 0 "holds q1"
+
+run verify questions.txt n1-broken.cfg n2.cfg
+ended "1, some verdict is broken" 1 "broken q1"
+
+# Status 2 is kept for verdicts that are neither: none comes today.
+
+run
+ended "3, no words" 3 "usage: mw_cli verify, check, replay, simulate or gen"
+run verify questions.txt
+ended "3, no configuration" 3 "usage: mw_cli verify, check, replay, simulate or gen"
+
+printf 'hostname N1\n!\nrouter eigrp 1\n' >other.cfg
+run verify questions.txt other.cfg n2.cfg
+case $(cat printed) in
+'refused other.cfg:3 '*) ended "4, a file is refused" 4 "$(cat printed)" ;;
+*) ended "4, a file is refused" 4 "refused other.cfg:3 .." ;;
+esac
+
+set --
+for router in $(seq 33); do
+    printf 'hostname N%s\n' "$router" >"r$router.cfg"
+    set -- "$@" "r$router.cfg"
+done
+run verify questions.txt "$@"
+case $(cat printed) in
+'refused r1.cfg:0 '* | 'refused r33.cfg:0 '*) ended "4, 33 configurations" 4 "$(cat printed)" ;;
+*) ended "4, 33 configurations" 4 "refused r1.cfg:0 .." ;;
+esac
+
+run verify questions.txt n1.cfg absent.cfg
+ended "5, a file that is not there" 5 ""
+run verify . n1.cfg n2.cfg
+ended "5, a folder for a file" 5 ""
+
+for words in "verify questions.txt n1.cfg n2.cfg" "verify questions.txt n1-broken.cfg n2.cfg" "verify"; do
+    : >printed
+    # shellcheck disable=SC2086
+    "$program" $words >/dev/full
+    status=$?
+    ended "6, the output is full: $words" 6 ""
+done
+
+exit "$failed"
