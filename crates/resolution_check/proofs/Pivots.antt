@@ -1,7 +1,10 @@
 -- Marks against clauses: the pivots, and the literals of the resolvent.
-use Rattle.std.proofs.Common.{◌≡◌, ◌↔◌, refl, sym, ◌∙◌, ap, ap₂, inl, inr, take-append-drop, ℕ, ◌<◌, nat_eq, Bool, true, false, not, ◌&&◌, ◌||◌, List, [], ◌∷◌, ◌++◌, map, take, drop, get_or, length, Option, Some, None, MatchOption, IsTrue}
+use Rattle.std.proofs.Common.{◌≡◌, ◌↔◌, refl, sym, ◌∙◌, ap, ap₂, inl, inr, take-append-drop, ℕ, ◌<◌, Bool, true, false, not, ◌&&◌, ◌||◌, arith, List, [], ◌∷◌, ◌++◌, map, take, drop, get_or, length, Option, Some, None, MatchOption, IsTrue}
 use Rattle.std.specs.List.{filter, list_any}
-use Rattle.std.proofs.lemmas.Bool.{cases_Bool, and_parts, and_from, true≢false, false≢true, or_left, false_from_ne_true, cond_both, eq-eqb}
+use Rattle.std.specs.Ordering.{nat_cmp}
+use Rattle.std.specs.BTreeMap.{is_at}
+use Rattle.std.proofs.lemmas.Grind.{common_steps}
+use Rattle.std.proofs.lemmas.Bool.{cases_Bool, and_parts, and_from, true≢false, false≢true, or_left, false_from_ne_true, cond_both}
 use Rattle.std.proofs.lemmas.List.Folds.{list_any_at}
 use Rattle.resolution_check.specs.declared.log.Lit.{Lit}
 use Rattle.resolution_check.specs.declared.marks.Marks.{Marks}
@@ -73,13 +76,18 @@ resolvent_shown old new r d p shows marks l =
     ∙ sym (has-append (without r p) (without d (opposite p)) l)
 
 -- a list that has no number is empty
-no_number : (xs : List ℕ) → ((n : ℕ) → list_any (nat_eq n) xs ≡ false) → xs ≡ []
+no_number : (xs : List ℕ) → ((n : ℕ) → list_any (is_at (nat_cmp n)) xs ≡ false) → xs ≡ []
 no_number [] h = refl
-no_number (x ∷ xs) h = absurd (true≢false (sym (or_left (nat_eq x x) (list_any (nat_eq x) xs) (eq-eqb x x refl)) ∙ h x))
+no_number (x ∷ xs) h = absurd (true≢false (sym (or_left (is_at (nat_cmp x) x) (list_any (is_at (nat_cmp x)) xs) (at_itself x)) ∙ h x))
+  where
+    at_itself : (n : ℕ) → is_at (nat_cmp n) n ≡ true
+    at_itself n = grind (arith, common_steps)
 
 -- no literal is marked exactly where no variable is marked in either sign
 pub none_marked : (m : Marks) → m.positive.keys ≡ [] → m.negative.keys ≡ [] → (l : Lit) → marked m l ≡ false
-none_marked m p n l = cond_both l.negated (list_any (nat_eq l.var) m.negative.keys) (list_any (nat_eq l.var) m.positive.keys) (λ b. b ≡ false) (λ _. ap (list_any (nat_eq l.var)) n) (λ _. ap (list_any (nat_eq l.var)) p)
+none_marked m p n l =
+    let here = list_any (is_at (nat_cmp l.var)) in
+    cond_both l.negated (here m.negative.keys) (here m.positive.keys) (λ b. b ≡ false) (λ _. ap here n) (λ _. ap here p)
 
 pub no_variables : (m : Marks) → ((l : Lit) → marked m l ≡ false) → (m.positive.keys ≡ []) × (m.negative.keys ≡ [])
 no_variables m h = (no_number m.positive.keys (λ v. h (record { var = v; negated = false })), no_number m.negative.keys (λ v. h (record { var = v; negated = true })))
