@@ -25,6 +25,7 @@ pub trait Files {
     fn read_at(&mut self, name: &str, at: u64, into: &mut [u8]) -> Result<usize, Failed>
         ensures kept { contents self.new ≡ contents self.old }
         ensures cause { HasCause (faults self.old) (faults self.new) result }
+        ensures stays { OnOk result (faults self.new ≡ faults self.old) }
         ensures counted { faults self.new ≤ 2 ^ 64 - 1 }
 
         ensures failed_name { OnErr result (TellsOnly name.now (last_failed self.new)) }

@@ -1,6 +1,6 @@
 //! Sinks that are written to.
 
-ghost use Rattle.std.specs.Prelude.{ℕ, ◌-◌, ◌^◌, ◌≤◌, List, Option, OnOk};
+ghost use Rattle.std.specs.Prelude.{◌≡◌, ℕ, ◌-◌, ◌^◌, ◌≤◌, List, Option, OnOk};
 ghost use Rattle.mw_outside.specs.Faults.{HasCause};
 ghost use Rattle.mw_outside.specs.Taken.{Takes, TakesPart};
 
@@ -17,6 +17,7 @@ pub trait Sink {
     /// Appends a piece. A write that fails may append a front of it.
     fn write(&mut self, bytes: &[u8]) -> Result<(), Failed>
         ensures cause { HasCause (faults self.old) (faults self.new) result }
+        ensures stays { OnOk result (faults self.new ≡ faults self.old) }
         ensures counted { faults self.new ≤ 2 ^ 64 - 1 }
         ensures takes { OnOk result (Takes (taken self.old) (taken self.new) bytes.now) }
         ensures part { TakesPart (taken self.old) (taken self.new) bytes.now };

@@ -63,6 +63,7 @@ impl Files for TestFiles {
     fn read_at(&mut self, name: &str, at: u64, into: &mut [u8]) -> Result<usize, Failed>
         ensures kept { files_in self.new ≡ files_in self.old }
         ensures cause { HasCause (read_faults self.old) (read_faults self.new) result }
+        ensures stays { OnOk result (read_faults self.new ≡ read_faults self.old) }
         ensures counted { read_faults self.new ≤ 2 ^ 64 - 1 }
 
         ensures failed_name { OnErr result (TellsOnly name.now (last_name self.new)) }

@@ -61,6 +61,7 @@ impl Sink for TestSink {
     #[tactic(auto, using(crate::specs::Taken::parts))]
     fn write(&mut self, bytes: &[u8]) -> Result<(), Failed>
         ensures cause { HasCause (write_faults self.old) (write_faults self.new) result }
+        ensures stays { OnOk result (write_faults self.new ≡ write_faults self.old) }
         ensures counted { write_faults self.new ≤ 2 ^ 64 - 1 }
         ensures takes { OnOk result (Takes (Some (bytes_in self.old)) (Some (bytes_in self.new)) bytes.now) }
         ensures part { TakesPart (Some (bytes_in self.old)) (Some (bytes_in self.new)) bytes.now }

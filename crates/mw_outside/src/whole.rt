@@ -43,6 +43,7 @@ pub fn read_whole<F: Files>(
     ensures too_long { OnTooLong result (Has (F.contents files.old) name.now (λ file. limit < length file)) }
 
     ensures cause { OnFailed result (Rose (F.faults files.old) (F.faults files.new)) }
+    ensures stays { UnlessFailed result (F.faults files.new ≡ F.faults files.old) }
     ensures failed_name { OnFailed result (TellsOnly name.now (F.last_failed files.new)) }
     ensures name_stays { UnlessFailed result (F.last_failed files.new ≡ F.last_failed files.old) }
 {
@@ -79,6 +80,7 @@ fn read_piece<F: Files>(
     ensures too_long { OnTooLong result (Has (F.contents files.old) name.now (λ file. limit < length file)) }
 
     ensures cause { OnFailed result (Rose (F.faults files.old) (F.faults files.new)) }
+    ensures stays { UnlessFailed result (F.faults files.new ≡ F.faults files.old) }
     ensures failed_name { OnFailed result (TellsOnly name.now (F.last_failed files.new)) }
     ensures name_stays { UnlessFailed result (F.last_failed files.new ≡ F.last_failed files.old) }
 {
