@@ -6,5 +6,6 @@ pub mod Truth
 pub mod Accepted
 pub mod Texts
 pub mod Lines
+pub mod LogLines
 pub mod Written
 pub mod Resolvents

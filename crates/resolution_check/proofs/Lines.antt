@@ -1,11 +1,11 @@
 -- Lists of words and lines: an entry is read back from its text, and from no other.
-use Rattle.std.proofs.Common.{◌≡◌, ◌⊎◌, inl, inr, refl, sym, ◌∙◌, ap, ap₂, subst, ℕ, ◌+◌, ◌<◌, ◌≤◌, get_or, Bool, true, false, not, cond, List, [], ◌∷◌, ◌++◌, map, Option, Some, None, Result, Ok, Err, IfOk, arith, codes}
+use Rattle.std.proofs.Common.{◌≡◌, ◌⊎◌, inl, inr, refl, sym, ◌∙◌, ap, ap₂, subst, ℕ, ◌+◌, ◌<◌, ◌≤◌, get_or, nat_lt, Bool, true, false, not, cond, List, [], ◌∷◌, ◌++◌, map, Option, Some, None, Result, Ok, Err, IfOk, arith, codes}
 use Rattle.std.specs.Bool.{nat_le}
 use Rattle.std.specs.Option.{option_map, option_and_then}
 use Rattle.std.specs.List.{list_all, AllByRecursion, join_with_byte}
 use Rattle.std.specs.Fmt.{decimal}
 use Rattle.std.specs.Cmp.Lexicographic.{bytes_decides}
-use Rattle.std.proofs.lemmas.Bool.{and_parts, and_from, false_from_ne_true, ne_eqb, leb-true}
+use Rattle.std.proofs.lemmas.Bool.{and_parts, and_from, false_from_ne_true, leb-true, lt-ltb}
 use Rattle.std.proofs.lemmas.Fmt.{first_decimal, digits_decimal}
 use Rattle.std.proofs.lemmas.List.Splits.{join_with_byte-slice_split}
 use Rattle.mw_text.specs.Digits.{is_digit}
@@ -18,7 +18,7 @@ use Rattle.resolution_check.specs.declared.log.LineRefused.{LineRefused}
 use Rattle.resolution_check.specs.declared.log.LineRefused.TheVariants.{Memory}
 use Rattle.resolution_check.specs.Text.{lit_text, zero_text, entry_words, text_of, IsNumber, IsSmall, HasText}
 use Rattle.resolution_check.specs.Words.{is_space, words_in, number_in, lit_in, list_in, finished, input_in, addition_in, entry_with, entry_in, ReadsAs}
-use Rattle.resolution_check.proofs.Texts.{HasNoSpace, words_in-join, number_in-Some, number_in-decimal, lit_in-text, lit_in-Some, own}
+use Rattle.resolution_check.proofs.Texts.{IsPlain, words_in-join, number_in-Some, number_in-decimal, lit_in-text, lit_in-Some, own}
 
 -- ---- lists that a word `0` ends
 
@@ -183,39 +183,45 @@ entry_in-Some (kind ∷ number ∷ words) e h = by_number kind number words e (n
 
 -- ---- lines
 
-digits_no_space : (word : List ℕ) → list_all is_digit word ≡ true → HasNoSpace word
-digits_no_space [] h = refl
-digits_no_space (b ∷ word) h =
+digits_plain : (word : List ℕ) → list_all is_digit word ≡ true → IsPlain word
+digits_plain [] h = refl
+digits_plain (b ∷ word) h =
     let both = and_parts (is_digit b) (list_all is_digit word) h in
     let low = and_parts (nat_le 48 b) (nat_le b 57) both.0 in
     let above : 48 ≤ b = leb-true 48 b low.0 in
-    and_from (not (is_space b)) (list_all (λ x. not (is_space x)) word) (ap not (ne_eqb b 32 (omega arith))) (digits_no_space word both.1)
+    and_from (nat_lt 32 b) (list_all (nat_lt 32) word) (lt-ltb 32 b (omega arith)) (digits_plain word both.1)
 
-number_no_space : (n : ℕ) → IsNumber n → HasNoSpace (decimal n)
-number_no_space n h = digits_no_space (decimal n) (digits_decimal own n (omega arith))
+number_plain : (n : ℕ) → IsNumber n → IsPlain (decimal n)
+number_plain n h = digits_plain (decimal n) (digits_decimal own n (omega arith))
 
-lit_no_space : (l : Lit) → IsSmall l → HasNoSpace (lit_text l)
-lit_no_space l h = by_sign l.negated
+lit_plain : (l : Lit) → IsSmall l → IsPlain (lit_text l)
+lit_plain l h = by_sign l.negated
   where
-    whole : HasNoSpace (decimal (l.var + 1))
-    whole = number_no_space (l.var + 1) (omega arith, omega arith)
+    whole : IsPlain (decimal (l.var + 1))
+    whole = number_plain (l.var + 1) (omega arith, omega arith)
 
-    by_sign : (b : Bool) → HasNoSpace (cond b (45 ∷ decimal (l.var + 1)) (decimal (l.var + 1)))
+    by_sign : (b : Bool) → IsPlain (cond b (45 ∷ decimal (l.var + 1)) (decimal (l.var + 1)))
     by_sign true = whole
     by_sign false = whole
 
-all_no_space : {A : Type 0} (write : A → List ℕ) (P : A → Type 0) → ((x : A) → P x → HasNoSpace (write x)) → (xs : List A) (rest : List (List ℕ)) → AllByRecursion P xs → AllByRecursion HasNoSpace rest → AllByRecursion HasNoSpace (map write xs ++ zero_text ∷ rest)
-all_no_space write P each [] rest h k = (refl, k)
-all_no_space write P each (x ∷ xs) rest h k = (each x h.0, all_no_space write P each xs rest h.1 k)
+all_plain : {A : Type 0} (write : A → List ℕ) (P : A → Type 0) → ((x : A) → P x → IsPlain (write x)) → (xs : List A) (rest : List (List ℕ)) → AllByRecursion P xs → AllByRecursion IsPlain rest → AllByRecursion IsPlain (map write xs ++ zero_text ∷ rest)
+all_plain write P each [] rest h k = (refl, k)
+all_plain write P each (x ∷ xs) rest h k = (each x h.0, all_plain write P each xs rest h.1 k)
+
+-- the words of an entry have no space and no line feed
+pub words_plain : (e : Entry) → HasText e → AllByRecursion IsPlain (entry_words e)
+words_plain (Input id clause) h = (refl, (number_plain id h.0, all_plain lit_text IsSmall lit_plain clause.lits [] h.1 tt))
+words_plain (Add id clause chain) h =
+    let numbers = all_plain decimal IsNumber number_plain chain [] h.2 tt in
+    (refl, (number_plain id h.0, all_plain lit_text IsSmall lit_plain clause.lits (map decimal chain ++ zero_text ∷ []) h.1 numbers))
+words_plain (Delete id) h = (refl, (number_plain id h, tt))
+words_plain End h = (refl, tt)
 
 words_in-text : (e : Entry) → HasText e → words_in (text_of e) ≡ entry_words e
-words_in-text (Input id clause) h =
-    words_in-join (codes "i") (decimal id ∷ (map lit_text clause.lits ++ zero_text ∷ [])) (refl, (number_no_space id h.0, all_no_space lit_text IsSmall lit_no_space clause.lits [] h.1 tt))
-words_in-text (Add id clause chain) h =
-    words_in-join (codes "a") (decimal id ∷ (map lit_text clause.lits ++ zero_text ∷ (map decimal chain ++ zero_text ∷ [])))
-    (refl, (number_no_space id h.0, all_no_space lit_text IsSmall lit_no_space clause.lits (map decimal chain ++ zero_text ∷ []) h.1 (all_no_space decimal IsNumber number_no_space chain [] h.2 tt)))
-words_in-text (Delete id) h = words_in-join (codes "d") (decimal id ∷ []) (refl, (number_no_space id h, tt))
-words_in-text End h = words_in-join (codes "e") [] (refl, tt)
+words_in-text (Input id clause) h = words_in-join (codes "i") _ (words_plain (Input id clause) h)
+words_in-text (Add id clause chain) h = words_in-join (codes "a") _ (words_plain (Add id clause chain) h)
+words_in-text (Delete id) h = words_in-join (codes "d") (decimal id ∷ []) (words_plain (Delete id) h)
+words_in-text End h = words_in-join (codes "e") [] (words_plain End h)
 
 -- a line that reads as an entry is its text
 pub line_from_entry : (line : List ℕ) (e : Entry) → entry_in (words_in line) ≡ Some e → (line ≡ text_of e) × HasText e

@@ -50,14 +50,17 @@ not_finished (b ∷ text) x = either (is_space b) (words_in text)
     either false [] = refl
     either false (word ∷ words) = refl
 
-abbrev pub HasNoSpace : List ℕ → Type 0
-HasNoSpace word = list_all (λ b. not (is_space b)) word ≡ true
+-- each byte is above the space's, so that the word has no space and no line feed
+abbrev pub IsPlain : List ℕ → Type 0
+IsPlain word = list_all (nat_lt 32) word ≡ true
 
-no_space : (word : List ℕ) → HasNoSpace word → All (λ b. is_space b ≡ false) word
-no_space word h = λ k d below. not-true _ (AllPass-from_list_all (λ b. not (is_space b)) word h k d below)
+no_space : (word : List ℕ) → IsPlain word → All (λ b. is_space b ≡ false) word
+no_space word h = λ k d below.
+    let above : 32 < get_or word k d = ltb-true 32 (get_or word k d) (AllPass-from_list_all (nat_lt 32) word h k d below) in
+    ne_eqb (get_or word k d) 32 (omega arith)
 
 -- words that are joined by single spaces are read again
-pub words_in-join : (word : List ℕ) (words : List (List ℕ)) → AllByRecursion HasNoSpace (word ∷ words) → words_in (join_with_byte 32 (word ∷ words)) ≡ word ∷ words
+pub words_in-join : (word : List ℕ) (words : List (List ℕ)) → AllByRecursion IsPlain (word ∷ words) → words_in (join_with_byte 32 (word ∷ words)) ≡ word ∷ words
 words_in-join word [] h = slice_split_none is_space word (no_space word h.0)
 words_in-join word (next ∷ words) h = slice_split_at is_space word 32 (join_with_byte 32 (next ∷ words)) (no_space word h.0) refl ∙ ap (λ ws. word ∷ ws) (words_in-join next words h.1)
 
