@@ -1,5 +1,5 @@
 -- Lists of words and lines: an entry is read back from its text, and from no other.
-use Rattle.std.proofs.Common.{◌≡◌, ◌⊎◌, inl, inr, refl, sym, ◌∙◌, ap, ap₂, subst, ℕ, ◌+◌, ◌<◌, ◌≤◌, get_or, nat_lt, Bool, true, false, not, cond, List, [], ◌∷◌, ◌++◌, map, Option, Some, None, Result, Ok, Err, IfOk, arith, codes}
+use Rattle.std.proofs.Common.{◌≡◌, ◌⊎◌, inl, inr, refl, sym, ◌∙◌, ap, ap₂, subst, ℕ, ◌+◌, ◌<◌, ◌≤◌, get_or, nat_lt, Bool, true, false, cond, List, [], ◌∷◌, ◌++◌, map, Option, Some, None, Result, Ok, Err, IfOk, arith, codes}
 use Rattle.std.specs.Bool.{nat_le}
 use Rattle.std.specs.Option.{option_map, option_and_then}
 use Rattle.std.specs.List.{list_all, AllByRecursion, join_with_byte}
@@ -17,7 +17,7 @@ use Rattle.resolution_check.specs.declared.log.Entry.TheVariants.{Input, Add, De
 use Rattle.resolution_check.specs.declared.log.LineRefused.{LineRefused}
 use Rattle.resolution_check.specs.declared.log.LineRefused.TheVariants.{Memory}
 use Rattle.resolution_check.specs.Text.{lit_text, zero_text, entry_words, text_of, IsNumber, IsSmall, HasText}
-use Rattle.resolution_check.specs.Words.{is_space, words_in, number_in, lit_in, list_in, finished, input_in, addition_in, entry_with, entry_in, ReadsAs}
+use Rattle.resolution_check.specs.Words.{words_in, number_in, lit_in, list_in, finished, input_in, addition_in, entry_with, entry_in, ReadsAs}
 use Rattle.resolution_check.proofs.Texts.{IsPlain, words_in-join, number_in-Some, number_in-decimal, lit_in-text, lit_in-Some, own}
 
 -- ---- lists that a word `0` ends

@@ -1,13 +1,13 @@
 -- The lines of a log: they are cut at the line feeds, and fix the entries.
-use Rattle.std.proofs.Common.{◌≡◌, refl, sym, ◌∙◌, ap, ap₂, ℕ, ◌<◌, nat_lt, Bool, true, false, ◌&&◌, List, [], ◌∷◌, ◌++◌, map, get_or, append_assoc, arith}
+use Rattle.std.proofs.Common.{◌≡◌, refl, sym, ◌∙◌, ap, ap₂, ℕ, ◌<◌, nat_lt, true, false, List, [], ◌∷◌, ◌++◌, map, get_or, append_assoc, arith}
 use Rattle.std.specs.List.{list_all, All, AllByRecursion, slice_split, join_with_byte}
 use Rattle.std.proofs.lemmas.Bool.{and_parts, and_from, ltb-true, lt-ltb, ne_eqb}
 use Rattle.std.proofs.lemmas.List.{append_cancel_right}
 use Rattle.std.proofs.lemmas.List.Folds.{list_all-append}
-use Rattle.std.proofs.lemmas.List.Splits.{slice_split_none, slice_split_at}
+use Rattle.std.proofs.lemmas.List.Splits.{slice_split_at}
 use Rattle.std.proofs.lemmas.List.Sums.{AllPass-from_list_all}
 use Rattle.resolution_check.specs.declared.log.Entry.{Entry}
-use Rattle.resolution_check.specs.Text.{entry_words, text_of, HasText, line_of, log_text, is_line_feed}
+use Rattle.resolution_check.specs.Text.{entry_words, text_of, HasText, log_text, is_line_feed}
 use Rattle.resolution_check.proofs.Texts.{IsPlain}
 use Rattle.resolution_check.proofs.Lines.{words_plain, same_entry}
 

@@ -119,13 +119,7 @@ impl Checker {
 
 /// Whether an addition may follow: its number is new, and the chain's last resolvent is inside the
 /// claimed clause.
-fn judge(
-    alloc: Global,
-    shelf: &Shelf,
-    id: u64,
-    clause: &[Lit],
-    chain: &[u64],
-) -> Result<(), Bad>
+fn judge(alloc: Global, shelf: &Shelf, id: u64, clause: &[Lit], chain: &[u64]) -> Result<(), Bad>
     ensures { IsJudged result (addition_fault (given_on shelf.now) (held_on shelf.now) id clause.now chain.now) }
 {
     if shelf.is_given(id) {

@@ -1,4 +1,4 @@
-use Rattle.std.proofs.Common.{rules, ◌≡◌, Some, slice_get, arith}
+use Rattle.std.proofs.Common.{rules, ◌≡◌, ◌∙◌, Some, slice_get, arith}
 use Rattle.std.proofs.lemmas.Option.{slice_get_read}
 use Rattle.cdcl_search.specs.Books.{is_below}
 use Rattle.resolution_check.specs.declared.log.Clause.{Clause}
@@ -21,5 +21,5 @@ loop-at-preserved g c =
     let there : slice_get c.args.clauses.now c.loop-at.at ≡ Some c.index-clauses-at.result = slice_get_read c.args.clauses.now _ c.loop-at.at c.index-clauses-at.result (search rules) c.loop-at-test.true c.index-clauses-at.is in
     record {
       takes = inputs_more (g.L.Sink.taken c.args.log.now) (g.L.Sink.taken c.loop-at.log) (g.L.Sink.taken c.write_input.new.log) c.args.clauses.now c.loop-at.at c.index-clauses-at.result there c.loop-at.invariant.takes c.in_ok-write_input.ensures.takes;
-      later = omega (arith, c.write_input.ensures.later);
+      stays = c.in_ok-write_input.ensures.stays ∙ c.loop-at.invariant.stays;
     }

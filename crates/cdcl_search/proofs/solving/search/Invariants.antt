@@ -1,4 +1,4 @@
-use Rattle.std.proofs.Common.{◌≡◌, ℕ, ◌+◌, ◌<◌, ◌≤◌, Bool, true, List, Option, length}
+use Rattle.std.proofs.Common.{◌≡◌, ℕ, ◌+◌, ◌<◌, Bool, true, List, Option, length}
 use Rattle.resolution_check.specs.declared.log.Clause.{Clause}
 use Rattle.resolution_check.specs.Entries.{satisfies}
 use Rattle.cdcl_search.specs.Trails.{Follows}
@@ -19,5 +19,5 @@ invariant-loop g l = record {
   same_vars : l.book.vars ≡ l.fn.book.vars;
   long : length l.book.clauses ≡ length l.fn.book.clauses + l.counter;
   weaker : (v : ℕ → Bool) → satisfies v l.book.clauses ≡ true → satisfies v l.fn.book.clauses ≡ true;
-  later : g.L.Sink.faults l.fn.log ≤ g.L.Sink.faults l.log;
+  stays : g.L.Sink.faults l.log ≡ g.L.Sink.faults l.fn.log;
 }
