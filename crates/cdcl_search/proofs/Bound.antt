@@ -4,7 +4,7 @@ use Rattle.std.specs.Option.{option_or, option_map_or, ok_or}
 use Rattle.std.specs.List.{list_any, list_all, IsDistinct, AllByRecursion}
 use Rattle.std.proofs.Math.Dec.{eqb}
 use Rattle.std.proofs.Math.Nat.{le_of_mul-le-mul_left, mul-le-mul_right}
-use Rattle.std.proofs.lemmas.Bool.{and_parts, cases_Bool, false_from_ne_true, false≢true, or_cases, eqb-true, eq-eqb}
+use Rattle.std.proofs.lemmas.Bool.{and_parts, cases_Bool, false_from_ne_true, false≢true, or_cases, eqb-true, eq-eqb, or_parts}
 use Rattle.std.proofs.lemmas.List.Elements.{filter_map-append}
 use Rattle.std.proofs.lemmas.List.Folds.{list_all-append}
 use Rattle.std.proofs.lemmas.Map.Keys.{IsDistinct-cons}
@@ -18,6 +18,7 @@ use Rattle.resolution_check.specs.Clauses.{has, is_same, opposite, resolvent}
 use Rattle.resolution_check.specs.Entries.{clause_by, deletes, clause_given, is_given, is_deleted, clause_held, addition_count, additions_in, inputs, input_of, resolved, resolved_from, and_then, KeepsGood, EachAfter, IsGood}
 use Rattle.resolution_check.specs.Earned.{vars_differ, is_deletion, ends_deleting, run_count, IsEarned, IsEarnedAddition, MayDelete, MayFollow}
 use Rattle.resolution_check.proofs.Accepted.{count-push}
+use Rattle.resolution_check.proofs.Chains.{resolved_has}
 use Rattle.resolution_check.proofs.Goods.{by_steps, each_push, clause_given-push, any-push, given_from_deleted}
 use Rattle.resolution_check.proofs.Literals.{all_at, all_from}
 use Rattle.resolution_check.proofs.Resolvents.{has-resolvent}
@@ -30,10 +31,6 @@ use Rattle.cdcl_search.proofs.Logs.{inputs_of}
 
 abbrev are_below : ℕ → List Clause → Bool
 are_below limit cs = list_all (λ c. is_below limit c.lits) cs
-
-neither : (a b : Bool) → (a || b) ≡ false → (a ≡ false) × (b ≡ false)
-neither true b h = absurd (false≢true (sym h))
-neither false b h = (refl, h)
 
 own_below : (limit own : ℕ) (clause : Clause) → is_below limit clause.lits ≡ true → (id : ℕ) (c : Clause) → cond (own == id) (Some clause) None ≡ Some c → is_below limit c.lits ≡ true
 own_below limit own clause small id c there = by (own == id) there
@@ -55,31 +52,10 @@ both_below limit c d s e first second =
     either : (a b x y : Bool) → ((a && b) || (x && y)) ≡ true → (b ≡ true) ⊎ (y ≡ true)
     either a b x y h = elim (or_cases (a && b) (x && y) h) [ inl one ↦ inl (and_parts a b one).1 | inr other ↦ inr (and_parts x y other).1 ]
 
-module _ (limit : ℕ) (held : ℕ → Option Clause) (below : (id : ℕ) (c : Clause) → held id ≡ Some c → is_below limit c.lits ≡ true) where
-  -- the rest of the chain keeps to the limit
-  abbrev Goes : ℕ → List ℕ → List Lit → Type 0
-  Goes at ids s = (t : List Lit) → is_below limit t ≡ true → resolved_from held t at ids ≡ Ok s → is_below limit s ≡ true
-
-  from_below : (r : List Lit) (at : ℕ) (ids : List ℕ) (s : List Lit) → is_below limit r ≡ true → resolved_from held r at ids ≡ Ok s → is_below limit s ≡ true
-  from_below r at [] s small e = let same : r ≡ s = cc in ap (is_below limit) (sym same) ∙ small
-  from_below r at (id ∷ ids) s small e = by (λ t small' rest. from_below t (at + 1) ids s small' rest) (held id) refl e
-    where
-      next : Goes (at + 1) ids s → (c : Clause) → held id ≡ Some c → (o : Option (List Lit)) → resolvent r c.lits ≡ o → and_then (ok_or o (NoPivot at)) (λ t. resolved_from held t (at + 1) ids) ≡ Ok s → is_below limit s ≡ true
-      next go c there None is h = absurd (cc)
-      next go c there (Some t) is h = go t (both_below limit r c.lits t is small (below id c there)) h
-
-      by : Goes (at + 1) ids s → (o : Option Clause) → held id ≡ o → and_then (option_map_or (λ c. ok_or (resolvent r c.lits) (NoPivot at)) o (Err (UnknownId id))) (λ t. resolved_from held t (at + 1) ids) ≡ Ok s → is_below limit s ≡ true
-      by go None there h = absurd (cc)
-      by go (Some c) there h = next go c there (resolvent r c.lits) refl h
-
-  -- the last resolvent has variables below the limit only
-  resolved_below : (chain : List ℕ) (s : List Lit) → resolved held chain ≡ Ok s → is_below limit s ≡ true
-  resolved_below [] s e = absurd (cc)
-  resolved_below (id ∷ ids) s e = by (held id) refl e
-    where
-      by : (o : Option Clause) → held id ≡ o → option_map_or (λ c. resolved_from held c.lits 1 ids) o (Err (UnknownId id)) ≡ Ok s → is_below limit s ≡ true
-      by None there h = absurd (cc)
-      by (Some c) there h = from_below c.lits 1 ids s (below id c there) h
+-- the last resolvent has variables below the limit only
+resolved_below : (limit : ℕ) (held : ℕ → Option Clause) → ((id : ℕ) (c : Clause) → held id ≡ Some c → is_below limit c.lits ≡ true)
+    → (chain : List ℕ) (s : List Lit) → resolved held chain ≡ Ok s → is_below limit s ≡ true
+resolved_below limit held below = resolved_has (λ c. is_below limit c ≡ true) (λ c d s first second e. both_below limit c d s e first second) held below
 
 -- ---- one entry more: runs of deletions
 
@@ -170,7 +146,7 @@ record IsCoded (limit : ℕ) (es : List Entry) : Type 0 where
 
 none_same : (x : ℕ) (xs : List ℕ) → list_any (eqb x) xs ≡ false → AllByRecursion (λ y. eqb x y ≡ false) xs
 none_same x [] h = tt
-none_same x (y ∷ xs) h = let both = neither (eqb x y) (list_any (eqb x) xs) h in (both.0, none_same x xs both.1)
+none_same x (y ∷ xs) h = let both = or_parts (eqb x y) (list_any (eqb x) xs) h in (both.0, none_same x xs both.1)
 
 -- what an entry owes in such a log
 abbrev Owes : List Entry → Entry → Type 0

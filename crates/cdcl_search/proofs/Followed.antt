@@ -1,7 +1,7 @@
 -- Steps that are followed back from a false clause.
 use Rattle.std.proofs.Common.{◌≡◌, ℕ, ◌+◌, ◌<◌, ◌==◌, Bool, true, false, not, cond, ◌&&◌, ◌||◌, nat_lt, nat_le, List, [], ◌∷◌, ◌++◌, length, take, drop, slice_get, Option, Some, None, is_some, Ok, Err, inl, inr, refl, sym, ap, subst, ◌∙◌, arith, add-one, take-append-drop}
 use Rattle.std.specs.Option.{option_map_or, ok_or}
-use Rattle.std.proofs.lemmas.Bool.{not-true, not_from_false, cases_Bool, eqb-true, eq-eqb, false≢true, true≢false, or_cases, or_left, or_right, and_parts, and_from, lt-ltb, le-leb}
+use Rattle.std.proofs.lemmas.Bool.{not-true, not_from_false, cases_Bool, eqb-true, eq-eqb, false≢true, true≢false, or_cases, or_left, or_right, and_parts, and_from, or_parts, or_from, lt-ltb, le-leb}
 use Rattle.std.specs.Bool.{beq}
 use Rattle.resolution_check.specs.declared.log.Lit.{Lit}
 use Rattle.resolution_check.specs.declared.log.Clause.{Clause}
@@ -27,14 +27,6 @@ pub same_bool : (a b : Bool) → (a ≡ true → b ≡ true) → (b ≡ true →
 same_bool true b there back = sym (there refl)
 same_bool false true there back = back refl
 same_bool false false there back = refl
-
-or_none_parts : (a b : Bool) → (a || b) ≡ false → (a ≡ false) × (b ≡ false)
-or_none_parts true b h = absurd (true≢false h)
-or_none_parts false b h = (refl, h)
-
-or_both_false : (a b : Bool) → a ≡ false → b ≡ false → (a || b) ≡ false
-or_both_false true b h g = h
-or_both_false false b h g = g
 
 other_way : (m n : ℕ) → (m == n) ≡ false → (n == m) ≡ false
 other_way m n h = elim (cases_Bool (n == m)) [ inl e ↦ absurd (false≢true (sym h ∙ eq-eqb m n (sym (eqb-true n m e)))) | inr other ↦ other ]
@@ -100,9 +92,9 @@ vars_differ-push : (c : List Lit) (l : Lit) → vars_differ c ≡ true → has_v
 vars_differ-push [] l once new = refl
 vars_differ-push (k ∷ c) l once new =
     let both = and_parts _ _ once in
-    let parts = or_none_parts _ _ new in
+    let parts = or_parts _ _ new in
     let unlike : has_var (c ++ l ∷ []) k.var ≡ false =
-    list_any-append (λ (m : Lit). m.var == k.var) c (l ∷ []) ∙ or_both_false _ _ (not-true _ both.0) (or_both_false _ false (other_way k.var l.var parts.0) refl) in
+    list_any-append (λ (m : Lit). m.var == k.var) c (l ∷ []) ∙ or_from _ _ (not-true _ both.0) (or_from _ false (other_way k.var l.var parts.0) refl) in
     and_from _ _ (not_from_false _ unlike) (vars_differ-push c l both.1 parts.1)
 
 apart : (k l : Lit) → (k.var == l.var) ≡ false → is_same k l ≡ false

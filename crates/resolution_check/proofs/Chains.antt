@@ -1,12 +1,12 @@
 -- Steps of a chain.
 use Rattle.std.proofs.Common.{◌≡◌, inl, inr, refl, sym, ◌∙◌, ap, subst, length, add-zero, arith, ℕ, ◌+◌, not, ◌&&◌, ◌||◌, List, [], ◌∷◌, ◌++◌, Option, Some, None, Result, Ok, Err}
-use Rattle.std.specs.Option.{option_map_or}
+use Rattle.std.specs.Option.{option_map_or, ok_or}
 use Rattle.resolution_check.specs.declared.log.Lit.{Lit}
 use Rattle.resolution_check.specs.declared.log.Clause.{Clause}
 use Rattle.resolution_check.specs.declared.log.Bad.{Bad}
-use Rattle.resolution_check.specs.declared.log.Bad.TheVariants.{UnknownId}
+use Rattle.resolution_check.specs.declared.log.Bad.TheVariants.{NoPivot, UnknownId}
 use Rattle.resolution_check.specs.declared.marks.Marks.{Marks}
-use Rattle.resolution_check.specs.Clauses.{opposite, is_same, has, without, clashing, the_one}
+use Rattle.resolution_check.specs.Clauses.{opposite, is_same, has, without, clashing, the_one, resolvent}
 use Rattle.resolution_check.specs.Entries.{and_then, resolved, resolved_next, resolved_from}
 use Rattle.resolution_check.specs.Marked.{marked, Shows, Resolves}
 use Rattle.resolution_check.proofs.Pivots.{resolvent_shown}
@@ -44,6 +44,41 @@ pub begins : (held : ℕ → Option Clause) (id : ℕ) (c : Clause) (others chai
 begins held id c others chain e h =
     let answer : resolved held (id ∷ others) ≡ resolved_from held c.lits 1 others = rw h refl in
     sym (ap (resolved held) e ∙ answer)
+
+-- ---- what the held clauses have and resolvents keep, a chain's result has
+
+module _ (P : List Lit → Type 0) (keeps : (c d s : List Lit) → P c → P d → resolvent c d ≡ Some s → P s)
+    (held : ℕ → Option Clause) (each : (id : ℕ) (c : Clause) → held id ≡ Some c → P c.lits) where
+  next_has : (r : List Lit) (at id : ℕ) (s : List Lit) → P r → resolved_next held r at id ≡ Ok s → P s
+  next_has r at id s h e = by_clause (held id) refl e
+    where
+      by_resolvent : (c : Clause) → held id ≡ Some c → (o : Option (List Lit)) → resolvent r c.lits ≡ o → ok_or o (NoPivot at) ≡ Ok s → P s
+      by_resolvent c there None f e = absurd (cc)
+      by_resolvent c there (Some t) f e = let same : t ≡ s = cc in subst P same (keeps r c.lits t h (each id c there) f)
+
+      by_clause : (o : Option Clause) → held id ≡ o → option_map_or (λ c. ok_or (resolvent r c.lits) (NoPivot at)) o (Err (UnknownId id)) ≡ Ok s → P s
+      by_clause None there e = absurd (cc)
+      by_clause (Some c) there e = by_resolvent c there (resolvent r c.lits) refl e
+
+  rest_has : (ids : List ℕ) (at : ℕ) (s : List Lit) (answer : Result (List Lit) Bad)
+      → ((t : List Lit) → answer ≡ Ok t → P t)
+      → ((t : List Lit) → P t → resolved_from held t (at + 1) ids ≡ Ok s → P s)
+      → and_then answer (λ t. resolved_from held t (at + 1) ids) ≡ Ok s → P s
+  rest_has ids at s (Ok t) here later e = later t (here t refl) e
+  rest_has ids at s (Err bad) here later e = absurd (cc)
+
+  from_has : (ids : List ℕ) (r : List Lit) (at : ℕ) (s : List Lit) → P r → resolved_from held r at ids ≡ Ok s → P s
+  from_has [] r at s h e = let same : r ≡ s = cc in subst P same h
+  from_has (id ∷ ids) r at s h e = rest_has ids at s (resolved_next held r at id) (λ t f. next_has r at id t h f) (λ t k f. from_has ids t (at + 1) s k f) e
+
+  -- what each held clause has and each resolvent of two that have it, the last resolvent of a chain has
+  pub resolved_has : (chain : List ℕ) (r : List Lit) → resolved held chain ≡ Ok r → P r
+  resolved_has [] r e = absurd (cc)
+  resolved_has (id ∷ ids) r e = by_clause (held id) refl e
+    where
+      by_clause : (o : Option Clause) → held id ≡ o → option_map_or (λ c. resolved_from held c.lits 1 ids) o (Err (UnknownId id)) ≡ Ok r → P r
+      by_clause None there e = absurd (cc)
+      by_clause (Some c) there e = from_has ids c.lits 1 r (each id c there) e
 
 -- ---- a chain that is made longer at its end
 

@@ -3,11 +3,13 @@ use Rattle.std.proofs.Common.{◌≡◌, inl, inr, refl, sym, ◌∙◌, ap, ap�
 use Rattle.std.specs.List.{filter, list_all}
 use Rattle.std.specs.Bool.{beq}
 use Rattle.std.proofs.lemmas.Bool.{cases_Bool, and_parts, eqb-true, eq-eqb, cond_both, false≢true, or_right, or_left, or_cases, and_from, and_left}
-use Rattle.std.proofs.lemmas.Grind.{common_steps}
+use Rattle.std.proofs.Math.Bool.{not-not}
+use Rattle.std.proofs.lemmas.List.Folds.{list_any-append}
 use Rattle.resolution_check.specs.declared.log.Lit.{Lit}
 use Rattle.resolution_check.specs.Clauses.{opposite, is_same, has, the_one}
 
-beq-true : (a b : Bool) → beq a b ≡ true → a ≡ b
+-- signs that are the same are equal
+pub beq-true : (a b : Bool) → beq a b ≡ true → a ≡ b
 beq-true true true h = refl
 beq-true true false h = sym h
 beq-true false true h = h
@@ -36,17 +38,12 @@ alike p k l h = ap p (same_lit k l h)
 pub same_sym : (k l : Lit) → is_same k l ≡ is_same l k
 same_sym k l = elim (cases_Bool (is_same k l)) [ inl sure ↦ sure ∙ sym (ap (λ m. is_same l m) (same_lit k l sure) ∙ same_refl l) | inr unlike ↦ elim (cases_Bool (is_same l k)) [ inl back ↦ absurd (false≢true (sym unlike ∙ (ap (λ m. is_same k m) (same_lit l k back) ∙ same_refl k))) | inr not_back ↦ unlike ∙ sym not_back ] ]
 
-not-not : (b : Bool) → not (not b) ≡ b
-not-not true = refl
-not-not false = refl
-
 -- the other sign of the other sign
 pub opposite_twice : (l : Lit) → opposite (opposite l) ≡ l
 opposite_twice l = λ i. record { var = l.var; negated = not-not l.negated i }
 
 pub has-append : (c d : List Lit) (l : Lit) → has (c ++ d) l ≡ (has c l || has d l)
-has-append [] d l = refl
-has-append (x ∷ c) d l = grind (arith, common_steps)
+has-append c d l = list_any-append (is_same l) c d
 
 pub has-filter : (p : Lit → Bool) (xs : List Lit) (l : Lit) → has (filter p xs) l ≡ (p l && has xs l)
 has-filter p [] l = elim (p l) as (λ b. false ≡ (b && false)) [ true ↦ refl | false ↦ refl ]

@@ -1,6 +1,7 @@
 -- Marks against clauses: the pivots, and the literals of the resolvent.
 use Rattle.std.proofs.Common.{◌≡◌, ◌↔◌, refl, sym, ◌∙◌, ap, ap₂, inl, inr, take-append-drop, ℕ, ◌<◌, Bool, true, false, not, ◌&&◌, ◌||◌, arith, List, [], ◌∷◌, ◌++◌, map, take, drop, get_or, length, Option, Some, None, MatchOption, IsTrue}
 use Rattle.std.specs.List.{filter, list_any}
+use Rattle.std.proofs.Math.Bool.{and_comm, or_comm}
 use Rattle.std.specs.Ordering.{nat_cmp}
 use Rattle.std.specs.BTreeMap.{is_at}
 use Rattle.std.proofs.lemmas.Grind.{common_steps}
@@ -15,18 +16,6 @@ use Rattle.resolution_check.proofs.Literals.{IsOne, the_one-at, the_one-Some, th
 -- the negations of the clause's literals that are marked
 abbrev pub met : Marks → List Lit → List Lit
 met m d = filter (marked m) (map opposite d)
-
-and_comm : (a b : Bool) → (a && b) ≡ (b && a)
-and_comm true true = refl
-and_comm true false = refl
-and_comm false true = refl
-and_comm false false = refl
-
-or_comm : (a b : Bool) → (a || b) ≡ (b || a)
-or_comm true true = refl
-or_comm true false = refl
-or_comm false true = refl
-or_comm false false = refl
 
 pub has-met : (m : Marks) (d : List Lit) (l : Lit) → has (met m d) l ≡ (marked m l && has d (opposite l))
 has-met m d l = has-filter (marked m) (map opposite d) l ∙ ap (λ b. marked m l && b) (has-opposites d l)

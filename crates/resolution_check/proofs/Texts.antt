@@ -7,6 +7,7 @@ use Rattle.std.specs.Fmt.{decimal}
 use Rattle.std.proofs.Math.Nat.{pow-le-pow_right}
 use Rattle.std.proofs.lemmas.Bool.{and_parts, and_from, ltb-true, ltb-false, lt-ltb, leb-true, le-leb, eqb-true, eqb-false, ne_eqb, not-true}
 use Rattle.std.proofs.lemmas.Fmt.{decimal_digit, decimal_nonempty, first_decimal, length-decimal-le, digits_decimal, digits_value-decimal, decimal-digits_value}
+use Rattle.std.proofs.lemmas.Option.{cond_some}
 use Rattle.std.proofs.lemmas.List.Sums.{fails_before_first, AllPass-from_list_all}
 use Rattle.std.proofs.lemmas.List.Splits.{slice_split_first, slice_split_none, slice_split_at}
 use Rattle.std.proofs.lemmas.Str.Parse.{IsNumeralModel, numerals_by_fold}
@@ -75,10 +76,6 @@ small_value v i n h below few =
 pub own : IsNumeralModel (λ ds. list_all is_digit ds ≡ true) value_of
 own = numerals_by_fold (λ ds. list_all is_digit ds ≡ true) (search rules) (λ n ds. fold (λ m b. 10 * m + (b - 48)) n ds) (search rules)
 
-some_if : {X : Type 0} (b : Bool) (x y : X) → cond b (Some x) None ≡ Some y → (b ≡ true) × (x ≡ y)
-some_if true x y h = (refl, cc)
-some_if false x y h = absurd (cc)
-
 -- no leading zero, and at most 2^63
 bounded : List ℕ → Bool
 bounded word = not (slice_index word 0 == 48) && nat_le (value_of word) (2 ^ 63)
@@ -86,7 +83,7 @@ bounded word = not (slice_index word 0 == 48) && nat_le (value_of word) (2 ^ 63)
 pub number_in-Some : (word : List ℕ) (n : ℕ) → number_in word ≡ Some n → (word ≡ decimal n) × IsNumber n
 unfolding bounded
 number_in-Some word n h =
-    let read = some_if (is_numeral 19 word && bounded word) (value_of word) n h in
+    let read = cond_some (is_numeral 19 word && bounded word) (value_of word) n h in
     let parts = and_parts (is_numeral 19 word) (bounded word) read.0 in
     let size = and_parts (nat_lt 0 (length word)) (nat_le (length word) 19 && list_all is_digit word) parts.0 in
     let digits = and_parts (nat_le (length word) 19) (list_all is_digit word) size.1 in
