@@ -11,9 +11,9 @@ use Rattle.std.proofs.Math.Seq.{take-append_seam}
 use Rattle.mw_text.proofs.Lists.{each_place-push}
 use Rattle.resolution_check.specs.declared.log.Lit.{Lit}
 use Rattle.resolution_check.specs.declared.log.Clause.{Clause}
-use Rattle.resolution_check.specs.Clauses.{has, is_same}
+use Rattle.resolution_check.specs.Clauses.{has, is_same, is_below}
 use Rattle.cdcl_search.proofs.Places.{all_at, all_set, all_push, all_more}
-use Rattle.cdcl_search.specs.Books.{Shelf, is_below, are_places, IsIndexed, listed, has_place, Finds}
+use Rattle.cdcl_search.specs.Books.{Shelf, are_places, IsIndexed, listed, has_place, Finds}
 
 eqb_sym : (m n : ℕ) → (m == n) ≡ (n == m)
 eqb_sym m n = elim (cases_Bool (m == n)) [

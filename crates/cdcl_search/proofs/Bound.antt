@@ -1,6 +1,6 @@
 -- How many additions a log has.
 use Rattle.std.proofs.Common.{◌≡◌, ◌⊎◌, ℕ, suc, ◌+◌, ◌*◌, ◌^◌, ◌<◌, ◌≤◌, ◌||◌, ◌&&◌, ◌==◌, Bool, true, false, not, cond, List, [], ◌∷◌, ◌++◌, length, Option, Some, None, is_some, Result, Ok, Err, IfOk, inl, inr, refl, sym, ap, ap₂, subst, ◌∙◌, add-zero, zero-mul, arith, nat_lt}
-use Rattle.std.specs.Option.{option_or, option_map_or, ok_or}
+use Rattle.std.specs.Option.{option_or}
 use Rattle.std.specs.List.{list_any, list_all, IsDistinct, AllByRecursion}
 use Rattle.std.proofs.Math.Dec.{eqb}
 use Rattle.std.proofs.Math.Nat.{le_of_mul-le-mul_left, mul-le-mul_right}
@@ -13,16 +13,14 @@ use Rattle.resolution_check.specs.declared.log.Lit.{Lit}
 use Rattle.resolution_check.specs.declared.log.Clause.{Clause}
 use Rattle.resolution_check.specs.declared.log.Entry.{Entry}
 use Rattle.resolution_check.specs.declared.log.Entry.TheVariants.{Input, Add, Delete, End}
-use Rattle.resolution_check.specs.declared.log.Bad.TheVariants.{UnknownId, NoPivot}
-use Rattle.resolution_check.specs.Clauses.{has, is_same, opposite, resolvent}
-use Rattle.resolution_check.specs.Entries.{clause_by, deletes, clause_given, is_given, is_deleted, clause_held, addition_count, additions_in, inputs, input_of, resolved, resolved_from, and_then, KeepsGood, EachAfter, IsGood}
+use Rattle.resolution_check.specs.Clauses.{has, is_same, opposite, resolvent, is_below}
+use Rattle.resolution_check.specs.Entries.{clause_by, deletes, clause_given, is_given, is_deleted, clause_held, addition_count, additions_in, inputs, input_of, resolved, KeepsGood, EachAfter, IsGood}
 use Rattle.resolution_check.specs.Earned.{vars_differ, is_deletion, ends_deleting, run_count, IsEarned, IsEarnedAddition, MayDelete, MayFollow}
 use Rattle.resolution_check.proofs.Accepted.{count-push}
 use Rattle.resolution_check.proofs.Chains.{resolved_has}
 use Rattle.resolution_check.proofs.Goods.{by_steps, each_push, clause_given-push, any-push, given_from_deleted}
 use Rattle.resolution_check.proofs.Literals.{all_at, all_from}
 use Rattle.resolution_check.proofs.Resolvents.{has-resolvent}
-use Rattle.cdcl_search.specs.Books.{is_below}
 use Rattle.cdcl_search.specs.declared.outcome.Outcome.{Outcome}
 use Rattle.cdcl_search.specs.declared.outcome.Outcome.TheVariants.{Unsat, Sat, Unknown}
 use Rattle.cdcl_search.specs.Outcomes.{IsSearchLog, IsLogged, OnUnknown}

@@ -3,10 +3,9 @@ use Rattle.std.proofs.Common.{◌≡◌, ℕ, zero, suc, ◌+◌, ◌*◌, ◌^�
 use Rattle.std.proofs.lemmas.Bool.{and_parts, cases_Bool, cases_lt, false≢true, or_cases, ltb-true}
 use Rattle.std.proofs.Math.Nat.{pow-succ'}
 use Rattle.resolution_check.specs.declared.log.Lit.{Lit}
-use Rattle.resolution_check.specs.Clauses.{has, is_same, is_inside}
+use Rattle.resolution_check.specs.Clauses.{has, is_same, is_inside, is_below}
 use Rattle.resolution_check.specs.Earned.{has_var, vars_differ}
 use Rattle.resolution_check.proofs.Literals.{all_at, all_from, same_lit}
-use Rattle.cdcl_search.specs.Books.{is_below}
 use Rattle.cdcl_search.proofs.Followed.{has_var_from}
 
 abbrev chosen : Bool → Bool → ℕ

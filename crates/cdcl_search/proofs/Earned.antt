@@ -1,4 +1,5 @@
 -- A learnt clause contains no clause that is held.
+use Rattle.resolution_check.specs.Trails.{is_value}
 use Rattle.std.proofs.Common.{◌≡◌, ◌⊎◌, ℕ, zero, suc, ◌+◌, ◌<◌, ◌≤◌, Bool, true, false, not, List, [], ◌∷◌, ◌++◌, length, take, drop, take-append-drop, slice_get, Option, Some, None, inl, inr, refl, sym, ap, subst, ◌∙◌, arith}
 use Rattle.std.specs.Bool.{beq}
 use Rattle.std.proofs.lemmas.Bool.{cases_Bool, cases_lt, false≢true, or_left}
@@ -11,7 +12,7 @@ use Rattle.resolution_check.specs.Entries.{is_empty}
 use Rattle.resolution_check.proofs.Literals.{same_refl, all_at}
 use Rattle.cdcl_search.specs.declared.trail.Step.{Step}
 use Rattle.cdcl_search.specs.Books.{are_filled}
-use Rattle.cdcl_search.specs.Trails.{value_of, is_value, holds, AreFresh}
+use Rattle.cdcl_search.specs.Trails.{value_of, holds, AreFresh}
 use Rattle.cdcl_search.specs.Levels.{IsSettled, AllSettled, IsDecision, AreFull, IsNegated}
 use Rattle.cdcl_search.proofs.Places as places
 use Rattle.cdcl_search.proofs.Trails.{value_of-keeps, value_of-last}

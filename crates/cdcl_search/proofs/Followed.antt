@@ -1,4 +1,5 @@
 -- Steps that are followed back from a false clause.
+use Rattle.resolution_check.specs.Trails.{is_value}
 use Rattle.std.proofs.Common.{◌≡◌, ℕ, ◌+◌, ◌<◌, ◌==◌, Bool, true, false, not, cond, ◌&&◌, ◌||◌, nat_lt, nat_le, List, [], ◌∷◌, ◌++◌, length, take, drop, slice_get, Option, Some, None, is_some, Ok, Err, inl, inr, refl, sym, ap, subst, ◌∙◌, arith, add-one, take-append-drop}
 use Rattle.std.specs.Option.{option_map_or, ok_or}
 use Rattle.std.proofs.lemmas.Bool.{not-true, not_from_false, cases_Bool, eqb-true, eq-eqb, false≢true, true≢false, or_cases, or_left, or_right, and_parts, and_from, or_parts, or_from, lt-ltb, le-leb}
@@ -16,7 +17,8 @@ use Rattle.resolution_check.proofs.Literals.{same_lit, same_refl, opposite_twice
 use Rattle.resolution_check.proofs.Resolvents.{resolvent-pivot, has-resolved}
 use Rattle.resolution_check.proofs.Chains.{resolved-push}
 use Rattle.cdcl_search.specs.declared.trail.Step.{Step}
-use Rattle.cdcl_search.specs.Trails.{value_of, is_value, fails, IsForcedBy, HasReason, Follows, IsFalseAt}
+use Rattle.cdcl_search.specs.Trails.{lits_of, value_of, fails, IsForcedBy, HasReason, Follows, IsFalseAt}
+use Rattle.resolution_check.proofs.Values.{same_fails, not_both, some_value}
 use Rattle.cdcl_search.specs.Learning.{numbered, are_numbers, IsFollowed, IsLesson}
 use Rattle.cdcl_search.proofs.Places.{take_at, all_push}
 use Rattle.cdcl_search.proofs.Trails.{value_of-keeps, value_of-last, value_of-other, value_of-none}
@@ -31,39 +33,9 @@ same_bool false false there back = refl
 other_way : (m n : ℕ) → (m == n) ≡ false → (n == m) ≡ false
 other_way m n h = elim (cases_Bool (n == m)) [ inl e ↦ absurd (false≢true (sym h ∙ eq-eqb m n (sym (eqb-true n m e)))) | inr other ↦ other ]
 
--- ---- literals that are false
-
-one_value : (o : Option Bool) (m n : Bool) → is_value o m ≡ true → is_value o n ≡ true → m ≡ n
-one_value None m n h k = absurd (false≢true h)
-one_value (Some true) true true h k = refl
-one_value (Some true) true false h k = absurd (false≢true k)
-one_value (Some true) false n h k = absurd (false≢true h)
-one_value (Some false) true n h k = absurd (false≢true h)
-one_value (Some false) false true h k = absurd (false≢true k)
-one_value (Some false) false false h k = refl
-
-some_value : (o : Option Bool) (n : Bool) → is_value o n ≡ true → is_some o ≡ true
-some_value None n h = h
-some_value (Some b) n h = refl
-
 itself : (b : Bool) → is_value (Some b) b ≡ true
 itself true = refl
 itself false = refl
-
--- two false literals of one variable are one literal
-same_fails : (ss : List Step) (k l : Lit) → k.var ≡ l.var → fails ss k ≡ true → fails ss l ≡ true → k ≡ l
-same_fails ss k l e h g =
-    let here : is_value (value_of ss l.var) k.negated ≡ true = ap (λ v. is_value (value_of ss v) k.negated) (sym e) ∙ h in
-    let n = one_value (value_of ss l.var) k.negated l.negated here g in
-    λ i. record { var = e i; negated = n i }
-
-not-itself : (b : Bool) → b ≡ not b → ⊥
-not-itself true h = true≢false h
-not-itself false h = false≢true h
-
--- no literal is false together with its negation
-not_both : (ss : List Step) (l : Lit) → fails ss l ≡ true → fails ss (opposite l) ≡ true → ⊥
-not_both ss l h g = not-itself l.negated (one_value (value_of ss l.var) l.negated (not l.negated) h g)
 
 -- ---- a literal's variable
 
@@ -142,7 +114,7 @@ module _ (ss : List Step) (at : ℕ) (s : Step) (there : slice_get ss at ≡ Som
   other_var : (l : Lit) → is_same (opposite s.lit) l ≡ false → fails ss l ≡ true → (s.lit.var == l.var) ≡ false
   other_var l unlike h = elim (cases_Bool (s.lit.var == l.var)) [
     | inl here ↦
-        let e : opposite s.lit ≡ l = same_fails ss (opposite s.lit) l (eqb-true s.lit.var l.var here) own_fails h in
+        let e : opposite s.lit ≡ l = same_fails (lits_of ss) (opposite s.lit) l (eqb-true s.lit.var l.var here) own_fails h in
         absurd (false≢true (sym unlike ∙ ap (is_same (opposite s.lit)) (sym e) ∙ same_refl (opposite s.lit)))
     | inr other ↦ other
   ]
@@ -203,7 +175,7 @@ module _ (ss : List Step) (at : ℕ) (s : Step) (there : slice_get ss at ≡ Som
                     let both = and_parts _ _ pending in
                     elim (cases_Bool (s.lit.var == l.var)) [
                       | inl here ↦
-                          let same : p ≡ l = same_fails ss p l (eqb-true s.lit.var l.var here) own_fails both.1 in
+                          let same : p ≡ l = same_fails (lits_of ss) p l (eqb-true s.lit.var l.var here) own_fails both.1 in
                           or_left _ _ (more l ∙ or_right (has lits l) _ (or_left _ false (ap (is_same l) same ∙ same_refl l)))
                       | inr other ↦ or_right (has lits' l) _ (and_from _ _ (new l.var ∙ gain _ _ other both.0) both.1)
                     ]
@@ -252,7 +224,7 @@ module _ (ss : List Step) (at : ℕ) (s : Step) (there : slice_get ss at ≡ Som
         second = ap (has r.clause.lits) (opposite_twice s.lit) ∙ r.inside;
         only = λ l h g. elim (r.others (opposite l) g) [
           | inl e ↦ back l e
-          | inr falls ↦ absurd (not_both ss l (all_false l h) (front_fails ss at (opposite l) falls))
+          | inr falls ↦ absurd (not_both (lits_of ss) l (all_false l h) (front_fails ss at (opposite l) falls))
         ];
       }
 
@@ -301,7 +273,7 @@ module _ (ss : List Step) (at : ℕ) (s : Step) (there : slice_get ss at ≡ Som
                             let found = of_var c l.var of_clause in
                             let other : (s.lit.var == found.0.var) ≡ false = ap (λ v. s.lit.var == v) found.2 ∙ lost.0 in
                             let falls = rest_fails found.0 found.1 (apart s.lit found.0 other) in
-                            let same : found.0 ≡ l = same_fails ss found.0 l found.2 (front_fails ss at found.0 falls) both.1 in
+                            let same : found.0 ≡ l = same_fails (lits_of ss) found.0 l found.2 (front_fails ss at found.0 falls) both.1 in
                             let unlike : is_same (opposite p) l ≡ false = apart (opposite p) l lost.0 in
                             or_right (not (is_same p l) && has f.clause l) _ (and_from _ _ (not_from_false _ unlike) (ap (has c) (sym same) ∙ found.1))
                         | inr before ↦ or_left _ _ (and_from _ _ (not_from_false _ (unlike_other l lost.0)) (f.parts l ∙ or_right (has lits l) _ (and_from _ _ before both.1)))
@@ -340,7 +312,7 @@ followed_first clauses ss place marks f new =
           (λ h.
           let both = and_parts _ _ h in
           let found = of_var c l.var (sym (new l.var) ∙ both.0) in
-          let same : found.0 ≡ l = same_fails ss found.0 l found.2 (f.false_all found.0 found.1) both.1 in
+          let same : found.0 ≡ l = same_fails (lits_of ss) found.0 l found.2 (f.false_all found.0 found.1) both.1 in
           ap (has c) (sym same) ∙ found.1);
       learnt_false = λ l h. absurd (false≢true h);
       to_come = λ v m.

@@ -1,4 +1,5 @@
 -- How many steps are kept: the decisions passed so far, from the last one on.
+use Rattle.resolution_check.specs.Trails.{HasTwoFree}
 use Rattle.std.proofs.Common.{◌≡◌, ◌⊎◌, ℕ, ◌+◌, ◌-◌, ◌<◌, ◌≤◌, Bool, true, false, not, List, ◌++◌, take, drop, slice_get, take-append-drop, Option, Some, None, is_some, inl, inr, refl, sym, ap, subst, ◌∙◌, arith}
 use Rattle.std.proofs.lemmas.Bool.{cases_Bool, false≢true, true≢false}
 use Rattle.std.proofs.lemmas.List.{take-take}
@@ -6,8 +7,8 @@ use Rattle.resolution_check.specs.declared.log.Lit.{Lit}
 use Rattle.resolution_check.specs.Clauses.{opposite, is_same, has}
 use Rattle.resolution_check.proofs.Literals.{same_lit}
 use Rattle.cdcl_search.specs.declared.trail.Step.{Step}
-use Rattle.cdcl_search.specs.Trails.{value_of}
-use Rattle.cdcl_search.specs.Levels.{IsDecision, HasTwoFree, IsSettled}
+use Rattle.cdcl_search.specs.Trails.{lits_of, value_of}
+use Rattle.cdcl_search.specs.Levels.{IsDecision, IsSettled}
 use Rattle.cdcl_search.proofs.Trails.{value_of-none}
 use Rattle.cdcl_search.proofs.Followed.{none_before, not_behind}
 
@@ -74,7 +75,7 @@ module _ (ss : List Step) (lits : List Lit) (at : ℕ) (s : Step) (there : slice
       | inr other ↦ other
     ]
 
-    two_free : (i : ℕ) → i ≤ at → HasTwoFree (take i ss) lits
+    two_free : (i : ℕ) → i ≤ at → HasTwoFree (lits_of (take i ss)) lits
     two_free i h = record {
       one = m;
       two = opposite s.lit;

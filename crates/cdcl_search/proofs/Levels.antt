@@ -1,4 +1,5 @@
 -- Settled clauses: one step more, and decisions.
+use Rattle.resolution_check.specs.Trails.{is_value}
 use Rattle.std.proofs.Common.{◌≡◌, ◌⊎◌, ℕ, zero, suc, ◌+◌, ◌<◌, ◌≤◌, ◌==◌, Bool, true, false, not, List, [], ◌∷◌, ◌++◌, length, length-append, get_or, take, drop, take-append-drop, slice_get, Option, Some, None, is_some, inl, inr, refl, sym, ap, subst, ◌∙◌, arith}
 use Rattle.std.specs.Bool.{beq}
 use Rattle.std.proofs.lemmas.Bool.{not-true, cases_Bool, cases_lt, eqb-true, false≢true, true≢false, or_left, or_cases}
@@ -13,7 +14,7 @@ use Rattle.resolution_check.specs.declared.log.Clause.{Clause}
 use Rattle.resolution_check.specs.Clauses.{opposite, is_same, has}
 use Rattle.resolution_check.proofs.Literals.{same_refl, has-append}
 use Rattle.cdcl_search.specs.declared.trail.Step.{Step}
-use Rattle.cdcl_search.specs.Trails.{Assigned, value_of, is_value, holds, AllFail, IsForced, HasReason, Follows, Keeps, IsTotal}
+use Rattle.cdcl_search.specs.Trails.{Assigned, value_of, holds, AllFail, IsUnit, HasReason, Follows, Keeps, IsTotal}
 use Rattle.cdcl_search.specs.Books.{Shelf, listed, has_place, Finds}
 use Rattle.cdcl_search.specs.Levels.{IsSettled, AllSettled, IsDecision, AreFull, IsSeen, AllSeen, IsSettledAt, IsSeenSince, Goes, IsNegated}
 use Rattle.cdcl_search.proofs.Places.{slice_get-front, slice_get-seam, slice_get-take}
@@ -143,7 +144,7 @@ pub ruleset going = (goes_then, goes_same)
 -- all literals are false but this one, where there is one, which has no value
 abbrev pub IsLeft : List Step → List Lit → Option Lit → Type 0
 IsLeft steps c None = AllFail steps c
-IsLeft steps c (Some l) = IsForced steps c l
+IsLeft steps c (Some l) = IsUnit steps c l
 
 flip : (b n : Bool) → not (beq b n) ≡ true → beq b (not n) ≡ true
 flip true true h = absurd (false≢true h)
@@ -162,7 +163,7 @@ settled_true ss c i d b within e h =
 pub settled_two : (ss : List Step) (c : List Lit) (i : ℕ) (d m : Lit) (free : Option Lit) → i < length c → None ≡ value_of ss (get_or c i d).var
     → IsLeft ss (take i c) free → free ≡ Some m → not (is_same m (get_or c i d)) ≡ true → IsSettled ss c
 settled_two ss c i d m free within e left is ne =
-    let forced : IsForced ss (take i c) m = subst (λ o. IsLeft ss (take i c) o) is left in
+    let forced : IsUnit ss (take i c) m = subst (λ o. IsLeft ss (take i c) o) is left in
     inr (record {
       one = m;
       two = get_or c i d;
@@ -187,7 +188,7 @@ pub settled_at : (clauses : List Clause) (ss : List Step) (c : List Lit) (place 
 settled_at clauses ss c place there settled d found = subst (IsSettled ss) (same_clause clauses c d place there found) settled
 
 -- a literal that was forced and made true
-pub settled_forced : (clauses : List Clause) (ss now : List Step) (s : Step) (c : List Lit) (place : ℕ) → slice_get clauses place ≡ Some (record { lits = c }) → IsForced ss c s.lit → now ≡ ss ++ s ∷ [] → IsSettledAt clauses now place
+pub settled_forced : (clauses : List Clause) (ss now : List Step) (s : Step) (c : List Lit) (place : ℕ) → slice_get clauses place ≡ Some (record { lits = c }) → IsUnit ss c s.lit → now ≡ ss ++ s ∷ [] → IsSettledAt clauses now place
 settled_forced clauses ss now s c place there forced e =
     let value : value_of now s.lit.var ≡ Some (not s.lit.negated) = ap (λ l. value_of l s.lit.var) e ∙ value_of-last ss s forced.free in
     settled_at clauses now c place there (inl (record { lit = s.lit; inside = forced.inside; is_true = ap (λ o. is_value o (not s.lit.negated)) value ∙ itself s.lit.negated }))

@@ -1,4 +1,5 @@
 -- The log of a search: its entries and their lines.
+use Rattle.resolution_check.proofs.Values.{below_larger}
 use Rattle.std.proofs.Common.{◌≡◌, ℕ, zero, suc, ◌+◌, ◌<◌, ◌≤◌, ◌^◌, ◌==◌, Bool, true, false, cond, ◌||◌, List, [], ◌∷◌, ◌++◌, length, take, drop, slice_get, Option, Some, None, is_some, Result, Ok, Err, IfOk, refl, sym, ap, ap₂, subst, ◌∙◌, arith, inl, inr, add-zero, append_assoc, length-append, take-append-drop}
 use Rattle.std.specs.Option.{option_or}
 use Rattle.std.specs.List.{list_all, AllByRecursion}
@@ -15,17 +16,16 @@ use Rattle.resolution_check.specs.declared.log.Entry.TheVariants.{Input, Add, De
 use Rattle.resolution_check.specs.Entries.{clause_by, deletes, is_end, is_empty, is_refutation, clause_given, is_given, is_deleted, clause_held, has_ended, adds_empty, addition_count, inputs, resolved, KeepsGood, IsGood, IsUnsatisfiable}
 use Rattle.resolution_check.proofs.Truth.{unsatisfiable}
 use Rattle.resolution_check.specs.Earned.{AllEarned, IsEarned, IsSpaced, MayFollow, IsAscending, GoesUp, IsAbove}
-use Rattle.resolution_check.specs.Clauses.{is_inside}
+use Rattle.resolution_check.specs.Clauses.{is_inside, is_below}
 use Rattle.cdcl_search.specs.declared.trail.Step.{Step}
 use Rattle.resolution_check.specs.Text.{line_of, log_text, HasText}
 use Rattle.resolution_check.proofs.Goods.{each_push, clause_given-push, any-push}
 use Rattle.resolution_check.proofs.Accepted.{count-push}
 use Rattle.resolution_check.proofs.Resolvents.{inside-same}
-use Rattle.cdcl_search.specs.Books.{is_below, are_filled}
+use Rattle.cdcl_search.specs.Books.{are_filled}
 use Rattle.cdcl_search.specs.Trails.{AreFresh}
 use Rattle.cdcl_search.specs.Levels.{AreFull}
 use Rattle.cdcl_search.proofs.Earned.{smallest}
-use Rattle.cdcl_search.proofs.Trails.{below_larger}
 use Rattle.cdcl_search.specs.Learning.{numbered, are_numbers, IsLesson}
 use Rattle.cdcl_search.specs.declared.outcome.Outcome.{Outcome}
 use Rattle.cdcl_search.specs.declared.outcome.Outcome.TheVariants.{Unsat, Sat, Unknown}

@@ -1,5 +1,6 @@
 -- Literals and clauses by the values of variables.
-use Rattle.std.proofs.Common.{◌≡◌, ℕ, zero, suc, ◌<◌, Bool, true, false, not, cond, List, [], ◌∷◌, ◌++◌, slice_get, Option, Some, None, is_some, inl, inr, refl, sym, ap, ◌∙◌}
+use Rattle.resolution_check.specs.Trails.{is_value}
+use Rattle.std.proofs.Common.{◌≡◌, ℕ, zero, suc, ◌<◌, Bool, true, false, not, cond, List, [], ◌∷◌, ◌++◌, slice_get, Option, Some, None, inl, inr, refl, sym, ap, ◌∙◌}
 use Rattle.std.specs.List.{list_any, list_all}
 use Rattle.std.proofs.lemmas.Bool.{false≢true, or_cases, and_parts, and_from, or_left, or_right, ltb-true}
 use Rattle.std.proofs.lemmas.List.Folds.{list_all-append}
@@ -7,29 +8,16 @@ use Rattle.term_store.specs.Terms.{truth}
 use Rattle.resolution_check.specs.Entries.{lit_value, clause_value, satisfies}
 use Rattle.resolution_check.specs.declared.log.Lit.{Lit}
 use Rattle.resolution_check.specs.declared.log.Clause.{Clause}
-use Rattle.resolution_check.specs.Clauses.{has}
-use Rattle.resolution_check.proofs.Literals.{alike}
+use Rattle.resolution_check.specs.Clauses.{is_below}
 use Rattle.cdcl_search.specs.declared.trail.Step.{Step}
-use Rattle.cdcl_search.specs.Books.{is_below}
-use Rattle.cdcl_search.specs.Levels.{IsSettled, AllSettled}
-use Rattle.cdcl_search.specs.Trails.{value_of, is_value, holds, IsTotal}
+use Rattle.cdcl_search.specs.Levels.{AllSettled}
+use Rattle.cdcl_search.specs.Trails.{lits_of, value_of, holds, IsTotal}
+use Rattle.resolution_check.proofs.Values.{settled_true_now}
 use Rattle.cdcl_search.proofs.Places.{all_at}
-use Rattle.cdcl_search.proofs.Trails.{below_at}
 
 -- a literal of each clause is true
 abbrev pub all_hold : List Step → List Clause → Bool
 all_hold steps clauses = list_all (λ c. list_any (holds steps) c.lits) clauses
-
-any_true : (p : Lit → Bool) (c : List Lit) (l : Lit) → has c l ≡ true → p l ≡ true → list_any p c ≡ true
-any_true p [] l h t = h
-any_true p (k ∷ c) l h t = elim (or_cases _ _ h) [ inl here ↦ or_left _ _ (sym (alike p l k here) ∙ t) | inr later ↦ or_right (p k) _ (any_true p c l later t) ]
-
--- a clause that is settled where every variable has a value has a true literal
-settled_true_now : (ss : List Step) (vars : ℕ) (c : List Lit) → IsTotal vars ss → is_below vars c ≡ true → IsSettled ss c → list_any (holds ss) c ≡ true
-settled_true_now ss vars c total below (inl t) = any_true (holds ss) c t.lit t.inside t.is_true
-settled_true_now ss vars c total below (inr t) =
-    let some : is_some (value_of ss t.one.var) ≡ true = total t.one.var (below_at vars c t.one below t.inside_one) in
-    absurd (false≢true (sym (ap is_some t.free_one) ∙ some))
 
 all_from_places : (p : Clause → Bool) (cs : List Clause) → ((place : ℕ) (c : Clause) → slice_get cs place ≡ Some c → p c ≡ true) → list_all p cs ≡ true
 all_from_places p [] each = refl
@@ -39,7 +27,7 @@ pub all_hold_settled : (ss : List Step) (vars : ℕ) (cs : List Clause) → IsTo
 unfolding AllSettled
 all_hold_settled ss vars cs total below settled =
     all_from_places (λ (k : Clause). list_any (holds ss) k.lits) cs (λ place c there.
-    settled_true_now ss vars c.lits total (all_at (λ (k : Clause). is_below vars k.lits) cs place c below there) (settled place c there))
+    settled_true_now (lits_of ss) vars c.lits total (all_at (λ (k : Clause). is_below vars k.lits) cs place c below there) (settled place c there))
 
 -- ---- the values of a trail satisfy what is true under it
 

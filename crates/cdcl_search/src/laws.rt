@@ -1,5 +1,6 @@
 //! What follows of a search's log, in the words of logic. Each function only carries its law.
 
+ghost use Rattle.resolution_check.specs.Clauses.{is_below};
 ghost use Rattle.std.specs.Prelude.{◌≡◌, ◌+◌, ◌*◌, ◌≤◌, ◌^◌, true, false, List, ℕ};
 ghost use Rattle.std.specs.List.{list_all, list_any};
 ghost use Rattle.resolution_check.specs.declared.log.Clause.{Clause};
@@ -7,7 +8,6 @@ ghost use Rattle.resolution_check.specs.declared.log.Entry.{Entry};
 ghost use Rattle.resolution_check.specs.Entries.{addition_count};
 ghost use Rattle.resolution_check.specs.Earned.{is_deletion};
 ghost use Rattle.resolution_check.specs.Text.{log_text};
-ghost use Rattle.cdcl_search.specs.Books.{is_below};
 ghost use Rattle.cdcl_search.specs.Outcomes.{IsSearchLog};
 
 /// The bytes of a search's log fix its entries.

@@ -1,11 +1,11 @@
 //! The log of a search: one line for each entry.
 
+ghost use Rattle.resolution_check.specs.Clauses.{is_below};
 ghost use Rattle.std.specs.Prelude.{◌≡◌, ◌≤◌, ◌^◌, true, IfOk, OnOk, length};
 ghost use Rattle.std.specs.List.{list_all};
 ghost use Rattle.mw_outside.specs.Faults.{Rose};
 ghost use Rattle.mw_outside.specs.Taken.{Takes, TakesPart};
 ghost use Rattle.resolution_check.specs.Text.{line_of, log_text, HasText};
-ghost use Rattle.cdcl_search.specs.Books.{is_below};
 ghost use Rattle.cdcl_search.specs.Outcomes.{OnLogFault, UnlessLogFault, input_entries};
 
 use crate::book::copy_of;

@@ -1,5 +1,6 @@
 //! The search as a whole.
 
+ghost use Rattle.resolution_check.specs.Clauses.{is_below};
 ghost use Rattle.std.specs.Prelude.{◌≡◌, ℕ, ◌+◌, ◌*◌, ◌<◌, ◌≤◌, ◌^◌, true, false, List, Option, IfOk, OnErr, length};
 ghost use Rattle.std.specs.List.{list_all};
 ghost use Rattle.term_store.specs.Terms.{truth};
@@ -7,7 +8,7 @@ ghost use Rattle.resolution_check.specs.declared.log.Clause.{Clause};
 ghost use Rattle.resolution_check.specs.Entries.{is_empty, satisfies, IsUnsatisfiable};
 ghost use Rattle.cnf_blaster.specs.Proper.{IsProper};
 ghost use Rattle.mw_outside.specs.Faults.{Rose};
-ghost use Rattle.cdcl_search.specs.Books.{is_below, are_filled, Finds};
+ghost use Rattle.cdcl_search.specs.Books.{are_filled, Finds};
 ghost use Rattle.cdcl_search.specs.Trails.{Follows, IsFalseAt};
 ghost use Rattle.cdcl_search.specs.Levels.{AreFull};
 ghost use Rattle.cdcl_search.specs.Outcomes.{OnUnsat, OnSat, OnUnknown, OnLogFault, UnlessLogFault, IsLogged, IsCut};

@@ -1,4 +1,5 @@
 pub mod Literals
+pub mod Values
 pub mod Pivots
 pub mod Chains
 pub mod Goods

@@ -1,6 +1,6 @@
 -- What follows from clauses that are true under an assignment is true under it.
-use Rattle.std.proofs.Common.{◌≡◌, inl, inr, refl, sym, ◌∙◌, ap, subst, ℕ, ◌+◌, ◌==◌, Bool, true, false, not, ◌&&◌, cond, List, [], ◌∷◌, ◌++◌, Option, Some, None, Result, Ok, Err}
-use Rattle.std.specs.Option.{option_or, option_map, option_map_or, ok_or}
+use Rattle.std.proofs.Common.{◌≡◌, inl, inr, refl, sym, ◌∙◌, ap, subst, ℕ, ◌==◌, Bool, true, false, not, ◌&&◌, cond, List, [], ◌∷◌, ◌++◌, Option, Some, None, Ok}
+use Rattle.std.specs.Option.{option_or, option_map}
 use Rattle.std.specs.List.{cons_option}
 use Rattle.std.proofs.lemmas.Bool.{cases_Bool, and_parts, false≢true, or_left, or_right, or_cases, cond_both, not-false, false_from_ne_true, or_from}
 use Rattle.std.proofs.lemmas.List.Folds.{list_any-append}
@@ -9,11 +9,10 @@ use Rattle.resolution_check.specs.declared.log.Lit.{Lit}
 use Rattle.resolution_check.specs.declared.log.Clause.{Clause}
 use Rattle.resolution_check.specs.declared.log.Entry.{Entry}
 use Rattle.resolution_check.specs.declared.log.Entry.TheVariants.{Input, Add, Delete, End}
-use Rattle.resolution_check.specs.declared.log.Bad.{Bad}
-use Rattle.resolution_check.specs.declared.log.Bad.TheVariants.{NoPivot, UnknownId}
 use Rattle.resolution_check.specs.Clauses.{opposite, is_same, has, is_inside, clashing, the_one, without, resolvent}
-use Rattle.resolution_check.specs.Entries.{lit_value, clause_value, satisfies, and_then, resolved_next, resolved_from, resolved, clause_by, clause_given, clause_held, is_deleted, input_of, inputs, is_empty, is_refutation, adds_empty, IsSound, KeepsGood, IsGood, IsUnsatisfiable}
+use Rattle.resolution_check.specs.Entries.{lit_value, clause_value, satisfies, resolved, clause_by, clause_given, clause_held, is_deleted, input_of, inputs, is_empty, is_refutation, adds_empty, IsSound, KeepsGood, IsGood, IsUnsatisfiable}
 use Rattle.resolution_check.proofs.Literals.{alike}
+use Rattle.resolution_check.proofs.Values.{any_from}
 use Rattle.resolution_check.proofs.Chains.{resolved_has}
 use Rattle.resolution_check.proofs.Goods.{by_steps, clause_given-push, any-push}
 
@@ -50,8 +49,7 @@ resolvent_true v c d s h k e = by_pivot (the_one (clashing c d)) e
 
 -- a clause that has a true literal is true
 pub true_from_has : (v : ℕ → Bool) (c : List Lit) (l : Lit) → has c l ≡ true → lit_value v l ≡ true → clause_value v c ≡ true
-true_from_has v [] l h t = h
-true_from_has v (x ∷ c) l h t = elim (or_cases _ _ h) [ inl here ↦ or_left _ _ (sym (alike (lit_value v) l x here) ∙ t) | inr later ↦ or_right _ _ (true_from_has v c l later t) ]
+true_from_has v = any_from (lit_value v)
 
 true_from_inside : (v : ℕ → Bool) (r c : List Lit) → is_inside r c ≡ true → clause_value v r ≡ true → clause_value v c ≡ true
 true_from_inside v [] c h t = absurd (false≢true t)

@@ -1,6 +1,6 @@
+use Rattle.resolution_check.specs.Clauses.{is_below}
 use Rattle.std.proofs.Common.{◌≡◌, true, length}
 use Rattle.cnf_blaster.specs.Laws.{marked}
-use Rattle.cdcl_search.specs.Books.{is_below}
 use Rattle.cdcl_search.specs.Learning.{IsFollowed, are_numbers}
 use Rattle.cdcl_search.proofs.learning.trace_all.Given as goal
 

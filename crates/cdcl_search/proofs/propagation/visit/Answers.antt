@@ -1,5 +1,6 @@
+use Rattle.resolution_check.proofs.Values.{below_at}
 use Rattle.std.proofs.Common.{subst, ◌<◌}
-use Rattle.cdcl_search.proofs.Trails.{below_at, forced_by}
+use Rattle.cdcl_search.proofs.Trails.{forced_by}
 use Rattle.cdcl_search.proofs.Levels.{goes_same, goes_push, settled_forced, settled_at, not_chosen}
 use Rattle.cdcl_search.proofs.propagation.visit.Goals as goal
 

@@ -1,7 +1,7 @@
+use Rattle.resolution_check.specs.Clauses.{is_below}
 use Rattle.std.proofs.Common.{rules, ◌≡◌, ◌∙◌, ◌++◌, ◌∷◌, [], true, Some, slice_get, ap₂, sym}
 use Rattle.std.proofs.lemmas.Option.{slice_get_read}
 use Rattle.resolution_check.specs.declared.log.Clause.{Clause}
-use Rattle.cdcl_search.specs.Books.{is_below}
 use Rattle.cdcl_search.proofs.Places.{all_at, take_at}
 use Rattle.cdcl_search.proofs.solving.book_of.Goals as goal
 

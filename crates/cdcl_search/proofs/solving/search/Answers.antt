@@ -1,8 +1,8 @@
+use Rattle.resolution_check.specs.Clauses.{is_below}
 use Rattle.std.proofs.Common.{true, ◌≡◌, ◌+◌, ◌∙◌, ℕ, List, Option, ap, sym, refl, arith}
 use Rattle.term_store.specs.Terms.{truth}
 use Rattle.resolution_check.specs.declared.log.Clause.{Clause}
 use Rattle.std.specs.List.{list_all}
-use Rattle.cdcl_search.specs.Books.{is_below}
 use Rattle.cdcl_search.specs.Outcomes.{IsCut}
 use Rattle.cdcl_search.specs.Going.{IsGoing}
 use Rattle.cdcl_search.proofs.Logs.{cut_here, cut_within, logged_sat, logged_unsat, logged_unknown}

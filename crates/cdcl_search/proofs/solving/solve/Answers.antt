@@ -1,7 +1,7 @@
+use Rattle.resolution_check.specs.Clauses.{is_below}
 use Rattle.std.proofs.Common.{◌≡◌, ◌∙◌, List, ap, sym, subst}
 use Rattle.std.specs.List.{list_all}
 use Rattle.resolution_check.specs.declared.log.Clause.{Clause}
-use Rattle.cdcl_search.specs.Books.{is_below}
 use Rattle.cdcl_search.specs.Trails.{Follows}
 use Rattle.resolution_check.specs.Text.{log_text}
 use Rattle.mw_outside.specs.Taken.{Takes, TakesPart, part_of_all}
