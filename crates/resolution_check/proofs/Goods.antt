@@ -17,8 +17,10 @@ use Rattle.resolution_check.specs.Entries.{clause_by, deletes, clause_given, is_
 
 -- ---- no fault exactly where the list stays good
 
-no_cover_fault : (clause : List Lit) (answer : Result (List Lit) Bad) → cover_fault clause answer ≡ None → (r : List Lit) × (answer ≡ Ok r) × (is_inside r clause ≡ true)
-no_cover_fault clause (Ok r) h = elim (cases_Bool (is_inside r clause)) [ inl inside ↦ (r, refl, inside) | inr outside ↦ absurd (cc) ]
+no_cover_fault : (clause : List Lit) (answer : Result (List Lit) Bad) → cover_fault clause answer ≡ None
+    → (r : List Lit) × (answer ≡ Ok r) × (is_inside r clause ≡ true)
+no_cover_fault clause (Ok r) h =
+    elim (cases_Bool (is_inside r clause)) [ inl inside ↦ (r, refl, inside) | inr outside ↦ absurd (cc) ]
 no_cover_fault clause (Err bad) h = absurd (cc)
 
 unless_true : {X : Type 0} (b : Bool) (x : X) (o : Option X) → cond b (Some x) o ≡ None → (b ≡ false) × (o ≡ None)
@@ -39,7 +41,10 @@ sound_from es (Delete id) h = held (clause_held es id) h
 sound_from es End h = tt
 
 pub kept_from_free : (es : List Entry) (e : Entry) → fault_of es e ≡ None → KeepsGood es e
-kept_from_free es e h = let both = unless_true (has_ended es) AfterEnd (entry_fault (is_given es) (clause_held es) e) h in (both.0, sound_from es e both.1)
+kept_from_free es e h =
+    let both =
+    unless_true (has_ended es) AfterEnd (entry_fault (is_given es) (clause_held es) e) h in
+    (both.0, sound_from es e both.1)
 
 free_from_sound : (es : List Entry) (e : Entry) → IsSound es e → entry_fault (is_given es) (clause_held es) e ≡ None
 free_from_sound es (Input id clause) h = rw h refl
@@ -57,17 +62,22 @@ free_from_kept es e h = rw h.0 (free_from_sound es e h.1)
 -- ---- lists in which each entry is in a relation to those before it
 
 module _ (R : List Entry → Entry → Type 0) where
-  each_from : (P : List Entry → Type 0) → ((es : List Entry) (e : Entry) → R es e → P es → P (es ++ e ∷ [])) → (before es : List Entry) → EachAfter R before es → P before → P (before ++ es)
+  each_from : (P : List Entry → Type 0) → ((es : List Entry) (e : Entry) → R es e → P es → P (es ++ e ∷ []))
+      → (before es : List Entry) → EachAfter R before es → P before → P (before ++ es)
   each_from P step before [] h p = subst P (sym (append-nil before)) p
-  each_from P step before (e ∷ es) h p = subst P (append_assoc before (e ∷ []) es) (each_from P step (before ++ e ∷ []) es h.1 (step before e h.0 p))
+  each_from P step before (e ∷ es) h p =
+      subst P (append_assoc before (e ∷ []) es) (each_from P step (before ++ e ∷ []) es h.1 (step before e h.0 p))
 
   -- what holds of the empty list, and is kept by each entry, holds of the list
-  pub by_steps : (P : List Entry → Type 0) → P [] → ((es : List Entry) (e : Entry) → R es e → P es → P (es ++ e ∷ [])) → (es : List Entry) → EachAfter R [] es → P es
+  pub by_steps : (P : List Entry → Type 0) → P [] → ((es : List Entry) (e : Entry) → R es e → P es → P (es ++ e ∷ []))
+      → (es : List Entry) → EachAfter R [] es → P es
   by_steps P start step es h = each_from P step [] es h start
 
-  push_after : (before es : List Entry) (e : Entry) → EachAfter R before es → R (before ++ es) e → EachAfter R before (es ++ e ∷ [])
+  push_after : (before es : List Entry) (e : Entry) → EachAfter R before es → R (before ++ es) e
+      → EachAfter R before (es ++ e ∷ [])
   push_after before [] e h k = (subst (λ front. R front e) (append-nil before) k, tt)
-  push_after before (d ∷ es) e h k = (h.0, push_after (before ++ d ∷ []) es e h.1 (subst (λ front. R front e) (sym (append_assoc before (d ∷ []) es)) k))
+  push_after before (d ∷ es) e h k =
+      (h.0, push_after (before ++ d ∷ []) es e h.1 (subst (λ front. R front e) (sym (append_assoc before (d ∷ []) es)) k))
 
   -- one entry more
   pub each_push : (es : List Entry) (e : Entry) → EachAfter R [] es → R es e → EachAfter R [] (es ++ e ∷ [])
@@ -75,7 +85,8 @@ module _ (R : List Entry → Entry → Type 0) where
 
   last_after : (before es : List Entry) (e : Entry) → EachAfter R before (es ++ e ∷ []) → R (before ++ es) e
   last_after before [] e h = subst (λ front. R front e) (sym (append-nil before)) h.0
-  last_after before (d ∷ es) e h = subst (λ front. R front e) (append_assoc before (d ∷ []) es) (last_after (before ++ d ∷ []) es e h.1)
+  last_after before (d ∷ es) e h =
+      subst (λ front. R front e) (append_assoc before (d ∷ []) es) (last_after (before ++ d ∷ []) es e h.1)
 
   -- the last entry
   pub each_last : (es : List Entry) (e : Entry) → EachAfter R [] (es ++ e ∷ []) → R es e
@@ -83,13 +94,16 @@ module _ (R : List Entry → Entry → Type 0) where
 
 -- ---- one entry more
 
-pub clause_given-push : (es : List Entry) (e : Entry) (id : ℕ) → clause_given (es ++ e ∷ []) id ≡ option_or (clause_given es id) (clause_by id e)
+pub clause_given-push : (es : List Entry) (e : Entry) (id : ℕ)
+    → clause_given (es ++ e ∷ []) id ≡ option_or (clause_given es id) (clause_by id e)
 clause_given-push [] e id = or_none (clause_by id e)
   where
     or_none : (o : Option Clause) → option_or o None ≡ o
     or_none None = refl
     or_none (Some c) = refl
-clause_given-push (d ∷ es) e id = ap (option_or (clause_by id d)) (clause_given-push es e id) ∙ or_assoc (clause_by id d) (clause_given es id) (clause_by id e)
+clause_given-push (d ∷ es) e id =
+    ap (option_or (clause_by id d)) (clause_given-push es e id)
+    ∙ or_assoc (clause_by id d) (clause_given es id) (clause_by id e)
   where
     or_assoc : (a b c : Option Clause) → option_or a (option_or b c) ≡ option_or (option_or a b) c
     or_assoc None b c = refl
@@ -121,7 +135,8 @@ given_from_held es id h = from (is_deleted es id) (clause_given es id) h
 deleted_now : (es : List Entry) (e : Entry) (id : ℕ) → IsSound es e → deletes id e ≡ true → is_given es id ≡ true
 deleted_now es (Input own clause) id h d = absurd (false≢true d)
 deleted_now es (Add own clause chain) id h d = absurd (false≢true d)
-deleted_now es (Delete own) id h d = given_from_held es id (subst (λ n. IsSome (clause_held es n)) (eqb-true own id d) h)
+deleted_now es (Delete own) id h d =
+    given_from_held es id (subst (λ n. IsSome (clause_held es n)) (eqb-true own id d) h)
 deleted_now es End id h d = absurd (false≢true d)
 
 pub given_from_deleted : (es : List Entry) → IsGood es → Deletes es

@@ -36,7 +36,8 @@ pub alike : (p : Lit → Bool) (k l : Lit) → is_same k l ≡ true → p k ≡ 
 alike p k l h = ap p (same_lit k l h)
 
 pub same_sym : (k l : Lit) → is_same k l ≡ is_same l k
-same_sym k l = elim (cases_Bool (is_same k l)) [ inl sure ↦ sure ∙ sym (ap (λ m. is_same l m) (same_lit k l sure) ∙ same_refl l) | inr unlike ↦ elim (cases_Bool (is_same l k)) [ inl back ↦ absurd (false≢true (sym unlike ∙ (ap (λ m. is_same k m) (same_lit l k back) ∙ same_refl k))) | inr not_back ↦ unlike ∙ sym not_back ] ]
+same_sym k l =
+    elim (cases_Bool (is_same k l)) [ inl sure ↦ sure ∙ sym (ap (λ m. is_same l m) (same_lit k l sure) ∙ same_refl l) | inr unlike ↦ elim (cases_Bool (is_same l k)) [ inl back ↦ absurd (false≢true (sym unlike ∙ (ap (λ m. is_same k m) (same_lit l k back) ∙ same_refl k))) | inr not_back ↦ unlike ∙ sym not_back ] ]
 
 -- the other sign of the other sign
 pub opposite_twice : (l : Lit) → opposite (opposite l) ≡ l
@@ -53,7 +54,8 @@ has-filter p (x ∷ xs) l =
     (λ not_p. elim (cases_Bool (is_same l x)) [ inl here ↦ (has-filter p xs l ∙ and_left _ _ (alike p l x here ∙ not_p)) ∙ sym (and_left _ _ (alike p l x here ∙ not_p)) | inr other ↦ rw other (has-filter p xs l) ])
 
 pub is_same-opposite : (k l : Lit) → is_same k (opposite l) ≡ is_same (opposite k) l
-is_same-opposite k l = ap (λ b. (nat_eq k.var l.var) && b) (elim k.negated as (λ a. beq a (not l.negated) ≡ beq (not a) l.negated) [ true ↦ elim l.negated as (λ b. beq true (not b) ≡ beq false b) [ true ↦ refl | false ↦ refl ] | false ↦ elim l.negated as (λ b. beq false (not b) ≡ beq true b) [ true ↦ refl | false ↦ refl ] ])
+is_same-opposite k l =
+    ap (λ b. (nat_eq k.var l.var) && b) (elim k.negated as (λ a. beq a (not l.negated) ≡ beq (not a) l.negated) [ true ↦ elim l.negated as (λ b. beq true (not b) ≡ beq false b) [ true ↦ refl | false ↦ refl ] | false ↦ elim l.negated as (λ b. beq false (not b) ≡ beq true b) [ true ↦ refl | false ↦ refl ] ])
 
 pub has-opposites : (d : List Lit) (l : Lit) → has (map opposite d) l ≡ has d (opposite l)
 has-opposites [] l = refl
@@ -79,7 +81,8 @@ pub the_one-at : (xs : List Lit) (p : Lit) → IsOne xs p → the_one xs ≡ Som
 the_one-at [] p h = absurd (false≢true h.there)
 the_one-at (x ∷ xs) p h =
     let first : p ≡ x = same_lit p x (h.only x (or_left _ _ (same_refl x))) in
-    let others : list_all (is_same x) xs ≡ true = all_from (is_same x) xs (λ l m. ap (λ k. is_same k l) (sym first) ∙ h.only l (or_right _ _ m)) in
+    let others : list_all (is_same x) xs ≡ true =
+    all_from (is_same x) xs (λ l m. ap (λ k. is_same k l) (sym first) ∙ h.only l (or_right _ _ m)) in
     rw others (ap (λ l. Some l) (sym first))
 
 pub the_one-Some : (xs : List Lit) (p : Lit) → the_one xs ≡ Some p → IsOne xs p
@@ -90,7 +93,8 @@ the_one-Some (x ∷ xs) p h =
           let first : x ≡ p = cc in
           record {
             there = or_left _ _ (ap (λ l. is_same p l) first ∙ same_refl p);
-            only = λ l m. ap (λ k. is_same k l) (sym first) ∙ elim (or_cases _ _ m) [ inl here ↦ same_sym x l ∙ here | inr later ↦ all_at (is_same x) xs sure l later ];
+            only = λ l m. ap (λ k. is_same k l) (sym first)
+                ∙ elim (or_cases _ _ m) [ inl here ↦ same_sym x l ∙ here | inr later ↦ all_at (is_same x) xs sure l later ];
           }
       | inr unlike ↦ absurd (cc)
     ]
@@ -100,7 +104,8 @@ moved xs ys same p h =
     let one = the_one-Some xs p h in
     the_one-at ys p (record { there = sym (same p) ∙ one.there; only = λ l m. one.only l (same l ∙ m) })
 
-by_cases : (xs ys : List Lit) → ((l : Lit) → has xs l ≡ has ys l) → (a b : Option Lit) → the_one xs ≡ a → the_one ys ≡ b → the_one xs ≡ the_one ys
+by_cases : (xs ys : List Lit) → ((l : Lit) → has xs l ≡ has ys l) → (a b : Option Lit) → the_one xs ≡ a
+    → the_one ys ≡ b → the_one xs ≡ the_one ys
 by_cases xs ys same (Some p) b h k = h ∙ sym (moved xs ys same p h)
 by_cases xs ys same None (Some p) h k = moved ys xs (λ l. sym (same l)) p k ∙ sym k
 by_cases xs ys same None None h k = h ∙ sym k

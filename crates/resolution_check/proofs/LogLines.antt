@@ -33,19 +33,23 @@ joined_line (word ∷ next ∷ words) h =
 
 no_feed : (line : List ℕ) → IsLine line → All (λ b. is_line_feed b ≡ false) line
 no_feed line h = λ k d below.
-    let above : 10 < get_or line k d = ltb-true 10 (get_or line k d) (AllPass-from_list_all (nat_lt 10) line h k d below) in
+    let above : 10 < get_or line k d =
+    ltb-true 10 (get_or line k d) (AllPass-from_list_all (nat_lt 10) line h k d below) in
     ne_eqb (get_or line k d) 10 (omega arith)
 
 -- ---- the lines of a log are its entries' texts
 
-pub lines-log_text : (es : List Entry) → AllByRecursion HasText es → slice_split is_line_feed (log_text es) ≡ map text_of es ++ [] ∷ []
+pub lines-log_text : (es : List Entry) → AllByRecursion HasText es
+    → slice_split is_line_feed (log_text es) ≡ map text_of es ++ [] ∷ []
 lines-log_text [] h = refl
 lines-log_text (e ∷ es) h =
     ap (slice_split is_line_feed) (append_assoc (text_of e) (10 ∷ []) (log_text es))
-    ∙ slice_split_at is_line_feed (text_of e) 10 (log_text es) (no_feed (text_of e) (joined_line (entry_words e) (words_plain e h.0))) refl
+    ∙ slice_split_at is_line_feed (text_of e) 10 (log_text es)
+    (no_feed (text_of e) (joined_line (entry_words e) (words_plain e h.0))) refl
     ∙ ap (λ lines. text_of e ∷ lines) (lines-log_text es h.1)
 
-same_texts : (ds es : List Entry) → AllByRecursion HasText ds → AllByRecursion HasText es → map text_of ds ≡ map text_of es → ds ≡ es
+same_texts : (ds es : List Entry) → AllByRecursion HasText ds → AllByRecursion HasText es
+    → map text_of ds ≡ map text_of es → ds ≡ es
 same_texts [] [] h k same = refl
 same_texts [] (e ∷ es) h k same = absurd (cc)
 same_texts (d ∷ ds) [] h k same = absurd (cc)
@@ -55,7 +59,8 @@ same_texts (d ∷ ds) (e ∷ es) h k same =
     ap₂ (λ x xs. x ∷ xs) (same_entry d e h.0 k.0 first) (same_texts ds es h.1 k.1 others)
 
 -- the bytes of a log fix its entries
-pub same_log : (ds es : List Entry) → AllByRecursion HasText ds → AllByRecursion HasText es → log_text ds ≡ log_text es → ds ≡ es
+pub same_log : (ds es : List Entry) → AllByRecursion HasText ds → AllByRecursion HasText es
+    → log_text ds ≡ log_text es → ds ≡ es
 same_log ds es h k same =
     let lines = sym (lines-log_text ds h) ∙ ap (slice_split is_line_feed) same ∙ lines-log_text es k in
     same_texts ds es h k (append_cancel_right (map text_of ds) (map text_of es) ([] ∷ []) lines)

@@ -33,26 +33,31 @@ pub found_one : (xs : List Lit) (o : Option Lit) → MatchOption o (xs ≡ []) (
 found_one xs None h = sym (ap the_one h)
 found_one xs (Some p) h = sym (the_one-at xs p h)
 
-not_one : (xs : List Lit) (p q : Lit) → has xs p ≡ true → has xs q ≡ true → is_same p q ≡ false → (o : Option Lit) → the_one xs ≡ o → None ≡ o
+not_one : (xs : List Lit) (p q : Lit) → has xs p ≡ true → has xs q ≡ true → is_same p q ≡ false → (o : Option Lit)
+    → the_one xs ≡ o → None ≡ o
 not_one xs p q h k apart None e = refl
 not_one xs p q h k apart (Some l) e =
     let one = the_one-Some xs l e in
     absurd (false≢true (sym apart ∙ ap₂ is_same (sym (same_lit l p (one.only p h))) (sym (same_lit l q (one.only q k))) ∙ same_refl l))
 
 -- two literals that are not the same are not one
-pub two_found : (xs : List Lit) (p q : Lit) → has xs p ≡ true → has xs q ≡ true → is_same p q ≡ false → None ≡ the_one xs
+pub two_found : (xs : List Lit) (p q : Lit) → has xs p ≡ true → has xs q ≡ true → is_same p q ≡ false
+    → None ≡ the_one xs
 two_found xs p q h k apart = not_one xs p q h k apart (the_one xs) refl
 
 -- what is met by the first literals is met by all
 pub met-later : (m : Marks) (d : List Lit) (i : ℕ) (l : Lit) → has (met m (take i d)) l ≡ true → has (met m d) l ≡ true
 met-later m d i l h =
     let both = and_parts _ _ (sym (has-met m (take i d) l) ∙ h) in
-    has-met m d l ∙ and_from _ _ both.0 (ap (λ c. has c (opposite l)) (sym (take-append-drop i d)) ∙ has-append (take i d) (drop i d) (opposite l) ∙ or_left _ _ both.1)
+    has-met m d l
+    ∙ and_from _ _ both.0 (ap (λ c. has c (opposite l)) (sym (take-append-drop i d)) ∙ has-append (take i d) (drop i d) (opposite l) ∙ or_left _ _ both.1)
 
 -- a literal that is met
-pub met-at : (m : Marks) (d : List Lit) (i : ℕ) (none k : Lit) → i < length d → k ≡ opposite (get_or d i none) → marked m k ≡ true → has (met m d) k ≡ true
+pub met-at : (m : Marks) (d : List Lit) (i : ℕ) (none k : Lit) → i < length d → k ≡ opposite (get_or d i none)
+    → marked m k ≡ true → has (met m d) k ≡ true
 met-at m d i none k h e is_marked =
-    has-met m d k ∙ and_from _ _ is_marked (list_any_at (is_same (opposite k)) d i none h (ap (λ l. is_same (opposite l) (get_or d i none)) e ∙ ap (λ l. is_same l (get_or d i none)) (opposite_twice (get_or d i none)) ∙ same_refl (get_or d i none)))
+    has-met m d k
+    ∙ and_from _ _ is_marked (list_any_at (is_same (opposite k)) d i none h (ap (λ l. is_same (opposite l) (get_or d i none)) e ∙ ap (λ l. is_same l (get_or d i none)) (opposite_twice (get_or d i none)) ∙ same_refl (get_or d i none)))
 
 -- after the pivot is unmarked and the other clause marked, the resolvent is shown
 pub resolvent_shown : (old new : Marks) (r d : List Lit) (p : Lit) → Shows old r
@@ -67,7 +72,8 @@ resolvent_shown old new r d p shows marks l =
 -- a list that has no number is empty
 no_number : (xs : List ℕ) → ((n : ℕ) → list_any (is_at (nat_cmp n)) xs ≡ false) → xs ≡ []
 no_number [] h = refl
-no_number (x ∷ xs) h = absurd (true≢false (sym (or_left (is_at (nat_cmp x) x) (list_any (is_at (nat_cmp x)) xs) (at_itself x)) ∙ h x))
+no_number (x ∷ xs) h =
+    absurd (true≢false (sym (or_left (is_at (nat_cmp x) x) (list_any (is_at (nat_cmp x)) xs) (at_itself x)) ∙ h x))
   where
     at_itself : (n : ℕ) → is_at (nat_cmp n) n ≡ true
     at_itself n = grind (arith, common_steps)
@@ -79,14 +85,17 @@ none_marked m p n l =
     cond_both l.negated (here m.negative.keys) (here m.positive.keys) (λ b. b ≡ false) (λ _. ap here n) (λ _. ap here p)
 
 pub no_variables : (m : Marks) → ((l : Lit) → marked m l ≡ false) → (m.positive.keys ≡ []) × (m.negative.keys ≡ [])
-no_variables m h = (no_number m.positive.keys (λ v. h (record { var = v; negated = false })), no_number m.negative.keys (λ v. h (record { var = v; negated = true })))
+no_variables m h =
+    (no_number m.positive.keys (λ v. h (record { var = v; negated = false })), no_number m.negative.keys (λ v. h (record { var = v; negated = true })))
 
 -- nothing is left of r without d exactly where r is inside d
-pub covered : (r d : List Lit) (m : Marks) (b : Bool) → ((l : Lit) → marked m l ≡ (not (has d l) && has r l)) → (IsTrue b ↔ ((l : Lit) → marked m l ≡ false)) → b ≡ is_inside r d
+pub covered : (r d : List Lit) (m : Marks) (b : Bool) → ((l : Lit) → marked m l ≡ (not (has d l) && has r l))
+    → (IsTrue b ↔ ((l : Lit) → marked m l ≡ false)) → b ≡ is_inside r d
 covered r d m b left empty =
     elim (cases_Bool (is_inside r d)) [
       | inl inside ↦ empty.1 (λ l. left l ∙ gone (has d l) (has r l) (all_at (has d) r inside l)) ∙ sym inside
-      | inr outside ↦ false_from_ne_true b (λ e. false≢true (sym outside ∙ all_from (has d) r (λ l there. kept (has d l) (has r l) there (sym (left l) ∙ empty.0 e l)))) ∙ sym outside
+      | inr outside ↦ false_from_ne_true b (λ e. false≢true (sym outside ∙ all_from (has d) r (λ l there. kept (has d l) (has r l) there (sym (left l) ∙ empty.0 e l))))
+          ∙ sym outside
     ]
   where
     gone : (x y : Bool) → (y ≡ true → x ≡ true) → (not x && y) ≡ false

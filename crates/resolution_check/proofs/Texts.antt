@@ -19,16 +19,22 @@ use Rattle.resolution_check.specs.Words.{is_space, words_in, number_in, lit_with
 -- ---- words
 
 pub cut_none : (text : List ℕ) → position is_space text ≡ None → words_in text ≡ text ∷ []
-cut_none text h = slice_split_none is_space text (λ k d below. fails_before_first is_space text k d (far (nat_lt (position_or_len is_space text) (length text)) refl h k below))
+cut_none text h =
+    slice_split_none is_space text (λ k d below. fails_before_first is_space text k d (far (nat_lt (position_or_len is_space text) (length text)) refl h k below))
   where
-    far : (b : Bool) → nat_lt (position_or_len is_space text) (length text) ≡ b → cond b (Some (position_or_len is_space text)) None ≡ None → (k : ℕ) → k < length text → k < position_or_len is_space text
+    far : (b : Bool) → nat_lt (position_or_len is_space text) (length text) ≡ b
+        → cond b (Some (position_or_len is_space text)) None ≡ None → (k : ℕ) → k < length text
+        → k < position_or_len is_space text
     far true e h k below = absurd (cc)
     far false e h k below = let past : length text ≤ position_or_len is_space text = ltb-false _ _ e in omega arith
 
-pub cut_here : (text : List ℕ) (at : ℕ) → position is_space text ≡ Some at → words_in text ≡ take at text ∷ words_in (drop (at + 1) text)
+pub cut_here : (text : List ℕ) (at : ℕ) → position is_space text ≡ Some at
+    → words_in text ≡ take at text ∷ words_in (drop (at + 1) text)
 cut_here text at h = here (nat_lt (position_or_len is_space text) (length text)) refl h
   where
-    here : (b : Bool) → nat_lt (position_or_len is_space text) (length text) ≡ b → cond b (Some (position_or_len is_space text)) None ≡ Some at → words_in text ≡ take at text ∷ words_in (drop (at + 1) text)
+    here : (b : Bool) → nat_lt (position_or_len is_space text) (length text) ≡ b
+        → cond b (Some (position_or_len is_space text)) None ≡ Some at
+        → words_in text ≡ take at text ∷ words_in (drop (at + 1) text)
     here true e h =
         let same : position_or_len is_space text ≡ at = cc in
         slice_split_first is_space text 0 (ltb-true _ _ e) ∙ ap (λ n. take n text ∷ words_in (drop (n + 1) text)) same
@@ -37,8 +43,10 @@ cut_here text at h = here (nat_lt (position_or_len is_space text) (length text))
 pub at_below : (text : List ℕ) (at : ℕ) → position is_space text ≡ Some at → at < length text
 at_below text at h = here (nat_lt (position_or_len is_space text) (length text)) refl h
   where
-    here : (b : Bool) → nat_lt (position_or_len is_space text) (length text) ≡ b → cond b (Some (position_or_len is_space text)) None ≡ Some at → at < length text
-    here true e h = let same : position_or_len is_space text ≡ at = cc in subst (λ n. n < length text) same (ltb-true _ _ e)
+    here : (b : Bool) → nat_lt (position_or_len is_space text) (length text) ≡ b
+        → cond b (Some (position_or_len is_space text)) None ≡ Some at → at < length text
+    here true e h =
+        let same : position_or_len is_space text ≡ at = cc in subst (λ n. n < length text) same (ltb-true _ _ e)
     here false e h = absurd (cc)
 
 -- a text has a word
@@ -57,13 +65,17 @@ IsPlain word = list_all (nat_lt 32) word ≡ true
 
 no_space : (word : List ℕ) → IsPlain word → All (λ b. is_space b ≡ false) word
 no_space word h = λ k d below.
-    let above : 32 < get_or word k d = ltb-true 32 (get_or word k d) (AllPass-from_list_all (nat_lt 32) word h k d below) in
+    let above : 32 < get_or word k d =
+    ltb-true 32 (get_or word k d) (AllPass-from_list_all (nat_lt 32) word h k d below) in
     ne_eqb (get_or word k d) 32 (omega arith)
 
 -- words that are joined by single spaces are read again
-pub words_in-join : (word : List ℕ) (words : List (List ℕ)) → AllByRecursion IsPlain (word ∷ words) → words_in (join_with_byte 32 (word ∷ words)) ≡ word ∷ words
+pub words_in-join : (word : List ℕ) (words : List (List ℕ)) → AllByRecursion IsPlain (word ∷ words)
+    → words_in (join_with_byte 32 (word ∷ words)) ≡ word ∷ words
 words_in-join word [] h = slice_split_none is_space word (no_space word h.0)
-words_in-join word (next ∷ words) h = slice_split_at is_space word 32 (join_with_byte 32 (next ∷ words)) (no_space word h.0) refl ∙ ap (λ ws. word ∷ ws) (words_in-join next words h.1)
+words_in-join word (next ∷ words) h =
+    slice_split_at is_space word 32 (join_with_byte 32 (next ∷ words)) (no_space word h.0) refl
+    ∙ ap (λ ws. word ∷ ws) (words_in-join next words h.1)
 
 -- ---- numbers
 
@@ -74,7 +86,9 @@ small_value v i n h below few =
     omega arith
 
 pub own : IsNumeralModel (λ ds. list_all is_digit ds ≡ true) value_of
-own = numerals_by_fold (λ ds. list_all is_digit ds ≡ true) (search rules) (λ n ds. fold (λ m b. 10 * m + (b - 48)) n ds) (search rules)
+own =
+    numerals_by_fold (λ ds. list_all is_digit ds ≡ true) (search rules) (λ n ds. fold (λ m b. 10 * m + (b - 48)) n ds)
+    (search rules)
 
 -- no leading zero, and at most 2^63
 bounded : List ℕ → Bool
@@ -90,7 +104,8 @@ number_in-Some word n h =
     let limits = and_parts (not (slice_index word 0 == 48)) (nat_le (value_of word) (2 ^ 63)) parts.1 in
     let first : slice_index word 0 ≢ 48 = eqb-false (slice_index word 0) 48 (not-true _ limits.0) in
     let most : value_of word ≤ 2 ^ 63 = leb-true (value_of word) (2 ^ 63) limits.1 in
-    let written : decimal (value_of word) ≡ word = decimal-digits_value own word digits.1 (ltb-true 0 (length word) size.0) (λ e. absurd (first e)) (omega arith) in
+    let written : decimal (value_of word) ≡ word =
+    decimal-digits_value own word digits.1 (ltb-true 0 (length word) size.0) (λ e. absurd (first e)) (omega arith) in
     let same : word ≡ decimal n = sym written ∙ ap decimal read.1 in
     (same, (positive n (λ e. first (ap (λ w. slice_index w 0) (same ∙ ap decimal e ∙ decimal_digit 0 (omega arith)))), subst (λ m. m ≤ 2 ^ 63) read.1 most))
   where
@@ -104,16 +119,23 @@ number_in-decimal n h =
     let value : value_of (decimal n) ≡ n = digits_value-decimal own n small in
     let short : length (decimal n) ≤ 19 = length-decimal-le 19 n (omega arith) (omega arith) small in
     let first : 48 < get_or (decimal n) 0 0 = first_decimal n h.0 small in
-    let numeral : is_numeral 19 (decimal n) ≡ true = and_from (nat_lt 0 (length (decimal n))) (nat_le (length (decimal n)) 19 && list_all is_digit (decimal n)) (lt-ltb 0 (length (decimal n)) (decimal_nonempty n small)) (and_from (nat_le (length (decimal n)) 19) (list_all is_digit (decimal n)) (le-leb (length (decimal n)) 19 short) (digits_decimal own n small)) in
+    let numeral : is_numeral 19 (decimal n) ≡ true =
+    and_from (nat_lt 0 (length (decimal n))) (nat_le (length (decimal n)) 19 && list_all is_digit (decimal n)) (lt-ltb 0 (length (decimal n)) (decimal_nonempty n small)) (and_from (nat_le (length (decimal n)) 19) (list_all is_digit (decimal n)) (le-leb (length (decimal n)) 19 short) (digits_decimal own n small)) in
     let leads : (slice_index (decimal n) 0 == 48) ≡ false = ne_eqb (slice_index (decimal n) 0) 48 (omega arith) in
-    let limits : bounded (decimal n) ≡ true = and_from (not (slice_index (decimal n) 0 == 48)) (nat_le (value_of (decimal n)) (2 ^ 63)) (ap not leads) (ap (λ m. nat_le m (2 ^ 63)) value ∙ le-leb n (2 ^ 63) h.1) in
-    ap (λ b. cond b (Some (value_of (decimal n))) None) (and_from (is_numeral 19 (decimal n)) (bounded (decimal n)) numeral limits) ∙ ap (λ m. Some m) value
+    let limits : bounded (decimal n) ≡ true =
+    and_from (not (slice_index (decimal n) 0 == 48)) (nat_le (value_of (decimal n)) (2 ^ 63)) (ap not leads)
+    (ap (λ m. nat_le m (2 ^ 63)) value ∙ le-leb n (2 ^ 63) h.1) in
+    ap (λ b. cond b (Some (value_of (decimal n))) None)
+    (and_from (is_numeral 19 (decimal n)) (bounded (decimal n)) numeral limits)
+    ∙ ap (λ m. Some m) value
 
 -- ---- literals
 
 -- a number's first byte is no minus sign
-starts : (n : ℕ) → IsNumber n → (word : List ℕ) → decimal n ≡ word → lit_in word ≡ option_map (lit_with false) (number_in word)
-starts n h [] e = let long : 0 < length (decimal n) = decimal_nonempty n (omega arith) in absurd (omega (arith, ap length e))
+starts : (n : ℕ) → IsNumber n → (word : List ℕ) → decimal n ≡ word
+    → lit_in word ≡ option_map (lit_with false) (number_in word)
+starts n h [] e =
+    let long : 0 < length (decimal n) = decimal_nonempty n (omega arith) in absurd (omega (arith, ap length e))
 starts n h (b ∷ word) e =
     let first : 48 < get_or (decimal n) 0 0 = first_decimal n h.0 (omega arith) in
     let here : get_or (decimal n) 0 0 ≡ b = ap (λ w. get_or w 0 0) e in
@@ -130,13 +152,18 @@ lit_in-text l h = by_sign l.negated refl
     back b e = let same : l.var + 1 - 1 ≡ l.var = omega arith in λ i. record { var = same i; negated = sym e i }
 
     by_sign : (b : Bool) → l.negated ≡ b → lit_in (cond b (45 ∷ decimal (l.var + 1)) (decimal (l.var + 1))) ≡ Some l
-    by_sign true e = ap (option_map (lit_with true)) (number_in-decimal (l.var + 1) whole) ∙ ap (λ k. Some k) (back true e)
-    by_sign false e = starts (l.var + 1) whole (decimal (l.var + 1)) refl ∙ ap (option_map (lit_with false)) (number_in-decimal (l.var + 1) whole) ∙ ap (λ k. Some k) (back false e)
+    by_sign true e =
+        ap (option_map (lit_with true)) (number_in-decimal (l.var + 1) whole) ∙ ap (λ k. Some k) (back true e)
+    by_sign false e =
+        starts (l.var + 1) whole (decimal (l.var + 1)) refl
+        ∙ ap (option_map (lit_with false)) (number_in-decimal (l.var + 1) whole) ∙ ap (λ k. Some k) (back false e)
 
-lit_from : (negated : Bool) (word : List ℕ) (l : Lit) → option_map (lit_with negated) (number_in word) ≡ Some l → (l.negated ≡ negated) × (word ≡ decimal (l.var + 1)) × IsSmall l
+lit_from : (negated : Bool) (word : List ℕ) (l : Lit) → option_map (lit_with negated) (number_in word) ≡ Some l
+    → (l.negated ≡ negated) × (word ≡ decimal (l.var + 1)) × IsSmall l
 lit_from negated word l h = by_number (number_in word) refl h
   where
-    by_number : (o : Option ℕ) → number_in word ≡ o → option_map (lit_with negated) o ≡ Some l → (l.negated ≡ negated) × (word ≡ decimal (l.var + 1)) × IsSmall l
+    by_number : (o : Option ℕ) → number_in word ≡ o → option_map (lit_with negated) o ≡ Some l
+        → (l.negated ≡ negated) × (word ≡ decimal (l.var + 1)) × IsSmall l
     by_number None e k = absurd (cc)
     by_number (Some n) e k =
         let read = number_in-Some word n e in
@@ -152,6 +179,11 @@ lit_in-Some (b ∷ word) l h = by_sign (b == 45) refl h
     text : (s : Bool) → l.negated ≡ s → lit_text l ≡ cond s (45 ∷ decimal (l.var + 1)) (decimal (l.var + 1))
     text s e = ap (λ t. cond t (45 ∷ decimal (l.var + 1)) (decimal (l.var + 1))) e
 
-    by_sign : (s : Bool) → (b == 45) ≡ s → cond s (option_map (lit_with true) (number_in word)) (option_map (lit_with false) (number_in (b ∷ word))) ≡ Some l → (b ∷ word ≡ lit_text l) × IsSmall l
-    by_sign true e k = let read = lit_from true word l k in (ap₂ (λ x xs. x ∷ xs) (eqb-true b 45 e) read.1 ∙ sym (text true read.0), read.2)
+    by_sign : (s : Bool) → (b == 45) ≡ s
+        → cond s (option_map (lit_with true) (number_in word)) (option_map (lit_with false) (number_in (b ∷ word)))
+        ≡ Some l
+        → (b ∷ word ≡ lit_text l) × IsSmall l
+    by_sign true e k =
+        let read =
+        lit_from true word l k in (ap₂ (λ x xs. x ∷ xs) (eqb-true b 45 e) read.1 ∙ sym (text true read.0), read.2)
     by_sign false e k = let read = lit_from false (b ∷ word) l k in (read.1 ∙ sym (text false read.0), read.2)

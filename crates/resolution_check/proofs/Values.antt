@@ -24,14 +24,16 @@ or_none None = refl
 or_none (Some b) = refl
 
 -- a variable that had no value has that of its literal
-pub value_of-last : (ls : List Lit) (l : Lit) → value_of ls l.var ≡ None → value_of (ls ++ l ∷ []) l.var ≡ Some (not l.negated)
+pub value_of-last : (ls : List Lit) (l : Lit) → value_of ls l.var ≡ None
+    → value_of (ls ++ l ∷ []) l.var ≡ Some (not l.negated)
 value_of-last ls l free =
     value_of-append ls (l ∷ []) l.var
     ∙ ap (λ o. option_or o (value_of (l ∷ []) l.var)) free
     ∙ ap (λ b. cond b (Some (not l.negated)) None) (eq-eqb l.var l.var refl)
 
 -- every other variable has the value that it had
-pub value_of-other : (ls : List Lit) (l : Lit) (v : ℕ) → (l.var == v) ≡ false → value_of (ls ++ l ∷ []) v ≡ value_of ls v
+pub value_of-other : (ls : List Lit) (l : Lit) (v : ℕ) → (l.var == v) ≡ false
+    → value_of (ls ++ l ∷ []) v ≡ value_of ls v
 value_of-other ls l v other =
     value_of-append ls (l ∷ []) v
     ∙ ap (λ b. option_or (value_of ls v) (cond b (Some (not l.negated)) None)) other
@@ -76,7 +78,8 @@ some_value (Some b) n h = refl
 -- two false literals of one variable are one literal
 pub same_fails : (ls : List Lit) (k l : Lit) → k.var ≡ l.var → fails ls k ≡ true → fails ls l ≡ true → k ≡ l
 same_fails ls k l e h g =
-    let here : is_value (value_of ls l.var) k.negated ≡ true = ap (λ v. is_value (value_of ls v) k.negated) (sym e) ∙ h in
+    let here : is_value (value_of ls l.var) k.negated ≡ true =
+    ap (λ v. is_value (value_of ls v) k.negated) (sym e) ∙ h in
     let n = one_value (value_of ls l.var) k.negated l.negated here g in
     λ i. record { var = e i; negated = n i }
 
@@ -93,7 +96,8 @@ not_both ls l h g = not-itself l.negated (one_value (value_of ls l.var) l.negate
 -- a literal of a clause that passes a test
 pub any_from : (p : Lit → Bool) (c : List Lit) (l : Lit) → has c l ≡ true → p l ≡ true → list_any p c ≡ true
 any_from p [] l h t = h
-any_from p (k ∷ c) l h t = elim (or_cases _ _ h) [ inl here ↦ or_left _ _ (sym (alike p l k here) ∙ t) | inr later ↦ or_right (p k) _ (any_from p c l later t) ]
+any_from p (k ∷ c) l h t =
+    elim (or_cases _ _ h) [ inl here ↦ or_left _ _ (sym (alike p l k here) ∙ t) | inr later ↦ or_right (p k) _ (any_from p c l later t) ]
 
 -- a literal of a clause whose variables are below the limit
 pub below_at : (limit : ℕ) (c : List Lit) (l : Lit) → is_below limit c ≡ true → has c l ≡ true → l.var < limit
@@ -112,7 +116,8 @@ below_larger limit more (l ∷ c) within h =
     and_from _ _ (lt-ltb l.var more (omega arith)) (below_larger limit more c within both.1)
 
 -- a clause that is settled where every variable has a value has a true literal
-pub settled_true_now : (ls : List Lit) (vars : ℕ) (c : List Lit) → IsTotal vars ls → is_below vars c ≡ true → IsSettled ls c → list_any (holds ls) c ≡ true
+pub settled_true_now : (ls : List Lit) (vars : ℕ) (c : List Lit) → IsTotal vars ls → is_below vars c ≡ true
+    → IsSettled ls c → list_any (holds ls) c ≡ true
 settled_true_now ls vars c total below (inl t) = any_from (holds ls) c t.lit t.inside t.is_true
 settled_true_now ls vars c total below (inr t) =
     let some : is_some (value_of ls t.one.var) ≡ true = total t.one.var (below_at vars c t.one below t.inside_one) in

@@ -27,7 +27,9 @@ given_on shelf id = is_in_order shelf.through id || is_some (lookup (is_at (nat_
 
 -- the clause that is held under a number
 abbrev pub held_on : Shelved → ℕ → Option Clause
-held_on shelf id = if is_in_order shelf.through id then lookup (is_at (nat_cmp id)) shelf.front else option_flatten (lookup (is_at (nat_cmp id)) shelf.loose)
+held_on shelf id =
+    if is_in_order shelf.through id then lookup (is_at (nat_cmp id)) shelf.front else option_flatten
+    (lookup (is_at (nat_cmp id)) shelf.loose)
 
 -- how many numbers were given
 abbrev pub count_of : Shelved → ℕ

@@ -18,7 +18,8 @@ zero_text = codes "0"
 
 abbrev pub entry_words : Entry → List (List ℕ)
 entry_words (Input id clause) = codes "i" ∷ decimal id ∷ (map lit_text clause.lits ++ zero_text ∷ [])
-entry_words (Add id clause chain) = codes "a" ∷ decimal id ∷ (map lit_text clause.lits ++ zero_text ∷ (map decimal chain ++ zero_text ∷ []))
+entry_words (Add id clause chain) =
+    codes "a" ∷ decimal id ∷ (map lit_text clause.lits ++ zero_text ∷ (map decimal chain ++ zero_text ∷ []))
 entry_words (Delete id) = codes "d" ∷ decimal id ∷ []
 entry_words End = codes "e" ∷ []
 
