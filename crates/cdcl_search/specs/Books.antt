@@ -34,7 +34,8 @@ has_place places place = list_any (λ k. k == place) places
 
 -- each clause is listed for each of its literals
 unfoldable pub Finds : Shelf → Type 0
-Finds shelf = (place : ℕ) (c : Clause) (l : Lit) → slice_get shelf.clauses place ≡ Some c → has c.lits l ≡ true → has_place (listed shelf.positive shelf.negative l) place ≡ true
+Finds shelf =
+    (place : ℕ) (c : Clause) (l : Lit) → slice_get shelf.clauses place ≡ Some c → has c.lits l ≡ true → has_place (listed shelf.positive shelf.negative l) place ≡ true
 
 -- no clause is empty
 abbrev pub are_filled : List Clause → Bool

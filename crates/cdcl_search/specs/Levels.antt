@@ -52,7 +52,8 @@ IsSettledAt clauses steps place = (c : Clause) → slice_get clauses place ≡ S
 
 -- the clause at this place is settled or will be looked at, whatever steps from the end of the earlier trail on are
 abbrev pub IsSeenSince : List Clause → (old new : List Step) → ℕ → Type 0
-IsSeenSince clauses old new place = (head : ℕ) (c : Clause) → head ≤ length old → slice_get clauses place ≡ Some c → IsSeen new head c.lits
+IsSeenSince clauses old new place =
+    (head : ℕ) (c : Clause) → head ≤ length old → slice_get clauses place ≡ Some c → IsSeen new head c.lits
 
 -- The later trail has further steps: it follows from the clauses, and was full before each decision, where the earlier
 -- one did and was; no variable lost its value, and what was settled is settled or hit by a further step.

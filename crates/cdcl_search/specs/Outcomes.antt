@@ -74,7 +74,8 @@ Shows budget es (Unknown added) = (adds_empty es ≡ false) × (addition_count e
 
 -- between these two moments the whole log of a search for the clauses was written, and it shows the outcome: what is
 -- said of the log's entries is said of this one list
-pub record IsLogged (before now : Option (List ℕ)) (clauses : List Clause) (budget : ℕ) (outcome : Outcome) : Type 0 where
+pub record IsLogged (before now : Option (List ℕ)) (clauses : List Clause) (budget : ℕ)
+    (outcome : Outcome) : Type 0 where
   pub entries : List Entry
   pub log : IsSearchLog clauses entries
   pub shows : Shows budget entries outcome

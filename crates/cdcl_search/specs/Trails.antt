@@ -65,7 +65,8 @@ HasReason clauses before l (Some place) = IsForcedBy clauses before l place
 
 -- each step but a decision is forced by its clause
 unfoldable pub Follows : List Clause → List Step → Type 0
-Follows clauses steps = (i : ℕ) (s : Step) → slice_get steps i ≡ Some s → HasReason clauses (take i steps) s.lit s.reason
+Follows clauses steps =
+    (i : ℕ) (s : Step) → slice_get steps i ≡ Some s → HasReason clauses (take i steps) s.lit s.reason
 
 -- the clause at this place is false
 pub record IsFalseAt (clauses : List Clause) (steps : List Step) (place : ℕ) : Type 0 where

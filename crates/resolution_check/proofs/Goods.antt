@@ -141,4 +141,7 @@ deleted_now es End id h d = absurd (false≢true d)
 
 pub given_from_deleted : (es : List Entry) → IsGood es → Deletes es
 given_from_deleted = by_steps KeepsGood Deletes (λ id h. h) (λ es e kept earlier id h.
-    given-kept es e id (elim (or_cases _ _ (sym (any-push (deletes id) es e) ∙ h)) [ inl before ↦ earlier id before | inr now ↦ deleted_now es e id kept.1 now ]))
+    given-kept es e id (elim (or_cases _ _ (sym (any-push (deletes id) es e) ∙ h)) [
+      | inl before ↦ earlier id before
+      | inr now ↦ deleted_now es e id kept.1 now
+    ]))

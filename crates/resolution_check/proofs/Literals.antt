@@ -37,7 +37,13 @@ alike p k l h = ap p (same_lit k l h)
 
 pub same_sym : (k l : Lit) → is_same k l ≡ is_same l k
 same_sym k l =
-    elim (cases_Bool (is_same k l)) [ inl sure ↦ sure ∙ sym (ap (λ m. is_same l m) (same_lit k l sure) ∙ same_refl l) | inr unlike ↦ elim (cases_Bool (is_same l k)) [ inl back ↦ absurd (false≢true (sym unlike ∙ (ap (λ m. is_same k m) (same_lit l k back) ∙ same_refl k))) | inr not_back ↦ unlike ∙ sym not_back ] ]
+    elim (cases_Bool (is_same k l)) [
+      | inl sure ↦ sure ∙ sym (ap (λ m. is_same l m) (same_lit k l sure) ∙ same_refl l)
+      | inr unlike ↦ elim (cases_Bool (is_same l k)) [
+        | inl back ↦ absurd (false≢true (sym unlike ∙ (ap (λ m. is_same k m) (same_lit l k back) ∙ same_refl k)))
+        | inr not_back ↦ unlike ∙ sym not_back
+      ]
+    ]
 
 -- the other sign of the other sign
 pub opposite_twice : (l : Lit) → opposite (opposite l) ≡ l
@@ -50,12 +56,21 @@ pub has-filter : (p : Lit → Bool) (xs : List Lit) (l : Lit) → has (filter p 
 has-filter p [] l = elim (p l) as (λ b. false ≡ (b && false)) [ true ↦ refl | false ↦ refl ]
 has-filter p (x ∷ xs) l =
     cond_both (p x) (x ∷ filter p xs) (filter p xs) (λ ys. has ys l ≡ (p l && (is_same l x || has xs l)))
-    (λ is_p. elim (cases_Bool (is_same l x)) [ inl here ↦ rw here (sym (and-one (p l) (alike p l x here ∙ is_p))) | inr other ↦ rw other (has-filter p xs l) ])
-    (λ not_p. elim (cases_Bool (is_same l x)) [ inl here ↦ (has-filter p xs l ∙ and_left _ _ (alike p l x here ∙ not_p)) ∙ sym (and_left _ _ (alike p l x here ∙ not_p)) | inr other ↦ rw other (has-filter p xs l) ])
+    (λ is_p. elim (cases_Bool (is_same l x)) [
+      | inl here ↦ rw here (sym (and-one (p l) (alike p l x here ∙ is_p)))
+      | inr other ↦ rw other (has-filter p xs l)
+    ])
+    (λ not_p. elim (cases_Bool (is_same l x)) [
+      | inl here ↦ (has-filter p xs l ∙ and_left _ _ (alike p l x here ∙ not_p)) ∙ sym (and_left _ _ (alike p l x here ∙ not_p))
+      | inr other ↦ rw other (has-filter p xs l)
+    ])
 
 pub is_same-opposite : (k l : Lit) → is_same k (opposite l) ≡ is_same (opposite k) l
 is_same-opposite k l =
-    ap (λ b. (nat_eq k.var l.var) && b) (elim k.negated as (λ a. beq a (not l.negated) ≡ beq (not a) l.negated) [ true ↦ elim l.negated as (λ b. beq true (not b) ≡ beq false b) [ true ↦ refl | false ↦ refl ] | false ↦ elim l.negated as (λ b. beq false (not b) ≡ beq true b) [ true ↦ refl | false ↦ refl ] ])
+    ap (λ b. (nat_eq k.var l.var) && b) (elim k.negated as (λ a. beq a (not l.negated) ≡ beq (not a) l.negated) [
+      | true ↦ elim l.negated as (λ b. beq true (not b) ≡ beq false b) [ true ↦ refl | false ↦ refl ]
+      | false ↦ elim l.negated as (λ b. beq false (not b) ≡ beq true b) [ true ↦ refl | false ↦ refl ]
+    ])
 
 pub has-opposites : (d : List Lit) (l : Lit) → has (map opposite d) l ≡ has d (opposite l)
 has-opposites [] l = refl
@@ -94,7 +109,10 @@ the_one-Some (x ∷ xs) p h =
           record {
             there = or_left _ _ (ap (λ l. is_same p l) first ∙ same_refl p);
             only = λ l m. ap (λ k. is_same k l) (sym first)
-                ∙ elim (or_cases _ _ m) [ inl here ↦ same_sym x l ∙ here | inr later ↦ all_at (is_same x) xs sure l later ];
+                ∙ elim (or_cases _ _ m) [
+                  | inl here ↦ same_sym x l ∙ here
+                  | inr later ↦ all_at (is_same x) xs sure l later
+                ];
           }
       | inr unlike ↦ absurd (cc)
     ]

@@ -33,8 +33,14 @@ true_without : (v : ℕ → Bool) (l : Lit) (c : List Lit) → lit_value v l ≡
 true_without v l [] f h = h
 true_without v l (x ∷ c) f h =
     cond_both (not (is_same l x)) (x ∷ without c l) (without c l) (λ d. clause_value v d ≡ true)
-    (λ other. elim (or_cases (lit_value v x) (clause_value v c) h) [ inl here ↦ or_left (lit_value v x) (clause_value v (without c l)) here | inr later ↦ or_right (lit_value v x) (clause_value v (without c l)) (true_without v l c f later) ])
-    (λ same. elim (or_cases (lit_value v x) (clause_value v c) h) [ inl here ↦ absurd (false≢true (sym f ∙ alike (lit_value v) l x (not-false _ same) ∙ here)) | inr later ↦ true_without v l c f later ])
+    (λ other. elim (or_cases (lit_value v x) (clause_value v c) h) [
+      | inl here ↦ or_left (lit_value v x) (clause_value v (without c l)) here
+      | inr later ↦ or_right (lit_value v x) (clause_value v (without c l)) (true_without v l c f later)
+    ])
+    (λ same. elim (or_cases (lit_value v x) (clause_value v c) h) [
+      | inl here ↦ absurd (false≢true (sym f ∙ alike (lit_value v) l x (not-false _ same) ∙ here))
+      | inr later ↦ true_without v l c f later
+    ])
 
 resolvent_true : (v : ℕ → Bool) (c d s : List Lit) → clause_value v c ≡ true → clause_value v d ≡ true
     → resolvent c d ≡ Some s → clause_value v s ≡ true
@@ -61,7 +67,10 @@ true_from_inside : (v : ℕ → Bool) (r c : List Lit) → is_inside r c ≡ tru
 true_from_inside v [] c h t = absurd (false≢true t)
 true_from_inside v (l ∷ r) c h t =
     let both =
-    and_parts _ _ h in elim (or_cases _ _ t) [ inl here ↦ true_from_has v c l both.0 here | inr later ↦ true_from_inside v r c both.1 later ]
+    and_parts _ _ h in elim (or_cases _ _ t) [
+      | inl here ↦ true_from_has v c l both.0 here
+      | inr later ↦ true_from_inside v r c both.1 later
+    ]
 
 -- ---- lists of entries
 

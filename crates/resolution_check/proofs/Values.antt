@@ -97,7 +97,10 @@ not_both ls l h g = not-itself l.negated (one_value (value_of ls l.var) l.negate
 pub any_from : (p : Lit → Bool) (c : List Lit) (l : Lit) → has c l ≡ true → p l ≡ true → list_any p c ≡ true
 any_from p [] l h t = h
 any_from p (k ∷ c) l h t =
-    elim (or_cases _ _ h) [ inl here ↦ or_left _ _ (sym (alike p l k here) ∙ t) | inr later ↦ or_right (p k) _ (any_from p c l later t) ]
+    elim (or_cases _ _ h) [
+      | inl here ↦ or_left _ _ (sym (alike p l k here) ∙ t)
+      | inr later ↦ or_right (p k) _ (any_from p c l later t)
+    ]
 
 -- a literal of a clause whose variables are below the limit
 pub below_at : (limit : ℕ) (c : List Lit) (l : Lit) → is_below limit c ≡ true → has c l ≡ true → l.var < limit

@@ -26,16 +26,22 @@ returns-in_err-values-clause-cut g c =
 
 pub returns-in_default-clause-logged : goal.returns-in_default-clause-logged
 returns-in_default-clause-logged g c = λ before ins going.
-    logged_sat before (g.L.Sink.taken c.loop.log) ins c.loop.book.clauses c.loop.counter c.args.budget c.in_ok-values.values (omega arith) (c.loop.invariant.going before ins going)
+    logged_sat before
+    (g.L.Sink.taken c.loop.log) ins c.loop.book.clauses c.loop.counter c.args.budget c.in_ok-values.values
+    (omega arith) (c.loop.invariant.going before ins going)
 
 pub returns-in_default-clause-sat : goal.returns-in_default-clause-sat
 returns-in_default-clause-sat g c =
     let trail = c.find_conflict.new.trail in
     let clauses = c.loop.book.clauses in
     let vars : c.loop.book.vars ≡ trail.vars = c.loop.invariant.vars ∙ sym c.find_conflict.ensures.goes.vars in
-    let below : list_all (λ (k : Clause). is_below trail.vars k.lits) clauses ≡ true = ap (λ n. list_all (λ (k : Clause). is_below n k.lits) clauses) (sym vars) ∙ c.len-held.ensures.below in
-    let hold : all_hold trail.steps clauses ≡ true = all_hold_settled trail.steps trail.vars clauses (c.in_ok-conflict.ensures.total c.in_default.is) below (c.in_ok-conflict.ensures.settled c.in_default.is) in
-    c.loop.invariant.weaker (truth c.in_ok-values.values) (all_true trail.steps trail.vars c.in_ok-values.values clauses c.in_ok-values.ensures.values below hold)
+    let below : list_all (λ (k : Clause). is_below trail.vars k.lits) clauses ≡ true =
+    ap (λ n. list_all (λ (k : Clause). is_below n k.lits) clauses) (sym vars) ∙ c.len-held.ensures.below in
+    let hold : all_hold trail.steps clauses ≡ true =
+    all_hold_settled trail.steps trail.vars clauses (c.in_ok-conflict.ensures.total c.in_default.is) below
+    (c.in_ok-conflict.ensures.settled c.in_default.is) in
+    c.loop.invariant.weaker (truth c.in_ok-values.values)
+    (all_true trail.steps trail.vars c.in_ok-values.values clauses c.in_ok-values.ensures.values below hold)
 
 pub returns-in_err-take_lesson-clause-cut : goal.returns-in_err-take_lesson-clause-cut
 returns-in_err-take_lesson-clause-cut g c =
@@ -52,4 +58,5 @@ returns-then-branch-clause-logged g c = λ before ins going.
 
 pub returns-clause-logged : goal.returns-clause-logged
 returns-clause-logged g c = λ before ins going.
-    logged_unknown before (g.L.Sink.taken c.loop.log) ins c.loop.book.clauses c.loop.counter c.args.budget (omega arith) (c.loop.invariant.going before ins going)
+    logged_unknown before (g.L.Sink.taken c.loop.log) ins c.loop.book.clauses c.loop.counter c.args.budget
+    (omega arith) (c.loop.invariant.going before ins going)

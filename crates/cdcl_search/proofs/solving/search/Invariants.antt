@@ -9,7 +9,9 @@ use Rattle.cdcl_search.proofs.solving.search.Given as goal
 
 abbrev pub invariant-loop : goal.invariant-loop
 invariant-loop g l = record {
-  going : (before : Option (List ℕ)) (ins : List Clause) → IsGoing before (g.L.Sink.taken l.fn.log) ins l.fn.book.clauses 0 → IsGoing before (g.L.Sink.taken l.log) ins l.book.clauses l.counter;
+  going : (before : Option (List ℕ)) (ins : List Clause)
+      → IsGoing before (g.L.Sink.taken l.fn.log) ins l.fn.book.clauses 0
+      → IsGoing before (g.L.Sink.taken l.log) ins l.book.clauses l.counter;
   follows : Follows l.book.clauses l.trail.steps;
   full : AreFull l.book.clauses l.trail.steps;
   finds : Finds l.book;

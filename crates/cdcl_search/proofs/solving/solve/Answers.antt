@@ -18,23 +18,27 @@ use Rattle.cdcl_search.proofs.solving.solve.Goals as goal
 pub write_inputs-requires-clause-small : goal.write_inputs-requires-clause-small
 write_inputs-requires-clause-small g c =
     let cnf = c.args.cnf.now in
-    ap (list_all (λ (k : Clause). is_below _ k.lits)) c.as_slice.ensures ∙ small_inputs cnf.vars cnf.clauses c.requires.vars c.requires.proper.below
+    ap (list_all (λ (k : Clause). is_below _ k.lits)) c.as_slice.ensures
+    ∙ small_inputs cnf.vars cnf.clauses c.requires.vars c.requires.proper.below
 
 pub returns-in_err-write_inputs-clause-cut : goal.returns-in_err-write_inputs-clause-cut
 returns-in_err-write_inputs-clause-cut g c =
     let before = g.L.Sink.taken c.args.log.now in
     let now = g.L.Sink.taken c.write_inputs.new.log in
     let cnf = c.args.cnf.now in
-    let may = may_be_inputs cnf.vars c.args.budget cnf.clauses c.requires.vars c.requires.numbers c.requires.proper.below in
+    let may =
+    may_be_inputs cnf.vars c.args.budget cnf.clauses c.requires.vars c.requires.numbers c.requires.proper.below in
     let P : List Clause → Type 0 = λ cs. TakesPart before now (log_text (input_entries 1 cs)) in
-    on_err _ (cut_first before now cnf.clauses c.args.budget may (subst P c.as_slice.ensures c.write_inputs.ensures.part))
+    on_err _
+    (cut_first before now cnf.clauses c.args.budget may (subst P c.as_slice.ensures c.write_inputs.ensures.part))
 
 pub returns-in_err-book-clause-cut : goal.returns-in_err-book-clause-cut
 returns-in_err-book-clause-cut g c =
     let before = g.L.Sink.taken c.args.log.now in
     let now = g.L.Sink.taken c.write_inputs.new.log in
     let cnf = c.args.cnf.now in
-    let may = may_be_inputs cnf.vars c.args.budget cnf.clauses c.requires.vars c.requires.numbers c.requires.proper.below in
+    let may =
+    may_be_inputs cnf.vars c.args.budget cnf.clauses c.requires.vars c.requires.numbers c.requires.proper.below in
     let P : List Clause → Type 0 = λ ds. Takes before now (log_text (input_entries 1 ds)) in
     on_err _ (cut_first before now cnf.clauses c.args.budget may (part_of_all before now _ (subst P c.as_slice.ensures c.in_ok-write_inputs.ensures.takes)))
 
@@ -43,42 +47,54 @@ returns-in_err-trail-clause-cut g c =
     let before = g.L.Sink.taken c.args.log.now in
     let now = g.L.Sink.taken c.write_inputs.new.log in
     let cnf = c.args.cnf.now in
-    let may = may_be_inputs cnf.vars c.args.budget cnf.clauses c.requires.vars c.requires.numbers c.requires.proper.below in
+    let may =
+    may_be_inputs cnf.vars c.args.budget cnf.clauses c.requires.vars c.requires.numbers c.requires.proper.below in
     let P : List Clause → Type 0 = λ ds. Takes before now (log_text (input_entries 1 ds)) in
     on_err _ (cut_first before now cnf.clauses c.args.budget may (part_of_all before now _ (subst P c.as_slice.ensures c.in_ok-write_inputs.ensures.takes)))
 
 pub search-requires-clause-follows : goal.search-requires-clause-follows
-search-requires-clause-follows g c = subst (λ ss. Follows c.in_ok-book.book.clauses ss) (sym c.in_ok-trail.ensures.steps) (follows_none c.in_ok-book.book.clauses)
+search-requires-clause-follows g c =
+    subst (λ ss. Follows c.in_ok-book.book.clauses ss) (sym c.in_ok-trail.ensures.steps)
+    (follows_none c.in_ok-book.book.clauses)
 
 pub returns-clause-logged : goal.returns-clause-logged
 returns-clause-logged g c =
     let before = g.L.Sink.taken c.args.log.now in
     let middle = g.L.Sink.taken c.write_inputs.new.log in
     let cnf = c.args.cnf.now in
-    let may = may_be_inputs cnf.vars c.args.budget cnf.clauses c.requires.vars c.requires.numbers c.requires.proper.below in
+    let may =
+    may_be_inputs cnf.vars c.args.budget cnf.clauses c.requires.vars c.requires.numbers c.requires.proper.below in
     let P : List Clause → Type 0 = λ ds. Takes before middle (log_text (input_entries 1 ds)) in
     let same : c.in_ok-book.book.clauses ≡ cnf.clauses = c.in_ok-book.ensures.clauses ∙ c.as_slice-2.ensures in
     let going : IsGoing before middle cnf.clauses c.in_ok-book.book.clauses 0 =
-    subst (λ ds. IsGoing before middle cnf.clauses ds 0) (sym same) (going_first before middle cnf.clauses may (subst P c.as_slice.ensures c.in_ok-write_inputs.ensures.takes)) in
+    subst (λ ds. IsGoing before middle cnf.clauses ds 0) (sym same)
+    (going_first before middle cnf.clauses may (subst P c.as_slice.ensures c.in_ok-write_inputs.ensures.takes)) in
     ok_then c.search.result c.search.ensures.logged (λ o logs. logs before cnf.clauses going)
 
 pub returns-clause-unsat : goal.returns-clause-unsat
-returns-clause-unsat g c = unsat_shown _ _ c.args.cnf.now.clauses c.args.budget c.search.result (returns-clause-logged g c)
+returns-clause-unsat g c =
+    unsat_shown _ _ c.args.cnf.now.clauses c.args.budget c.search.result (returns-clause-logged g c)
 
 pub returns-clause-bound : goal.returns-clause-bound
-returns-clause-bound g c = unknown_within _ _ c.args.cnf.now.vars c.args.cnf.now.clauses c.args.budget c.search.result c.requires.proper.below (returns-clause-logged g c) c.search.ensures.unknown
+returns-clause-bound g c =
+    unknown_within _ _ c.args.cnf.now.vars c.args.cnf.now.clauses c.args.budget c.search.result c.requires.proper.below
+    (returns-clause-logged g c) c.search.ensures.unknown
 
 pub returns-clause-cut : goal.returns-clause-cut
 returns-clause-cut g c =
     let before = g.L.Sink.taken c.args.log.now in
     let middle = g.L.Sink.taken c.write_inputs.new.log in
     let cnf = c.args.cnf.now in
-    let may = may_be_inputs cnf.vars c.args.budget cnf.clauses c.requires.vars c.requires.numbers c.requires.proper.below in
+    let may =
+    may_be_inputs cnf.vars c.args.budget cnf.clauses c.requires.vars c.requires.numbers c.requires.proper.below in
     let P : List Clause → Type 0 = λ ds. Takes before middle (log_text (input_entries 1 ds)) in
     let same : c.in_ok-book.book.clauses ≡ cnf.clauses = c.in_ok-book.ensures.clauses ∙ c.as_slice-2.ensures in
     let going : IsGoing before middle cnf.clauses c.in_ok-book.book.clauses 0 =
-    subst (λ ds. IsGoing before middle cnf.clauses ds 0) (sym same) (going_first before middle cnf.clauses may (subst P c.as_slice.ensures c.in_ok-write_inputs.ensures.takes)) in
+    subst (λ ds. IsGoing before middle cnf.clauses ds 0) (sym same)
+    (going_first before middle cnf.clauses may (subst P c.as_slice.ensures c.in_ok-write_inputs.ensures.takes)) in
     err_then c.search.result c.search.ensures.cut (λ cuts. cuts before cnf.clauses going)
 
 pub search-requires-clause-full : goal.search-requires-clause-full
-search-requires-clause-full g c = subst (λ ss. AreFull c.in_ok-book.book.clauses ss) (sym c.in_ok-trail.ensures.steps) (full_none c.in_ok-book.book.clauses)
+search-requires-clause-full g c =
+    subst (λ ss. AreFull c.in_ok-book.book.clauses ss) (sym c.in_ok-trail.ensures.steps)
+    (full_none c.in_ok-book.book.clauses)

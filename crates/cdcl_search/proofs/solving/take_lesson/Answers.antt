@@ -40,7 +40,8 @@ returns-in_err-clause-clause-cut g c =
     let next = next_lesson old c.args.trail.now.vars steps lits chain number c.in_ok-lesson.ensures.lesson
     c.requires.filled c.requires.full c.steps_are_fresh.ensures (ap (λ n. n + 1) c.len.ensures.len)
     (omega arith) c.requires.room c.in_ok-lesson.ensures.below in
-    let cuts : Cuts middle now old = λ before ins added going. cut_more before middle ins old added going steps lits chain number next now c.write_lesson.ensures.part in
+    let cuts : Cuts middle now old =
+    λ before ins added going. cut_more before middle ins old added going steps lits chain number next now c.write_lesson.ensures.part in
     on_err _ cuts
 
 pub returns-then-has_none-clause-refuted : goal.returns-then-has_none-clause-refuted
@@ -55,7 +56,9 @@ returns-then-has_none-clause-refuted g c =
     let next = next_lesson old c.args.trail.now.vars steps lits chain number c.in_ok-lesson.ensures.lesson
     c.requires.filled c.requires.full c.steps_are_fresh.ensures (ap (λ n. n + 1) c.len.ensures.len)
     (omega arith) c.requires.room c.in_ok-lesson.ensures.below in
-    let none : is_empty lits ≡ true = ap is_empty (sym c.in_ok-clause.ensures.clause) ∙ ap is_empty (sym c.as_slice-2.ensures) ∙ sym c.has_none.ensures ∙ c.if-has_none.true in
+    let none : is_empty lits ≡ true =
+    ap is_empty (sym c.in_ok-clause.ensures.clause) ∙ ap is_empty (sym c.as_slice-2.ensures) ∙ sym c.has_none.ensures
+    ∙ c.if-has_none.true in
     λ done before ins added going. refuted_more before middle ins old added going steps lits chain number next now none c.in_ok-clause.ensures.takes
 
 pub returns-in_err-add-clause-cut : goal.returns-in_err-add-clause-cut
@@ -71,7 +74,8 @@ returns-in_err-add-clause-cut g c =
     c.requires.filled c.requires.full c.steps_are_fresh.ensures (ap (λ n. n + 1) c.len.ensures.len)
     (omega arith) c.requires.room c.in_ok-lesson.ensures.below in
     let cuts : Cuts middle now old = λ before ins added going.
-    cut_more before middle ins old added going steps lits chain number next now (part_of_all middle now _ c.in_ok-clause.ensures.takes) in
+    cut_more before middle ins old added going steps lits chain number next now
+    (part_of_all middle now _ c.in_ok-clause.ensures.takes) in
     on_err _ cuts
 
 pub returns-clause-next : goal.returns-clause-next
@@ -80,8 +84,10 @@ returns-clause-next g c =
     let steps = c.args.trail.now.steps in
     let clause = c.in_ok-clause.clause in
     let more : c.add.new.self.clauses ≡ old ++ clause ∷ [] = c.in_ok-add.ensures.ok in
-    let full : is_empty clause.lits ≡ false = ap is_empty (sym c.as_slice-2.ensures) ∙ sym c.has_none.ensures ∙ c.if-has_none.false in
-    let kept : Follows old c.cut.new.self.steps = subst (λ ss. Follows old ss) (sym c.cut.ensures.steps) (follows_cut old steps _ c.requires.follows) in
+    let full : is_empty clause.lits ≡ false =
+    ap is_empty (sym c.as_slice-2.ensures) ∙ sym c.has_none.ensures ∙ c.if-has_none.false in
+    let kept : Follows old c.cut.new.self.steps =
+    subst (λ ss. Follows old ss) (sym c.cut.ensures.steps) (follows_cut old steps _ c.requires.follows) in
     let next : IsCutBack old clause steps c.kept_steps-kept.result =
     cut_back old clause steps c.kept_steps-kept.result c.requires.full full
     (λ l h. c.in_ok-lesson.ensures.lesson.negated l (ap (λ ls. has ls l) (sym c.in_ok-clause.ensures.clause) ∙ h))
@@ -91,7 +97,8 @@ returns-clause-next g c =
       longer = ap length more ∙ length-append old (clause ∷ []);
       vars = c.add.ensures.vars;
       finds = c.in_ok-add.ensures.finds c.requires.finds;
-      filled = ap are_filled more ∙ all_push (λ (k : Clause). not (is_empty k.lits)) old clause c.requires.filled (ap not full);
+      filled = ap are_filled more
+          ∙ all_push (λ (k : Clause). not (is_empty k.lits)) old clause c.requires.filled (ap not full);
       trail_vars = c.cut.ensures.vars ∙ sym c.requires.vars ∙ sym c.add.ensures.vars;
       follows = subst (λ cs. Follows cs c.cut.new.self.steps) (sym more) (follows_more old clause c.cut.new.self.steps kept);
       full = subst (λ cs. AreFull cs c.cut.new.self.steps) (sym more) (subst (AreFull (old ++ clause ∷ [])) (sym c.cut.ensures.steps) next.full);
@@ -111,8 +118,11 @@ returns-clause-going g c =
     let next = next_lesson old c.args.trail.now.vars steps lits chain number c.in_ok-lesson.ensures.lesson
     c.requires.filled c.requires.full c.steps_are_fresh.ensures (ap (λ n. n + 1) c.len.ensures.len)
     (omega arith) c.requires.room c.in_ok-lesson.ensures.below in
-    let full : is_empty lits ≡ false = ap is_empty (sym c.in_ok-clause.ensures.clause) ∙ ap is_empty (sym c.as_slice-2.ensures) ∙ sym c.has_none.ensures ∙ c.if-has_none.false in
+    let full : is_empty lits ≡ false =
+    ap is_empty (sym c.in_ok-clause.ensures.clause) ∙ ap is_empty (sym c.as_slice-2.ensures) ∙ sym c.has_none.ensures
+    ∙ c.if-has_none.false in
     let named : List Lit → List Clause = λ ls. old ++ record { lits = ls } ∷ [] in
-    let more : c.add.new.self.clauses ≡ old ++ record { lits = lits } ∷ [] = c.in_ok-add.ensures.ok ∙ ap named c.in_ok-clause.ensures.clause in
+    let more : c.add.new.self.clauses ≡ old ++ record { lits = lits } ∷ [] =
+    c.in_ok-add.ensures.ok ∙ ap named c.in_ok-clause.ensures.clause in
     λ done before ins added going. subst (λ cs. IsGoing before now ins cs (added + 1)) (sym more)
     (going_more before middle ins old added going steps lits chain number next now full c.in_ok-clause.ensures.takes)

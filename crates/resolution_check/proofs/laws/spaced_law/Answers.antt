@@ -10,4 +10,7 @@ returns-clause-inputs c = λ es id h. (each_last MayFollow es (Delete id) h).no_
 
 pub returns-clause-runs : goal.returns-clause-runs
 returns-clause-runs c =
-    λ es id h first. elim (each_last MayFollow es (Delete id) h).apart [ inl deleting ↦ absurd (false≢true (sym first ∙ deleting)) | inr far ↦ far ]
+    λ es id h first. elim (each_last MayFollow es (Delete id) h).apart [
+      | inl deleting ↦ absurd (false≢true (sym first ∙ deleting))
+      | inr far ↦ far
+    ]
