@@ -14,6 +14,7 @@ use Rattle.resolution_check.proofs.Goods.{kept_from_free, free_from_kept, each_p
 
 -- ---- the checker's cause is the list's
 
+-- the checker's cause of refusal is the list's
 pub same_fault : (known : Known) (es : List Entry) (e : Entry) → HasRead known es → fault_in known e ≡ fault_of es e
 same_fault known es e h =
     let given : given_on known.shelf ≡ is_given es = λ i id. h.given id i in
@@ -77,6 +78,7 @@ held_push es (Delete own) id g s =
     takes_off (own == id) (is_deleted es id) (clause_given es id) ∙ sym (held_more es (Delete own) id)
 held_push es End id g s = or_none (is_deleted es id) (clause_given es id) ∙ sym (held_more es End id)
 
+-- one entry more counts as many additions as it is
 pub count-push : (es : List Entry) (e : Entry) → addition_count (es ++ e ∷ []) ≡ addition_count es + additions_in e
 count-push es e = grind (arith, common_steps)
 
@@ -96,17 +98,20 @@ reads_more old new es e h free a =
 
 -- ---- what step answers
 
+-- an entry that is accepted has been read
 pub stepped : {U : Type 0} (old new : Known) (e : Entry) (answer : Result U Bad) → IsJudged answer (fault_in old e)
     → OnOk answer (Advances old new e) → OnOk answer ((es : List Entry) → HasRead old es → HasRead new (es ++ e ∷ []))
 stepped old new e (Ok done) free a = λ es h. reads_more old new es e h free a
 stepped old new e (Err bad) fault a = a
 
+-- an entry is refused for the cause that the list gives, or for want of memory
 pub refused : {U : Type 0} (known : Known) (e : Entry) (answer : Result U Bad) → IsJudged answer (fault_in known e)
     → IfErr answer (λ bad. (bad ≡ Memory) ⊎ ((es : List Entry) → HasRead known es → fault_of es e ≡ Some bad))
 refused known e (Ok done) free = tt
 refused known e (Err bad) (inl memory) = inl memory
 refused known e (Err bad) (inr fault) = inr (λ es h. sym (same_fault known es e h) ∙ fault)
 
+-- an entry that keeps the list good is refused for want of memory alone
 pub only_memory : {U : Type 0} (known : Known) (es : List Entry) (e : Entry) (answer : Result U Bad)
     → HasRead known es → KeepsGood es e → IsJudged answer (fault_in known e) → IfErr answer (λ bad. bad ≡ Memory)
 only_memory known es e (Ok done) h kept free = tt

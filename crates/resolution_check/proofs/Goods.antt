@@ -40,6 +40,7 @@ sound_from es (Delete id) h = held (clause_held es id) h
     held None h = absurd (cc)
 sound_from es End h = tt
 
+-- without a cause of refusal the list stays good
 pub kept_from_free : (es : List Entry) (e : Entry) → fault_of es e ≡ None → KeepsGood es e
 kept_from_free es e h =
     let both =
@@ -56,6 +57,7 @@ free_from_sound es (Delete id) h = held (clause_held es id) h
     held None h = absurd (false≢true h)
 free_from_sound es End h = refl
 
+-- where the list stays good there is no cause of refusal
 pub free_from_kept : (es : List Entry) (e : Entry) → KeepsGood es e → fault_of es e ≡ None
 free_from_kept es e h = rw h.0 (free_from_sound es e h.1)
 
@@ -94,6 +96,7 @@ module _ (R : List Entry → Entry → Type 0) where
 
 -- ---- one entry more
 
+-- what is given after one entry more
 pub clause_given-push : (es : List Entry) (e : Entry) (id : ℕ)
     → clause_given (es ++ e ∷ []) id ≡ option_or (clause_given es id) (clause_by id e)
 clause_given-push [] e id = or_none (clause_by id e)
@@ -109,6 +112,7 @@ clause_given-push (d ∷ es) e id =
     or_assoc None b c = refl
     or_assoc (Some x) b c = refl
 
+-- one entry more in a test of which any entry is true
 pub any-push : (p : Entry → Bool) (es : List Entry) (e : Entry) → list_any p (es ++ e ∷ []) ≡ (list_any p es || p e)
 any-push p es e = list_any-append p es (e ∷ []) ∙ ap (λ b. list_any p es || b) (or-false (p e))
 
@@ -124,6 +128,7 @@ given-kept es e id h = ap is_some (clause_given-push es e id) ∙ some_or (claus
     some_or (Some x) b h = refl
     some_or None b h = absurd (false≢true h)
 
+-- a number that is held was given
 pub given_from_held : (es : List Entry) (id : ℕ) → IsSome (clause_held es id) → is_given es id ≡ true
 given_from_held es id h = from (is_deleted es id) (clause_given es id) h
   where
@@ -139,6 +144,7 @@ deleted_now es (Delete own) id h d =
     given_from_held es id (subst (λ n. IsSome (clause_held es n)) (eqb-true own id d) h)
 deleted_now es End id h d = absurd (false≢true d)
 
+-- a number that is deleted was given
 pub given_from_deleted : (es : List Entry) → IsGood es → Deletes es
 given_from_deleted = by_steps KeepsGood Deletes (λ id h. h) (λ es e kept earlier id h.
     given-kept es e id (elim (or_cases _ _ (sym (any-push (deletes id) es e) ∙ h)) [

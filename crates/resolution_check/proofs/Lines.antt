@@ -273,11 +273,13 @@ entry_from_line line e h same =
 
 -- ---- what reading answers
 
+-- an entry that is read is the one whose text the line is
 pub found_text : (line : List ℕ) (answer : Result Entry LineRefused)
     → ReadsAs (λ e. e) answer (entry_in (words_in line)) → IfOk answer (λ e. (line ≡ text_of e) × HasText e)
 found_text line (Ok e) h = line_from_entry line e h
 found_text line (Err refusal) h = tt
 
+-- an entry's text is read as that entry, or memory is refused
 pub read_exactly : (line : List ℕ) (answer : Result Entry LineRefused)
     → ReadsAs (λ e. e) answer (entry_in (words_in line)) → (e : Entry) → HasText e → line ≡ text_of e
     → (answer ≡ Ok e) ⊎ (answer ≡ Err Memory)

@@ -25,16 +25,18 @@ same_lit k l h =
     let both = and_parts _ _ h in
     λ i. record { var = eqb-true k.var l.var both.0 i; negated = beq-true k.negated l.negated both.1 i }
 
+-- a literal is the same as itself
 pub same_refl : (l : Lit) → is_same l l ≡ true
 same_refl l = rw (eq-eqb l.var l.var refl) (beq-refl l.negated)
 
--- a test answers alike at the same literal
 and-one : (b : Bool) → b ≡ true → (b && true) ≡ true
 and-one b h = rw h refl
 
+-- a test answers alike at the same literal
 pub alike : (p : Lit → Bool) (k l : Lit) → is_same k l ≡ true → p k ≡ p l
 alike p k l h = ap p (same_lit k l h)
 
+-- being the same goes both ways
 pub same_sym : (k l : Lit) → is_same k l ≡ is_same l k
 same_sym k l =
     elim (cases_Bool (is_same k l)) [
@@ -49,9 +51,11 @@ same_sym k l =
 pub opposite_twice : (l : Lit) → opposite (opposite l) ≡ l
 opposite_twice l = λ i. record { var = l.var; negated = not-not l.negated i }
 
+-- the literals of two clauses together
 pub has-append : (c d : List Lit) (l : Lit) → has (c ++ d) l ≡ (has c l || has d l)
 has-append c d l = list_any-append (is_same l) c d
 
+-- the literals of a clause that pass a test
 pub has-filter : (p : Lit → Bool) (xs : List Lit) (l : Lit) → has (filter p xs) l ≡ (p l && has xs l)
 has-filter p [] l = elim (p l) as (λ b. false ≡ (b && false)) [ true ↦ refl | false ↦ refl ]
 has-filter p (x ∷ xs) l =
@@ -65,6 +69,7 @@ has-filter p (x ∷ xs) l =
       | inr other ↦ rw other (has-filter p xs l)
     ])
 
+-- the other sign may stand on either side
 pub is_same-opposite : (k l : Lit) → is_same k (opposite l) ≡ is_same (opposite k) l
 is_same-opposite k l =
     ap (λ b. (nat_eq k.var l.var) && b) (elim k.negated as (λ a. beq a (not l.negated) ≡ beq (not a) l.negated) [
@@ -72,6 +77,7 @@ is_same-opposite k l =
       | false ↦ elim l.negated as (λ b. beq false (not b) ≡ beq true b) [ true ↦ refl | false ↦ refl ]
     ])
 
+-- the negations of a clause
 pub has-opposites : (d : List Lit) (l : Lit) → has (map opposite d) l ≡ has d (opposite l)
 has-opposites [] l = refl
 has-opposites (x ∷ d) l = ap₂ (λ a b. a || b) (is_same-opposite l x) (has-opposites d l)
@@ -83,6 +89,7 @@ all_at q (x ∷ xs) h l m =
     let both = and_parts _ _ h in
     elim (or_cases _ _ m) [ inl here ↦ alike q l x here ∙ both.0 | inr later ↦ all_at q xs both.1 l later ]
 
+-- a test that each literal of a clause passes
 pub all_from : (q : Lit → Bool) (xs : List Lit) → ((l : Lit) → has xs l ≡ true → q l ≡ true) → list_all q xs ≡ true
 all_from q [] h = refl
 all_from q (x ∷ xs) h = and_from _ _ (h x (or_left _ _ (same_refl x))) (all_from q xs (λ l m. h l (or_right _ _ m)))
@@ -92,6 +99,7 @@ pub record IsOne (xs : List Lit) (p : Lit) : Type 0 where
   pub there : has xs p ≡ true
   pub only : (l : Lit) → has xs l ≡ true → is_same p l ≡ true
 
+-- the one literal of a list
 pub the_one-at : (xs : List Lit) (p : Lit) → IsOne xs p → the_one xs ≡ Some p
 the_one-at [] p h = absurd (false≢true h.there)
 the_one-at (x ∷ xs) p h =
@@ -100,6 +108,7 @@ the_one-at (x ∷ xs) p h =
     all_from (is_same x) xs (λ l m. ap (λ k. is_same k l) (sym first) ∙ h.only l (or_right _ _ m)) in
     rw others (ap (λ l. Some l) (sym first))
 
+-- a list that has one literal has it alone
 pub the_one-Some : (xs : List Lit) (p : Lit) → the_one xs ≡ Some p → IsOne xs p
 the_one-Some [] p h = absurd (cc)
 the_one-Some (x ∷ xs) p h =

@@ -39,6 +39,7 @@ no_feed line h = λ k d below.
 
 -- ---- the lines of a log are its entries' texts
 
+-- the lines of a log are its entries' texts
 pub lines-log_text : (es : List Entry) → AllByRecursion HasText es
     → slice_split is_line_feed (log_text es) ≡ map text_of es ++ [] ∷ []
 lines-log_text [] h = refl

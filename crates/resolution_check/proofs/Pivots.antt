@@ -17,6 +17,7 @@ use Rattle.resolution_check.proofs.Literals.{IsOne, the_one-at, the_one-Some, th
 abbrev pub met : Marks → List Lit → List Lit
 met m d = filter (marked m) (map opposite d)
 
+-- the negations that are met
 pub has-met : (m : Marks) (d : List Lit) (l : Lit) → has (met m d) l ≡ (marked m l && has d (opposite l))
 has-met m d l = has-filter (marked m) (map opposite d) l ∙ ap (λ b. marked m l && b) (has-opposites d l)
 
@@ -84,6 +85,7 @@ none_marked m p n l =
     let here = list_any (is_at (nat_cmp l.var)) in
     cond_both l.negated (here m.negative.keys) (here m.positive.keys) (λ b. b ≡ false) (λ _. ap here n) (λ _. ap here p)
 
+-- where no literal is marked no variable is
 pub no_variables : (m : Marks) → ((l : Lit) → marked m l ≡ false) → (m.positive.keys ≡ []) × (m.negative.keys ≡ [])
 no_variables m h =
     (no_number m.positive.keys (λ v. h (record { var = v; negated = false })), no_number m.negative.keys (λ v. h (record { var = v; negated = true })))

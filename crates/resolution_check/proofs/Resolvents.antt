@@ -6,6 +6,7 @@ use Rattle.resolution_check.specs.declared.log.Lit.{Lit}
 use Rattle.resolution_check.specs.Clauses.{opposite, is_same, has, is_inside, clashing, the_one, without, resolvent, IsPivot, IsSameSet}
 use Rattle.resolution_check.proofs.Literals.{the_one-at, the_one-Some, has-filter, has-append, same_lit, same_refl, all_from}
 
+-- two clauses with a pivot have a resolvent
 pub resolvent-pivot : (c d : List Lit) (p : Lit) → IsPivot c d p
     → resolvent c d ≡ Some (without c p ++ without d (opposite p))
 resolvent-pivot c d p h =
@@ -19,6 +20,7 @@ resolvent-pivot c d p h =
     }) in
     ap (option_map (λ l. without c l ++ without d (opposite l))) one
 
+-- a resolvent has a pivot
 pub pivot_from : (c d s : List Lit) → resolvent c d ≡ Some s
     → (p : Lit) × IsPivot c d p × (s ≡ without c p ++ without d (opposite p))
 pivot_from c d s h = by_one (the_one (clashing c d)) refl h
@@ -49,12 +51,14 @@ has-resolved c d p l =
     has-append (without c p) (without d (opposite p)) l
     ∙ ap₂ (λ a b. a || b) (has-filter (λ k. not (is_same p k)) c l) (has-filter (λ k. not (is_same (opposite p) k)) d l)
 
+-- a resolvent has a pivot, and these literals
 pub has-resolvent : (c d s : List Lit) → resolvent c d ≡ Some s
     → (p : Lit) × IsPivot c d p
     × ((l : Lit) → has s l ≡ ((not (is_same p l) && has c l) || (not (is_same (opposite p) l) && has d l)))
 has-resolvent c d s h =
     let found = pivot_from c d s h in (found.0, found.1, λ l. ap (λ t. has t l) found.2 ∙ has-resolved c d found.0 l)
 
+-- equal sets have equal resolvents
 pub same_resolvent : (a b c d s : List Lit) → IsSameSet a c → IsSameSet b d → resolvent a b ≡ Some s
     → (t : List Lit) × (resolvent c d ≡ Some t) × IsSameSet s t
 same_resolvent a b c d s p q h =

@@ -18,6 +18,7 @@ use Rattle.resolution_check.specs.Words.{is_space, words_in, number_in, lit_with
 
 -- ---- words
 
+-- a text without a space is one word
 pub cut_none : (text : List ℕ) → position is_space text ≡ None → words_in text ≡ text ∷ []
 cut_none text h =
     slice_split_none is_space text (λ k d below. fails_before_first is_space text k d (far (nat_lt (position_or_len is_space text) (length text)) refl h k below))
@@ -28,6 +29,7 @@ cut_none text h =
     far true e h k below = absurd (cc)
     far false e h k below = let past : length text ≤ position_or_len is_space text = ltb-false _ _ e in omega arith
 
+-- the first space ends the first word
 pub cut_here : (text : List ℕ) (at : ℕ) → position is_space text ≡ Some at
     → words_in text ≡ take at text ∷ words_in (drop (at + 1) text)
 cut_here text at h = here (nat_lt (position_or_len is_space text) (length text)) refl h
@@ -40,6 +42,7 @@ cut_here text at h = here (nat_lt (position_or_len is_space text) (length text))
         slice_split_first is_space text 0 (ltb-true _ _ e) ∙ ap (λ n. take n text ∷ words_in (drop (n + 1) text)) same
     here false e h = absurd (cc)
 
+-- a place that is found is inside the text
 pub at_below : (text : List ℕ) (at : ℕ) → position is_space text ≡ Some at → at < length text
 at_below text at h = here (nat_lt (position_or_len is_space text) (length text)) refl h
   where
@@ -79,12 +82,14 @@ words_in-join word (next ∷ words) h =
 
 -- ---- numbers
 
+-- one digit more fits
 pub small_value : (v i n : ℕ) → v + 1 ≤ 10 ^ i → i < n → n ≤ 19 → v * 10 + 10 < 2 ^ 64
 small_value v i n h below few =
     let far : i ≤ 18 = omega arith in
     let most : 10 ^ i ≤ 10 ^ 18 = pow-le-pow_right {n = 10} (lit< tt) {i = i} {j = 18} far in
     omega arith
 
+-- numerals by the crate's own test and value
 pub own : IsNumeralModel (λ ds. list_all is_digit ds ≡ true) value_of
 own =
     numerals_by_fold (λ ds. list_all is_digit ds ≡ true) (search rules) (λ n ds. fold (λ m b. 10 * m + (b - 48)) n ds)
@@ -94,6 +99,7 @@ own =
 bounded : List ℕ → Bool
 bounded word = not (slice_index word 0 == 48) && nat_le (value_of word) (2 ^ 63)
 
+-- a word that reads as a number writes it
 pub number_in-Some : (word : List ℕ) (n : ℕ) → number_in word ≡ Some n → (word ≡ decimal n) × IsNumber n
 unfolding bounded
 number_in-Some word n h =
@@ -112,6 +118,7 @@ number_in-Some word n h =
     positive : (m : ℕ) → (m ≡ 0 → ⊥) → 0 < m
     positive m h = omega arith
 
+-- a number is read from its numeral
 pub number_in-decimal : (n : ℕ) → IsNumber n → number_in (decimal n) ≡ Some n
 unfolding bounded
 number_in-decimal n h =
@@ -142,6 +149,7 @@ starts n h (b ∷ word) e =
     let no_minus : (b == 45) ≡ false = ne_eqb b 45 (omega arith) in
     ap (λ t. cond t (option_map (lit_with true) (number_in word)) (option_map (lit_with false) (number_in (b ∷ word)))) no_minus
 
+-- a literal is read from its text
 pub lit_in-text : (l : Lit) → IsSmall l → lit_in (lit_text l) ≡ Some l
 lit_in-text l h = by_sign l.negated refl
   where
@@ -172,6 +180,7 @@ lit_from negated word l h = by_number (number_in word) refl h
         let next : n ≡ l.var + 1 = omega arith in
         (sym (ap (λ (m : Lit). m.negated) same), read.0 ∙ ap decimal next, omega arith)
 
+-- a word that reads as a literal writes it
 pub lit_in-Some : (word : List ℕ) (l : Lit) → lit_in word ≡ Some l → (word ≡ lit_text l) × IsSmall l
 lit_in-Some [] l h = absurd (cc)
 lit_in-Some (b ∷ word) l h = by_sign (b == 45) refl h

@@ -10,6 +10,7 @@ use Rattle.resolution_check.proofs.Literals.{alike, same_lit}
 
 -- ---- longer trails
 
+-- a variable has the first value that it is given
 pub value_of-append : (ls ms : List Lit) (v : ℕ) → value_of (ls ++ ms) v ≡ option_or (value_of ls v) (value_of ms v)
 value_of-append [] ms v = refl
 value_of-append (l ∷ ls) ms v =

@@ -27,6 +27,7 @@ regroup_more : (old a b xs z ys : List ℕ)
     → (((((old ++ a) ++ b) ++ xs) ++ z) ++ ys) ++ z ≡ old ++ (a ++ (b ++ ((xs ++ z) ++ (ys ++ z))))
 regroup_more old a b xs z ys = simp append_assoc
 
+-- an input's words behind each other are its text
 pub input_written : (old : List ℕ) (id : ℕ) (clause : Clause)
     → (((old ++ codes "i") ++ after_space (decimal id)) ++ flat_map after_space (map lit_text clause.lits)) ++ after_space zero_text ≡ old ++ text_of (Input id clause)
 input_written old id clause =
@@ -37,6 +38,7 @@ input_written old id clause =
     regroup old (codes "i") (after_space (decimal id)) (flat_map after_space lits) (after_space zero_text)
     ∙ ap (λ t. old ++ t) (sym text)
 
+-- an addition's words behind each other are its text
 pub addition_written : (old : List ℕ) (id : ℕ) (clause : Clause) (chain : List ℕ) →
     (((((old ++ codes "a") ++ after_space (decimal id)) ++ flat_map after_space (map lit_text clause.lits)) ++ after_space zero_text) ++ flat_map after_space (map decimal chain)) ++ after_space zero_text
     ≡ old ++ text_of (Add id clause chain)
