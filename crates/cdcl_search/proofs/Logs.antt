@@ -203,7 +203,7 @@ small_inputs vars cs few below =
     all_more (λ (k : Clause). is_below vars k.lits) (λ (k : Clause). is_below _ k.lits) cs
     (λ k. below_larger vars _ k.lits few) below
 
-pub may_be_inputs : (vars budget : ℕ) (cs : List Clause) → vars ≤ 2 ^ 63 → length cs + budget ≤ 2 ^ 63
+may_be_inputs : (vars budget : ℕ) (cs : List Clause) → vars ≤ 2 ^ 63 → length cs + budget ≤ 2 ^ 63
     → list_all (λ c. is_below vars c.lits) cs ≡ true → MayBeInputs 0 cs
 may_be_inputs vars budget cs few numbers below = record { small = small_inputs vars cs few below; few = omega arith }
 
@@ -274,7 +274,7 @@ inputs_log cs may =
     }
 
 -- the inputs are written
-pub going_first : (before now : Option (List ℕ)) (cs : List Clause) → MayBeInputs 0 cs
+going_first : (before now : Option (List ℕ)) (cs : List Clause) → MayBeInputs 0 cs
     → Takes before now (log_text (input_entries 1 cs)) → IsGoing before now cs cs 0
 going_first before now cs may takes =
     let h = inputs_held cs may in
@@ -289,15 +289,27 @@ going_first before now cs may takes =
       not_empty = inputs_empty 1 cs;
     }
 
+-- the clauses of a formula are written as inputs, and held
+pub going_start : (before now : Option (List ℕ)) (vars budget : ℕ) (cs written clauses : List Clause)
+    → vars ≤ 2 ^ 63 → length cs + budget ≤ 2 ^ 63 → list_all (λ c. is_below vars c.lits) cs ≡ true
+    → written ≡ cs → clauses ≡ cs → Takes before now (log_text (input_entries 1 written)) → IsGoing before now cs clauses 0
+going_start before now vars budget cs written clauses few numbers below same held takes =
+    let P : List Clause → Type 0 = λ ds. Takes before now (log_text (input_entries 1 ds)) in
+    let may = may_be_inputs vars budget cs few numbers below in
+    subst (λ ds. IsGoing before now cs ds 0) (sym held) (going_first before now cs may (subst P same takes))
+
 -- a front of the inputs is written
-pub cut_first : (before now : Option (List ℕ)) (cs : List Clause) (budget : ℕ) → MayBeInputs 0 cs
-    → TakesPart before now (log_text (input_entries 1 cs)) → IsCut before now cs budget
-cut_first before now cs budget may part = record {
-  entries = input_entries 1 cs;
-  log = inputs_log cs may;
-  within = omega (arith, inputs_count 1 cs);
-  text = part;
-}
+pub cut_first : (before now : Option (List ℕ)) (vars budget : ℕ) (cs written : List Clause)
+    → vars ≤ 2 ^ 63 → length cs + budget ≤ 2 ^ 63 → list_all (λ c. is_below vars c.lits) cs ≡ true
+    → written ≡ cs → TakesPart before now (log_text (input_entries 1 written)) → IsCut before now cs budget
+cut_first before now vars budget cs written few numbers below same part =
+    let P : List Clause → Type 0 = λ ds. TakesPart before now (log_text (input_entries 1 ds)) in
+    record {
+      entries = input_entries 1 cs;
+      log = inputs_log cs (may_be_inputs vars budget cs few numbers below);
+      within = omega (arith, inputs_count 1 cs);
+      text = subst P same part;
+    }
 
 -- a log that is cut may have more additions
 pub cut_within : (before now : Option (List ℕ)) (cs : List Clause) (few many : ℕ) → few ≤ many

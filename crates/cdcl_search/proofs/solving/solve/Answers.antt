@@ -8,7 +8,7 @@ use Rattle.mw_outside.specs.Taken.{Takes, TakesPart, part_of_all}
 use Rattle.cdcl_search.specs.Outcomes.{input_entries}
 use Rattle.cdcl_search.specs.Going.{IsGoing}
 use Rattle.cdcl_search.proofs.Trails.{follows_none}
-use Rattle.cdcl_search.proofs.Logs.{small_inputs, may_be_inputs, going_first, cut_first, unsat_shown}
+use Rattle.cdcl_search.proofs.Logs.{small_inputs, going_start, cut_first, unsat_shown}
 use Rattle.cdcl_search.proofs.Bound.{unknown_within}
 use Rattle.cdcl_search.proofs.Results.{on_err, err_then, ok_then}
 use Rattle.cdcl_search.proofs.Levels.{full_none}
@@ -23,34 +23,21 @@ write_inputs-requires-clause-small g c =
 
 pub returns-in_err-write_inputs-clause-cut : goal.returns-in_err-write_inputs-clause-cut
 returns-in_err-write_inputs-clause-cut g c =
-    let before = g.L.Sink.taken c.args.log.now in
-    let now = g.L.Sink.taken c.write_inputs.new.log in
     let cnf = c.args.cnf.now in
-    let may =
-    may_be_inputs cnf.vars c.args.budget cnf.clauses c.requires.vars c.requires.numbers c.requires.proper.below in
-    let P : List Clause → Type 0 = λ cs. TakesPart before now (log_text (input_entries 1 cs)) in
-    on_err _
-    (cut_first before now cnf.clauses c.args.budget may (subst P c.as_slice.ensures c.write_inputs.ensures.part))
+    on_err _ (cut_first _ _ cnf.vars c.args.budget cnf.clauses _ c.requires.vars c.requires.numbers c.requires.proper.below
+    c.as_slice.ensures c.write_inputs.ensures.part)
 
 pub returns-in_err-book-clause-cut : goal.returns-in_err-book-clause-cut
 returns-in_err-book-clause-cut g c =
-    let before = g.L.Sink.taken c.args.log.now in
-    let now = g.L.Sink.taken c.write_inputs.new.log in
     let cnf = c.args.cnf.now in
-    let may =
-    may_be_inputs cnf.vars c.args.budget cnf.clauses c.requires.vars c.requires.numbers c.requires.proper.below in
-    let P : List Clause → Type 0 = λ ds. Takes before now (log_text (input_entries 1 ds)) in
-    on_err _ (cut_first before now cnf.clauses c.args.budget may (part_of_all before now _ (subst P c.as_slice.ensures c.in_ok-write_inputs.ensures.takes)))
+    on_err _ (cut_first _ _ cnf.vars c.args.budget cnf.clauses _ c.requires.vars c.requires.numbers c.requires.proper.below
+    c.as_slice.ensures (part_of_all _ _ _ c.in_ok-write_inputs.ensures.takes))
 
 pub returns-in_err-trail-clause-cut : goal.returns-in_err-trail-clause-cut
 returns-in_err-trail-clause-cut g c =
-    let before = g.L.Sink.taken c.args.log.now in
-    let now = g.L.Sink.taken c.write_inputs.new.log in
     let cnf = c.args.cnf.now in
-    let may =
-    may_be_inputs cnf.vars c.args.budget cnf.clauses c.requires.vars c.requires.numbers c.requires.proper.below in
-    let P : List Clause → Type 0 = λ ds. Takes before now (log_text (input_entries 1 ds)) in
-    on_err _ (cut_first before now cnf.clauses c.args.budget may (part_of_all before now _ (subst P c.as_slice.ensures c.in_ok-write_inputs.ensures.takes)))
+    on_err _ (cut_first _ _ cnf.vars c.args.budget cnf.clauses _ c.requires.vars c.requires.numbers c.requires.proper.below
+    c.as_slice.ensures (part_of_all _ _ _ c.in_ok-write_inputs.ensures.takes))
 
 pub search-requires-clause-follows : goal.search-requires-clause-follows
 search-requires-clause-follows g c =
@@ -62,13 +49,9 @@ returns-clause-logged g c =
     let before = g.L.Sink.taken c.args.log.now in
     let middle = g.L.Sink.taken c.write_inputs.new.log in
     let cnf = c.args.cnf.now in
-    let may =
-    may_be_inputs cnf.vars c.args.budget cnf.clauses c.requires.vars c.requires.numbers c.requires.proper.below in
-    let P : List Clause → Type 0 = λ ds. Takes before middle (log_text (input_entries 1 ds)) in
-    let same : c.in_ok-book.book.clauses ≡ cnf.clauses = c.in_ok-book.ensures.clauses ∙ c.as_slice-2.ensures in
     let going : IsGoing before middle cnf.clauses c.in_ok-book.book.clauses 0 =
-    subst (λ ds. IsGoing before middle cnf.clauses ds 0) (sym same)
-    (going_first before middle cnf.clauses may (subst P c.as_slice.ensures c.in_ok-write_inputs.ensures.takes)) in
+    going_start before middle cnf.vars c.args.budget cnf.clauses _ _ c.requires.vars c.requires.numbers c.requires.proper.below
+    c.as_slice.ensures (c.in_ok-book.ensures.clauses ∙ c.as_slice-2.ensures) c.in_ok-write_inputs.ensures.takes in
     ok_then c.search.result c.search.ensures.logged (λ o logs. logs before cnf.clauses going)
 
 pub returns-clause-unsat : goal.returns-clause-unsat
@@ -85,13 +68,9 @@ returns-clause-cut g c =
     let before = g.L.Sink.taken c.args.log.now in
     let middle = g.L.Sink.taken c.write_inputs.new.log in
     let cnf = c.args.cnf.now in
-    let may =
-    may_be_inputs cnf.vars c.args.budget cnf.clauses c.requires.vars c.requires.numbers c.requires.proper.below in
-    let P : List Clause → Type 0 = λ ds. Takes before middle (log_text (input_entries 1 ds)) in
-    let same : c.in_ok-book.book.clauses ≡ cnf.clauses = c.in_ok-book.ensures.clauses ∙ c.as_slice-2.ensures in
     let going : IsGoing before middle cnf.clauses c.in_ok-book.book.clauses 0 =
-    subst (λ ds. IsGoing before middle cnf.clauses ds 0) (sym same)
-    (going_first before middle cnf.clauses may (subst P c.as_slice.ensures c.in_ok-write_inputs.ensures.takes)) in
+    going_start before middle cnf.vars c.args.budget cnf.clauses _ _ c.requires.vars c.requires.numbers c.requires.proper.below
+    c.as_slice.ensures (c.in_ok-book.ensures.clauses ∙ c.as_slice-2.ensures) c.in_ok-write_inputs.ensures.takes in
     err_then c.search.result c.search.ensures.cut (λ cuts. cuts before cnf.clauses going)
 
 pub search-requires-clause-full : goal.search-requires-clause-full
