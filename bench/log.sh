@@ -1,6 +1,7 @@
 #!/bin/sh
-# Times the checker on logs of additions with chains of ten, of which some stay held: on entries, and on
-# lines of text. Proves and builds the program bench/log/main.rt.in in a temporary folder, and prints for each
+# Times the checker on logs of additions with chains of ten, of which some stay held: on entries, and on lines of text;
+# and on additions with chains of two after one of a wide clause. Proves and builds the program bench/log/main.rt.in in
+# a temporary folder, and prints for each
 # run the additions, how many are held at most, the seconds, and the peak of memory. Needs rt and GNU time.
 set -e
 top=$(cd "$(dirname "$0")/.." && pwd)
@@ -18,7 +19,7 @@ mkdir "$work/crates/bench_log/src"
 cp "$top/bench/log/main.rt.in" "$work/crates/bench_log/src/main.rt"
 echo '0 additions accepted' > "$work/crates/bench_log/stdout"
 cp "$top/HANDLES" "$work/"
-printf 'mw_text: bstr\nresolution_check: mw_text\nbench_log: mw_text resolution_check\n' > "$work/crates.txt"
+printf 'mw_text: bstr\nresolution_check: mw_text thiserror\nbench_log: mw_text resolution_check\n' > "$work/crates.txt"
 cd "$work"
 rt all check > "$work/check.txt" 2>&1 || { tail -20 "$work/check.txt"; exit 1; }
 for crate in mw_text resolution_check; do (cd "crates/$crate" && rt lib > /dev/null); done
@@ -29,6 +30,14 @@ for count in 1000000 10000000; do
         printf '%s additions, %s held: ' "$count" "$held"
         /usr/bin/time -f '%e s, %M KiB' ./out/bench_log "$count" "$held" > /dev/null
     done
+done
+for width in 10 20000 200000; do
+    printf '100000 additions of two steps after a clause of %s literals: ' "$width"
+    /usr/bin/time -f '%e s, %M KiB' ./out/bench_log 100000 1000 "$width" > /dev/null
+done
+for width in 60000 200000; do
+    printf 'one addition of %s literals whose variables are far apart: ' "$width"
+    /usr/bin/time -f '%e s, %M KiB' ./out/bench_log 1 1000 "$width" > /dev/null
 done
 # the same entries as text
 lines() {

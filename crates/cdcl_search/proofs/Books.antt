@@ -11,28 +11,36 @@ use Rattle.std.proofs.Math.Seq.{take-append_seam}
 use Rattle.mw_text.proofs.Lists.{each_place-push}
 use Rattle.resolution_check.specs.declared.log.Lit.{Lit}
 use Rattle.resolution_check.specs.declared.log.Clause.{Clause}
-use Rattle.resolution_check.specs.Clauses.{has, is_same}
+use Rattle.resolution_check.specs.Clauses.{has, is_same, is_below}
 use Rattle.cdcl_search.proofs.Places.{all_at, all_set, all_push, all_more}
-use Rattle.cdcl_search.specs.Books.{Shelf, is_below, are_places, IsIndexed, listed, has_place, Finds}
+use Rattle.cdcl_search.specs.Books.{Shelf, are_places, IsIndexed, listed, has_place, Finds}
 
 eqb_sym : (m n : ℕ) → (m == n) ≡ (n == m)
 eqb_sym m n = elim (cases_Bool (m == n)) [
   | inl h ↦ h ∙ sym (eq-eqb n m (sym (eqb-true m n h)))
-  | inr h ↦ elim (cases_Bool (n == m)) [ inl g ↦ absurd (false≢true (sym h ∙ eq-eqb m n (sym (eqb-true n m g)))) | inr g ↦ h ∙ sym g ]
+  | inr h ↦ elim (cases_Bool (n == m)) [
+    | inl g ↦ absurd (false≢true (sym h ∙ eq-eqb m n (sym (eqb-true n m g))))
+    | inr g ↦ h ∙ sym g
+  ]
 ]
 
 -- one list has one place more
-pub places-put : (lists : List (List ℕ)) (var place count : ℕ) (old new : List ℕ) → var < length lists → old ≡ get_or lists var old → new ≡ old ++ place ∷ []
+pub places-put : (lists : List (List ℕ)) (var place count : ℕ) (old new : List ℕ) → var < length lists
+    → old ≡ get_or lists var old → new ≡ old ++ place ∷ []
     → place < count → list_all (are_places count) lists ≡ true → list_all (are_places count) (set lists var new) ≡ true
 places-put lists var place count old new within there e below all =
-    let known : are_places count old ≡ true = all_at (are_places count) lists var old all (slice_get_read lists (length lists) var old refl within there) in
-    let one : are_places count (old ++ place ∷ []) ≡ true = all_push (λ k. nat_lt k count) old place known (lt-ltb place count below) in
+    let known : are_places count old ≡ true =
+    all_at (are_places count) lists var old all (slice_get_read lists (length lists) var old refl within there) in
+    let one : are_places count (old ++ place ∷ []) ≡ true =
+    all_push (λ k. nat_lt k count) old place known (lt-ltb place count below) in
     all_set (are_places count) lists var new all (ap (are_places count) e ∙ one)
 
 -- places of fewer clauses are places of more
-pub places-more : (count more : ℕ) (lists : List (List ℕ)) → count < more → list_all (are_places count) lists ≡ true → list_all (are_places more) lists ≡ true
+pub places-more : (count more : ℕ) (lists : List (List ℕ)) → count < more → list_all (are_places count) lists ≡ true
+    → list_all (are_places more) lists ≡ true
 places-more count more lists h =
-    all_more (are_places count) (are_places more) lists (λ places. all_more (λ k. nat_lt k count) (λ k. nat_lt k more) places
+    all_more (are_places count) (are_places more) lists
+    (λ places. all_more (λ k. nat_lt k count) (λ k. nat_lt k more) places
     (λ k below. let known : k < count = ltb-true k count below in lt-ltb k more (omega arith)))
 
 -- what is read back of a list after its items were written in place
@@ -40,8 +48,10 @@ pub written : {X : Type 0} (len : ℕ) (new old : List X) → length new ≡ len
 written len new old h = ap (λ n. take n (new ++ old)) (sym h) ∙ take-append_seam new old
 
 -- one clause more
-pub indexed_put : (clauses more : List Clause) (clause : Clause) (pos neg pos' neg' y n : List (List ℕ)) → more ≡ clauses ++ clause ∷ [] → y ≡ pos' → n ≡ neg'
-    → length pos' ≡ length pos → length neg' ≡ length neg → is_below (length pos) clause.lits ≡ true → IsIndexed clauses pos neg
+pub indexed_put : (clauses more : List Clause) (clause : Clause) (pos neg pos' neg' y n : List (List ℕ))
+    → more ≡ clauses ++ clause ∷ [] → y ≡ pos' → n ≡ neg'
+    → length pos' ≡ length pos → length neg' ≡ length neg → is_below (length pos) clause.lits
+    ≡ true → IsIndexed clauses pos neg
     → ((count : ℕ) → length clauses < count → list_all (are_places count) pos ≡ true → list_all (are_places count) pos' ≡ true)
     → ((count : ℕ) → length clauses < count → list_all (are_places count) neg ≡ true → list_all (are_places count) neg' ≡ true)
     → IsIndexed more y n
@@ -49,12 +59,15 @@ indexed_put clauses more clause pos neg pos' neg' y n e f g long_yes long_no bel
     let longer : length more ≡ length clauses + 1 = ap length e ∙ length-append clauses (clause ∷ []) in
     let step : length clauses < length more = omega arith in
     let vars : length y ≡ length pos = ap length f ∙ long_yes in
-    let all : list_all (λ c. is_below (length pos) c.lits) (clauses ++ clause ∷ []) ≡ true = all_push (λ (c : Clause). is_below (length pos) c.lits) clauses clause sound.below below in
+    let all : list_all (λ c. is_below (length pos) c.lits) (clauses ++ clause ∷ []) ≡ true =
+    all_push (λ (c : Clause). is_below (length pos) c.lits) clauses clause sound.below below in
     record {
       even = ap length g ∙ long_no ∙ sound.even ∙ sym vars;
       below = ap₂ (λ v cs. list_all (λ (c : Clause). is_below v c.lits) cs) vars e ∙ all;
-      yes_places = ap (list_all (are_places (length more))) f ∙ put_yes (length more) step (places-more (length clauses) (length more) pos step sound.yes_places);
-      no_places = ap (list_all (are_places (length more))) g ∙ put_no (length more) step (places-more (length clauses) (length more) neg step sound.no_places);
+      yes_places = ap (list_all (are_places (length more))) f
+          ∙ put_yes (length more) step (places-more (length clauses) (length more) pos step sound.yes_places);
+      no_places = ap (list_all (are_places (length more))) g
+          ∙ put_no (length more) step (places-more (length clauses) (length more) neg step sound.no_places);
     }
 
 -- ---- which places are listed
@@ -63,17 +76,25 @@ any-push : {X : Type 0} (p : X → Bool) (xs : List X) (x : X) → list_any p (x
 any-push p xs x = list_any-append p xs (x ∷ []) ∙ ap (λ b. list_any p xs || b) (or-false (p x))
 
 -- a place put last in one list
-pub listed-put : (lists : List (List ℕ)) (var place : ℕ) (old new : List ℕ) → var < length lists → old ≡ get_or lists var old → new ≡ old ++ place ∷ []
-    → (v k : ℕ) → has_place (get_or (set lists var new) v []) k ≡ (has_place (get_or lists v []) k || ((var == v) && (place == k)))
+pub listed-put : (lists : List (List ℕ)) (var place : ℕ) (old new : List ℕ) → var < length lists
+    → old ≡ get_or lists var old → new ≡ old ++ place ∷ []
+    → (v k : ℕ) → has_place (get_or (set lists var new) v []) k
+    ≡ (has_place (get_or lists v []) k || ((var == v) && (place == k)))
 listed-put lists var place old new within there e v k = elim (cases_Bool (var == v)) [
   | inl here ↦
       let same : var ≡ v = eqb-true var v here in
-      let now : get_or (set lists var new) v [] ≡ old ++ place ∷ [] = ap (λ i. get_or (set lists var new) i []) (sym same) ∙ get_or-set_same lists var new [] within ∙ e in
-      let before : get_or lists v [] ≡ old = ap (λ i. get_or lists i []) (sym same) ∙ get_or_from_slice_get lists var old [] (slice_get_read lists (length lists) var old refl within there) in
-      ap (λ ps. has_place ps k) now ∙ any-push (λ j. j == k) old place ∙ ap₂ (λ ps b. has_place ps k || (b && (place == k))) (sym before) (sym here)
+      let now : get_or (set lists var new) v [] ≡ old ++ place ∷ [] =
+      ap (λ i. get_or (set lists var new) i []) (sym same) ∙ get_or-set_same lists var new [] within ∙ e in
+      let before : get_or lists v [] ≡ old =
+      ap (λ i. get_or lists i []) (sym same)
+      ∙ get_or_from_slice_get lists var old [] (slice_get_read lists (length lists) var old refl within there) in
+      ap (λ ps. has_place ps k) now ∙ any-push (λ j. j == k) old place
+      ∙ ap₂ (λ ps b. has_place ps k || (b && (place == k))) (sym before) (sym here)
   | inr other ↦
       let ne : v ≢ var = λ h. false≢true (sym other ∙ eq-eqb var v (sym h)) in
-      ap (λ ps. has_place ps k) (get_or-set_other lists var v new [] ne) ∙ sym (or-false (has_place (get_or lists v []) k)) ∙ ap (λ b. has_place (get_or lists v []) k || (b && (place == k))) (sym other)
+      ap (λ ps. has_place ps k) (get_or-set_other lists var v new [] ne)
+      ∙ sym (or-false (has_place (get_or lists v []) k))
+      ∙ ap (λ b. has_place (get_or lists v []) k || (b && (place == k))) (sym other)
 ]
 
 -- a place put last in the list of a literal
@@ -82,18 +103,30 @@ pub listed-positive : (pos pos' neg : List (List ℕ)) (lit l : Lit) (place k : 
     → has_place (listed pos' neg l) k ≡ (has_place (listed pos neg l) k || (is_same l lit && (place == k)))
 listed-positive pos pos' neg lit l place k e put = by l.negated refl
   where
-    by : (n : Bool) → l.negated ≡ n → has_place (get_or (cond n neg pos') l.var []) k ≡ (has_place (get_or (cond n neg pos) l.var []) k || (((l.var == lit.var) && beq n lit.negated) && (place == k)))
-    by true h = sym (or-false (has_place (get_or neg l.var []) k)) ∙ ap (λ b. has_place (get_or neg l.var []) k || (b && (place == k))) (sym (and-false (l.var == lit.var)) ∙ ap (λ b. (l.var == lit.var) && beq true b) (sym e))
-    by false h = put l.var k ∙ ap (λ b. has_place (get_or pos l.var []) k || (b && (place == k))) (eqb_sym lit.var l.var ∙ sym (and-true (l.var == lit.var)) ∙ ap (λ b. (l.var == lit.var) && beq false b) (sym e))
+    by : (n : Bool) → l.negated ≡ n
+        → has_place (get_or (cond n neg pos') l.var []) k ≡ (has_place (get_or (cond n neg pos) l.var []) k || (((l.var == lit.var) && beq n lit.negated) && (place == k)))
+    by true h =
+        sym (or-false (has_place (get_or neg l.var []) k))
+        ∙ ap (λ b. has_place (get_or neg l.var []) k || (b && (place == k)))
+        (sym (and-false (l.var == lit.var)) ∙ ap (λ b. (l.var == lit.var) && beq true b) (sym e))
+    by false h =
+        put l.var k
+        ∙ ap (λ b. has_place (get_or pos l.var []) k || (b && (place == k))) (eqb_sym lit.var l.var ∙ sym (and-true (l.var == lit.var)) ∙ ap (λ b. (l.var == lit.var) && beq false b) (sym e))
 
 pub listed-negative : (pos neg neg' : List (List ℕ)) (lit l : Lit) (place k : ℕ) → lit.negated ≡ true
     → ((v j : ℕ) → has_place (get_or neg' v []) j ≡ (has_place (get_or neg v []) j || ((lit.var == v) && (place == j))))
     → has_place (listed pos neg' l) k ≡ (has_place (listed pos neg l) k || (is_same l lit && (place == k)))
 listed-negative pos neg neg' lit l place k e put = by l.negated refl
   where
-    by : (n : Bool) → l.negated ≡ n → has_place (get_or (cond n neg' pos) l.var []) k ≡ (has_place (get_or (cond n neg pos) l.var []) k || (((l.var == lit.var) && beq n lit.negated) && (place == k)))
-    by false h = sym (or-false (has_place (get_or pos l.var []) k)) ∙ ap (λ b. has_place (get_or pos l.var []) k || (b && (place == k))) (sym (and-false (l.var == lit.var)) ∙ ap (λ b. (l.var == lit.var) && beq false b) (sym e))
-    by true h = put l.var k ∙ ap (λ b. has_place (get_or neg l.var []) k || (b && (place == k))) (eqb_sym lit.var l.var ∙ sym (and-true (l.var == lit.var)) ∙ ap (λ b. (l.var == lit.var) && beq true b) (sym e))
+    by : (n : Bool) → l.negated ≡ n
+        → has_place (get_or (cond n neg' pos) l.var []) k ≡ (has_place (get_or (cond n neg pos) l.var []) k || (((l.var == lit.var) && beq n lit.negated) && (place == k)))
+    by false h =
+        sym (or-false (has_place (get_or pos l.var []) k))
+        ∙ ap (λ b. has_place (get_or pos l.var []) k || (b && (place == k)))
+        (sym (and-false (l.var == lit.var)) ∙ ap (λ b. (l.var == lit.var) && beq false b) (sym e))
+    by true h =
+        put l.var k
+        ∙ ap (λ b. has_place (get_or neg l.var []) k || (b && (place == k))) (eqb_sym lit.var l.var ∙ sym (and-true (l.var == lit.var)) ∙ ap (λ b. (l.var == lit.var) && beq true b) (sym e))
 
 -- one literal more
 pub listed-more : (a b c d e : Bool) → a ≡ (b || (d && e)) → b ≡ (c || false) → a ≡ (c || (d && e))
@@ -112,4 +145,5 @@ finds-put old new clause e put finds place c l there h =
 
 pub finds-none : (shelf : Shelf) → shelf.clauses ≡ [] → Finds shelf
 unfolding Finds
-finds-none shelf e place c l there h = let none : None ≡ Some c = ap (λ cs. slice_get cs place) (sym e) ∙ there in absurd (cc)
+finds-none shelf e place c l there h =
+    let none : None ≡ Some c = ap (λ cs. slice_get cs place) (sym e) ∙ there in absurd (cc)

@@ -1,10 +1,10 @@
 -- How many additions a log has.
 use Rattle.std.proofs.Common.{◌≡◌, ◌⊎◌, ℕ, suc, ◌+◌, ◌*◌, ◌^◌, ◌<◌, ◌≤◌, ◌||◌, ◌&&◌, ◌==◌, Bool, true, false, not, cond, List, [], ◌∷◌, ◌++◌, length, Option, Some, None, is_some, Result, Ok, Err, IfOk, inl, inr, refl, sym, ap, ap₂, subst, ◌∙◌, add-zero, zero-mul, arith, nat_lt}
-use Rattle.std.specs.Option.{option_or, option_map_or, ok_or}
+use Rattle.std.specs.Option.{option_or}
 use Rattle.std.specs.List.{list_any, list_all, IsDistinct, AllByRecursion}
 use Rattle.std.proofs.Math.Dec.{eqb}
 use Rattle.std.proofs.Math.Nat.{le_of_mul-le-mul_left, mul-le-mul_right}
-use Rattle.std.proofs.lemmas.Bool.{and_parts, cases_Bool, false_from_ne_true, false≢true, or_cases, eqb-true, eq-eqb}
+use Rattle.std.proofs.lemmas.Bool.{and_parts, cases_Bool, false_from_ne_true, false≢true, or_cases, eqb-true, eq-eqb, or_parts}
 use Rattle.std.proofs.lemmas.List.Elements.{filter_map-append}
 use Rattle.std.proofs.lemmas.List.Folds.{list_all-append}
 use Rattle.std.proofs.lemmas.Map.Keys.{IsDistinct-cons}
@@ -13,15 +13,14 @@ use Rattle.resolution_check.specs.declared.log.Lit.{Lit}
 use Rattle.resolution_check.specs.declared.log.Clause.{Clause}
 use Rattle.resolution_check.specs.declared.log.Entry.{Entry}
 use Rattle.resolution_check.specs.declared.log.Entry.TheVariants.{Input, Add, Delete, End}
-use Rattle.resolution_check.specs.declared.log.Bad.TheVariants.{UnknownId, NoPivot}
-use Rattle.resolution_check.specs.Clauses.{has, is_same, opposite, resolvent}
-use Rattle.resolution_check.specs.Entries.{clause_by, deletes, clause_given, is_given, is_deleted, clause_held, addition_count, additions_in, inputs, input_of, resolved, resolved_from, and_then, KeepsGood, EachAfter, IsGood}
+use Rattle.resolution_check.specs.Clauses.{has, is_same, opposite, resolvent, is_below}
+use Rattle.resolution_check.specs.Entries.{clause_by, deletes, clause_given, is_given, is_deleted, clause_held, addition_count, additions_in, inputs, input_of, resolved, KeepsGood, EachAfter, IsGood}
 use Rattle.resolution_check.specs.Earned.{vars_differ, is_deletion, ends_deleting, run_count, IsEarned, IsEarnedAddition, MayDelete, MayFollow}
 use Rattle.resolution_check.proofs.Accepted.{count-push}
+use Rattle.resolution_check.proofs.Chains.{resolved_has}
 use Rattle.resolution_check.proofs.Goods.{by_steps, each_push, clause_given-push, any-push, given_from_deleted}
 use Rattle.resolution_check.proofs.Literals.{all_at, all_from}
 use Rattle.resolution_check.proofs.Resolvents.{has-resolvent}
-use Rattle.cdcl_search.specs.Books.{is_below}
 use Rattle.cdcl_search.specs.declared.outcome.Outcome.{Outcome}
 use Rattle.cdcl_search.specs.declared.outcome.Outcome.TheVariants.{Unsat, Sat, Unknown}
 use Rattle.cdcl_search.specs.Outcomes.{IsSearchLog, IsLogged, OnUnknown}
@@ -31,11 +30,8 @@ use Rattle.cdcl_search.proofs.Logs.{inputs_of}
 abbrev are_below : ℕ → List Clause → Bool
 are_below limit cs = list_all (λ c. is_below limit c.lits) cs
 
-neither : (a b : Bool) → (a || b) ≡ false → (a ≡ false) × (b ≡ false)
-neither true b h = absurd (false≢true (sym h))
-neither false b h = (refl, h)
-
-own_below : (limit own : ℕ) (clause : Clause) → is_below limit clause.lits ≡ true → (id : ℕ) (c : Clause) → cond (own == id) (Some clause) None ≡ Some c → is_below limit c.lits ≡ true
+own_below : (limit own : ℕ) (clause : Clause) → is_below limit clause.lits ≡ true → (id : ℕ) (c : Clause)
+    → cond (own == id) (Some clause) None ≡ Some c → is_below limit c.lits ≡ true
 own_below limit own clause small id c there = by (own == id) there
   where
     by : (b : Bool) → cond b (Some clause) None ≡ Some c → is_below limit c.lits ≡ true
@@ -44,7 +40,8 @@ own_below limit own clause small id c there = by (own == id) there
 
 -- ---- a chain names no new variable
 
-both_below : (limit : ℕ) (c d s : List Lit) → resolvent c d ≡ Some s → is_below limit c ≡ true → is_below limit d ≡ true → is_below limit s ≡ true
+both_below : (limit : ℕ) (c d s : List Lit) → resolvent c d ≡ Some s → is_below limit c ≡ true
+    → is_below limit d ≡ true → is_below limit s ≡ true
 both_below limit c d s e first second =
     let found = has-resolvent c d s e in
     all_from (λ k. nat_lt k.var limit) s (λ l h. elim (either (not (is_same found.0 l)) (has c l) (not (is_same (opposite found.0) l)) (has d l) (sym (found.2 l) ∙ h)) [
@@ -53,37 +50,25 @@ both_below limit c d s e first second =
     ])
   where
     either : (a b x y : Bool) → ((a && b) || (x && y)) ≡ true → (b ≡ true) ⊎ (y ≡ true)
-    either a b x y h = elim (or_cases (a && b) (x && y) h) [ inl one ↦ inl (and_parts a b one).1 | inr other ↦ inr (and_parts x y other).1 ]
+    either a b x y h =
+        elim (or_cases (a && b) (x && y) h) [
+          | inl one ↦ inl (and_parts a b one).1
+          | inr other ↦ inr (and_parts x y other).1
+        ]
 
-module _ (limit : ℕ) (held : ℕ → Option Clause) (below : (id : ℕ) (c : Clause) → held id ≡ Some c → is_below limit c.lits ≡ true) where
-  -- the rest of the chain keeps to the limit
-  abbrev Goes : ℕ → List ℕ → List Lit → Type 0
-  Goes at ids s = (t : List Lit) → is_below limit t ≡ true → resolved_from held t at ids ≡ Ok s → is_below limit s ≡ true
-
-  from_below : (r : List Lit) (at : ℕ) (ids : List ℕ) (s : List Lit) → is_below limit r ≡ true → resolved_from held r at ids ≡ Ok s → is_below limit s ≡ true
-  from_below r at [] s small e = let same : r ≡ s = cc in ap (is_below limit) (sym same) ∙ small
-  from_below r at (id ∷ ids) s small e = by (λ t small' rest. from_below t (at + 1) ids s small' rest) (held id) refl e
-    where
-      next : Goes (at + 1) ids s → (c : Clause) → held id ≡ Some c → (o : Option (List Lit)) → resolvent r c.lits ≡ o → and_then (ok_or o (NoPivot at)) (λ t. resolved_from held t (at + 1) ids) ≡ Ok s → is_below limit s ≡ true
-      next go c there None is h = absurd (cc)
-      next go c there (Some t) is h = go t (both_below limit r c.lits t is small (below id c there)) h
-
-      by : Goes (at + 1) ids s → (o : Option Clause) → held id ≡ o → and_then (option_map_or (λ c. ok_or (resolvent r c.lits) (NoPivot at)) o (Err (UnknownId id))) (λ t. resolved_from held t (at + 1) ids) ≡ Ok s → is_below limit s ≡ true
-      by go None there h = absurd (cc)
-      by go (Some c) there h = next go c there (resolvent r c.lits) refl h
-
-  -- the last resolvent has variables below the limit only
-  resolved_below : (chain : List ℕ) (s : List Lit) → resolved held chain ≡ Ok s → is_below limit s ≡ true
-  resolved_below [] s e = absurd (cc)
-  resolved_below (id ∷ ids) s e = by (held id) refl e
-    where
-      by : (o : Option Clause) → held id ≡ o → option_map_or (λ c. resolved_from held c.lits 1 ids) o (Err (UnknownId id)) ≡ Ok s → is_below limit s ≡ true
-      by None there h = absurd (cc)
-      by (Some c) there h = from_below c.lits 1 ids s (below id c there) h
+-- the last resolvent has variables below the limit only
+resolved_below : (limit : ℕ) (held : ℕ → Option Clause)
+    → ((id : ℕ) (c : Clause) → held id ≡ Some c → is_below limit c.lits ≡ true)
+    → (chain : List ℕ) (s : List Lit) → resolved held chain ≡ Ok s → is_below limit s ≡ true
+resolved_below limit held below =
+    resolved_has (λ c. is_below limit c ≡ true)
+    (λ c d s first second e. both_below limit c d s e first second) held below
 
 -- ---- one entry more: runs of deletions
 
-runs-push : (deleting : Bool) (es : List Entry) (e : Entry) → run_count deleting (es ++ e ∷ []) ≡ run_count deleting es + cond (is_deletion e && not (ends_deleting deleting es)) 1 0
+runs-push : (deleting : Bool) (es : List Entry) (e : Entry)
+    → run_count deleting (es ++ e ∷ [])
+    ≡ run_count deleting es + cond (is_deletion e && not (ends_deleting deleting es)) 1 0
 runs-push deleting [] e = omega arith
 runs-push deleting (d ∷ es) e = let rest = runs-push (is_deletion d) es e in omega arith
 
@@ -108,7 +93,9 @@ given_of_held es id c there = by (is_deleted es id) (clause_given es id) there
     by true o h = absurd (cc)
     by false o h = h
 
-held_both : (es : List Entry) (e : Entry) (id : ℕ) → clause_held (es ++ e ∷ []) id ≡ cond (is_deleted es id || deletes id e) None (option_or (clause_given es id) (clause_by id e))
+held_both : (es : List Entry) (e : Entry) (id : ℕ)
+    → clause_held (es ++ e ∷ []) id
+    ≡ cond (is_deleted es id || deletes id e) None (option_or (clause_given es id) (clause_by id e))
 held_both es e id = ap₂ (λ b o. cond b None o) (any-push (deletes id) es e) (clause_given-push es e id)
 
 deletes_none : (e : Entry) (id : ℕ) → is_deletion e ≡ false → deletes id e ≡ false
@@ -117,18 +104,27 @@ deletes_none (Add own c chain) id h = refl
 deletes_none (Delete own) id h = absurd (false≢true (sym h))
 deletes_none End id h = refl
 
-held_still : (es : List Entry) (e : Entry) (id : ℕ) (c : Clause) → is_deletion e ≡ false → clause_held es id ≡ Some c → clause_held (es ++ e ∷ []) id ≡ Some c
-held_still es e id c keeps there = held_both es e id ∙ by (is_deleted es id) (deletes id e) (clause_given es id) (clause_by id e) (deletes_none e id keeps) there
+held_still : (es : List Entry) (e : Entry) (id : ℕ) (c : Clause) → is_deletion e ≡ false → clause_held es id ≡ Some c
+    → clause_held (es ++ e ∷ []) id ≡ Some c
+held_still es e id c keeps there =
+    held_both es e id
+    ∙ by (is_deleted es id) (deletes id e) (clause_given es id) (clause_by id e) (deletes_none e id keeps) there
   where
-    by : (b d : Bool) (o n : Option Clause) → d ≡ false → cond b None o ≡ Some c → cond (b || d) None (option_or o n) ≡ Some c
+    by : (b d : Bool) (o n : Option Clause) → d ≡ false → cond b None o ≡ Some c
+        → cond (b || d) None (option_or o n) ≡ Some c
     by true d o n none h = absurd (cc)
     by false d None n none h = absurd (cc)
     by false d (Some k) n none h = ap (λ b. cond b None (Some k)) none ∙ h
 
-held_now : (es : List Entry) (id : ℕ) (clause : Clause) (chain : List ℕ) → IsGood es → is_given es id ≡ false → clause_held (es ++ Add id clause chain ∷ []) id ≡ Some clause
-held_now es id clause chain good new = held_both es (Add id clause chain) id ∙ by (is_deleted es id) (clause_given es id) (false_from_ne_true (is_deleted es id) (λ d. false≢true (sym new ∙ given_from_deleted es good id d))) new
+held_now : (es : List Entry) (id : ℕ) (clause : Clause) (chain : List ℕ) → IsGood es → is_given es id ≡ false
+    → clause_held (es ++ Add id clause chain ∷ []) id ≡ Some clause
+held_now es id clause chain good new =
+    held_both es (Add id clause chain) id
+    ∙ by (is_deleted es id) (clause_given es id)
+    (false_from_ne_true (is_deleted es id) (λ d. false≢true (sym new ∙ given_from_deleted es good id d))) new
   where
-    by : (b : Bool) (o : Option Clause) → b ≡ false → is_some o ≡ false → cond (b || false) None (option_or o (cond (id == id) (Some clause) None)) ≡ Some clause
+    by : (b : Bool) (o : Option Clause) → b ≡ false → is_some o ≡ false
+        → cond (b || false) None (option_or o (cond (id == id) (Some clause) None)) ≡ Some clause
     by true o kept h = absurd (false≢true (sym kept))
     by false None kept h = ap (λ b. cond b (Some clause) None) (eq-eqb id id refl)
     by false (Some c) kept h = absurd (false≢true (sym h))
@@ -136,15 +132,19 @@ held_now es id clause chain good new = held_both es (Add id clause chain) id ∙
 -- ---- powers
 
 -- a new run after as many additions as a run owes
-spread : (runs power count added : ℕ) → added ≤ runs * power + count → count ≤ power → 1000 * (runs + 1) * (runs + 2) ≤ added → runs + 2 ≤ power
+spread : (runs power count added : ℕ) → added ≤ runs * power + count → count ≤ power
+    → 1000 * (runs + 1) * (runs + 2) ≤ added → runs + 2 ≤ power
 spread runs power count added few small owed =
     let product : (runs + 1) * (1000 * (runs + 2)) ≤ (runs + 1) * power = omega arith in
     let far = le_of_mul-le-mul_left {m = 1000 * (runs + 2)} {n = power} {k = runs + 1} product (omega arith) in
     omega arith
 
-most : (runs power count added : ℕ) → added ≤ runs * power + count → count ≤ power → (runs ≡ 0) ⊎ (runs + 1 ≤ power) → added ≤ power * (power + 1)
-most runs power count added few small (inl none) = let nothing : runs * power ≡ 0 = ap (λ n. n * power) none ∙ zero-mul power in omega arith
-most runs power count added few small (inr apart) = let product = mul-le-mul_right {m = runs + 1} {n = power} power apart in omega arith
+most : (runs power count added : ℕ) → added ≤ runs * power + count → count ≤ power → (runs ≡ 0) ⊎ (runs + 1 ≤ power)
+    → added ≤ power * (power + 1)
+most runs power count added few small (inl none) =
+    let nothing : runs * power ≡ 0 = ap (λ n. n * power) none ∙ zero-mul power in omega arith
+most runs power count added few small (inr apart) =
+    let product = mul-le-mul_right {m = runs + 1} {n = power} power apart in omega arith
 
 -- ---- the codes of the additions
 
@@ -170,50 +170,62 @@ record IsCoded (limit : ℕ) (es : List Entry) : Type 0 where
 
 none_same : (x : ℕ) (xs : List ℕ) → list_any (eqb x) xs ≡ false → AllByRecursion (λ y. eqb x y ≡ false) xs
 none_same x [] h = tt
-none_same x (y ∷ xs) h = let both = neither (eqb x y) (list_any (eqb x) xs) h in (both.0, none_same x xs both.1)
+none_same x (y ∷ xs) h = let both = or_parts (eqb x y) (list_any (eqb x) xs) h in (both.0, none_same x xs both.1)
 
 -- what an entry owes in such a log
 abbrev Owes : List Entry → Entry → Type 0
 Owes es e = KeepsGood es e × IsEarned es e × MayFollow es e
 
-owes_each : (before es : List Entry) → EachAfter KeepsGood before es → EachAfter IsEarned before es → EachAfter MayFollow before es → EachAfter Owes before es
+owes_each : (before es : List Entry) → EachAfter KeepsGood before es → EachAfter IsEarned before es
+    → EachAfter MayFollow before es → EachAfter Owes before es
 owes_each before [] good earned spaced = tt
-owes_each before (e ∷ es) good earned spaced = ((good.0, earned.0, spaced.0), owes_each (before ++ e ∷ []) es good.1 earned.1 spaced.1)
+owes_each before (e ∷ es) good earned spaced =
+    ((good.0, earned.0, spaced.0), owes_each (before ++ e ∷ []) es good.1 earned.1 spaced.1)
 
 module _ (limit : ℕ) (es : List Entry) (h : IsCoded limit es) where
   few_codes : length h.codes ≤ 3 ^ limit
-  few_codes = length-le_from_distinct_below h.codes (3 ^ limit) h.distinct (λ q there. let k = h.coded q there in subst (λ n. n < 3 ^ limit) k.same (code_below k.clause.lits limit))
+  few_codes =
+      length-le_from_distinct_below h.codes (3 ^ limit) h.distinct
+      (λ q there. let k = h.coded q there in subst (λ n. n < 3 ^ limit) k.same (code_below k.clause.lits limit))
 
   below_held : (id : ℕ) (c : Clause) → clause_held es id ≡ Some c → is_below limit c.lits ≡ true
   below_held id c there = h.below id c (given_of_held es id c there)
 
-  below_more : (e : Entry) → ((id : ℕ) (c : Clause) → clause_by id e ≡ Some c → is_below limit c.lits ≡ true) → (id : ℕ) (c : Clause) → clause_given (es ++ e ∷ []) id ≡ Some c → is_below limit c.lits ≡ true
+  below_more : (e : Entry) → ((id : ℕ) (c : Clause) → clause_by id e ≡ Some c → is_below limit c.lits ≡ true)
+      → (id : ℕ) (c : Clause) → clause_given (es ++ e ∷ []) id ≡ Some c → is_below limit c.lits ≡ true
   below_more e small id c there = by (clause_given es id) refl (sym (clause_given-push es e id) ∙ there)
     where
-      by : (o : Option Clause) → clause_given es id ≡ o → option_or o (clause_by id e) ≡ Some c → is_below limit c.lits ≡ true
+      by : (o : Option Clause) → clause_given es id ≡ o → option_or o (clause_by id e) ≡ Some c
+          → is_below limit c.lits ≡ true
       by None before now = small id c now
       by (Some d) before now = h.below id c (before ∙ now)
 
   code_more : (e : Entry) (q : ℕ) → is_deletion e ≡ false → IsCodeOf limit es q → IsCodeOf limit (es ++ e ∷ []) q
-  code_more e q keeps k = record { id = k.id; clause = k.clause; held = held_still es e k.id k.clause keeps k.held; once = k.once; same = k.same }
+  code_more e q keeps k =
+      record { id = k.id; clause = k.clause; held = held_still es e k.id k.clause keeps k.held; once = k.once; same = k.same }
 
   same_runs : (e : Entry) → is_deletion e ≡ false → run_count false (es ++ e ∷ []) ≡ run_count false es
   same_runs e keeps = runs-push false es e ∙ by (is_deletion e) keeps
     where
-      by : (b : Bool) → b ≡ false → run_count false es + cond (b && not (ends_deleting false es)) 1 0 ≡ run_count false es
+      by : (b : Bool) → b ≡ false
+          → run_count false es + cond (b && not (ends_deleting false es)) 1 0 ≡ run_count false es
       by true h = absurd (false≢true (sym h))
       by false h = omega arith
 
-  same_apart : (e : Entry) → is_deletion e ≡ false → (run_count false (es ++ e ∷ []) ≡ 0) ⊎ (run_count false (es ++ e ∷ []) + 1 ≤ 3 ^ limit)
+  same_apart : (e : Entry) → is_deletion e ≡ false
+      → (run_count false (es ++ e ∷ []) ≡ 0) ⊎ (run_count false (es ++ e ∷ []) + 1 ≤ 3 ^ limit)
   same_apart e keeps = subst (λ n. (n ≡ 0) ⊎ (n + 1 ≤ 3 ^ limit)) (sym (same_runs e keeps)) h.apart
 
   not_ending : (e : Entry) (n : ℕ) → is_deletion e ≡ false → ends_deleting false (es ++ e ∷ []) ≡ true → n ≡ 0
   not_ending e n keeps ends = absurd (false≢true (sym keeps ∙ sym (ends-push false es e) ∙ ends))
 
   -- an entry that is no addition and no deletion
-  plain_more : (e : Entry) → KeepsGood es e → is_deletion e ≡ false → additions_in e ≡ 0 → ((id : ℕ) (c : Clause) → clause_by id e ≡ Some c → is_below limit c.lits ≡ true) → IsCoded limit (es ++ e ∷ [])
+  plain_more : (e : Entry) → KeepsGood es e → is_deletion e ≡ false → additions_in e ≡ 0
+      → ((id : ℕ) (c : Clause) → clause_by id e ≡ Some c → is_below limit c.lits ≡ true)
+      → IsCoded limit (es ++ e ∷ [])
   plain_more e keeps_good keeps none small =
-      let count : addition_count (es ++ e ∷ []) ≡ addition_count es = count-push es e ∙ ap (λ n. addition_count es + n) none ∙ add-zero (addition_count es) in
+      let count : addition_count (es ++ e ∷ []) ≡ addition_count es =
+      count-push es e ∙ ap (λ n. addition_count es + n) none ∙ add-zero (addition_count es) in
       record {
         good = each_push KeepsGood es e h.good keeps_good;
         below = below_more e small;
@@ -245,7 +257,8 @@ module _ (limit : ℕ) (es : List Entry) (h : IsCoded limit es) where
     is_below_too =
         let r = earned.exact.0 in
         let small = resolved_below limit (clause_held es) below_held chain r earned.exact.1 in
-        all_from (λ k. nat_lt k.var limit) clause.lits (λ l there. all_at (λ k. nat_lt k.var limit) r small l (all_at (has r) clause.lits earned.exact.3 l there))
+        all_from (λ k. nat_lt k.var limit) clause.lits
+        (λ l there. all_at (λ k. nat_lt k.var limit) r small l (all_at (has r) clause.lits earned.exact.3 l there))
 
     code_now : (q : ℕ) → list_any (eqb q) (own ∷ h.codes) ≡ true → IsCodeOf limit (es ++ addition ∷ []) q
     code_now q there = elim (or_cases (eqb q own) (list_any (eqb q) h.codes) there) [
@@ -276,7 +289,8 @@ module _ (limit : ℕ) (es : List Entry) (h : IsCoded limit es) where
     same_count = count-push es deletion ∙ add-zero (addition_count es)
 
     -- no code is left, whatever the new count of runs is
-    none_left : (runs : ℕ) → run_count false (es ++ deletion ∷ []) ≡ runs → addition_count es ≤ runs * 3 ^ limit + 0 → (runs ≡ 0) ⊎ (runs + 1 ≤ 3 ^ limit) → IsCoded limit (es ++ deletion ∷ [])
+    none_left : (runs : ℕ) → run_count false (es ++ deletion ∷ []) ≡ runs → addition_count es ≤ runs * 3 ^ limit + 0
+        → (runs ≡ 0) ⊎ (runs + 1 ≤ 3 ^ limit) → IsCoded limit (es ++ deletion ∷ [])
     unfolding IsDistinct
     none_left runs is few apart = record {
       good = each_push KeepsGood es deletion h.good keeps_good;
@@ -289,29 +303,37 @@ module _ (limit : ℕ) (es : List Entry) (h : IsCoded limit es) where
       apart = subst (λ n. (n ≡ 0) ⊎ (n + 1 ≤ 3 ^ limit)) (sym is) apart;
     }
 
-    runs_by : (ends : Bool) → ends_deleting false es ≡ ends → run_count false (es ++ deletion ∷ []) ≡ run_count false es + cond (not ends) 1 0
+    runs_by : (ends : Bool) → ends_deleting false es ≡ ends
+        → run_count false (es ++ deletion ∷ []) ≡ run_count false es + cond (not ends) 1 0
     runs_by ends is = runs-push false es deletion ∙ ap (λ b. run_count false es + cond (not b) 1 0) is
 
     run_goes_on : ends_deleting false es ≡ true → IsCoded limit (es ++ deletion ∷ [])
-    run_goes_on ends = none_left (run_count false es) (runs_by true ends ∙ add-zero (run_count false es)) (subst (λ n. addition_count es ≤ run_count false es * 3 ^ limit + n) (h.fresh ends) h.few) h.apart
+    run_goes_on ends =
+        none_left (run_count false es) (runs_by true ends ∙ add-zero (run_count false es))
+        (subst (λ n. addition_count es ≤ run_count false es * 3 ^ limit + n) (h.fresh ends) h.few) h.apart
 
     run_begins : ends_deleting false es ≡ false → IsCoded limit (es ++ deletion ∷ [])
     run_begins none =
-        let owed : 1000 * (run_count false es + 1) * (run_count false es + 2) ≤ addition_count es = elim may.apart [ inl ends ↦ absurd (false≢true (sym none ∙ ends)) | inr owed ↦ owed ] in
-        none_left (run_count false es + 1) (runs_by false none) (next_few (run_count false es) (3 ^ limit) (length h.codes) (addition_count es) h.few few_codes)
+        let owed : 1000 * (run_count false es + 1) * (run_count false es + 2) ≤ addition_count es =
+        elim may.apart [ inl ends ↦ absurd (false≢true (sym none ∙ ends)) | inr owed ↦ owed ] in
+        none_left (run_count false es + 1) (runs_by false none)
+        (next_few (run_count false es) (3 ^ limit) (length h.codes) (addition_count es) h.few few_codes)
         (inr (next_apart (run_count false es) (3 ^ limit) (spread (run_count false es) (3 ^ limit) (length h.codes) (addition_count es) h.few few_codes owed)))
       where
-        next_few : (runs power count added : ℕ) → added ≤ runs * power + count → count ≤ power → added ≤ (runs + 1) * power + 0
+        next_few : (runs power count added : ℕ) → added ≤ runs * power + count → count ≤ power
+            → added ≤ (runs + 1) * power + 0
         next_few runs power count added few small = grind arith
 
         next_apart : (runs power : ℕ) → runs + 2 ≤ power → (runs + 1) + 1 ≤ power
         next_apart runs power within = omega arith
 
     deletion_more : IsCoded limit (es ++ deletion ∷ [])
-    deletion_more = elim (cases_Bool (ends_deleting false es)) [ inl ends ↦ run_goes_on ends | inr none ↦ run_begins none ]
+    deletion_more =
+        elim (cases_Bool (ends_deleting false es)) [ inl ends ↦ run_goes_on ends | inr none ↦ run_begins none ]
 
   coded_more : (e : Entry) → Owes es e → are_below limit (inputs (e ∷ [])) ≡ true → IsCoded limit (es ++ e ∷ [])
-  coded_more (Input id clause) owes small = plain_more (Input id clause) owes.0 refl refl (own_below limit id clause (and_parts _ _ small).0)
+  coded_more (Input id clause) owes small =
+      plain_more (Input id clause) owes.0 refl refl (own_below limit id clause (and_parts _ _ small).0)
   coded_more (Add id clause chain) owes small = addition_more id clause chain owes.1
   coded_more (Delete id) owes small = deletion_more id owes.0 owes.2
   coded_more End owes small = plain_more End owes.0 refl refl (λ id c there. absurd (cc))
@@ -322,36 +344,51 @@ unfolding IsDistinct
 coded_all limit = by_steps Owes (λ es. are_below limit (inputs es) ≡ true → IsCoded limit es) start step
   where
     start : are_below limit (inputs []) ≡ true → IsCoded limit []
-    start small = record { good = tt; below = λ id c there. absurd (cc); codes = []; distinct = tt; coded = λ q there. absurd (false≢true there); few = omega arith; fresh = λ ends. refl; apart = inl refl }
+    start small =
+        record { good = tt; below = λ id c there. absurd (cc); codes = []; distinct = tt; coded = λ q there. absurd (false≢true there); few = omega arith; fresh = λ ends. refl; apart = inl refl }
 
-    step : (es : List Entry) (e : Entry) → Owes es e → (are_below limit (inputs es) ≡ true → IsCoded limit es) → are_below limit (inputs (es ++ e ∷ [])) ≡ true → IsCoded limit (es ++ e ∷ [])
+    step : (es : List Entry) (e : Entry) → Owes es e → (are_below limit (inputs es) ≡ true → IsCoded limit es)
+        → are_below limit (inputs (es ++ e ∷ [])) ≡ true → IsCoded limit (es ++ e ∷ [])
     step es e owes before small =
         let split : are_below limit (inputs (es ++ e ∷ [])) ≡ (are_below limit (inputs es) && are_below limit (inputs (e ∷ []))) =
-        ap (are_below limit) (filter_map-append input_of es (e ∷ [])) ∙ list_all-append (λ c. is_below limit c.lits) (inputs es) (inputs (e ∷ [])) in
+        ap (are_below limit) (filter_map-append input_of es (e ∷ []))
+        ∙ list_all-append (λ c. is_below limit c.lits) (inputs es) (inputs (e ∷ [])) in
         let both = and_parts (are_below limit (inputs es)) (are_below limit (inputs (e ∷ []))) (sym split ∙ small) in
         coded_more limit es (before both.0) e owes both.1
 
 -- ---- the bounds
 
-coded_log : (vars : ℕ) (clauses : List Clause) (es : List Entry) → are_below vars clauses ≡ true → IsSearchLog clauses es → IsCoded vars es
-coded_log vars clauses es small log = coded_all vars es (owes_each [] es log.good log.earned log.spaced) (ap (are_below vars) (inputs_of clauses es log) ∙ small)
+coded_log : (vars : ℕ) (clauses : List Clause) (es : List Entry) → are_below vars clauses ≡ true
+    → IsSearchLog clauses es → IsCoded vars es
+coded_log vars clauses es small log =
+    coded_all vars es (owes_each [] es log.good log.earned log.spaced)
+    (ap (are_below vars) (inputs_of clauses es log) ∙ small)
 
-pub undeleted_bound : (vars : ℕ) (clauses : List Clause) (es : List Entry) → list_all (λ c. is_below vars c.lits) clauses ≡ true → IsSearchLog clauses es → list_any is_deletion es ≡ false → addition_count es ≤ 3 ^ vars
+pub undeleted_bound : (vars : ℕ) (clauses : List Clause) (es : List Entry)
+    → list_all (λ c. is_below vars c.lits) clauses ≡ true → IsSearchLog clauses es → list_any is_deletion es ≡ false
+    → addition_count es ≤ 3 ^ vars
 undeleted_bound vars clauses es small log kept =
     let h = coded_log vars clauses es small log in
-    none (run_count false es) (3 ^ vars) (length h.codes) (addition_count es) h.few (few_codes vars es h) (no_runs false es kept)
+    none (run_count false es) (3 ^ vars) (length h.codes) (addition_count es) h.few (few_codes vars es h)
+    (no_runs false es kept)
   where
     none : (runs power count added : ℕ) → added ≤ runs * power + count → count ≤ power → runs ≡ 0 → added ≤ power
     none runs power count added few fits is = grind arith
 
-pub spaced_bound : (vars : ℕ) (clauses : List Clause) (es : List Entry) → list_all (λ c. is_below vars c.lits) clauses ≡ true → IsSearchLog clauses es → addition_count es ≤ 3 ^ vars * (3 ^ vars + 1)
+pub spaced_bound : (vars : ℕ) (clauses : List Clause) (es : List Entry)
+    → list_all (λ c. is_below vars c.lits) clauses ≡ true → IsSearchLog clauses es
+    → addition_count es ≤ 3 ^ vars * (3 ^ vars + 1)
 spaced_bound vars clauses es small log =
     let h = coded_log vars clauses es small log in
     most (run_count false es) (3 ^ vars) (length h.codes) (addition_count es) h.few (few_codes vars es h) h.apart
 
 -- an outcome that comes with the budget as its count comes with no more than a log can have
-pub unknown_within : {E : Type 0} (before now : Option (List ℕ)) (vars : ℕ) (cs : List Clause) (budget : ℕ) (r : Result Outcome E) → list_all (λ c. is_below vars c.lits) cs ≡ true → IfOk r (λ o. IsLogged before now cs budget o) → IfOk r (λ o. OnUnknown o (λ added. added ≡ budget)) → IfOk r (λ o. OnUnknown o (λ added. added ≤ 3 ^ vars * (3 ^ vars + 1)))
+pub unknown_within : {E : Type 0} (before now : Option (List ℕ)) (vars : ℕ) (cs : List Clause) (budget : ℕ) (r : Result Outcome E)
+    → list_all (λ c. is_below vars c.lits) cs ≡ true → IfOk r (λ o. IsLogged before now cs budget o)
+    → IfOk r (λ o. OnUnknown o (λ added. added ≡ budget))
+    → IfOk r (λ o. OnUnknown o (λ added. added ≤ 3 ^ vars * (3 ^ vars + 1)))
 unknown_within before now vars cs budget (Ok Unsat) small l same = tt
 unknown_within before now vars cs budget (Ok (Sat values)) small l same = tt
-unknown_within before now vars cs budget (Ok (Unknown added)) small l same = subst (λ n. n ≤ 3 ^ vars * (3 ^ vars + 1)) (l.shows.0 ∙ sym same) (spaced_bound vars cs l.entries small l.log)
+unknown_within before now vars cs budget (Ok (Unknown added)) small l same =
+    subst (λ n. n ≤ 3 ^ vars * (3 ^ vars + 1)) (l.shows.1 ∙ sym same) (spaced_bound vars cs l.entries small l.log)
 unknown_within before now vars cs budget (Err e) small l same = tt

@@ -1,7 +1,8 @@
 -- Steps that are followed back from a false clause.
+use Rattle.resolution_check.specs.Trails.{is_value}
 use Rattle.std.proofs.Common.{◌≡◌, ℕ, ◌+◌, ◌<◌, ◌==◌, Bool, true, false, not, cond, ◌&&◌, ◌||◌, nat_lt, nat_le, List, [], ◌∷◌, ◌++◌, length, take, drop, slice_get, Option, Some, None, is_some, Ok, Err, inl, inr, refl, sym, ap, subst, ◌∙◌, arith, add-one, take-append-drop}
 use Rattle.std.specs.Option.{option_map_or, ok_or}
-use Rattle.std.proofs.lemmas.Bool.{not-true, not_from_false, cases_Bool, eqb-true, eq-eqb, false≢true, true≢false, or_cases, or_left, or_right, and_parts, and_from, lt-ltb, le-leb}
+use Rattle.std.proofs.lemmas.Bool.{not-true, not_from_false, cases_Bool, eqb-true, eq-eqb, false≢true, true≢false, or_cases, or_left, or_right, and_parts, and_from, or_parts, or_from, lt-ltb, le-leb}
 use Rattle.std.specs.Bool.{beq}
 use Rattle.resolution_check.specs.declared.log.Lit.{Lit}
 use Rattle.resolution_check.specs.declared.log.Clause.{Clause}
@@ -16,7 +17,8 @@ use Rattle.resolution_check.proofs.Literals.{same_lit, same_refl, opposite_twice
 use Rattle.resolution_check.proofs.Resolvents.{resolvent-pivot, has-resolved}
 use Rattle.resolution_check.proofs.Chains.{resolved-push}
 use Rattle.cdcl_search.specs.declared.trail.Step.{Step}
-use Rattle.cdcl_search.specs.Trails.{value_of, is_value, fails, IsForcedBy, HasReason, Follows, IsFalseAt}
+use Rattle.cdcl_search.specs.Trails.{lits_of, value_of, fails, IsForcedBy, HasReason, Follows, IsFalseAt}
+use Rattle.resolution_check.proofs.Values.{same_fails, not_both, some_value}
 use Rattle.cdcl_search.specs.Learning.{numbered, are_numbers, IsFollowed, IsLesson}
 use Rattle.cdcl_search.proofs.Places.{take_at, all_push}
 use Rattle.cdcl_search.proofs.Trails.{value_of-keeps, value_of-last, value_of-other, value_of-none}
@@ -28,50 +30,16 @@ same_bool true b there back = sym (there refl)
 same_bool false true there back = back refl
 same_bool false false there back = refl
 
-or_none_parts : (a b : Bool) → (a || b) ≡ false → (a ≡ false) × (b ≡ false)
-or_none_parts true b h = absurd (true≢false h)
-or_none_parts false b h = (refl, h)
-
-or_both_false : (a b : Bool) → a ≡ false → b ≡ false → (a || b) ≡ false
-or_both_false true b h g = h
-or_both_false false b h g = g
-
 other_way : (m n : ℕ) → (m == n) ≡ false → (n == m) ≡ false
-other_way m n h = elim (cases_Bool (n == m)) [ inl e ↦ absurd (false≢true (sym h ∙ eq-eqb m n (sym (eqb-true n m e)))) | inr other ↦ other ]
-
--- ---- literals that are false
-
-one_value : (o : Option Bool) (m n : Bool) → is_value o m ≡ true → is_value o n ≡ true → m ≡ n
-one_value None m n h k = absurd (false≢true h)
-one_value (Some true) true true h k = refl
-one_value (Some true) true false h k = absurd (false≢true k)
-one_value (Some true) false n h k = absurd (false≢true h)
-one_value (Some false) true n h k = absurd (false≢true h)
-one_value (Some false) false true h k = absurd (false≢true k)
-one_value (Some false) false false h k = refl
-
-some_value : (o : Option Bool) (n : Bool) → is_value o n ≡ true → is_some o ≡ true
-some_value None n h = h
-some_value (Some b) n h = refl
+other_way m n h =
+    elim (cases_Bool (n == m)) [
+      | inl e ↦ absurd (false≢true (sym h ∙ eq-eqb m n (sym (eqb-true n m e))))
+      | inr other ↦ other
+    ]
 
 itself : (b : Bool) → is_value (Some b) b ≡ true
 itself true = refl
 itself false = refl
-
--- two false literals of one variable are one literal
-same_fails : (ss : List Step) (k l : Lit) → k.var ≡ l.var → fails ss k ≡ true → fails ss l ≡ true → k ≡ l
-same_fails ss k l e h g =
-    let here : is_value (value_of ss l.var) k.negated ≡ true = ap (λ v. is_value (value_of ss v) k.negated) (sym e) ∙ h in
-    let n = one_value (value_of ss l.var) k.negated l.negated here g in
-    λ i. record { var = e i; negated = n i }
-
-not-itself : (b : Bool) → b ≡ not b → ⊥
-not-itself true h = true≢false h
-not-itself false h = false≢true h
-
--- no literal is false together with its negation
-not_both : (ss : List Step) (l : Lit) → fails ss l ≡ true → fails ss (opposite l) ≡ true → ⊥
-not_both ss l h g = not-itself l.negated (one_value (value_of ss l.var) l.negated (not l.negated) h g)
 
 -- ---- a literal's variable
 
@@ -96,13 +64,15 @@ no_var c v none = elim (cases_Bool (has_var c v)) [
 ]
 
 -- one literal more, of a variable that is not there yet
-vars_differ-push : (c : List Lit) (l : Lit) → vars_differ c ≡ true → has_var c l.var ≡ false → vars_differ (c ++ l ∷ []) ≡ true
+vars_differ-push : (c : List Lit) (l : Lit) → vars_differ c ≡ true → has_var c l.var ≡ false
+    → vars_differ (c ++ l ∷ []) ≡ true
 vars_differ-push [] l once new = refl
 vars_differ-push (k ∷ c) l once new =
     let both = and_parts _ _ once in
-    let parts = or_none_parts _ _ new in
+    let parts = or_parts _ _ new in
     let unlike : has_var (c ++ l ∷ []) k.var ≡ false =
-    list_any-append (λ (m : Lit). m.var == k.var) c (l ∷ []) ∙ or_both_false _ _ (not-true _ both.0) (or_both_false _ false (other_way k.var l.var parts.0) refl) in
+    list_any-append (λ (m : Lit). m.var == k.var) c (l ∷ [])
+    ∙ or_from _ _ (not-true _ both.0) (or_from _ false (other_way k.var l.var parts.0) refl) in
     and_from _ _ (not_from_false _ unlike) (vars_differ-push c l both.1 parts.1)
 
 apart : (k l : Lit) → (k.var == l.var) ≡ false → is_same k l ≡ false
@@ -111,7 +81,8 @@ apart k l h = ap (λ b. b && beq k.negated l.negated) h
 -- ---- the front of a trail
 
 front_value : (ss : List Step) (at v : ℕ) (b : Bool) → value_of (take at ss) v ≡ Some b → value_of ss v ≡ Some b
-front_value ss at v b h = ap (λ l. value_of l v) (sym (take-append-drop at ss)) ∙ value_of-keeps (take at ss) (drop at ss) v b h
+front_value ss at v b h =
+    ap (λ l. value_of l v) (sym (take-append-drop at ss)) ∙ value_of-keeps (take at ss) (drop at ss) v b h
 
 front_fails : (ss : List Step) (at : ℕ) (l : Lit) → fails (take at ss) l ≡ true → fails ss l ≡ true
 front_fails ss at l h = by (value_of (take at ss) l.var) refl h
@@ -138,7 +109,9 @@ module _ (ss : List Step) (at : ℕ) (s : Step) (there : slice_get ss at ≡ Som
   own_next = ap (λ l. value_of l s.lit.var) (take_at ss at s there) ∙ value_of-last (take at ss) s fresh
 
   own_fails : fails ss (opposite s.lit) ≡ true
-  own_fails = ap (λ o. is_value o (not s.lit.negated)) (front_value ss (at + 1) s.lit.var (not s.lit.negated) own_next) ∙ itself (not s.lit.negated)
+  own_fails =
+      ap (λ o. is_value o (not s.lit.negated)) (front_value ss (at + 1) s.lit.var (not s.lit.negated) own_next)
+      ∙ itself (not s.lit.negated)
 
   -- every other variable has the same value before the step
   nearer : (v : ℕ) → (s.lit.var == v) ≡ false → value_of (take (at + 1) ss) v ≡ value_of (take at ss) v
@@ -150,7 +123,8 @@ module _ (ss : List Step) (at : ℕ) (s : Step) (there : slice_get ss at ≡ Som
   other_var : (l : Lit) → is_same (opposite s.lit) l ≡ false → fails ss l ≡ true → (s.lit.var == l.var) ≡ false
   other_var l unlike h = elim (cases_Bool (s.lit.var == l.var)) [
     | inl here ↦
-        let e : opposite s.lit ≡ l = same_fails ss (opposite s.lit) l (eqb-true s.lit.var l.var here) own_fails h in
+        let e : opposite s.lit ≡ l =
+        same_fails (lits_of ss) (opposite s.lit) l (eqb-true s.lit.var l.var here) own_fails h in
         absurd (false≢true (sym unlike ∙ ap (is_same (opposite s.lit)) (sym e) ∙ same_refl (opposite s.lit)))
     | inr other ↦ other
   ]
@@ -160,7 +134,9 @@ module _ (ss : List Step) (at : ℕ) (s : Step) (there : slice_get ss at ≡ Som
 
   -- a literal whose step is behind is not the step's
   pub not_behind : (l : Lit) → value_of (take (at + 1) ss) l.var ≡ None → l.var ≡ s.lit.var → ⊥
-  not_behind l none e = let both : None ≡ Some (not s.lit.negated) = sym none ∙ ap (value_of (take (at + 1) ss)) e ∙ own_next in absurd (cc)
+  not_behind l none e =
+      let both : None ≡ Some (not s.lit.negated) =
+      sym none ∙ ap (value_of (take (at + 1) ss)) e ∙ own_next in absurd (cc)
 
   unlike_behind : (l : Lit) → value_of (take (at + 1) ss) l.var ≡ None → is_same (opposite s.lit) l ≡ false
   unlike_behind l none = elim (cases_Bool (is_same (opposite s.lit) l)) [
@@ -174,7 +150,11 @@ module _ (ss : List Step) (at : ℕ) (s : Step) (there : slice_get ss at ≡ Som
     stands marked = f.parts (opposite s.lit) ∙ or_right (has lits (opposite s.lit)) _ (and_from _ _ marked own_fails)
 
     all_false : (l : Lit) → has f.clause l ≡ true → fails ss l ≡ true
-    all_false l h = elim (or_cases _ _ (sym (f.parts l) ∙ h)) [ inl learnt ↦ f.learnt_false l learnt | inr pending ↦ (and_parts _ _ pending).1 ]
+    all_false l h =
+        elim (or_cases _ _ (sym (f.parts l) ∙ h)) [
+          | inl learnt ↦ f.learnt_false l learnt
+          | inr pending ↦ (and_parts _ _ pending).1
+        ]
 
     before_it : (v : ℕ) → (s.lit.var == v) ≡ false → marks v ≡ true → is_some (value_of (take at ss) v) ≡ true
     before_it v other m = ap is_some (sym (nearer v other)) ∙ f.to_come v m
@@ -196,11 +176,15 @@ module _ (ss : List Step) (at : ℕ) (s : Step) (there : slice_get ss at ≡ Som
     }
 
     -- a decision
-    pub followed_decision : s.reason ≡ None → (lits' : List Lit) → lits' ≡ lits ++ opposite s.lit ∷ [] → marks s.lit.var ≡ true → ((v : ℕ) → marks' v ≡ cond (s.lit.var == v) false (marks v)) → IsFollowed clauses ss at marks' lits' chain
+    pub followed_decision : s.reason ≡ None → (lits' : List Lit) → lits' ≡ lits ++ opposite s.lit ∷ []
+        → marks s.lit.var ≡ true → ((v : ℕ) → marks' v ≡ cond (s.lit.var == v) false (marks v))
+        → IsFollowed clauses ss at marks' lits' chain
     followed_decision chosen lits' e marked new =
         let p = opposite s.lit in
-        let more : (l : Lit) → has lits' l ≡ (has lits l || has (p ∷ []) l) = λ l. ap (λ c. has c l) e ∙ has-append lits (p ∷ []) l in
-        let last : (l : Lit) → has (p ∷ []) l ≡ true → l ≡ p = λ l h. elim (or_cases _ _ h) [ inl same ↦ same_lit l p same | inr none ↦ absurd (false≢true none) ] in
+        let more : (l : Lit) → has lits' l ≡ (has lits l || has (p ∷ []) l) =
+        λ l. ap (λ c. has c l) e ∙ has-append lits (p ∷ []) l in
+        let last : (l : Lit) → has (p ∷ []) l ≡ true → l ≡ p =
+        λ l h. elim (or_cases _ _ h) [ inl same ↦ same_lit l p same | inr none ↦ absurd (false≢true none) ] in
         record {
           clause = f.clause;
           resolves = f.resolves;
@@ -211,8 +195,10 @@ module _ (ss : List Step) (at : ℕ) (s : Step) (there : slice_get ss at ≡ Som
                     let both = and_parts _ _ pending in
                     elim (cases_Bool (s.lit.var == l.var)) [
                       | inl here ↦
-                          let same : p ≡ l = same_fails ss p l (eqb-true s.lit.var l.var here) own_fails both.1 in
-                          or_left _ _ (more l ∙ or_right (has lits l) _ (or_left _ false (ap (is_same l) same ∙ same_refl l)))
+                          let same : p ≡ l =
+                          same_fails (lits_of ss) p l (eqb-true s.lit.var l.var here) own_fails both.1 in
+                          or_left _ _
+                          (more l ∙ or_right (has lits l) _ (or_left _ false (ap (is_same l) same ∙ same_refl l)))
                       | inr other ↦ or_right (has lits' l) _ (and_from _ _ (new l.var ∙ gain _ _ other both.0) both.1)
                     ]
               ])
@@ -225,13 +211,17 @@ module _ (ss : List Step) (at : ℕ) (s : Step) (there : slice_get ss at ≡ Som
                     let both = and_parts _ _ pending in
                     f.parts l ∙ or_right (has lits l) _ (and_from _ _ (lose _ _ (sym (new l.var) ∙ both.0)).1 both.1)
               ]);
-          learnt_false = λ l h. elim (or_cases _ _ (sym (more l) ∙ h)) [ inl before ↦ f.learnt_false l before | inr here ↦ ap (fails ss) (last l here) ∙ own_fails ];
+          learnt_false = λ l h. elim (or_cases _ _ (sym (more l) ∙ h)) [
+            | inl before ↦ f.learnt_false l before
+            | inr here ↦ ap (fails ss) (last l here) ∙ own_fails
+          ];
           to_come = λ v m. let both = lose _ _ (sym (new v) ∙ m) in before_it v both.0 both.1;
           behind = λ l h. elim (or_cases _ _ (sym (more l) ∙ h)) [
             | inl before ↦ none_before l.var (f.behind l before)
             | inr here ↦ ap (λ (m : Lit). value_of (take at ss) m.var) (last l here) ∙ fresh
           ];
-          once = ap vars_differ e ∙ vars_differ-push lits p f.once (no_var lits s.lit.var (λ l h. not_behind l (f.behind l h)));
+          once = ap vars_differ e
+              ∙ vars_differ-push lits p f.once (no_var lits s.lit.var (λ l h. not_behind l (f.behind l h)));
           negated = λ l h. elim (or_cases _ _ (sym (more l) ∙ h)) [
             | inl before ↦ f.negated l before
             | inr here ↦ record { at = at; decision = record { step = s; there = there; chosen = chosen }; is_negation = last l here }
@@ -241,12 +231,17 @@ module _ (ss : List Step) (at : ℕ) (s : Step) (there : slice_get ss at ≡ Som
     module _ (place : ℕ) (r : IsForcedBy clauses (take at ss) s.lit place) where
       -- the other literals of the step's clause are false
       rest_fails : (l : Lit) → has r.clause.lits l ≡ true → is_same s.lit l ≡ false → fails (take at ss) l ≡ true
-      rest_fails l h unlike = elim (r.others l h) [ inl e ↦ absurd (false≢true (sym unlike ∙ ap (is_same s.lit) e ∙ same_refl s.lit)) | inr g ↦ g ]
+      rest_fails l h unlike =
+          elim (r.others l h) [
+            | inl e ↦ absurd (false≢true (sym unlike ∙ ap (is_same s.lit) e ∙ same_refl s.lit))
+            | inr g ↦ g
+          ]
 
       not_own : (l : Lit) → fails (take at ss) l ≡ true → (s.lit.var == l.var) ≡ false
       not_own l h = elim (cases_Bool (s.lit.var == l.var)) [
         | inl here ↦
-            let some : is_some (value_of (take at ss) s.lit.var) ≡ true = ap (λ v. is_some (value_of (take at ss) v)) (eqb-true s.lit.var l.var here) ∙ some_value _ _ h in
+            let some : is_some (value_of (take at ss) s.lit.var) ≡ true =
+            ap (λ v. is_some (value_of (take at ss) v)) (eqb-true s.lit.var l.var here) ∙ some_value _ _ h in
             absurd (false≢true (sym (ap is_some fresh) ∙ some))
         | inr other ↦ other
       ]
@@ -260,30 +255,36 @@ module _ (ss : List Step) (at : ℕ) (s : Step) (there : slice_get ss at ≡ Som
         second = ap (has r.clause.lits) (opposite_twice s.lit) ∙ r.inside;
         only = λ l h g. elim (r.others (opposite l) g) [
           | inl e ↦ back l e
-          | inr falls ↦ absurd (not_both ss l (all_false l h) (front_fails ss at (opposite l) falls))
+          | inr falls ↦ absurd (not_both (lits_of ss) l (all_false l h) (front_fails ss at (opposite l) falls))
         ];
       }
 
       next : List Lit
       next = without f.clause (opposite s.lit) ++ without r.clause.lits (opposite (opposite s.lit))
 
-      resolves_next : (chain' : List ℕ) → chain' ≡ chain ++ (place + 1) ∷ [] → marks s.lit.var ≡ true → resolved (numbered clauses) chain' ≡ Ok (without f.clause (opposite s.lit) ++ without r.clause.lits (opposite (opposite s.lit)))
+      resolves_next : (chain' : List ℕ) → chain' ≡ chain ++ (place + 1) ∷ [] → marks s.lit.var ≡ true
+          → resolved (numbered clauses) chain'
+          ≡ Ok (without f.clause (opposite s.lit) ++ without r.clause.lits (opposite (opposite s.lit)))
       resolves_next chain' e marked =
           let held : numbered clauses (place + 1) ≡ Some r.clause = ap (numbered clauses) (add-one place) ∙ r.there in
           ap (resolved (numbered clauses)) e
           ∙ resolved-push (numbered clauses) chain (place + 1) f.clause f.resolves
           ∙ ap (λ o. option_map_or (λ (c : Clause). ok_or (resolvent f.clause c.lits) (NoPivot (length chain))) o (Err (UnknownId (place + 1)))) held
-          ∙ ap (λ o. ok_or o (NoPivot (length chain))) (resolvent-pivot f.clause r.clause.lits (opposite s.lit) (pivot marked))
+          ∙ ap (λ o. ok_or o (NoPivot (length chain)))
+          (resolvent-pivot f.clause r.clause.lits (opposite s.lit) (pivot marked))
 
       -- a forced literal
-      pub followed_forced : (chain' : List ℕ) → chain' ≡ chain ++ (place + 1) ∷ [] → marks s.lit.var ≡ true → ((v : ℕ) → marks' v ≡ cond (s.lit.var == v) false (has_var r.clause.lits v || marks v)) → IsFollowed clauses ss at marks' lits chain'
+      pub followed_forced : (chain' : List ℕ) → chain' ≡ chain ++ (place + 1) ∷ [] → marks s.lit.var ≡ true
+          → ((v : ℕ) → marks' v ≡ cond (s.lit.var == v) false (has_var r.clause.lits v || marks v))
+          → IsFollowed clauses ss at marks' lits chain'
       followed_forced chain' e marked new =
           let p = opposite s.lit in
           let c = r.clause.lits in
           record {
             clause = without f.clause p ++ without c (opposite p);
             resolves = resolves_next chain' e marked;
-            parts = λ l. same_bool (has (without f.clause p ++ without c (opposite p)) l) (has lits l || (marks' l.var && fails ss l))
+            parts =
+                λ l. same_bool (has (without f.clause p ++ without c (opposite p)) l) (has lits l || (marks' l.var && fails ss l))
                 (λ h. elim (or_cases _ _ (sym (has-resolved f.clause c p l) ∙ h)) [
                   | inl first ↦
                       let both = and_parts _ _ first in
@@ -295,7 +296,8 @@ module _ (ss : List Step) (at : ℕ) (s : Step) (there : slice_get ss at ≡ Som
                       ]
                   | inr second ↦
                       let both = and_parts _ _ second in
-                      let unlike : is_same s.lit l ≡ false = ap (λ k. is_same k l) (sym (opposite_twice s.lit)) ∙ not-true _ both.0 in
+                      let unlike : is_same s.lit l ≡ false =
+                      ap (λ k. is_same k l) (sym (opposite_twice s.lit)) ∙ not-true _ both.0 in
                       let falls = rest_fails l both.1 unlike in
                       or_right (has lits l) _ (and_from _ _ (new l.var ∙ gain _ _ (not_own l falls) (or_left _ _ (has_var_from c l both.1))) (front_fails ss at l falls))
                 ])
@@ -307,11 +309,14 @@ module _ (ss : List Step) (at : ℕ) (s : Step) (there : slice_get ss at ≡ Som
                       elim (or_cases _ _ lost.1) [
                         | inl of_clause ↦
                             let found = of_var c l.var of_clause in
-                            let other : (s.lit.var == found.0.var) ≡ false = ap (λ v. s.lit.var == v) found.2 ∙ lost.0 in
+                            let other : (s.lit.var == found.0.var) ≡ false =
+                            ap (λ v. s.lit.var == v) found.2 ∙ lost.0 in
                             let falls = rest_fails found.0 found.1 (apart s.lit found.0 other) in
-                            let same : found.0 ≡ l = same_fails ss found.0 l found.2 (front_fails ss at found.0 falls) both.1 in
+                            let same : found.0 ≡ l =
+                            same_fails (lits_of ss) found.0 l found.2 (front_fails ss at found.0 falls) both.1 in
                             let unlike : is_same (opposite p) l ≡ false = apart (opposite p) l lost.0 in
-                            or_right (not (is_same p l) && has f.clause l) _ (and_from _ _ (not_from_false _ unlike) (ap (has c) (sym same) ∙ found.1))
+                            or_right (not (is_same p l) && has f.clause l) _
+                            (and_from _ _ (not_from_false _ unlike) (ap (has c) (sym same) ∙ found.1))
                         | inr before ↦ or_left _ _ (and_from _ _ (not_from_false _ (unlike_other l lost.0)) (f.parts l ∙ or_right (has lits l) _ (and_from _ _ before both.1)))
                       ]
                 ]);
@@ -322,7 +327,8 @@ module _ (ss : List Step) (at : ℕ) (s : Step) (there : slice_get ss at ≡ Som
                   | inl of_clause ↦
                       let found = of_var c v of_clause in
                       let other : (s.lit.var == found.0.var) ≡ false = ap (λ w. s.lit.var == w) found.2 ∙ lost.0 in
-                      ap (λ w. is_some (value_of (take at ss) w)) (sym found.2) ∙ some_value _ _ (rest_fails found.0 found.1 (apart s.lit found.0 other))
+                      ap (λ w. is_some (value_of (take at ss) w)) (sym found.2)
+                      ∙ some_value _ _ (rest_fails found.0 found.1 (apart s.lit found.0 other))
                   | inr before ↦ before_it v lost.0 before
                 ];
             behind = λ l h. none_before l.var (f.behind l h);
@@ -332,11 +338,14 @@ module _ (ss : List Step) (at : ℕ) (s : Step) (there : slice_get ss at ≡ Som
 
 -- ---- the first clause and the last
 
-pub forced_at : (clauses : List Clause) (ss : List Step) (at : ℕ) (s : Step) (place : ℕ) → Follows clauses ss → slice_get ss at ≡ Some s → s.reason ≡ Some place → IsForcedBy clauses (take at ss) s.lit place
+pub forced_at : (clauses : List Clause) (ss : List Step) (at : ℕ) (s : Step) (place : ℕ) → Follows clauses ss
+    → slice_get ss at ≡ Some s → s.reason ≡ Some place → IsForcedBy clauses (take at ss) s.lit place
 unfolding Follows
-forced_at clauses ss at s place follows there e = subst (λ o. HasReason clauses (take at ss) s.lit o) e (follows at s there)
+forced_at clauses ss at s place follows there e =
+    subst (λ o. HasReason clauses (take at ss) s.lit o) e (follows at s there)
 
-pub followed_first : (clauses : List Clause) (ss : List Step) (place : ℕ) (marks : ℕ → Bool) (f : IsFalseAt clauses ss place) → ((v : ℕ) → marks v ≡ has_var f.clause.lits v) → IsFollowed clauses ss (length ss) marks [] ((place + 1) ∷ [])
+pub followed_first : (clauses : List Clause) (ss : List Step) (place : ℕ) (marks : ℕ → Bool) (f : IsFalseAt clauses ss place)
+    → ((v : ℕ) → marks v ≡ has_var f.clause.lits v) → IsFollowed clauses ss (length ss) marks [] ((place + 1) ∷ [])
 followed_first clauses ss place marks f new =
     let held : numbered clauses (place + 1) ≡ Some f.clause = ap (numbered clauses) (add-one place) ∙ f.there in
     let c = f.clause.lits in
@@ -348,18 +357,21 @@ followed_first clauses ss place marks f new =
           (λ h.
           let both = and_parts _ _ h in
           let found = of_var c l.var (sym (new l.var) ∙ both.0) in
-          let same : found.0 ≡ l = same_fails ss found.0 l found.2 (f.false_all found.0 found.1) both.1 in
+          let same : found.0 ≡ l = same_fails (lits_of ss) found.0 l found.2 (f.false_all found.0 found.1) both.1 in
           ap (has c) (sym same) ∙ found.1);
       learnt_false = λ l h. absurd (false≢true h);
       to_come = λ v m.
           let found = of_var c v (sym (new v) ∙ m) in
-          ap (λ t. is_some (value_of t v)) (take-length ss) ∙ ap (λ w. is_some (value_of ss w)) (sym found.2) ∙ some_value _ _ (f.false_all found.0 found.1);
+          ap (λ t. is_some (value_of t v)) (take-length ss) ∙ ap (λ w. is_some (value_of ss w)) (sym found.2)
+          ∙ some_value _ _ (f.false_all found.0 found.1);
       behind = λ l h. absurd (false≢true h);
       once = refl;
       negated = λ l h. absurd (false≢true h);
     }
 
-pub lesson_from : (clauses : List Clause) (ss : List Step) (marks : ℕ → Bool) (lits : List Lit) (chain : List ℕ) → are_numbers (length clauses) chain ≡ true → IsFollowed clauses ss 0 marks lits chain → IsLesson clauses ss lits chain
+pub lesson_from : (clauses : List Clause) (ss : List Step) (marks : ℕ → Bool) (lits : List Lit) (chain : List ℕ)
+    → are_numbers (length clauses) chain ≡ true → IsFollowed clauses ss 0 marks lits chain
+    → IsLesson clauses ss lits chain
 lesson_from clauses ss marks lits chain numbers f = record {
   clause = f.clause;
   resolves = f.resolves;
@@ -372,6 +384,9 @@ lesson_from clauses ss marks lits chain numbers f = record {
     unmarked : (v : ℕ) → marks v ≡ false
     unmarked v = elim (cases_Bool (marks v)) [ inl m ↦ absurd (false≢true (f.to_come v m)) | inr none ↦ none ]
 
-pub numbers_push : (count place : ℕ) (chain chain' : List ℕ) → place < count → chain' ≡ chain ++ (place + 1) ∷ [] → are_numbers count chain ≡ true → are_numbers count chain' ≡ true
+pub numbers_push : (count place : ℕ) (chain chain' : List ℕ) → place < count → chain' ≡ chain ++ (place + 1) ∷ []
+    → are_numbers count chain ≡ true → are_numbers count chain' ≡ true
 numbers_push count place chain chain' within e all =
-    ap (are_numbers count) e ∙ all_push (λ id. nat_lt 0 id && nat_le id count) chain (place + 1) all (and_from _ _ (lt-ltb 0 (place + 1) (omega arith)) (le-leb (place + 1) count (omega arith)))
+    ap (are_numbers count) e
+    ∙ all_push (λ id. nat_lt 0 id && nat_le id count) chain (place + 1) all
+    (and_from _ _ (lt-ltb 0 (place + 1) (omega arith)) (le-leb (place + 1) count (omega arith)))

@@ -1,4 +1,5 @@
 -- How many steps are kept: the decisions passed so far, from the last one on.
+use Rattle.resolution_check.specs.Trails.{HasTwoFree}
 use Rattle.std.proofs.Common.{◌≡◌, ◌⊎◌, ℕ, ◌+◌, ◌-◌, ◌<◌, ◌≤◌, Bool, true, false, not, List, ◌++◌, take, drop, slice_get, take-append-drop, Option, Some, None, is_some, inl, inr, refl, sym, ap, subst, ◌∙◌, arith}
 use Rattle.std.proofs.lemmas.Bool.{cases_Bool, false≢true, true≢false}
 use Rattle.std.proofs.lemmas.List.{take-take}
@@ -6,8 +7,8 @@ use Rattle.resolution_check.specs.declared.log.Lit.{Lit}
 use Rattle.resolution_check.specs.Clauses.{opposite, is_same, has}
 use Rattle.resolution_check.proofs.Literals.{same_lit}
 use Rattle.cdcl_search.specs.declared.trail.Step.{Step}
-use Rattle.cdcl_search.specs.Trails.{value_of}
-use Rattle.cdcl_search.specs.Levels.{IsDecision, HasTwoFree, IsSettled}
+use Rattle.cdcl_search.specs.Trails.{lits_of, value_of}
+use Rattle.cdcl_search.specs.Levels.{IsDecision, IsSettled}
 use Rattle.cdcl_search.proofs.Trails.{value_of-none}
 use Rattle.cdcl_search.proofs.Followed.{none_before, not_behind}
 
@@ -33,7 +34,8 @@ early_or_late i at = grind arith
 -- what has no value after more steps has none after fewer
 value_of-front : (ss : List Step) (n m v : ℕ) → n ≤ m → value_of (take m ss) v ≡ None → value_of (take n ss) v ≡ None
 value_of-front ss n m v h none =
-    let whole : value_of (take n (take m ss) ++ drop n (take m ss)) v ≡ None = ap (λ l. value_of l v) (take-append-drop n (take m ss)) ∙ none in
+    let whole : value_of (take n (take m ss) ++ drop n (take m ss)) v ≡ None =
+    ap (λ l. value_of l v) (take-append-drop n (take m ss)) ∙ none in
     ap (λ l. value_of l v) (sym (take-take n m ss h)) ∙ value_of-none (take n (take m ss)) (drop n (take m ss)) v whole
 
 module _ (ss : List Step) (lits : List Lit) (at : ℕ) (s : Step) (there : slice_get ss at ≡ Some s) (fresh : value_of (take at ss) s.lit.var ≡ None) where
@@ -47,7 +49,8 @@ module _ (ss : List Step) (lits : List Lit) (at : ℕ) (s : Step) (there : slice
   ]
 
   -- a forced literal
-  pub passed_forced : (kept : ℕ) (last : Option Lit) → (s.reason ≡ None → ⊥) → IsPassed ss lits (at + 1) kept last → IsPassed ss lits at kept last
+  pub passed_forced : (kept : ℕ) (last : Option Lit) → (s.reason ≡ None → ⊥) → IsPassed ss lits (at + 1) kept last
+      → IsPassed ss lits at kept last
   passed_forced kept last forced p = record {
     least = λ i h g d. p.least i (later i forced h d) g d;
     found = λ i h d. p.found i (later i forced h d) d;
@@ -59,7 +62,8 @@ module _ (ss : List Step) (lits : List Lit) (at : ℕ) (s : Step) (there : slice
     here = record { step = s; there = there; chosen = chosen }
 
     -- a decision whose negation is none of the literals
-    pub passed_other : (kept : ℕ) (last : Option Lit) → IsPassed ss lits (at + 1) kept last → IsPassed ss lits at at last
+    pub passed_other : (kept : ℕ) (last : Option Lit) → IsPassed ss lits (at + 1) kept last
+        → IsPassed ss lits at at last
     passed_other kept last p = record {
       least = λ i h g d. let low : at ≤ i = h in let high : i < at = g in omega arith;
       found = λ i h d. here;
@@ -74,7 +78,7 @@ module _ (ss : List Step) (lits : List Lit) (at : ℕ) (s : Step) (there : slice
       | inr other ↦ other
     ]
 
-    two_free : (i : ℕ) → i ≤ at → HasTwoFree (take i ss) lits
+    two_free : (i : ℕ) → i ≤ at → HasTwoFree (lits_of (take i ss)) lits
     two_free i h = record {
       one = m;
       two = opposite s.lit;
@@ -86,21 +90,25 @@ module _ (ss : List Step) (lits : List Lit) (at : ℕ) (s : Step) (there : slice
     }
 
     settled_before : (i : ℕ) → i < kept → IsDecision ss i → IsSettled (take i ss) lits
-    settled_before i below d = elim (early_or_late i at) [ inl early ↦ inr (two_free i early) | inr late ↦ absurd (p.least i late below d) ]
+    settled_before i below d =
+        elim (early_or_late i at) [ inl early ↦ inr (two_free i early) | inr late ↦ absurd (p.least i late below d) ]
 
-  pub settled_kept : (kept : ℕ) (last : Option Lit) → is_some last ≡ true → has lits (opposite s.lit) ≡ true → IsPassed ss lits (at + 1) kept last
+  pub settled_kept : (kept : ℕ) (last : Option Lit) → is_some last ≡ true → has lits (opposite s.lit) ≡ true
+      → IsPassed ss lits (at + 1) kept last
       → (i : ℕ) → i < kept → IsDecision ss i → IsSettled (take i ss) lits
   settled_kept kept None some inside p i below d = absurd (false≢true some)
   settled_kept kept (Some m) some inside p i below d = settled_before kept m inside p (p.free m refl) i below d
 
 -- where a literal was found, a decision is kept up to
-pub found_kept : (ss : List Step) (lits : List Lit) (at kept : ℕ) (last : Option Lit) → is_some last ≡ true → IsPassed ss lits at kept last → IsDecision ss kept
+pub found_kept : (ss : List Step) (lits : List Lit) (at kept : ℕ) (last : Option Lit) → is_some last ≡ true
+    → IsPassed ss lits at kept last → IsDecision ss kept
 found_kept ss lits at kept None some p = absurd (false≢true some)
 found_kept ss lits at kept (Some m) some p = (p.free m refl).decision
 
 -- ---- the walk's tests
 
-pub passed_down : (ss : List Step) (lits : List Lit) (at kept : ℕ) (last : Option Lit) → 0 < at → IsPassed ss lits at kept last → IsPassed ss lits (at - 1 + 1) kept last
+pub passed_down : (ss : List Step) (lits : List Lit) (at kept : ℕ) (last : Option Lit) → 0 < at
+    → IsPassed ss lits at kept last → IsPassed ss lits (at - 1 + 1) kept last
 passed_down ss lits at kept last more p =
     let e : at ≡ at - 1 + 1 = omega arith in subst (λ n. IsPassed ss lits n kept last) e p
 

@@ -10,7 +10,8 @@ slice_get-set_same xs i y h =
     let same = length-set xs i y in
     slice_get-get_or (set xs i y) i y (omega arith) ∙ ap Some (get_or-set_same xs i y y h)
 
-pub slice_get-set_other : {X : Type 0} (xs : List X) (i j : ℕ) (y : X) → j ≢ i → slice_get (set xs i y) j ≡ slice_get xs j
+pub slice_get-set_other : {X : Type 0} (xs : List X) (i j : ℕ) (y : X) → j ≢ i
+    → slice_get (set xs i y) j ≡ slice_get xs j
 slice_get-set_other [] i j y h = refl
 slice_get-set_other (x ∷ xs) zero zero y h = absurd (h refl)
 slice_get-set_other (x ∷ xs) zero (suc j) y h = refl
@@ -18,7 +19,8 @@ slice_get-set_other (x ∷ xs) (suc i) zero y h = refl
 slice_get-set_other (x ∷ xs) (suc i) (suc j) y h = slice_get-set_other xs i j y (λ e. h (ap suc e))
 
 -- an item stays where it is when more are put last
-pub slice_get-front : {X : Type 0} (xs ys : List X) (i : ℕ) (x : X) → slice_get xs i ≡ Some x → slice_get (xs ++ ys) i ≡ Some x
+pub slice_get-front : {X : Type 0} (xs ys : List X) (i : ℕ) (x : X) → slice_get xs i ≡ Some x
+    → slice_get (xs ++ ys) i ≡ Some x
 slice_get-front [] ys i x h = absurd cc
 slice_get-front (z ∷ xs) ys zero x h = h
 slice_get-front (z ∷ xs) ys (suc i) x h = slice_get-front xs ys i x h
@@ -29,7 +31,8 @@ slice_get-seam [] x ys = refl
 slice_get-seam (z ∷ xs) x ys = slice_get-seam xs x ys
 
 -- an item among the first ones
-pub slice_get-take : {X : Type 0} (n : ℕ) (xs : List X) (i : ℕ) (x : X) → slice_get (take n xs) i ≡ Some x → slice_get xs i ≡ Some x
+pub slice_get-take : {X : Type 0} (n : ℕ) (xs : List X) (i : ℕ) (x : X) → slice_get (take n xs) i ≡ Some x
+    → slice_get xs i ≡ Some x
 slice_get-take zero xs i x h = absurd cc
 slice_get-take (suc n) [] i x h = h
 slice_get-take (suc n) (z ∷ xs) zero x h = h
@@ -41,26 +44,32 @@ take-same m n xs h = sym (take_min m xs) ∙ ap (λ k. take k xs) h ∙ take_min
 
 -- ---- tests of which all items are true
 
-pub all_at : {X : Type 0} (p : X → Bool) (xs : List X) (i : ℕ) (x : X) → list_all p xs ≡ true → slice_get xs i ≡ Some x → p x ≡ true
+pub all_at : {X : Type 0} (p : X → Bool) (xs : List X) (i : ℕ) (x : X) → list_all p xs ≡ true
+    → slice_get xs i ≡ Some x → p x ≡ true
 all_at p [] i x all h = absurd cc
 all_at p (z ∷ xs) zero x all h = let e : z ≡ x = cc in ap p (sym e) ∙ (and_parts _ _ all).0
 all_at p (z ∷ xs) (suc i) x all h = all_at p xs i x (and_parts _ _ all).1 h
 
-pub all_set : {X : Type 0} (p : X → Bool) (xs : List X) (i : ℕ) (y : X) → list_all p xs ≡ true → p y ≡ true → list_all p (set xs i y) ≡ true
+pub all_set : {X : Type 0} (p : X → Bool) (xs : List X) (i : ℕ) (y : X) → list_all p xs ≡ true → p y ≡ true
+    → list_all p (set xs i y) ≡ true
 all_set p [] i y all h = refl
 all_set p (z ∷ xs) zero y all h = and_from _ _ h (and_parts _ _ all).1
 all_set p (z ∷ xs) (suc i) y all h = and_from _ _ (and_parts _ _ all).0 (all_set p xs i y (and_parts _ _ all).1 h)
 
-pub all_push : {X : Type 0} (p : X → Bool) (xs : List X) (x : X) → list_all p xs ≡ true → p x ≡ true → list_all p (xs ++ x ∷ []) ≡ true
+pub all_push : {X : Type 0} (p : X → Bool) (xs : List X) (x : X) → list_all p xs ≡ true → p x ≡ true
+    → list_all p (xs ++ x ∷ []) ≡ true
 all_push p [] x all h = and_from _ _ h refl
 all_push p (z ∷ xs) x all h = and_from _ _ (and_parts _ _ all).0 (all_push p xs x (and_parts _ _ all).1 h)
 
-pub all_more : {X : Type 0} (p q : X → Bool) (xs : List X) → ((x : X) → p x ≡ true → q x ≡ true) → list_all p xs ≡ true → list_all q xs ≡ true
+pub all_more : {X : Type 0} (p q : X → Bool) (xs : List X) → ((x : X) → p x ≡ true → q x ≡ true)
+    → list_all p xs ≡ true → list_all q xs ≡ true
 all_more p q [] more all = refl
-all_more p q (z ∷ xs) more all = and_from _ _ (more z (and_parts _ _ all).0) (all_more p q xs more (and_parts _ _ all).1)
+all_more p q (z ∷ xs) more all =
+    and_from _ _ (more z (and_parts _ _ all).0) (all_more p q xs more (and_parts _ _ all).1)
 
 -- the first items and the one behind them
-pub take_at : {X : Type 0} (xs : List X) (i : ℕ) (x : X) → slice_get xs i ≡ Some x → take (i + 1) xs ≡ take i xs ++ x ∷ []
+pub take_at : {X : Type 0} (xs : List X) (i : ℕ) (x : X) → slice_get xs i ≡ Some x
+    → take (i + 1) xs ≡ take i xs ++ x ∷ []
 take_at {X} xs i x h = ap (λ n. take n xs) (add-one i) ∙ by xs i h
   where
     by : (ys : List X) (k : ℕ) → slice_get ys k ≡ Some x → take (suc k) ys ≡ take k ys ++ x ∷ []

@@ -1,9 +1,6 @@
 -- Trails: one step more, one step less.
-use Rattle.std.proofs.Common.{◌≡◌, ◌≢◌, ℕ, ◌<◌, ◌≤◌, ◌==◌, Bool, true, false, not, cond, List, [], ◌∷◌, ◌++◌, length, length-take, take, set, slice_get, Option, Some, None, is_some, inl, inr, refl, sym, ap, subst, ◌∙◌, arith}
-use Rattle.std.specs.Option.{option_or}
-use Rattle.std.proofs.lemmas.Bool.{cases_Bool, eqb-true, eq-eqb, false≢true, or_cases, and_parts, and_from, ltb-true, lt-ltb}
-use Rattle.resolution_check.proofs.Literals.{same_lit}
-use Rattle.cdcl_search.specs.Books.{is_below}
+use Rattle.std.proofs.Common.{◌≡◌, ◌≢◌, ℕ, ◌<◌, ◌==◌, Bool, false, not, List, [], ◌∷◌, ◌++◌, length, length-take, take, set, slice_get, Option, Some, None, inl, inr, refl, sym, ap, subst, ◌∙◌, arith}
+use Rattle.std.proofs.lemmas.Bool.{cases_Bool, eqb-true, eq-eqb, false≢true}
 use Rattle.std.proofs.lemmas.Option.{slice_get_within}
 use Rattle.std.proofs.lemmas.List.{length-set, take-append-le, take-take}
 use Rattle.std.proofs.Math.Seq.{take-append_seam}
@@ -12,51 +9,43 @@ use Rattle.cdcl_search.proofs.Places.{slice_get-set_same, slice_get-set_other, s
 use Rattle.cdcl_search.specs.declared.trail.Step.{Step}
 use Rattle.resolution_check.specs.declared.log.Lit.{Lit}
 use Rattle.resolution_check.specs.declared.log.Clause.{Clause}
-use Rattle.resolution_check.specs.Clauses.{has}
-use Rattle.cdcl_search.specs.Trails.{value_of, IsSound, AllFail, IsForced, IsForcedBy, HasReason, Follows, IsFalseAt, Keeps}
+use Rattle.resolution_check.specs.Trails as trails
+use Rattle.resolution_check.proofs.Values as values
+use Rattle.cdcl_search.specs.Trails.{lits_of, value_of, IsSound, AllFail, IsUnit, IsForcedBy, HasReason, Follows, IsFalseAt, Keeps}
 
-pub value_of-append : (ss ts : List Step) (v : ℕ) → value_of (ss ++ ts) v ≡ option_or (value_of ss v) (value_of ts v)
-value_of-append [] ts v = refl
-value_of-append (s ∷ ss) ts v =
-    elim (s.lit.var == v) as (λ b. cond b (Some (not s.lit.negated)) (value_of (ss ++ ts) v) ≡ option_or (cond b (Some (not s.lit.negated)) (value_of ss v)) (value_of ts v)) [
-      | true ↦ refl
-      | false ↦ value_of-append ss ts v
-    ]
-
-or_none : (o : Option Bool) → option_or o None ≡ o
-or_none None = refl
-or_none (Some b) = refl
+-- the literals of more steps
+pub lits_of-append : (ss ts : List Step) → lits_of (ss ++ ts) ≡ lits_of ss ++ lits_of ts
+lits_of-append [] ts = refl
+lits_of-append (s ∷ ss) ts = ap (λ ls. s.lit ∷ ls) (lits_of-append ss ts)
 
 -- a variable that had no value has that of its step
-pub value_of-last : (ss : List Step) (s : Step) → value_of ss s.lit.var ≡ None → value_of (ss ++ s ∷ []) s.lit.var ≡ Some (not s.lit.negated)
+pub value_of-last : (ss : List Step) (s : Step) → value_of ss s.lit.var ≡ None
+    → value_of (ss ++ s ∷ []) s.lit.var ≡ Some (not s.lit.negated)
 value_of-last ss s free =
-    value_of-append ss (s ∷ []) s.lit.var
-    ∙ ap (λ o. option_or o (value_of (s ∷ []) s.lit.var)) free
-    ∙ ap (λ b. cond b (Some (not s.lit.negated)) None) (eq-eqb s.lit.var s.lit.var refl)
+    ap (λ ls. trails.value_of ls s.lit.var) (lits_of-append ss (s ∷ []))
+    ∙ values.value_of-last (lits_of ss) s.lit free
 
 -- every other variable has the value that it had
-pub value_of-other : (ss : List Step) (s : Step) (v : ℕ) → (s.lit.var == v) ≡ false → value_of (ss ++ s ∷ []) v ≡ value_of ss v
+pub value_of-other : (ss : List Step) (s : Step) (v : ℕ) → (s.lit.var == v) ≡ false
+    → value_of (ss ++ s ∷ []) v ≡ value_of ss v
 value_of-other ss s v other =
-    value_of-append ss (s ∷ []) v
-    ∙ ap (λ b. option_or (value_of ss v) (cond b (Some (not s.lit.negated)) None)) other
-    ∙ or_none (value_of ss v)
+    ap (λ ls. trails.value_of ls v) (lits_of-append ss (s ∷ [])) ∙ values.value_of-other (lits_of ss) s.lit v other
 
 -- a value stays when steps follow
 pub value_of-keeps : (ss ts : List Step) (v : ℕ) (b : Bool) → value_of ss v ≡ Some b → value_of (ss ++ ts) v ≡ Some b
-value_of-keeps ss ts v b h = value_of-append ss ts v ∙ ap (λ o. option_or o (value_of ts v)) h
+value_of-keeps ss ts v b h =
+    ap (λ ls. trails.value_of ls v) (lits_of-append ss ts) ∙ values.value_of-keeps (lits_of ss) (lits_of ts) v b h
 
 -- no value after more steps, so none before
 pub value_of-none : (ss ts : List Step) (v : ℕ) → value_of (ss ++ ts) v ≡ None → value_of ss v ≡ None
-value_of-none ss ts v h = by (value_of ss v) refl
-  where
-    by : (o : Option Bool) → value_of ss v ≡ o → value_of ss v ≡ None
-    by None e = e
-    by (Some b) e = let both : None ≡ Some b = sym h ∙ value_of-keeps ss ts v b e in absurd (cc)
+value_of-none ss ts v h =
+    values.value_of-none (lits_of ss) (lits_of ts) v (ap (λ ls. trails.value_of ls v) (sym (lits_of-append ss ts)) ∙ h)
 
 unlike : (m n : ℕ) → (m == n) ≡ false → n ≢ m
 unlike m n h e = false≢true (sym h ∙ eq-eqb m n (sym e))
 
-pub sound_push : (ss : List Step) (values : List (Option Bool)) (s : Step) → s.lit.var < length values → value_of ss s.lit.var ≡ None
+pub sound_push : (ss : List Step) (values : List (Option Bool)) (s : Step) → s.lit.var < length values
+    → value_of ss s.lit.var ≡ None
     → IsSound ss values → IsSound (ss ++ s ∷ []) (set values s.lit.var (Some (not s.lit.negated)))
 sound_push ss values s within free sound =
     let written = set values s.lit.var (Some (not s.lit.negated)) in
@@ -65,8 +54,10 @@ sound_push ss values s within free sound =
       same = λ v h. elim (cases_Bool (s.lit.var == v)) [
         | inl here ↦
             let e : s.lit.var ≡ v = eqb-true s.lit.var v here in
-            ap (slice_get written) (sym e) ∙ slice_get-set_same values s.lit.var (Some (not s.lit.negated)) within ∙ ap Some (sym (value_of-last ss s free) ∙ ap (value_of (ss ++ s ∷ [])) e)
-        | inr other ↦ slice_get-set_other values s.lit.var v (Some (not s.lit.negated)) (unlike s.lit.var v other) ∙ sound.same v (omega arith) ∙ ap Some (sym (value_of-other ss s v other))
+            ap (slice_get written) (sym e) ∙ slice_get-set_same values s.lit.var (Some (not s.lit.negated)) within
+            ∙ ap Some (sym (value_of-last ss s free) ∙ ap (value_of (ss ++ s ∷ [])) e)
+        | inr other ↦ slice_get-set_other values s.lit.var v (Some (not s.lit.negated)) (unlike s.lit.var v other)
+            ∙ sound.same v (omega arith) ∙ ap Some (sym (value_of-other ss s v other))
       ];
       below = each_place-push (λ i t. t.lit.var < length written) ss s (λ i t h. let known = sound.below i t h in omega arith) (omega arith);
       fresh = each_place-push (λ i t. value_of (take i (ss ++ s ∷ [])) t.lit.var ≡ None) ss s
@@ -74,21 +65,27 @@ sound_push ss values s within free sound =
           (ap (λ l. value_of l s.lit.var) (take-append_seam ss (s ∷ [])) ∙ free);
     }
 
-pub sound_pop : (ss : List Step) (values : List (Option Bool)) (s : Step) → IsSound (ss ++ s ∷ []) values → IsSound ss (set values s.lit.var None)
+pub sound_pop : (ss : List Step) (values : List (Option Bool)) (s : Step) → IsSound (ss ++ s ∷ []) values
+    → IsSound ss (set values s.lit.var None)
 sound_pop ss values s sound =
     let written = set values s.lit.var None in
     let long : length written ≡ length values = length-set values s.lit.var None in
     let last : slice_get (ss ++ s ∷ []) (length ss) ≡ Some s = slice_get-seam ss s [] in
-    let free : value_of ss s.lit.var ≡ None = ap (λ l. value_of l s.lit.var) (sym (take-append_seam ss (s ∷ []))) ∙ sound.fresh (length ss) s last in
+    let free : value_of ss s.lit.var ≡ None =
+    ap (λ l. value_of l s.lit.var) (sym (take-append_seam ss (s ∷ []))) ∙ sound.fresh (length ss) s last in
     record {
       same = λ v h. elim (cases_Bool (s.lit.var == v)) [
         | inl here ↦
             let e : s.lit.var ≡ v = eqb-true s.lit.var v here in
-            ap (slice_get written) (sym e) ∙ slice_get-set_same values s.lit.var None (sound.below (length ss) s last) ∙ ap Some (sym free ∙ ap (value_of ss) e)
-        | inr other ↦ slice_get-set_other values s.lit.var v None (unlike s.lit.var v other) ∙ sound.same v (omega arith) ∙ ap Some (value_of-other ss s v other)
+            ap (slice_get written) (sym e) ∙ slice_get-set_same values s.lit.var None (sound.below (length ss) s last)
+            ∙ ap Some (sym free ∙ ap (value_of ss) e)
+        | inr other ↦ slice_get-set_other values s.lit.var v None (unlike s.lit.var v other)
+            ∙ sound.same v (omega arith) ∙ ap Some (value_of-other ss s v other)
       ];
       below = λ i t h. let known = sound.below i t (slice_get-front ss (s ∷ []) i t h) in omega arith;
-      fresh = λ i t h. let w : i < length ss = slice_get_within ss i t h in ap (λ l. value_of l t.lit.var) (sym (take-append-le i ss (s ∷ []) (omega arith))) ∙ sound.fresh i t (slice_get-front ss (s ∷ []) i t h);
+      fresh =
+          λ i t h. let w : i < length ss = slice_get_within ss i t h in ap (λ l. value_of l t.lit.var) (sym (take-append-le i ss (s ∷ []) (omega arith)))
+          ∙ sound.fresh i t (slice_get-front ss (s ∷ []) i t h);
     }
 
 -- ---- steps that follow from clauses
@@ -97,7 +94,8 @@ pub follows_none : (clauses : List Clause) → Follows clauses []
 unfolding Follows
 follows_none clauses i s h = absurd cc
 
-pub follows_push : (clauses : List Clause) (ss : List Step) (s : Step) → Follows clauses ss → HasReason clauses ss s.lit s.reason → Follows clauses (ss ++ s ∷ [])
+pub follows_push : (clauses : List Clause) (ss : List Step) (s : Step) → Follows clauses ss
+    → HasReason clauses ss s.lit s.reason → Follows clauses (ss ++ s ∷ [])
 unfolding Follows
 follows_push clauses ss s follows reason =
     each_place-push (λ i t. HasReason clauses (take i (ss ++ s ∷ [])) t.lit t.reason) ss s
@@ -115,39 +113,27 @@ follows_cut clauses ss n follows i s h =
     let P : List Step → Type 0 = λ l. HasReason clauses l s.lit s.reason in
     subst P (sym (take-take i n ss (omega arith))) (follows i s (slice_get-take n ss i s h))
 
-reason-more : (clauses : List Clause) (c : Clause) (before : List Step) (l : Lit) (reason : Option ℕ) → HasReason clauses before l reason → HasReason (clauses ++ c ∷ []) before l reason
+reason-more : (clauses : List Clause) (c : Clause) (before : List Step) (l : Lit) (reason : Option ℕ)
+    → HasReason clauses before l reason → HasReason (clauses ++ c ∷ []) before l reason
 reason-more clauses c before l None h = tt
-reason-more clauses c before l (Some place) h = record { clause = h.clause; there = slice_get-front clauses (c ∷ []) place h.clause h.there; inside = h.inside; others = h.others }
+reason-more clauses c before l (Some place) h =
+    record { clause = h.clause; there = slice_get-front clauses (c ∷ []) place h.clause h.there; inside = h.inside; others = h.others }
 
-pub follows_more : (clauses : List Clause) (c : Clause) (ss : List Step) → Follows clauses ss → Follows (clauses ++ c ∷ []) ss
+pub follows_more : (clauses : List Clause) (c : Clause) (ss : List Step) → Follows clauses ss
+    → Follows (clauses ++ c ∷ []) ss
 unfolding Follows
 follows_more clauses c ss follows i s h = reason-more clauses c (take i ss) s.lit s.reason (follows i s h)
 
 -- a clause that forces its literal
-pub forced_by : (clauses : List Clause) (ss : List Step) (c : List Lit) (l : Lit) (place : ℕ) → slice_get clauses place ≡ Some (record { lits = c }) → IsForced ss c l → IsForcedBy clauses ss l place
-forced_by clauses ss c l place there forced = record { clause = record { lits = c }; there = there; inside = forced.inside; others = forced.others }
+pub forced_by : (clauses : List Clause) (ss : List Step) (c : List Lit) (l : Lit) (place : ℕ)
+    → slice_get clauses place ≡ Some (record { lits = c }) → IsUnit ss c l → IsForcedBy clauses ss l place
+forced_by clauses ss c l place there forced =
+    record { clause = record { lits = c }; there = there; inside = forced.inside; others = forced.others }
 
-pub false_at : (clauses : List Clause) (ss : List Step) (c : List Lit) (place : ℕ) → slice_get clauses place ≡ Some (record { lits = c }) → AllFail ss c → IsFalseAt clauses ss place
+pub false_at : (clauses : List Clause) (ss : List Step) (c : List Lit) (place : ℕ)
+    → slice_get clauses place ≡ Some (record { lits = c }) → AllFail ss c → IsFalseAt clauses ss place
 false_at clauses ss c place there all = record { clause = record { lits = c }; there = there; false_all = all }
 
 pub keeps_push : (ss : List Step) (s : Step) → Keeps ss (ss ++ s ∷ [])
-keeps_push ss s v h = by (value_of ss v) refl
-  where
-    by : (o : Option Bool) → value_of ss v ≡ o → is_some (value_of (ss ++ s ∷ []) v) ≡ true
-    by None e = absurd (false≢true (sym (ap is_some e) ∙ h))
-    by (Some b) e = ap is_some (value_of-keeps ss (s ∷ []) v b e)
-
--- a literal of a clause whose variables are below the limit
-pub below_at : (limit : ℕ) (c : List Lit) (l : Lit) → is_below limit c ≡ true → has c l ≡ true → l.var < limit
-below_at limit [] l below h = absurd (false≢true h)
-below_at limit (k ∷ c) l below h = elim (or_cases _ _ h) [
-  | inl here ↦ subst (λ (m : Lit). m.var < limit) (sym (same_lit l k here)) (ltb-true k.var limit (and_parts _ _ below).0)
-  | inr later ↦ below_at limit c l (and_parts _ _ below).1 later
-]
-
-pub below_larger : (limit more : ℕ) (c : List Lit) → limit ≤ more → is_below limit c ≡ true → is_below more c ≡ true
-below_larger limit more [] within h = refl
-below_larger limit more (l ∷ c) within h =
-    let both = and_parts _ _ h in
-    let known : l.var < limit = ltb-true l.var limit both.0 in
-    and_from _ _ (lt-ltb l.var more (omega arith)) (below_larger limit more c within both.1)
+keeps_push ss s =
+    subst (trails.Keeps (lits_of ss)) (sym (lits_of-append ss (s ∷ []))) (values.keeps-append (lits_of ss) (s.lit ∷ []))

@@ -3,7 +3,7 @@ use Rattle.std.specs.Prelude.{◌≡◌, ℕ, ◌==◌, Bool, true, not, nat_lt,
 use Rattle.std.specs.List.{list_all, list_any}
 use Rattle.resolution_check.specs.declared.log.Lit.{Lit}
 use Rattle.resolution_check.specs.declared.log.Clause.{Clause}
-use Rattle.resolution_check.specs.Clauses.{has}
+use Rattle.resolution_check.specs.Clauses.{has, is_below}
 use Rattle.resolution_check.specs.Entries.{is_empty}
 
 -- what contracts see of a book: its clauses, how many variables there are, and for each variable the places listed for it
@@ -13,10 +13,6 @@ pub record Shelf : Type 0 where
   pub vars : ℕ
   pub positive : List (List ℕ)
   pub negative : List (List ℕ)
-
--- the variables of the clause are below the limit
-abbrev pub is_below : ℕ → List Lit → Bool
-is_below limit c = list_all (λ l. nat_lt l.var limit) c
 
 -- the places are those of clauses
 abbrev pub are_places : ℕ → List ℕ → Bool
@@ -38,7 +34,8 @@ has_place places place = list_any (λ k. k == place) places
 
 -- each clause is listed for each of its literals
 unfoldable pub Finds : Shelf → Type 0
-Finds shelf = (place : ℕ) (c : Clause) (l : Lit) → slice_get shelf.clauses place ≡ Some c → has c.lits l ≡ true → has_place (listed shelf.positive shelf.negative l) place ≡ true
+Finds shelf =
+    (place : ℕ) (c : Clause) (l : Lit) → slice_get shelf.clauses place ≡ Some c → has c.lits l ≡ true → has_place (listed shelf.positive shelf.negative l) place ≡ true
 
 -- no clause is empty
 abbrev pub are_filled : List Clause → Bool

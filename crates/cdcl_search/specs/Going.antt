@@ -23,23 +23,27 @@ pub record IsGoing (before now : Option (List ℕ)) (inputs clauses : List Claus
   pub count : addition_count entries ≡ added
   pub not_empty : adds_empty entries ≡ false
 
--- the log was written to its end, and its last entry adds the empty clause
-pub record IsRefuted (before now : Option (List ℕ)) (inputs : List Clause) : Type 0 where
+-- the log was written to its end, has so many additions, and the last adds the empty clause
+pub record IsRefuted (before now : Option (List ℕ)) (inputs : List Clause) (added : ℕ) : Type 0 where
   pub entries : List Entry
   pub log : IsSearchLog inputs entries
   pub text : Takes before now (log_text entries)
+  pub count : addition_count entries ≡ added
   pub empty : adds_empty entries ≡ true
 
 -- ---- from one moment to a later one, while these clauses became those
 
 abbrev pub GoesOn : (old new : Option (List ℕ)) → (clauses more : List Clause) → Type 0
-GoesOn old new clauses more = (before : Option (List ℕ)) (ins : List Clause) (added : ℕ) → IsGoing before old ins clauses added → IsGoing before new ins more (added + 1)
+GoesOn old new clauses more =
+    (before : Option (List ℕ)) (ins : List Clause) (added : ℕ) → IsGoing before old ins clauses added → IsGoing before new ins more (added + 1)
 
 abbrev pub Refutes : (old new : Option (List ℕ)) → (clauses : List Clause) → Type 0
-Refutes old new clauses = (before : Option (List ℕ)) (ins : List Clause) (added : ℕ) → IsGoing before old ins clauses added → IsRefuted before new ins
+Refutes old new clauses =
+    (before : Option (List ℕ)) (ins : List Clause) (added : ℕ) → IsGoing before old ins clauses added → IsRefuted before new ins (added + 1)
 
 abbrev pub Cuts : (old new : Option (List ℕ)) → (clauses : List Clause) → Type 0
-Cuts old new clauses = (before : Option (List ℕ)) (ins : List Clause) (added : ℕ) → IsGoing before old ins clauses added → IsCut before new ins
+Cuts old new clauses =
+    (before : Option (List ℕ)) (ins : List Clause) (added : ℕ) → IsGoing before old ins clauses added → IsCut before new ins (added + 1)
 
 -- One clause more is held and can be found, none is empty. The trail follows from the clauses and was full before each
 -- decision; the clauses held before are settled under it. What satisfies the clauses satisfied those before.

@@ -22,7 +22,8 @@ are_numbers count ids = list_all (λ id. nat_lt 0 id && nat_le id count) ids
 -- Steps are followed back, the first `left` are still to be followed. The chain resolves to a clause of false literals:
 -- those learnt so far, whose steps are behind, and those of marked variables, whose steps are to come. Those learnt are
 -- negated decisions, each of another variable.
-pub record IsFollowed (clauses : List Clause) (steps : List Step) (left : ℕ) (marks : ℕ → Bool) (lits : List Lit) (chain : List ℕ) : Type 0 where
+pub record IsFollowed (clauses : List Clause) (steps : List Step) (left : ℕ) (marks : ℕ → Bool) (lits : List Lit)
+    (chain : List ℕ) : Type 0 where
   pub clause : List Lit
   pub resolves : resolved (numbered clauses) chain ≡ Ok clause
   pub parts : (l : Lit) → has clause l ≡ (has lits l || (marks l.var && fails steps l))

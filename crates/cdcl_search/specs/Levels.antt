@@ -1,30 +1,15 @@
 -- Full propagation before each decision: which clauses are settled.
-use Rattle.std.specs.Prelude.{◌≡◌, ◌⊎◌, ℕ, ◌≤◌, true, false, List, length, take, Some, None, slice_get}
+use Rattle.std.specs.Prelude.{◌≡◌, ◌⊎◌, ℕ, ◌≤◌, true, List, length, take, Some, None, slice_get}
 use Rattle.resolution_check.specs.declared.log.Lit.{Lit}
 use Rattle.resolution_check.specs.declared.log.Clause.{Clause}
-use Rattle.resolution_check.specs.Clauses.{opposite, is_same, has}
+use Rattle.resolution_check.specs.Clauses.{opposite, has}
+use Rattle.resolution_check.specs.Trails as trails
 use Rattle.cdcl_search.specs.declared.trail.Step.{Step}
-use Rattle.cdcl_search.specs.Trails.{Assigned, Follows, Keeps, value_of, holds}
-
--- a literal of the clause is true
-pub record HasTrue (steps : List Step) (c : List Lit) : Type 0 where
-  pub lit : Lit
-  pub inside : has c lit ≡ true
-  pub is_true : holds steps lit ≡ true
-
--- two literals of the clause have no value
-pub record HasTwoFree (steps : List Step) (c : List Lit) : Type 0 where
-  pub one : Lit
-  pub two : Lit
-  pub inside_one : has c one ≡ true
-  pub inside_two : has c two ≡ true
-  pub apart : is_same one two ≡ false
-  pub free_one : value_of steps one.var ≡ None
-  pub free_two : value_of steps two.var ≡ None
+use Rattle.cdcl_search.specs.Trails.{Assigned, Follows, Keeps, lits_of}
 
 -- the clause is neither false, nor does it force a literal
 abbrev pub IsSettled : List Step → List Lit → Type 0
-IsSettled steps c = HasTrue steps c ⊎ HasTwoFree steps c
+IsSettled steps c = trails.IsSettled (lits_of steps) c
 
 unfoldable pub AllSettled : List Clause → List Step → Type 0
 AllSettled clauses steps = (place : ℕ) (c : Clause) → slice_get clauses place ≡ Some c → IsSettled steps c.lits
@@ -67,7 +52,8 @@ IsSettledAt clauses steps place = (c : Clause) → slice_get clauses place ≡ S
 
 -- the clause at this place is settled or will be looked at, whatever steps from the end of the earlier trail on are
 abbrev pub IsSeenSince : List Clause → (old new : List Step) → ℕ → Type 0
-IsSeenSince clauses old new place = (head : ℕ) (c : Clause) → head ≤ length old → slice_get clauses place ≡ Some c → IsSeen new head c.lits
+IsSeenSince clauses old new place =
+    (head : ℕ) (c : Clause) → head ≤ length old → slice_get clauses place ≡ Some c → IsSeen new head c.lits
 
 -- The later trail has further steps: it follows from the clauses, and was full before each decision, where the earlier
 -- one did and was; no variable lost its value, and what was settled is settled or hit by a further step.

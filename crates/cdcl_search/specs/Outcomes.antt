@@ -1,13 +1,13 @@
 -- What a search owes for each outcome, and what it logs.
-use Rattle.std.specs.Prelude.{ℕ, ◌≡◌, ◌+◌, Bool, true, false, List, [], ◌∷◌, ◌++◌, Option, Result, Ok, Err}
-use Rattle.std.specs.List.{list_all}
+use Rattle.std.specs.Prelude.{ℕ, ◌≡◌, ◌+◌, ◌<◌, ◌≤◌, Bool, true, false, List, [], ◌∷◌, ◌++◌, Option, Result, Ok, Err}
+use Rattle.std.specs.List.{list_all, AllByRecursion}
 use Rattle.mw_outside.specs.Taken.{Takes, TakesPart}
 use Rattle.resolution_check.specs.declared.log.Clause.{Clause}
 use Rattle.resolution_check.specs.declared.log.Entry.{Entry}
 use Rattle.resolution_check.specs.declared.log.Entry.TheVariants.{Input, Add, Delete, End}
 use Rattle.resolution_check.specs.Entries.{IsGood, adds_empty, addition_count}
-use Rattle.resolution_check.specs.Earned.{AllEarned, IsSpaced}
-use Rattle.resolution_check.specs.Text.{log_text}
+use Rattle.resolution_check.specs.Earned.{AllEarned, IsSpaced, IsAscending}
+use Rattle.resolution_check.specs.Text.{log_text, HasText}
 use Rattle.cdcl_search.specs.declared.outcome.Outcome.{Outcome}
 use Rattle.cdcl_search.specs.declared.outcome.Outcome.TheVariants.{Unsat, Sat, Unknown}
 use Rattle.cdcl_search.specs.declared.outcome.SolveFault.{SolveFault}
@@ -35,6 +35,11 @@ OnLogFault (Ok done) P = Unit {0}
 OnLogFault (Err LogFault) P = P
 OnLogFault (Err Memory) P = Unit {0}
 
+abbrev pub UnlessLogFault : {A : Type 0} → Result A SolveFault → Type 0 → Type 0
+UnlessLogFault (Ok done) P = P
+UnlessLogFault (Err LogFault) P = Unit {0}
+UnlessLogFault (Err Memory) P = P
+
 -- ---- what is logged
 
 -- the clauses as inputs, numbered upwards from the first number
@@ -49,7 +54,7 @@ adds_or_deletes (Delete id) = true
 adds_or_deletes End = false
 
 -- the clauses as inputs, numbered from 1, and then additions and deletions; a good list, in which every addition is
--- earned and deletions are spaced
+-- earned, deletions are spaced, numbers go upwards, and each entry has a text
 pub record IsSearchLog (clauses : List Clause) (es : List Entry) : Type 0 where
   pub learnt : List Entry
   pub order : es ≡ input_entries 1 clauses ++ learnt
@@ -57,23 +62,29 @@ pub record IsSearchLog (clauses : List Clause) (es : List Entry) : Type 0 where
   pub good : IsGood es
   pub earned : AllEarned es
   pub spaced : IsSpaced es
+  pub ascending : IsAscending es
+  pub texts : AllByRecursion HasText es
 
--- which entries show the outcome: the empty clause is added; or it is not; or there are as many additions as were
--- allowed, and none is empty
+-- which entries show the outcome, where so many additions were allowed: the empty clause is added; or none is empty, and
+-- one more was allowed; or there are as many additions as were allowed, and none is empty
 abbrev pub Shows : ℕ → List Entry → Outcome → Type 0
-Shows budget es Unsat = adds_empty es ≡ true
-Shows budget es (Sat values) = adds_empty es ≡ false
-Shows budget es (Unknown added) = (addition_count es ≡ budget) × (adds_empty es ≡ false)
+Shows budget es Unsat = (adds_empty es ≡ true) × (addition_count es ≤ budget)
+Shows budget es (Sat values) = (adds_empty es ≡ false) × (addition_count es < budget)
+Shows budget es (Unknown added) = (adds_empty es ≡ false) × (addition_count es ≡ budget)
 
--- between these two moments the whole log of a search for the clauses was written, and it shows the outcome
-pub record IsLogged (before now : Option (List ℕ)) (clauses : List Clause) (budget : ℕ) (outcome : Outcome) : Type 0 where
+-- between these two moments the whole log of a search for the clauses was written, and it shows the outcome: what is
+-- said of the log's entries is said of this one list
+pub record IsLogged (before now : Option (List ℕ)) (clauses : List Clause) (budget : ℕ)
+    (outcome : Outcome) : Type 0 where
   pub entries : List Entry
   pub log : IsSearchLog clauses entries
   pub shows : Shows budget entries outcome
   pub text : Takes before now (log_text entries)
 
--- between these two moments a front of the log of a search for the clauses was written
-pub record IsCut (before now : Option (List ℕ)) (clauses : List Clause) : Type 0 where
+-- between these two moments a front of the log of a search for the clauses was written, which has at most so many
+-- additions
+pub record IsCut (before now : Option (List ℕ)) (clauses : List Clause) (budget : ℕ) : Type 0 where
   pub entries : List Entry
   pub log : IsSearchLog clauses entries
+  pub within : addition_count entries ≤ budget
   pub text : TakesPart before now (log_text entries)

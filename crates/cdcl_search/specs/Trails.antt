@@ -1,15 +1,19 @@
 -- Trails: which literals were made true, in their order, and by which clauses.
-use Rattle.std.specs.Prelude.{◌≡◌, ◌⊎◌, ℕ, ◌<◌, ◌==◌, Bool, true, false, not, if◌then◌else◌, List, [], ◌∷◌, length, take, Option, Some, None, is_some, slice_get}
+use Rattle.std.specs.Prelude.{◌≡◌, ℕ, ◌<◌, Bool, true, List, [], ◌∷◌, length, take, Option, Some, None, slice_get}
 use Rattle.resolution_check.specs.declared.log.Clause.{Clause}
 use Rattle.resolution_check.specs.Clauses.{has}
-use Rattle.std.specs.Bool.{beq}
 use Rattle.resolution_check.specs.declared.log.Lit.{Lit}
+use Rattle.resolution_check.specs.Trails as trails
 use Rattle.cdcl_search.specs.declared.trail.Step.{Step}
+
+-- the literals that the steps made true
+abbrev pub lits_of : List Step → List Lit
+lits_of [] = []
+lits_of (s ∷ ss) = s.lit ∷ lits_of ss
 
 -- the value of a variable after these steps, if it has one
 abbrev pub value_of : List Step → ℕ → Option Bool
-value_of [] var = None
-value_of (s ∷ ss) var = if s.lit.var == var then Some (not s.lit.negated) else value_of ss var
+value_of steps var = trails.value_of (lits_of steps) var
 
 -- what contracts see of a trail: its steps, and how many variables there are
 pub record Assigned : Type 0 where
@@ -28,31 +32,23 @@ pub record IsSound (steps : List Step) (values : List (Option Bool)) : Type 0 wh
 
 -- ---- literals under a trail
 
--- whether the variable has this value
-abbrev pub is_value : Option Bool → Bool → Bool
-is_value None b = false
-is_value (Some a) b = beq a b
-
 -- whether the literal is true, and whether it is false
 abbrev pub holds : List Step → Lit → Bool
-holds steps l = is_value (value_of steps l.var) (not l.negated)
+holds steps l = trails.holds (lits_of steps) l
 
 abbrev pub fails : List Step → Lit → Bool
-fails steps l = is_value (value_of steps l.var) l.negated
+fails steps l = trails.fails (lits_of steps) l
 
--- each literal of the clause is false
+-- each literal of the clause is false, and each but this one
 abbrev pub AllFail : List Step → List Lit → Type 0
-AllFail steps c = (l : Lit) → has c l ≡ true → fails steps l ≡ true
+AllFail steps c = trails.AllFail (lits_of steps) c
 
--- each literal of the clause but this one is false
 abbrev pub OthersFail : List Step → List Lit → Lit → Type 0
-OthersFail steps c l = (k : Lit) → has c k ≡ true → (k ≡ l) ⊎ (fails steps k ≡ true)
+OthersFail steps c l = trails.OthersFail (lits_of steps) c l
 
 -- this literal of the clause has no value, and all others are false
-pub record IsForced (steps : List Step) (c : List Lit) (l : Lit) : Type 0 where
-  pub inside : has c l ≡ true
-  pub free : value_of steps l.var ≡ None
-  pub others : OthersFail steps c l
+abbrev pub IsUnit : List Step → List Lit → Lit → Type 0
+IsUnit steps c l = trails.IsUnit (lits_of steps) c l
 
 -- ---- why the literals are true
 
@@ -69,7 +65,8 @@ HasReason clauses before l (Some place) = IsForcedBy clauses before l place
 
 -- each step but a decision is forced by its clause
 unfoldable pub Follows : List Clause → List Step → Type 0
-Follows clauses steps = (i : ℕ) (s : Step) → slice_get steps i ≡ Some s → HasReason clauses (take i steps) s.lit s.reason
+Follows clauses steps =
+    (i : ℕ) (s : Step) → slice_get steps i ≡ Some s → HasReason clauses (take i steps) s.lit s.reason
 
 -- the clause at this place is false
 pub record IsFalseAt (clauses : List Clause) (steps : List Step) (place : ℕ) : Type 0 where
@@ -79,8 +76,8 @@ pub record IsFalseAt (clauses : List Clause) (steps : List Step) (place : ℕ) :
 
 -- a variable that had a value has one
 abbrev pub Keeps : List Step → List Step → Type 0
-Keeps old new = (var : ℕ) → is_some (value_of old var) ≡ true → is_some (value_of new var) ≡ true
+Keeps old new = trails.Keeps (lits_of old) (lits_of new)
 
 -- each variable has a value
 abbrev pub IsTotal : ℕ → List Step → Type 0
-IsTotal vars steps = (var : ℕ) → var < vars → is_some (value_of steps var) ≡ true
+IsTotal vars steps = trails.IsTotal vars (lits_of steps)

@@ -2,9 +2,9 @@
 
 ghost use Rattle.std.specs.Prelude.{◌≡◌, ℕ, ◌+◌, ◌<◌, ◌^◌, ◌==◌, ◌||◌, ◌&&◌, slice_index_or, [], ◌∷◌, ◌++◌, true, Some, IfOk, OnOk, length, slice_get};
 ghost use Rattle.std.specs.List.{list_all};
-ghost use Rattle.cdcl_search.specs.Books.{is_below, are_places, IsIndexed, listed, has_place, Finds};
+ghost use Rattle.cdcl_search.specs.Books.{are_places, IsIndexed, listed, has_place, Finds};
 ghost use Rattle.resolution_check.specs.declared.log.Lit.{Lit};
-ghost use Rattle.resolution_check.specs.Clauses.{has, is_same};
+ghost use Rattle.resolution_check.specs.Clauses.{has, is_same, is_below};
 
 use mw_text::List;
 use resolution_check::{Clause, Lit};

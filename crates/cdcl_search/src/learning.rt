@@ -2,10 +2,9 @@
 
 ghost use Rattle.std.specs.Prelude.{◌≡◌, ℕ, ◌+◌, ◌<◌, ◌∷◌, [], ◌++◌, ◌==◌, ◌||◌, true, false, Some, IfOk, OnOk, length, take, slice_get, replicate, if◌then◌else◌};
 ghost use Rattle.resolution_check.specs.declared.log.Clause.{Clause};
-ghost use Rattle.resolution_check.specs.Clauses.{opposite};
+ghost use Rattle.resolution_check.specs.Clauses.{opposite, is_below};
 ghost use Rattle.resolution_check.specs.Earned.{has_var};
 ghost use Rattle.cnf_blaster.specs.Laws.{marked};
-ghost use Rattle.cdcl_search.specs.Books.{is_below};
 ghost use Rattle.cdcl_search.specs.Trails.{Follows, IsFalseAt};
 ghost use Rattle.cdcl_search.specs.Levels.{IsDecision, IsSettled};
 ghost use Rattle.cdcl_search.specs.Learning.{are_numbers, IsFollowed, IsLesson};

@@ -1,12 +1,12 @@
 //! The log of a search: one line for each entry.
 
+ghost use Rattle.resolution_check.specs.Clauses.{is_below};
 ghost use Rattle.std.specs.Prelude.{◌≡◌, ◌≤◌, ◌^◌, true, IfOk, OnOk, length};
 ghost use Rattle.std.specs.List.{list_all};
 ghost use Rattle.mw_outside.specs.Faults.{Rose};
 ghost use Rattle.mw_outside.specs.Taken.{Takes, TakesPart};
 ghost use Rattle.resolution_check.specs.Text.{line_of, log_text, HasText};
-ghost use Rattle.cdcl_search.specs.Books.{is_below};
-ghost use Rattle.cdcl_search.specs.Outcomes.{OnLogFault, input_entries};
+ghost use Rattle.cdcl_search.specs.Outcomes.{OnLogFault, UnlessLogFault, input_entries};
 
 use crate::book::copy_of;
 use crate::learning::Lesson;
@@ -33,13 +33,12 @@ fn write_line<L: Sink>(alloc: Global, log: &mut L, entry: &Entry) -> Result<(), 
     ensures takes { OnOk result (Takes (L.taken log.old) (L.taken log.new) (line_of entry.now)) }
     ensures part { TakesPart (L.taken log.old) (L.taken log.new) (line_of entry.now) }
     ensures fault { OnLogFault result (Rose (L.faults log.old) (L.faults log.new)) }
+    ensures stays { UnlessLogFault result (L.faults log.new ≡ L.faults log.old) }
     ensures later { L.faults log.old ≤ L.faults log.new }
 {
     let line = line_text(alloc, entry)?;
-    match log.write(line.as_slice()) {
-        Ok(()) => Ok(()),
-        Err(_) => Err(SolveFault::LogFault),
-    }
+    log.write(line.as_slice())?;
+    Ok(())
 }
 
 /// Writes a clause as the input of this number.
@@ -54,6 +53,7 @@ fn write_input<L: Sink>(
     ensures takes { OnOk result (Takes (L.taken log.old) (L.taken log.new) (line_of (Entry.Input id clause.now))) }
     ensures part { TakesPart (L.taken log.old) (L.taken log.new) (line_of (Entry.Input id clause.now)) }
     ensures fault { OnLogFault result (Rose (L.faults log.old) (L.faults log.new)) }
+    ensures stays { UnlessLogFault result (L.faults log.new ≡ L.faults log.old) }
     ensures later { L.faults log.old ≤ L.faults log.new }
 {
     let input = Entry::Input {
@@ -74,6 +74,7 @@ pub(crate) fn write_inputs<L: Sink>(
     ensures takes { OnOk result (Takes (L.taken log.old) (L.taken log.new) (log_text (input_entries 1 clauses.now))) }
     ensures part { TakesPart (L.taken log.old) (L.taken log.new) (log_text (input_entries 1 clauses.now)) }
     ensures fault { OnLogFault result (Rose (L.faults log.old) (L.faults log.new)) }
+    ensures stays { UnlessLogFault result (L.faults log.new ≡ L.faults log.old) }
     ensures later { L.faults log.old ≤ L.faults log.new }
 {
     for (at, clause) in clauses.iter().enumerate() {
@@ -95,6 +96,7 @@ pub(crate) fn write_lesson<L: Sink>(
     ensures takes { OnOk result (Takes (L.taken log.old) (L.taken log.new) (line_of (Entry.Add id (record { lits = lesson.lits }) lesson.chain))) }
     ensures part { TakesPart (L.taken log.old) (L.taken log.new) (line_of (Entry.Add id (record { lits = lesson.lits }) lesson.chain)) }
     ensures fault { OnLogFault result (Rose (L.faults log.old) (L.faults log.new)) }
+    ensures stays { UnlessLogFault result (L.faults log.new ≡ L.faults log.old) }
     ensures later { L.faults log.old ≤ L.faults log.new }
 {
     let Lesson { lits, chain } = lesson;

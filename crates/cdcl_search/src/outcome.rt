@@ -1,5 +1,6 @@
 //! What a search answers.
 
+use mw_outside::Failed;
 use mw_text::List;
 use std::alloc::{AllocError, AllocFailed};
 use thiserror::Error;
@@ -24,6 +25,17 @@ pub enum SolveFault {
     /// Memory was refused.
     #[error("out of memory")]
     Memory,
+}
+
+impl From<Failed> for SolveFault {
+    ghost use Rattle.std.specs.Prelude.{◌≡◌};
+    ghost use Rattle.cdcl_search.specs.declared.outcome.SolveFault.TheVariants.{LogFault};
+
+    ghost from_gives = { λ _ fault. fault ≡ LogFault };
+
+    fn from(_error: Failed) -> SolveFault {
+        SolveFault::LogFault
+    }
 }
 
 impl From<AllocError> for SolveFault {

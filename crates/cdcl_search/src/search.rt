@@ -1,9 +1,10 @@
 //! From one conflict to the next: propagation and decisions.
 
+ghost use Rattle.resolution_check.specs.Trails.{is_value};
 ghost use Rattle.std.specs.Prelude.{◌≡◌, ℕ, ◌<◌, true, None, IfOk, IfSome, is_some, length};
 ghost use Rattle.term_store.specs.Terms.{truth};
 ghost use Rattle.cdcl_search.specs.Books.{Finds};
-ghost use Rattle.cdcl_search.specs.Trails.{IsFalseAt, IsTotal, value_of, is_value};
+ghost use Rattle.cdcl_search.specs.Trails.{IsFalseAt, IsTotal, value_of};
 ghost use Rattle.cdcl_search.specs.Levels.{Goes, AllSettled, IsSettledAt};
 
 use crate::book::Book;

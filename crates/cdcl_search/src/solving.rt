@@ -1,5 +1,6 @@
 //! The search as a whole.
 
+ghost use Rattle.resolution_check.specs.Clauses.{is_below};
 ghost use Rattle.std.specs.Prelude.{◌≡◌, ℕ, ◌+◌, ◌*◌, ◌<◌, ◌≤◌, ◌^◌, true, false, List, Option, IfOk, OnErr, length};
 ghost use Rattle.std.specs.List.{list_all};
 ghost use Rattle.term_store.specs.Terms.{truth};
@@ -7,10 +8,10 @@ ghost use Rattle.resolution_check.specs.declared.log.Clause.{Clause};
 ghost use Rattle.resolution_check.specs.Entries.{is_empty, satisfies, IsUnsatisfiable};
 ghost use Rattle.cnf_blaster.specs.Proper.{IsProper};
 ghost use Rattle.mw_outside.specs.Faults.{Rose};
-ghost use Rattle.cdcl_search.specs.Books.{is_below, are_filled, Finds};
+ghost use Rattle.cdcl_search.specs.Books.{are_filled, Finds};
 ghost use Rattle.cdcl_search.specs.Trails.{Follows, IsFalseAt};
 ghost use Rattle.cdcl_search.specs.Levels.{AreFull};
-ghost use Rattle.cdcl_search.specs.Outcomes.{OnUnsat, OnSat, OnUnknown, OnLogFault, IsLogged, IsCut};
+ghost use Rattle.cdcl_search.specs.Outcomes.{OnUnsat, OnSat, OnUnknown, OnLogFault, UnlessLogFault, IsLogged, IsCut};
 ghost use Rattle.cdcl_search.specs.Going.{IsGoing, GoesOn, Refutes, Cuts, IsNext};
 
 use crate::book::{Book, copy_of};
@@ -70,6 +71,7 @@ fn take_lesson<L: Sink>(
     ensures refuted { IfOk result (λ empty. empty ≡ true → Refutes (L.taken log.old) (L.taken log.new) book.old.clauses) }
     ensures cut { OnErr result (Cuts (L.taken log.old) (L.taken log.new) book.old.clauses) }
     ensures fault { OnLogFault result (Rose (L.faults log.old) (L.faults log.new)) }
+    ensures stays { UnlessLogFault result (L.faults log.new ≡ L.faults log.old) }
     ensures later { L.faults log.old ≤ L.faults log.new }
 {
     trail.steps_are_fresh();
@@ -105,8 +107,9 @@ fn search<L: Sink>(
     ensures values { IfOk result (λ outcome. OnSat outcome (λ values. length values ≡ book.old.vars)) }
     ensures unknown { IfOk result (λ outcome. OnUnknown outcome (λ added. added ≡ budget)) }
     ensures cut { OnErr result ((before : Option (List ℕ)) (ins : List Clause) →
-        IsGoing before (L.taken log.old) ins book.old.clauses 0 → IsCut before (L.taken log.new) ins) }
+        IsGoing before (L.taken log.old) ins book.old.clauses 0 → IsCut before (L.taken log.new) ins budget) }
     ensures fault { OnLogFault result (Rose (L.faults log.old) (L.faults log.new)) }
+    ensures stays { UnlessLogFault result (L.faults log.new ≡ L.faults log.old) }
     ensures later { L.faults log.old ≤ L.faults log.new }
 {
     let mut first = 0;
@@ -125,10 +128,11 @@ fn search<L: Sink>(
 }
 
 /// Looks for an assignment that satisfies the clauses, and logs the clauses as inputs and then each clause that it learns.
-/// It learns at most `budget` clauses.
+/// It learns at most `budget` clauses, and fewer where it finds an assignment.
 ///
 /// # Errors
-/// `LogFault` where a write of the log failed, `Memory` where memory was refused. A front of the log then stands.
+/// `LogFault` where a write of the log failed; `Memory` where memory was refused and no write failed. A front of the log
+/// then stands.
 pub fn solve<L: Sink>(
     alloc: Global,
     cnf: &Cnf,
@@ -147,8 +151,9 @@ pub fn solve<L: Sink>(
     ensures bound { IfOk result (λ outcome. OnUnknown outcome (λ added. added ≤ 3 ^ cnf.now.vars * (3 ^ cnf.now.vars + 1))) }
 
     ensures logged { IfOk result (IsLogged (L.taken log.old) (L.taken log.new) cnf.now.clauses budget) }
-    ensures cut { OnErr result (IsCut (L.taken log.old) (L.taken log.new) cnf.now.clauses) }
+    ensures cut { OnErr result (IsCut (L.taken log.old) (L.taken log.new) cnf.now.clauses budget) }
     ensures fault { OnLogFault result (Rose (L.faults log.old) (L.faults log.new)) }
+    ensures stays { UnlessLogFault result (L.faults log.new ≡ L.faults log.old) }
     ensures later { L.faults log.old ≤ L.faults log.new }
 {
     write_inputs(alloc, log, cnf.clauses.as_slice())?;

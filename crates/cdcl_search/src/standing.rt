@@ -1,7 +1,7 @@
 //! How a clause stands under a trail.
 
+ghost use Rattle.resolution_check.specs.Clauses.{is_below};
 ghost use Rattle.std.specs.Prelude.{◌≡◌, ◌<◌, true};
-ghost use Rattle.cdcl_search.specs.Books.{is_below};
 ghost use Rattle.cdcl_search.specs.Trails.{holds};
 ghost use Rattle.cdcl_search.specs.Standings.{StandsSo};
 

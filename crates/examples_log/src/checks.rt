@@ -1,7 +1,8 @@
 //! Logs that the checker accepts, and logs that it refuses.
 
-use resolution_check::{Bad, Checker, read_entry};
+use resolution_check::{Bad, Checker, LineRefused, read_entry};
 use std::alloc::Global;
+use std::test::Fail;
 
 /// Reads the lines into a new checker: whether the empty clause was added, and how many additions there
 /// were; or why the first line that is refused is refused.
@@ -107,4 +108,15 @@ fn nothing_follows_the_end(rt: HostRuntime) {
         check(rt.alloc(), "i 1 1 0\ne\ni 1 1 0"),
         Err(Bad::AfterEnd)
     );
+}
+
+#[test]
+fn causes_print_as_errors(rt: HostRuntime) -> Result<(), Fail> {
+    let unknown = Bad::UnknownId { id: 7 }.to_string(rt.alloc())?;
+    assert_eq!(rt; unknown.as_str(), "no clause is held under number 7");
+    let pivot = Bad::NoPivot { at: 2 }.to_string(rt.alloc())?;
+    assert_eq!(rt; pivot.as_str(), "no pivot at place 2 of the chain");
+    let line = LineRefused::BadLine.to_string(rt.alloc())?;
+    assert_eq!(rt; line.as_str(), "the line is no entry's text");
+    Ok(())
 }

@@ -4,6 +4,8 @@ use Rattle.std.specs.Option.{option_or}
 use Rattle.std.specs.List.{list_any}
 use Rattle.std.proofs.lemmas.Bool.{cases_Bool, false≢true, or_cases, eqb-true}
 use Rattle.std.proofs.lemmas.List.{append-nil}
+use Rattle.std.proofs.lemmas.List.Folds.{list_any-append}
+use Rattle.std.proofs.Math.Bool.{or-false}
 use Rattle.resolution_check.specs.declared.log.Lit.{Lit}
 use Rattle.resolution_check.specs.declared.log.Clause.{Clause}
 use Rattle.resolution_check.specs.declared.log.Entry.{Entry}
@@ -15,8 +17,10 @@ use Rattle.resolution_check.specs.Entries.{clause_by, deletes, clause_given, is_
 
 -- ---- no fault exactly where the list stays good
 
-no_cover_fault : (clause : List Lit) (answer : Result (List Lit) Bad) → cover_fault clause answer ≡ None → (r : List Lit) × (answer ≡ Ok r) × (is_inside r clause ≡ true)
-no_cover_fault clause (Ok r) h = elim (cases_Bool (is_inside r clause)) [ inl inside ↦ (r, refl, inside) | inr outside ↦ absurd (cc) ]
+no_cover_fault : (clause : List Lit) (answer : Result (List Lit) Bad) → cover_fault clause answer ≡ None
+    → (r : List Lit) × (answer ≡ Ok r) × (is_inside r clause ≡ true)
+no_cover_fault clause (Ok r) h =
+    elim (cases_Bool (is_inside r clause)) [ inl inside ↦ (r, refl, inside) | inr outside ↦ absurd (cc) ]
 no_cover_fault clause (Err bad) h = absurd (cc)
 
 unless_true : {X : Type 0} (b : Bool) (x : X) (o : Option X) → cond b (Some x) o ≡ None → (b ≡ false) × (o ≡ None)
@@ -36,8 +40,12 @@ sound_from es (Delete id) h = held (clause_held es id) h
     held None h = absurd (cc)
 sound_from es End h = tt
 
+-- without a cause of refusal the list stays good
 pub kept_from_free : (es : List Entry) (e : Entry) → fault_of es e ≡ None → KeepsGood es e
-kept_from_free es e h = let both = unless_true (has_ended es) AfterEnd (entry_fault (is_given es) (clause_held es) e) h in (both.0, sound_from es e both.1)
+kept_from_free es e h =
+    let both =
+    unless_true (has_ended es) AfterEnd (entry_fault (is_given es) (clause_held es) e) h in
+    (both.0, sound_from es e both.1)
 
 free_from_sound : (es : List Entry) (e : Entry) → IsSound es e → entry_fault (is_given es) (clause_held es) e ≡ None
 free_from_sound es (Input id clause) h = rw h refl
@@ -49,23 +57,29 @@ free_from_sound es (Delete id) h = held (clause_held es id) h
     held None h = absurd (false≢true h)
 free_from_sound es End h = refl
 
+-- where the list stays good there is no cause of refusal
 pub free_from_kept : (es : List Entry) (e : Entry) → KeepsGood es e → fault_of es e ≡ None
 free_from_kept es e h = rw h.0 (free_from_sound es e h.1)
 
 -- ---- lists in which each entry is in a relation to those before it
 
 module _ (R : List Entry → Entry → Type 0) where
-  each_from : (P : List Entry → Type 0) → ((es : List Entry) (e : Entry) → R es e → P es → P (es ++ e ∷ [])) → (before es : List Entry) → EachAfter R before es → P before → P (before ++ es)
+  each_from : (P : List Entry → Type 0) → ((es : List Entry) (e : Entry) → R es e → P es → P (es ++ e ∷ []))
+      → (before es : List Entry) → EachAfter R before es → P before → P (before ++ es)
   each_from P step before [] h p = subst P (sym (append-nil before)) p
-  each_from P step before (e ∷ es) h p = subst P (append_assoc before (e ∷ []) es) (each_from P step (before ++ e ∷ []) es h.1 (step before e h.0 p))
+  each_from P step before (e ∷ es) h p =
+      subst P (append_assoc before (e ∷ []) es) (each_from P step (before ++ e ∷ []) es h.1 (step before e h.0 p))
 
   -- what holds of the empty list, and is kept by each entry, holds of the list
-  pub by_steps : (P : List Entry → Type 0) → P [] → ((es : List Entry) (e : Entry) → R es e → P es → P (es ++ e ∷ [])) → (es : List Entry) → EachAfter R [] es → P es
+  pub by_steps : (P : List Entry → Type 0) → P [] → ((es : List Entry) (e : Entry) → R es e → P es → P (es ++ e ∷ []))
+      → (es : List Entry) → EachAfter R [] es → P es
   by_steps P start step es h = each_from P step [] es h start
 
-  push_after : (before es : List Entry) (e : Entry) → EachAfter R before es → R (before ++ es) e → EachAfter R before (es ++ e ∷ [])
+  push_after : (before es : List Entry) (e : Entry) → EachAfter R before es → R (before ++ es) e
+      → EachAfter R before (es ++ e ∷ [])
   push_after before [] e h k = (subst (λ front. R front e) (append-nil before) k, tt)
-  push_after before (d ∷ es) e h k = (h.0, push_after (before ++ d ∷ []) es e h.1 (subst (λ front. R front e) (sym (append_assoc before (d ∷ []) es)) k))
+  push_after before (d ∷ es) e h k =
+      (h.0, push_after (before ++ d ∷ []) es e h.1 (subst (λ front. R front e) (sym (append_assoc before (d ∷ []) es)) k))
 
   -- one entry more
   pub each_push : (es : List Entry) (e : Entry) → EachAfter R [] es → R es e → EachAfter R [] (es ++ e ∷ [])
@@ -73,7 +87,8 @@ module _ (R : List Entry → Entry → Type 0) where
 
   last_after : (before es : List Entry) (e : Entry) → EachAfter R before (es ++ e ∷ []) → R (before ++ es) e
   last_after before [] e h = subst (λ front. R front e) (sym (append-nil before)) h.0
-  last_after before (d ∷ es) e h = subst (λ front. R front e) (append_assoc before (d ∷ []) es) (last_after (before ++ d ∷ []) es e h.1)
+  last_after before (d ∷ es) e h =
+      subst (λ front. R front e) (append_assoc before (d ∷ []) es) (last_after (before ++ d ∷ []) es e h.1)
 
   -- the last entry
   pub each_last : (es : List Entry) (e : Entry) → EachAfter R [] (es ++ e ∷ []) → R es e
@@ -81,29 +96,25 @@ module _ (R : List Entry → Entry → Type 0) where
 
 -- ---- one entry more
 
-pub clause_given-push : (es : List Entry) (e : Entry) (id : ℕ) → clause_given (es ++ e ∷ []) id ≡ option_or (clause_given es id) (clause_by id e)
+-- what is given after one entry more
+pub clause_given-push : (es : List Entry) (e : Entry) (id : ℕ)
+    → clause_given (es ++ e ∷ []) id ≡ option_or (clause_given es id) (clause_by id e)
 clause_given-push [] e id = or_none (clause_by id e)
   where
     or_none : (o : Option Clause) → option_or o None ≡ o
     or_none None = refl
     or_none (Some c) = refl
-clause_given-push (d ∷ es) e id = ap (option_or (clause_by id d)) (clause_given-push es e id) ∙ or_assoc (clause_by id d) (clause_given es id) (clause_by id e)
+clause_given-push (d ∷ es) e id =
+    ap (option_or (clause_by id d)) (clause_given-push es e id)
+    ∙ or_assoc (clause_by id d) (clause_given es id) (clause_by id e)
   where
     or_assoc : (a b c : Option Clause) → option_or a (option_or b c) ≡ option_or (option_or a b) c
     or_assoc None b c = refl
     or_assoc (Some x) b c = refl
 
+-- one entry more in a test of which any entry is true
 pub any-push : (p : Entry → Bool) (es : List Entry) (e : Entry) → list_any p (es ++ e ∷ []) ≡ (list_any p es || p e)
-any-push p [] e = or_false (p e)
-  where
-    or_false : (b : Bool) → (b || false) ≡ b
-    or_false true = refl
-    or_false false = refl
-any-push p (d ∷ es) e = ap (λ b. p d || b) (any-push p es e) ∙ or_assoc (p d) (list_any p es) (p e)
-  where
-    or_assoc : (a b c : Bool) → (a || (b || c)) ≡ ((a || b) || c)
-    or_assoc true b c = refl
-    or_assoc false b c = refl
+any-push p es e = list_any-append p es (e ∷ []) ∙ ap (λ b. list_any p es || b) (or-false (p e))
 
 -- ---- a number that is deleted was given
 
@@ -117,6 +128,7 @@ given-kept es e id h = ap is_some (clause_given-push es e id) ∙ some_or (claus
     some_or (Some x) b h = refl
     some_or None b h = absurd (false≢true h)
 
+-- a number that is held was given
 pub given_from_held : (es : List Entry) (id : ℕ) → IsSome (clause_held es id) → is_given es id ≡ true
 given_from_held es id h = from (is_deleted es id) (clause_given es id) h
   where
@@ -128,9 +140,14 @@ given_from_held es id h = from (is_deleted es id) (clause_given es id) h
 deleted_now : (es : List Entry) (e : Entry) (id : ℕ) → IsSound es e → deletes id e ≡ true → is_given es id ≡ true
 deleted_now es (Input own clause) id h d = absurd (false≢true d)
 deleted_now es (Add own clause chain) id h d = absurd (false≢true d)
-deleted_now es (Delete own) id h d = given_from_held es id (subst (λ n. IsSome (clause_held es n)) (eqb-true own id d) h)
+deleted_now es (Delete own) id h d =
+    given_from_held es id (subst (λ n. IsSome (clause_held es n)) (eqb-true own id d) h)
 deleted_now es End id h d = absurd (false≢true d)
 
+-- a number that is deleted was given
 pub given_from_deleted : (es : List Entry) → IsGood es → Deletes es
 given_from_deleted = by_steps KeepsGood Deletes (λ id h. h) (λ es e kept earlier id h.
-    given-kept es e id (elim (or_cases _ _ (sym (any-push (deletes id) es e) ∙ h)) [ inl before ↦ earlier id before | inr now ↦ deleted_now es e id kept.1 now ]))
+    given-kept es e id (elim (or_cases _ _ (sym (any-push (deletes id) es e) ∙ h)) [
+      | inl before ↦ earlier id before
+      | inr now ↦ deleted_now es e id kept.1 now
+    ]))

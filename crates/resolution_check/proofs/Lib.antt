@@ -1,4 +1,5 @@
 pub mod Literals
+pub mod Values
 pub mod Pivots
 pub mod Chains
 pub mod Goods
@@ -6,5 +7,6 @@ pub mod Truth
 pub mod Accepted
 pub mod Texts
 pub mod Lines
+pub mod LogLines
 pub mod Written
 pub mod Resolvents

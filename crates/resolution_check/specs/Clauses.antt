@@ -1,5 +1,5 @@
 -- Clauses as sets of literals, and their resolvents.
-use Rattle.std.specs.Prelude.{◌≡◌, true, Bool, not, ◌&&◌, ◌==◌, if◌then◌else◌, List, [], ◌∷◌, ◌++◌, filter}
+use Rattle.std.specs.Prelude.{◌≡◌, ℕ, true, Bool, nat_lt, not, ◌&&◌, ◌==◌, if◌then◌else◌, List, [], ◌∷◌, ◌++◌, filter}
 use Rattle.std.specs.Option.{option_map}
 use Rattle.std.specs.List.{list_any, list_all}
 use Rattle.std.specs.Bool.{beq}
@@ -17,6 +17,10 @@ is_same k l = (k.var == l.var) && beq k.negated l.negated
 -- whether the literal stands in the clause
 abbrev pub has : List Lit → Lit → Bool
 has c l = list_any (is_same l) c
+
+-- whether the variables of the clause are below the limit
+abbrev pub is_below : ℕ → List Lit → Bool
+is_below limit c = list_all (λ l. nat_lt l.var limit) c
 
 -- whether each literal of the first clause stands in the second
 abbrev pub is_inside : List Lit → List Lit → Bool

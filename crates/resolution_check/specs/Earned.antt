@@ -1,12 +1,13 @@
--- Which additions a solver may log, and when it may delete: every addition is earned, and the list is spaced.
-use Rattle.std.specs.Prelude.{ℕ, ◌≡◌, ◌≢◌, ◌⊎◌, ◌+◌, ◌*◌, ◌≤◌, Bool, true, false, not, ◌&&◌, ◌==◌, if◌then◌else◌, ⊤, List, [], ◌∷◌, Some, Ok}
+-- Which additions a solver may log, and when it may delete: every addition is earned, numbers go
+-- upwards, and the list is spaced.
+use Rattle.std.specs.Prelude.{ℕ, ◌≡◌, ◌≢◌, ◌⊎◌, ◌+◌, ◌*◌, ◌<◌, ◌≤◌, Bool, true, false, not, ◌&&◌, ◌==◌, if◌then◌else◌, ⊤, List, [], ◌∷◌, Some, Ok}
 use Rattle.std.specs.List.{list_any}
 use Rattle.resolution_check.specs.declared.log.Lit.{Lit}
 use Rattle.resolution_check.specs.declared.log.Clause.{Clause}
 use Rattle.resolution_check.specs.declared.log.Entry.{Entry}
 use Rattle.resolution_check.specs.declared.log.Entry.TheVariants.{Input, Add, Delete, End}
 use Rattle.resolution_check.specs.Clauses.{has, is_inside}
-use Rattle.resolution_check.specs.Entries.{clause_given, clause_held, resolved, addition_count, KeepsGood, EachAfter}
+use Rattle.resolution_check.specs.Entries.{clause_given, is_given, clause_held, resolved, addition_count, KeepsGood, EachAfter}
 
 -- ---- earned additions
 
@@ -35,6 +36,22 @@ IsEarned es End = ⊤
 -- every addition of the list is earned
 abbrev pub AllEarned : List Entry → Type 0
 AllEarned es = EachAfter IsEarned [] es
+
+-- ---- numbers go upwards
+
+-- the number is above each that was given before
+abbrev pub IsAbove : List Entry → ℕ → Type 0
+IsAbove es id = (other : ℕ) → is_given es other ≡ true → other < id
+
+abbrev pub GoesUp : List Entry → Entry → Type 0
+GoesUp es (Input id clause) = IsAbove es id
+GoesUp es (Add id clause chain) = IsAbove es id
+GoesUp es (Delete id) = ⊤
+GoesUp es End = ⊤
+
+-- each number given is above those given before
+abbrev pub IsAscending : List Entry → Type 0
+IsAscending es = EachAfter GoesUp [] es
 
 -- ---- spaced deletions
 

@@ -121,7 +121,8 @@ cover_fault clause (Err bad) = Some bad
 
 -- by whether a number was given, and the clauses that are held
 abbrev pub addition_fault : (ℕ → Bool) → (ℕ → Option Clause) → ℕ → List Lit → List ℕ → Option Bad
-addition_fault given held id clause chain = if given id then Some (UsedId id) else cover_fault clause (resolved held chain)
+addition_fault given held id clause chain =
+    if given id then Some (UsedId id) else cover_fault clause (resolved held chain)
 
 abbrev pub entry_fault : (ℕ → Bool) → (ℕ → Option Clause) → Entry → Option Bad
 entry_fault given held (Input id clause) = if given id then Some (UsedId id) else None
@@ -139,7 +140,9 @@ fault_of es e = if has_ended es then Some AfterEnd else entry_fault (is_given es
 -- inside the claimed clause
 abbrev pub IsSound : List Entry → Entry → Type 0
 IsSound es (Input id clause) = is_given es id ≡ false
-IsSound es (Add id clause chain) = (is_given es id ≡ false) × (r : List Lit) × (resolved (clause_held es) chain ≡ Ok r) × (is_inside r clause.lits ≡ true)
+IsSound es (Add id clause chain) =
+    (is_given es id ≡ false) × (r : List Lit) × (resolved (clause_held es) chain ≡ Ok r) ×
+    (is_inside r clause.lits ≡ true)
 IsSound es (Delete id) = IsSome (clause_held es id)
 IsSound es End = ⊤
 

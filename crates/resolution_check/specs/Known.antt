@@ -1,7 +1,9 @@
 -- What a checker knows of the entries that it has accepted.
-use Rattle.std.specs.Prelude.{ℕ, ◌≡◌, ◌+◌, ◌⊎◌, Bool, ◌||◌, ◌&&◌, ◌==◌, nat_eq, nat_lt, nat_le, if◌then◌else◌, List, length, Option, Some, None, is_some, Result, Ok, Err}
+use Rattle.std.specs.Prelude.{ℕ, ◌≡◌, ◌+◌, ◌⊎◌, Bool, ◌||◌, ◌&&◌, ◌==◌, nat_lt, nat_le, if◌then◌else◌, List, length, Option, Some, None, is_some, Result, Ok, Err}
 use Rattle.std.specs.Option.{option_flatten}
 use Rattle.std.specs.Map.{lookup}
+use Rattle.std.specs.Ordering.{nat_cmp}
+use Rattle.std.specs.BTreeMap.{is_at}
 use Rattle.resolution_check.specs.declared.log.Clause.{Clause}
 use Rattle.resolution_check.specs.declared.log.Entry.{Entry}
 use Rattle.resolution_check.specs.declared.log.Entry.TheVariants.{Input, Add, Delete, End}
@@ -21,11 +23,13 @@ is_in_order through id = nat_lt 0 id && nat_le id through
 
 -- whether a number was given
 abbrev pub given_on : Shelved → ℕ → Bool
-given_on shelf id = is_in_order shelf.through id || is_some (lookup (nat_eq id) shelf.loose)
+given_on shelf id = is_in_order shelf.through id || is_some (lookup (is_at (nat_cmp id)) shelf.loose)
 
 -- the clause that is held under a number
 abbrev pub held_on : Shelved → ℕ → Option Clause
-held_on shelf id = if is_in_order shelf.through id then lookup (nat_eq id) shelf.front else option_flatten (lookup (nat_eq id) shelf.loose)
+held_on shelf id =
+    if is_in_order shelf.through id then lookup (is_at (nat_cmp id)) shelf.front else option_flatten
+    (lookup (is_at (nat_cmp id)) shelf.loose)
 
 -- how many numbers were given
 abbrev pub count_of : Shelved → ℕ

@@ -1,5 +1,5 @@
 -- The text of an entry: its line in the log, without the line feed.
-use Rattle.std.specs.Prelude.{ℕ, ◌+◌, ◌^◌, ◌<◌, ◌≤◌, if◌then◌else◌, ⊤, List, [], ◌∷◌, ◌++◌, map, codes}
+use Rattle.std.specs.Prelude.{ℕ, Bool, ◌==◌, ◌+◌, ◌^◌, ◌<◌, ◌≤◌, if◌then◌else◌, ⊤, List, [], ◌∷◌, ◌++◌, map, codes}
 use Rattle.std.specs.List.{AllByRecursion, flat_map, join_with_byte}
 use Rattle.std.specs.Fmt.{decimal}
 use Rattle.resolution_check.specs.declared.log.Lit.{Lit}
@@ -18,7 +18,8 @@ zero_text = codes "0"
 
 abbrev pub entry_words : Entry → List (List ℕ)
 entry_words (Input id clause) = codes "i" ∷ decimal id ∷ (map lit_text clause.lits ++ zero_text ∷ [])
-entry_words (Add id clause chain) = codes "a" ∷ decimal id ∷ (map lit_text clause.lits ++ zero_text ∷ (map decimal chain ++ zero_text ∷ []))
+entry_words (Add id clause chain) =
+    codes "a" ∷ decimal id ∷ (map lit_text clause.lits ++ zero_text ∷ (map decimal chain ++ zero_text ∷ []))
 entry_words (Delete id) = codes "d" ∷ decimal id ∷ []
 entry_words End = codes "e" ∷ []
 
@@ -46,6 +47,9 @@ abbrev pub after_space : List ℕ → List ℕ
 after_space word = 32 ∷ word
 
 -- ---- the lines of a log
+
+abbrev pub is_line_feed : ℕ → Bool
+is_line_feed b = b == 10
 
 -- an entry's line, ended by a line feed
 abbrev pub line_of : Entry → List ℕ

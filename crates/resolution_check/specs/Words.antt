@@ -24,7 +24,9 @@ words_left rest = option_map_or (λ text. words_in text.now) rest []
 
 -- the number that the word writes: 1 to 19 digits, no leading zero, at most 2^63
 abbrev pub number_in : List ℕ → Option ℕ
-number_in word = if is_numeral 19 word && (not (slice_index word 0 == 48) && nat_le (value_of word) (2 ^ 63)) then Some (value_of word) else None
+number_in word =
+    if is_numeral 19 word && (not (slice_index word 0 == 48) && nat_le (value_of word) (2 ^ 63)) then Some
+    (value_of word) else None
 
 abbrev pub lit_with : Bool → ℕ → Lit
 lit_with negated n = record { var = n - 1; negated = negated }
@@ -32,7 +34,8 @@ lit_with negated n = record { var = n - 1; negated = negated }
 -- the literal that the word writes
 abbrev pub lit_in : List ℕ → Option Lit
 lit_in [] = None
-lit_in (b ∷ word) = if b == 45 then option_map (lit_with true) (number_in word) else option_map (lit_with false) (number_in (b ∷ word))
+lit_in (b ∷ word) =
+    if b == 45 then option_map (lit_with true) (number_in word) else option_map (lit_with false) (number_in (b ∷ word))
 
 -- what the words up to the first "0" read as, and the words after it
 abbrev pub list_in : {A : Type 0} → (List ℕ → Option A) → List (List ℕ) → Option (List A × List (List ℕ))
@@ -47,10 +50,12 @@ finished [] x = Some x
 finished (word ∷ words) x = None
 
 abbrev pub input_in : ℕ → List (List ℕ) → Option Entry
-input_in id words = option_and_then (λ lits. finished lits.1 (Input id (record { lits = lits.0 }))) (list_in lit_in words)
+input_in id words =
+    option_and_then (λ lits. finished lits.1 (Input id (record { lits = lits.0 }))) (list_in lit_in words)
 
 abbrev pub addition_in : ℕ → List (List ℕ) → Option Entry
-addition_in id words = option_and_then (λ lits. option_and_then (λ ids. finished ids.1 (Add id (record { lits = lits.0 }) ids.0)) (list_in number_in lits.1)) (list_in lit_in words)
+addition_in id words =
+    option_and_then (λ lits. option_and_then (λ ids. finished ids.1 (Add id (record { lits = lits.0 }) ids.0)) (list_in number_in lits.1)) (list_in lit_in words)
 
 -- by the first word, after the number
 abbrev pub entry_with : List ℕ → ℕ → List (List ℕ) → Option Entry

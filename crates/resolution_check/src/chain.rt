@@ -5,12 +5,12 @@ ghost use Rattle.resolution_check.specs.declared.log.Lit.{Lit};
 ghost use Rattle.resolution_check.specs.Clauses.{has, without, clashing, the_one, is_inside};
 ghost use Rattle.resolution_check.specs.Entries.{resolved, resolved_next};
 ghost use Rattle.resolution_check.specs.Known.{held_on};
-ghost use Rattle.resolution_check.specs.Marked.{marked, Shows, Resolves};
+ghost use Rattle.resolution_check.specs.Marked.{marked, Shows, Resolves, IsShown};
 
 use crate::log::{Bad, Lit};
 use crate::marks::Marks;
 use crate::shelf::Shelf;
-use std::alloc::AllocError;
+use std::alloc::{AllocError, Global};
 
 /// The one marked literal whose negation stands in the clause.
 fn find_pivot(marks: &Marks, clause: &[Lit]) -> Option<Lit>
@@ -82,28 +82,28 @@ fn resolve_next(marks: &mut Marks, shelf: &Shelf, at: u64, id: u64) -> Result<()
     Ok(())
 }
 
-/// Resolves the clauses of a chain from its front. What is marked is then the last resolvent.
-pub(crate) fn resolve_chain(marks: &mut Marks, shelf: &Shelf, chain: &[u64]) -> Result<(), Bad>
-    ensures { Resolves marks.new result (resolved (held_on shelf.now) chain.now) }
+/// Resolves the clauses of a chain from its front. What is marked then is the last resolvent.
+pub(crate) fn resolve_chain(alloc: Global, shelf: &Shelf, chain: &[u64]) -> Result<Marks, Bad>
+    ensures { IsShown result (resolved (held_on shelf.now) chain.now) }
 {
-    marks.clear();
     let Some((first, others)) = chain.split_first() else {
         return Err(Bad::NoPivot { at: 0 });
     };
     let Some(clause) = shelf.find(*first) else {
         return Err(Bad::UnknownId { id: *first });
     };
-    mark_all(marks, clause.lits.as_slice())?;
+    let mut marks = Marks::new(alloc);
+    mark_all(&mut marks, clause.lits.as_slice())?;
     for (i, id) in others.iter().enumerate() {
-        resolve_next(marks, shelf, i as u64 + 1, *id)?;
+        resolve_next(&mut marks, shelf, i as u64 + 1, *id)?;
     }
-    Ok(())
+    Ok(marks)
 }
 
-/// Whether each marked literal stands in the clause. The marks are not to be used after it.
-pub(crate) fn is_covered(marks: &mut Marks, clause: &[Lit]) -> bool
-    ensures { (r : List Lit) → Shows marks.old r → result ≡ is_inside r clause.now }
+/// Whether each marked literal stands in the clause.
+pub(crate) fn is_covered(mut marks: Marks, clause: &[Lit]) -> bool
+    ensures { (r : List Lit) → Shows marks r → result ≡ is_inside r clause.now }
 {
-    unmark_all(marks, clause);
+    unmark_all(&mut marks, clause);
     marks.is_empty()
 }

@@ -7,7 +7,6 @@ ghost use Rattle.resolution_check.specs.Known.{IsJudged, given_on, held_on};
 
 use crate::chain::{is_covered, resolve_chain};
 use crate::log::{Bad, Entry, Lit};
-use crate::marks::Marks;
 use crate::shelf::Shelf;
 use std::alloc::Global;
 use std::marker::Model;
@@ -15,8 +14,8 @@ use std::marker::Model;
 /// Checks the entries of a log one after another. It needs no trust in whoever made the log.
 #[derive(Drop)]
 pub struct Checker {
+    alloc: Global,
     shelf: Shelf,
-    marks: Marks,
     added: u64,
     refuted: bool,
     ended: bool,
@@ -42,8 +41,8 @@ impl Checker {
         ensures { HasRead result [] }
     {
         Checker {
+            alloc,
             shelf: Shelf::new(alloc),
-            marks: Marks::new(alloc),
             added: 0,
             refuted: false,
             ended: false,
@@ -81,8 +80,8 @@ impl Checker {
             Entry::Input { id, clause } => self.shelf.put(id, clause),
             Entry::Add { id, clause, chain } => {
                 judge(
+                    self.alloc,
                     &self.shelf,
-                    &mut self.marks,
                     id,
                     clause.lits.as_slice(),
                     chain.as_slice(),
@@ -120,19 +119,13 @@ impl Checker {
 
 /// Whether an addition may follow: its number is new, and the chain's last resolvent is inside the
 /// claimed clause.
-fn judge(
-    shelf: &Shelf,
-    marks: &mut Marks,
-    id: u64,
-    clause: &[Lit],
-    chain: &[u64],
-) -> Result<(), Bad>
+fn judge(alloc: Global, shelf: &Shelf, id: u64, clause: &[Lit], chain: &[u64]) -> Result<(), Bad>
     ensures { IsJudged result (addition_fault (given_on shelf.now) (held_on shelf.now) id clause.now chain.now) }
 {
     if shelf.is_given(id) {
         return Err(Bad::UsedId { id });
     }
-    resolve_chain(marks, shelf, chain)?;
+    let marks = resolve_chain(alloc, shelf, chain)?;
     if is_covered(marks, clause) {
         Ok(())
     } else {

@@ -1,14 +1,14 @@
 //! What the definitions of this crate say, in the words of logic. Each function only carries its law.
 
-ghost use Rattle.std.specs.Prelude.{◌≡◌, ◌↔◌, ◌+◌, ◌*◌, ◌≤◌, ◌||◌, ◌&&◌, ◌++◌, ◌∷◌, [], not, true, false, List, ℕ, Option, Some, None, Ok, length, Bool};
-ghost use Rattle.std.specs.List.{list_any};
+ghost use Rattle.std.specs.Prelude.{◌≡◌, ◌↔◌, ◌+◌, ◌*◌, ◌≤◌, ◌||◌, ◌&&◌, ◌++◌, ◌∷◌, [], not, true, false, List, ℕ, Option, Some, None, Ok, length, map, Bool};
+ghost use Rattle.std.specs.List.{list_any, slice_split, AllByRecursion};
 ghost use Rattle.resolution_check.specs.declared.log.Lit.{Lit};
 ghost use Rattle.resolution_check.specs.declared.log.Clause.{Clause};
 ghost use Rattle.resolution_check.specs.declared.log.Entry.{Entry};
 ghost use Rattle.resolution_check.specs.Clauses.{opposite, is_same, has, resolvent, IsPivot, IsSameSet};
 ghost use Rattle.resolution_check.specs.Entries.{addition_count, clause_held, resolved, resolved_next, fault_of, inputs, KeepsGood, Refutes, IsUnsatisfiable};
 ghost use Rattle.resolution_check.specs.Earned.{IsEarnedAddition, IsSpaced, gives_input, ends_deleting, run_count};
-ghost use Rattle.resolution_check.specs.Text.{text_of, HasText};
+ghost use Rattle.resolution_check.specs.Text.{text_of, log_text, is_line_feed, HasText};
 
 /// Two clauses have a resolvent exactly where one literal of the first has its negation in the second.
 /// It has the other literals of the first, and those of the second but the negation.
@@ -57,4 +57,13 @@ pub fn spaced_law()
 /// No two entries have one text.
 pub fn text_law()
     ensures { (d e : Entry) → HasText d → HasText e → text_of d ≡ text_of e → d ≡ e }
+{}
+
+/// The lines of a log, cut at the line feeds, are its entries' texts, so that each is read back; and the bytes fix the
+/// entries.
+pub fn log_law()
+    ensures lines { (es : List Entry) → AllByRecursion HasText es →
+        slice_split is_line_feed (log_text es) ≡ map text_of es ++ [] ∷ [] }
+    ensures fixed { (ds es : List Entry) → AllByRecursion HasText ds → AllByRecursion HasText es →
+        log_text ds ≡ log_text es → ds ≡ es }
 {}

@@ -3,6 +3,7 @@ ghost use Rattle.resolution_check.specs.Clauses.{has};
 
 use mw_text::List;
 use std::alloc::{AllocError, AllocFailed};
+use thiserror::Error;
 
 /// A literal: a variable, or its negation.
 #[derive(Clone, Copy, Debug, Default, PartialEq, Eq)]
@@ -42,28 +43,36 @@ pub enum Entry {
 }
 
 /// Why an entry is refused.
-#[derive(Clone, Copy, Debug, PartialEq, Eq)]
+#[derive(Clone, Copy, Debug, PartialEq, Eq, Error)]
 pub enum Bad {
     /// No clause is held under this number.
+    #[error("no clause is held under number {id}")]
     UnknownId { id: u64 },
     /// At this place of the chain, counted from 0, no literal or more than one meets its negation.
+    #[error("no pivot at place {at} of the chain")]
     NoPivot { at: u64 },
     /// The last resolvent has a literal that the claimed clause has not.
+    #[error("the last resolvent is not inside the claimed clause")]
     NotCovered,
     /// The number was given before.
+    #[error("number {id} was given before")]
     UsedId { id: u64 },
     /// The log has ended.
+    #[error("the log has ended")]
     AfterEnd,
     /// Memory was refused.
+    #[error("out of memory")]
     Memory,
 }
 
 /// Why a line is refused.
-#[derive(Clone, Copy, Debug, PartialEq, Eq)]
+#[derive(Clone, Copy, Debug, PartialEq, Eq, Error)]
 pub enum LineRefused {
     /// The line is no entry's text.
+    #[error("the line is no entry's text")]
     BadLine,
     /// Memory was refused.
+    #[error("out of memory")]
     Memory,
 }
 

@@ -5,13 +5,13 @@ ghost use Rattle.resolution_check.specs.Marked.{marked};
 
 use crate::log::Lit;
 use std::alloc::{AllocError, Global};
-use std::collections::HashSet;
+use std::collections::BTreeSet;
 
 /// A set of literals: the variables of each sign.
 #[derive(Drop)]
 pub(crate) struct Marks {
-    positive: HashSet<u64>,
-    negative: HashSet<u64>,
+    positive: BTreeSet<u64>,
+    negative: BTreeSet<u64>,
 }
 
 impl Marks {
@@ -20,17 +20,9 @@ impl Marks {
         ensures { (l : Lit) → marked result l ≡ false }
     {
         Marks {
-            positive: HashSet::new(alloc),
-            negative: HashSet::new(alloc),
+            positive: BTreeSet::new(alloc),
+            negative: BTreeSet::new(alloc),
         }
-    }
-
-    /// Takes every literal out.
-    pub(crate) fn clear(&mut self)
-        ensures { (l : Lit) → marked self.new l ≡ false }
-    {
-        self.positive.clear();
-        self.negative.clear();
     }
 
     /// Whether a literal is in the set.

@@ -101,9 +101,7 @@ fn read_lits<'a>(
         if same_bytes(word, b"0") {
             return Ok((lits, left));
         }
-        let Some(lit) = read_lit(word) else {
-            return Err(LineRefused::BadLine);
-        };
+        let lit = read_lit(word).ok_or(LineRefused::BadLine)?;
         lits.items.push(lit)?;
     }
     Err(LineRefused::BadLine)
@@ -124,9 +122,7 @@ fn read_numbers<'a>(
         if same_bytes(word, b"0") {
             return Ok((numbers, left));
         }
-        let Some(number) = read_number(word) else {
-            return Err(LineRefused::BadLine);
-        };
+        let number = read_number(word).ok_or(LineRefused::BadLine)?;
         numbers.items.push(number)?;
     }
     Err(LineRefused::BadLine)
@@ -164,9 +160,7 @@ fn read_words(alloc: Global, line: &[u8]) -> Result<Entry, LineRefused>
         };
     };
     let (number, rest) = cut_word(rest);
-    let Some(id) = read_number(number) else {
-        return Err(LineRefused::BadLine);
-    };
+    let id = read_number(number).ok_or(LineRefused::BadLine)?;
     if same_bytes(kind, b"i") {
         read_input(alloc, id, rest)
     } else if same_bytes(kind, b"a") {

@@ -6,7 +6,7 @@ ghost use Rattle.resolution_check.specs.declared.log.Entry.{Entry};
 
 use crate::log::{Bad, Clause};
 use std::alloc::Global;
-use std::collections::HashMap;
+use std::collections::BTreeMap;
 use std::marker::Model;
 
 /// The greatest number that the front takes.
@@ -17,8 +17,8 @@ const LAST: u64 = 9_223_372_036_854_775_808;
 #[derive(Drop)]
 pub(crate) struct Shelf {
     through: u64,
-    front: HashMap<u64, Clause>,
-    loose: HashMap<u64, Option<Clause>>,
+    front: BTreeMap<u64, Clause>,
+    loose: BTreeMap<u64, Option<Clause>>,
 }
 
 impl Model for Shelf {
@@ -44,8 +44,8 @@ impl Shelf {
     {
         Shelf {
             through: 0,
-            front: HashMap::new(alloc),
-            loose: HashMap::new(alloc),
+            front: BTreeMap::new(alloc),
+            loose: BTreeMap::new(alloc),
         }
     }
 

@@ -7,7 +7,11 @@ use Rattle.cdcl_search.proofs.book.put_lits.Given as goal
 
 abbrev pub invariant-loop-lit : goal.invariant-loop-lit
 invariant-loop-lit l = record {
-  positive : (count : ℕ) → l.place < count → list_all (are_places count) l.fn.positive ≡ true → list_all (are_places count) l.positive ≡ true;
-  negative : (count : ℕ) → l.place < count → list_all (are_places count) l.fn.negative ≡ true → list_all (are_places count) l.negative ≡ true;
-  listed : (m : Lit) (k : ℕ) → has_place (listed l.positive l.negative m) k ≡ (has_place (listed l.fn.positive l.fn.negative m) k || (has (take l.lit-index l.lits) m && (l.place == k)));
+  positive : (count : ℕ) → l.place < count → list_all (are_places count) l.fn.positive ≡ true
+      → list_all (are_places count) l.positive ≡ true;
+  negative : (count : ℕ) → l.place < count → list_all (are_places count) l.fn.negative ≡ true
+      → list_all (are_places count) l.negative ≡ true;
+  listed : (m : Lit) (k : ℕ)
+      → has_place (listed l.positive l.negative m) k
+      ≡ (has_place (listed l.fn.positive l.fn.negative m) k || (has (take l.lit-index l.lits) m && (l.place == k)));
 }

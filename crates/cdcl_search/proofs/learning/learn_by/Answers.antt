@@ -15,11 +15,14 @@ returns-clause-lesson c =
     let marks = marked c.first_lesson.new.marks in
     let first = (c.args.conflict + 1) ∷ [] in
     let new : (v : ℕ) → marked c.first_lesson.new.marks v ≡ has_var f.clause.lits v =
-    λ v. c.first_lesson.ensures.marks f.clause f.there v ∙ ap (λ b. has_var f.clause.lits v || b) (c.requires.none v) ∙ or-false (has_var f.clause.lits v) in
+    λ v. c.first_lesson.ensures.marks f.clause f.there v ∙ ap (λ b. has_var f.clause.lits v || b) (c.requires.none v)
+    ∙ or-false (has_var f.clause.lits v) in
     let started : IsFollowed clauses steps (length steps) marks c.in_ok-lesson.lesson.lits c.in_ok-lesson.lesson.chain =
-    subst (λ ids. IsFollowed clauses steps (length steps) marks c.in_ok-lesson.lesson.lits ids) (sym c.in_ok-lesson.ensures.chain)
+    subst (λ ids. IsFollowed clauses steps (length steps) marks c.in_ok-lesson.lesson.lits ids)
+    (sym c.in_ok-lesson.ensures.chain)
     (subst (λ lits. IsFollowed clauses steps (length steps) marks lits first) (sym c.in_ok-lesson.ensures.lits) (followed_first clauses steps c.args.conflict marks f new)) in
     let numbers : are_numbers (length clauses) c.in_ok-lesson.lesson.chain ≡ true =
-    numbers_push (length clauses) c.args.conflict [] c.in_ok-lesson.lesson.chain (slice_get_within clauses c.args.conflict f.clause f.there) c.in_ok-lesson.ensures.chain refl in
+    numbers_push (length clauses) c.args.conflict [] c.in_ok-lesson.lesson.chain
+    (slice_get_within clauses c.args.conflict f.clause f.there) c.in_ok-lesson.ensures.chain refl in
     lesson_from clauses steps (marked c.trace_all.new.marks) c.trace_all.new.lesson.lits c.trace_all.new.lesson.chain
     (c.in_ok-trace_all.ensures.numbers numbers) (c.in_ok-trace_all.ensures.followed started)

@@ -5,10 +5,12 @@ use Rattle.cdcl_search.proofs.Levels.{goes_then, since_settled, since_goes, each
 use Rattle.cdcl_search.proofs.propagation.visit_each.Goals as goal
 
 pub returns-in_err-visit-clause-goes : goal.returns-in_err-visit-clause-goes
-returns-in_err-visit-clause-goes c = goes_then c.args.book.now.clauses c.args.trail.now c.loop-place.trail c.visit.new.trail c.loop-place.invariant.goes c.visit.ensures.goes
+returns-in_err-visit-clause-goes c =
+    goes_then c.args.book.now.clauses c.args.trail.now c.loop-place.trail c.visit.new.trail c.loop-place.invariant.goes c.visit.ensures.goes
 
 pub returns-then-branch-clause-goes : goal.returns-then-branch-clause-goes
-returns-then-branch-clause-goes c = goes_then c.args.book.now.clauses c.args.trail.now c.loop-place.trail c.visit.new.trail c.loop-place.invariant.goes c.visit.ensures.goes
+returns-then-branch-clause-goes c =
+    goes_then c.args.book.now.clauses c.args.trail.now c.loop-place.trail c.visit.new.trail c.loop-place.invariant.goes c.visit.ensures.goes
 
 pub loop-place-preserved : goal.loop-place-preserved
 loop-place-preserved c =

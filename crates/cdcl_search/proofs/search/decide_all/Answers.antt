@@ -2,10 +2,12 @@ use Rattle.cdcl_search.proofs.Levels.{goes_then, total_more}
 use Rattle.cdcl_search.proofs.search.decide_all.Goals as goal
 
 pub returns-in_err-place-clause-goes : goal.returns-in_err-place-clause-goes
-returns-in_err-place-clause-goes c = goes_then c.args.book.now.clauses c.args.trail.now c.loop-var.trail c.decide.new.trail c.loop-var.invariant.goes c.decide.ensures.goes
+returns-in_err-place-clause-goes c =
+    goes_then c.args.book.now.clauses c.args.trail.now c.loop-var.trail c.decide.new.trail c.loop-var.invariant.goes c.decide.ensures.goes
 
 pub returns-in-Some-clause-goes : goal.returns-in-Some-clause-goes
-returns-in-Some-clause-goes c = goes_then c.args.book.now.clauses c.args.trail.now c.loop-var.trail c.decide.new.trail c.loop-var.invariant.goes c.decide.ensures.goes
+returns-in-Some-clause-goes c =
+    goes_then c.args.book.now.clauses c.args.trail.now c.loop-var.trail c.decide.new.trail c.loop-var.invariant.goes c.decide.ensures.goes
 
 pub loop-var-preserved : goal.loop-var-preserved
 loop-var-preserved c = record {

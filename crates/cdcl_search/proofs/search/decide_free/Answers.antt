@@ -8,7 +8,8 @@ use Rattle.cdcl_search.proofs.Results.{if_ok_any}
 use Rattle.cdcl_search.proofs.search.decide_free.Goals as goal
 
 pub returns-in_err-push-clause-goes : goal.returns-in_err-push-clause-goes
-returns-in_err-push-clause-goes c = goes_same c.args.book.now.clauses c.args.trail.now c.push.new.self c.in_err-push.ensures.unchanged c.push.ensures.vars
+returns-in_err-push-clause-goes c =
+    goes_same c.args.book.now.clauses c.args.trail.now c.push.new.self c.in_err-push.ensures.unchanged c.push.ensures.vars
 
 pub propagate-requires-clause-seen : goal.propagate-requires-clause-seen
 propagate-requires-clause-seen c =
@@ -25,5 +26,7 @@ returns-clause-goes c =
 pub returns-clause-value : goal.returns-clause-value
 returns-clause-value c =
     let step : Step = record { lit = record { var = c.args.var; negated = true }; reason = None } in
-    let decided : is_some (value_of c.push.new.self.steps c.args.var) ≡ true = ap (λ ss. is_some (value_of ss c.args.var)) c.in_ok-push.ensures.ok ∙ ap is_some (value_of-last c.args.trail.now.steps step c.requires.free) in
+    let decided : is_some (value_of c.push.new.self.steps c.args.var) ≡ true =
+    ap (λ ss. is_some (value_of ss c.args.var)) c.in_ok-push.ensures.ok
+    ∙ ap is_some (value_of-last c.args.trail.now.steps step c.requires.free) in
     if_ok_any c.propagate.result (c.propagate.ensures.goes.keeps c.args.var decided)

@@ -1,6 +1,7 @@
+use Rattle.resolution_check.specs.Trails.{is_value}
 use Rattle.std.proofs.Common.{◌≡◌, ℕ, ◌<◌, true, length}
 use Rattle.term_store.specs.Terms.{truth}
-use Rattle.cdcl_search.specs.Trails.{is_value, value_of}
+use Rattle.cdcl_search.specs.Trails.{value_of}
 use Rattle.cdcl_search.proofs.search.values_of.Given as goal
 
 abbrev pub invariant-loop-var : goal.invariant-loop-var

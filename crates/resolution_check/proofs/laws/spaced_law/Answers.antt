@@ -9,4 +9,8 @@ pub returns-clause-inputs : goal.returns-clause-inputs
 returns-clause-inputs c = λ es id h. (each_last MayFollow es (Delete id) h).no_input
 
 pub returns-clause-runs : goal.returns-clause-runs
-returns-clause-runs c = λ es id h first. elim (each_last MayFollow es (Delete id) h).apart [ inl deleting ↦ absurd (false≢true (sym first ∙ deleting)) | inr far ↦ far ]
+returns-clause-runs c =
+    λ es id h first. elim (each_last MayFollow es (Delete id) h).apart [
+      | inl deleting ↦ absurd (false≢true (sym first ∙ deleting))
+      | inr far ↦ far
+    ]

@@ -6,4 +6,6 @@ pub returns-in-None : goal.returns-in-None
 returns-in-None c = cut_none c.args.text.now (sym c.in-None.ensures)
 
 pub returns-in-Some : goal.returns-in-Some
-returns-in-Some c = rw (c.split_at.ensures.front, c.split_at-in-Some.ensures.back) (cut_here c.args.text.now c.in-Some.at (sym c.in-Some.ensures))
+returns-in-Some c =
+    rw (c.split_at.ensures.front, c.split_at-in-Some.ensures.back)
+    (cut_here c.args.text.now c.in-Some.at (sym c.in-Some.ensures))

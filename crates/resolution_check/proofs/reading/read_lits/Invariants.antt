@@ -5,7 +5,9 @@ use Rattle.resolution_check.proofs.reading.read_lits.Given as goal
 
 -- the literals so far and those of what is left are those of all
 abbrev pub invariant-loop-left : goal.invariant-loop-left
-invariant-loop-left l = list_in lit_in (words_left l.fn.rest) ≡ option_map (λ found. (l.lits ++ found.0, found.1)) (list_in lit_in (words_left l.left))
+invariant-loop-left l =
+    list_in lit_in (words_left l.fn.rest) ≡ option_map (λ found. (l.lits ++ found.0, found.1))
+    (list_in lit_in (words_left l.left))
 
 abbrev pub decreases-loop-left : goal.decreases-loop-left
 decreases-loop-left l = length (words_left l.left)

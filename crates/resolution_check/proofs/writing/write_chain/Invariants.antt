@@ -7,4 +7,5 @@ use Rattle.resolution_check.proofs.writing.write_chain.Given as goal
 
 -- the words so far
 abbrev pub invariant-loop-number : goal.invariant-loop-number
-invariant-loop-number l = string_bytes l.out ≡ string_bytes l.fn.out ++ flat_map after_space (map decimal (take l.number-index l.chain))
+invariant-loop-number l =
+    string_bytes l.out ≡ string_bytes l.fn.out ++ flat_map after_space (map decimal (take l.number-index l.chain))

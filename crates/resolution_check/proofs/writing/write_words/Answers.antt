@@ -11,7 +11,9 @@ pub returns-in_ok-write_number-in-Input : goal.returns-in_ok-write_number-in-Inp
 returns-in_ok-write_number-in-Input c =
     let old = string_bytes c.args.out.now in
     let id = c.in-Input.id in
-    let head = c.in_ok-write_number-in-Input.ensures ∙ ap (λ s. s ++ after_space (decimal id)) c.in_ok-push_str-in-Input.ensures.bytes in
+    let head =
+    c.in_ok-write_number-in-Input.ensures
+    ∙ ap (λ s. s ++ after_space (decimal id)) c.in_ok-push_str-in-Input.ensures.bytes in
     on_ok_weaker c.write_lits.result (λ e. e
     ∙ ap (λ s. (s ++ flat_map after_space (map lit_text c.as_slice.result.now)) ++ after_space zero_text) head
     ∙ ap (λ d. (((old ++ codes "i") ++ after_space (decimal id)) ++ flat_map after_space (map lit_text d)) ++ after_space zero_text) c.as_slice.ensures
@@ -22,7 +24,9 @@ pub returns-in_ok-write_lits-in-Add : goal.returns-in_ok-write_lits-in-Add
 returns-in_ok-write_lits-in-Add c =
     let old = string_bytes c.args.out.now in
     let id = c.in-Add.id in
-    let head = c.in_ok-write_number-in-Add.ensures ∙ ap (λ s. s ++ after_space (decimal id)) c.in_ok-push_str-in-Add.ensures.bytes in
+    let head =
+    c.in_ok-write_number-in-Add.ensures
+    ∙ ap (λ s. s ++ after_space (decimal id)) c.in_ok-push_str-in-Add.ensures.bytes in
     let lits = c.in_ok-write_lits-in-Add.ensures
     ∙ ap (λ s. (s ++ flat_map after_space (map lit_text c.as_slice-in-Add.result.now)) ++ after_space zero_text) head
     ∙ ap (λ d. (((old ++ codes "a") ++ after_space (decimal id)) ++ flat_map after_space (map lit_text d)) ++ after_space zero_text) c.as_slice-in-Add.ensures in
