@@ -26,7 +26,7 @@ use Rattle.serde_json.specs.Data.{Data, Members, no_members, member, put}
 use Rattle.serde_json.specs.View.{items_of}
 use Rattle.serde_json.specs.Written.{has_float, items_have_float, members_have_float}
 use Rattle.cex_json.specs.declared.counterexample.Counterexample.{Counterexample}
-use Rattle.cex_json.specs.Parts.{addr_data, bgp_data, first_bgp_fields, first_of_bgp, has_part, last_bgp_fields, hop_data, ospf_data, packet_data, parts_data, parts_fields, rib_data, slots_from, walk_data, walk_fields}
+use Rattle.cex_json.specs.Parts.{addr_data, bgp_data, first_bgp_fields, first_of_bgp, has_part, last_bgp_fields, hop_data, hop_fields, ospf_data, packet_data, parts_data, parts_fields, rib_data, slots_from, walk_data, walk_fields}
 use Rattle.cex_json.specs.Json.{members_with_from, number_of, with_field}
 use Rattle.cex_json.specs.Text.{cex_data, shown_fields, surroundings_of, tables_data, world_fields}
 use Rattle.cex_json.specs.Worlds.{announcement_data, announcement_fields, link_data, peer_data, peers_from}

@@ -2,7 +2,7 @@
 #![tactic(auto)]
 
 use mw_outside::{DirFiles, NoSink, OutSink};
-use mw_verify::{Status, run};
+use mw_verify::{Status, number_of, run};
 use std::alloc::Global;
 use std::process::ExitCode;
 use std::rt::Env;
@@ -29,5 +29,5 @@ fn main(rt: HostRuntime) -> ExitCode {
             &mut NoSink::new(),
         ),
     };
-    ExitCode::from(status as u8)
+    ExitCode::from(number_of(status))
 }

@@ -1,5 +1,5 @@
 -- What is due for words over the contents of files: usage, a refusal, or answers to questions over a network.
-use Rattle.std.specs.Prelude.{ℕ, ◌==◌, ◌&&◌, ◌||◌, Bool, true, false, not, List, [], ◌∷◌, length, nat_lt, nat_le, codes, slice_index, Option, Some, None, Result, Ok, Err, if◌then◌else◌}
+use Rattle.std.specs.Prelude.{ℕ, ◌==◌, ◌&&◌, ◌||◌, Bool, true, false, not, List, [], ◌∷◌, length, nat_lt, nat_le, codes, slice_index, slice_get, filter, is_none, position, Option, Some, None, Result, Ok, Err, if◌then◌else◌}
 use Rattle.std.specs.List.{list_any}
 use Rattle.std.specs.Option.{option_map_or}
 use Rattle.mw_text.specs.Text.{same_text}
@@ -9,7 +9,16 @@ use Rattle.ios_reader.specs.declared.refused.Refused.{Refused}
 use Rattle.ios_reader.specs.Reading.{reading}
 use Rattle.net_model.specs.Network.{is_network}
 use Rattle.question_lang.specs.declared.question.Question.{Question}
+use Rattle.mw_text.specs.declared.words.Line.{Line}
+use Rattle.mw_text.specs.Words.{text_lines}
+use Rattle.ios_reader.specs.Reading.{not_built}
+use Rattle.ios_reader.specs.Statements.{is_skipped}
+use Rattle.question_lang.specs.declared.question.Kind.{Kind}
+use Rattle.question_lang.specs.declared.question.Kind.TheVariants.{Reach, Isolate, Waypoint, NoLoop, NoBlackHole, Within, Alike, NoStable}
+use Rattle.question_lang.specs.declared.question.Target.TheVariants.{Router, Subnet, Peer}
 use Rattle.question_lang.specs.Asking.{asking}
+use Rattle.question_lang.specs.Single.{is_single}
+use Rattle.mw_verify.specs.declared.load.TheConstants.{DEFAULT_CONFLICTS, MOST_BYTES}
 use Rattle.mw_verify.specs.declared.text.Text.{Text}
 use Rattle.mw_verify.specs.Texts.{refusal, too_long, no_network}
 
@@ -21,8 +30,8 @@ pub data Outcome : Type 0 where
   unread : Outcome
   -- a file is refused, with this line
   refused : List ℕ → Outcome
-  -- the questions over the network of these files are answered
-  answering : List File → List Question → Outcome
+  -- the questions over the network of these files are answered, each with that number of additions allowed
+  answering : List File → List Question → ℕ → Outcome
 
 -- the word begins with '-'
 abbrev pub is_option : List ℕ → Bool
@@ -33,10 +42,6 @@ abbrev pub is_verify : List (List ℕ) → Bool
 is_verify [] = false
 is_verify (command ∷ names) =
     same_text command (codes "verify") && (nat_le 2 (length names) && not (list_any is_option names))
-
--- how many bytes a configuration or a questions file has at most
-abbrev pub most_bytes : ℕ
-most_bytes = 1048576
 
 -- what follows a value, where there is one
 abbrev pub following : {A B : Type 0} → (A → Result B Outcome) → Result A Outcome → Result B Outcome
@@ -56,7 +61,7 @@ read_as name (Err why) = Err (refused (refusal name why))
 -- the text of a file, of which there are not too many bytes
 abbrev pub text_of : Contents → List ℕ → Result Text Outcome
 text_of contents name =
-    option_map_or (λ bytes. if nat_le (length bytes) most_bytes then Ok (record { name = name; bytes = bytes }) else Err (refused (too_long name)))
+    option_map_or (λ bytes. if nat_le (length bytes) MOST_BYTES then Ok (record { name = name; bytes = bytes }) else Err (refused (too_long name)))
     (get contents name) (Err unread)
 
 -- the file that a text reads as
@@ -76,9 +81,39 @@ network_of texts files = if is_network files then Ok files else Err (refused (no
 abbrev pub network_due : List Text → Result (List File) Outcome
 network_due texts = following (network_of texts) (each file_of texts)
 
+-- what `verify` can answer today: whether one packet from a router reaches a router, while no link fails
+abbrev pub is_reach : Kind → Bool
+is_reach (Reach start (Router router)) = is_none start.iface
+is_reach (Reach start (Subnet p)) = false
+is_reach (Reach start (Peer router a)) = false
+is_reach (Isolate start target) = false
+is_reach (Waypoint start target via) = false
+is_reach (NoLoop start) = false
+is_reach (NoBlackHole start) = false
+is_reach (Within most start) = false
+is_reach (Alike a b target) = false
+is_reach NoStable = false
+
+abbrev pub is_answerable : Question → Bool
+is_answerable question = is_reach question.kind && ((question.failures == 0) && is_single question.packets)
+
+-- the lines of a questions file that ask something: the k-th asks the k-th question
+abbrev pub asking_lines : List ℕ → List Line
+asking_lines bytes = filter (λ line. not (is_skipped line.words)) (text_lines bytes)
+
+-- the line of the question of that number
+abbrev pub line_of : List ℕ → ℕ → ℕ
+line_of bytes number = option_map_or (λ line. line.number) (slice_get (asking_lines bytes) number) 0
+
+-- the first question that cannot be answered refuses the file at its line
+abbrev pub answerable : Text → List File → List Question → Result Outcome Outcome
+answerable text files questions =
+    option_map_or (λ number. Err (refused (refusal text.name (not_built (line_of text.bytes number)))))
+    (position (λ question. not (is_answerable question)) questions) (Ok (answering files questions DEFAULT_CONFLICTS))
+
 -- the questions of a text over a network
 abbrev pub questions_of : Text → List File → Result Outcome Outcome
-questions_of text files = following (λ questions. Ok (answering files questions)) (read_as text.name (asking files text.bytes))
+questions_of text files = following (answerable text files) (read_as text.name (asking files text.bytes))
 
 -- what the texts come to: each configuration is parsed, then the network, then the questions
 abbrev pub texts_due : List Text → Text → Result Outcome Outcome

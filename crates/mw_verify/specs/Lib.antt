@@ -1,4 +1,5 @@
 pub mod Texts
+pub mod Numbers
 pub mod Due
 pub mod Loading
 pub mod Verdicts

@@ -1,37 +1,49 @@
--- What a run prints.
-use Rattle.std.specs.Prelude.{◌≡◌, ℕ, Bool, true, false, List, [], take, Option, Some}
+-- What a run prints and logs.
+use Rattle.std.specs.Prelude.{◌≡◌, ℕ, Bool, true, false, List, [], ◌∷◌, ◌++◌, drop, take, Option, Some, IfSome, Ok}
+use Rattle.mw_outside.specs.Contents.{Contents}
 use Rattle.mw_outside.specs.Taken.{Takes, TakesPart}
 use Rattle.ios_ast.specs.declared.file.File.{File}
 use Rattle.question_lang.specs.declared.question.Question.{Question}
 use Rattle.mw_verify.specs.declared.status.Status.{Status}
 use Rattle.mw_verify.specs.declared.status.Status.TheVariants.{Good, Bad, Unknown, Usage, Refused, ReadFault, WriteFault, Memory}
-use Rattle.mw_verify.specs.Due.{Outcome, usage, unread, refused, answering}
+use Rattle.mw_verify.specs.declared.text.Text.{Text}
+use Rattle.mw_verify.specs.Due.{Outcome, usage, unread, refused, answering, due, each, is_verify, text_of}
 use Rattle.mw_verify.specs.Texts.{usage_text}
-use Rattle.mw_verify.specs.Verdicts.{AreVerdicts}
+use Rattle.mw_verify.specs.Verdicts.{Answer, AreRight, answers_text, sections_text, status_of}
 
--- all questions are answered, and the whole text stands
-abbrev pub Answers : Outcome → Bool → Option (List ℕ) → Option (List ℕ) → Type 0
-Answers outcome broken before now =
-    (files : List File) × (questions : List Question) × (text : List ℕ) × (outcome ≡ answering files questions)
-    × AreVerdicts files questions 0 questions broken text × Takes before now text
+-- what is due for the words: usage where they are no command, whatever the files hold; and what the contents come to,
+-- where these are told
+pub record IsDue (contents : Option Contents) (words : List (List ℕ)) (outcome : Outcome) : Type 0 where
+  pub no_command : is_verify words ≡ false → outcome ≡ usage
+  pub told : IfSome contents (λ files. due files words ≡ outcome)
 
--- a text that may stand when a run ends early: the line that is due, or right verdicts for the first questions
+-- right answers to all questions: the status is theirs, and their whole text and their sections stand
+pub record AreAnswered (files : List File) (questions : List Question) (budget : ℕ) (status : Status)
+    (before now logged_before logged_now : Option (List ℕ)) : Type 0 where
+  pub answers : List Answer
+  pub right : AreRight files budget 0 questions answers
+  pub ends : status ≡ status_of answers
+  pub text : Takes before now (answers_text files questions questions answers)
+  pub logged : Takes logged_before logged_now (sections_text questions answers)
+
+-- a text that may stand when a run ends early: the line that is due, or right answers to the first questions
 abbrev pub MayPrint : Outcome → List ℕ → Type 0
 MayPrint usage text = text ≡ usage_text
 MayPrint unread text = text ≡ []
 MayPrint (refused line) text = text ≡ line
-MayPrint (answering files questions) text =
-    (count : ℕ) × (broken : Bool) × AreVerdicts files questions 0 (take count questions) broken text
+MayPrint (answering files questions budget) text =
+    (count : ℕ) × (answers : List Answer) × AreRight files budget 0 (take count questions) answers
+    × (text ≡ answers_text files questions (take count questions) answers)
 
 -- a front of such a text stands
 abbrev pub PrintsPart : Outcome → Option (List ℕ) → Option (List ℕ) → Type 0
 PrintsPart outcome before now = (text : List ℕ) × MayPrint outcome text × TakesPart before now text
 
--- P of whether some verdict is `broken`, where all questions were answered
-abbrev pub OnAnswered : Status → (Bool → Type 0) → Type 0
-OnAnswered Good P = P false
-OnAnswered Bad P = P true
-OnAnswered Unknown P = Unit {0}
+-- P where all questions were answered
+abbrev pub OnAnswered : Status → Type 0 → Type 0
+OnAnswered Good P = P
+OnAnswered Bad P = P
+OnAnswered Unknown P = P
 OnAnswered Usage P = Unit {0}
 OnAnswered Refused P = Unit {0}
 OnAnswered ReadFault P = Unit {0}
@@ -48,3 +60,19 @@ OnCut Refused P = Unit {0}
 OnCut ReadFault P = Unit {0}
 OnCut WriteFault P = P
 OnCut Memory P = P
+
+-- the names of the files in the order in which they are read: the configurations, and then the questions
+abbrev pub in_order : List (List ℕ) → List (List ℕ)
+in_order (command ∷ questions ∷ names) = names ++ questions ∷ []
+in_order _ = []
+
+-- the files of these names are there, each with few enough bytes
+abbrev pub AreThere : Contents → List (List ℕ) → Type 0
+AreThere files names = (texts : List Text) × (each (text_of files) names ≡ Ok texts)
+
+-- where the last failed name is told, it is one of these names; and where contents are told, every file before it is there
+-- and small enough
+abbrev pub StopsAt : Option Contents → List (List ℕ) → Option (List ℕ) → Type 0
+StopsAt contents names last_failed =
+    IfSome last_failed (λ name. (front : List (List ℕ)) × (rest : List (List ℕ)) × (names ≡ front ++ name ∷ rest)
+    × IfSome contents (λ files. AreThere files front))

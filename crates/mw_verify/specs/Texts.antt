@@ -48,3 +48,7 @@ usage_text = codes "usage: mw_cli verify, check, replay, simulate or gen" ++ new
 -- holds NAME
 abbrev pub holds_text : Question → List ℕ
 holds_text question = codes "holds " ++ question.name ++ newline
+
+-- unknown NAME after N conflicts
+abbrev pub unknown_text : Question → ℕ → List ℕ
+unknown_text question after = codes "unknown " ++ question.name ++ codes " after " ++ decimal after ++ codes " conflicts" ++ newline

@@ -1,10 +1,11 @@
 //! Answers one question after another.
 
-ghost use Rattle.std.specs.Prelude.{◌≡◌, ◌<◌, ℕ, IfOk, IfSome, None, length};
+ghost use Rattle.std.specs.Prelude.{◌≡◌, ◌<◌, ℕ, IfOk, IfSome, None, length, true};
 ghost use Rattle.question_lang.specs.Breaking.{reach_question};
-ghost use Rattle.question_lang.specs.Single.{IsSingleReach};
-ghost use Rattle.mw_verify.specs.Texts.{holds_text};
-ghost use Rattle.mw_verify.specs.Verdicts.{Holds, IsTrueCounterexample, IsVerdict, broken_text};
+ghost use Rattle.question_lang.specs.Single.{IsReach};
+ghost use Rattle.mw_verify.specs.Due.{is_answerable};
+ghost use Rattle.mw_verify.specs.Texts.{holds_text, unknown_text};
+ghost use Rattle.mw_verify.specs.Verdicts as verdicts;
 
 use crate::text::append;
 use cex_json::{Counterexample, write_cex};
@@ -14,7 +15,18 @@ use proto_rib::tables_of;
 use question_lang::{Kind, Question, Start, Target, single_packet};
 use route_record::{Environment, Failures};
 use std::alloc::{AllocError, Global};
-use walk_def::breaking_walk;
+use walk_def::{World, breaking_walk};
+
+/// What is found out of a question.
+#[derive(Drop)]
+pub enum Verdict {
+    /// Nothing breaks it.
+    Holds,
+    /// This breaks it.
+    Broken(Counterexample),
+    /// Neither was found after so many clauses were learnt.
+    Unknown(u64),
+}
 
 // The routers between which the packet of the question goes.
 fn ends_of(kind: &Kind, routers: usize) -> (u32, u32)
@@ -35,33 +47,33 @@ fn ends_of(kind: &Kind, routers: usize) -> (u32, u32)
     }
 }
 
-// A counterexample of the question, if there is one.
-fn decide(
-    alloc: Global,
-    net: &Net,
-    number: u32,
-    question: &Question,
-) -> Result<Option<Counterexample>, AllocError>
-    requires { IsSingleReach (length net.now) question.now }
-    ensures none { IfOk result (λ found. found ≡ None → Holds net.now question.now) }
-    ensures some { IfOk result (λ found. IfSome found (IsTrueCounterexample net.now number question.now)) }
+/// The right verdict for the question of that number.
+pub fn verdict_of(alloc: Global, net: &Net, number: u32, question: &Question) -> Result<Verdict, AllocError>
+    requires reach { IsReach (length net.now) question.now }
+    requires answerable { is_answerable question.now ≡ true }
+    ensures { IfOk result (λ verdict. verdicts.IsRight net.now number question.now verdict
+        × verdicts.MayGoUnlogged verdict) }
 {
     let packet = single_packet(&question.packets);
     let (start, target) = ends_of(&question.kind, net.routers().len());
-    let tables = tables_of(alloc, net, packet.dst)?;
-    match breaking_walk(alloc, net, &tables, packet.dst, start, target)? {
-        None => Ok(None),
-        Some(walk) => Ok(Some(Counterexample {
+    let world = World {
+        failures: Failures {
+            links: List::new(alloc),
+        },
+        packet,
+        tables: tables_of(alloc, net, packet.dst)?,
+    };
+    match breaking_walk(alloc, net, &world, start, target)? {
+        None => Ok(Verdict::Holds),
+        Some(walk) => Ok(Verdict::Broken(Counterexample {
             question: number,
             packet,
-            failures: Failures {
-                links: List::new(alloc),
-            },
+            failures: world.failures,
             env: Environment {
                 ids: List::new(alloc),
                 announced: List::new(alloc),
             },
-            tables,
+            tables: world.tables,
             walk: Some(walk),
         })),
     }
@@ -84,7 +96,7 @@ fn broken_lines(
     question: &Question,
     cex: &Counterexample,
 ) -> Result<List<u8>, AllocError>
-    ensures { IfOk result (λ text. text ≡ broken_text net.now questions.now question.now cex.now) }
+    ensures { IfOk result (λ text. text ≡ verdicts.verdict_text net.now questions.now question.now (Verdict.Broken cex.now)) }
 {
     let mut text = List::new(alloc);
     append(&mut text, b"broken ")?;
@@ -95,32 +107,31 @@ fn broken_lines(
     Ok(text)
 }
 
-/// The lines of a verdict, and whether it is `broken`.
-#[derive(Drop)]
-pub struct Verdict {
-    pub broken: bool,
-    pub text: List<u8>,
+fn unknown_line(alloc: Global, question: &Question, after: u64) -> Result<List<u8>, AllocError>
+    ensures { IfOk result (λ text. text ≡ unknown_text question.now after) }
+{
+    let mut text = List::new(alloc);
+    append(&mut text, b"unknown ")?;
+    append(&mut text, question.name.as_slice())?;
+    append(&mut text, b" after ")?;
+    append(&mut text, after.to_string(alloc)?.as_bytes())?;
+    append(&mut text, b" conflicts\n")?;
+    Ok(text)
 }
 
-/// The right verdict for the question of that number.
-pub fn verdict_of(
+/// The lines of a verdict.
+pub fn verdict_lines(
     alloc: Global,
     net: &Net,
     questions: &[Question],
-    number: u32,
     question: &Question,
-) -> Result<Verdict, AllocError>
-    requires { IsSingleReach (length net.now) question.now }
-    ensures { IfOk result (λ verdict. IsVerdict net.now questions.now number question.now verdict.broken verdict.text) }
+    verdict: &Verdict,
+) -> Result<List<u8>, AllocError>
+    ensures { IfOk result (λ text. text ≡ verdicts.verdict_text net.now questions.now question.now verdict.now) }
 {
-    match decide(alloc, net, number, question)? {
-        None => Ok(Verdict {
-            broken: false,
-            text: holds_line(alloc, question)?,
-        }),
-        Some(cex) => Ok(Verdict {
-            broken: true,
-            text: broken_lines(alloc, net, questions, question, &cex)?,
-        }),
+    match verdict {
+        Verdict::Holds => holds_line(alloc, question),
+        Verdict::Broken(cex) => broken_lines(alloc, net, questions, question, cex),
+        Verdict::Unknown(after) => unknown_line(alloc, question, *after),
     }
 }

@@ -8,4 +8,4 @@ pub mod status;
 pub mod text;
 
 pub use running::run;
-pub use status::Status;
+pub use status::{Status, number_of};

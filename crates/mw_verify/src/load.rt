@@ -2,11 +2,11 @@
 
 ghost use Rattle.std.specs.Prelude.{◌≡◌, ◌≤◌, ◌<◌, Ok, Err, IfOk, IfErr, IfSome, length, map, string_bytes, ◌∷◌};
 ghost use Rattle.mw_outside.specs.Faults.{Rose};
-ghost use Rattle.mw_outside.specs.Contents.{TellsOnly, TellsAmong};
-ghost use Rattle.question_lang.specs.Asking.{most_questions};
-ghost use Rattle.question_lang.specs.Single.{AreSingle};
+ghost use Rattle.mw_outside.specs.Contents.{TellsOnly};
+ghost use Rattle.question_lang.specs.Single.{AreReach};
 ghost use Rattle.mw_verify.specs.Due as due;
-ghost use Rattle.mw_verify.specs.Loading.{OnStop, AreSmall};
+ghost use Rattle.mw_verify.specs.Running.{StopsAt};
+ghost use Rattle.mw_verify.specs.Loading.{OnStop, UnlessReadFault, AreSmall, AreAnswerable};
 
 use crate::text::{Text, no_network, refusal, too_long};
 use ios_ast::File;
@@ -19,6 +19,9 @@ use std::alloc::{AllocError, Global};
 
 /// How many bytes a configuration or a questions file has at most.
 pub const MOST_BYTES: u64 = 1_048_576;
+
+/// How many clauses a search may learn for a question, where the words do not say it.
+pub const DEFAULT_CONFLICTS: u64 = 1_000_000;
 
 /// Why a run ends before the answers: with the line of a refusal, at a read that failed, or for want of memory.
 #[derive(Drop)]
@@ -43,7 +46,7 @@ fn read_text<F: Files>(alloc: Global, files: &mut F, name: &str) -> Result<Text,
     ensures kept { F.contents files.new ≡ F.contents files.old }
     ensures later { F.faults files.old ≤ F.faults files.new }
     ensures ok { IfOk result (λ text. IfSome (F.contents files.old) (λ contents. due.text_of contents name.now ≡ Ok text)) }
-    ensures small { IfOk result (λ text. length text.bytes ≤ due.most_bytes) }
+    ensures small { IfOk result (λ text. length text.bytes ≤ MOST_BYTES) }
     ensures stop { IfErr result (λ stop. OnStop stop
         (λ line. IfSome (F.contents files.old) (λ contents. due.text_of contents name.now ≡ Err (due.refused line)))
         (Rose (F.faults files.old) (F.faults files.new) × TellsOnly name.now (F.last_failed files.new))) }
@@ -88,7 +91,7 @@ fn read_texts<F: Files>(alloc: Global, files: &mut F, names: &[String]) -> Resul
 
 // The file that a text reads as.
 fn parse_file(alloc: Global, text: &Text) -> Result<File, Stop>
-    requires { length text.now.bytes ≤ due.most_bytes }
+    requires { length text.now.bytes ≤ MOST_BYTES }
     ensures ok { IfOk result (λ file. due.file_of text.now ≡ Ok file) }
     ensures stop { IfErr result (λ stop. OnStop stop (λ line. due.file_of text.now ≡ Err (due.refused line)) ⊥) }
 {
@@ -154,10 +157,10 @@ fn parse_network(alloc: Global, texts: &[Text]) -> Result<Net, Stop>
 
 // The questions of the text over the network.
 fn parse_questions(alloc: Global, asked: &Text, net: &Net) -> Result<List<Question>, Stop>
-    requires { length asked.now.bytes ≤ due.most_bytes }
+    requires { length asked.now.bytes ≤ MOST_BYTES }
     ensures ok { IfOk result (λ questions. due.questions_of asked.now net.now ≡ Ok (due.answering net.now questions)) }
     ensures single { IfOk result (AreSingle (length net.now)) }
-    ensures few { IfOk result (λ questions. length questions ≤ most_questions) }
+    ensures few { IfOk result (λ questions. length questions ≤ MOST_QUESTIONS) }
     ensures stop { IfErr result (λ stop. OnStop stop (λ line. due.questions_of asked.now net.now ≡ Err (due.refused line)) ⊥) }
 {
     match read_questions(alloc, asked.bytes.as_slice(), net) {
@@ -191,7 +194,7 @@ pub fn load<F: Files>(
     ensures ok { IfOk result (λ loaded. IfSome (F.contents files.old) (λ contents.
         due.files_due contents questions.now (map string_bytes names.now) ≡ Ok (due.answering loaded.net loaded.questions))) }
     ensures single { IfOk result (λ loaded. AreSingle (length loaded.net) loaded.questions) }
-    ensures few { IfOk result (λ loaded. length loaded.questions ≤ most_questions) }
+    ensures few { IfOk result (λ loaded. length loaded.questions ≤ MOST_QUESTIONS) }
     ensures stop { IfErr result (λ stop. OnStop stop
         (λ line. IfSome (F.contents files.old) (λ contents.
         due.files_due contents questions.now (map string_bytes names.now) ≡ Err (due.refused line)))

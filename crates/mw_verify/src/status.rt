@@ -1,6 +1,9 @@
 //! How a run ends.
 
-/// How a run ends, by the number that is the program's exit status: 0 to 7 in this order.
+ghost use Rattle.std.specs.Prelude.{◌≡◌};
+ghost use Rattle.mw_verify.specs.Numbers.{status_number};
+
+/// How a run ends.
 #[derive(Clone, Copy, Debug, PartialEq, Eq)]
 pub enum Status {
     /// Every verdict is `holds`.
@@ -19,4 +22,20 @@ pub enum Status {
     WriteFault,
     /// Memory is wanting.
     Memory,
+}
+
+/// The number that is the program's exit status: 0 to 7.
+pub fn number_of(status: Status) -> u8
+    ensures { result ≡ status_number status }
+{
+    match status {
+        Status::Good => 0,
+        Status::Bad => 1,
+        Status::Unknown => 2,
+        Status::Usage => 3,
+        Status::Refused => 4,
+        Status::ReadFault => 5,
+        Status::WriteFault => 6,
+        Status::Memory => 7,
+    }
 }
