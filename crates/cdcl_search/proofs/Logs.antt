@@ -359,7 +359,7 @@ module _ (before middle : Option (List ℕ)) (ins clauses : List Clause) (added 
     entries = g.entries;
     log = g.log;
     within = omega (arith, g.count);
-    text = part_of_all before now (log_text g.entries) (e ∙ g.text);
+    text = part_of_all before now (log_text g.entries) (rw e g.text);
   }
 
   module _ (steps : List Step) (lits : List Lit) (chain : List ℕ) (number : ℕ) (l : IsNextLesson clauses steps lits chain number) where

@@ -1,15 +1,16 @@
 -- Reading and parsing one after another.
-use Rattle.std.proofs.Common.{◌≡◌, ℕ, zero, suc, ◌+◌, ◌<◌, ◌≤◌, Bool, true, false, List, [], ◌∷◌, ◌++◌, length, drop, get_or, Option, Some, None, Result, Ok, Err, refl, ap, sym, arith, ◌∙◌, cond, append_assoc, nat_le, map, subst}
-use Rattle.std.specs.Prelude.{Contains, IfSome, IsSomeAnd}
+use Rattle.std.proofs.Common.{◌≡◌, ℕ, zero, suc, ◌+◌, ◌<◌, ◌≤◌, Bool, true, false, List, [], ◌∷◌, ◌++◌, length, take, drop, take-append-drop, get_or, Option, Some, None, Result, Ok, Err, refl, ap, sym, arith, ◌∙◌, cond, append_assoc, nat_le, map, subst}
+use Rattle.std.specs.Prelude.{IfSome, IsSomeAnd}
 use Rattle.std.specs.Option.{option_map_or}
-use Rattle.std.proofs.lemmas.List.{append-nil, drop_all}
 use Rattle.mw_text.proofs.Lists.{drop-read}
-use Rattle.mw_outside.specs.Contents.{Contents, get, Has, TellsOnly, TellsAmong}
+use Rattle.mw_outside.specs.Contents.{Contents, get, Has, TellsOnly}
 use Rattle.mw_verify.specs.declared.load.Stop.{Stop}
 use Rattle.mw_verify.specs.declared.load.Stop.TheVariants.{Refused, ReadFault, Memory}
 use Rattle.mw_verify.specs.Loading.{OnStop}
 use Rattle.mw_verify.specs.declared.text.Text.{Text}
-use Rattle.mw_verify.specs.Due.{Outcome, unread, refused, following, each, text_of, most_bytes}
+use Rattle.mw_verify.specs.Due.{Outcome, unread, refused, following, each, text_of}
+use Rattle.mw_verify.specs.declared.load.TheConstants.{MOST_BYTES}
+use Rattle.mw_verify.specs.Running.{StopsAt}
 use Rattle.mw_verify.specs.Texts.{too_long}
 
 le_true : (a b : ℕ) → a ≤ b → nat_le a b ≡ true
@@ -21,80 +22,119 @@ le_false a b h = grind arith
 -- the text of what is there
 abbrev text_there : List ℕ → Option (List ℕ) → Result Text Outcome
 text_there name there =
-    option_map_or (λ bytes. cond (nat_le (length bytes) most_bytes) (Ok (record { name = name; bytes = bytes })) (Err (refused (too_long name))))
+    option_map_or (λ bytes. cond (nat_le (length bytes) MOST_BYTES) (Ok (record { name = name; bytes = bytes })) (Err (refused (too_long name))))
     there (Err unread)
 
-there_whole : (name bytes : List ℕ) (there : Option (List ℕ)) → IsSomeAnd there (λ file. file ≡ bytes) → length bytes ≤ most_bytes →
+there_whole : (name bytes : List ℕ) (there : Option (List ℕ)) → IsSomeAnd there (λ file. file ≡ bytes) → length bytes ≤ MOST_BYTES →
     text_there name there ≡ Ok (record { name = name; bytes = bytes })
 there_whole name bytes None whole small = absurd whole
 there_whole name bytes (Some file) whole small =
     ap (λ f. text_there name (Some f)) whole
-    ∙ ap (λ b. cond b (Ok (record { name = name; bytes = bytes })) (Err (refused (too_long name)))) (le_true (length bytes) most_bytes small)
+    ∙ ap (λ b. cond b (Ok (record { name = name; bytes = bytes })) (Err (refused (too_long name)))) (le_true (length bytes) MOST_BYTES small)
 
-there_too_long : (name : List ℕ) (there : Option (List ℕ)) → IsSomeAnd there (λ file. most_bytes < length file) →
+there_too_long : (name : List ℕ) (there : Option (List ℕ)) → IsSomeAnd there (λ file. MOST_BYTES < length file) →
     text_there name there ≡ Err (refused (too_long name))
 there_too_long name None long = absurd long
 there_too_long name (Some file) long =
-    ap (λ b. cond b (Ok (record { name = name; bytes = file })) (Err (refused (too_long name)))) (le_false (length file) most_bytes long)
+    ap (λ b. cond b (Ok (record { name = name; bytes = file })) (Err (refused (too_long name)))) (le_false (length file) MOST_BYTES long)
 
 -- a file that was read whole, where contents are told
-pub text_whole : (told : Option Contents) (name bytes : List ℕ) (text : Text) → Has told name (λ file. file ≡ bytes) → length bytes ≤ most_bytes →
+pub text_whole : (told : Option Contents) (name bytes : List ℕ) (text : Text) → Has told name (λ file. file ≡ bytes) → length bytes ≤ MOST_BYTES →
     text ≡ record { name = name; bytes = bytes } → IfSome told (λ contents. text_of contents name ≡ Ok text)
 text_whole None name bytes text whole small is = tt
 text_whole (Some contents) name bytes text whole small is =
     there_whole name bytes (get contents name) whole small ∙ ap Ok (sym is)
 
 -- a file that was too long
-pub text_too_long : (told : Option Contents) (name line : List ℕ) → Has told name (λ file. most_bytes < length file) → line ≡ too_long name →
+pub text_too_long : (told : Option Contents) (name line : List ℕ) → Has told name (λ file. MOST_BYTES < length file) → line ≡ too_long name →
     IfSome told (λ contents. text_of contents name ≡ Err (refused line))
 text_too_long None name line long is = tt
 text_too_long (Some contents) name line long is =
     there_too_long name (get contents name) long ∙ ap (λ l. Err (refused l)) (sym is)
 
--- what became of the items so far, and of the items that are left
-abbrev pub After : {A B : Type 0} → (A → Result B Outcome) → List A → List B → List A → Type 0
-After become all so_far left = each become all ≡ following (λ rest. Ok (so_far ++ rest)) (each become left)
+-- what became of the first items
+abbrev pub BecameSo : {A B : Type 0} → (A → Result B Outcome) → List A → ℕ → List B → Type 0
+BecameSo become all i so_far = each become (take i all) ≡ Ok so_far
 
+-- nothing became of no item
+pub each-none : {A B : Type 0} (become : A → Result B Outcome) → each become [] ≡ Ok []
+unfolding each
+each-none become = refl
+
+-- what becomes of a list and of one behind it
 following-ok : {B : Type 0} (r : Result (List B) Outcome) → r ≡ following (λ rest. Ok rest) r
 following-ok (Ok xs) = refl
 following-ok (Err e) = refl
 
-pub after-none : {A B : Type 0} (become : A → Result B Outcome) (all : List A) → After become all [] all
-after-none become all = following-ok (each become all)
+one_first : {B : Type 0} (y : B) (front back : Result (List B) Outcome) →
+    following (λ zs. Ok (y ∷ zs)) (following (λ xs. following (λ ys. Ok (xs ++ ys)) back) front)
+    ≡ following (λ xs. following (λ ys. Ok (xs ++ ys)) back) (following (λ zs. Ok (y ∷ zs)) front)
+one_first y (Ok xs) (Ok ys) = refl
+one_first y (Ok xs) (Err e) = refl
+one_first y (Err e) back = refl
 
--- one of the items that are left becomes a value
-following-more : {B : Type 0} (so_far : List B) (y : B) (r : Result (List B) Outcome) →
-    following (λ rest. Ok (so_far ++ rest)) (following (λ rest. Ok (y ∷ rest)) r) ≡ following (λ rest. Ok ((so_far ++ y ∷ []) ++ rest)) r
-following-more so_far y (Ok xs) = ap Ok (sym (append_assoc so_far (y ∷ []) xs))
-following-more so_far y (Err e) = refl
-
-pub after-one : {A B : Type 0} (become : A → Result B Outcome) (all : List A) (so_far : List B) (i : ℕ) (x : A) (y : B) →
-    After become all so_far (drop i all) → i < length all → x ≡ get_or all i x → become x ≡ Ok y →
-    After become all (so_far ++ y ∷ []) (drop (i + 1) all)
+each-append : {A B : Type 0} (become : A → Result B Outcome) (xs ys : List A) →
+    each become (xs ++ ys) ≡ following (λ front. following (λ back. Ok (front ++ back)) (each become ys)) (each become xs)
 unfolding each
-after-one become all so_far i x y before within is became =
-    before
-    ∙ ap (λ left. following (λ rest. Ok (so_far ++ rest)) (each become left)) (drop-read all i x within is)
-    ∙ ap (λ r. following (λ rest. Ok (so_far ++ rest)) (following (λ z. following (λ zs. Ok (z ∷ zs)) (each become (drop (i + 1) all))) r)) became
-    ∙ following-more so_far y (each become (drop (i + 1) all))
+each-append become [] ys = following-ok (each become ys)
+each-append {B = B} become (x ∷ xs) ys =
+    ap (λ r. following (λ y. following (λ zs. Ok (y ∷ zs)) r) (become x)) (each-append become xs ys) ∙ by_first (become x)
+  where
+    by_first : (first : Result B Outcome) →
+        following (λ y. following (λ zs. Ok (y ∷ zs)) (following (λ front. following (λ back. Ok (front ++ back)) (each become ys)) (each become xs))) first
+        ≡ following (λ front. following (λ back. Ok (front ++ back)) (each become ys)) (following (λ y. following (λ zs. Ok (y ∷ zs)) (each become xs)) first)
+    by_first (Ok y) = one_first y (each become xs) (each become ys)
+    by_first (Err e) = refl
 
--- one of the items that are left becomes an outcome
-pub after-stop : {A B : Type 0} (become : A → Result B Outcome) (all : List A) (so_far : List B) (i : ℕ) (x : A) (outcome : Outcome) →
-    After become all so_far (drop i all) → i < length all → x ≡ get_or all i x → become x ≡ Err outcome →
+each-one : {A B : Type 0} (become : A → Result B Outcome) (x : A) → each become (x ∷ []) ≡ following (λ y. Ok (y ∷ [])) (become x)
+unfolding each
+each-one become x = refl
+
+each-first : {A B : Type 0} (become : A → Result B Outcome) (x : A) (rest : List A) (outcome : Outcome) → become x ≡ Err outcome →
+    each become (x ∷ rest) ≡ Err outcome
+unfolding each
+each-first become x rest outcome stops = ap (λ r. following (λ y. following (λ ys. Ok (y ∷ ys)) (each become rest)) r) stops
+
+-- one item more at the front
+pub take-more : {A : Type 0} (all : List A) (i : ℕ) (x : A) → i < length all → x ≡ get_or all i x → take (i + 1) all ≡ take i all ++ x ∷ []
+take-more [] i x within is = absurd (omega arith)
+take-more (y ∷ ys) zero x within is = ap (λ z. z ∷ []) (sym is)
+take-more (y ∷ ys) (suc i) x within is =
+    let next : suc i + 1 ≡ suc (i + 1) = omega arith in
+    ap (λ n. take n (y ∷ ys)) next ∙ ap (λ zs. y ∷ zs) (take-more ys i x (omega arith) is)
+
+-- the items are the first, that one and those after it
+pub split-at : {A : Type 0} (all : List A) (i : ℕ) (x : A) → i < length all → x ≡ get_or all i x → all ≡ take i all ++ x ∷ drop (i + 1) all
+split-at all i x within is = sym (take-append-drop i all) ∙ ap (λ rest. take i all ++ rest) (drop-read all i x within is)
+
+-- one more becomes a value
+pub became-one : {A B : Type 0} (become : A → Result B Outcome) (all : List A) (so_far : List B) (i : ℕ) (x : A) (y : B) →
+    BecameSo become all i so_far → i < length all → x ≡ get_or all i x → become x ≡ Ok y →
+    BecameSo become all (i + 1) (so_far ++ y ∷ [])
+became-one become all so_far i x y before within is became =
+    ap (each become) (take-more all i x within is) ∙ each-append become (take i all) (x ∷ [])
+    ∙ ap (λ r. following (λ front. following (λ back. Ok (front ++ back)) (each become (x ∷ []))) r) before
+    ∙ ap (λ r. following (λ back. Ok (so_far ++ back)) r) (each-one become x ∙ ap (λ r. following (λ z. Ok (z ∷ [])) r) became)
+
+-- one becomes an outcome
+pub became-stop : {A B : Type 0} (become : A → Result B Outcome) (all : List A) (so_far : List B) (i : ℕ) (x : A) (outcome : Outcome) →
+    BecameSo become all i so_far → i < length all → x ≡ get_or all i x → become x ≡ Err outcome →
     each become all ≡ Err outcome
-unfolding each
-after-stop become all so_far i x outcome before within is became =
-    before
-    ∙ ap (λ left. following (λ rest. Ok (so_far ++ rest)) (each become left)) (drop-read all i x within is)
-    ∙ ap (λ r. following (λ rest. Ok (so_far ++ rest)) (following (λ z. following (λ zs. Ok (z ∷ zs)) (each become (drop (i + 1) all))) r)) became
+became-stop become all so_far i x outcome before within is stops =
+    ap (each become) (split-at all i x within is) ∙ each-append become (take i all) (x ∷ drop (i + 1) all)
+    ∙ ap (λ r. following (λ front. following (λ back. Ok (front ++ back)) (each become (x ∷ drop (i + 1) all))) r) before
+    ∙ ap (λ r. following (λ back. Ok (so_far ++ back)) r) (each-first become x (drop (i + 1) all) outcome stops)
 
 -- no item is left
-pub after-all : {A B : Type 0} (become : A → Result B Outcome) (all : List A) (so_far : List B) (i : ℕ) →
-    After become all so_far (drop i all) → length all ≤ i → each become all ≡ Ok so_far
-unfolding each
-after-all become all so_far i before done =
-    before ∙ ap (λ left. following (λ rest. Ok (so_far ++ rest)) (each become left)) (drop_all i all done)
-    ∙ ap Ok (append-nil so_far)
+pub became-all : {A B : Type 0} (become : A → Result B Outcome) (all : List A) (so_far : List B) (i : ℕ) →
+    BecameSo become all i so_far → length all ≤ i → each become all ≡ Ok so_far
+became-all {A = A} become all so_far i before done = ap (each become) (sym (take_all all i done)) ∙ before
+  where
+    take_all : (xs : List A) (n : ℕ) → length xs ≤ n → take n xs ≡ xs
+    take_all [] zero h = refl
+    take_all [] (suc n) h = refl
+    take_all (x ∷ xs) zero h = absurd (omega arith)
+    take_all (x ∷ xs) (suc n) h = ap (λ ys. x ∷ ys) (take_all xs n (omega arith))
 
 -- what is said of a stop
 pub on_stop-map : (stop : Stop) (P P' : List ℕ → Type 0) (Q Q' : Type 0) → OnStop stop P Q → ((line : List ℕ) → P line → P' line) → (Q → Q') → OnStop stop P' Q'
@@ -121,18 +161,30 @@ pub length-images : {A B : Type 0} (f : A → B) (xs : List A) → length (map f
 length-images f [] = refl
 length-images f (x ∷ xs) = ap suc (length-images f xs)
 
--- an item is among the items
-pub image_among : {A B : Type 0} (f : A → B) (xs : List A) (i : ℕ) (x : A) → i < length xs → x ≡ get_or xs i x → Contains (map f xs) (f x)
-image_among f xs i x within is = (i, omega (arith, length-images f xs), sym (read-map f xs i x within is))
+-- a read of one of the files failed, after those before it were read
+pub stops-here : (told : Option Contents) (names : List (List ℕ)) (i : ℕ) (name : List ℕ) (texts : List Text) (last : Option (List ℕ)) →
+    i < length names → name ≡ get_or names i name → IfSome told (λ contents. BecameSo (text_of contents) names i texts) →
+    TellsOnly name last → StopsAt told names last
+stops-here told names i name texts None within is read only = tt
+stops-here told names i name texts (Some other) within is read only =
+    let P : List ℕ → Type 0 = λ n. names ≡ take i names ++ n ∷ drop (i + 1) names in
+    (take i names, drop (i + 1) names, subst P (sym only) (split-at names i name within is),
+    if_told_one told _ _ read (λ contents so. (texts, so)))
 
--- the last failed name is that one, so it is among those
-pub tells-among : (told : Option (List ℕ)) (name : List ℕ) (names : List (List ℕ)) → TellsOnly name told → Contains names name → TellsAmong names told
-tells-among None name names only among = tt
-tells-among (Some other) name names only among = let P : List ℕ → Type 0 = λ n. Contains names n in subst P (sym only) among
+-- the same, where another file comes after all of these
+pub stops-before : (told : Option Contents) (names : List (List ℕ)) (later : List ℕ) (last : Option (List ℕ)) →
+    StopsAt told names last → StopsAt told (names ++ later ∷ []) last
+stops-before told names later None stops = tt
+stops-before told names later (Some other) (front, rest, is, there) =
+    (front, rest ++ later ∷ [], ap (λ xs. xs ++ later ∷ []) is ∙ append_assoc front (other ∷ rest) (later ∷ []), there)
 
-pub tells-more : (told : Option (List ℕ)) (name : List ℕ) (names : List (List ℕ)) → TellsAmong names told → TellsAmong (name ∷ names) told
-tells-more None name names among = tt
-tells-more (Some other) name names (k, within, is) = (suc k, omega arith, is)
+-- the last file failed, after all before it were read
+pub stops-last : (told : Option Contents) (names : List (List ℕ)) (name : List ℕ) (texts : List Text) (last : Option (List ℕ)) →
+    IfSome told (λ contents. each (text_of contents) names ≡ Ok texts) → TellsOnly name last → StopsAt told (names ++ name ∷ []) last
+stops-last told names name texts None read only = tt
+stops-last told names name texts (Some other) read only =
+    let P : List ℕ → Type 0 = λ n. names ++ name ∷ [] ≡ names ++ n ∷ [] in
+    (names, [], subst P (sym only) refl, if_told_one told _ _ read (λ contents so. (texts, so)))
 
 pub all_told : {A : Type 0} (told : Option A) (P : A → Type 0) → ((x : A) → P x) → IfSome told P
 all_told None P each = tt

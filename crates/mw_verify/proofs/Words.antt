@@ -1,19 +1,21 @@
 -- The words of a command.
-use Rattle.std.proofs.Common.{◌≡◌, ℕ, zero, suc, ◌||◌, ◌+◌, ◌<◌, ◌≤◌, Bool, true, false, ◌&&◌, not, List, [], ◌∷◌, length, drop, get_or, refl, ap, map, sym, arith, ◌∙◌, nat_le, le-leb}
+use Rattle.std.proofs.Common.{◌≡◌, ℕ, zero, suc, ◌||◌, ◌+◌, ◌<◌, ◌≤◌, Bool, true, false, ◌&&◌, not, List, [], ◌∷◌, ◌++◌, length, take, drop, get_or, refl, ap, map, sym, arith, ◌∙◌, nat_le, le-leb}
 use Rattle.std.specs.List.{list_any}
 use Rattle.mw_text.specs.Text.{same_text}
-use Rattle.std.specs.Prelude.{codes, Contains, IfSome}
+use Rattle.std.specs.Prelude.{codes, IfSome}
 use Rattle.std.proofs.Common.{Option, Some, None, Result, cond, subst}
-use Rattle.mw_outside.specs.Taken.{part_of_none}
+use Rattle.mw_outside.specs.Taken.{Takes, part_of_none}
 use Rattle.ios_ast.specs.declared.file.File.{File}
 use Rattle.question_lang.specs.declared.question.Question.{Question}
 use Rattle.mw_verify.specs.declared.status.Status.{Status}
 use Rattle.mw_verify.specs.declared.status.Status.TheVariants.{Good, Bad, Unknown, Usage, Refused, ReadFault, WriteFault, Memory}
 use Rattle.mw_verify.specs.Due.{Outcome, usage, unread, refused, answering, due, is_option, is_verify, named_due, files_due, either}
-use Rattle.mw_verify.specs.Loading.{AnswersSo}
-use Rattle.mw_verify.specs.Running.{Answers, PrintsPart, OnAnswered, OnCut}
+use Rattle.mw_verify.specs.Loading.{AnswersSo, IsWhole}
+use Rattle.mw_verify.specs.Running.{AreAnswered, IsDue, PrintsPart, OnAnswered, OnCut, StopsAt, in_order}
+use Rattle.mw_verify.specs.Verdicts.{AreRight, answers_text}
+use Rattle.mw_verify.proofs.Answering.{takes_none}
 use Rattle.mw_verify.specs.Texts.{usage_text}
-use Rattle.mw_outside.specs.Contents.{Contents, TellsAmong}
+use Rattle.mw_outside.specs.Contents.{Contents}
 
 any-map : {A B : Type 0} (test : B → Bool) (f : A → B) (xs : List A) → list_any test (map f xs) ≡ list_any (λ x. test (f x)) xs
 any-map test f [] = refl
@@ -57,49 +59,105 @@ due_of {A} f words x told outcome wanted name names is_command some is same is_n
     let U : List A → Type 0 = λ ws. IfSome told (λ contents. files_due contents (f x) (map f ws) ≡ wanted) in
     due_here f words x told outcome wanted is_command some is same (subst U are_names (subst T is_name said))
 
--- a name among the words after the first
-pub told_among : {A : Type 0} (f : A → List ℕ) (words : List A) (x : A) (told : Option (List ℕ)) (name : List ℕ) (names : List A) →
-    1 < length words → x ≡ get_or words 1 x → name ≡ f x → names ≡ drop 2 words → TellsAmong (name ∷ map f names) told → TellsAmong (drop 1 (map f words)) told
-told_among f words x None name names some is is_name are_names among = tt
-told_among f [] x (Some other) name names some is is_name are_names among = absurd (omega arith)
-told_among f (y ∷ []) x (Some other) name names some is is_name are_names among = absurd (omega arith)
-told_among {A} f (y ∷ z ∷ rest) x (Some other) name names some is is_name are_names among =
-    let P : List ℕ → Type 0 = λ n. Contains (n ∷ map f names) other in
-    let Q : List A → Type 0 = λ ws. Contains (f z ∷ map f ws) other in
-    subst Q are_names (subst P (is_name ∙ ap f is) among)
+-- the files that the words name, in the order of work
+pub order_of : {A : Type 0} (f : A → List ℕ) (words : List A) (x : A) (told : Option Contents) (last : Option (List ℕ)) (name : List ℕ) (names : List A) →
+    1 < length words → x ≡ get_or words 1 x → name ≡ f x → names ≡ drop 2 words → StopsAt told (map f names ++ name ∷ []) last →
+    StopsAt told (in_order (map f words)) last
+order_of f [] x told last name names some is is_name are_names stops = absurd (omega arith)
+order_of f (y ∷ []) x told last name names some is is_name are_names stops = absurd (omega arith)
+order_of {A} f (y ∷ z ∷ rest) x told last name names some is is_name are_names stops =
+    let P : List ℕ → Type 0 = λ n. StopsAt told (map f names ++ n ∷ []) last in
+    let Q : List A → Type 0 = λ ws. StopsAt told (map f ws ++ f z ∷ []) last in
+    subst Q are_names (subst P (is_name ∙ ap f is) stops)
 
--- a run of answers is one of what is due
-pub answered_from : (files : List File) (questions : List Question) (status : Status) (before now : Option (List ℕ)) (rose : Type 0) (outcome : Outcome) →
-    outcome ≡ answering files questions → AnswersSo files questions status before now rose →
-    OnAnswered status (λ broken. Answers outcome broken before now)
-answered_from files questions Good before now rose outcome same (text, right, takes) = (files, questions, text, same, right, takes)
-answered_from files questions Bad before now rose outcome same (text, right, takes) = (files, questions, text, same, right, takes)
-answered_from files questions Unknown before now rose outcome same so = tt
-answered_from files questions Usage before now rose outcome same so = tt
-answered_from files questions Refused before now rose outcome same so = tt
-answered_from files questions ReadFault before now rose outcome same so = tt
-answered_from files questions WriteFault before now rose outcome same so = tt
-answered_from files questions Memory before now rose outcome same so = tt
+-- what is due for words that are a command
+pub due_for : (told : Option Contents) (words : List (List ℕ)) (outcome : Outcome) → is_verify words ≡ true →
+    IfSome told (λ contents. due contents words ≡ outcome) → IsDue told words outcome
+due_for told words outcome is_command said = record {
+  no_command = λ h. let e : true ≡ false = sym is_command ∙ h in cc;
+  told = said;
+}
 
-pub cut_from : (files : List File) (questions : List Question) (status : Status) (before now : Option (List ℕ)) (rose : Type 0) (outcome : Outcome) →
-    outcome ≡ answering files questions → AnswersSo files questions status before now rose → OnCut status (PrintsPart outcome before now)
-cut_from files questions Good before now rose outcome same so = tt
-cut_from files questions Bad before now rose outcome same so = tt
-cut_from files questions Unknown before now rose outcome same so = tt
-cut_from files questions Usage before now rose outcome same so = tt
-cut_from files questions Refused before now rose outcome same so = tt
-cut_from files questions ReadFault before now rose outcome same so = tt
-cut_from files questions WriteFault before now rose outcome same so =
-    let P : Outcome → Type 0 = λ o. PrintsPart o before now in subst P (sym same) so.0
-cut_from files questions Memory before now rose outcome same so =
-    let P : Outcome → Type 0 = λ o. PrintsPart o before now in subst P (sym same) so
+-- what was read and parsed is due
+pub is_due_of : {A : Type 0} (f : A → List ℕ) (words : List A) (x : A) (told : Option Contents) (outcome : Outcome) (wanted : Result Outcome Outcome)
+    (name : List ℕ) (names : List A) (command : Bool) → command ≡ is_verify (map f words) → command ≡ true → 1 < length words → x ≡ get_or words 1 x →
+    either wanted ≡ outcome → name ≡ f x → names ≡ drop 2 words → IfSome told (λ contents. files_due contents name (map f names) ≡ wanted) →
+    IsDue told (map f words) outcome
+is_due_of f words x told outcome wanted name names command is commanded some is_x same is_name are_names said =
+    let is_command = sym is ∙ commanded in
+    due_for told (map f words) outcome is_command (due_of f words x told outcome wanted name names is_command some is_x same is_name are_names said)
+
+-- words that are no command
+pub due_usage : (told : Option Contents) (words : List (List ℕ)) → is_verify words ≡ false → IsDue told words usage
+due_usage told words none = record { no_command = λ h. refl; told = by_told told } where
+  by_told : (o : Option Contents) → IfSome o (λ contents. due contents words ≡ usage)
+  by_told None = tt
+  by_told (Some contents) = ap (λ b. cond b (named_due contents words) usage) none
+
+-- something is due for every words
+pub some_due : (told : Option Contents) (words : List (List ℕ)) → is_verify words ≡ true → (outcome : Outcome) × IsDue told words outcome
+some_due None words is_command = (unread, due_for None words unread is_command tt)
+some_due (Some contents) words is_command = (due contents words, due_for (Some contents) words (due contents words) is_command refl)
 
 -- nothing was printed, which is a front of what may be
 pub nothing_cut : (outcome : Outcome) (taken : Option (List ℕ)) → PrintsPart outcome taken taken
 nothing_cut usage taken = (usage_text, refl, part_of_none taken usage_text)
 nothing_cut unread taken = ([], refl, part_of_none taken [])
 nothing_cut (refused line) taken = (line, refl, part_of_none taken line)
-nothing_cut (answering files questions) taken = ([], (0, false, (refl, refl)), part_of_none taken [])
+nothing_cut (answering files questions budget) taken =
+    let right = none_right questions in ([], (0, [], right.0, right.1), part_of_none taken [])
+  where
+    none_right : (qs : List Question) → AreRight files budget 0 (take 0 qs) [] × ([] ≡ answers_text files questions (take 0 qs) [])
+    none_right [] = (tt, refl)
+    none_right (q ∷ qs) = (tt, refl)
+
+pub cut_nothing : (told : Option Contents) (words : List (List ℕ)) (taken : Option (List ℕ)) → is_verify words ≡ true →
+    (outcome : Outcome) × IsDue told words outcome × PrintsPart outcome taken taken
+cut_nothing told words taken is_command =
+    let some = some_due told words is_command in (some.0, some.1, nothing_cut some.0 taken)
+
+-- how a run of answers ends is how it is due
+pub answered_from : (files : List File) (questions : List Question) (budget : ℕ) (status : Status) (told : Option Contents) (words : List (List ℕ))
+    (before now logged_before logged_now : Option (List ℕ)) (rose : Type 0) → IsDue told words (answering files questions budget) →
+    logged_now ≡ logged_before → AnswersSo files questions budget status before now rose →
+    OnAnswered status ((asked : List File) × (qs : List Question) × (b : ℕ) × IsDue told words (answering asked qs b)
+    × AreAnswered asked qs b status before now logged_before logged_now)
+answered_from files questions budget status told words before now logged_before logged_now rose is_due same so = by_status status so where
+  whole : (s : Status) → IsWhole files questions budget s before now → (asked : List File) × (qs : List Question) × (b : ℕ)
+      × IsDue told words (answering asked qs b) × AreAnswered asked qs b s before now logged_before logged_now
+  whole s all =
+      let L : List ℕ → Type 0 = λ t. Takes logged_before logged_now t in
+      let T : Option (List ℕ) → Type 0 = λ o. Takes logged_before o [] in
+      (files, questions, budget, is_due, record {
+        answers = all.answers;
+        right = all.right;
+        ends = all.ends;
+        text = all.text;
+        logged = subst L (sym all.unlogged) (subst T (sym same) (takes_none logged_before));
+      })
+  by_status : (s : Status) → AnswersSo files questions budget s before now rose → OnAnswered s ((asked : List File) × (qs : List Question) × (b : ℕ)
+      × IsDue told words (answering asked qs b) × AreAnswered asked qs b s before now logged_before logged_now)
+  by_status Good all = whole Good all
+  by_status Bad all = whole Bad all
+  by_status Unknown none = absurd none
+  by_status Usage none = tt
+  by_status Refused none = tt
+  by_status ReadFault none = tt
+  by_status WriteFault part = tt
+  by_status Memory part = tt
+
+pub cut_from : (files : List File) (questions : List Question) (budget : ℕ) (status : Status) (told : Option Contents) (words : List (List ℕ))
+    (before now : Option (List ℕ)) (rose : Type 0) → IsDue told words (answering files questions budget) →
+    AnswersSo files questions budget status before now rose →
+    OnCut status ((outcome : Outcome) × IsDue told words outcome × PrintsPart outcome before now)
+cut_from files questions budget Good told words before now rose is_due so = tt
+cut_from files questions budget Bad told words before now rose is_due so = tt
+cut_from files questions budget Unknown told words before now rose is_due so = tt
+cut_from files questions budget Usage told words before now rose is_due so = tt
+cut_from files questions budget Refused told words before now rose is_due so = tt
+cut_from files questions budget ReadFault told words before now rose is_due so = tt
+cut_from files questions budget WriteFault told words before now rose is_due so = (answering files questions budget, is_due, so.0)
+cut_from files questions budget Memory told words before now rose is_due so = (answering files questions budget, is_due, so)
 
 -- words that begin with the command, of which there are enough
 pub verify_here : {A : Type 0} (f : A → List ℕ) (words names : List A) (x : A) (command option : Bool) → 0 < length words → x ≡ get_or words 0 x →

@@ -12,7 +12,8 @@ use Rattle.mw_verify.specs.declared.status.Status.{Status}
 use Rattle.mw_verify.specs.declared.status.Status.TheVariants.{Good, Bad, Unknown, Usage, Refused, ReadFault, WriteFault, Memory}
 use Rattle.mw_verify.specs.Due.{answering, is_answerable}
 use Rattle.mw_verify.specs.Running.{PrintsPart}
-use Rattle.mw_verify.specs.Verdicts.{Answer, AreRight, answers_text, sections_text, status_of}
+use Rattle.mw_verify.specs.declared.answer.Verdict.{Verdict}
+use Rattle.mw_verify.specs.Verdicts.{Answer, AreRight, IsRight, MayGoUnlogged, answers_text, is_broken_verdict, is_unknown_verdict, sections_text, status_of, verdict_text}
 
 -- P of the line of a refusal, Q at a fault of reading
 abbrev pub OnStop : Stop → (List ℕ → Type 0) → Type 0 → Type 0
@@ -55,3 +56,9 @@ AnswersSo files questions budget Unknown before now rose = ⊥
 AnswersSo files questions budget Usage before now rose = ⊥
 AnswersSo files questions budget Refused before now rose = ⊥
 AnswersSo files questions budget ReadFault before now rose = ⊥
+
+-- the text is that of a right verdict which goes unlogged, and the verdict is `broken` or not
+abbrev pub IsLine : List File → List Question → ℕ → Question → Bool → List ℕ → Type 0
+IsLine files questions number question broken text =
+    (verdict : Verdict) × IsRight files number question verdict × MayGoUnlogged verdict × (broken ≡ is_broken_verdict verdict)
+    × (is_unknown_verdict verdict ≡ false) × (text ≡ verdict_text files questions question verdict)

@@ -5,11 +5,11 @@ use Rattle.term_store.specs.declared.Node.{Node}
 use Rattle.term_store.specs.declared.NodeId.{NodeId}
 use Rattle.resolution_check.specs.declared.log.Entry.{Entry}
 use Rattle.resolution_check.specs.declared.log.Entry.TheVariants.{End}
-use Rattle.resolution_check.specs.Entries.{adds_empty, addition_count}
+use Rattle.resolution_check.specs.Earned.{AllEarned, IsSpaced}
+use Rattle.resolution_check.specs.Entries.{IsGood, adds_empty, addition_count, inputs}
 use Rattle.resolution_check.specs.Text.{log_text}
 use Rattle.cnf_blaster.specs.Cnf.{clauses_of}
 use Rattle.cnf_blaster.specs.Meaning.{CanBeTrue}
-use Rattle.cdcl_search.specs.Outcomes.{IsSearchLog}
 use Rattle.ios_ast.specs.declared.file.File.{File}
 use Rattle.route_record.specs.declared.Environment.{Environment}
 use Rattle.route_record.specs.declared.World.{World}
@@ -75,13 +75,16 @@ ShowsVerdict budget entries (Broken cex) = (adds_empty entries ≡ false) × (ad
 ShowsVerdict budget entries (Unknown after) =
     (after ≡ budget) × (adds_empty entries ≡ false) × (addition_count entries ≡ after)
 
--- the entries are the log of a search over the clauses of an encoding: of terms of which the root can be true exactly
--- where something breaks the question
+-- the entries are a good log, whose inputs are the clauses of an encoding, that is of terms of which the root can be true
+-- exactly where something breaks the question; every addition is earned, and deletions are spaced
 pub record IsSection (files : List File) (question : Question) (budget : ℕ) (verdict : Verdict) (entries : List Entry) : Type 0 where
   pub nodes : List Node
   pub root : NodeId
   pub encodes : CanBeTrue nodes (root ∷ []) ↔ IsBreakable files question
-  pub log : IsSearchLog (clauses_of nodes (root ∷ [])) entries
+  pub from : inputs entries ≡ clauses_of nodes (root ∷ [])
+  pub good : IsGood entries
+  pub earned : AllEarned entries
+  pub spaced : IsSpaced entries
   pub shows : ShowsVerdict budget entries verdict
 
 -- a verdict may come without a section, but for an unknown one
@@ -127,19 +130,21 @@ sections_text [] answers = []
 sections_text (question ∷ rest) [] = []
 sections_text (question ∷ rest) (answer ∷ others) = section_text question answer.section ++ sections_text rest others
 
+abbrev pub is_broken_verdict : Verdict → Bool
+is_broken_verdict Holds = false
+is_broken_verdict (Broken cex) = true
+is_broken_verdict (Unknown after) = false
+
+abbrev pub is_unknown_verdict : Verdict → Bool
+is_unknown_verdict Holds = false
+is_unknown_verdict (Broken cex) = false
+is_unknown_verdict (Unknown after) = true
+
 abbrev pub is_broken : Answer → Bool
-is_broken answer = of_verdict answer.verdict where
-  of_verdict : Verdict → Bool
-  of_verdict Holds = false
-  of_verdict (Broken cex) = true
-  of_verdict (Unknown after) = false
+is_broken answer = is_broken_verdict answer.verdict
 
 abbrev pub is_unknown : Answer → Bool
-is_unknown answer = of_verdict answer.verdict where
-  of_verdict : Verdict → Bool
-  of_verdict Holds = false
-  of_verdict (Broken cex) = false
-  of_verdict (Unknown after) = true
+is_unknown answer = is_unknown_verdict answer.verdict
 
 -- how a run of these answers ends
 abbrev pub status_of : List Answer → Status

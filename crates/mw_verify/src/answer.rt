@@ -56,12 +56,13 @@ pub fn verdict_of(alloc: Global, net: &Net, number: u32, question: &Question) ->
 {
     let packet = single_packet(&question.packets);
     let (start, target) = ends_of(&question.kind, net.routers().len());
+    let tables = tables_of(alloc, net, packet.dst)?;
     let world = World {
         failures: Failures {
             links: List::new(alloc),
         },
         packet,
-        tables: tables_of(alloc, net, packet.dst)?,
+        tables,
     };
     match breaking_walk(alloc, net, &world, start, target)? {
         None => Ok(Verdict::Holds),

@@ -1,6 +1,10 @@
 //! Reads and parses the files that the words name.
 
-ghost use Rattle.std.specs.Prelude.{◌≡◌, ◌≤◌, ◌<◌, Ok, Err, IfOk, IfErr, IfSome, length, map, string_bytes, ◌∷◌};
+ghost use Rattle.std.specs.Prelude.{◌≡◌, ◌≤◌, ◌++◌, ◌∷◌, [], Ok, Err, None, IfOk, IfErr, IfSome, filter, length, map, not, position, slice_get, string_bytes};
+ghost use Rattle.std.specs.Option.{option_map_or};
+ghost use Rattle.ios_reader.specs.Reading.{not_built};
+ghost use Rattle.ios_reader.specs.Statements.{is_skipped};
+ghost use Rattle.mw_verify.specs.Texts as texts;
 ghost use Rattle.mw_outside.specs.Faults.{Rose};
 ghost use Rattle.mw_outside.specs.Contents.{TellsOnly};
 ghost use Rattle.question_lang.specs.Single.{AreReach};
@@ -10,11 +14,12 @@ ghost use Rattle.mw_verify.specs.Loading.{OnStop, UnlessReadFault, AreSmall, Are
 
 use crate::text::{Text, no_network, refusal, too_long};
 use ios_ast::File;
-use ios_reader::{Cause, read_file};
+use ios_reader::statement::says_nothing;
+use ios_reader::{Cause, Refused, read_file};
 use mw_outside::{Files, ReadRefused, read_whole};
-use mw_text::{List, list_of};
+use mw_text::{Line, List, lines_of, list_of};
 use net_model::Net;
-use question_lang::{Question, read_questions};
+use question_lang::{Kind, MOST_QUESTIONS, Question, Target, is_single, read_questions};
 use std::alloc::{AllocError, Global};
 
 /// How many bytes a configuration or a questions file has at most.
@@ -44,9 +49,10 @@ fn named(alloc: Global, name: &str, bytes: List<u8>) -> Result<Text, AllocError>
 #[tactic(auto, using(crate::proofs::Loading::text_whole, crate::proofs::Loading::text_too_long))]
 fn read_text<F: Files>(alloc: Global, files: &mut F, name: &str) -> Result<Text, Stop>
     ensures kept { F.contents files.new ≡ F.contents files.old }
-    ensures later { F.faults files.old ≤ F.faults files.new }
     ensures ok { IfOk result (λ text. IfSome (F.contents files.old) (λ contents. due.text_of contents name.now ≡ Ok text)) }
     ensures small { IfOk result (λ text. length text.bytes ≤ MOST_BYTES) }
+    ensures quiet { UnlessReadFault result (F.faults files.new ≡ F.faults files.old) }
+    ensures name_stays { UnlessReadFault result (F.last_failed files.new ≡ F.last_failed files.old) }
     ensures stop { IfErr result (λ stop. OnStop stop
         (λ line. IfSome (F.contents files.old) (λ contents. due.text_of contents name.now ≡ Err (due.refused line)))
         (Rose (F.faults files.old) (F.faults files.new) × TellsOnly name.now (F.last_failed files.new))) }
@@ -68,13 +74,14 @@ fn read_text<F: Files>(alloc: Global, files: &mut F, name: &str) -> Result<Text,
 // The texts of the files of these names.
 fn read_texts<F: Files>(alloc: Global, files: &mut F, names: &[String]) -> Result<List<Text>, Stop>
     ensures kept { F.contents files.new ≡ F.contents files.old }
-    ensures later { F.faults files.old ≤ F.faults files.new }
     ensures ok { IfOk result (λ texts. IfSome (F.contents files.old) (λ contents.
         due.each (due.text_of contents) (map string_bytes names.now) ≡ Ok texts)) }
     ensures small { IfOk result AreSmall }
+    ensures quiet { UnlessReadFault result (F.faults files.new ≡ F.faults files.old) }
+    ensures name_stays { UnlessReadFault result (F.last_failed files.new ≡ F.last_failed files.old) }
     ensures stop { IfErr result (λ stop. OnStop stop
         (λ line. IfSome (F.contents files.old) (λ contents. due.each (due.text_of contents) (map string_bytes names.now) ≡ Err (due.refused line)))
-        (Rose (F.faults files.old) (F.faults files.new) × TellsAmong (map string_bytes names.now) (F.last_failed files.new))) }
+        (Rose (F.faults files.old) (F.faults files.new) × StopsAt (F.contents files.old) (map string_bytes names.now) (F.last_failed files.new))) }
 {
     let mut texts = List::new(alloc);
     for name in names {
@@ -155,16 +162,89 @@ fn parse_network(alloc: Global, texts: &[Text]) -> Result<Net, Stop>
     }
 }
 
-// The questions of the text over the network.
+// Whether `verify` can answer the question today: whether one packet from a router reaches a router, while no link fails.
+fn is_answerable(question: &Question) -> bool
+    ensures { result ≡ due.is_answerable question.now }
+{
+    is_reach(&question.kind) && question.failures == 0 && is_single(&question.packets)
+}
+
+fn is_reach(kind: &Kind) -> bool
+    ensures { result ≡ due.is_reach kind.now }
+{
+    match kind {
+        Kind::Reach(start, Target::Router(_)) => start.iface.is_none(),
+        _ => false,
+    }
+}
+
+fn find_unanswerable(questions: &[Question]) -> Option<usize>
+    ensures { result ≡ position (λ question. not (due.is_answerable question)) questions.now }
+{
+    questions.iter().position(|question| !is_answerable(question))
+}
+
+// The number of the first question that cannot be answered.
+fn first_unanswerable(questions: &[Question]) -> Option<usize>
+    ensures first { result ≡ position (λ question. not (due.is_answerable question)) questions.now }
+    ensures none { result ≡ None → AreAnswerable questions.now }
+{
+    let found = find_unanswerable(questions);
+    found
+}
+
+fn asks(line: &Line) -> bool
+    ensures { result ≡ not (is_skipped line.now.words) }
+{
+    !says_nothing(line.words.as_slice())
+}
+
+// The line of the question of that number: the lines that are not skipped ask the questions in their order.
+fn line_of(lines: &[Line], number: usize) -> u32
+    ensures { result ≡ option_map_or (λ line. line.number) (slice_get (filter (λ line. not (is_skipped line.words)) lines.now) number) 0 }
+{
+    let mut left = number;
+    for line in lines {
+        if asks(line) {
+            if left == 0 {
+                return line.number;
+            }
+            left -= 1;
+        }
+    }
+    0
+}
+
+// The line of a question that cannot be answered.
+fn unanswerable(alloc: Global, asked: &Text, number: usize) -> Result<List<u8>, AllocError>
+    requires { length asked.now.bytes ≤ MOST_BYTES }
+    ensures { IfOk result (λ line. line ≡ texts.refusal asked.now.name (not_built (due.line_of asked.now.bytes number))) }
+{
+    let lines = lines_of(alloc, asked.bytes.as_slice())?;
+    let refused = Refused {
+        line: line_of(lines.as_slice(), number),
+        cause: Cause::NotBuilt,
+    };
+    refusal(alloc, asked.name.as_slice(), &refused)
+}
+
+// The questions of the text over the network, all of which can be answered.
 fn parse_questions(alloc: Global, asked: &Text, net: &Net) -> Result<List<Question>, Stop>
     requires { length asked.now.bytes ≤ MOST_BYTES }
-    ensures ok { IfOk result (λ questions. due.questions_of asked.now net.now ≡ Ok (due.answering net.now questions)) }
-    ensures single { IfOk result (AreSingle (length net.now)) }
+    ensures ok { IfOk result (λ questions. due.questions_of asked.now net.now ≡ Ok (due.answering net.now questions DEFAULT_CONFLICTS)) }
+    ensures reach { IfOk result (AreReach (length net.now)) }
+    ensures answerable { IfOk result AreAnswerable }
     ensures few { IfOk result (λ questions. length questions ≤ MOST_QUESTIONS) }
     ensures stop { IfErr result (λ stop. OnStop stop (λ line. due.questions_of asked.now net.now ≡ Err (due.refused line)) ⊥) }
 {
     match read_questions(alloc, asked.bytes.as_slice(), net) {
-        Ok(questions) => Ok(questions),
+        Ok(questions) => match first_unanswerable(questions.as_slice()) {
+            None => Ok(questions),
+            Some(number) => match unanswerable(alloc, asked, number) {
+                Ok(line) => Err(Stop::Refused(line)),
+                Err(_) => Err(Stop::Memory),
+            },
+        },
         Err(refused) => match refused.cause {
             Cause::Memory => Err(Stop::Memory),
             _ => match refusal(alloc, asked.name.as_slice(), &refused) {
@@ -183,7 +263,8 @@ pub struct Loaded {
 }
 
 /// Reads the configurations of these names and then the questions file, and parses them in this order. A read fault is
-/// answered only where a read of one of these files failed in this call, and a refusal is the first in this order.
+/// answered only where a read of one of these files failed in this call, and a refusal is the first in this order. Files,
+/// network and questions are read whole; then the first question that `verify` cannot answer yet is refused.
 pub fn load<F: Files>(
     alloc: Global,
     files: &mut F,
@@ -192,13 +273,17 @@ pub fn load<F: Files>(
 ) -> Result<Loaded, Stop>
     ensures kept { F.contents files.new ≡ F.contents files.old }
     ensures ok { IfOk result (λ loaded. IfSome (F.contents files.old) (λ contents.
-        due.files_due contents questions.now (map string_bytes names.now) ≡ Ok (due.answering loaded.net loaded.questions))) }
-    ensures single { IfOk result (λ loaded. AreSingle (length loaded.net) loaded.questions) }
+        due.files_due contents questions.now (map string_bytes names.now) ≡ Ok (due.answering loaded.net loaded.questions DEFAULT_CONFLICTS))) }
+    ensures reach { IfOk result (λ loaded. AreReach (length loaded.net) loaded.questions) }
+    ensures answerable { IfOk result (λ loaded. AreAnswerable loaded.questions) }
     ensures few { IfOk result (λ loaded. length loaded.questions ≤ MOST_QUESTIONS) }
+    ensures quiet { UnlessReadFault result (F.faults files.new ≡ F.faults files.old) }
+    ensures name_stays { UnlessReadFault result (F.last_failed files.new ≡ F.last_failed files.old) }
     ensures stop { IfErr result (λ stop. OnStop stop
         (λ line. IfSome (F.contents files.old) (λ contents.
         due.files_due contents questions.now (map string_bytes names.now) ≡ Err (due.refused line)))
-        (Rose (F.faults files.old) (F.faults files.new) × TellsAmong (questions.now ∷ map string_bytes names.now) (F.last_failed files.new))) }
+        (Rose (F.faults files.old) (F.faults files.new)
+        × StopsAt (F.contents files.old) (map string_bytes names.now ++ questions.now ∷ []) (F.last_failed files.new))) }
 {
     let texts = match read_texts(alloc, files, names) {
         Ok(texts) => texts,

@@ -1,25 +1,28 @@
 //! The whole run of the program.
 
-ghost use Rattle.std.specs.Prelude.{◌≡◌, ◌≢◌, ◌≤◌, ◌⊎◌, ◌||◌, ℕ, List, true, false, IfSome, length, map, drop, string_bytes, codes};
+ghost use Rattle.std.specs.Prelude.{◌≡◌, ◌≢◌, ◌≤◌, ◌⊎◌, ◌||◌, ℕ, List as ListOf, true, false, IfOk, length, map, string_bytes, codes};
 ghost use Rattle.std.specs.List.{list_any};
 ghost use Rattle.mw_text.specs.Text.{same_text};
+ghost use Rattle.ios_ast.specs.declared.file.File.{File};
 ghost use Rattle.mw_outside.specs.Faults.{Rose};
-ghost use Rattle.mw_outside.specs.Contents.{TellsAmong};
 ghost use Rattle.mw_outside.specs.Taken.{Takes};
-ghost use Rattle.question_lang.specs.Asking.{most_questions};
-ghost use Rattle.question_lang.specs.Single.{AreSingle};
+ghost use Rattle.question_lang.specs.declared.question.Question.{Question as QuestionOf};
+ghost use Rattle.question_lang.specs.Single.{AreReach, IsReach};
 ghost use Rattle.mw_verify.specs.Due as due;
-ghost use Rattle.mw_verify.specs.Loading.{AnswersSo};
-ghost use Rattle.mw_verify.specs.Running.{Answers, PrintsPart, OnAnswered, OnCut};
+ghost use Rattle.mw_verify.specs.Due.{Outcome, is_answerable};
+ghost use Rattle.mw_verify.specs.Loading.{AnswersSo, AreAnswerable, IsLine};
+ghost use Rattle.mw_verify.specs.Running.{AreAnswered, IsDue, OnAnswered, OnCut, PrintsPart, StopsAt, in_order};
 ghost use Rattle.mw_verify.specs.Texts.{usage_text};
+ghost use Rattle.mw_verify.specs.Verdicts.{is_broken_verdict};
 
-use crate::answer::verdict_of;
-use crate::load::{Stop, load};
+use crate::answer::{Verdict, verdict_lines, verdict_of};
+use crate::load::{DEFAULT_CONFLICTS, Stop, load};
 use crate::status::Status;
 use mw_outside::{Files, Sink};
+use mw_text::List;
 use net_model::Net;
-use question_lang::Question;
-use std::alloc::Global;
+use question_lang::{MOST_QUESTIONS, Question};
+use std::alloc::{AllocError, Global};
 
 const USAGE: &[u8] = b"usage: mw_cli verify, check, replay, simulate or gen\n";
 
@@ -29,20 +32,46 @@ fn either(a: bool, b: bool) -> bool
     a || b
 }
 
+fn is_broken(verdict: &Verdict) -> bool
+    ensures { result ≡ is_broken_verdict verdict.now }
+{
+    matches!(verdict, Verdict::Broken(_))
+}
+
+// A right verdict for a question, with its lines, and whether it is `broken`.
+#[derive(Drop)]
+struct Line {
+    broken: bool,
+    text: List<u8>,
+}
+
+fn answer_line(alloc: Global, net: &Net, questions: &[Question], number: u32, question: &Question) -> Result<Line, AllocError>
+    requires reach { IsReach (length net.now) question.now }
+    requires answerable { is_answerable question.now ≡ true }
+    ensures { IfOk result (λ line. IsLine net.now questions.now number question.now line.broken line.text) }
+{
+    let verdict = verdict_of(alloc, net, number, question)?;
+    let broken = is_broken(&verdict);
+    let text = verdict_lines(alloc, net, questions, question, &verdict)?;
+    Ok(Line { broken, text })
+}
+
 // Prints a right verdict for each question in turn.
 fn put_verdicts<O: Sink>(alloc: Global, net: &Net, questions: &[Question], out: &mut O) -> Status
-    requires single { AreSingle (length net.now) questions.now }
-    requires few { length questions.now ≤ most_questions }
-    ensures { AnswersSo net.now questions.now result (O.taken out.old) (O.taken out.new) (Rose (O.faults out.old) (O.faults out.new)) }
+    requires reach { AreReach (length net.now) questions.now }
+    requires answerable { AreAnswerable questions.now }
+    requires few { length questions.now ≤ MOST_QUESTIONS }
+    ensures answers { AnswersSo net.now questions.now DEFAULT_CONFLICTS result (O.taken out.old) (O.taken out.new) (Rose (O.faults out.old) (O.faults out.new)) }
+    ensures writes { result ≢ Status.WriteFault → O.faults out.new ≡ O.faults out.old }
 {
     let mut broken = false;
     for (at, question) in questions.iter().enumerate() {
-        let verdict = match verdict_of(alloc, net, questions, at as u32, question) {
-            Ok(verdict) => verdict,
+        let line = match answer_line(alloc, net, questions, at as u32, question) {
+            Ok(line) => line,
             Err(_) => return Status::Memory,
         };
-        match out.write(verdict.text.as_slice()) {
-            Ok(()) => broken = either(broken, verdict.broken),
+        match out.write(line.text.as_slice()) {
+            Ok(()) => broken = either(broken, line.broken),
             Err(_) => return Status::WriteFault,
         }
     }
@@ -88,9 +117,11 @@ pub fn run<F: Files, O: Sink, L: Sink>(
     out: &mut O,
     log: &mut L,
 ) -> Status
-    // With 0 or 1 each question has a right verdict in its order, 1 exactly where one is `broken`, and the whole text stands.
-    ensures answered { IfSome (F.contents files.old) (λ contents. OnAnswered result (λ broken.
-        Answers (due.due contents (map string_bytes words.now)) broken (O.taken out.old) (O.taken out.new))) }
+    // With 0, 1 or 2 each question has a right verdict in its order, the status is theirs, and the whole text and each
+    // section of the log stand.
+    ensures answered { OnAnswered result ((asked : ListOf File) × (questions : ListOf QuestionOf) × (budget : ℕ)
+        × IsDue (F.contents files.old) (map string_bytes words.now) (due.answering asked questions budget)
+        × AreAnswered asked questions budget result (O.taken out.old) (O.taken out.new) (L.taken log.old) (L.taken log.new)) }
 
     // With 3 the words are no command, and exactly the usage line stands.
     ensures usage { result ≡ Status.Usage →
@@ -98,20 +129,25 @@ pub fn run<F: Files, O: Sink, L: Sink>(
     ensures no_command { due.is_verify (map string_bytes words.now) ≡ false → (result ≡ Status.Usage) ⊎ (result ≡ Status.WriteFault) }
 
     // With 4 exactly one line stands: that of the first refusal.
-    ensures refused { result ≡ Status.Refused → (line : List ℕ) × Takes (O.taken out.old) (O.taken out.new) line
-        × IfSome (F.contents files.old) (λ contents. due.due contents (map string_bytes words.now) ≡ due.refused line) }
+    ensures refused { result ≡ Status.Refused → (line : ListOf ℕ) × Takes (O.taken out.old) (O.taken out.new) line
+        × IsDue (F.contents files.old) (map string_bytes words.now) (due.refused line) }
 
-    // With 5 a read of a file that the words name failed in this call, and nothing is printed.
+    // With 5 a read of a file that the words name failed in this call, the first in the order of work that cannot be read,
+    // and nothing is printed. With any other status no read failed.
     ensures read_fault { result ≡ Status.ReadFault → Rose (F.faults files.old) (F.faults files.new)
-        × TellsAmong (drop 1 (map string_bytes words.now)) (F.last_failed files.new) × (O.taken out.new ≡ O.taken out.old) }
+        × StopsAt (F.contents files.old) (in_order (map string_bytes words.now)) (F.last_failed files.new)
+        × (O.taken out.new ≡ O.taken out.old) }
+    ensures reads { result ≢ Status.ReadFault → (F.faults files.new ≡ F.faults files.old) × (F.last_failed files.new ≡ F.last_failed files.old) }
 
-    // With 6 a write failed in this call.
-    ensures write_fault { result ≡ Status.WriteFault → Rose (O.faults out.old) (O.faults out.new) }
+    // With 6 a write failed in this call. With any other status none did.
+    ensures write_fault { result ≡ Status.WriteFault → Rose (O.faults out.old) (O.faults out.new) ⊎ Rose (L.faults log.old) (L.faults log.new) }
+    ensures writes { result ≢ Status.WriteFault → (O.faults out.new ≡ O.faults out.old) × (L.faults log.new ≡ L.faults log.old) }
 
     // With 6 or 7 a front stands of the line that is due, or of right verdicts for the first questions.
-    ensures cut { IfSome (F.contents files.old) (λ contents. OnCut result
-        (PrintsPart (due.due contents (map string_bytes words.now)) (O.taken out.old) (O.taken out.new))) }
+    ensures cut { OnCut result ((outcome : Outcome) × IsDue (F.contents files.old) (map string_bytes words.now) outcome
+        × PrintsPart outcome (O.taken out.old) (O.taken out.new)) }
 
+    // Today no verdict is unknown, and nothing is logged.
     ensures decided { result ≢ Status.Unknown }
     ensures kept { F.contents files.new ≡ F.contents files.old }
     ensures not_logged { log.new ≡ log.old }

@@ -22,10 +22,7 @@ abbrev pub up_interfaces : List File → Failures → ℕ → List Addressed
 up_interfaces files failures router =
     filter (λ x. (x.id.router == router) && is_up files failures x) (addressed files)
 
--- where no link has failed, the interfaces that are up are those not shut down: all of them, and those of a router
-abbrev pub all_open : List Addressed → List Addressed
-all_open all = filter (λ x. not x.shutdown && true) all
-
+-- where no link has failed, the interfaces of a router that are up are those not shut down
 abbrev pub open_interfaces : List Addressed → ℕ → List Addressed
 open_interfaces all router = filter (λ x. (x.id.router == router) && (not x.shutdown && true)) all
 

@@ -20,17 +20,6 @@ fn is_open_on(x: &Addressed, router: u32) -> bool
     x.id.router == router && is_open(x)
 }
 
-/// The interfaces that are not shut down.
-pub fn all_open(alloc: Global, addresses: &[Addressed]) -> Result<Vec<Addressed>, AllocError>
-    ensures { IfOk result (λ up. up.items ≡ routing.all_open addresses.now) }
-{
-    addresses
-        .iter()
-        .copied()
-        .filter(|x| is_open(x))
-        .collect(alloc)
-}
-
 /// The interfaces of a router that are not shut down.
 pub fn open_interfaces(
     alloc: Global,

@@ -1,8 +1,7 @@
-use Rattle.std.proofs.Common.{drop}
 use Rattle.mw_verify.specs.Due.{file_of}
-use Rattle.mw_verify.proofs.Loading.{After}
+use Rattle.mw_verify.proofs.Loading.{BecameSo}
 use Rattle.mw_verify.proofs.load.parse_files.Given as goal
 
 -- the files so far are those of the texts so far
 abbrev pub invariant-loop-text : goal.invariant-loop-text
-invariant-loop-text l = After file_of l.texts l.files-inside.items.items (drop l.text-index l.texts)
+invariant-loop-text l = BecameSo file_of l.texts l.text-index l.files-inside.items.items

@@ -1,58 +1,73 @@
-use Rattle.std.proofs.Common.{◌≡◌, ◌∙◌, List, ℕ, map, Option, Err, Ok, drop, subst, sym, ap, arith, length, ◌++◌, ◌∷◌, [], get_or, ◌+◌, ◌≤◌}
-use Rattle.std.specs.Prelude.{Contains, IfSome, slice_get, string_bytes}
-use Rattle.mw_outside.specs.Contents.{Contents, TellsOnly, TellsAmong}
+use Rattle.std.proofs.Common.{◌≡◌, ◌∙◌, List, [], refl, ℕ, map, Option, Err, Ok, subst, sym, ap, arith, length, get_or, ◌+◌, ◌<◌, ◌≤◌}
+use Rattle.std.specs.Prelude.{IfSome, slice_get, string_bytes}
+use Rattle.mw_outside.specs.Contents.{Contents, TellsOnly}
+use Rattle.mw_outside.specs.Faults.{Rose}
+use Rattle.mw_verify.specs.declared.load.TheConstants.{MOST_BYTES}
 use Rattle.mw_verify.specs.declared.text.Text.{Text}
-use Rattle.mw_verify.specs.Due.{each, most_bytes, text_of, refused}
+use Rattle.mw_verify.specs.Loading.{AreSmall}
+use Rattle.mw_verify.specs.Due.{each, text_of, refused}
 use Rattle.mw_text.proofs.Lists.{each_place-push}
-use Rattle.mw_verify.proofs.Loading.{After, after-one, after-stop, after-all, on_stop-map, if_told, if_told_one, read-map, length-images, image_among, tells-among}
+use Rattle.mw_verify.proofs.Loading.{BecameSo, all_told, each-none, became-one, became-stop, became-all, on_stop-map, if_told, if_told_one, read-map, length-images, stops-here}
 use Rattle.mw_verify.proofs.load.read_texts.Goals as goal
+
+pub loop-name-init : goal.loop-name-init
+loop-name-init g c =
+    let empty : c.texts.inside.items.items ≡ [] = c.texts.view_is ∙ c.new-texts.ensures in
+    let S : List Text → Type 0 = λ texts. AreSmall texts in
+    (refl, refl, refl,
+    all_told (g.F.Files.contents c.args.files.now) _ (λ contents. each-none (text_of contents) ∙ ap Ok (sym empty)),
+    subst S (sym empty) (λ k text found. absurd cc))
 
 pub returns-in-Err-clause-stop : goal.returns-in-Err-clause-stop
 returns-in-Err-clause-stop g c =
     let names : List (List ℕ) = map string_bytes c.args.names.now in
     let name : List ℕ = string_bytes c.name-item.result in
     let told : Option Contents = g.F.Files.contents c.args.files.now in
-    let within = c.loop-name-test.true in
-    let is_name : name ≡ get_or names c.loop-name.name-index name = read-map string_bytes c.args.names.now c.loop-name.name-index c.name-item.result within c.name-item.is in
+    let i : ℕ = c.loop-name.name-index in
+    let so_far : List Text = c.loop-name.texts-inside.items.items in
+    let test = c.loop-name-test.true in
+    let within : i < length names = omega (arith, test, length-images string_bytes c.args.names.now) in
+    let is_name : name ≡ get_or names i name = read-map string_bytes c.args.names.now i c.name-item.result test c.name-item.is in
     on_stop-map c.in-Err.stop _ _ _ _ c.in-Err.ensures.stop
     (λ line said.
     let T : Option Contents → Type 0 = λ o. IfSome o (λ contents. text_of contents c.as_str.result.now ≡ Err (refused line)) in
     let U : List ℕ → Type 0 = λ n. IfSome told (λ contents. text_of contents n ≡ Err (refused line)) in
-    if_told told _ _ _ c.loop-name.invariant.2 (subst U c.as_str.ensures.value (subst T c.loop-name.invariant.0 said))
-    (λ contents after stopped. after-stop (text_of contents) names c.loop-name.texts-inside.items.items c.loop-name.name-index name (refused line)
-    after (omega (arith, within, length-images string_bytes c.args.names.now)) is_name stopped))
-    (λ said. (
-      omega (arith, said.0, c.loop-name.invariant.1),
-      tells-among (g.F.Files.last_failed c.read_text.new.files) c.as_str.result.now names said.1
-          (let V : List ℕ → Type 0 = λ n. Contains names n in
-          subst V (sym c.as_str.ensures.value) (image_among string_bytes c.args.names.now c.loop-name.name-index c.name-item.result within c.name-item.is)),
-    ))
+    if_told told _ _ _ c.loop-name.invariant.3 (subst U c.as_str.ensures.value (subst T c.loop-name.invariant.0 said))
+    (λ contents before stopped. became-stop (text_of contents) names so_far i name (refused line) before within is_name stopped))
+    (λ said.
+    let R : ℕ → Type 0 = λ before. Rose before (g.F.Files.faults c.read_text.new.files) in
+    let N : List ℕ → Type 0 = λ n. TellsOnly n (g.F.Files.last_failed c.read_text.new.files) in
+    (subst R c.loop-name.invariant.1 said.0,
+    stops-here told names i name so_far (g.F.Files.last_failed c.read_text.new.files) within is_name c.loop-name.invariant.3
+    (subst N c.as_str.ensures.value said.1)))
 
 pub loop-name-preserved : goal.loop-name-preserved
 loop-name-preserved g c =
     let names : List (List ℕ) = map string_bytes c.args.names.now in
     let name : List ℕ = string_bytes c.name-item.result in
     let told : Option Contents = g.F.Files.contents c.args.files.now in
-    let within = c.loop-name-test.true in
+    let i : ℕ = c.loop-name.name-index in
+    let test = c.loop-name-test.true in
+    let within : i < length names = omega (arith, test, length-images string_bytes c.args.names.now) in
     let before = c.loop-name.texts-inside.items.items in
-    let is_name : name ≡ get_or names c.loop-name.name-index name = read-map string_bytes c.args.names.now c.loop-name.name-index c.name-item.result within c.name-item.is in
+    let is_name : name ≡ get_or names i name = read-map string_bytes c.args.names.now i c.name-item.result test c.name-item.is in
     let T : Option Contents → Type 0 = λ o. IfSome o (λ contents. text_of contents c.as_str.result.now ≡ Ok c.in-Ok.text) in
     let U : List ℕ → Type 0 = λ n. IfSome told (λ contents. text_of contents n ≡ Ok c.in-Ok.text) in
-    let P : List Text → Type 0 = λ texts. IfSome told (λ contents. After (text_of contents) names texts (drop (c.loop-name.name-index + 1) names)) in
+    let P : List Text → Type 0 = λ texts. IfSome told (λ contents. BecameSo (text_of contents) names (i + 1) texts) in
     let items = c.in-Ok-push.ensures.items in (
       c.in-Ok.ensures.kept ∙ c.loop-name.invariant.0,
-      omega (arith, c.in-Ok.ensures.later, c.loop-name.invariant.1),
+      c.in-Ok.ensures.quiet ∙ c.loop-name.invariant.1,
+      c.in-Ok.ensures.name_stays ∙ c.loop-name.invariant.2,
       subst P (sym items)
-          (if_told told _ _ _ c.loop-name.invariant.2 (subst U c.as_str.ensures.value (subst T c.loop-name.invariant.0 c.in-Ok.ensures.ok))
-          (λ contents after read. after-one (text_of contents) names before c.loop-name.name-index name c.in-Ok.text
-          after (omega (arith, within, length-images string_bytes c.args.names.now)) is_name read)),
-      λ k text found. each_place-push (λ _ t. length t.bytes ≤ most_bytes) before c.in-Ok.text c.loop-name.invariant.3 c.in-Ok.ensures.small k text
+          (if_told told _ _ _ c.loop-name.invariant.3 (subst U c.as_str.ensures.value (subst T c.loop-name.invariant.0 c.in-Ok.ensures.ok))
+          (λ contents so read. became-one (text_of contents) names before i name c.in-Ok.text so within is_name read)),
+      λ k text found. each_place-push (λ _ t. length t.bytes ≤ MOST_BYTES) before c.in-Ok.text c.loop-name.invariant.4 c.in-Ok.ensures.small k text
           (sym (ap (λ xs. slice_get xs k) items) ∙ found),
     )
 
 pub returns-clause-ok : goal.returns-clause-ok
 returns-clause-ok g c =
     let names : List (List ℕ) = map string_bytes c.args.names.now in
-    if_told_one (g.F.Files.contents c.args.files.now) _ _ c.loop-name.invariant.2
-    (λ contents after. after-all (text_of contents) names c.loop-name.texts-inside.items.items c.loop-name.name-index after
+    if_told_one (g.F.Files.contents c.args.files.now) _ _ c.loop-name.invariant.3
+    (λ contents so. became-all (text_of contents) names c.loop-name.texts-inside.items.items c.loop-name.name-index so
     (omega (arith, c.loop-name-test.false, length-images string_bytes c.args.names.now)))
