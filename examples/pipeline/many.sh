@@ -22,7 +22,7 @@ shift
 for questions in "$@"; do rm -f "$questions.status"; done
 
 export MW="$mw" MW_EXPLAIN=1
-if command -v parallel >/dev/null; then
+if parallel --version 2>/dev/null | grep -q '^GNU parallel'; then
     printf '%s\0' "$@" | parallel --null --quote ${JOBS:+--jobs "$JOBS"} \
         ${MACHINES:+--sshloginfile "$MACHINES" --workdir "$PWD" --env MW --env MW_EXPLAIN} "$0" --one "$folder"
 elif [ -n "${MACHINES-}" ]; then

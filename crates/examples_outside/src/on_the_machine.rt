@@ -144,9 +144,12 @@ fn replaced_file_is_read_on_as_it_was(rt: HostRuntime) -> Result<(), Fail> {
     assert_eq!(rt; create(&rt, next, b"six ten and more"), Ok(()));
     fs::rename(&rt, next, name)?;
     assert_eq!(rt; four_at(&mut files, name, 4), Ok(*b"two\0"));
-    assert_eq!(rt; four_at(&mut files, name, 7), Ok([0; 4]));
-    assert_eq!(rt; four_at(&mut files, name, 4), Ok(*b"ten "));
     assert_eq!(rt; four_at(&mut files, name, 0), Ok(*b"six "));
+    assert_eq!(rt; create(&rt, next, b"end of all"), Ok(()));
+    fs::rename(&rt, next, name)?;
+    assert_eq!(rt; four_at(&mut files, name, 4), Ok(*b"ten "));
+    assert_eq!(rt; four_at(&mut files, name, 16), Ok([0; 4]));
+    assert_eq!(rt; four_at(&mut files, name, 4), Ok(*b"of a"));
     fs::remove_file(&rt, name)?;
     Ok(())
 }
