@@ -1,18 +1,29 @@
 -- Lists of nodes, item by item: their ends, their bits and the numbers of these.
-use Rattle.std.proofs.Common.{◌≡◌, ℕ, ◌+◌, ◌*◌, ◌/◌, ◌%◌, ◌^◌, nat_eq, ◌<◌, ◌≤◌, zero, suc, max, Bool, true, false, List, [], ◌∷◌, ◌++◌, take, drop, get_or, length, refl, sym, ap, subst, ◌∙◌, arith}
+use Rattle.std.proofs.Common.{◌≡◌, ℕ, ◌+◌, ◌*◌, ◌/◌, ◌%◌, ◌^◌, nat_eq, ◌<◌, ◌≤◌, zero, suc, max, Bool, true, false, if◌then◌else◌, List, [], ◌∷◌, ◌++◌, take, drop, get_or, length, refl, sym, ap, subst, ◌∙◌, arith}
 use Rattle.std.proofs.lemmas.List.{drop_more, drop_all, take_more, map-append, get_or-map, length-map}
 use Rattle.std.proofs.lemmas.Bool.{eqb-true}
 use Rattle.std.proofs.lemmas.Bool.Decides.{nat_tests}
 use Rattle.std.proofs.lemmas.Grind.{common_steps}
 use Rattle.std.proofs.Math.Nat.{pow-suc, pow-succ', div-one, div-div-eq-div-mul, zero-div}
 use Rattle.term_store.specs.declared.NodeId.{NodeId}
-use Rattle.term_store.specs.Terms.{Reading, at}
+use Rattle.term_store.specs.Terms.{Reading, at, differ}
 use Rattle.term_arith.specs.Bits.{bit, bits, number, ids_end}
 
 -- a bit is 0 or 1
 pub bit_small : (b : Bool) → bit b ≤ 1
 bit_small true = omega arith
 bit_small false = omega arith
+
+-- the low bit and the carry of three bits
+pub full_adder : (a b c : Bool) → bit (differ (differ a b) c) + 2 * bit (if differ a b then c else a) ≡ bit a + bit b + bit c
+full_adder true true true = refl
+full_adder true true false = refl
+full_adder true false true = refl
+full_adder true false false = refl
+full_adder false true true = refl
+full_adder false true false = refl
+full_adder false false true = refl
+full_adder false false false = refl
 
 -- a node of a list is below the list's end
 pub ids_end_at : (ids : List NodeId) (i : ℕ) (d : NodeId) → i < length ids → (get_or ids i d).0 < ids_end ids
