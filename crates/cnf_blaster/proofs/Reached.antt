@@ -1,5 +1,6 @@
 -- Which nodes are reached, and which variables they have.
-use Rattle.std.proofs.Common.{◌≡◌, ℕ, zero, suc, ◌+◌, ◌<◌, Bool, true, cond, List, [], ◌∷◌, ◌++◌, slice_get, Some, inl, inr, refl, sym, ap, subst, ◌∙◌, arith, add-zero, zero-add, length-append}
+use Rattle.std.proofs.Common.{◌≡◌, ℕ, zero, suc, ◌+◌, ◌<◌, Bool, true, false, cond, List, [], ◌∷◌, ◌++◌, slice_get, Some, inl, inr, refl, sym, ap, subst, ◌∙◌, arith, add-zero, zero-add, length-append}
+use Rattle.std.proofs.lemmas.List.{append-nil}
 use Rattle.std.specs.List.{list_all}
 use Rattle.std.proofs.lemmas.Bool.{cases_lt, and_parts, and_from, false≢true, or_left, or_right, or_cases, eqb-true, eq-eqb}
 use Rattle.std.proofs.lemmas.Option.{slice_get_within, slice_get-get_or, get_or_from_slice_get}
@@ -8,7 +9,7 @@ use Rattle.term_store.specs.declared.NodeId.{NodeId}
 use Rattle.term_store.specs.declared.Node.{Node}
 use Rattle.term_store.specs.declared.Node.TheVariants.{Const, Var, Not, And, Or, Xor, Ite}
 use Rattle.term_store.specs.Terms.{IsBelow, IsSound}
-use Rattle.term_store.proofs.Growth.{slice_get_last}
+use Rattle.term_store.proofs.Growth.{slice_get_last, push_cases}
 use Rattle.cnf_blaster.specs.Cnf.{names, operands, reached, reached_from, members, variable_of}
 
 -- ---- lists
@@ -111,3 +112,16 @@ module _ (test : ℕ → Bool) where
   -- variables are below the number of those that have one
   pub variable-within : (limit i : ℕ) → i < limit → test i ≡ true → variable_of test i < variable_of test limit
   variable-within limit i h t = slice_get_within (members test limit) (variable_of test i) (record { 0 = i }) (members-at limit i h t)
+
+  -- and nothing else stands there
+  pub members-place : (limit x : ℕ) (id : NodeId) → slice_get (members test limit) x ≡ Some id → variable_of test id.0 ≡ x
+  members-place zero x id at = absurd cc
+  members-place (suc i) x id at = by (test i) (members-place i x id) at
+    where
+      by : (b : Bool) → (slice_get (members test i) x ≡ Some id → variable_of test id.0 ≡ x)
+          → slice_get (members test i ++ cond b (record { 0 = i } ∷ []) []) x ≡ Some id → variable_of test id.0 ≡ x
+      by true before at = elim (push_cases (members test i) (record { 0 = i }) id x at) [
+        | inl there ↦ before there
+        | inr last ↦ ap (λ (n : NodeId). variable_of test n.0) last.1 ∙ sym last.0
+      ]
+      by false before at = before (rw append-nil at at)

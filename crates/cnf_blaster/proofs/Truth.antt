@@ -12,6 +12,7 @@ use Rattle.term_store.specs.Terms.{differ}
 use Rattle.resolution_check.specs.declared.log.Lit.{Lit}
 use Rattle.resolution_check.specs.declared.log.Clause.{Clause}
 use Rattle.resolution_check.specs.Clauses.{opposite, has}
+use Rattle.std.proofs.Math.Bool.{and-true, or-false}
 use Rattle.resolution_check.specs.Entries.{lit_value, clause_value, satisfies}
 use Rattle.resolution_check.proofs.Literals.{alike}
 use Rattle.cnf_blaster.specs.Cnf.{has_both_signs, distinct, kept, all_kept, gate_clauses, node_clauses, clauses_below, root_clauses, clauses_by, variable_of, yes}
@@ -54,10 +55,6 @@ both_signs v c (l ∷ d) h inside = elim (or_cases _ _ h) [
   ]
   | inr later ↦ both_signs v c d later (λ t. inside (or_right (lit_value v l) _ t))
 ]
-
-and-true : (b : Bool) → (b && true) ≡ b
-and-true true = refl
-and-true false = refl
 
 kept-value : (v : ℕ → Bool) (c : List Lit) → satisfies v (kept c) ≡ clause_value v c
 kept-value v c =
@@ -137,11 +134,7 @@ roots-value : (v : ℕ → Bool) (var : ℕ → ℕ) (roots : List NodeId) → s
 roots-value v var [] = refl
 roots-value v var (r ∷ roots) =
     list_all-append (λ (k : Clause). clause_value v k.lits) (kept (yes (var r.0) ∷ [])) (root_clauses var roots)
-    ∙ ap₂ (λ a b. a && b) (kept-value v (yes (var r.0) ∷ []) ∙ or-none (v (var r.0))) (roots-value v var roots)
-  where
-    or-none : (b : Bool) → (b || false) ≡ b
-    or-none true = refl
-    or-none false = refl
+    ∙ ap₂ (λ a b. a && b) (kept-value v (yes (var r.0) ∷ []) ∙ or-false (v (var r.0))) (roots-value v var roots)
 
 module _ (v : ℕ → Bool) (test : ℕ → Bool) (var : ℕ → ℕ) (nodes : List Node) where
   abbrev last : ℕ → Bool → Option Node → List Clause

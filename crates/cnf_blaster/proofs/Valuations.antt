@@ -16,8 +16,8 @@ use Rattle.term_store.proofs.Values.{Reads-reading_of}
 use Rattle.resolution_check.specs.Entries.{satisfies}
 use Rattle.cnf_blaster.specs.Cnf.{names, operands, reached, variable_of, clauses_of, nodes_of}
 use Rattle.cnf_blaster.specs.Laws.{AreBelow, has_value, IsTrueUnder}
-use Rattle.cnf_blaster.specs.Meaning.{roots_value, IsDecoded, encoded, IsSatisfiable, CanBeTrue}
-use Rattle.cnf_blaster.proofs.Reached.{list_all-same, first_named, operands-below, reached-root, reached-operand, members-at}
+use Rattle.cnf_blaster.specs.Meaning.{roots_value, DecodesTrue, encoded, IsSatisfiable, CanBeTrue}
+use Rattle.cnf_blaster.proofs.Reached.{list_all-same, first_named, operands-below, reached-root, reached-operand, members-at, members-place}
 use Rattle.cnf_blaster.proofs.Truth.{true_under, satisfied}
 
 -- ---- one node
@@ -136,10 +136,6 @@ module _ (s : Store) (roots : List NodeId) (sound : IsSound s.nodes s.vars) (bel
       let reads : Reads w s = Reads-reading_of s valuation sound in
       roots-same v w reads (λ i at t. values-same v w reads holds leaf (suc i) i (omega arith) at t) ∙ holds.roots_true
 
-  pub decodes : (v : ℕ → Bool) (valuation : List Bool) → satisfies v (clauses_of s.nodes roots) ≡ true
-      → IsDecoded s.nodes (nodes_of s.nodes roots) v valuation → roots_value s.nodes roots valuation ≡ true
-  decodes v valuation h decoded = decoded-true v valuation h (λ i k t e. decoded (var i) k (record { 0 = i }) (node-at i (slice_get_within s.nodes i (Var k) e) t) e)
-
   pub encodes : (valuation : List Bool) → roots_value s.nodes roots valuation ≡ true
       → satisfies (encoded s.nodes (nodes_of s.nodes roots) valuation) (clauses_of s.nodes roots) ≡ true
   encodes valuation h =
@@ -176,6 +172,13 @@ module _ (s : Store) (roots : List NodeId) (sound : IsSound s.nodes s.vars) (bel
 
     decoding-var : StandsOnce s.nodes → (i k : ℕ) → slice_get s.nodes i ≡ Some (Var k) → truth decoding k ≡ v (var i)
     decoding-var once i k e = get_or-map-range_with_len (λ j. found j (size s)) 0 s.vars k k false (sound.below i (Var k) e) (zero-add k) ∙ found-var once k (size s) i (slice_get_within s.nodes i (Var k) e) e
+
+  -- an assignment is decoded by the values of the nodes of variables, and then every root is true
+  pub decodes : StandsOnce s.nodes → (v : ℕ → Bool) → satisfies v (clauses_of s.nodes roots) ≡ true → DecodesTrue s.nodes roots (nodes_of s.nodes roots) v
+  decodes once v h = record {
+    some = (decoding v, λ x k id at e. decoding-var v once id.0 k e ∙ ap v (members-place test (size s) x id at));
+    all = λ valuation decoded. decoded-true v valuation h (λ i k t e. decoded (var i) k (record { 0 = i }) (node-at i (slice_get_within s.nodes i (Var k) e) t) e);
+  }
 
   pub equal : StandsOnce s.nodes → IsSatisfiable (clauses_of s.nodes roots) ↔ CanBeTrue s.nodes roots
   equal once = (

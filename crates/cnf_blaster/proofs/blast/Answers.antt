@@ -6,7 +6,7 @@ use Rattle.cnf_blaster.specs.Laws.{marked}
 use Rattle.term_store.specs.Terms.{size}
 use Rattle.cnf_blaster.specs.Cnf.{clauses_of, nodes_of}
 use Rattle.cnf_blaster.specs.Proper.{IsProper}
-use Rattle.cnf_blaster.specs.Meaning.{roots_value, IsDecoded, encoded, IsSatisfiable, CanBeTrue}
+use Rattle.cnf_blaster.specs.Meaning.{roots_value, DecodesTrue, encoded, IsSatisfiable, CanBeTrue}
 use Rattle.cnf_blaster.proofs.Properness.{proper}
 use Rattle.cnf_blaster.proofs.Valuations.{decodes, encodes, equal}
 use Rattle.cnf_blaster.proofs.blast.Goals as goal
@@ -43,8 +43,8 @@ returns-clause-decodes c =
     let nodes = c.args.terms.now.nodes in
     let roots = c.args.roots.now in
     from_two c.clauses_from.result (λ cnf. cnf.clauses ≡ clauses_of nodes roots) (λ cnf. cnf.node_of ≡ nodes_of nodes roots)
-    (λ cnf. (v : ℕ → Bool) (valuation : List Bool) → satisfies v cnf.clauses ≡ true → IsDecoded nodes cnf.node_of v valuation → roots_value nodes roots valuation ≡ true)
-    (λ cnf clauses node_of. rw (clauses, node_of) (decodes c.args.terms.now roots c.stands_in_order.ensures.sound c.requires))
+    (λ cnf. (v : ℕ → Bool) → satisfies v cnf.clauses ≡ true → DecodesTrue nodes roots cnf.node_of v)
+    (λ cnf clauses node_of. rw (clauses, node_of) (decodes c.args.terms.now roots c.stands_in_order.ensures.sound c.requires c.stands_in_order.ensures.once))
     (returns-clause-clauses c) (returns-clause-nodes c)
 
 pub returns-clause-encodes : goal.returns-clause-encodes
