@@ -8,6 +8,7 @@ use Rattle.cnf_blaster.proofs.Cnf.is_proper.Goals as goal
 pub returns : goal.returns
 returns c =
     let cnf = c.args.self.now in
-    let end : length cnf.clauses ≤ c.loop-clause.clause-index = omega (arith, ap length c.as_slice-clause-items.ensures) in
+    let end : length cnf.clauses ≤ c.loop-clause.clause-index =
+    omega (arith, ap length c.as_slice-clause-items.ensures) in
     let all = list_all (λ (k : Clause). is_fit cnf.vars k.lits) in
     (λ _. proper-fit cnf (ap all (sym (take_all _ cnf.clauses end)) ∙ c.loop-clause.invariant), λ h. refl)

@@ -9,7 +9,8 @@ loop-i-preserved-then-new c =
       distinct =
           ap (λ b. b && c.loop-i.distinct) (sym c.if-new.true)
           ∙ distinct_step c.args.lits.now c.loop-i.i _ c.loop-i.seen c.insert.new.self (omega arith) (omega arith) old.seen _ _ c.in_ok-new.ensures.added old.distinct;
-      seen = seen_step c.args.lits.now c.loop-i.i _ c.loop-i.seen c.insert.new.self (omega arith) (omega arith) old.seen c.in_ok-new.ensures.updates;
+      seen =
+          seen_step c.args.lits.now c.loop-i.i _ c.loop-i.seen c.insert.new.self (omega arith) (omega arith) old.seen c.in_ok-new.ensures.updates;
     }
 
 pub loop-i-preserved : goal.loop-i-preserved
@@ -19,5 +20,6 @@ loop-i-preserved c =
       distinct =
           c.if-new.false ∙ ap (λ b. b && c.loop-i.distinct) (sym c.if-new.false)
           ∙ distinct_step c.args.lits.now c.loop-i.i _ c.loop-i.seen c.insert.new.self (omega arith) (omega arith) old.seen _ _ c.in_ok-new.ensures.added old.distinct;
-      seen = seen_step c.args.lits.now c.loop-i.i _ c.loop-i.seen c.insert.new.self (omega arith) (omega arith) old.seen c.in_ok-new.ensures.updates;
+      seen =
+          seen_step c.args.lits.now c.loop-i.i _ c.loop-i.seen c.insert.new.self (omega arith) (omega arith) old.seen c.in_ok-new.ensures.updates;
     }
