@@ -1,0 +1,80 @@
+-- The grammar of a line as edges between states: what a word says at an edge, and how a line is read along them.
+use Rattle.std.specs.Prelude.{ℕ, ◌+◌, ◌==◌, ◌&&◌, Bool, true, false, List, [], ◌∷◌, ◌++◌, Option, Some, None, Result, Ok, Err, option_map, if◌then◌else◌}
+use Rattle.std.specs.Option.{option_map_or, option_or}
+use Rattle.std.specs.List.{list_any}
+use Rattle.mw_text.specs.Digits.{addr_of, prefix_of_text}
+use Rattle.ios_policy_reader.specs.declared.cause.Cause.{Cause}
+use Rattle.ios_policy_reader.specs.declared.cause.Cause.TheVariants.{BadWord}
+use Rattle.ios_policy_reader.specs.declared.said.Value.{Value}
+use Rattle.ios_policy_reader.specs.declared.said.Value.TheVariants.{Nothing, Number, Address, Prefix, Word}
+use Rattle.ios_policy_reader.specs.declared.said.Said.{Said}
+use Rattle.ios_policy_reader.specs.declared.edges.Takes.{Takes}
+use Rattle.ios_policy_reader.specs.declared.edges.Takes.TheVariants.{End, Key, Named, Any, Range, AnyName, AnyAddress, AnyPrefix, AnyCommunity, PortKey, PortFrom, LengthFrom}
+use Rattle.ios_policy_reader.specs.declared.edges.Edge.{Edge}
+use Rattle.ios_policy_reader.specs.declared.edges.Way.{Way}
+use Rattle.ios_policy_reader.specs.Words.{is_key, is_name, number_from, community_of}
+use Rattle.ios_policy_reader.specs.Said.{number_under, least_length, has_ports}
+
+-- ---- one word
+
+abbrev pub nothing_where : Bool → Option Value
+nothing_where taken = if taken then Some Nothing else None
+
+abbrev pub word_where : ℕ → Bool → Option Value
+word_where at taken = if taken then Some (Word at) else None
+
+-- what a word says where a word of this kind is to stand, as word number `at` of the line, after what was said
+unfoldable pub said_by : Takes → List Said → ℕ → List ℕ → Option Value
+said_by End said at word = None
+said_by (Key key) said at word = nothing_where (is_key key word)
+said_by (Named key n) said at word = if is_key key word then Some (Number n) else None
+said_by Any said at word = Some (Word at)
+said_by (Range low high) said at word = option_map (λ n. Number n) (number_from low high word)
+said_by AnyName said at word = word_where at (is_name word)
+said_by AnyAddress said at word = option_map (λ a. Address a) (addr_of word)
+said_by AnyPrefix said at word = option_map (λ p. Prefix p) (prefix_of_text word)
+said_by AnyCommunity said at word = option_map (λ n. Number n) (community_of word)
+said_by (PortKey key) said at word = nothing_where (is_key key word && has_ports said)
+said_by (PortFrom tag) said at word = option_map (λ n. Number n) (number_from (number_under tag said 0) 65535 word)
+said_by LengthFrom said at word = option_map (λ n. Number n) (number_from (least_length said) 32 word)
+
+-- a line may end at an edge of this kind
+abbrev pub ends : Takes → Bool
+ends End = true
+ends (Key key) = false
+ends (Named key n) = false
+ends Any = false
+ends (Range low high) = false
+ends AnyName = false
+ends AnyAddress = false
+ends AnyPrefix = false
+ends AnyCommunity = false
+ends (PortKey key) = false
+ends (PortFrom tag) = false
+ends LengthFrom = false
+
+-- ---- words after one another
+
+-- the way along an edge, where it leaves the state and takes the word
+abbrev pub leaves : ℕ → List Said → ℕ → List ℕ → Edge → Option Way
+leaves from said at word edge =
+    if edge.0 == from
+    then option_map (λ v. record { said = record { tag = edge.2; value = v }; to = edge.3 }) (said_by edge.1 said at word)
+    else None
+
+-- the way along the first edge that leaves the state and takes the word
+abbrev pub way_of : ℕ → List Said → ℕ → List ℕ → List Edge → Option Way
+way_of from said at word [] = None
+way_of from said at word (edge ∷ rest) = option_or (leaves from said at word edge) (way_of from said at word rest)
+
+-- a line may end in the state
+abbrev pub may_end : List Edge → ℕ → Bool
+may_end edges from = list_any (λ edge. (edge.0 == from) && ends edge.1) edges
+
+-- What the words of a line say from a state on, after what was said, where `at` words stand before them; or which word
+-- is bad: the first one that no way takes, or one more than there are where the line may not end.
+abbrev pub read_from : List Edge → ℕ → List Said → ℕ → List (List ℕ) → Result (List Said) Cause
+read_from edges from said at [] = if may_end edges from then Ok said else Err (BadWord (at + 1))
+read_from edges from said at (word ∷ rest) =
+    option_map_or (λ way. read_from edges way.to (said ++ way.said ∷ []) (at + 1) rest)
+    (way_of from said at word edges) (Err (BadWord (at + 1)))

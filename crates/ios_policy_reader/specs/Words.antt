@@ -1,0 +1,42 @@
+-- Kinds of words in configuration lines (Cisco IOS command references).
+use Rattle.std.specs.Prelude.{ℕ, ◌+◌, ◌*◌, ◌==◌, ◌&&◌, Bool, List, length, map, take, position, unwrap_or, nat_lt, nat_le, Option, Some, None, option_and_then, if◌then◌else◌}
+use Rattle.std.specs.List.{list_all}
+use Rattle.std.specs.Option.{option_map_or}
+use Rattle.std.specs.Char.{to_ascii_lowercase}
+use Rattle.mw_text.specs.Digits.{number_of, cut_at}
+use Rattle.mw_text.specs.Text.{same_text}
+
+-- the word is that keyword, which stands in lower case, in any case
+abbrev pub is_keyword : List ℕ → List ℕ → Bool
+is_keyword keyword word = same_text (map to_ascii_lowercase word) keyword
+
+-- what stands before the blanks that fill up a word of a table
+abbrev pub keyword_of : List ℕ → List ℕ
+keyword_of key = take (unwrap_or (position (λ b. b == 32) key) (length key)) key
+
+-- the word is that word of a table, in any case
+abbrev pub is_key : List ℕ → List ℕ → Bool
+is_key key word = is_keyword (map to_ascii_lowercase (keyword_of key)) word
+
+-- '!' to '~'
+abbrev pub is_printable : ℕ → Bool
+is_printable b = nat_lt 32 b && nat_lt b 127
+
+-- 1 to 64 printable bytes
+abbrev pub is_name : List ℕ → Bool
+is_name word = nat_lt 0 (length word) && (nat_le (length word) 64 && list_all is_printable word)
+
+-- the number that the word writes, from the low one to the high one
+abbrev pub number_from : ℕ → ℕ → List ℕ → Option ℕ
+number_from low high word = option_and_then (λ n. if nat_le low n then Some n else None) (number_of high word)
+
+-- two halves, the upper one first
+abbrev pub halves_of : List ℕ × List ℕ → Option ℕ
+halves_of pair =
+    option_and_then
+    (λ high. option_and_then (λ low. Some (high * 65536 + low)) (number_of 65535 pair.1))
+    (number_of 65535 pair.0)
+
+-- a community: a number, or two halves with a colon between them (RFC 1997)
+abbrev pub community_of : List ℕ → Option ℕ
+community_of word = option_map_or halves_of (cut_at 58 word) (number_from 0 4294967295 word)

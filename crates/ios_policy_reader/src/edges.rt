@@ -1,0 +1,132 @@
+//! The grammar of a line as edges between states: what a word leads to.
+
+ghost use Rattle.std.specs.Prelude.{◌≡◌, ◌==◌, ℕ, ◌<◌, ◌^◌, ◌&&◌, length, Option, Some, None, if◌then◌else◌, option_map};
+ghost use Rattle.std.specs.List.{list_any};
+ghost use Rattle.ios_policy_reader.specs.Edges.{said_by, nothing_where, word_where, ends, leaves, way_of, may_end};
+ghost use Rattle.ios_policy_reader.specs.Words.{is_key, number_from, community_of};
+
+use crate::said::{Said, Tag, Value, least_length_said, number_said, ports_said};
+use crate::words::{is_any_name, is_table_word, read_community, read_range};
+use mw_text::{read_addr, read_prefix};
+
+/// What a word has to be. Keywords stand in lower case and are filled up with blanks.
+#[derive(Clone, Copy, Debug)]
+pub enum Takes {
+    /// No word: the line may end.
+    End,
+    /// This word, in any case.
+    Key([u8; 16]),
+    /// This word, in any case, which stands for a number.
+    Named([u8; 16], u32),
+    Any,
+    /// A number, from the first to the second.
+    Range(u32, u32),
+    /// 1 to 64 printable bytes.
+    AnyName,
+    AnyAddress,
+    /// An address, a slash and a length.
+    AnyPrefix,
+    AnyCommunity,
+    /// This word, where the protocol that was said has ports.
+    PortKey([u8; 16]),
+    /// A port that is not below the one that was said under the tag.
+    PortFrom(Tag),
+    /// A length that is not below the lengths that were said.
+    LengthFrom,
+}
+
+/// From the first state a word of this kind leads to the last state. What the word says stands under the tag.
+#[derive(Clone, Copy, Debug)]
+pub struct Edge(pub u8, pub Takes, pub Tag, pub u8);
+
+/// Where a word leads, and what it said.
+#[derive(Clone, Copy, Debug)]
+pub struct Way {
+    pub said: Said,
+    pub to: u8,
+}
+
+fn nothing_if(taken: bool) -> Option<Value>
+    ensures { result ≡ nothing_where taken }
+{
+    if taken { Some(Value::Nothing) } else { None }
+}
+
+fn word_if(taken: bool, at: u32) -> Option<Value>
+    ensures { result ≡ word_where at taken }
+{
+    if taken { Some(Value::Word(at)) } else { None }
+}
+
+/// What a word says where a word of this kind is to stand, after what was said. None where it is of another kind.
+#[tactic(auto, unfolding(crate::specs::Edges::said_by))]
+fn say(takes: Takes, said: &[Said], at: u32, word: &[u8]) -> Option<Value>
+    ensures { result ≡ said_by takes said.now at word.now }
+{
+    match takes {
+        Takes::End => None,
+        Takes::Key(key) => nothing_if(is_table_word(word, &key)),
+        Takes::Named(key, number) => {
+            if is_table_word(word, &key) {
+                Some(Value::Number(number))
+            } else {
+                None
+            }
+        }
+        Takes::Any => Some(Value::Word(at)),
+        Takes::Range(low, high) => Some(Value::Number(read_range(word, low, high)?)),
+        Takes::AnyName => word_if(is_any_name(word), at),
+        Takes::AnyAddress => Some(Value::Address(read_addr(word)?)),
+        Takes::AnyPrefix => Some(Value::Prefix(read_prefix(word)?)),
+        Takes::AnyCommunity => Some(Value::Number(read_community(word)?)),
+        Takes::PortKey(key) => nothing_if(is_table_word(word, &key) && ports_said(said)),
+        Takes::PortFrom(tag) => {
+            let low = number_said(tag, said, 0);
+            Some(Value::Number(read_range(word, low, 65_535)?))
+        }
+        Takes::LengthFrom => {
+            let low = least_length_said(said);
+            Some(Value::Number(read_range(word, low, 32)?))
+        }
+    }
+}
+
+/// Whether an edge of this kind lets the line end.
+fn is_end(takes: Takes) -> bool
+    ensures { result ≡ ends takes }
+{
+    matches!(takes, Takes::End)
+}
+
+/// The way along an edge, where it leaves the state and takes the word.
+fn way_along(edge: Edge, from: u8, said: &[Said], at: u32, word: &[u8]) -> Option<Way>
+    ensures { result ≡ leaves from said.now at word.now edge }
+{
+    if edge.0 != from {
+        return None;
+    }
+    let value = say(edge.1, said, at, word)?;
+    Some(Way {
+        said: Said { tag: edge.2, value },
+        to: edge.3,
+    })
+}
+
+/// The way along the first edge that leaves the state and takes the word.
+pub fn find_way(edges: &[Edge], from: u8, said: &[Said], at: u32, word: &[u8]) -> Option<Way>
+    ensures { result ≡ way_of from said.now at word.now edges.now }
+{
+    for edge in edges {
+        if let Some(way) = way_along(*edge, from, said, at, word) {
+            return Some(way);
+        }
+    }
+    None
+}
+
+/// Whether the line may end in the state.
+pub fn can_end(edges: &[Edge], from: u8) -> bool
+    ensures { result ≡ may_end edges.now from }
+{
+    edges.iter().any(|edge| edge.0 == from && is_end(edge.1))
+}

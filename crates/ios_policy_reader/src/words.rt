@@ -1,0 +1,85 @@
+//! Kinds of words.
+
+ghost use Rattle.std.specs.Prelude.{◌≡◌, ◌==◌, ℕ, ◌≤◌, map, length, position};
+ghost use Rattle.std.specs.Char.{to_ascii_lowercase};
+ghost use Rattle.std.specs.List.{list_all};
+ghost use Rattle.ios_policy_reader.specs.Words.{is_keyword, keyword_of, is_key, is_printable, is_name, number_from, community_of};
+
+use mw_text::digits::cut;
+use mw_text::read_number;
+
+/// Whether the word is that keyword, in any case.
+pub fn is_word(word: &[u8], keyword: &[u8]) -> bool
+    ensures { result ≡ is_keyword (map to_ascii_lowercase keyword.now) word.now }
+{
+    word.eq_ignore_ascii_case(keyword)
+}
+
+/// The place of the first blank.
+fn blank_place(key: &[u8]) -> Option<usize>
+    ensures { result ≡ position (λ b. b == 32) key.now }
+{
+    key.iter().position(|b| *b == b' ')
+}
+
+/// What stands before the blanks that fill up a word of a table.
+fn keyword_in(key: &[u8]) -> &[u8]
+    ensures { result.now ≡ keyword_of key.now }
+{
+    match blank_place(key) {
+        Some(end) => &key[..end],
+        None => key,
+    }
+}
+
+/// Whether the word is that word of a table, in any case.
+pub fn is_table_word(word: &[u8], key: &[u8]) -> bool
+    ensures { result ≡ is_key key.now word.now }
+{
+    is_word(word, keyword_in(key))
+}
+
+fn is_printable_byte(b: u8) -> bool
+    ensures { result ≡ is_printable b }
+{
+    b > 32 && b < 127
+}
+
+fn all_printable(word: &[u8]) -> bool
+    ensures { result ≡ list_all is_printable word.now }
+{
+    word.iter().all(|b| is_printable_byte(*b))
+}
+
+/// Whether the word is 1 to 64 printable bytes.
+pub fn is_any_name(word: &[u8]) -> bool
+    ensures { result ≡ is_name word.now }
+{
+    !word.is_empty() && word.len() <= 64 && all_printable(word)
+}
+
+/// The number that a word writes, where it is in the range.
+pub fn read_range(word: &[u8], low: u32, high: u32) -> Option<u32>
+    ensures { result ≡ number_from low high word.now }
+{
+    let number = read_number(word, u64::from(high))?;
+    if number >= u64::from(low) {
+        Some(number as u32)
+    } else {
+        None
+    }
+}
+
+/// The community that a number or two halves with a colon between them write (RFC 1997).
+pub fn read_community(word: &[u8]) -> Option<u32>
+    ensures { result ≡ community_of word.now }
+{
+    match cut(word, b':') {
+        None => read_range(word, 0, 0xffff_ffff),
+        Some((high, low)) => {
+            let high = read_number(high, 65_535)?;
+            let low = read_number(low, 65_535)?;
+            Some((high * 65_536 + low) as u32)
+        }
+    }
+}
