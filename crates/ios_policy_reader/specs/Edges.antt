@@ -12,7 +12,8 @@ use Rattle.ios_policy_reader.specs.declared.edges.Takes.{Takes}
 use Rattle.ios_policy_reader.specs.declared.edges.Takes.TheVariants.{End, Key, Named, Any, Range, AnyName, AnyAddress, AnyPrefix, AnyCommunity, PortKey, PortFrom, LengthFrom}
 use Rattle.ios_policy_reader.specs.declared.edges.Edge.{Edge}
 use Rattle.ios_policy_reader.specs.declared.edges.Way.{Way}
-use Rattle.ios_policy_reader.specs.Words.{is_key, is_name, number_from, community_of}
+use Rattle.ios_policy_reader.specs.Names.{is_name}
+use Rattle.ios_policy_reader.specs.Words.{is_key, number_from, community_of}
 use Rattle.ios_policy_reader.specs.Said.{number_under, least_length, has_ports}
 
 -- ---- one word

@@ -1,3 +1,6 @@
 pub mod Words
+pub mod Names
+pub mod Masks
+pub mod Patterns
 pub mod Said
 pub mod Edges

@@ -1,6 +1,5 @@
--- Kinds of words in configuration lines (Cisco IOS command references).
-use Rattle.std.specs.Prelude.{ℕ, ◌+◌, ◌*◌, ◌==◌, ◌&&◌, Bool, List, length, map, take, position, unwrap_or, nat_lt, nat_le, Option, Some, None, option_and_then, if◌then◌else◌}
-use Rattle.std.specs.List.{list_all}
+-- Keywords and numbers in configuration lines (Cisco IOS command references).
+use Rattle.std.specs.Prelude.{ℕ, ◌+◌, ◌*◌, ◌==◌, Bool, List, length, map, take, position, unwrap_or, nat_le, Option, Some, None, option_and_then, if◌then◌else◌}
 use Rattle.std.specs.Option.{option_map_or}
 use Rattle.std.specs.Char.{to_ascii_lowercase}
 use Rattle.mw_text.specs.Digits.{number_of, cut_at}
@@ -17,14 +16,6 @@ keyword_of key = take (unwrap_or (position (λ b. b == 32) key) (length key)) ke
 -- the word is that word of a table, in any case
 abbrev pub is_key : List ℕ → List ℕ → Bool
 is_key key word = is_keyword (map to_ascii_lowercase (keyword_of key)) word
-
--- '!' to '~'
-abbrev pub is_printable : ℕ → Bool
-is_printable b = nat_lt 32 b && nat_lt b 127
-
--- 1 to 64 printable bytes
-abbrev pub is_name : List ℕ → Bool
-is_name word = nat_lt 0 (length word) && (nat_le (length word) 64 && list_all is_printable word)
 
 -- the number that the word writes, from the low one to the high one
 abbrev pub number_from : ℕ → ℕ → List ℕ → Option ℕ

@@ -5,8 +5,9 @@ ghost use Rattle.std.specs.List.{list_any};
 ghost use Rattle.ios_policy_reader.specs.Edges.{said_by, nothing_where, word_where, ends, leaves, way_of, may_end};
 ghost use Rattle.ios_policy_reader.specs.Words.{is_key, number_from, community_of};
 
+use crate::names::is_any_name;
 use crate::said::{Said, Tag, Value, least_length_said, number_said, ports_said};
-use crate::words::{is_any_name, is_table_word, read_community, read_range};
+use crate::words::{is_table_word, read_community, read_range};
 use mw_text::{read_addr, read_prefix};
 
 /// What a word has to be. Keywords stand in lower case and are filled up with blanks.

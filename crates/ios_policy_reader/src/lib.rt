@@ -3,6 +3,9 @@
 
 pub mod cause;
 pub mod edges;
+pub mod masks;
+pub mod names;
+pub mod patterns;
 pub mod said;
 pub mod tail;
 pub mod words;

@@ -1,9 +1,8 @@
-//! Kinds of words.
+//! Keywords and numbers.
 
 ghost use Rattle.std.specs.Prelude.{◌≡◌, ◌==◌, ℕ, ◌≤◌, map, length, position};
 ghost use Rattle.std.specs.Char.{to_ascii_lowercase};
-ghost use Rattle.std.specs.List.{list_all};
-ghost use Rattle.ios_policy_reader.specs.Words.{is_keyword, keyword_of, is_key, is_printable, is_name, number_from, community_of};
+ghost use Rattle.ios_policy_reader.specs.Words.{is_keyword, keyword_of, is_key, number_from, community_of};
 
 use mw_text::digits::cut;
 use mw_text::read_number;
@@ -37,25 +36,6 @@ pub fn is_table_word(word: &[u8], key: &[u8]) -> bool
     ensures { result ≡ is_key key.now word.now }
 {
     is_word(word, keyword_in(key))
-}
-
-fn is_printable_byte(b: u8) -> bool
-    ensures { result ≡ is_printable b }
-{
-    b > 32 && b < 127
-}
-
-fn all_printable(word: &[u8]) -> bool
-    ensures { result ≡ list_all is_printable word.now }
-{
-    word.iter().all(|b| is_printable_byte(*b))
-}
-
-/// Whether the word is 1 to 64 printable bytes.
-pub fn is_any_name(word: &[u8]) -> bool
-    ensures { result ≡ is_name word.now }
-{
-    !word.is_empty() && word.len() <= 64 && all_printable(word)
 }
 
 /// The number that a word writes, where it is in the range.
