@@ -1,8 +1,9 @@
 //! What the words of a line said.
 
-ghost use Rattle.std.specs.Prelude.{◌≡◌, ◌==◌, ◌||◌, max, fold};
-ghost use Rattle.ios_policy_reader.specs.Said.{tag_number, number_in, number_more, number_under, length_in, length_more, length_said, least_length, has_ports};
+ghost use Rattle.std.specs.Prelude.{◌≡◌, ◌==◌};
+ghost use Rattle.ios_policy_reader.specs.Said.{tag_number, number_in, number_more, number_under, length_in, length_more, length_said, least_length, has_ports, address_in, address_more, address_said, has_class, has_said};
 
+use ios_ast::Pattern;
 use mw_text::{Addr, Prefix};
 
 /// As what a word of a line said something.
@@ -34,18 +35,20 @@ pub enum Tag {
 }
 
 /// What a word says.
-#[derive(Clone, Copy, Debug)]
+#[derive(Clone, Copy)]
 pub enum Value {
     Nothing,
     Number(u32),
     Address(Addr),
+    Length(u8),
     Prefix(Prefix),
+    Pattern(Pattern),
     /// The word itself, by its place in the line, counted from 0.
     Word(u32),
 }
 
 /// What a word of a line said, and as what.
-#[derive(Clone, Copy, Debug)]
+#[derive(Clone, Copy)]
 pub struct Said {
     pub tag: Tag,
     pub value: Value,
@@ -115,4 +118,39 @@ pub fn ports_said(said: &[Said]) -> bool
 {
     let protocol = number_said(Tag::Protocol, said, 0);
     protocol == 6 || protocol == 17
+}
+
+/// The address that this is, if it is one.
+fn address_of_value(value: Value, otherwise: Addr) -> Addr
+    ensures { result ≡ address_in otherwise value }
+{
+    match value {
+        Value::Address(address) => address,
+        _ => otherwise,
+    }
+}
+
+/// The address that was said last, or 0.0.0.0.
+pub fn last_address(said: &[Said]) -> Addr
+    ensures { result ≡ address_said said.now }
+{
+    let mut address = Addr(0);
+    for one in said {
+        address = address_of_value(one.value, address);
+    }
+    address
+}
+
+/// Whether the address is of class A, B or C.
+pub fn is_classful(address: Addr) -> bool
+    ensures { result ≡ has_class address }
+{
+    address.0 < 0xe000_0000
+}
+
+/// Whether something was said under the tag.
+pub fn is_said(tag: Tag, said: &[Said]) -> bool
+    ensures { result ≡ has_said tag said.now }
+{
+    said.iter().any(|one| is_under(tag, *one))
 }

@@ -31,7 +31,7 @@ pub fn read_tail(
         said.items.push(way.said)?;
         state = way.to;
     }
-    if can_end(edges, state) {
+    if can_end(edges, state, said.as_slice()) {
         Ok(said)
     } else {
         let count = words.len() as u32;
