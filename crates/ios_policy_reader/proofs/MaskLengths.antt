@@ -4,13 +4,15 @@ use Rattle.mw_text.specs.declared.address.Addr.{Addr}
 use Rattle.mw_text.specs.Address.{mask_of}
 use Rattle.ios_policy_reader.specs.Masks.{length_below}
 
-length_below-suc : (m : Addr) (len : ℕ) → length_below m (suc len) ≡ cond (mask_of len == m.0) (Some len) (length_below m len)
+length_below-suc : (m : Addr) (len : ℕ)
+    → length_below m (suc len) ≡ cond (mask_of len == m.0) (Some len) (length_below m len)
 unfolding length_below
 length_below-suc m len = refl
 
 -- of the lengths up to 32 - zeros, the greatest is tested first
 pub length_below_step : (m : Addr) (zeros : ℕ) → zeros < 33 →
-    length_below m (33 - zeros) ≡ cond (mask_of (32 - zeros) == m.0) (Some (32 - zeros)) (length_below m (33 - (zeros + 1)))
+    length_below m (33 - zeros) ≡ cond (mask_of (32 - zeros) == m.0) (Some (32 - zeros))
+    (length_below m (33 - (zeros + 1)))
 length_below_step m zeros small =
     let next : 33 - zeros ≡ suc (32 - zeros) = omega arith in
     let rest : 32 - zeros ≡ 33 - (zeros + 1) = omega arith in

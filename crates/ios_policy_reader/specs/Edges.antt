@@ -72,12 +72,14 @@ ends _ said = false
 
 -- ---- words after one another
 
+-- where a word leads along an edge, by what it says
+abbrev pub goes : Edge → Value → Way
+goes edge v = record { said = record { tag = edge.2; value = v }; to = edge.3 }
+
 -- the way along an edge, where it leaves the state and takes the word
 abbrev pub leaves : ℕ → List Said → ℕ → List ℕ → Edge → Option Way
 leaves from said at word edge =
-    if edge.0 == from
-    then option_map (λ v. record { said = record { tag = edge.2; value = v }; to = edge.3 }) (said_by edge.1 said at word)
-    else None
+    if edge.0 == from then option_map (goes edge) (said_by edge.1 said at word) else None
 
 -- the way along the first edge that leaves the state and takes the word
 abbrev pub way_of : ℕ → List Said → ℕ → List ℕ → List Edge → Option Way

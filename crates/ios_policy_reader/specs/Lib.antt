@@ -4,3 +4,4 @@ pub mod Masks
 pub mod Patterns
 pub mod Said
 pub mod Edges
+pub mod Least

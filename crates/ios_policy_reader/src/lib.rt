@@ -3,6 +3,7 @@
 
 pub mod cause;
 pub mod edges;
+pub mod laws;
 pub mod masks;
 pub mod names;
 pub mod patterns;
