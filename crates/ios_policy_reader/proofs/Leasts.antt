@@ -12,7 +12,7 @@ use Rattle.ios_policy_reader.specs.declared.said.Value.{Value}
 use Rattle.ios_policy_reader.specs.declared.edges.Takes.{Takes}
 use Rattle.ios_policy_reader.specs.declared.edges.Takes.TheVariants.{End, EndClassful, Key, Named, Any, Range, AnyName}
 use Rattle.ios_policy_reader.specs.declared.edges.Takes.TheVariants.{ListName, RouterName, Interface, AnyAddress, Mask}
-use Rattle.ios_policy_reader.specs.declared.edges.Takes.TheVariants.{MaskOver, AnyPrefix, AnyCommunity, AnyPattern}
+use Rattle.ios_policy_reader.specs.declared.edges.Takes.TheVariants.{MaskOver, AnyPrefix, AnyCommunity, AnyPort, AnyPattern}
 use Rattle.ios_policy_reader.specs.declared.edges.Takes.TheVariants.{Once, PortKey, PortFrom, LengthFrom}
 use Rattle.ios_policy_reader.specs.declared.edges.Edge.{Edge}
 use Rattle.ios_policy_reader.specs.declared.edges.Way.{Way}
@@ -89,9 +89,10 @@ plain-ends (Mask least) said h = absurd (false≢true h)
 plain-ends MaskOver said h = absurd (false≢true h)
 plain-ends AnyPrefix said h = absurd (false≢true h)
 plain-ends AnyCommunity said h = absurd (false≢true h)
+plain-ends AnyPort said h = absurd (false≢true h)
 plain-ends AnyPattern said h = absurd (false≢true h)
 plain-ends (Once key tag) said h = absurd (false≢true h)
-plain-ends (PortKey key) said h = absurd (false≢true h)
+plain-ends (PortKey key n) said h = absurd (false≢true h)
 plain-ends (PortFrom tag) said h = absurd (false≢true h)
 plain-ends LengthFrom said h = absurd (false≢true h)
 

@@ -8,9 +8,10 @@ use Rattle.ios_policy_reader.specs.declared.said.Said.{Said}
 use Rattle.ios_policy_reader.specs.declared.edges.Takes.{Takes}
 use Rattle.ios_policy_reader.specs.declared.edges.Takes.TheVariants.{End, EndClassful, Key, Named, Any, Range, AnyName}
 use Rattle.ios_policy_reader.specs.declared.edges.Takes.TheVariants.{ListName, RouterName, Interface, AnyAddress, Mask}
-use Rattle.ios_policy_reader.specs.declared.edges.Takes.TheVariants.{MaskOver, AnyPrefix, AnyCommunity, AnyPattern}
+use Rattle.ios_policy_reader.specs.declared.edges.Takes.TheVariants.{MaskOver, AnyPrefix, AnyCommunity, AnyPort, AnyPattern}
 use Rattle.ios_policy_reader.specs.declared.edges.Takes.TheVariants.{Once, PortKey, PortFrom, LengthFrom}
 use Rattle.ios_policy_reader.specs.Masks.{length_below}
+use Rattle.ios_policy_reader.specs.Words.{port_of}
 use Rattle.ios_policy_reader.specs.Edges.{said_by, said_back}
 use Rattle.ios_policy_reader.specs.Said.{number_under, address_said}
 use Rattle.ios_policy_reader.specs.Least.{opens, sample}
@@ -24,7 +25,7 @@ whole n = omega arith
 
 pub open_says : (takes : Takes) (said : List Said) (at : ℕ) → opens takes ≡ true
     → is_some (said_by takes said at (sample takes)) ≡ true
-unfolding opens said_by said_back length_below
+unfolding opens said_by said_back length_below port_of
 open_says End said at h = absurd (false≢true h)
 open_says EndClassful said at h = absurd (false≢true h)
 open_says (Key key) said at h = h
@@ -40,8 +41,9 @@ open_says (Mask least) said at h = h
 open_says MaskOver said at h = rw (eq-eqb _ _ (whole (address_said said).0)) refl
 open_says AnyPrefix said at h = refl
 open_says AnyCommunity said at h = refl
+open_says AnyPort said at h = h
 open_says AnyPattern said at h = refl
 open_says (Once key tag) said at h = absurd (false≢true h)
-open_says (PortKey key) said at h = absurd (false≢true h)
+open_says (PortKey key n) said at h = absurd (false≢true h)
 open_says (PortFrom tag) said at h = rw (capped (number_under tag said 0) 65535) refl
 open_says LengthFrom said at h = rw (capped _ 32) refl

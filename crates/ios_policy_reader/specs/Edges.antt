@@ -1,8 +1,9 @@
 -- The grammar of a line as edges between states: what a word says at an edge, and how a line is read along them.
-use Rattle.std.specs.Prelude.{ℕ, ◌+◌, ◌==◌, ◌&&◌, Bool, true, false, not, min, List, [], ◌∷◌, ◌++◌, Option, Some, None, Result, Ok, Err, option_map, option_and_then, if◌then◌else◌}
+use Rattle.std.specs.Prelude.{ℕ, ◌+◌, ◌==◌, ◌&&◌, Bool, true, false, not, min, List, [], ◌∷◌, ◌++◌, drop, Option, Some, None, Result, Ok, Err, option_map, option_and_then, if◌then◌else◌}
 use Rattle.std.specs.Option.{option_map_or, option_or}
 use Rattle.std.specs.List.{list_any}
 use Rattle.mw_text.specs.declared.address.Addr.{Addr}
+use Rattle.mw_text.specs.Words.{words_in}
 use Rattle.mw_text.specs.Digits.{addr_of, prefix_of_text}
 use Rattle.ios_policy_reader.specs.declared.cause.Cause.{Cause}
 use Rattle.ios_policy_reader.specs.declared.cause.Cause.TheVariants.{BadWord}
@@ -10,13 +11,13 @@ use Rattle.ios_policy_reader.specs.declared.said.Value.{Value}
 use Rattle.ios_policy_reader.specs.declared.said.Value.TheVariants.{Nothing, Number, Address, Length, Prefix, Pattern, Word}
 use Rattle.ios_policy_reader.specs.declared.said.Said.{Said}
 use Rattle.ios_policy_reader.specs.declared.edges.Takes.{Takes}
-use Rattle.ios_policy_reader.specs.declared.edges.Takes.TheVariants.{End, EndClassful, Key, Named, Any, Range, AnyName, ListName, RouterName, Interface, AnyAddress, Mask, MaskOver, AnyPrefix, AnyCommunity, AnyPattern, Once, PortKey, PortFrom, LengthFrom}
+use Rattle.ios_policy_reader.specs.declared.edges.Takes.TheVariants.{End, EndClassful, Key, Named, Any, Range, AnyName, ListName, RouterName, Interface, AnyAddress, Mask, MaskOver, AnyPrefix, AnyCommunity, AnyPort, AnyPattern, Once, PortKey, PortFrom, LengthFrom}
 use Rattle.ios_policy_reader.specs.declared.edges.Edge.{Edge}
 use Rattle.ios_policy_reader.specs.declared.edges.Way.{Way}
 use Rattle.ios_policy_reader.specs.Masks.{mask_from, prefix_under}
 use Rattle.ios_policy_reader.specs.Names.{is_name, is_list_name, is_hostname, is_interface}
 use Rattle.ios_policy_reader.specs.Patterns.{pattern_of}
-use Rattle.ios_policy_reader.specs.Words.{is_key, number_from, community_of}
+use Rattle.ios_policy_reader.specs.Words.{is_key, number_from, community_of, port_of, port_from}
 use Rattle.ios_policy_reader.specs.Said.{number_under, least_length, has_ports, address_said, has_class, has_said}
 
 -- ---- one word
@@ -35,9 +36,8 @@ prefix_by a word = option_and_then (λ len. option_map (λ p. Prefix p) (prefix_
 unfoldable pub said_back : Takes → List Said → List ℕ → Option Value
 said_back MaskOver said word = prefix_by (address_said said) word
 said_back (Once key tag) said word = nothing_where (is_key key word && not (has_said tag said))
-said_back (PortKey key) said word = nothing_where (is_key key word && has_ports said)
-said_back (PortFrom tag) said word =
-    option_map (λ n. Number n) (number_from (min (number_under tag said 0) 65535) 65535 word)
+said_back (PortKey key n) said word = if is_key key word && has_ports said then Some (Number n) else None
+said_back (PortFrom tag) said word = option_map (λ n. Number n) (port_from (min (number_under tag said 0) 65535) word)
 said_back LengthFrom said word = option_map (λ n. Number n) (number_from (least_length said) 32 word)
 said_back _ said word = None
 
@@ -57,10 +57,11 @@ said_by AnyAddress said at word = option_map (λ a. Address a) (addr_of word)
 said_by (Mask least) said at word = option_map (λ n. Length n) (mask_from least word)
 said_by AnyPrefix said at word = option_map (λ p. Prefix p) (prefix_of_text word)
 said_by AnyCommunity said at word = option_map (λ n. Number n) (community_of word)
+said_by AnyPort said at word = option_map (λ n. Number n) (port_of word)
 said_by AnyPattern said at word = option_map (λ p. Pattern p) (pattern_of word)
 said_by MaskOver said at word = said_back MaskOver said word
 said_by (Once key tag) said at word = said_back (Once key tag) said word
-said_by (PortKey key) said at word = said_back (PortKey key) said word
+said_by (PortKey key n) said at word = said_back (PortKey key n) said word
 said_by (PortFrom tag) said at word = said_back (PortFrom tag) said word
 said_by LengthFrom said at word = said_back LengthFrom said word
 
@@ -100,3 +101,12 @@ read_from edges from said at [] = if may_end edges from said then Ok said else E
 read_from edges from said at (word ∷ rest) =
     option_map_or (λ way. read_from edges way.to (said ++ way.said ∷ []) (at + 1) rest)
     (way_of from said at word edges) (Err (BadWord (at + 1)))
+
+-- which word of a text is bad after a head of so many words, or 0
+abbrev pub bad_word_in : Result (List Said) Cause → ℕ
+bad_word_in (Ok said) = 0
+bad_word_in (Err (BadWord n)) = n
+bad_word_in (Err _) = 0
+
+abbrev pub bad_word_of : List Edge → ℕ → List ℕ → ℕ
+bad_word_of edges head text = bad_word_in (read_from edges 0 [] head (drop head (words_in text)))

@@ -4,7 +4,7 @@ use Rattle.std.specs.List.{list_any, list_all}
 use Rattle.std.specs.Option.{option_map_or}
 use Rattle.ios_policy_reader.specs.declared.said.Said.{Said}
 use Rattle.ios_policy_reader.specs.declared.edges.Takes.{Takes}
-use Rattle.ios_policy_reader.specs.declared.edges.Takes.TheVariants.{End, EndClassful, Key, Named, Any, Range, AnyName, ListName, RouterName, Interface, AnyAddress, Mask, MaskOver, AnyPrefix, AnyCommunity, AnyPattern, Once, PortKey, PortFrom, LengthFrom}
+use Rattle.ios_policy_reader.specs.declared.edges.Takes.TheVariants.{End, EndClassful, Key, Named, Any, Range, AnyName, ListName, RouterName, Interface, AnyAddress, Mask, MaskOver, AnyPrefix, AnyCommunity, AnyPort, AnyPattern, Once, PortKey, PortFrom, LengthFrom}
 use Rattle.ios_policy_reader.specs.declared.edges.Edge.{Edge}
 use Rattle.ios_policy_reader.specs.Words.{keyword_of}
 use Rattle.ios_policy_reader.specs.Edges.{said_by, read_from}
@@ -50,6 +50,7 @@ sample (Mask least) = codes "255.255.255.255"
 sample MaskOver = codes "255.255.255.255"
 sample AnyPrefix = codes "0.0.0.0/0"
 sample AnyCommunity = codes "0"
+sample AnyPort = codes "0"
 sample AnyPattern = codes "^$"
 sample (PortFrom tag) = codes "65535"
 sample LengthFrom = codes "32"
@@ -60,7 +61,7 @@ unfoldable pub opens : Takes → Bool
 opens End = false
 opens EndClassful = false
 opens (Once key tag) = false
-opens (PortKey key) = false
+opens (PortKey key n) = false
 opens MaskOver = true
 opens (PortFrom tag) = true
 opens LengthFrom = true

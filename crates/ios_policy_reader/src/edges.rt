@@ -12,7 +12,7 @@ use crate::said::{
     Said, Tag, Value, is_classful, is_said, last_address, least_length_said, number_said,
     ports_said,
 };
-use crate::words::{is_table_word, read_community, read_range};
+use crate::words::{is_table_word, read_community, read_port, read_port_from, read_range};
 use mw_text::{read_addr, read_prefix};
 
 /// What a word has to be. Keywords stand in lower case and are filled up with blanks.
@@ -47,8 +47,10 @@ pub enum Takes {
     AnyPattern,
     /// This word, where nothing was said under the tag.
     Once([u8; 16], Tag),
-    /// This word, where the protocol that was said has ports.
-    PortKey([u8; 16]),
+    /// A port by its number or its name.
+    AnyPort,
+    /// This word, which stands for a number, where the protocol that was said has ports.
+    PortKey([u8; 16], u32),
     /// A port that is not below the one that was said under the tag.
     PortFrom(Tag),
     /// A length that is not below the lengths that were said.
@@ -95,10 +97,16 @@ fn say_back(takes: Takes, said: &[Said], word: &[u8]) -> Option<Value>
     match takes {
         Takes::MaskOver => say_prefix(said, word),
         Takes::Once(key, tag) => nothing_if(is_table_word(word, &key) && !is_said(tag, said)),
-        Takes::PortKey(key) => nothing_if(is_table_word(word, &key) && ports_said(said)),
+        Takes::PortKey(key, number) => {
+            if is_table_word(word, &key) && ports_said(said) {
+                Some(Value::Number(number))
+            } else {
+                None
+            }
+        }
         Takes::PortFrom(tag) => {
             let low = number_said(tag, said, 0).min(65_535);
-            Some(Value::Number(read_range(word, low, 65_535)?))
+            Some(Value::Number(read_port_from(word, low)?))
         }
         Takes::LengthFrom => {
             let low = least_length_said(said);
@@ -133,10 +141,11 @@ fn say(takes: Takes, said: &[Said], at: u32, word: &[u8]) -> Option<Value>
         Takes::AnyPrefix => Some(Value::Prefix(read_prefix(word)?)),
         Takes::AnyCommunity => Some(Value::Number(read_community(word)?)),
         Takes::Mask(least) => Some(Value::Length(read_mask(word, least)?)),
+        Takes::AnyPort => Some(Value::Number(read_port(word)?)),
         Takes::AnyPattern => Some(Value::Pattern(read_pattern(word)?)),
         Takes::MaskOver
         | Takes::Once(_, _)
-        | Takes::PortKey(_)
+        | Takes::PortKey(_, _)
         | Takes::PortFrom(_)
         | Takes::LengthFrom => say_back(takes, said, word),
     }

@@ -8,6 +8,7 @@ pub mod masks;
 pub mod names;
 pub mod patterns;
 pub mod said;
+pub mod tables;
 pub mod tail;
 pub mod words;
 

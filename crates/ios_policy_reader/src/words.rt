@@ -2,7 +2,7 @@
 
 ghost use Rattle.std.specs.Prelude.{◌≡◌, ◌==◌, ℕ, ◌≤◌, map, length, position};
 ghost use Rattle.std.specs.Char.{to_ascii_lowercase};
-ghost use Rattle.ios_policy_reader.specs.Words.{is_keyword, keyword_of, is_key, number_from, community_of};
+ghost use Rattle.ios_policy_reader.specs.Words.{is_keyword, keyword_of, is_key, number_from, community_of, port_among, port_of, port_from};
 
 use mw_text::digits::cut;
 use mw_text::read_number;
@@ -62,4 +62,54 @@ pub fn read_community(word: &[u8]) -> Option<u32>
             Some((high * 65_536 + low) as u32)
         }
     }
+}
+
+/// The name of a port, filled up with blanks, and the port.
+#[derive(Clone, Copy, Debug)]
+pub struct PortName(pub [u8; 16], pub u32);
+
+/// The ports that have names (IANA).
+pub const PORT_NAMES: [PortName; 11] = [
+    PortName(*b"ftp             ", 21),
+    PortName(*b"telnet          ", 23),
+    PortName(*b"smtp            ", 25),
+    PortName(*b"domain          ", 53),
+    PortName(*b"tftp            ", 69),
+    PortName(*b"www             ", 80),
+    PortName(*b"pop3            ", 110),
+    PortName(*b"ntp             ", 123),
+    PortName(*b"snmp            ", 161),
+    PortName(*b"bgp             ", 179),
+    PortName(*b"syslog          ", 514),
+];
+
+/// The port of a name among these.
+fn find_port(names: &[PortName], word: &[u8]) -> Option<u32>
+    ensures { result ≡ port_among word.now names.now }
+{
+    for name in names {
+        if is_table_word(word, &name.0) {
+            return Some(name.1);
+        }
+    }
+    None
+}
+
+/// The port that a number or a name writes.
+#[tactic(auto, unfolding(crate::specs::Words::port_of))]
+pub fn read_port(word: &[u8]) -> Option<u32>
+    ensures { result ≡ port_of word.now }
+{
+    match find_port(&PORT_NAMES, word) {
+        Some(port) => Some(port),
+        None => read_range(word, 0, 65_535),
+    }
+}
+
+/// The port that the word writes, where it is not below another one.
+pub fn read_port_from(word: &[u8], low: u32) -> Option<u32>
+    ensures { result ≡ port_from low word.now }
+{
+    let port = read_port(word)?;
+    if port >= low { Some(port) } else { None }
 }
