@@ -1,5 +1,5 @@
 -- Masks by their lengths.
-use Rattle.std.proofs.Common.{◌≡◌, ℕ, suc, ◌+◌, ◌-◌, ◌<◌, ◌==◌, ◌≤◌, Option, Some, None, refl, ap, arith, ◌∙◌, cond}
+use Rattle.std.proofs.Common.{◌≡◌, ℕ, suc, ◌+◌, ◌-◌, ◌<◌, ◌==◌, ◌≤◌, Some, None, refl, ap, arith, ◌∙◌, cond}
 use Rattle.mw_text.specs.declared.address.Addr.{Addr}
 use Rattle.mw_text.specs.Address.{mask_of}
 use Rattle.ios_policy_reader.specs.Masks.{length_below}

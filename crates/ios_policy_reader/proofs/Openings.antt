@@ -1,9 +1,7 @@
 -- A kind of words that is open takes its sample whatever was said.
-use Rattle.std.proofs.Common.{◌≡◌, ℕ, ◌*◌, ◌/◌, ◌<◌, ◌≤◌, Bool, true, false, min, List, [], ◌∷◌, nat_le, cond, Option}
-use Rattle.std.proofs.Common.{Some, None, is_some, refl, sym, ap, ◌∙◌, arith}
+use Rattle.std.proofs.Common.{◌≡◌, ℕ, ◌*◌, ◌/◌, true, min, List, nat_le}
+use Rattle.std.proofs.Common.{is_some, refl, arith}
 use Rattle.std.proofs.lemmas.Bool.{false≢true, le-leb, eq-eqb}
-use Rattle.std.proofs.Math.Nat.{div-one}
-use Rattle.mw_text.specs.declared.address.Addr.{Addr}
 use Rattle.ios_policy_reader.specs.declared.said.Said.{Said}
 use Rattle.ios_policy_reader.specs.declared.edges.Takes.{Takes}
 use Rattle.ios_policy_reader.specs.declared.edges.Takes.TheVariants.{End, EndClassful, Key, Named, Any, Range, AnyName}

@@ -4,7 +4,7 @@ use Rattle.std.specs.List.{list_any, list_all}
 use Rattle.std.specs.Option.{option_map_or}
 use Rattle.ios_policy_reader.specs.declared.said.Said.{Said}
 use Rattle.ios_policy_reader.specs.declared.edges.Takes.{Takes}
-use Rattle.ios_policy_reader.specs.declared.edges.Takes.TheVariants.{End, EndClassful, Key, Named, Any, Range, AnyName, ListName, RouterName, Interface, AnyAddress, Mask, MaskOver, AnyPrefix, AnyCommunity, AnyPort, AnyPattern, Once, PortKey, PortFrom, LengthFrom}
+use Rattle.ios_policy_reader.specs.declared.edges.Takes.TheVariants.{End, EndClassful, Key, Named, Range, AnyName, ListName, RouterName, Interface, AnyAddress, Mask, MaskOver, AnyPrefix, AnyCommunity, AnyPort, AnyPattern, Once, PortKey, PortFrom, LengthFrom}
 use Rattle.ios_policy_reader.specs.declared.edges.Edge.{Edge}
 use Rattle.ios_policy_reader.specs.Words.{keyword_of}
 use Rattle.ios_policy_reader.specs.Edges.{said_by, read_from}
