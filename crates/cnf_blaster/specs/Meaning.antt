@@ -19,6 +19,11 @@ roots_value nodes roots valuation = list_all (λ r. value_of nodes valuation r.0
 abbrev pub IsDecoded : List Node → List NodeId → (ℕ → Bool) → List Bool → Type 0
 IsDecoded nodes node_of v valuation = (x k : ℕ) (id : NodeId) → slice_get node_of x ≡ Some id → slice_get nodes id.0 ≡ Some (Var k) → truth valuation k ≡ v x
 
+-- some valuation decodes the assignment, and each that does makes every root true
+pub record DecodesTrue (nodes : List Node) (roots node_of : List NodeId) (v : ℕ → Bool) : Type 0 where
+  pub some : (valuation : List Bool) × IsDecoded nodes node_of v valuation
+  pub all : (valuation : List Bool) → IsDecoded nodes node_of v valuation → roots_value nodes roots valuation ≡ true
+
 -- each variable of the clauses has the value of its node
 abbrev pub encoded : List Node → List NodeId → List Bool → ℕ → Bool
 encoded nodes node_of valuation x = option_map_or (λ id. value_of nodes valuation id.0) (slice_get node_of x) false

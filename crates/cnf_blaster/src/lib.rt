@@ -6,17 +6,19 @@ mod gates;
 pub mod laws;
 mod lists;
 mod marks;
+mod proper;
 
-ghost use Rattle.std.specs.Prelude.{◌≡◌, ℕ, Bool, true, List as ListOf, ◌↔◌, IfOk, length};
+ghost use Rattle.std.specs.Prelude.{◌≡◌, ℕ, Bool, true, List as ListOf, ◌↔◌, IfOk, IsTrue, length};
 ghost use Rattle.cnf_blaster.specs.Cnf.{clauses_by, clauses_of, members, nodes_of};
 ghost use Rattle.cnf_blaster.specs.Laws.{marked, AreBelow};
-ghost use Rattle.cnf_blaster.specs.Meaning.{roots_value, IsDecoded, encoded, IsSatisfiable, CanBeTrue};
+ghost use Rattle.cnf_blaster.specs.Meaning.{roots_value, DecodesTrue, encoded, IsSatisfiable, CanBeTrue};
 ghost use Rattle.cnf_blaster.specs.Proper.{IsProper};
 ghost use Rattle.resolution_check.specs.Entries.{satisfies};
 ghost use Rattle.term_store.specs.Terms.{size};
 
 use crate::gates::{put_nodes, put_roots};
 use crate::marks::{number_marked, reached_marks};
+use crate::proper::is_fit_clause;
 use mw_text::List;
 use resolution_check::Clause;
 use std::alloc::{AllocError, Global};
@@ -30,6 +32,20 @@ pub struct Cnf {
     pub clauses: List<Clause>,
     /// The node of each variable.
     pub node_of: List<NodeId>,
+}
+
+impl Cnf {
+    /// Whether no clause is empty, none has a variable twice, and all variables are below their number.
+    pub fn is_proper(&self, alloc: Global) -> Result<bool, AllocError>
+        ensures { IfOk result (λ proper. IsTrue proper ↔ IsProper self.now) }
+    {
+        for clause in self.clauses.as_slice() {
+            if !is_fit_clause(alloc, clause.lits.as_slice(), self.vars)? {
+                return Ok(false);
+            }
+        }
+        Ok(true)
+    }
 }
 
 /// The clauses of the marked nodes and the roots.
@@ -65,8 +81,8 @@ pub fn blast(alloc: Global, terms: &Terms, roots: &[NodeId]) -> Result<Cnf, Allo
     ensures vars { IfOk result (λ cnf. cnf.vars ≡ length cnf.node_of) }
     ensures proper { IfOk result (λ cnf. IsProper cnf) }
 
-    ensures decodes { IfOk result (λ cnf. (v : ℕ → Bool) (valuation : ListOf Bool) → satisfies v cnf.clauses ≡ true
-        → IsDecoded terms.now.nodes cnf.node_of v valuation → roots_value terms.now.nodes roots.now valuation ≡ true) }
+    ensures decodes { IfOk result (λ cnf. (v : ℕ → Bool) → satisfies v cnf.clauses ≡ true
+        → DecodesTrue terms.now.nodes roots.now cnf.node_of v) }
     ensures encodes { IfOk result (λ cnf. (valuation : ListOf Bool) → roots_value terms.now.nodes roots.now valuation ≡ true
         → satisfies (encoded terms.now.nodes cnf.node_of valuation) cnf.clauses ≡ true) }
     ensures equal { IfOk result (λ cnf. IsSatisfiable cnf.clauses ↔ CanBeTrue terms.now.nodes roots.now) }

@@ -6,6 +6,8 @@ mod assignments;
 #[cfg(test)]
 mod gates;
 #[cfg(test)]
+mod proper;
+#[cfg(test)]
 mod reach;
 #[cfg(test)]
 mod tables;

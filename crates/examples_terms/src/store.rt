@@ -116,6 +116,47 @@ fn folded(terms: &mut Terms) -> Result<[(NodeId, NodeId); 6], AllocError> {
     ])
 }
 
+/// Gates over a node twice, and over a node and its negation: each second one is what the first is to be.
+fn folded_pairs(terms: &mut Terms) -> Result<[(NodeId, NodeId); 9], AllocError> {
+    let a = terms.fresh()?;
+    let b = terms.fresh()?;
+    let yes = constant_node(terms, true)?;
+    let no = constant_node(terms, false)?;
+    let not_a = negate(terms, a)?;
+    let and_twice = both(terms, a, a)?;
+    let and_not = both(terms, a, not_a)?;
+    let or_twice = either(terms, not_a, not_a)?;
+    let or_not = either(terms, not_a, a)?;
+    let xor_twice = differs(terms, a, a)?;
+    let xor_not = differs(terms, not_a, a)?;
+    let choice = select(terms, b, a, a)?;
+    let chosen = select(terms, b, not_a, a)?;
+    let xor = differs(terms, b, a)?;
+    let same = agree(terms, not_a, not_a)?;
+    Ok([
+        (and_twice, a),
+        (and_not, no),
+        (or_twice, not_a),
+        (or_not, yes),
+        (xor_twice, no),
+        (xor_not, yes),
+        (choice, a),
+        (chosen, xor),
+        (same, yes),
+    ])
+}
+
+#[test]
+fn equal_operands_and_negations_fold(rt: HostRuntime) -> Result<(), Fail> {
+    let mut terms = Terms::new(rt.alloc());
+    let pairs = folded_pairs(&mut terms)?;
+    for (found, wanted) in pairs {
+        assert_eq!(rt; found, wanted);
+    }
+    assert_eq!(rt; terms.len(), 6);
+    Ok(())
+}
+
 #[test]
 fn constants_fold_and_double_negations_vanish(rt: HostRuntime) -> Result<(), Fail> {
     let mut terms = Terms::new(rt.alloc());

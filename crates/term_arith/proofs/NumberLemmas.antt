@@ -1,18 +1,32 @@
 -- Lists of nodes, item by item: their ends, their bits and the numbers of these.
-use Rattle.std.proofs.Common.{◌≡◌, ℕ, ◌+◌, ◌*◌, ◌/◌, ◌%◌, ◌^◌, nat_eq, ◌<◌, ◌≤◌, zero, suc, max, Bool, true, false, List, [], ◌∷◌, ◌++◌, take, drop, get_or, length, refl, sym, ap, subst, ◌∙◌, arith}
+use Rattle.std.proofs.Common.{◌≡◌, ℕ, ◌+◌, ◌*◌, ◌/◌, ◌%◌, ◌^◌, nat_eq, ◌<◌, ◌≤◌, zero, suc, max, Bool, true, false}
+use Rattle.std.proofs.Common.{if◌then◌else◌, List, [], ◌∷◌, ◌++◌, take, drop, get_or, length, refl, sym, ap, subst}
+use Rattle.std.proofs.Common.{◌∙◌, arith}
 use Rattle.std.proofs.lemmas.List.{drop_more, drop_all, take_more, map-append, get_or-map, length-map}
 use Rattle.std.proofs.lemmas.Bool.{eqb-true}
 use Rattle.std.proofs.lemmas.Bool.Decides.{nat_tests}
 use Rattle.std.proofs.lemmas.Grind.{common_steps}
 use Rattle.std.proofs.Math.Nat.{pow-suc, pow-succ', div-one, div-div-eq-div-mul, zero-div}
 use Rattle.term_store.specs.declared.NodeId.{NodeId}
-use Rattle.term_store.specs.Terms.{Reading, at}
+use Rattle.term_store.specs.Terms.{Reading, at, differ}
 use Rattle.term_arith.specs.Bits.{bit, bits, number, ids_end}
 
 -- a bit is 0 or 1
 pub bit_small : (b : Bool) → bit b ≤ 1
 bit_small true = omega arith
 bit_small false = omega arith
+
+-- the low bit and the carry of three bits
+pub full_adder : (a b c : Bool)
+    → bit (differ (differ a b) c) + 2 * bit (if differ a b then c else a) ≡ bit a + bit b + bit c
+full_adder true true true = refl
+full_adder true true false = refl
+full_adder true false true = refl
+full_adder true false false = refl
+full_adder false true true = refl
+full_adder false true false = refl
+full_adder false false true = refl
+full_adder false false false = refl
 
 -- a node of a list is below the list's end
 pub ids_end_at : (ids : List NodeId) (i : ℕ) (d : NodeId) → i < length ids → (get_or ids i d).0 < ids_end ids
@@ -38,7 +52,8 @@ number_drop_end w ids i h = ap (number w) (drop_all i ids h)
 pub bits_push : (w : Reading) (ids : List NodeId) (id : NodeId) → bits w (ids ++ id ∷ []) ≡ bits w ids ++ at w id ∷ []
 bits_push w ids id = map-append (at w) ids (id ∷ [])
 
-pub bits_take : (w : Reading) (ids : List NodeId) (i : ℕ) (d : NodeId) → i < length ids → bits w (take (i + 1) ids) ≡ bits w (take i ids) ++ at w (get_or ids i d) ∷ []
+pub bits_take : (w : Reading) (ids : List NodeId) (i : ℕ) (d : NodeId) → i < length ids
+    → bits w (take (i + 1) ids) ≡ bits w (take i ids) ++ at w (get_or ids i d) ∷ []
 bits_take w ids i d h = ap (bits w) (take_more ids i d h) ∙ bits_push w (take i ids) (get_or ids i d)
 
 -- the number whose lowest bits are given, above which another number stands
@@ -47,7 +62,8 @@ onto [] n = n
 onto (b ∷ bs) n = bit b + 2 * onto bs n
 
 -- one more bit is taken from the number above
-pub onto_push : (w : Reading) (ids : List NodeId) (id : NodeId) (n : ℕ) → onto (bits w (ids ++ id ∷ [])) n ≡ onto (bits w ids) (bit (at w id) + 2 * n)
+pub onto_push : (w : Reading) (ids : List NodeId) (id : NodeId) (n : ℕ)
+    → onto (bits w (ids ++ id ∷ [])) n ≡ onto (bits w ids) (bit (at w id) + 2 * n)
 onto_push w [] id n = refl
 onto_push w (x ∷ ids) id n = ap (λ m. bit (at w x) + 2 * m) (onto_push w ids id n)
 
@@ -57,7 +73,8 @@ onto_zero w [] = refl
 onto_zero w (x ∷ ids) = ap (λ m. bit (at w x) + 2 * m) (onto_zero w ids)
 
 -- one bit of an addition: what is still to be added stands above the bits that are there
-pub add_step : (w : Reading) (a b out : List NodeId) (i : ℕ) (d : NodeId) (low next carry : NodeId) (total : ℕ) → i < length a → i < length b
+pub add_step : (w : Reading) (a b out : List NodeId) (i : ℕ) (d : NodeId) (low next carry : NodeId) (total : ℕ)
+    → i < length a → i < length b
     → bit (at w low) + 2 * bit (at w next) ≡ bit (at w (get_or a i d)) + bit (at w (get_or b i d)) + bit (at w carry)
     → onto (bits w out) (bit (at w carry) + number w (drop i a) + number w (drop i b)) ≡ total
     → onto (bits w (out ++ low ∷ [])) (bit (at w next) + number w (drop (i + 1) a) + number w (drop (i + 1) b)) ≡ total
@@ -88,7 +105,8 @@ half_and_bit n = by (nat_eq (n % 2) 1) refl
 pub constant_step : (w : Reading) (ids : List NodeId) (id : NodeId) (rest total : ℕ) → at w id ≡ nat_eq (rest % 2) 1
     → onto (bits w ids) rest ≡ total → onto (bits w (ids ++ id ∷ [])) (rest / 2) ≡ total
 constant_step w ids id rest total value so_far =
-    onto_push w ids id (rest / 2) ∙ ap (onto (bits w ids)) (ap (λ b. bit b + 2 * (rest / 2)) value ∙ half_and_bit rest) ∙ so_far
+    onto_push w ids id (rest / 2) ∙ ap (onto (bits w ids)) (ap (λ b. bit b + 2 * (rest / 2)) value ∙ half_and_bit rest)
+    ∙ so_far
 
 -- nothing stands above where the whole fits the bits
 onto_fits : (w : Reading) (ids : List NodeId) (rest : ℕ) → onto (bits w ids) rest < 2 ^ length ids → rest ≡ 0
@@ -98,7 +116,8 @@ onto_fits w (id ∷ ids) rest h = onto_fits w ids rest (omega (arith, pow-suc 2 
 pub constant_done : (w : Reading) (ids : List NodeId) (width rest total : ℕ) → length ids ≡ width → total < 2 ^ width
     → onto (bits w ids) rest ≡ total → number w ids ≡ total
 constant_done w ids width rest total long fits so_far =
-    let small : onto (bits w ids) rest < 2 ^ length ids = subst (λ n. n < 2 ^ length ids) (sym so_far) (subst (λ n. total < 2 ^ n) (sym long) fits) in
+    let small : onto (bits w ids) rest < 2 ^ length ids =
+    subst (λ n. n < 2 ^ length ids) (sym so_far) (subst (λ n. total < 2 ^ n) (sym long) fits) in
     sym (onto_zero w ids) ∙ ap (onto (bits w ids)) (sym (onto_fits w ids rest small)) ∙ so_far
 
 -- as many bits as nodes
@@ -106,13 +125,15 @@ pub length_bits : (w : Reading) (ids : List NodeId) → length (bits w ids) ≡ 
 length_bits w ids = length-map ids (at w)
 
 -- the bit of a node
-pub bits_at : (w : Reading) (ids : List NodeId) (i : ℕ) (d : NodeId) → i < length ids → get_or (bits w ids) i false ≡ at w (get_or ids i d)
+pub bits_at : (w : Reading) (ids : List NodeId) (i : ℕ) (d : NodeId) → i < length ids
+    → get_or (bits w ids) i false ≡ at w (get_or ids i d)
 bits_at w ids i d h = get_or-map (at w) ids i d false h
 
 -- a number is below the power of its width
 pub number_below : (w : Reading) (ids : List NodeId) → number w ids < 2 ^ length ids
 number_below w [] = omega arith
-number_below w (id ∷ ids) = let rest = number_below w ids in let low = bit_small (at w id) in omega (arith, pow-suc 2 (length ids))
+number_below w (id ∷ ids) =
+    let rest = number_below w ids in let low = bit_small (at w id) in omega (arith, pow-suc 2 (length ids))
 
 -- the high bits of a number are its quotient by a power of two
 pub number_high : (w : Reading) (ids : List NodeId) (i : ℕ) → number w (drop i ids) ≡ number w ids / 2 ^ i
@@ -121,7 +142,8 @@ number_high w [] (suc i) = ap (number w) (drop_all (suc i) [] (omega arith)) ∙
 number_high w (id ∷ ids) (suc i) =
     let low = bit_small (at w id) in
     let half : number w ids ≡ number w (id ∷ ids) / 2 = omega arith in
-    number_high w ids i ∙ ap (λ n. n / 2 ^ i) half ∙ div-div-eq-div-mul (number w (id ∷ ids)) 2 (2 ^ i) ∙ ap (λ n. number w (id ∷ ids) / n) (sym (pow-succ' 2 i))
+    number_high w ids i ∙ ap (λ n. n / 2 ^ i) half ∙ div-div-eq-div-mul (number w (id ∷ ids)) 2 (2 ^ i)
+    ∙ ap (λ n. number w (id ∷ ids) / n) (sym (pow-succ' 2 i))
 
 -- an end of some of the nodes
 pub ids_end_take : (ids : List NodeId) (i : ℕ) → ids_end (take i ids) ≤ ids_end ids

@@ -6,7 +6,7 @@ ghost use Rattle.term_store.specs.Reading.{Reads, Builds, Gives};
 ghost use Rattle.term_arith.specs.Bits.{bits, number, ids_end};
 
 use crate::Bits;
-use crate::gates::{agree, both, constant_node, differs, negate, select};
+use crate::gates::{both, constant_node, differs, either, negate, select};
 use crate::lists::put;
 use mw_text::List;
 use std::alloc::{AllocError, Global};
@@ -54,7 +54,7 @@ pub fn equal(terms: &mut Terms, a: &Bits, b: &Bits) -> Result<NodeId, AllocError
     equal_nodes(terms, a.nodes.as_slice(), b.nodes.as_slice())
 }
 
-/// Whether the numbers agree in each bit.
+/// Whether the numbers differ in no bit.
 #[tactic(auto, using(crate::proofs::NumberLemmas::node_steps))]
 fn equal_nodes(terms: &mut Terms, a: &[NodeId], b: &[NodeId]) -> Result<NodeId, AllocError>
     requires same_width { length a.now ≡ length b.now }
@@ -64,12 +64,12 @@ fn equal_nodes(terms: &mut Terms, a: &[NodeId], b: &[NodeId]) -> Result<NodeId, 
     ensures within { IfOk result (λ r. r.0 < size terms.new) }
     ensures value { Gives terms.new result (λ w r. at w r ≡ (number w a.now == number w b.now)) }
 {
-    let mut all = constant_node(terms, true)?;
+    let mut apart = constant_node(terms, false)?;
     for i in 0..a.len() {
-        let same = agree(terms, a[i], b[i])?;
-        all = both(terms, all, same)?;
+        let here = differs(terms, a[i], b[i])?;
+        apart = either(terms, apart, here)?;
     }
-    Ok(all)
+    negate(terms, apart)
 }
 
 /// Whether a node has a known value.

@@ -1,11 +1,26 @@
-//! Gates over nodes. Constants fold, and a double negation vanishes.
+//! Gates over nodes. Constants fold, equal operands and a node with its negation too, and a double negation vanishes.
 
-ghost use Rattle.std.specs.Prelude.{◌≡◌, ℕ, ◌+◌, ◌<◌, ◌≤◌, Bool, not, ◌&&◌, ◌||◌, if◌then◌else◌, IfOk, IfSome};
+ghost use Rattle.std.specs.Prelude.{◌≡◌, ℕ, ◌+◌, ◌<◌, ◌≤◌, Bool, true, not, ◌&&◌, ◌||◌, if◌then◌else◌, IfOk, IfSome};
+ghost use Rattle.term_arith.specs.Gates.{Ties};
 ghost use Rattle.term_store.specs.Terms.{Reading, size, at, differ};
 ghost use Rattle.term_store.specs.Reading.{Reads, Builds, Gives};
 
 use std::alloc::AllocError;
 use term_store::{Node, NodeId, Terms};
+
+/// How the values of two nodes hang together, as far as their kinds alone show it.
+#[derive(Clone, Copy)]
+enum Tie {
+    /// The first one is a constant.
+    First(bool),
+    /// The second one is.
+    Second(bool),
+    Same,
+    /// One is the negation of the other.
+    Opposite,
+    /// Nothing is known.
+    Free,
+}
 
 /// The value of a node that is a constant.
 fn known(terms: &Terms, id: NodeId) -> Option<bool>
@@ -16,6 +31,38 @@ fn known(terms: &Terms, id: NodeId) -> Option<bool>
         Node::Const(value) => Some(value),
         _ => None,
     }
+}
+
+/// Whether the first node is the negation of the second.
+fn is_negation(terms: &Terms, a: NodeId, b: NodeId) -> bool
+    requires { a.0 < size terms.now }
+    ensures { result ≡ true → (w : Reading) → Reads w terms.now → at w a ≡ not (at w b) }
+{
+    match terms.get(a) {
+        Node::Not(inner) => inner == b,
+        _ => false,
+    }
+}
+
+/// How the values of two nodes hang together.
+fn tie_of(terms: &Terms, a: NodeId, b: NodeId) -> Tie
+    requires first { a.0 < size terms.now }
+    requires second { b.0 < size terms.now }
+    ensures { (w : Reading) → Reads w terms.now → Ties result (at w a) (at w b) }
+{
+    if let Some(value) = known(terms, a) {
+        return Tie::First(value);
+    }
+    if let Some(value) = known(terms, b) {
+        return Tie::Second(value);
+    }
+    if a == b {
+        return Tie::Same;
+    }
+    if is_negation(terms, a, b) || is_negation(terms, b, a) {
+        return Tie::Opposite;
+    }
+    Tie::Free
 }
 
 /// A constant.
@@ -49,15 +96,11 @@ pub fn both(terms: &mut Terms, a: NodeId, b: NodeId) -> Result<NodeId, AllocErro
     ensures within { IfOk result (λ r. r.0 < size terms.new) }
     ensures value { Gives terms.new result (λ w r. at w r ≡ (at w a && at w b)) }
 {
-    match known(terms, a) {
-        Some(true) => return Ok(b),
-        Some(false) => return Ok(a),
-        None => {}
-    }
-    match known(terms, b) {
-        Some(true) => Ok(a),
-        Some(false) => Ok(b),
-        None => terms.add(Node::And(a, b)),
+    match tie_of(terms, a, b) {
+        Tie::First(false) | Tie::Second(true) | Tie::Same => Ok(a),
+        Tie::First(true) | Tie::Second(false) => Ok(b),
+        Tie::Opposite => constant_node(terms, false),
+        Tie::Free => terms.add(Node::And(a, b)),
     }
 }
 
@@ -69,15 +112,11 @@ pub fn either(terms: &mut Terms, a: NodeId, b: NodeId) -> Result<NodeId, AllocEr
     ensures within { IfOk result (λ r. r.0 < size terms.new) }
     ensures value { Gives terms.new result (λ w r. at w r ≡ (at w a || at w b)) }
 {
-    match known(terms, a) {
-        Some(true) => return Ok(a),
-        Some(false) => return Ok(b),
-        None => {}
-    }
-    match known(terms, b) {
-        Some(true) => Ok(b),
-        Some(false) => Ok(a),
-        None => terms.add(Node::Or(a, b)),
+    match tie_of(terms, a, b) {
+        Tie::First(true) | Tie::Second(false) | Tie::Same => Ok(a),
+        Tie::First(false) | Tie::Second(true) => Ok(b),
+        Tie::Opposite => constant_node(terms, true),
+        Tie::Free => terms.add(Node::Or(a, b)),
     }
 }
 
@@ -89,15 +128,14 @@ pub fn differs(terms: &mut Terms, a: NodeId, b: NodeId) -> Result<NodeId, AllocE
     ensures within { IfOk result (λ r. r.0 < size terms.new) }
     ensures value { Gives terms.new result (λ w r. at w r ≡ differ (at w a) (at w b)) }
 {
-    match known(terms, a) {
-        Some(true) => return negate(terms, b),
-        Some(false) => return Ok(b),
-        None => {}
-    }
-    match known(terms, b) {
-        Some(true) => negate(terms, a),
-        Some(false) => Ok(a),
-        None => terms.add(Node::Xor(a, b)),
+    match tie_of(terms, a, b) {
+        Tie::First(true) => negate(terms, b),
+        Tie::First(false) => Ok(b),
+        Tie::Second(true) => negate(terms, a),
+        Tie::Second(false) => Ok(a),
+        Tie::Same => constant_node(terms, false),
+        Tie::Opposite => constant_node(terms, true),
+        Tie::Free => terms.add(Node::Xor(a, b)),
     }
 }
 
@@ -134,23 +172,21 @@ pub fn select(terms: &mut Terms, c: NodeId, a: NodeId, b: NodeId) -> Result<Node
     ensures within { IfOk result (λ r. r.0 < size terms.new) }
     ensures value { Gives terms.new result (λ w r. at w r ≡ (if at w c then at w a else at w b)) }
 {
-    match known(terms, c) {
-        Some(true) => return Ok(a),
-        Some(false) => return Ok(b),
-        None => {}
+    if let Some(value) = known(terms, c) {
+        return Ok(if value { a } else { b });
     }
-    match known(terms, a) {
-        Some(true) => return either(terms, c, b),
-        Some(false) => {
+    match tie_of(terms, a, b) {
+        Tie::First(true) => either(terms, c, b),
+        Tie::First(false) => {
             let otherwise = negate(terms, c)?;
-            return both(terms, otherwise, b);
+            both(terms, otherwise, b)
         }
-        None => {}
-    }
-    match known(terms, b) {
-        Some(true) => implies(terms, c, a),
-        Some(false) => both(terms, c, a),
-        None if a == b => Ok(a),
-        None => terms.add(Node::Ite(c, a, b)),
+        Tie::Second(true) => implies(terms, c, a),
+        Tie::Second(false) => both(terms, c, a),
+        Tie::Same => Ok(a),
+        Tie::Opposite => differs(terms, c, b),
+        Tie::Free if a == c => either(terms, c, b),
+        Tie::Free if b == c => both(terms, c, a),
+        Tie::Free => terms.add(Node::Ite(c, a, b)),
     }
 }

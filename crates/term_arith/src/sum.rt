@@ -6,7 +6,7 @@ ghost use Rattle.term_store.specs.Reading.{Reads, Builds, Gives};
 ghost use Rattle.term_arith.specs.Bits.{bit, number, ids_end};
 
 use crate::Bits;
-use crate::gates::{both, constant_node, differs, either};
+use crate::gates::{constant_node, differs, select};
 use crate::lists::put;
 use mw_text::List;
 use std::alloc::{AllocError, Global};
@@ -19,7 +19,8 @@ struct BitSum {
     carry: NodeId,
 }
 
-/// Adds three bits.
+/// Adds three bits. Where the first two differ, the third one is the carry, else the first is.
+#[tactic(auto, using(crate::proofs::NumberLemmas::full_adder))]
 fn add_bits(terms: &mut Terms, a: NodeId, b: NodeId, carry: NodeId) -> Result<BitSum, AllocError>
     requires first { a.0 < size terms.old }
     requires second { b.0 < size terms.old }
@@ -31,9 +32,7 @@ fn add_bits(terms: &mut Terms, a: NodeId, b: NodeId, carry: NodeId) -> Result<Bi
 {
     let half = differs(terms, a, b)?;
     let low = differs(terms, half, carry)?;
-    let generated = both(terms, a, b)?;
-    let passed = both(terms, half, carry)?;
-    let carry = either(terms, generated, passed)?;
+    let carry = select(terms, half, carry, a)?;
     Ok(BitSum { low, carry })
 }
 

@@ -1,5 +1,6 @@
 -- What stays true of a store when a node is put into it.
-use Rattle.std.proofs.Common.{◌≡◌, ℕ, ◌+◌, ◌<◌, ◌≤◌, List, [], ◌∷◌, ◌++◌, slice_get, get_or, length, Some, ◌⊎◌, inl, inr, ⊎_elim, sym, ap, subst, ◌∙◌, arith, length-append}
+use Rattle.std.proofs.Common.{◌≡◌, ℕ, ◌+◌, ◌<◌, ◌≤◌, List, [], ◌∷◌, ◌++◌, slice_get, get_or, length, Some, ◌⊎◌, inl}
+use Rattle.std.proofs.Common.{inr, ⊎_elim, sym, ap, subst, ◌∙◌, arith, length-append}
 use Rattle.std.proofs.lemmas.Option.{slice_get_within, get_or_from_slice_get, slice_get-get_or}
 use Rattle.std.proofs.lemmas.List.{get_or_append_left}
 use Rattle.std.proofs.Math.Seq.{get_or-append_seam}
@@ -13,17 +14,22 @@ pub length-push : {X : Type 0} (xs : List X) (x : X) → length (xs ++ x ∷ [])
 length-push xs x = length-append xs (x ∷ [])
 
 -- an item stays where it is when another is put last
-pub slice_get_push : {X : Type 0} (xs : List X) (x y : X) (i : ℕ) → slice_get xs i ≡ Some y → slice_get (xs ++ x ∷ []) i ≡ Some y
+pub slice_get_push : {X : Type 0} (xs : List X) (x y : X) (i : ℕ) → slice_get xs i ≡ Some y
+    → slice_get (xs ++ x ∷ []) i ≡ Some y
 slice_get_push xs x y i h =
     let within = slice_get_within xs i y h in
-    slice_get-get_or (xs ++ x ∷ []) i y (omega (arith, length-push xs x)) ∙ ap Some (get_or_append_left xs (x ∷ []) y i within ∙ get_or_from_slice_get xs i y y h)
+    slice_get-get_or (xs ++ x ∷ []) i y (omega (arith, length-push xs x))
+    ∙ ap Some (get_or_append_left xs (x ∷ []) y i within ∙ get_or_from_slice_get xs i y y h)
 
 -- the last item
 pub slice_get_last : {X : Type 0} (xs : List X) (x : X) → slice_get (xs ++ x ∷ []) (length xs) ≡ Some x
-slice_get_last xs x = slice_get-get_or (xs ++ x ∷ []) (length xs) x (omega (arith, length-push xs x)) ∙ ap Some (get_or-append_seam xs x [] x)
+slice_get_last xs x =
+    slice_get-get_or (xs ++ x ∷ []) (length xs) x (omega (arith, length-push xs x))
+    ∙ ap Some (get_or-append_seam xs x [] x)
 
 -- an item of the longer list was there before, or it is the last one
-pub push_cases : {X : Type 0} (xs : List X) (x y : X) (i : ℕ) → slice_get (xs ++ x ∷ []) i ≡ Some y → (slice_get xs i ≡ Some y) ⊎ ((i ≡ length xs) × (y ≡ x))
+pub push_cases : {X : Type 0} (xs : List X) (x y : X) (i : ℕ) → slice_get (xs ++ x ∷ []) i ≡ Some y
+    → (slice_get xs i ≡ Some y) ⊎ ((i ≡ length xs) × (y ≡ x))
 push_cases xs x y i h =
     let within : i < length xs + 1 = subst (λ n. i < n) (length-push xs x) (slice_get_within (xs ++ x ∷ []) i y h) in
     ⊎_elim
@@ -32,7 +38,8 @@ push_cases xs x y i h =
     (cases_lt i (length xs))
 
 -- numbers that are below a limit are below a larger one
-pub IsBelow-more : (limit vars limit' vars' : ℕ) (n : Node) → limit ≤ limit' → vars ≤ vars' → IsBelow limit vars n → IsBelow limit' vars' n
+pub IsBelow-more : (limit vars limit' vars' : ℕ) (n : Node) → limit ≤ limit' → vars ≤ vars' → IsBelow limit vars n
+    → IsBelow limit' vars' n
 IsBelow-more l v l' v' (Const b) h g p = tt
 IsBelow-more l v l' v' (Var k) h g p = omega arith
 IsBelow-more l v l' v' (Not a) h g p = omega arith
@@ -42,7 +49,8 @@ IsBelow-more l v l' v' (Xor a b) h g p = (omega arith, omega arith)
 IsBelow-more l v l' v' (Ite c a b) h g p = (omega arith, omega arith, omega arith)
 
 -- a node above its operands may be put last
-pub IsSound-push : (nodes : List Node) (vars vars' : ℕ) (n : Node) → IsSound nodes vars → vars ≤ vars' → vars' ≤ length nodes + 1 → IsBelow (length nodes) vars' n → IsSound (nodes ++ n ∷ []) vars'
+pub IsSound-push : (nodes : List Node) (vars vars' : ℕ) (n : Node) → IsSound nodes vars → vars ≤ vars'
+    → vars' ≤ length nodes + 1 → IsBelow (length nodes) vars' n → IsSound (nodes ++ n ∷ []) vars'
 IsSound-push nodes vars vars' n sound more counted fits = record {
   below = λ i m h. ⊎_elim
       (λ old. IsBelow-more i vars i vars' m (omega arith) more (sound.below i m old))
@@ -52,18 +60,21 @@ IsSound-push nodes vars vars' n sound more counted fits = record {
 }
 
 -- a node of the store is above its operands
-pub IsBelow-at : (nodes : List Node) (vars i : ℕ) (d : Node) → IsSound nodes vars → i < length nodes → IsBelow i vars (get_or nodes i d)
+pub IsBelow-at : (nodes : List Node) (vars i : ℕ) (d : Node) → IsSound nodes vars → i < length nodes
+    → IsBelow i vars (get_or nodes i d)
 IsBelow-at nodes vars i d sound h = sound.below i (get_or nodes i d) (slice_get-get_or nodes i d h)
 
 -- the next variable has no node yet, so its node goes last
-pub Puts-next_var : (nodes : List Node) (vars : ℕ) (new : List Node) → IsSound nodes vars → Puts nodes (Var vars) new → new ≡ nodes ++ Var vars ∷ []
+pub Puts-next_var : (nodes : List Node) (vars : ℕ) (new : List Node) → IsSound nodes vars → Puts nodes (Var vars) new
+    → new ≡ nodes ++ Var vars ∷ []
 Puts-next_var nodes vars new sound puts = ⊎_elim
     (λ known. let there = known.0 in let below : vars < vars = sound.below there.0 (Var vars) (slice_get-get_or nodes there.0 (Var vars) there.1 ∙ ap Some there.2) in absurd (omega arith))
     (λ last. last.1)
     puts
 
 -- a reading gives a node that stands the value of its gate
-pub Reads-at : (w : Reading) (s : Store) (i : ℕ) (n : Node) → Reads w s → slice_get s.nodes i ≡ Some n → w.node i ≡ gate w n
+pub Reads-at : (w : Reading) (s : Store) (i : ℕ) (n : Node) → Reads w s → slice_get s.nodes i ≡ Some n
+    → w.node i ≡ gate w n
 unfolding Reads
 Reads-at w s i n reads h = reads i n h
 
@@ -86,12 +97,16 @@ unfolding Stands
 Stands-within s i n h = slice_get_within s.nodes i n h
 
 -- the same, by the node's number
-pub Reads-get_or : (w : Reading) (s : Store) (i : ℕ) (d : Node) → i < size s → Reads w s → w.node i ≡ gate w (get_or s.nodes i d)
+pub Reads-get_or : (w : Reading) (s : Store) (i : ℕ) (d : Node) → i < size s → Reads w s
+    → w.node i ≡ gate w (get_or s.nodes i d)
 Reads-get_or w s i d h reads = Reads-at w s i (get_or s.nodes i d) reads (slice_get-get_or s.nodes i d h)
 
 -- the same, of the node that stands last
-pub Reads-last : (w : Reading) (s : Store) (nodes : List Node) (i : ℕ) (n : Node) → s.nodes ≡ nodes ++ n ∷ [] → i ≡ length nodes → Reads w s → w.node i ≡ gate w n
-Reads-last w s nodes i n e at reads = Reads-at w s i n reads (ap (λ l. slice_get l i) e ∙ ap (λ k. slice_get (nodes ++ n ∷ []) k) at ∙ slice_get_last nodes n)
+pub Reads-last : (w : Reading) (s : Store) (nodes : List Node) (i : ℕ) (n : Node) → s.nodes ≡ nodes ++ n ∷ []
+    → i ≡ length nodes → Reads w s → w.node i ≡ gate w n
+Reads-last w s nodes i n e at reads =
+    Reads-at w s i n reads
+    (ap (λ l. slice_get l i) e ∙ ap (λ k. slice_get (nodes ++ n ∷ []) k) at ∙ slice_get_last nodes n)
 
 -- a store grows where its nodes stay and one is put last
 pub Grows-push : (s t : Store) (n : Node) → t.nodes ≡ s.nodes ++ n ∷ [] → s.vars ≤ t.vars → Grows s t

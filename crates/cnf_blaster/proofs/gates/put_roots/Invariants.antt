@@ -4,4 +4,6 @@ use Rattle.cnf_blaster.specs.Laws.{number_at}
 use Rattle.cnf_blaster.proofs.gates.put_roots.Given as goal
 
 abbrev pub invariant-loop-root : goal.invariant-loop-root
-invariant-loop-root l = (var : ℕ → ℕ) → ((i : ℕ) → i < length l.numbers → number_at l.numbers i ≡ var i) → l.clauses ≡ l.initial.clauses ++ root_clauses var (take l.root-index l.roots)
+invariant-loop-root l =
+    (var : ℕ → ℕ) → ((i : ℕ) → i < length l.numbers → number_at l.numbers i ≡ var i)
+    → l.clauses ≡ l.initial.clauses ++ root_clauses var (take l.root-index l.roots)

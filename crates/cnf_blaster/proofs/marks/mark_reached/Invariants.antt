@@ -4,4 +4,5 @@ use Rattle.cnf_blaster.specs.Laws.{marked}
 use Rattle.cnf_blaster.proofs.marks.mark_reached.Given as goal
 
 abbrev pub invariant-loop-number : goal.invariant-loop-number
-invariant-loop-number l = (i : ℕ) → marked l.marks i ≡ reached_from (marked l.fn.marks) l.number (drop l.number l.terms.nodes) i
+invariant-loop-number l =
+    (i : ℕ) → marked l.marks i ≡ reached_from (marked l.fn.marks) l.number (drop l.number l.terms.nodes) i

@@ -9,5 +9,6 @@ invariant-loop-i l = record {
   builds : Builds l.fn.terms l.terms;
   within : ids_end l.out ≤ size l.terms;
   width : length l.out ≡ l.i;
-  value : (w : Reading) → Reads w l.terms → bits w l.out ≡ (if at w l.c then bits w (take l.i l.a) else bits w (take l.i l.b));
+  value : (w : Reading) → Reads w l.terms
+      → bits w l.out ≡ (if at w l.c then bits w (take l.i l.a) else bits w (take l.i l.b));
 }

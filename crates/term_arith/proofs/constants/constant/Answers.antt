@@ -11,8 +11,11 @@ loop-i-preserved c =
       builds = search rules;
       within = grind (arith, common_steps, ids_end_push);
       width = grind (arith, common_steps);
-      value = λ w reads. rw c.in_ok-put.ensures (constant_step w c.loop-i.nodes _ c.loop-i.rest _ (node.value w reads) (old.value w (node.builds.reads w reads)));
+      value =
+          λ w reads. rw c.in_ok-put.ensures (constant_step w c.loop-i.nodes _ c.loop-i.rest _ (node.value w reads) (old.value w (node.builds.reads w reads)));
     }
 
 pub returns-clause-value : goal.returns-clause-value
-returns-clause-value c = λ w reads. constant_done w c.loop-i.nodes c.args.width c.loop-i.rest _ (omega arith) c.requires.fits (c.loop-i.invariant.value w reads)
+returns-clause-value c =
+    λ w reads. constant_done w c.loop-i.nodes c.args.width c.loop-i.rest _ (omega arith) c.requires.fits
+    (c.loop-i.invariant.value w reads)

@@ -29,11 +29,14 @@ loop-node-preserved c =
       yes_value = search rules;
       value = λ w reads.
           let before = row.builds.reads w reads in
-          row.value w reads ∙ rw c.as_slice.ensures (count_step w _ c.loop-node.row c.loop-node.node-index _ _ _ (omega arith) (old.yes_value w before) (old.value w before));
+          row.value w reads
+          ∙ rw c.as_slice.ensures (count_step w _ c.loop-node.row c.loop-node.node-index _ _ _ (omega arith) (old.yes_value w before) (old.value w before));
     }
 
 pub returns-clause-value : goal.returns-clause-value
 returns-clause-value c = λ w reads.
     let few = c.in_ok-few.ensures in
     let old = c.loop-node.invariant in
-    few.value w reads ∙ rw c.as_slice-2.ensures (count_done w _ c.loop-node.row c.loop-node.node-index _ _ (omega arith) old.width (old.value w (few.builds.reads w reads)))
+    few.value w reads
+    ∙ rw c.as_slice-2.ensures
+    (count_done w _ c.loop-node.row c.loop-node.node-index _ _ (omega arith) old.width (old.value w (few.builds.reads w reads)))

@@ -12,5 +12,6 @@ invariant-loop-node l = record {
   yes_within : l.yes.0 < size l.terms;
   width : length l.row ≡ l.k + 1;
   yes_value : (w : Reading) → Reads w l.terms → at w l.yes ≡ true;
-  value : (w : Reading) → Reads w l.terms → bits w l.row ≡ tally 0 (l.k + 1) (count_by (at w) (take l.node-index l.bits));
+  value : (w : Reading) → Reads w l.terms
+      → bits w l.row ≡ tally 0 (l.k + 1) (count_by (at w) (take l.node-index l.bits));
 }

@@ -28,4 +28,5 @@ returns-clause-within c =
 pub returns-clause-value : goal.returns-clause-value
 returns-clause-value c = λ w reads.
     let e = Puts-next_var _ _ _ c.self.invariant c.in_ok-put.ensures.puts in
-    Reads-last w _ _ c.len-number.result (Var c.self.inside.vars) e c.len-number.ensures.len reads ∙ ap (λ s. w.variable s.vars) c.self.view_is
+    Reads-last w _ _ c.len-number.result (Var c.self.inside.vars) e c.len-number.ensures.len reads
+    ∙ ap (λ s. w.variable s.vars) c.self.view_is

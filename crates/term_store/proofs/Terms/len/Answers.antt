@@ -6,4 +6,5 @@ use Rattle.term_store.proofs.EqualNodes.{same, itself}
 use Rattle.term_store.proofs.Terms.len.Goals as goal
 
 pub returns-clause-once : goal.returns-clause-once
-returns-clause-once c = subst StandsOnce (ap (λ s. s.nodes) c.self.view_is) (one_index eq-value.it same itself _ c.len.ensures.unique)
+returns-clause-once c =
+    subst StandsOnce (ap (λ s. s.nodes) c.self.view_is) (one_index eq-value.it same itself _ c.len.ensures.unique)

@@ -1,0 +1,96 @@
+-- What the words of a line said, looked up by tags.
+use Rattle.std.specs.Prelude.{ℕ, ◌==◌, ◌||◌, Bool, List, fold, max, min, nat_lt, if◌then◌else◌}
+use Rattle.std.specs.List.{list_any}
+use Rattle.mw_text.specs.declared.address.Addr.{Addr}
+use Rattle.ios_policy_reader.specs.declared.said.Tag.{Tag}
+use Rattle.ios_policy_reader.specs.declared.said.Tag.TheVariants.{Plain, Action, Name, Number as NumberTag, Sequence, Prefix as PrefixTag, Low, High, Protocol, Source, SourceWild, SourceTest, SourcePort, SourceTop, Target, TargetWild, TargetTest, TargetPort, TargetTop, Community}
+use Rattle.ios_policy_reader.specs.declared.said.Value.{Value}
+use Rattle.ios_policy_reader.specs.declared.said.Value.TheVariants.{Nothing, Number, Address, Length, Prefix, Pattern, Word}
+use Rattle.ios_policy_reader.specs.declared.said.Said.{Said}
+
+-- the place of a tag among the tags
+abbrev pub tag_number : Tag → ℕ
+tag_number Plain = 0
+tag_number Action = 1
+tag_number Name = 2
+tag_number NumberTag = 3
+tag_number Sequence = 4
+tag_number PrefixTag = 5
+tag_number Low = 6
+tag_number High = 7
+tag_number Protocol = 8
+tag_number Source = 9
+tag_number SourceWild = 10
+tag_number SourceTest = 11
+tag_number SourcePort = 12
+tag_number SourceTop = 13
+tag_number Target = 14
+tag_number TargetWild = 15
+tag_number TargetTest = 16
+tag_number TargetPort = 17
+tag_number TargetTop = 18
+tag_number Community = 19
+
+abbrev pub number_in : ℕ → Value → ℕ
+number_in otherwise Nothing = otherwise
+number_in otherwise (Number n) = n
+number_in otherwise (Address a) = otherwise
+number_in otherwise (Length n) = otherwise
+number_in otherwise (Prefix p) = otherwise
+number_in otherwise (Pattern p) = otherwise
+number_in otherwise (Word at) = otherwise
+
+abbrev pub number_more : Tag → ℕ → Said → ℕ
+number_more tag n s = if tag_number s.tag == tag_number tag then number_in n s.value else n
+
+-- the number that was said last under a tag
+abbrev pub number_under : Tag → List Said → ℕ → ℕ
+number_under tag said otherwise = fold (number_more tag) otherwise said
+
+abbrev pub length_in : ℕ → Value → ℕ
+length_in otherwise Nothing = otherwise
+length_in otherwise (Number n) = otherwise
+length_in otherwise (Address a) = otherwise
+length_in otherwise (Length n) = otherwise
+length_in otherwise (Prefix p) = p.len
+length_in otherwise (Pattern p) = otherwise
+length_in otherwise (Word at) = otherwise
+
+abbrev pub length_more : ℕ → Said → ℕ
+length_more n s = length_in n s.value
+
+-- the length of the prefix that was said last
+abbrev pub length_said : List Said → ℕ
+length_said said = fold length_more 0 said
+
+-- the least length that may be said next in a prefix-list entry, at most 32
+abbrev pub least_length : List Said → ℕ
+least_length said = min (max (length_said said) (number_under Low said 0)) 32
+
+-- the protocol that was said is TCP or UDP
+abbrev pub has_ports : List Said → Bool
+has_ports said = (number_under Protocol said 0 == 6) || (number_under Protocol said 0 == 17)
+
+abbrev pub address_in : Addr → Value → Addr
+address_in otherwise Nothing = otherwise
+address_in otherwise (Number n) = otherwise
+address_in otherwise (Address a) = a
+address_in otherwise (Length n) = otherwise
+address_in otherwise (Prefix p) = otherwise
+address_in otherwise (Pattern p) = otherwise
+address_in otherwise (Word at) = otherwise
+
+abbrev pub address_more : Addr → Said → Addr
+address_more a s = address_in a s.value
+
+-- the address that was said last, or 0.0.0.0
+abbrev pub address_said : List Said → Addr
+address_said said = fold address_more (record { 0 = 0 }) said
+
+-- class A, B or C: the first three bits are not all 1
+abbrev pub has_class : Addr → Bool
+has_class a = nat_lt a.0 3758096384
+
+-- something was said under the tag
+abbrev pub has_said : Tag → List Said → Bool
+has_said tag said = list_any (λ s. tag_number s.tag == tag_number tag) said

@@ -1,0 +1,203 @@
+//! The grammar of a line as edges between states: what a word leads to.
+
+ghost use Rattle.std.specs.Prelude.{◌≡◌, ◌==◌, ℕ, ◌<◌, ◌^◌, ◌&&◌, length, Option, Some, None, if◌then◌else◌, option_map};
+ghost use Rattle.std.specs.List.{list_any};
+ghost use Rattle.ios_policy_reader.specs.Edges.{said_by, said_back, prefix_by, nothing_where, word_where, ends, ends_by, leaves, way_of, may_end};
+ghost use Rattle.ios_policy_reader.specs.Said.{address_said};
+
+use crate::masks::{prefix_of_address, read_mask};
+use crate::names::{is_any_name, is_interface_name, is_name_of_list, is_router_name};
+use crate::patterns::read_pattern;
+use crate::said::{
+    Said, Tag, Value, is_classful, is_said, last_address, least_length_said, number_said,
+    ports_said,
+};
+use crate::words::{is_table_word, read_community, read_port, read_port_from, read_range};
+use mw_text::{read_addr, read_prefix};
+
+/// What a word has to be. Keywords stand in lower case and are filled up with blanks.
+#[derive(Clone, Copy, Debug)]
+pub enum Takes {
+    /// No word: the line may end.
+    End,
+    /// No word: the line may end where the address said last is of a class, A, B or C.
+    EndClassful,
+    /// This word, in any case.
+    Key([u8; 16]),
+    /// This word, in any case, which stands for a number.
+    Named([u8; 16], u32),
+    Any,
+    /// A number, from the first to the second.
+    Range(u32, u32),
+    /// 1 to 64 printable bytes.
+    AnyName,
+    /// A name that is not all digits.
+    ListName,
+    /// 1 to 64 letters, digits, `-`, `_` and `.`.
+    RouterName,
+    Interface,
+    AnyAddress,
+    /// A mask of at least this length.
+    Mask(u8),
+    /// A mask that the address said last lies under: no bits of it stand past the mask's.
+    MaskOver,
+    /// An address, a slash and a length.
+    AnyPrefix,
+    AnyCommunity,
+    AnyPattern,
+    /// This word, where nothing was said under the tag.
+    Once([u8; 16], Tag),
+    /// A port by its number or its name.
+    AnyPort,
+    /// This word, which stands for a number, where the protocol that was said has ports.
+    PortKey([u8; 16], u32),
+    /// A port that is not below the one that was said under the tag.
+    PortFrom(Tag),
+    /// A length that is not below the lengths that were said.
+    LengthFrom,
+}
+
+/// From the first state a word of this kind leads to the last state. What the word says stands under the tag.
+#[derive(Clone, Copy, Debug)]
+pub struct Edge(pub u8, pub Takes, pub Tag, pub u8);
+
+/// Where a word leads, and what it said.
+#[derive(Clone, Copy)]
+pub struct Way {
+    pub said: Said,
+    pub to: u8,
+}
+
+fn nothing_if(taken: bool) -> Option<Value>
+    ensures { result ≡ nothing_where taken }
+{
+    if taken { Some(Value::Nothing) } else { None }
+}
+
+fn word_if(taken: bool, at: u32) -> Option<Value>
+    ensures { result ≡ word_where at taken }
+{
+    if taken { Some(Value::Word(at)) } else { None }
+}
+
+/// What a mask says of the address said last.
+fn say_prefix(said: &[Said], word: &[u8]) -> Option<Value>
+    ensures { result ≡ prefix_by (address_said said.now) word.now }
+{
+    let len = read_mask(word, 0)?;
+    let prefix = prefix_of_address(last_address(said), len)?;
+    Some(Value::Prefix(prefix))
+}
+
+/// What a word says that looks back at what was said.
+#[tactic(auto, unfolding(crate::specs::Edges::said_back))]
+fn say_back(takes: Takes, said: &[Said], word: &[u8]) -> Option<Value>
+    ensures { result ≡ said_back takes said.now word.now }
+{
+    match takes {
+        Takes::MaskOver => say_prefix(said, word),
+        Takes::Once(key, tag) => nothing_if(is_table_word(word, &key) && !is_said(tag, said)),
+        Takes::PortKey(key, number) => {
+            if is_table_word(word, &key) && ports_said(said) {
+                Some(Value::Number(number))
+            } else {
+                None
+            }
+        }
+        Takes::PortFrom(tag) => {
+            let low = number_said(tag, said, 0).min(65_535);
+            Some(Value::Number(read_port_from(word, low)?))
+        }
+        Takes::LengthFrom => {
+            let low = least_length_said(said);
+            Some(Value::Number(read_range(word, low, 32)?))
+        }
+        _ => None,
+    }
+}
+
+/// What a word says where a word of this kind is to stand, after what was said. None where it is of another kind.
+#[tactic(auto, unfolding(crate::specs::Edges::said_by))]
+fn say(takes: Takes, said: &[Said], at: u32, word: &[u8]) -> Option<Value>
+    ensures { result ≡ said_by takes said.now at word.now }
+{
+    match takes {
+        Takes::End | Takes::EndClassful => None,
+        Takes::Key(key) => nothing_if(is_table_word(word, &key)),
+        Takes::Named(key, number) => {
+            if is_table_word(word, &key) {
+                Some(Value::Number(number))
+            } else {
+                None
+            }
+        }
+        Takes::Any => Some(Value::Word(at)),
+        Takes::Range(low, high) => Some(Value::Number(read_range(word, low, high)?)),
+        Takes::AnyName => word_if(is_any_name(word), at),
+        Takes::ListName => word_if(is_name_of_list(word), at),
+        Takes::RouterName => word_if(is_router_name(word), at),
+        Takes::Interface => word_if(is_interface_name(word), at),
+        Takes::AnyAddress => Some(Value::Address(read_addr(word)?)),
+        Takes::AnyPrefix => Some(Value::Prefix(read_prefix(word)?)),
+        Takes::AnyCommunity => Some(Value::Number(read_community(word)?)),
+        Takes::Mask(least) => Some(Value::Length(read_mask(word, least)?)),
+        Takes::AnyPort => Some(Value::Number(read_port(word)?)),
+        Takes::AnyPattern => Some(Value::Pattern(read_pattern(word)?)),
+        Takes::MaskOver
+        | Takes::Once(_, _)
+        | Takes::PortKey(_, _)
+        | Takes::PortFrom(_)
+        | Takes::LengthFrom => say_back(takes, said, word),
+    }
+}
+
+/// Whether an edge of this kind lets the line end, after what was said.
+fn is_end(takes: Takes, said: &[Said]) -> bool
+    ensures { result ≡ ends takes said.now }
+{
+    match takes {
+        Takes::End => true,
+        Takes::EndClassful => is_classful(last_address(said)),
+        _ => false,
+    }
+}
+
+/// The way along an edge, where it leaves the state and takes the word.
+fn way_along(edge: Edge, from: u8, said: &[Said], at: u32, word: &[u8]) -> Option<Way>
+    ensures { result ≡ leaves from said.now at word.now edge }
+{
+    if edge.0 != from {
+        return None;
+    }
+    let value = say(edge.1, said, at, word)?;
+    Some(Way {
+        said: Said { tag: edge.2, value },
+        to: edge.3,
+    })
+}
+
+/// The way along the first edge that leaves the state and takes the word.
+pub fn find_way(edges: &[Edge], from: u8, said: &[Said], at: u32, word: &[u8]) -> Option<Way>
+    ensures { result ≡ way_of from said.now at word.now edges.now }
+{
+    for edge in edges {
+        if let Some(way) = way_along(*edge, from, said, at, word) {
+            return Some(way);
+        }
+    }
+    None
+}
+
+/// Whether the line may end along the edge.
+fn ends_along(edge: Edge, from: u8, said: &[Said]) -> bool
+    ensures { result ≡ ends_by from said.now edge }
+{
+    edge.0 == from && is_end(edge.1, said)
+}
+
+/// Whether the line may end in the state, after what was said.
+pub fn can_end(edges: &[Edge], from: u8, said: &[Said]) -> bool
+    ensures { result ≡ may_end edges.now from said.now }
+{
+    edges.iter().any(|edge| ends_along(*edge, from, said))
+}

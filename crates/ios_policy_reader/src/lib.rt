@@ -1,0 +1,18 @@
+//! The reader of lists and route maps, and the grammar of configuration lines.
+#![tactic(auto)]
+
+pub mod cause;
+pub mod edges;
+pub mod laws;
+pub mod masks;
+pub mod names;
+pub mod patterns;
+pub mod said;
+pub mod tables;
+pub mod tail;
+pub mod words;
+
+pub use cause::{Cause, Refused};
+pub use edges::{Edge, Takes};
+pub use said::{Said, Tag, Value};
+pub use tail::read_tail;

@@ -1,0 +1,156 @@
+//! What the words of a line said.
+
+ghost use Rattle.std.specs.Prelude.{◌≡◌, ◌==◌};
+ghost use Rattle.ios_policy_reader.specs.Said.{tag_number, number_in, number_more, number_under, length_in, length_more, length_said, least_length, has_ports, address_in, address_more, address_said, has_class, has_said};
+
+use ios_ast::Pattern;
+use mw_text::{Addr, Prefix};
+
+/// As what a word of a line said something.
+#[derive(Clone, Copy, Debug)]
+pub enum Tag {
+    /// Nothing that is looked up.
+    Plain,
+    Action,
+    Name,
+    Number,
+    Sequence,
+    Prefix,
+    /// The least and the greatest length of a prefix-list entry.
+    Low,
+    High,
+    Protocol,
+    /// An end of packets: its address, its wildcard, and the test of its port with one or two ports.
+    Source,
+    SourceWild,
+    SourceTest,
+    SourcePort,
+    SourceTop,
+    Target,
+    TargetWild,
+    TargetTest,
+    TargetPort,
+    TargetTop,
+    Community,
+}
+
+/// What a word says.
+#[derive(Clone, Copy)]
+pub enum Value {
+    Nothing,
+    Number(u32),
+    Address(Addr),
+    Length(u8),
+    Prefix(Prefix),
+    Pattern(Pattern),
+    /// The word itself, by its place in the line, counted from 0.
+    Word(u32),
+}
+
+/// What a word of a line said, and as what.
+#[derive(Clone, Copy)]
+pub struct Said {
+    pub tag: Tag,
+    pub value: Value,
+}
+
+fn is_under(tag: Tag, said: Said) -> bool
+    ensures { result ≡ (tag_number said.tag == tag_number tag) }
+{
+    said.tag as u8 == tag as u8
+}
+
+/// The number that this is, if it is one.
+fn number_of_value(value: Value, otherwise: u32) -> u32
+    ensures { result ≡ number_in otherwise value }
+{
+    match value {
+        Value::Number(number) => number,
+        _ => otherwise,
+    }
+}
+
+/// The number that was said last under a tag.
+pub fn number_said(tag: Tag, said: &[Said], otherwise: u32) -> u32
+    ensures { result ≡ number_under tag said.now otherwise }
+{
+    let mut number = otherwise;
+    for one in said {
+        if is_under(tag, *one) {
+            number = number_of_value(one.value, number);
+        }
+    }
+    number
+}
+
+/// The length of the prefix that this is, if it is one.
+fn length_of_value(value: Value, otherwise: u8) -> u8
+    ensures { result ≡ length_in otherwise value }
+{
+    match value {
+        Value::Prefix(prefix) => prefix.len,
+        _ => otherwise,
+    }
+}
+
+/// The length of the prefix that was said last.
+fn prefix_length(said: &[Said]) -> u8
+    ensures { result ≡ length_said said.now }
+{
+    let mut length = 0;
+    for one in said {
+        length = length_of_value(one.value, length);
+    }
+    length
+}
+
+/// The least length that may be said next in a prefix-list entry: that of the prefix, or the least one said.
+pub fn least_length_said(said: &[Said]) -> u32
+    ensures { result ≡ least_length said.now }
+{
+    let low = number_said(Tag::Low, said, 0);
+    u32::from(prefix_length(said)).max(low).min(32)
+}
+
+/// Whether the protocol that was said has ports: TCP or UDP.
+pub fn ports_said(said: &[Said]) -> bool
+    ensures { result ≡ has_ports said.now }
+{
+    let protocol = number_said(Tag::Protocol, said, 0);
+    protocol == 6 || protocol == 17
+}
+
+/// The address that this is, if it is one.
+fn address_of_value(value: Value, otherwise: Addr) -> Addr
+    ensures { result ≡ address_in otherwise value }
+{
+    match value {
+        Value::Address(address) => address,
+        _ => otherwise,
+    }
+}
+
+/// The address that was said last, or 0.0.0.0.
+pub fn last_address(said: &[Said]) -> Addr
+    ensures { result ≡ address_said said.now }
+{
+    let mut address = Addr(0);
+    for one in said {
+        address = address_of_value(one.value, address);
+    }
+    address
+}
+
+/// Whether the address is of class A, B or C.
+pub fn is_classful(address: Addr) -> bool
+    ensures { result ≡ has_class address }
+{
+    address.0 < 0xe000_0000
+}
+
+/// Whether something was said under the tag.
+pub fn is_said(tag: Tag, said: &[Said]) -> bool
+    ensures { result ≡ has_said tag said.now }
+{
+    said.iter().any(|one| is_under(tag, *one))
+}
