@@ -1,11 +1,9 @@
 use Rattle.resolution_check.specs.Clauses.{is_below}
-use Rattle.std.proofs.Common.{◌≡◌, ◌∙◌, List, ap, sym, subst}
+use Rattle.std.proofs.Common.{◌∙◌, ap, sym, subst}
 use Rattle.std.specs.List.{list_all}
 use Rattle.resolution_check.specs.declared.log.Clause.{Clause}
 use Rattle.cdcl_search.specs.Trails.{Follows}
-use Rattle.resolution_check.specs.Text.{log_text}
-use Rattle.mw_outside.specs.Taken.{Takes, TakesPart, part_of_all}
-use Rattle.cdcl_search.specs.Outcomes.{input_entries}
+use Rattle.mw_outside.specs.Taken.{part_of_all}
 use Rattle.cdcl_search.specs.Going.{IsGoing}
 use Rattle.cdcl_search.proofs.Trails.{follows_none}
 use Rattle.cdcl_search.proofs.Logs.{small_inputs, going_start, cut_first, unsat_shown}
