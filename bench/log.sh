@@ -1,8 +1,8 @@
 #!/bin/sh
 # Times the checker on logs of additions with chains of ten, of which some stay held: on entries, and on lines of text;
 # and on additions with chains of two after one of a wide clause. Proves and builds the program bench/log/main.rt.in in
-# a temporary folder, and prints for each
-# run the additions, how many are held at most, the seconds, and the peak of memory. Needs rt and GNU time.
+# a temporary folder, and prints for each run the additions, how many are held at most, the seconds, and the peak of
+# memory. Needs rt and GNU time.
 set -e
 top=$(cd "$(dirname "$0")/.." && pwd)
 work=$(mktemp -d)
