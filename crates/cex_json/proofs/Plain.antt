@@ -7,7 +7,6 @@ use Rattle.std.specs.declared.cmp.Ordering.{Ordering}
 use Rattle.std.specs.declared.cmp.Ordering.TheVariants.{Less, Equal, Greater}
 use Rattle.std.specs.Cmp.Lexicographic.{slice_cmp}
 use Rattle.mw_text.specs.declared.address.Addr.{Addr}
-use Rattle.mw_text.specs.declared.address.Prefix.{Prefix}
 use Rattle.ios_ast.specs.declared.file.File.{File}
 use Rattle.route_record.specs.declared.Announcement.{Announcement}
 use Rattle.route_record.specs.declared.BgpRec.{BgpRec}
@@ -51,6 +50,7 @@ put_plain name value (member other held rest) plain others =
   where
     held_plain : has_float held ≡ false
     held_plain = first (has_float held) (members_have_float rest) others
+
     by_order : (o : Ordering) → members_have_float rest ≡ false → members_have_float (put name value rest) ≡ false → members_have_float
         (match_ordering o (member name value (member other held rest)) (member other value rest) (member other held (put name value rest))) ≡ false
     by_order Less rest_plain deeper = neither (has_float value) (has_float held || members_have_float rest) plain others
@@ -102,16 +102,19 @@ bgp_plain : (held : BgpRec) → has_float (bgp_data held) ≡ false
 unfolding bgp_data first_of_bgp
 bgp_plain held =
     let first_half = fields_plain no_members (first_bgp_fields held) refl (
-    all_plain addr_data (λ a. refl) held.clusters, (all_plain number_of (λ n. refl) held.communities, (refl, (refl, (refl, tt))))
+      all_plain addr_data (λ a. refl) held.clusters,
+      (all_plain number_of (λ n. refl) held.communities, (refl, (refl, (refl, tt)))),
     ) in
     fields_plain (first_of_bgp held) (last_bgp_fields held) first_half (
-    refl, (refl, (option_plain addr_data (λ a. refl) held.originator, (all_plain number_of (λ n. refl) held.path, (refl, tt))))
+      refl,
+      (refl, (option_plain addr_data (λ a. refl) held.originator, (all_plain number_of (λ n. refl) held.path, (refl, tt)))),
     )
 
 parts_plain : (files : List File) (place : ℕ) (slot : Slot) → has_float (parts_data files place slot) ≡ false
 unfolding parts_data
 parts_plain files place slot = fields_plain no_members (parts_fields files place slot) refl (
-  option_plain bgp_data bgp_plain slot.bgp, (refl, (option_plain ospf_data ospf_plain slot.ospf, (option_plain rib_data rib_plain slot.rib, (refl, tt))))
+  option_plain bgp_data bgp_plain slot.bgp,
+  (refl, (option_plain ospf_data ospf_plain slot.ospf, (option_plain rib_data rib_plain slot.rib, (refl, tt)))),
 )
 
 one_plain : (b : Bool) (value : Data) (rest : List Data) → has_float value ≡ false → items_have_float (items_of rest) ≡ false →
@@ -150,7 +153,8 @@ peers_plain files ids at (end ∷ rest) = by_id (slice_get ids at) (peers_plain 
 announcement_plain : (files : List File) (announcement : Announcement) → has_float (announcement_data files announcement) ≡ false
 unfolding announcement_data
 announcement_plain files announcement = fields_plain no_members (announcement_fields files announcement) refl (
-  refl, (all_plain number_of (λ n. refl) announcement.communities, (refl, (refl, (refl, (all_plain number_of (λ n. refl) announcement.path, (refl, tt))))))
+  refl,
+  (all_plain number_of (λ n. refl) announcement.communities, (refl, (refl, (refl, (all_plain number_of (λ n. refl) announcement.path, (refl, tt)))))),
 )
 
 -- a counterexample
@@ -158,12 +162,18 @@ pub cex_plain : (files : List File) (questions : List Question) (cex : Counterex
 unfolding cex_data surroundings_of
 cex_plain files questions cex =
     let world = fields_plain no_members (world_fields files cex) refl (
-    all_plain (announcement_data files) (announcement_plain files) cex.env.announced, (
-    all_plain (link_data (links_of files)) (λ at. refl) cex.failures.links, (
-    refl, (packet_plain cex.packet, (peers_plain files cex.env.ids 0 (external_ends files), tt))))
+      all_plain (announcement_data files) (announcement_plain files) cex.env.announced,
+      (
+        all_plain (link_data (links_of files)) (λ at. refl) cex.failures.links,
+        (
+          refl,
+          (packet_plain cex.packet, (peers_plain files cex.env.ids 0 (external_ends files), tt)),
+        ),
+      ),
     ) in
     fields_plain (surroundings_of files cex) (shown_fields files questions cex) world (
-    refl, (slots_plain files 0 cex.tables.slots, (option_plain (walk_data files) (walk_plain files) cex.walk, tt))
+      refl,
+      (slots_plain files 0 cex.tables.slots, (option_plain (walk_data files) (walk_plain files) cex.walk, tt)),
     )
 
 -- tables

@@ -5,7 +5,6 @@ use Rattle.mw_text.specs.declared.address.Addr.{Addr}
 use Rattle.mw_text.specs.declared.address.Prefix.{Prefix}
 use Rattle.ios_ast.specs.declared.file.File.{File}
 use Rattle.route_record.specs.declared.Announcement.{Announcement}
-use Rattle.route_record.specs.declared.Environment.{Environment}
 use Rattle.net_model.specs.declared.sessions.SessionEnd.{SessionEnd}
 use Rattle.net_model.specs.Sessions.{ends_of, external_ends, neighbour_of}
 use Rattle.net_model.specs.World.{links_of}

@@ -53,7 +53,11 @@ fn walk_part(
 }
 
 #[tactic(auto, unfolding(crate::specs::Text::surroundings_of))]
-fn surroundings_of(alloc: Global, net: &Net, cex: &Counterexample) -> Result<Map<String, Value>, AllocError>
+fn surroundings_of(
+    alloc: Global,
+    net: &Net,
+    cex: &Counterexample,
+) -> Result<Map<String, Value>, AllocError>
     ensures { IfOk result (λ fields. members_view fields.entries ≡ text.surroundings_of net.now cex.now) }
 {
     let announcements = announcement_values(alloc, net, cex.env.announced.as_slice())?;
@@ -61,7 +65,12 @@ fn surroundings_of(alloc: Global, net: &Net, cex: &Counterexample) -> Result<Map
     let packet = packet_value(alloc, &cex.packet)?;
     let peers = peer_values(alloc, net, cex.env.ids.as_slice())?;
     let mut fields = Map::new(alloc);
-    put(&mut fields, alloc, "announcements", Value::Array(announcements))?;
+    put(
+        &mut fields,
+        alloc,
+        "announcements",
+        Value::Array(announcements),
+    )?;
     put(&mut fields, alloc, "failures", Value::Array(failures))?;
     put(&mut fields, alloc, "format", Value::from(1u8))?;
     put(&mut fields, alloc, "packet", packet)?;

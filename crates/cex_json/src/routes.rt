@@ -108,7 +108,12 @@ fn first_of_bgp(alloc: Global, held: &BgpRec) -> Result<Map<String, Value>, Allo
     put(&mut fields, alloc, "clusters", Value::Array(clusters))?;
     put(&mut fields, alloc, "communities", Value::Array(communities))?;
     put(&mut fields, alloc, "from", from)?;
-    put(&mut fields, alloc, "localpref", Value::from(held.local_pref))?;
+    put(
+        &mut fields,
+        alloc,
+        "localpref",
+        Value::from(held.local_pref),
+    )?;
     put(&mut fields, alloc, "med", Value::from(held.med))?;
     Ok(fields)
 }

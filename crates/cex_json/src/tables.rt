@@ -66,12 +66,7 @@ fn has_part(slot: &Slot) -> bool
 }
 
 #[tactic(auto, unfolding(crate::specs::Parts::parts_data))]
-fn slot_value(
-    alloc: Global,
-    files: &[File],
-    place: usize,
-    slot: &Slot,
-) -> Result<Value, AllocError>
+fn slot_value(alloc: Global, files: &[File], place: usize, slot: &Slot) -> Result<Value, AllocError>
     ensures { IfOk result (λ value. view value ≡ parts.parts_data files.now place slot.now) }
 {
     let router = text_value(alloc, router_name(files, place / LENGTHS))?;

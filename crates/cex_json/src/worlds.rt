@@ -75,7 +75,12 @@ fn peer_string(alloc: Global, files: &[File], end: &SessionEnd) -> Result<String
 }
 
 #[tactic(auto, unfolding(crate::specs::Worlds::peer_data))]
-fn peer_value(alloc: Global, files: &[File], end: &SessionEnd, id: Addr) -> Result<Value, AllocError>
+fn peer_value(
+    alloc: Global,
+    files: &[File],
+    end: &SessionEnd,
+    id: Addr,
+) -> Result<Value, AllocError>
     ensures { IfOk result (λ value. view value ≡ worlds.peer_data files.now end.now id) }
 {
     let address = peer_string(alloc, files, end)?;
@@ -93,11 +98,21 @@ fn is_outside(end: &SessionEnd) -> bool
 fn external_ends(alloc: Global, net: &Net) -> Result<Vec<SessionEnd>, AllocError>
     ensures { IfOk result (λ ends. ends.items ≡ sessions.external_ends net.now) }
 {
-    net.ends().iter().copied().filter(|end| is_outside(end)).collect(alloc)
+    net.ends()
+        .iter()
+        .copied()
+        .filter(|end| is_outside(end))
+        .collect(alloc)
 }
 
 // The value of a peer, where there is an identifier at its place.
-fn peer_at(alloc: Global, files: &[File], end: &SessionEnd, ids: &[Addr], at: usize) -> Result<Option<Value>, AllocError>
+fn peer_at(
+    alloc: Global,
+    files: &[File],
+    end: &SessionEnd,
+    ids: &[Addr],
+    at: usize,
+) -> Result<Option<Value>, AllocError>
     ensures { IfOk result (λ value. option_map view value ≡ option_map (worlds.peer_data files.now end.now) (slice_get ids.now at)) }
 {
     match ids.get(at) {
@@ -106,7 +121,12 @@ fn peer_at(alloc: Global, files: &[File], end: &SessionEnd, ids: &[Addr], at: us
     }
 }
 
-fn peers_of(alloc: Global, files: &[File], ends: &[SessionEnd], ids: &[Addr]) -> Result<Vec<Value>, AllocError>
+fn peers_of(
+    alloc: Global,
+    files: &[File],
+    ends: &[SessionEnd],
+    ids: &[Addr],
+) -> Result<Vec<Value>, AllocError>
     ensures { IfOk result (λ values. map view values.items ≡ worlds.peers_from files.now ids.now 0 ends.now) }
 {
     let mut values = Vec::new(alloc);
@@ -145,7 +165,11 @@ fn end_router(net: &Net, at: u32) -> &[u8]
 }
 
 #[tactic(auto, unfolding(crate::specs::Worlds::announcement_data))]
-fn announcement_value(alloc: Global, net: &Net, announcement: &Announcement) -> Result<Value, AllocError>
+fn announcement_value(
+    alloc: Global,
+    net: &Net,
+    announcement: &Announcement,
+) -> Result<Value, AllocError>
     ensures { IfOk result (λ value. view value ≡ worlds.announcement_data net.now announcement.now) }
 {
     let address = end_address(alloc, net, announcement.end)?;
@@ -165,7 +189,11 @@ fn announcement_value(alloc: Global, net: &Net, announcement: &Announcement) -> 
 }
 
 /// All announcements.
-pub fn announcement_values(alloc: Global, net: &Net, announced: &[Announcement]) -> Result<Vec<Value>, AllocError>
+pub fn announcement_values(
+    alloc: Global,
+    net: &Net,
+    announced: &[Announcement],
+) -> Result<Vec<Value>, AllocError>
     ensures { IfOk result (λ values. map view values.items ≡ map (worlds.announcement_data net.now) announced.now) }
 {
     let mut values = Vec::new(alloc);

@@ -1,11 +1,5 @@
 //! A search over clauses that are written as numbers.
 
-ghost use Rattle.std.specs.Prelude.{◌≡◌, not, nat_lt, true};
-ghost use Rattle.std.specs.List.{list_all};
-ghost use Rattle.resolution_check.specs.Earned.{has_var, vars_differ};
-ghost use Rattle.resolution_check.specs.Entries.{is_empty};
-ghost use Rattle.cnf_blaster.specs.Proper.{IsProper};
-
 use cdcl_search::{Outcome, SolveFault, solve};
 use cnf_blaster::Cnf;
 use mw_outside::TestSink;
@@ -47,65 +41,6 @@ pub fn cnf_of(alloc: Global, vars: u64, clauses: &[&[i64]]) -> Result<Cnf, Alloc
     })
 }
 
-/// Whether a literal of this variable is among these.
-fn uses(lits: &[Lit], var: u64) -> bool
-    ensures { result ≡ has_var lits.now var }
-{
-    lits.iter().any(|lit| lit.var == var)
-}
-
-/// Whether no variable stands twice among these literals.
-fn are_distinct(lits: &[Lit]) -> bool
-    ensures { result ≡ vars_differ lits.now }
-{
-    match lits {
-        [] => true,
-        [first, rest @ ..] => !uses(rest, first.var) && are_distinct(rest),
-    }
-}
-
-/// Whether all variables of these literals are below `vars`.
-fn are_below(lits: &[Lit], vars: u64) -> bool
-    ensures { result ≡ list_all (λ l. nat_lt l.var vars) lits.now }
-{
-    lits.iter().all(|lit| lit.var < vars)
-}
-
-/// Whether no clause is empty.
-fn all_filled(clauses: &[Clause]) -> bool
-    ensures { result ≡ list_all (λ c. not (is_empty c.lits)) clauses.now }
-{
-    clauses
-        .iter()
-        .all(|clause| !clause.lits.as_slice().is_empty())
-}
-
-/// Whether no clause has a variable twice.
-fn all_distinct(clauses: &[Clause]) -> bool
-    ensures { result ≡ list_all (λ c. vars_differ c.lits) clauses.now }
-{
-    clauses
-        .iter()
-        .all(|clause| are_distinct(clause.lits.as_slice()))
-}
-
-/// Whether all variables of the clauses are below `vars`.
-fn all_below(clauses: &[Clause], vars: u64) -> bool
-    ensures { result ≡ list_all (λ c. list_all (λ l. nat_lt l.var vars) c.lits) clauses.now }
-{
-    clauses
-        .iter()
-        .all(|clause| are_below(clause.lits.as_slice(), vars))
-}
-
-/// Whether no clause is empty, none has a variable twice, and each variable is one of the formula's.
-pub fn is_proper(cnf: &Cnf) -> bool
-    ensures { result ≡ true → IsProper cnf.now }
-{
-    let clauses = cnf.clauses.as_slice();
-    all_filled(clauses) && all_distinct(clauses) && all_below(clauses, cnf.vars)
-}
-
 /// How a search ended, and what it logged.
 #[derive(Debug, Drop)]
 pub struct Searched {
@@ -141,7 +76,7 @@ pub fn search(
     if budget == 0 || budget > MOST || count > MOST - budget {
         return Err(NotSearched::BadBudget);
     }
-    if cnf.vars > MOST || !is_proper(cnf) {
+    if cnf.vars > MOST || !cnf.is_proper(alloc)? {
         return Err(NotSearched::BadClauses);
     }
     let failing = List {

@@ -2,5 +2,6 @@
 #![tactic(auto)]
 
 mod networks;
+mod outputs;
 mod refusals;
 mod running;

@@ -50,11 +50,25 @@ pub fn run_over(
     words: &[&str],
     fail: &[u64],
 ) -> Result<Ran, AllocError> {
+    run_with(alloc, files, words, fail, &[])
+}
+
+/// The same, over an output of whose writes those of these numbers fail.
+pub fn run_with(
+    alloc: Global,
+    files: &[(&str, &[u8])],
+    words: &[&str],
+    fail: &[u64],
+    fail_writes: &[u64],
+) -> Result<Ran, AllocError> {
     let failing = List {
         items: Vec::from_slice(alloc, fail)?,
     };
+    let failing_writes = List {
+        items: Vec::from_slice(alloc, fail_writes)?,
+    };
     let mut files = TestFiles::new(alloc, files_of(alloc, files)?, failing);
-    let mut out = TestSink::new(alloc, 100_000, List::new(alloc))?;
+    let mut out = TestSink::new(alloc, 100_000, failing_writes)?;
     let words = words_of(alloc, words)?;
     let status = run(
         alloc,

@@ -73,9 +73,9 @@ stand-more : (files : List File) (all : List Question) (budget number : ℕ) (xs
 stand-more files all budget number [] [] broken text n question verdict so_far place right may known =
     let one = one_stands files all budget number n question verdict (omega (arith, place)) right may known in
     let B : Bool → Type 0 = λ b. StandFor files all budget number (question ∷ []) (unlogged verdict ∷ []) (b || is_broken_verdict verdict)
-        (text ++ verdict_text files all question verdict) in
+    (text ++ verdict_text files all question verdict) in
     let T : List ℕ → Type 0 = λ t. StandFor files all budget number (question ∷ []) (unlogged verdict ∷ []) (is_broken_verdict verdict)
-        (t ++ verdict_text files all question verdict) in
+    (t ++ verdict_text files all question verdict) in
     subst B (sym so_far.broken_so) (subst T (sym so_far.lines) one)
 stand-more files all budget number [] (answer ∷ others) broken text n question verdict so_far place right may known = absurd so_far.right
 stand-more files all budget number (x ∷ xs) [] broken text n question verdict so_far place right may known = absurd so_far.right
@@ -105,6 +105,7 @@ stand-more files all budget number (x ∷ xs) (answer ∷ others) broken text n 
     empty_front : (xs ys : List ℕ) → xs ++ ys ≡ [] → xs ≡ []
     empty_front [] ys none = refl
     empty_front (z ∷ zs) ys none = cc
+
     empty_back : (xs ys : List ℕ) → xs ++ ys ≡ [] → ys ≡ []
     empty_back [] ys none = none
     empty_back (z ∷ zs) ys none = cc
@@ -138,7 +139,7 @@ stand_next : (files : List File) (questions : List Question) (budget i : ℕ) (q
     (text ++ verdict_text files questions q verdict)
 stand_next files questions budget i q answers broken text verdict so_far within is right may known =
     let P : List Question → Type 0 = λ qs. StandFor files questions budget 0 qs (answers ++ unlogged verdict ∷ [])
-        (broken || is_broken_verdict verdict) (text ++ verdict_text files questions q verdict) in
+    (broken || is_broken_verdict verdict) (text ++ verdict_text files questions q verdict) in
     subst P (sym (take-more questions i q within is))
     (stand-more files questions budget 0 (take i questions) answers broken text i q verdict so_far
     (length-taken questions i (omega (arith, within))) right may known)
@@ -151,7 +152,7 @@ pub put-more : (files : List File) (questions : List Question) (budget i : ℕ) 
 put-more files questions budget i q broken more line before middle now (answers, text, so_far, taken) within is (verdict, right, may, is_more, known, is_line) takes =
     let L : List ℕ → Type 0 = λ l. Takes middle now l in
     let B : Bool → Type 0 = λ b. StandFor files questions budget 0 (take (i + 1) questions) (answers ++ unlogged verdict ∷ [])
-        (broken || b) (text ++ verdict_text files questions q verdict) in (
+    (broken || b) (text ++ verdict_text files questions q verdict) in (
       answers ++ unlogged verdict ∷ [],
       text ++ verdict_text files questions q verdict,
       subst B (sym is_more) (stand_next files questions budget i q answers broken text verdict so_far within is right may known),

@@ -50,9 +50,9 @@ all-front : (p : Question → Bool) (xs : List Question) → nat_lt (prefix_len 
     list_all p xs ≡ true
 all-front p [] h = refl
 all-front p (x ∷ xs) h = elim (cases_Bool (p x)) [
-      inl t ↦ rw t (all-front p xs (past_end (prefix_len (λ q. not (not (p q))) xs) (length xs) (rw t at h)))
-    | inr f ↦ let none : true ≡ false = sym (lt_true 0 (length (x ∷ xs)) (omega arith)) ∙ rw f at h in cc
-    ]
+  | inl t ↦ rw t (all-front p xs (past_end (prefix_len (λ q. not (not (p q))) xs) (length xs) (rw t at h)))
+  | inr f ↦ let none : true ≡ false = sym (lt_true 0 (length (x ∷ xs)) (omega arith)) ∙ rw f at h in cc
+]
 
 found_none : (b : Bool) (n : ℕ) → cond b (Some n) None ≡ None → b ≡ false
 found_none true n h = absurd (some_none n h) where
@@ -125,11 +125,13 @@ pub true_from : (files : List File) (number : ℕ) (question : Question) (packet
 true_from files number question packet tables walk kind failures environment network is_kind inside unfailed ids announced stable breaks =
     let F : Failures → Type 0 = λ f. IsFailureSet files question.failures f in
     let S : Failures → Type 0 = λ f. Stable files packet.dst f environment tables in
-    let B : Kind → Type 0 = λ k. Breaks files (record { failures = failures; packet = packet; tables = tables }) k (Some walk) in
-    (refl, record {
-      packet = inside;
-      environment_fits = nothing_announced files network environment ids announced;
-      failures = subst F (sym unfailed) (record { ascending = refl; of_links = λ k d within. absurd (omega arith); at_most = omega arith });
-      stable = subst S (sym unfailed) (stable environment);
-      breaks = subst B (sym is_kind) breaks;
-    })
+    let B : Kind → Type 0 = λ k. Breaks files (record { failures = failures; packet = packet; tables = tables }) k (Some walk) in (
+      refl,
+      record {
+        packet = inside;
+        environment_fits = nothing_announced files network environment ids announced;
+        failures = subst F (sym unfailed) (record { ascending = refl; of_links = λ k d within. absurd (omega arith); at_most = omega arith });
+        stable = subst S (sym unfailed) (stable environment);
+        breaks = subst B (sym is_kind) breaks;
+      },
+    )

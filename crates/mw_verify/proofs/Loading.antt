@@ -167,9 +167,12 @@ pub stops-here : (told : Option Contents) (names : List (List ℕ)) (i : ℕ) (n
     TellsOnly name last → StopsAt told names last
 stops-here told names i name texts None within is read only = tt
 stops-here told names i name texts (Some other) within is read only =
-    let P : List ℕ → Type 0 = λ n. names ≡ take i names ++ n ∷ drop (i + 1) names in
-    (take i names, drop (i + 1) names, subst P (sym only) (split-at names i name within is),
-    if_told_one told _ _ read (λ contents so. (texts, so)))
+    let P : List ℕ → Type 0 = λ n. names ≡ take i names ++ n ∷ drop (i + 1) names in (
+      take i names,
+      drop (i + 1) names,
+      subst P (sym only) (split-at names i name within is),
+      if_told_one told _ _ read (λ contents so. (texts, so)),
+    )
 
 -- the same, where another file comes after all of these
 pub stops-before : (told : Option Contents) (names : List (List ℕ)) (later : List ℕ) (last : Option (List ℕ)) →

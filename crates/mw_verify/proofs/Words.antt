@@ -127,14 +127,20 @@ answered_from files questions budget status told words before now logged_before 
       × IsDue told words (answering asked qs b) × AreAnswered asked qs b s before now logged_before logged_now
   whole s all =
       let L : List ℕ → Type 0 = λ t. Takes logged_before logged_now t in
-      let T : Option (List ℕ) → Type 0 = λ o. Takes logged_before o [] in
-      (files, questions, budget, is_due, record {
-        answers = all.answers;
-        right = all.right;
-        ends = all.ends;
-        text = all.text;
-        logged = subst L (sym all.unlogged) (subst T (sym same) (takes_none logged_before));
-      })
+      let T : Option (List ℕ) → Type 0 = λ o. Takes logged_before o [] in (
+        files,
+        questions,
+        budget,
+        is_due,
+        record {
+          answers = all.answers;
+          right = all.right;
+          ends = all.ends;
+          text = all.text;
+          logged = subst L (sym all.unlogged) (subst T (sym same) (takes_none logged_before));
+        },
+      )
+
   by_status : (s : Status) → AnswersSo files questions budget s before now rose → OnAnswered s ((asked : List File) × (qs : List Question) × (b : ℕ)
       × IsDue told words (answering asked qs b) × AreAnswered asked qs b s before now logged_before logged_now)
   by_status Good all = whole Good all

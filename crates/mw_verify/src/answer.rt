@@ -48,7 +48,12 @@ fn ends_of(kind: &Kind, routers: usize) -> (u32, u32)
 }
 
 /// The right verdict for the question of that number.
-pub fn verdict_of(alloc: Global, net: &Net, number: u32, question: &Question) -> Result<Verdict, AllocError>
+pub fn verdict_of(
+    alloc: Global,
+    net: &Net,
+    number: u32,
+    question: &Question,
+) -> Result<Verdict, AllocError>
     requires reach { IsReach (length net.now) question.now }
     requires answerable { is_answerable question.now ≡ true }
     ensures { IfOk result (λ verdict. verdicts.IsRight net.now number question.now verdict

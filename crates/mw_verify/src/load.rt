@@ -181,7 +181,9 @@ fn is_reach(kind: &Kind) -> bool
 fn find_unanswerable(questions: &[Question]) -> Option<usize>
     ensures { result ≡ position (λ question. not (due.is_answerable question)) questions.now }
 {
-    questions.iter().position(|question| !is_answerable(question))
+    questions
+        .iter()
+        .position(|question| !is_answerable(question))
 }
 
 // The number of the first question that cannot be answered.

@@ -45,7 +45,13 @@ struct Line {
     text: List<u8>,
 }
 
-fn answer_line(alloc: Global, net: &Net, questions: &[Question], number: u32, question: &Question) -> Result<Line, AllocError>
+fn answer_line(
+    alloc: Global,
+    net: &Net,
+    questions: &[Question],
+    number: u32,
+    question: &Question,
+) -> Result<Line, AllocError>
     requires reach { IsReach (length net.now) question.now }
     requires answerable { is_answerable question.now ≡ true }
     ensures { IfOk result (λ line. IsLine net.now questions.now number question.now line.broken line.text) }

@@ -1,16 +1,11 @@
 -- What a network does not have, since its definition is not written yet.
-use Rattle.std.proofs.Common.{◌≡◌, ℕ, zero, suc, Bool, true, false, ◌&&◌, ◌||◌, not, List, [], ◌∷◌, Option, Some, None, refl, ap, arith, ◌∙◌, sym, subst}
+use Rattle.std.proofs.Common.{◌≡◌, ℕ, zero, suc, Bool, true, false, ◌&&◌, ◌||◌, not, List, [], ◌∷◌, Option, Some, None, refl, ◌∙◌, subst}
 use Rattle.std.specs.Prelude.{filter, fold, is_some, map, slice_get}
 use Rattle.std.specs.List.{list_all, list_any}
-use Rattle.std.proofs.lemmas.Grind.{common_steps}
 use Rattle.ios_ast.specs.declared.file.File.{File}
 use Rattle.ios_ast.specs.declared.file.Iface.{Iface}
-use Rattle.ios_ast.specs.declared.file.Use.{Use}
-use Rattle.ios_ast.specs.declared.bgp.Bgp.{Bgp}
-use Rattle.ios_ast.specs.declared.ospf.Ospf.{Ospf}
 use Rattle.mw_text.specs.declared.address.Prefix.{Prefix}
 use Rattle.net_model.specs.declared.interfaces.Addressed.{Addressed}
-use Rattle.net_model.specs.declared.sessions.SessionEnd.{SessionEnd}
 use Rattle.net_model.specs.Network.{all_pairs, fit_together, is_defined, is_filtered, is_network, is_small, names_differ, statics_connected}
 use Rattle.net_model.specs.Interfaces.{addressed}
 use Rattle.net_model.specs.Sessions.{ends_of, runs_bgp}

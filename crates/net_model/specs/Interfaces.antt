@@ -1,9 +1,7 @@
 -- The interfaces of a network that have an address, and their subnets.
-use Rattle.std.specs.Prelude.{ℕ, ◌+◌, Bool, List, [], ◌∷◌, ◌++◌, codes, map, take, Option, Some, None}
+use Rattle.std.specs.Prelude.{ℕ, ◌+◌, Bool, List, [], ◌∷◌, ◌++◌, codes, map, take}
 use Rattle.std.specs.Option.{option_map_or}
 use Rattle.std.specs.Char.{to_ascii_lowercase}
-use Rattle.mw_text.specs.declared.address.Addr.{Addr}
-use Rattle.mw_text.specs.declared.address.Prefix.{Prefix}
 use Rattle.mw_text.specs.Address.{prefix_at}
 use Rattle.mw_text.specs.Text.{same_text}
 use Rattle.ios_ast.specs.declared.file.File.{File}

@@ -1,7 +1,6 @@
 -- Ends of BGP sessions (RFC 4271, section 8).
-use Rattle.std.specs.Prelude.{ℕ, ◌==◌, Bool, true, false, List, [], filter, find, is_some, slice_get, Option, Some, None, option_and_then, option_map, if◌then◌else◌}
+use Rattle.std.specs.Prelude.{Bool, true, false, List, [], filter, is_some, slice_get, Option, option_and_then, if◌then◌else◌}
 use Rattle.std.specs.List.{list_any}
-use Rattle.std.specs.Option.{option_map_or}
 use Rattle.ios_ast.specs.declared.bgp.Neighbour.{Neighbour}
 use Rattle.ios_ast.specs.declared.file.File.{File}
 use Rattle.net_model.specs.declared.sessions.Far.{Far}

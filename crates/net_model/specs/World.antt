@@ -1,5 +1,5 @@
 -- Links and their failures, and what the external peers of a network send.
-use Rattle.std.specs.Prelude.{◌≡◌, ℕ, ◌+◌, ◌==◌, ◌&&◌, ◌||◌, ◌<◌, ◌≤◌, Bool, not, List, [], ◌∷◌, length, filter, map, nat_lt, nat_le, fold, IsTrue, Option, Some, None, slice_get, All, AllPairs, IfSome, ◌^◌, ◌⊎◌, if◌then◌else◌}
+use Rattle.std.specs.Prelude.{◌≡◌, ℕ, ◌==◌, ◌&&◌, ◌||◌, ◌<◌, ◌≤◌, Bool, not, List, [], ◌∷◌, length, filter, map, nat_lt, fold, IsTrue, Some, slice_get, All, AllPairs, IfSome, ◌^◌, ◌⊎◌, if◌then◌else◌}
 use Rattle.std.specs.List.{list_any, list_all}
 use Rattle.std.specs.Option.{option_map_or}
 use Rattle.mw_text.specs.declared.address.Prefix.{Prefix}

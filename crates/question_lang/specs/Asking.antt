@@ -1,5 +1,5 @@
 -- Which text reads as which questions.
-use Rattle.std.specs.Prelude.{ℕ, ◌+◌, ◌==◌, ◌&&◌, ◌||◌, Bool, List, [], ◌∷◌, ◌++◌, length, nat_lt, nat_le, codes, position, Option, Some, None, option_and_then, option_map, Result, Ok, Err, if◌then◌else◌}
+use Rattle.std.specs.Prelude.{ℕ, ◌&&◌, Bool, List, [], ◌∷◌, ◌++◌, length, nat_lt, nat_le, codes, position, Option, Some, None, option_and_then, option_map, Result, Ok, Err, if◌then◌else◌}
 use Rattle.std.specs.List.{list_all, list_any}
 use Rattle.std.specs.Option.{option_map_or}
 use Rattle.mw_text.specs.declared.address.Prefix.{Prefix}

@@ -1,10 +1,7 @@
 -- What breaks a question.
-use Rattle.std.specs.Prelude.{◌≡◌, ◌≢◌, ◌⊎◌, ℕ, ◌+◌, ◌==◌, ◌&&◌, Bool, List, [], ◌∷◌, ◌++◌, All, IsTrue, length, Option, Some, None}
-use Rattle.std.specs.List.{list_any}
-use Rattle.std.specs.Option.{ForSome}
-use Rattle.mw_text.specs.declared.address.Addr.{Addr}
+use Rattle.std.specs.Prelude.{◌≡◌, ◌≢◌, ◌⊎◌, ℕ, ◌+◌, List, [], ◌∷◌, ◌++◌, All, IsTrue, length, Option, Some, None}
 use Rattle.mw_text.specs.declared.address.Prefix.{Prefix}
-use Rattle.mw_text.specs.Address.{covers, same_prefix}
+use Rattle.mw_text.specs.Address.{covers}
 use Rattle.ios_ast.specs.declared.file.File.{File}
 use Rattle.route_record.specs.declared.World.{World}
 use Rattle.net_model.specs.Routing.{up_interfaces, is_direct}

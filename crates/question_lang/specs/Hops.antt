@@ -1,5 +1,5 @@
 -- What a router does with a packet (RFC 1812, section 5.2.4).
-use Rattle.std.specs.Prelude.{ℕ, zero, suc, ◌==◌, ◌&&◌, Bool, true, false, List, [], ◌∷◌, filter, map, slice_get, Option, Some, None, option_and_then, option_map, if◌then◌else◌}
+use Rattle.std.specs.Prelude.{ℕ, zero, suc, ◌==◌, ◌&&◌, Bool, true, List, [], ◌∷◌, filter, map, slice_get, Option, Some, None, option_and_then, option_map, if◌then◌else◌}
 use Rattle.std.specs.List.{find, flat_map, list_any}
 use Rattle.std.specs.Option.{option_map_or}
 use Rattle.mw_text.specs.declared.address.Addr.{Addr}
@@ -26,7 +26,7 @@ use Rattle.net_model.specs.declared.interfaces.IfaceId.{IfaceId}
 use Rattle.net_model.specs.Interfaces.{addressed}
 use Rattle.net_model.specs.Undefined.{permitted_by_list, sent_by_ospf, resolved_by_ospf}
 use Rattle.net_model.specs.World.{is_up}
-use Rattle.net_model.specs.Routing.{up_interfaces, is_direct, static_routes}
+use Rattle.net_model.specs.Routing.{up_interfaces, static_routes}
 use Rattle.question_lang.specs.declared.walk.End.TheVariants.{Delivered, Left, NoRoute, Discarded, DeniedIn, DeniedOut}
 use Rattle.question_lang.specs.declared.walk.Hop.{Hop}
 use Rattle.question_lang.specs.declared.walk.Hop.TheVariants.{To, Ends}

@@ -1,5 +1,5 @@
 -- Packets and sets of packets.
-use Rattle.std.specs.Prelude.{◌≡◌, ◌≢◌, ℕ, ◌^◌, ◌<◌, ◌≤◌, IsTrue, Option, Some}
+use Rattle.std.specs.Prelude.{◌≡◌, ◌≢◌, ℕ, ◌^◌, ◌<◌, ◌≤◌, IsTrue, Some}
 use Rattle.mw_text.specs.Address.{covers}
 use Rattle.route_record.specs.declared.Packet.{Packet}
 use Rattle.question_lang.specs.declared.question.PacketSet.{PacketSet}

@@ -1,5 +1,5 @@
 -- Questions that are read today, and sets of exactly one packet.
-use Rattle.std.specs.Prelude.{◌≡◌, ℕ, ◌==◌, ◌&&◌, ◌||◌, ◌<◌, Bool, true, false, List, Option, Some, None, slice_get, if◌then◌else◌}
+use Rattle.std.specs.Prelude.{◌≡◌, ℕ, ◌==◌, ◌&&◌, ◌||◌, ◌<◌, Bool, false, List, Option, Some, None, slice_get, if◌then◌else◌}
 use Rattle.question_lang.specs.declared.question.PacketSet.{PacketSet}
 use Rattle.question_lang.specs.declared.question.Question.{Question}
 use Rattle.question_lang.specs.Breaking.{reach_question}

@@ -1,5 +1,5 @@
 -- Walks of a packet.
-use Rattle.std.specs.Prelude.{◌≡◌, ℕ, ◌==◌, ◌&&◌, Bool, true, false, List, [], ◌∷◌, ◌++◌, Any, Contains, IsTrue, Option, Some, None, MatchOption}
+use Rattle.std.specs.Prelude.{◌≡◌, ℕ, ◌==◌, ◌&&◌, Bool, true, false, List, [], ◌∷◌, ◌++◌, Any, Contains, IsTrue, Some, MatchOption}
 use Rattle.std.specs.List.{list_any}
 use Rattle.ios_ast.specs.declared.file.File.{File}
 use Rattle.route_record.specs.declared.Failures.{Failures}

@@ -57,11 +57,5 @@ pub fn single_packet(set: &PacketSet) -> Packet
         None => unreachable!(),
         Some(proto) => proto,
     };
-    packet_of(
-        set.src.addr,
-        set.dst.addr,
-        proto,
-        set.sport.0,
-        set.dport.0,
-    )
+    packet_of(set.src.addr, set.dst.addr, proto, set.sport.0, set.dport.0)
 }

@@ -1,5 +1,5 @@
 -- The hops of all routers.
-use Rattle.std.proofs.Common.{◌≡◌, ℕ, true, List, length, ap, ◌∙◌, sym, subst}
+use Rattle.std.proofs.Common.{◌≡◌, ℕ, true, List, length, sym, subst}
 use Rattle.std.specs.List.{list_all}
 use Rattle.ios_ast.specs.declared.file.File.{File}
 use Rattle.route_record.specs.declared.World.{World}

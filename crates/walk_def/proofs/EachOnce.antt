@@ -1,12 +1,11 @@
 -- Lists in which each item stands once.
-use Rattle.std.proofs.Common.{◌≡◌, ◌≢◌, ℕ, ◌+◌, ◌<◌, ◌≤◌, List, [], ◌∷◌, ◌++◌, length, take, get_or, refl, ap, arith, ◌∙◌, sym, subst, ◌⊎◌, inl, inr, length-append}
+use Rattle.std.proofs.Common.{◌≡◌, ◌≢◌, ℕ, ◌+◌, ◌<◌, List, [], ◌∷◌, ◌++◌, length, get_or, ap, arith, ◌∙◌, sym, subst, ◌⊎◌, inl, inr, length-append}
 use Rattle.std.specs.Prelude.{AllPairs, Contains}
-use Rattle.std.proofs.lemmas.Grind.{common_steps}
 use Rattle.std.proofs.lemmas.List.Elements.{Contains-append_left, Contains-get_or, Contains-push, Contains-push_cases}
 use Rattle.std.proofs.Math.ListN.{get_or-append}
 use Rattle.std.proofs.Math.Seq.{get_or-append_seam}
 use Rattle.question_lang.specs.declared.walk.Hop.{Hop}
-use Rattle.walk_def.specs.Sending.{AreOnce, SameMembers}
+use Rattle.walk_def.specs.Sending.{AreOnce}
 
 pub once_none : (out : List Hop) → out ≡ [] → AreOnce out []
 once_none out none = let P : List Hop → Type 0 = λ xs. AreOnce xs [] in
@@ -34,6 +33,7 @@ pairs-push out x pairs new i j d less within same =
   where
     lt_or_eq : (a b : ℕ) → a < b + 1 → (a < b) ⊎ (a ≡ b)
     lt_or_eq a b h = grind arith
+
     by_place : get_or (out ++ x ∷ []) i d ≡ get_or out i d → (j < length out) ⊎ (j ≡ length out) → ⊥
     by_place first (inl earlier) =
         pairs i j d less earlier (sym first ∙ same ∙ get_or-append out (x ∷ []) d j earlier)
@@ -54,6 +54,7 @@ once_new out front x so_far new = record {
   there : (y : Hop) → Contains out y ⊎ (x ≡ y) → Contains (front ++ x ∷ []) y
   there y (inl has) = Contains-append_left front (x ∷ []) y (so_far.members.to y has)
   there y (inr same) = let P : Hop → Type 0 = λ z. Contains (front ++ x ∷ []) z in subst P same (Contains-push front x)
+
   back : (y : Hop) → Contains front y ⊎ (x ≡ y) → Contains (out ++ x ∷ []) y
   back y (inl has) = Contains-append_left out (x ∷ []) y (so_far.members.from y has)
   back y (inr same) = let P : Hop → Type 0 = λ z. Contains (out ++ x ∷ []) z in subst P same (Contains-push out x)

@@ -1,18 +1,16 @@
 -- Following hops that are not harmless gives a walk that goes wrong.
-use Rattle.std.proofs.Common.{◌≡◌, ◌≢◌, ℕ, ◌<◌, Bool, true, false, ◌&&◌, not, List, [], ◌∷◌, ◌++◌, length, get_or, Option, Some, None, refl, ap, arith, ◌∙◌, sym, subst, append_assoc, eqb, eq-eqb}
-use Rattle.std.specs.Prelude.{Any, Contains, IsSome, slice_get, vec_len}
+use Rattle.std.proofs.Common.{◌≡◌, ◌≢◌, ℕ, ◌<◌, Bool, true, false, ◌&&◌, not, List, [], ◌∷◌, ◌++◌, Some, refl, ap, arith, ◌∙◌, sym, subst, append_assoc, eqb, eq-eqb}
+use Rattle.std.specs.Prelude.{Any, Contains}
 use Rattle.std.specs.List.{list_all}
-use Rattle.std.proofs.lemmas.Option.{slice_get_read}
 use Rattle.net_model.specs.declared.interfaces.IfaceId.{IfaceId}
 use Rattle.question_lang.specs.declared.question.Start.{Start}
 use Rattle.question_lang.specs.declared.walk.End.{End}
 use Rattle.question_lang.specs.declared.walk.End.TheVariants.{Delivered, Left, NoRoute, Discarded, DeniedIn, DeniedOut, Loop, Open}
 use Rattle.question_lang.specs.declared.walk.Hop.{Hop}
 use Rattle.question_lang.specs.declared.walk.Hop.TheVariants.{To, Ends}
-use Rattle.question_lang.specs.declared.walk.Walk.{Walk}
 use Rattle.question_lang.specs.Walks.{GoesOn, LeadsTo, MayEnd}
 use Rattle.walk_def.proofs.Members.{test-of_item, found-item, last-same}
-use Rattle.walk_def.specs.Safety.{is_harmless, is_delivered, is_end, is_inside, first_harmful, known, Lists, StayInside, GoesWrong}
+use Rattle.walk_def.specs.Safety.{is_harmless, is_delivered, is_end, is_inside, first_harmful, known, GoesWrong}
 
 -- what goes on from the present standing is a walk from the start
 abbrev pub Followed : (ℕ → List Hop) → List Start → Start → Type 0

@@ -1,10 +1,9 @@
 -- Each next hop leads to a router of the network, or ends there.
-use Rattle.std.proofs.Common.{◌≡◌, ℕ, ◌+◌, ◌<◌, ◌≤◌, Bool, true, false, ◌&&◌, List, [], ◌∷◌, ◌++◌, length, Option, Some, None, refl, ap, arith, ◌∙◌, sym, cond, eqb}
-use Rattle.std.specs.Prelude.{nat_lt, filter, option_map, slice_get, IsTrue}
+use Rattle.std.proofs.Common.{◌≡◌, ℕ, ◌+◌, ◌<◌, ◌≤◌, Bool, true, false, ◌&&◌, List, [], ◌∷◌, ◌++◌, length, Option, Some, None, refl, ap, arith, ◌∙◌, cond, eqb}
+use Rattle.std.specs.Prelude.{nat_lt, filter, option_map, slice_get}
 use Rattle.std.specs.List.{find, flat_map, list_all, list_any}
 use Rattle.std.specs.Option.{option_map_or}
 use Rattle.std.proofs.lemmas.List.Folds.{list_all-append}
-use Rattle.std.proofs.lemmas.Grind.{common_steps}
 use Rattle.mw_text.specs.declared.address.Addr.{Addr}
 use Rattle.mw_text.specs.declared.address.Prefix.{Prefix}
 use Rattle.mw_text.specs.Address.{covers, prefix_at, same_prefix}
@@ -184,6 +183,7 @@ bgp_inside bound files world up own router file slot all none = rw none (by_held
   by_next : (b : Bool) (a : Addr) → list_all (is_inside bound) (cond b (send_over files world.packet up own a) []) ≡ true
   by_next true a = over_inside bound files world.packet up own a all
   by_next false a = refl
+
   by_held : (held : Option BgpRec) → list_all (is_inside bound)
       (option_map_or (λ h. cond (list_any (λ x. covers x.subnet h.next_hop) own) (send_over files world.packet up own h.next_hop) []) held []) ≡ true
   by_held None = refl
@@ -213,6 +213,7 @@ over_inside_all bound files world up own router file all none =
         (option_map_or (entry_hops files world up own router file) o (Ends End.NoRoute ∷ [])) ≡ true
     by_longest None = refl
     by_longest (Some (len, slot, entry)) = entry_inside bound files world up own router file len slot entry all none
+
     by_own : (b : Bool) (o : Option (ℕ × Slot × RibEntry)) → list_all (is_inside bound)
         (cond b (Ends End.Delivered ∷ []) (option_map_or (entry_hops files world up own router file) o (Ends End.NoRoute ∷ []))) ≡ true
     by_own true o = refl
@@ -224,6 +225,7 @@ pub next_hops_inside : (files : List File) → is_network files ≡ true → (wo
 next_hops_inside files network world router = by_file (slice_get files router) refl where
   below : list_all (of_router_below (length files)) (all_up files world.failures) ≡ true
   below = all-filter (of_router_below (length files)) (is_up files world.failures) (addressed files) (below-routers (length files) 0 files (omega arith))
+
   by_file : (file : Option File) → slice_get files router ≡ file → list_all (is_inside (length files))
       (option_map_or (hops_over files world (all_up files world.failures) (up_interfaces files world.failures router) router) file []) ≡ true
   by_file None is = refl

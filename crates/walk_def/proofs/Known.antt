@@ -1,5 +1,5 @@
 -- Which routers are known to be safe, or were seen, as a list of Booleans.
-use Rattle.std.proofs.Common.{◌≡◌, ℕ, zero, suc, ◌+◌, ◌<◌, Bool, true, false, List, [], ◌∷◌, ◌++◌, length, get_or, set, Option, Some, None, refl, ap, arith, ◌∙◌, sym, subst, cond}
+use Rattle.std.proofs.Common.{◌≡◌, ℕ, zero, suc, ◌<◌, Bool, true, false, List, [], ◌∷◌, ◌++◌, length, get_or, set, Some, None, refl, ap, arith, ◌∙◌, sym, cond}
 use Rattle.std.specs.Prelude.{sum_by, replicate, slice_get, unwrap_or, Any}
 use Rattle.std.proofs.lemmas.Option.{slice_get_read}
 use Rattle.std.proofs.lemmas.List.Sums.{sum_by-set}
@@ -7,7 +7,7 @@ use Rattle.mw_text.proofs.Lists.{item_there}
 use Rattle.question_lang.specs.declared.question.Start.{Start}
 use Rattle.question_lang.specs.declared.walk.Hop.{Hop}
 use Rattle.walk_def.proofs.SafeWalks.{safe-harmless}
-use Rattle.walk_def.specs.Safety.{known, first_harmful, Lists, AreSafe, Safe}
+use Rattle.walk_def.specs.Safety.{known, first_harmful, AreSafe, Safe}
 
 -- how many are not known
 abbrev pub unknown_count : List Bool → ℕ

@@ -1,6 +1,6 @@
 -- Items of a list, and the first that passes a test.
-use Rattle.std.proofs.Common.{◌≡◌, ℕ, zero, suc, ◌<◌, Bool, true, false, ◌&&◌, not, List, [], ◌∷◌, ◌++◌, length, get_or, Option, Some, None, refl, ap, arith, ◌∙◌, sym, cond}
-use Rattle.std.specs.Prelude.{Contains, IsSome, slice_get}
+use Rattle.std.proofs.Common.{◌≡◌, zero, suc, Bool, true, false, ◌&&◌, not, List, [], ◌∷◌, ◌++◌, Option, Some, None, refl, ap, arith, ◌∙◌, sym, cond}
+use Rattle.std.specs.Prelude.{Contains}
 use Rattle.std.specs.List.{find, list_all}
 
 -- a test that each item passes is passed by an item

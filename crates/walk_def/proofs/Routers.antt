@@ -1,5 +1,5 @@
 -- The routers of a network.
-use Rattle.std.proofs.Common.{◌≡◌, ℕ, true, List, Option, Some, None}
+use Rattle.std.proofs.Common.{◌≡◌, ℕ, true, List, Some, None}
 use Rattle.std.specs.Prelude.{slice_get}
 use Rattle.ios_ast.specs.declared.file.File.{File}
 use Rattle.net_model.proofs.Defined.{no_protocol}

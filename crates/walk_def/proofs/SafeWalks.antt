@@ -1,7 +1,7 @@
 -- From a safe router every walk that ends is delivered at the target.
-use Rattle.std.proofs.Common.{◌≡◌, ◌≢◌, ℕ, zero, suc, ◌+◌, ◌<◌, Bool, true, false, ◌&&◌, List, [], ◌∷◌, ◌++◌, length, Option, Some, None, refl, ap, arith, ◌∙◌, sym, subst, inl, inr, ◌==◌}
-use Rattle.std.specs.Prelude.{Any, Contains, slice_get, not}
-use Rattle.std.specs.List.{find, list_all}
+use Rattle.std.proofs.Common.{◌≡◌, ◌≢◌, ℕ, Bool, true, ◌&&◌, List, [], ◌∷◌, ◌++◌, length, Some, None, refl, ap, arith, ◌∙◌, sym, subst, ◌==◌}
+use Rattle.std.specs.Prelude.{Contains, slice_get}
+use Rattle.std.specs.List.{list_all}
 use Rattle.std.proofs.lemmas.Option.{slice_get_read}
 use Rattle.mw_text.proofs.Lists.{each_place-push}
 use Rattle.net_model.specs.declared.interfaces.IfaceId.{IfaceId}
@@ -11,9 +11,9 @@ use Rattle.question_lang.specs.declared.walk.End.TheVariants.{Delivered, Left, N
 use Rattle.question_lang.specs.declared.walk.Hop.{Hop}
 use Rattle.question_lang.specs.declared.walk.Hop.TheVariants.{To, Ends}
 use Rattle.question_lang.specs.declared.walk.Walk.{Walk}
-use Rattle.question_lang.specs.Walks.{GoesOn, LeadsTo, MayEnd}
+use Rattle.question_lang.specs.Walks.{GoesOn, MayEnd}
 use Rattle.walk_def.proofs.Members.{test-of_item, all-none_found}
-use Rattle.walk_def.specs.Safety.{Safe, by_hops, known, is_harmless, is_delivered, first_harmful, Lists, GoesWrong}
+use Rattle.walk_def.specs.Safety.{Safe, by_hops, known, is_harmless, is_delivered, first_harmful, GoesWrong}
 
 -- hops in at these interfaces lead from the first router to the last
 abbrev pub Leads : (ℕ → List Hop) → ℕ → List IfaceId → ℕ → Type 0

@@ -1,7 +1,6 @@
 -- No interface of a network has an access list, so every packet passes.
-use Rattle.std.proofs.Common.{◌≡◌, ℕ, zero, suc, Bool, true, false, ◌||◌, List, [], ◌∷◌, Option, Some, None, refl, ap, ◌∙◌, sym, subst}
-use Rattle.std.specs.Prelude.{is_some, slice_get}
-use Rattle.std.specs.List.{list_any}
+use Rattle.std.proofs.Common.{◌≡◌, true, List, Option, Some, None, refl, sym}
+use Rattle.std.specs.Prelude.{slice_get}
 use Rattle.std.specs.Option.{option_map_or}
 use Rattle.ios_ast.specs.declared.file.File.{File}
 use Rattle.ios_ast.specs.declared.file.Iface.{Iface}
@@ -20,10 +19,12 @@ passes list files packet i none = by_file (slice_get files i.router) refl where
   by_list : (file : File) (named : Option Use) → named ≡ None → permits file packet named ≡ true
   by_list file None h = refl
   by_list file (Some named) h = cc
+
   by_iface : (file : File) → slice_get files i.router ≡ Some file → (iface : Option Iface) → slice_get file.interfaces i.at ≡ iface →
       option_map_or (λ x. permits file packet (list x)) iface true ≡ true
   by_iface file found None is = refl
   by_iface file found (Some x) is = by_list file (list x) (none file x found is)
+
   by_file : (file : Option File) → slice_get files i.router ≡ file →
       option_map_or (λ f. option_map_or (λ x. permits f packet (list x)) (slice_get f.interfaces i.at) true) file true ≡ true
   by_file None is = refl

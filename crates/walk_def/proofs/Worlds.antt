@@ -8,7 +8,7 @@ use Rattle.question_lang.specs.declared.walk.End.{End}
 use Rattle.question_lang.specs.declared.walk.End.TheVariants.{Delivered, Left, NoRoute, Discarded, DeniedIn, DeniedOut, Loop, Open}
 use Rattle.question_lang.specs.declared.walk.Walk.{Walk}
 use Rattle.question_lang.specs.Hops.{next_hops}
-use Rattle.question_lang.specs.Walks.{GoesOn, IsDeniedAtOnce, IsWalkOver}
+use Rattle.question_lang.specs.Walks.{GoesOn, IsWalkOver}
 use Rattle.question_lang.specs.Breaking.{Breaks, at_router, denied_start, reach_question, start_of}
 use Rattle.walk_def.specs.Safety.{GoesWrong}
 

@@ -179,11 +179,25 @@ fn bgp_hops_of(
 }
 
 // The hops of an OSPF entry at a router that runs no OSPF: none.
-fn ospf_hops_of(alloc: Global, net: &Net, world: &World, router: u32, file: &File, p: &Prefix, slot: &Slot) -> List<Hop>
+fn ospf_hops_of(
+    alloc: Global,
+    net: &Net,
+    world: &World,
+    router: u32,
+    file: &File,
+    p: &Prefix,
+    slot: &Slot,
+) -> List<Hop>
     requires { file.now.ospf ≡ None }
     ensures { result ≡ hops.ospf_hops net.now world.now router file.now p.now slot.now }
 {
-    let _places = (net.routers().len(), world.packet.dst, router, file.hostname_line, p.len);
+    let _places = (
+        net.routers().len(),
+        world.packet.dst,
+        router,
+        file.hostname_line,
+        p.len,
+    );
     let _held = slot.ospf.is_some();
     List::new(alloc)
 }
@@ -210,7 +224,16 @@ fn entry_hops_of(
     let p = prefix_of(packet.dst, *len);
     match entry.source {
         RibSource::Connected => connected_hops_of(alloc, net, packet, up, own, &p),
-        RibSource::Static => static_hops_of(alloc, net, packet, up, own, file.statics.as_slice(), &p, entry.distance),
+        RibSource::Static => static_hops_of(
+            alloc,
+            net,
+            packet,
+            up,
+            own,
+            file.statics.as_slice(),
+            &p,
+            entry.distance,
+        ),
         RibSource::Ebgp => bgp_hops_of(alloc, net, world, up, own, router, file, slot),
         RibSource::Ospf => Ok(ospf_hops_of(alloc, net, world, router, file, &p, slot)),
         RibSource::Ibgp => bgp_hops_of(alloc, net, world, up, own, router, file, slot),
@@ -289,13 +312,26 @@ fn file_of(net: &Net, router: u32) -> Option<&File>
 }
 
 /// The next hops of a router, as a list.
-pub fn list_hops(alloc: Global, net: &Net, world: &World, router: u32) -> Result<List<Hop>, AllocError>
+pub fn list_hops(
+    alloc: Global,
+    net: &Net,
+    world: &World,
+    router: u32,
+) -> Result<List<Hop>, AllocError>
     ensures { IfOk result (λ all. all ≡ hops.next_hops net.now world.now router) }
 {
     let up = all_up(alloc, net, &world.failures)?;
     let own = own_up(alloc, net, &world.failures, router)?;
     match file_of(net, router) {
         None => Ok(List::new(alloc)),
-        Some(file) => Ok(hops_of(alloc, net, world, up.as_slice(), own.as_slice(), router, file)?),
+        Some(file) => Ok(hops_of(
+            alloc,
+            net,
+            world,
+            up.as_slice(),
+            own.as_slice(),
+            router,
+            file,
+        )?),
     }
 }

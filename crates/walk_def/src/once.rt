@@ -56,7 +56,12 @@ fn each_once(alloc: Global, all: &[Hop]) -> Result<List<Hop>, AllocError>
 }
 
 /// The next hops of a router: the set that the definition gives, each member once.
-pub fn next_hops(alloc: Global, net: &Net, world: &World, router: u32) -> Result<List<Hop>, AllocError>
+pub fn next_hops(
+    alloc: Global,
+    net: &Net,
+    world: &World,
+    router: u32,
+) -> Result<List<Hop>, AllocError>
     ensures { IfOk result (λ all. AreOnce all (hops.next_hops net.now world.now router)) }
 {
     let all = list_hops(alloc, net, world, router)?;

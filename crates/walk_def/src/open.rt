@@ -25,7 +25,11 @@ fn is_failed(net: &Net, failures: &Failures, p: &Prefix) -> bool
     ensures { result ≡ world.is_failed net.now failures.now p.now }
 {
     let links = net.link_prefixes();
-    failures.links.as_slice().iter().any(|at| is_link_at(links, *at, p))
+    failures
+        .links
+        .as_slice()
+        .iter()
+        .any(|at| is_link_at(links, *at, p))
 }
 
 fn is_up(net: &Net, failures: &Failures, x: &Addressed) -> bool
@@ -52,7 +56,12 @@ fn is_up_on(net: &Net, failures: &Failures, router: u32, x: &Addressed) -> bool
 }
 
 /// The interfaces of a router that have an address and are up.
-pub fn own_up(alloc: Global, net: &Net, failures: &Failures, router: u32) -> Result<Vec<Addressed>, AllocError>
+pub fn own_up(
+    alloc: Global,
+    net: &Net,
+    failures: &Failures,
+    router: u32,
+) -> Result<Vec<Addressed>, AllocError>
     ensures { IfOk result (λ up. up.items ≡ up_interfaces net.now failures.now router) }
 {
     net.addresses()

@@ -13,10 +13,13 @@ use Rattle.mw_verify.proofs.load.read_texts.Goals as goal
 pub loop-name-init : goal.loop-name-init
 loop-name-init g c =
     let empty : c.texts.inside.items.items ≡ [] = c.texts.view_is ∙ c.new-texts.ensures in
-    let S : List Text → Type 0 = λ texts. AreSmall texts in
-    (refl, refl, refl,
-    all_told (g.F.Files.contents c.args.files.now) _ (λ contents. each-none (text_of contents) ∙ ap Ok (sym empty)),
-    subst S (sym empty) (λ k text found. absurd cc))
+    let S : List Text → Type 0 = λ texts. AreSmall texts in (
+      refl,
+      refl,
+      refl,
+      all_told (g.F.Files.contents c.args.files.now) _ (λ contents. each-none (text_of contents) ∙ ap Ok (sym empty)),
+      subst S (sym empty) (λ k text found. absurd cc),
+    )
 
 pub returns-in-Err-clause-stop : goal.returns-in-Err-clause-stop
 returns-in-Err-clause-stop g c =
@@ -36,10 +39,11 @@ returns-in-Err-clause-stop g c =
     (λ contents before stopped. became-stop (text_of contents) names so_far i name (refused line) before within is_name stopped))
     (λ said.
     let R : ℕ → Type 0 = λ before. Rose before (g.F.Files.faults c.read_text.new.files) in
-    let N : List ℕ → Type 0 = λ n. TellsOnly n (g.F.Files.last_failed c.read_text.new.files) in
-    (subst R c.loop-name.invariant.1 said.0,
-    stops-here told names i name so_far (g.F.Files.last_failed c.read_text.new.files) within is_name c.loop-name.invariant.3
-    (subst N c.as_str.ensures.value said.1)))
+    let N : List ℕ → Type 0 = λ n. TellsOnly n (g.F.Files.last_failed c.read_text.new.files) in (
+      subst R c.loop-name.invariant.1 said.0,
+      stops-here told names i name so_far (g.F.Files.last_failed c.read_text.new.files) within is_name c.loop-name.invariant.3
+          (subst N c.as_str.ensures.value said.1),
+    ))
 
 pub loop-name-preserved : goal.loop-name-preserved
 loop-name-preserved g c =

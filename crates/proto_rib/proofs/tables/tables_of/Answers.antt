@@ -1,4 +1,4 @@
-use Rattle.std.proofs.Common.{rules, ◌≡◌, arith, sym, ◌∙◌, ap, length}
+use Rattle.std.proofs.Common.{rules, arith, sym, ◌∙◌, ap, length}
 use Rattle.std.specs.Prelude.{slice_get}
 use Rattle.mw_text.proofs.Lists.{each_place-push}
 use Rattle.proto_rib.specs.Unfailed.{IsSlotAt}

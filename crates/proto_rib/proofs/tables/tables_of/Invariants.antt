@@ -1,5 +1,5 @@
-use Rattle.std.proofs.Common.{◌≡◌, ◌<◌, ℕ, length, Some}
-use Rattle.std.specs.Prelude.{slice_get, EachIndex}
+use Rattle.std.proofs.Common.{◌≡◌, ℕ, length, Some}
+use Rattle.std.specs.Prelude.{slice_get}
 use Rattle.route_record.specs.declared.Slot.{Slot}
 use Rattle.proto_rib.specs.Unfailed.{IsSlotAt}
 use Rattle.proto_rib.proofs.tables.tables_of.Given as goal

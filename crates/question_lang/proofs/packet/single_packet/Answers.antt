@@ -1,4 +1,4 @@
-use Rattle.std.proofs.Common.{◌≡◌, ◌≤◌, arith, refl, subst, sym, eq-eqb}
+use Rattle.std.proofs.Common.{arith, refl, subst, sym, eq-eqb}
 use Rattle.route_record.specs.declared.Packet.{Packet}
 use Rattle.question_lang.specs.Packets.{IsInSet, IsPacket}
 use Rattle.question_lang.proofs.SinglePacket.{both_ports, one_port}

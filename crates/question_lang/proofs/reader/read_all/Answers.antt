@@ -1,4 +1,4 @@
-use Rattle.std.proofs.Common.{◌≡◌, ◌∙◌, sym, ap, Err}
+use Rattle.std.proofs.Common.{◌∙◌, sym, ap, Err}
 use Rattle.question_lang.proofs.Lines.{ask_lines_done, ask_lines_taken, ask_lines_refused}
 use Rattle.question_lang.proofs.reader.read_all.Goals as goal
 

@@ -1,4 +1,4 @@
-use Rattle.std.proofs.Common.{◌≡◌, ◌<◌, arith, rules, length, sym}
+use Rattle.std.proofs.Common.{arith, length}
 use Rattle.std.proofs.Math.ListN.{length-set}
 use Rattle.walk_def.proofs.Known.{fewer_known, marked_safe, unmarked, unmarked-length}
 use Rattle.walk_def.specs.Safety.{Safe}

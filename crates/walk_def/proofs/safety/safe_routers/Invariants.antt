@@ -1,4 +1,4 @@
-use Rattle.std.proofs.Common.{◌≡◌, length, vec_len}
+use Rattle.std.proofs.Common.{◌≡◌, length}
 use Rattle.walk_def.proofs.Known.{unknown_count}
 use Rattle.walk_def.specs.Safety.{AreSafe}
 use Rattle.walk_def.proofs.safety.safe_routers.Given as goal

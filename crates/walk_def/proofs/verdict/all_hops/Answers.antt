@@ -1,4 +1,4 @@
-use Rattle.std.proofs.Common.{◌≡◌, arith, rules, length, sym, ap, ◌∙◌}
+use Rattle.std.proofs.Common.{rules, length, sym, ap, ◌∙◌}
 use Rattle.std.specs.Prelude.{slice_get}
 use Rattle.mw_text.proofs.Lists.{each_place-push}
 use Rattle.walk_def.proofs.AllHops.{IsSent, sent_here}

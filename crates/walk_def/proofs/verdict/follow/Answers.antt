@@ -1,12 +1,11 @@
-use Rattle.std.proofs.Common.{◌≡◌, ℕ, ◌++◌, ◌∷◌, [], arith, rules, List, length, sym, ap, subst, ◌∙◌, Some, refl, set, true}
-use Rattle.std.specs.Prelude.{Any, Contains, slice_get}
+use Rattle.std.proofs.Common.{◌≡◌, ℕ, ◌++◌, ◌∷◌, [], arith, List, length, sym, ap, subst, ◌∙◌, Some, refl, set, true}
+use Rattle.std.specs.Prelude.{Any, Contains}
 use Rattle.std.proofs.Math.ListN.{length-set}
 use Rattle.mw_text.proofs.Lists.{item_there}
 use Rattle.question_lang.specs.declared.question.Start.{Start}
 use Rattle.question_lang.specs.declared.walk.Hop.{Hop}
 use Rattle.question_lang.specs.declared.walk.Hop.TheVariants.{To}
 use Rattle.question_lang.specs.declared.walk.End.TheVariants.{Loop}
-use Rattle.question_lang.specs.declared.walk.Walk.{Walk}
 use Rattle.walk_def.proofs.Following.{Followed, Begun, followed-start, followed-step, begun-start, begun-step, harmful-end, harmful-hop, loop-end}
 use Rattle.walk_def.proofs.Known.{fewer, known-from_read, seen-marked, unmarked, unmarked-length}
 use Rattle.walk_def.specs.Safety.{GoesWrong, Lists, known}
