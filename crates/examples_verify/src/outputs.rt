@@ -81,7 +81,8 @@ fn sixty_four_questions_are_answered_in_their_order(rt: HostRuntime) -> Result<(
 
 #[test]
 fn first_question_that_cannot_be_answered_is_refused(rt: HostRuntime) -> Result<(), Fail> {
-    let one = "q1 reach from N1 to router N2 packets icmp 10.0.0.1/32 any 10.2.0.1/32 any failures 0\n!\n";
+    let one =
+        "q1 reach from N1 to router N2 packets icmp 10.0.0.1/32 any 10.2.0.1/32 any failures 0\n!\n";
     let cases = [
         "q2 reach from N1 to router N2 packets ip any any 10.2.0.1/32 any failures 0\n",
         "q2 reach from N1 to router N2 packets udp 10.0.0.1/32 53 10.2.0.1/32 0-53 failures 0\n",

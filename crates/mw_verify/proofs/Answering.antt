@@ -1,5 +1,5 @@
 -- Answers one after another.
-use Rattle.std.proofs.Common.{◌≡◌, ℕ, zero, suc, ◌+◌, ◌<◌, ◌≤◌, Bool, true, false, ◌||◌, cond, List, [], ◌∷◌, ◌++◌, length, take, get_or, Option, Some, None, refl, ap, sym, subst, arith, ◌∙◌, append_assoc}
+use Rattle.std.proofs.Common.{◌≡◌, ℕ, zero, suc, ◌+◌, ◌<◌, ◌≤◌, Bool, true, false, ◌||◌, List, [], ◌∷◌, ◌++◌, length, take, get_or, Option, Some, None, refl, ap, sym, subst, arith, ◌∙◌, append_assoc}
 use Rattle.std.specs.List.{list_any}
 use Rattle.std.proofs.lemmas.List.{append-nil}
 use Rattle.mw_outside.specs.Taken.{Takes, TakesPart, takes_more, part_more, part_of_all}
@@ -7,7 +7,7 @@ use Rattle.ios_ast.specs.declared.file.File.{File}
 use Rattle.question_lang.specs.declared.question.Question.{Question}
 use Rattle.mw_verify.specs.declared.answer.Verdict.{Verdict}
 use Rattle.mw_verify.specs.declared.status.Status.{Status}
-use Rattle.mw_verify.specs.declared.status.Status.TheVariants.{Good, Bad, Unknown}
+use Rattle.mw_verify.specs.declared.status.Status.TheVariants.{Good, Bad}
 use Rattle.mw_verify.specs.Due.{answering}
 use Rattle.mw_verify.specs.Loading.{IsLine, IsWhole}
 use Rattle.mw_verify.specs.Running.{PrintsPart}

@@ -11,7 +11,7 @@ use Rattle.route_record.specs.declared.Tables.{Tables}
 use Rattle.route_record.specs.declared.World.{World}
 use Rattle.net_model.proofs.Defined.{all_defined, no_ends}
 use Rattle.net_model.specs.Network.{is_network}
-use Rattle.net_model.specs.Sessions.{ends_of, is_outside}
+use Rattle.net_model.specs.Sessions.{is_outside}
 use Rattle.net_model.specs.World.{IsFailureSet, IsEnvironment, no_failures}
 use Rattle.net_model.specs.Stable.{Stable}
 use Rattle.question_lang.specs.declared.question.Kind.{Kind}

@@ -1,5 +1,5 @@
 -- Reading and parsing one after another.
-use Rattle.std.proofs.Common.{◌≡◌, ℕ, zero, suc, ◌+◌, ◌<◌, ◌≤◌, Bool, true, false, List, [], ◌∷◌, ◌++◌, length, take, drop, take-append-drop, get_or, Option, Some, None, Result, Ok, Err, refl, ap, sym, arith, ◌∙◌, cond, append_assoc, nat_le, map, subst}
+use Rattle.std.proofs.Common.{◌≡◌, ℕ, zero, suc, ◌+◌, ◌<◌, ◌≤◌, true, false, List, [], ◌∷◌, ◌++◌, length, take, drop, take-append-drop, get_or, Option, Some, None, Result, Ok, Err, refl, ap, sym, arith, ◌∙◌, cond, append_assoc, nat_le, map, subst}
 use Rattle.std.specs.Prelude.{IfSome, IsSomeAnd}
 use Rattle.std.specs.Option.{option_map_or}
 use Rattle.mw_text.proofs.Lists.{drop-read}

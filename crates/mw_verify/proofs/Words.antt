@@ -1,5 +1,5 @@
 -- The words of a command.
-use Rattle.std.proofs.Common.{◌≡◌, ℕ, zero, suc, ◌||◌, ◌+◌, ◌<◌, ◌≤◌, Bool, true, false, ◌&&◌, not, List, [], ◌∷◌, ◌++◌, length, take, drop, get_or, refl, ap, map, sym, arith, ◌∙◌, nat_le, le-leb}
+use Rattle.std.proofs.Common.{◌≡◌, ℕ, suc, ◌||◌, ◌<◌, ◌≤◌, Bool, true, false, ◌&&◌, not, List, [], ◌∷◌, ◌++◌, length, take, drop, get_or, refl, ap, map, sym, arith, ◌∙◌, nat_le, le-leb}
 use Rattle.std.specs.List.{list_any}
 use Rattle.mw_text.specs.Text.{same_text}
 use Rattle.std.specs.Prelude.{codes, IfSome}

@@ -1,5 +1,5 @@
 -- What a run prints and logs.
-use Rattle.std.specs.Prelude.{◌≡◌, ℕ, Bool, true, false, List, [], ◌∷◌, ◌++◌, drop, take, Option, Some, IfSome, Ok}
+use Rattle.std.specs.Prelude.{◌≡◌, ℕ, false, List, [], ◌∷◌, ◌++◌, take, Option, IfSome, Ok}
 use Rattle.mw_outside.specs.Contents.{Contents}
 use Rattle.mw_outside.specs.Taken.{Takes, TakesPart}
 use Rattle.ios_ast.specs.declared.file.File.{File}

@@ -1,8 +1,7 @@
-use Rattle.std.proofs.Common.{◌≡◌, ◌∙◌, ap, subst, Option, Some, List, ℕ}
+use Rattle.std.proofs.Common.{ap, subst, Option, Some, List, ℕ}
 use Rattle.std.specs.Prelude.{IfSome}
 use Rattle.route_record.specs.declared.Failures.{Failures}
 use Rattle.route_record.specs.declared.World.{World}
-use Rattle.net_model.specs.World.{no_failures}
 use Rattle.question_lang.specs.declared.walk.Walk.{Walk}
 use Rattle.question_lang.specs.Breaking.{Breaks, reach_question}
 use Rattle.mw_verify.proofs.Deciding.{answerable_parts, holds_from, true_from}

@@ -1,7 +1,5 @@
-use Rattle.std.proofs.Common.{◌≡◌, ap, List, ℕ, map, Err, Option, subst, sym}
-use Rattle.std.specs.Prelude.{IfSome, string_bytes}
-use Rattle.mw_outside.specs.Contents.{Contents}
-use Rattle.mw_outside.specs.Faults.{Rose}
+use Rattle.std.proofs.Common.{ap, List, ℕ, map}
+use Rattle.std.specs.Prelude.{string_bytes}
 use Rattle.mw_verify.specs.Due.{following, texts_due, text_of}
 use Rattle.mw_verify.proofs.Loading.{on_stop-map, if_told_one, stops-before}
 use Rattle.mw_verify.proofs.load.load.Goals as goal

@@ -5,7 +5,7 @@ use Rattle.mw_outside.specs.Faults.{Rose}
 use Rattle.mw_verify.specs.declared.load.TheConstants.{MOST_BYTES}
 use Rattle.mw_verify.specs.declared.text.Text.{Text}
 use Rattle.mw_verify.specs.Loading.{AreSmall}
-use Rattle.mw_verify.specs.Due.{each, text_of, refused}
+use Rattle.mw_verify.specs.Due.{text_of, refused}
 use Rattle.mw_text.proofs.Lists.{each_place-push}
 use Rattle.mw_verify.proofs.Loading.{BecameSo, all_told, each-none, became-one, became-stop, became-all, on_stop-map, if_told, if_told_one, read-map, length-images, stops-here}
 use Rattle.mw_verify.proofs.load.read_texts.Goals as goal

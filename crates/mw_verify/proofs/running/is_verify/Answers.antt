@@ -1,4 +1,4 @@
-use Rattle.std.proofs.Common.{◌≡◌, arith, eqb}
+use Rattle.std.proofs.Common.{arith}
 use Rattle.std.specs.Prelude.{string_bytes}
 use Rattle.mw_verify.proofs.Words.{verify_here}
 use Rattle.mw_verify.proofs.running.is_verify.Goals as goal

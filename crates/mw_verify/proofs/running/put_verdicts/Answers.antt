@@ -1,8 +1,8 @@
-use Rattle.std.proofs.Common.{◌≡◌, ◌∙◌, ℕ, ◌+◌, ◌||◌, Bool, List, Option, refl, subst, sym}
+use Rattle.std.proofs.Common.{◌∙◌, ℕ, ◌+◌, Bool, List, refl, subst, sym}
 use Rattle.mw_outside.specs.Faults.{Rose}
 use Rattle.mw_outside.specs.Taken.{Takes, TakesPart}
 use Rattle.mw_verify.specs.declared.load.TheConstants.{DEFAULT_CONFLICTS}
-use Rattle.mw_verify.proofs.Answering.{PutSoFar, put-bad, put-cut, put-good, put-more, put-none, put-stop}
+use Rattle.mw_verify.proofs.Answering.{PutSoFar, put-cut, put-more, put-none}
 use Rattle.mw_verify.proofs.running.put_verdicts.Goals as goal
 
 pub loop-at-init : goal.loop-at-init

@@ -1,14 +1,13 @@
-use Rattle.std.proofs.Common.{◌≡◌, ◌<◌, ◌∙◌, ℕ, List, Option, Result, Ok, Err, ◌∷◌, ◌++◌, [], arith, drop, length, map, refl, subst, sym, true}
+use Rattle.std.proofs.Common.{◌≡◌, ◌∙◌, ℕ, List, Option, Ok, Err, ◌∷◌, ◌++◌, [], arith, map, refl, subst, sym}
 use Rattle.std.specs.Prelude.{IfSome, string_bytes}
 use Rattle.mw_outside.specs.Contents.{Contents}
 use Rattle.mw_outside.specs.Faults.{Rose}
 use Rattle.mw_outside.specs.Taken.{TakesPart}
 use Rattle.question_lang.specs.declared.question.Question.{Question}
-use Rattle.question_lang.specs.Single.{AreReach}
 use Rattle.mw_verify.specs.declared.load.TheConstants.{DEFAULT_CONFLICTS}
-use Rattle.mw_verify.specs.Due.{Outcome, answering, due, files_due, is_verify, refused}
+use Rattle.mw_verify.specs.Due.{Outcome, answering, files_due, refused}
 use Rattle.mw_verify.specs.declared.load.Stop.{Stop}
-use Rattle.mw_verify.specs.Loading.{AnswersSo, AreAnswerable, OnStop, UnlessReadFault}
+use Rattle.mw_verify.specs.Loading.{AnswersSo, OnStop}
 use Rattle.mw_verify.specs.Running.{IsDue, StopsAt}
 use Rattle.mw_verify.proofs.Words.{answered_from, cut_from, cut_nothing, is_due_of}
 use Rattle.mw_verify.proofs.running.run.Goals as goal
