@@ -79,7 +79,7 @@ reached_from-operand first number vars (m ∷ ns) zero j n below s h named =
     let later : ℕ → Bool = reached_from first (number + 1) ns in
     let e : n ≡ m = cc in
     let at : reached_from first number (m ∷ ns) number ≡ true =
-        subst (λ k. reached_from first number (m ∷ ns) k ≡ true) (add-zero number) h in
+    subst (λ k. reached_from first number (m ∷ ns) k ≡ true) (add-zero number) h in
     let here : later number ≡ true = elim (or_cases _ _ at) [ inl a ↦ a | inr b ↦ (and_parts _ _ b).0 ] in
     or_right _ _ (and_from _ _ here (subst (λ k. names (operands k) j ≡ true) e named))
 reached_from-operand first number vars (m ∷ ns) (suc i) j n below s h named =
@@ -90,7 +90,7 @@ reached_from-operand first number vars (m ∷ ns) (suc i) j n below s h named =
       | inr b ↦
           let here : IsBelow number vars m = subst (λ l. IsBelow l vars m) (add-zero number) (below zero m refl) in
           let itself : names (operands m) (number + suc i) ≡ true =
-              (and_parts (later number) (names (operands m) (number + suc i)) b).1 in
+          (and_parts (later number) (names (operands m) (number + suc i)) b).1 in
           let lower : number + suc i < number = operands-below number vars (number + suc i) m here itself in
           absurd (omega arith)
     ]

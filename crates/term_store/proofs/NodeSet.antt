@@ -42,8 +42,8 @@ module _ {K : Type 0} (eq : K → K → Bool) (same : (x y : K) → eq x y ≡ t
       → slice_get ks j ≡ Some n → i ≡ j
   one_index ks distinct i j n at_i at_j =
       let not_before : (i j : ℕ) → slice_get ks i ≡ Some n → slice_get ks j ≡ Some n → i < j → ⊥ =
-          λ i j at_i at_j h. true≢false
-          (sym (itself n) ∙ ap (λ x. eq x n) (sym (get_or_from_slice_get ks i n n at_i)) ∙ ap (λ x. eq (get_or ks i n) x) (sym (get_or_from_slice_get ks j n n at_j)) ∙ apart_from_distinct eq ks i j n distinct h (slice_get_within ks j n at_j)) in
+      λ i j at_i at_j h. true≢false
+      (sym (itself n) ∙ ap (λ x. eq x n) (sym (get_or_from_slice_get ks i n n at_i)) ∙ ap (λ x. eq (get_or ks i n) x) (sym (get_or_from_slice_get ks j n n at_j)) ∙ apart_from_distinct eq ks i j n distinct h (slice_get_within ks j n at_j)) in
       let first = not_before i j at_i at_j in
       let second = not_before j i at_j at_i in
       omega arith
