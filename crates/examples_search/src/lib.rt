@@ -6,6 +6,8 @@ pub mod asking;
 #[cfg(test)]
 mod faults;
 #[cfg(test)]
+mod long;
+#[cfg(test)]
 mod random;
 #[cfg(test)]
 mod small;
