@@ -8,15 +8,10 @@ use Rattle.std.proofs.lemmas.Bool.{and_parts, and_from, or_cases, or_left, or_ri
 use Rattle.ios_policy_reader.specs.declared.cause.Cause.TheVariants.{BadWord}
 use Rattle.ios_policy_reader.specs.declared.said.Said.{Said}
 use Rattle.ios_policy_reader.specs.declared.said.Value.{Value}
-use Rattle.ios_policy_reader.specs.declared.edges.Takes.{Takes}
-use Rattle.ios_policy_reader.specs.declared.edges.Takes.TheVariants.{End, EndClassful, Key, Named, Any, Range, AnyName}
-use Rattle.ios_policy_reader.specs.declared.edges.Takes.TheVariants.{ListName, RouterName, Interface, AnyAddress, Mask}
-use Rattle.ios_policy_reader.specs.declared.edges.Takes.TheVariants.{MaskOver, AnyPrefix, AnyCommunity, AnyPort, AnyPattern}
-use Rattle.ios_policy_reader.specs.declared.edges.Takes.TheVariants.{Once, PortKey, PortFrom, LengthFrom}
 use Rattle.ios_policy_reader.specs.declared.edges.Edge.{Edge}
 use Rattle.ios_policy_reader.specs.declared.edges.Way.{Way}
-use Rattle.ios_policy_reader.specs.Edges.{said_by, goes, ends, ends_by, leaves, way_of, may_end, read_from}
-use Rattle.ios_policy_reader.specs.Least.{BeginsFrom, IsFirstBadFrom, opens, sample, is_plain_end, first_from, closes}
+use Rattle.ios_policy_reader.specs.Edges.{said_by, goes, leaves, way_of, may_end, read_from}
+use Rattle.ios_policy_reader.specs.Least.{BeginsFrom, IsFirstBadFrom, opens, sample, first_from, closes}
 use Rattle.ios_policy_reader.specs.Least.{no_dead_end}
 use Rattle.ios_policy_reader.proofs.Openings.{open_says}
 
@@ -66,41 +61,6 @@ first_way (x ∷ rest) from edge h open_ said at =
 
 -- ---- from a state that closes
 
-any_more : (p q : Edge → Bool) (edges : List Edge) → ((e : Edge) → p e ≡ true → q e ≡ true) → list_any p edges ≡ true
-    → list_any q edges ≡ true
-any_more p q [] each h = h
-any_more p q (e ∷ rest) each h =
-    elim (or_cases _ _ h) [ inl here ↦ or_left _ _ (each e here) | inr later ↦ or_right _ _ (any_more p q rest each later) ]
-
-plain-ends : (takes : Takes) (said : List Said) → is_plain_end takes ≡ true → ends takes said ≡ true
-plain-ends End said h = refl
-plain-ends EndClassful said h = absurd (false≢true h)
-plain-ends (Key key) said h = absurd (false≢true h)
-plain-ends (Named key n) said h = absurd (false≢true h)
-plain-ends Any said h = absurd (false≢true h)
-plain-ends (Range low high) said h = absurd (false≢true h)
-plain-ends AnyName said h = absurd (false≢true h)
-plain-ends ListName said h = absurd (false≢true h)
-plain-ends RouterName said h = absurd (false≢true h)
-plain-ends Interface said h = absurd (false≢true h)
-plain-ends AnyAddress said h = absurd (false≢true h)
-plain-ends (Mask least) said h = absurd (false≢true h)
-plain-ends MaskOver said h = absurd (false≢true h)
-plain-ends AnyPrefix said h = absurd (false≢true h)
-plain-ends AnyCommunity said h = absurd (false≢true h)
-plain-ends AnyPort said h = absurd (false≢true h)
-plain-ends AnyPattern said h = absurd (false≢true h)
-plain-ends (Once key tag) said h = absurd (false≢true h)
-plain-ends (PortKey key n) said h = absurd (false≢true h)
-plain-ends (PortFrom tag) said h = absurd (false≢true h)
-plain-ends LengthFrom said h = absurd (false≢true h)
-
-may-end-plainly : (edges : List Edge) (from : ℕ) (said : List Said)
-    → list_any (λ (e : Edge). nat_eq e.0 from && is_plain_end e.1) edges ≡ true → may_end edges from said ≡ true
-may-end-plainly edges from said h =
-    any_more (λ (e : Edge). nat_eq e.0 from && is_plain_end e.1) (ends_by from said) edges
-    (λ e p. let both = and_parts _ _ p in and_from _ _ both.0 (plain-ends e.1 said both.1)) h
-
 -- a word that takes a way
 read-step : (edges : List Edge) (from : ℕ) (said : List Said) (at : ℕ) (word : List ℕ) (rest : List (List ℕ)) (way : Way)
     → way_of from said at word edges ≡ Some way
@@ -114,13 +74,16 @@ pub completes : (steps : ℕ) (edges : List Edge) (from : ℕ) → closes steps 
     → (said : List Said) (at : ℕ) → BeginsFrom edges from said at []
 unfolding closes
 completes zero edges from h said at = absurd (false≢true h)
-completes (suc steps) edges from h said at = elim (or_cases _ _ h) [
-  | inl plain ↦ ([], said, rw (may-end-plainly edges from said plain) refl)
+completes (suc steps) edges from h said at = elim (or_cases (may_end edges from) (option_map_or on_open (first_from from edges) false) h) [
+  | inl plain ↦ ([], said, rw plain refl)
   | inr on ↦ by (first_from from edges) refl on (λ to c more at'. completes steps edges to c more at')
 ]
   where
+    on_open : Edge → Bool
+    on_open edge = opens edge.1 && closes steps edges edge.3
+
     by : (o : Option Edge) → first_from from edges ≡ o
-        → option_map_or (λ (edge : Edge). opens edge.1 && closes steps edges edge.3) o false ≡ true
+        → option_map_or on_open o false ≡ true
         → ((to : ℕ) → closes steps edges to ≡ true → (said' : List Said) (at' : ℕ) → BeginsFrom edges to said' at' [])
         → BeginsFrom edges from said at []
     by None e g later = absurd (false≢true g)
@@ -169,9 +132,9 @@ module _ (edges : List Edge) where
   bad_from : list_all goes_on edges ≡ true → (words : List (List ℕ)) (from : ℕ) (said : List Said) (at n : ℕ)
       → closes 24 edges from ≡ true
       → read_from edges from said at words ≡ Err (BadWord n) → IsFirstBadFrom edges from said at words n
-  bad_from each [] from said at n c h = by (may_end edges from said) refl
+  bad_from each [] from said at n c h = by (may_end edges from) refl
     where
-      by : (b : Bool) → may_end edges from said ≡ b → IsFirstBadFrom edges from said at [] n
+      by : (b : Bool) → may_end edges from ≡ b → IsFirstBadFrom edges from said at [] n
       by true e = let wrong : Ok said ≡ Err (BadWord n) = rw e at h in absurd cc
       by false e =
           let right : Err (BadWord (at + 1)) ≡ Err (BadWord n) = rw e at h in
@@ -218,6 +181,6 @@ module _ (edges : List Edge) where
           }
 
 -- where no state is a dead end
-pub least : (edges : List Edge) → no_dead_end edges ≡ true → (head : ℕ) (words : List (List ℕ)) (n : ℕ)
-    → read_from edges 0 [] head words ≡ Err (BadWord n) → IsFirstBadFrom edges 0 [] head words n
-least edges h head words n e = let both = and_parts _ _ h in bad_from edges both.1 words 0 [] head n both.0 e
+pub least : (edges : List Edge) (from : ℕ) → no_dead_end edges from ≡ true → (head : ℕ) (words : List (List ℕ)) (n : ℕ)
+    → read_from edges from [] head words ≡ Err (BadWord n) → IsFirstBadFrom edges from [] head words n
+least edges from h head words n e = let both = and_parts _ _ h in bad_from edges both.1 words from [] head n both.0 e

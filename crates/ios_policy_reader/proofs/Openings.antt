@@ -4,8 +4,8 @@ use Rattle.std.proofs.Common.{is_some, refl, arith}
 use Rattle.std.proofs.lemmas.Bool.{false≢true, le-leb, eq-eqb}
 use Rattle.ios_policy_reader.specs.declared.said.Said.{Said}
 use Rattle.ios_policy_reader.specs.declared.edges.Takes.{Takes}
-use Rattle.ios_policy_reader.specs.declared.edges.Takes.TheVariants.{End, EndClassful, Key, Named, Any, Range, AnyName}
-use Rattle.ios_policy_reader.specs.declared.edges.Takes.TheVariants.{ListName, RouterName, Interface, AnyAddress, Mask}
+use Rattle.ios_policy_reader.specs.declared.edges.Takes.TheVariants.{End, Key, Named, Any, Range, AnyName}
+use Rattle.ios_policy_reader.specs.declared.edges.Takes.TheVariants.{ListName, RouterName, Interface, AnyAddress, ClassAddress, Mask}
 use Rattle.ios_policy_reader.specs.declared.edges.Takes.TheVariants.{MaskOver, AnyPrefix, AnyCommunity, AnyPort, AnyPattern}
 use Rattle.ios_policy_reader.specs.declared.edges.Takes.TheVariants.{Once, PortKey, PortFrom, LengthFrom}
 use Rattle.ios_policy_reader.specs.Masks.{length_below}
@@ -25,7 +25,6 @@ pub open_says : (takes : Takes) (said : List Said) (at : ℕ) → opens takes �
     → is_some (said_by takes said at (sample takes)) ≡ true
 unfolding opens said_by said_back length_below port_of
 open_says End said at h = absurd (false≢true h)
-open_says EndClassful said at h = absurd (false≢true h)
 open_says (Key key) said at h = h
 open_says (Named key n) said at h = h
 open_says Any said at h = refl
@@ -35,6 +34,7 @@ open_says ListName said at h = refl
 open_says RouterName said at h = refl
 open_says Interface said at h = refl
 open_says AnyAddress said at h = refl
+open_says ClassAddress said at h = refl
 open_says (Mask least) said at h = h
 open_says MaskOver said at h = rw (eq-eqb _ _ (whole (address_said said).0)) refl
 open_says AnyPrefix said at h = refl

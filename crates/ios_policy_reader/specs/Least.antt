@@ -4,10 +4,10 @@ use Rattle.std.specs.List.{list_any, list_all}
 use Rattle.std.specs.Option.{option_map_or}
 use Rattle.ios_policy_reader.specs.declared.said.Said.{Said}
 use Rattle.ios_policy_reader.specs.declared.edges.Takes.{Takes}
-use Rattle.ios_policy_reader.specs.declared.edges.Takes.TheVariants.{End, EndClassful, Key, Named, Range, AnyName, ListName, RouterName, Interface, AnyAddress, Mask, MaskOver, AnyPrefix, AnyCommunity, AnyPort, AnyPattern, Once, PortKey, PortFrom, LengthFrom}
+use Rattle.ios_policy_reader.specs.declared.edges.Takes.TheVariants.{End, Key, Named, Range, AnyName, ListName, RouterName, Interface, AnyAddress, ClassAddress, Mask, MaskOver, AnyPrefix, AnyCommunity, AnyPort, AnyPattern, Once, PortKey, PortFrom, LengthFrom}
 use Rattle.ios_policy_reader.specs.declared.edges.Edge.{Edge}
 use Rattle.ios_policy_reader.specs.Words.{keyword_of}
-use Rattle.ios_policy_reader.specs.Edges.{said_by, read_from}
+use Rattle.ios_policy_reader.specs.Edges.{said_by, may_end, read_from}
 
 -- some words after these make a line, from a state on and after what was said, where `at` words stand before
 abbrev pub BeginsFrom : List Edge → ℕ → List Said → ℕ → List (List ℕ) → Type 0
@@ -22,9 +22,9 @@ pub record IsFirstBadFrom (edges : List Edge) (from : ℕ) (said : List Said) (a
   pub before : BeginsFrom edges from said at (take good words)
   pub none : good < length words → BeginsFrom edges from said at (take (suc good) words) → ⊥
 
--- the words after a head
-abbrev pub IsFirstBad : List Edge → ℕ → List (List ℕ) → ℕ → Type 0
-IsFirstBad edges head words n = IsFirstBadFrom edges 0 [] head words n
+-- the words after a head, from a state on
+abbrev pub IsFirstBad : List Edge → ℕ → ℕ → List (List ℕ) → ℕ → Type 0
+IsFirstBad edges from head words n = IsFirstBadFrom edges from [] head words n
 
 -- ---- which tables have no dead end
 
@@ -46,6 +46,7 @@ sample ListName = codes "a"
 sample RouterName = codes "a"
 sample Interface = codes "vlan1"
 sample AnyAddress = codes "0.0.0.0"
+sample ClassAddress = codes "0.0.0.0"
 sample (Mask least) = codes "255.255.255.255"
 sample MaskOver = codes "255.255.255.255"
 sample AnyPrefix = codes "0.0.0.0/0"
@@ -59,7 +60,6 @@ sample _ = []
 -- a kind that takes its sample whatever was said
 unfoldable pub opens : Takes → Bool
 opens End = false
-opens EndClassful = false
 opens (Once key tag) = false
 opens (PortKey key n) = false
 opens MaskOver = true
@@ -67,22 +67,18 @@ opens (PortFrom tag) = true
 opens LengthFrom = true
 opens takes = is_some (said_by takes [] 0 (sample takes))
 
-abbrev pub is_plain_end : Takes → Bool
-is_plain_end End = true
-is_plain_end _ = false
-
 -- the first edge that leaves the state
 abbrev pub first_from : ℕ → List Edge → Option Edge
 first_from from [] = None
 first_from from (edge ∷ rest) = if edge.0 == from then Some edge else first_from from rest
 
--- the line may end in the state whatever was said, or comes to such a state by samples, along at most so many first edges
+-- the line may end in the state, or whatever was said it comes to such a state by samples, along at most so many first edges
 unfoldable pub closes : ℕ → List Edge → ℕ → Bool
 closes zero edges from = false
 closes (suc steps) edges from =
-    list_any (λ edge. (edge.0 == from) && is_plain_end edge.1) edges
+    may_end edges from
     || option_map_or (λ edge. opens edge.1 && closes steps edges edge.3) (first_from from edges) false
 
--- no state from which no line ends
-abbrev pub no_dead_end : List Edge → Bool
-no_dead_end edges = closes 24 edges 0 && list_all (λ edge. closes 24 edges edge.3) edges
+-- no state from which no line ends, that one among them
+abbrev pub no_dead_end : List Edge → ℕ → Bool
+no_dead_end edges from = closes 24 edges from && list_all (λ edge. closes 24 edges edge.3) edges

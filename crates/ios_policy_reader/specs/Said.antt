@@ -3,7 +3,7 @@ use Rattle.std.specs.Prelude.{ℕ, ◌==◌, ◌||◌, Bool, List, fold, max, mi
 use Rattle.std.specs.List.{list_any}
 use Rattle.mw_text.specs.declared.address.Addr.{Addr}
 use Rattle.ios_policy_reader.specs.declared.said.Tag.{Tag}
-use Rattle.ios_policy_reader.specs.declared.said.Tag.TheVariants.{Plain, Action, Name, Number as NumberTag, Sequence, Prefix as PrefixTag, Low, High, Protocol, Source, SourceWild, SourceTest, SourcePort, SourceTop, Target, TargetWild, TargetTest, TargetPort, TargetTop, Community}
+use Rattle.ios_policy_reader.specs.declared.said.Tag.TheVariants.{Plain, Action, Name, Number as NumberTag, Sequence, Prefix as PrefixTag, Low, High, Protocol, Source, SourceWild, SourceTest, SourcePort, SourceTop, Target, TargetWild, TargetTest, TargetPort, TargetTop, Community, Address as AddressTag, Length as LengthTag, Wildcard, NextHop, Discard, Leaving, Distance, Direction, Area, Every, Origin, Metric, MetricType, Subnets, Map, Always, Match, Remote, UpdateSource, NextHopSelf, Client, SendCommunity, Weight, Shutdown, PrefixList, FilterList}
 use Rattle.ios_policy_reader.specs.declared.said.Value.{Value}
 use Rattle.ios_policy_reader.specs.declared.said.Value.TheVariants.{Nothing, Number, Address, Length, Prefix, Pattern, Word}
 use Rattle.ios_policy_reader.specs.declared.said.Said.{Said}
@@ -30,6 +30,32 @@ tag_number TargetTest = 16
 tag_number TargetPort = 17
 tag_number TargetTop = 18
 tag_number Community = 19
+tag_number AddressTag = 20
+tag_number LengthTag = 21
+tag_number Wildcard = 22
+tag_number NextHop = 23
+tag_number Discard = 24
+tag_number Leaving = 25
+tag_number Distance = 26
+tag_number Direction = 27
+tag_number Area = 28
+tag_number Every = 29
+tag_number Origin = 30
+tag_number Metric = 31
+tag_number MetricType = 32
+tag_number Subnets = 33
+tag_number Map = 34
+tag_number Always = 35
+tag_number Match = 36
+tag_number Remote = 37
+tag_number UpdateSource = 38
+tag_number NextHopSelf = 39
+tag_number Client = 40
+tag_number SendCommunity = 41
+tag_number Weight = 42
+tag_number Shutdown = 43
+tag_number PrefixList = 44
+tag_number FilterList = 45
 
 abbrev pub number_in : ℕ → Value → ℕ
 number_in otherwise Nothing = otherwise
@@ -88,8 +114,8 @@ abbrev pub address_said : List Said → Addr
 address_said said = fold address_more (record { 0 = 0 }) said
 
 -- class A, B or C: the first three bits are not all 1
-abbrev pub has_class : Addr → Bool
-has_class a = nat_lt a.0 3758096384
+abbrev pub is_classful : Addr → Bool
+is_classful a = nat_lt a.0 3758096384
 
 -- something was said under the tag
 abbrev pub has_said : Tag → List Said → Bool

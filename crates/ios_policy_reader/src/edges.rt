@@ -2,30 +2,27 @@
 
 ghost use Rattle.std.specs.Prelude.{◌≡◌, ◌==◌, ℕ, ◌<◌, ◌^◌, ◌&&◌, length, Option, Some, None, if◌then◌else◌, option_map};
 ghost use Rattle.std.specs.List.{list_any};
-ghost use Rattle.ios_policy_reader.specs.Edges.{said_by, said_back, prefix_by, nothing_where, word_where, ends, ends_by, leaves, way_of, may_end};
-ghost use Rattle.ios_policy_reader.specs.Said.{address_said};
+ghost use Rattle.ios_policy_reader.specs.Edges.{said_by, said_back, prefix_by, nothing_where, word_where, address_where, is_end, ends_in, leaves, way_of, may_end};
+ghost use Rattle.ios_policy_reader.specs.Said.{address_said, is_classful};
 
 use crate::masks::{prefix_of_address, read_mask};
 use crate::names::{is_any_name, is_interface_name, is_name_of_list, is_router_name};
 use crate::patterns::read_pattern;
 use crate::said::{
-    Said, Tag, Value, is_classful, is_said, last_address, least_length_said, number_said,
-    ports_said,
+    Said, Tag, Value, has_class, is_said, last_address, least_length_said, number_said, ports_said,
 };
 use crate::words::{is_table_word, read_community, read_port, read_port_from, read_range};
-use mw_text::{read_addr, read_prefix};
+use mw_text::{Addr, read_addr, read_prefix};
 
 /// What a word has to be. Keywords stand in lower case and are filled up with blanks.
 #[derive(Clone, Copy, Debug)]
 pub enum Takes {
     /// No word: the line may end.
     End,
-    /// No word: the line may end where the address said last is of a class, A, B or C.
-    EndClassful,
     /// This word, in any case.
-    Key([u8; 16]),
+    Key([u8; 22]),
     /// This word, in any case, which stands for a number.
-    Named([u8; 16], u32),
+    Named([u8; 22], u32),
     Any,
     /// A number, from the first to the second.
     Range(u32, u32),
@@ -37,6 +34,8 @@ pub enum Takes {
     RouterName,
     Interface,
     AnyAddress,
+    /// An address of class A, B or C.
+    ClassAddress,
     /// A mask of at least this length.
     Mask(u8),
     /// A mask that the address said last lies under: no bits of it stand past the mask's.
@@ -46,11 +45,11 @@ pub enum Takes {
     AnyCommunity,
     AnyPattern,
     /// This word, where nothing was said under the tag.
-    Once([u8; 16], Tag),
+    Once([u8; 22], Tag),
     /// A port by its number or its name.
     AnyPort,
     /// This word, which stands for a number, where the protocol that was said has ports.
-    PortKey([u8; 16], u32),
+    PortKey([u8; 22], u32),
     /// A port that is not below the one that was said under the tag.
     PortFrom(Tag),
     /// A length that is not below the lengths that were said.
@@ -78,6 +77,16 @@ fn word_if(taken: bool, at: u32) -> Option<Value>
     ensures { result ≡ word_where at taken }
 {
     if taken { Some(Value::Word(at)) } else { None }
+}
+
+fn address_if_class(address: Addr) -> Option<Value>
+    ensures { result ≡ address_where (is_classful address) address }
+{
+    if has_class(address) {
+        Some(Value::Address(address))
+    } else {
+        None
+    }
 }
 
 /// What a mask says of the address said last.
@@ -122,7 +131,7 @@ fn say(takes: Takes, said: &[Said], at: u32, word: &[u8]) -> Option<Value>
     ensures { result ≡ said_by takes said.now at word.now }
 {
     match takes {
-        Takes::End | Takes::EndClassful => None,
+        Takes::End => None,
         Takes::Key(key) => nothing_if(is_table_word(word, &key)),
         Takes::Named(key, number) => {
             if is_table_word(word, &key) {
@@ -138,6 +147,7 @@ fn say(takes: Takes, said: &[Said], at: u32, word: &[u8]) -> Option<Value>
         Takes::RouterName => word_if(is_router_name(word), at),
         Takes::Interface => word_if(is_interface_name(word), at),
         Takes::AnyAddress => Some(Value::Address(read_addr(word)?)),
+        Takes::ClassAddress => address_if_class(read_addr(word)?),
         Takes::AnyPrefix => Some(Value::Prefix(read_prefix(word)?)),
         Takes::AnyCommunity => Some(Value::Number(read_community(word)?)),
         Takes::Mask(least) => Some(Value::Length(read_mask(word, least)?)),
@@ -151,15 +161,11 @@ fn say(takes: Takes, said: &[Said], at: u32, word: &[u8]) -> Option<Value>
     }
 }
 
-/// Whether an edge of this kind lets the line end, after what was said.
-fn is_end(takes: Takes, said: &[Said]) -> bool
-    ensures { result ≡ ends takes said.now }
+/// Whether an edge of this kind lets the line end.
+fn is_end_kind(takes: Takes) -> bool
+    ensures { result ≡ is_end takes }
 {
-    match takes {
-        Takes::End => true,
-        Takes::EndClassful => is_classful(last_address(said)),
-        _ => false,
-    }
+    matches!(takes, Takes::End)
 }
 
 /// The way along an edge, where it leaves the state and takes the word.
@@ -188,16 +194,16 @@ pub fn find_way(edges: &[Edge], from: u8, said: &[Said], at: u32, word: &[u8]) -
     None
 }
 
-/// Whether the line may end along the edge.
-fn ends_along(edge: Edge, from: u8, said: &[Said]) -> bool
-    ensures { result ≡ ends_by from said.now edge }
+/// Whether the line may end in the state along the edge.
+fn ends_along(edge: Edge, from: u8) -> bool
+    ensures { result ≡ ends_in from edge }
 {
-    edge.0 == from && is_end(edge.1, said)
+    edge.0 == from && is_end_kind(edge.1)
 }
 
-/// Whether the line may end in the state, after what was said.
-pub fn can_end(edges: &[Edge], from: u8, said: &[Said]) -> bool
-    ensures { result ≡ may_end edges.now from said.now }
+/// Whether the line may end in the state.
+pub fn can_end(edges: &[Edge], from: u8) -> bool
+    ensures { result ≡ may_end edges.now from }
 {
-    edges.iter().any(|edge| ends_along(*edge, from, said))
+    edges.iter().any(|edge| ends_along(*edge, from))
 }

@@ -1,38 +1,41 @@
 //! What the grammar says of bad words. Each function only carries its law.
 
 ghost use Rattle.std.specs.Prelude.{◌≡◌, ℕ, true, codes, List, [], Err};
-ghost use Rattle.ios_policy_reader.specs.Edges.{read_from, bad_word_of};
+ghost use Rattle.ios_policy_reader.specs.Edges.{read_from, bad_word_of, bad_word_from};
 ghost use Rattle.ios_policy_reader.specs.Least.{IsFirstBad, no_dead_end};
 ghost use Rattle.ios_policy_reader.specs.declared.cause.Cause.TheVariants.{BadWord};
 ghost use Rattle.ios_policy_reader.specs.declared.edges.Edge.{Edge};
 
 use crate::tables::{
-    ACCESS_LIST, AS_PATH_LIST, COMMUNITY_LIST, MATCH_AS_PATH, MATCH_NAMES, PREFIX_LIST, ROUTE_MAP,
-    SET_COMMUNITY, SET_METRIC_TYPE, SET_NUMBER, SET_ORIGIN, SET_PREPEND, SET_WEIGHT,
+    ACCESS_LIST, AS_PATH_LIST, COMMUNITY_LIST, IN_EXTENDED, IN_STANDARD, MATCH_AS_PATH,
+    MATCH_NAMES, PREFIX_LIST, ROUTE_MAP, SET_COMMUNITY, SET_METRIC_TYPE, SET_NUMBER, SET_ORIGIN,
+    SET_PREPEND, SET_WEIGHT,
 };
 
 /// Where a table has no dead end, a bad word is the first one: the words before it begin a line of the row, and with it
 /// they begin none.
 pub fn bad_word_law()
-    ensures { (edges : List Edge) → no_dead_end edges ≡ true → (head : ℕ) (words : List (List ℕ)) (n : ℕ)
-        → read_from edges 0 [] head words ≡ Err (BadWord n) → IsFirstBad edges head words n }
+    ensures { (edges : List Edge) (from : ℕ) → no_dead_end edges from ≡ true → (head : ℕ) (words : List (List ℕ)) (n : ℕ)
+        → read_from edges from [] head words ≡ Err (BadWord n) → IsFirstBad edges from head words n }
 {}
 
 /// No table has a dead end.
 pub fn tables_law()
-    ensures prefix_list { no_dead_end PREFIX_LIST ≡ true }
-    ensures community_list { no_dead_end COMMUNITY_LIST ≡ true }
-    ensures as_path_list { no_dead_end AS_PATH_LIST ≡ true }
-    ensures route_map { no_dead_end ROUTE_MAP ≡ true }
-    ensures access_list { no_dead_end ACCESS_LIST ≡ true }
-    ensures match_names { no_dead_end MATCH_NAMES ≡ true }
-    ensures match_as_path { no_dead_end MATCH_AS_PATH ≡ true }
-    ensures set_number { no_dead_end SET_NUMBER ≡ true }
-    ensures set_weight { no_dead_end SET_WEIGHT ≡ true }
-    ensures set_community { no_dead_end SET_COMMUNITY ≡ true }
-    ensures set_origin { no_dead_end SET_ORIGIN ≡ true }
-    ensures set_prepend { no_dead_end SET_PREPEND ≡ true }
-    ensures set_metric_type { no_dead_end SET_METRIC_TYPE ≡ true }
+    ensures prefix_list { no_dead_end PREFIX_LIST 0 ≡ true }
+    ensures community_list { no_dead_end COMMUNITY_LIST 0 ≡ true }
+    ensures as_path_list { no_dead_end AS_PATH_LIST 0 ≡ true }
+    ensures route_map { no_dead_end ROUTE_MAP 0 ≡ true }
+    ensures access_list { no_dead_end ACCESS_LIST 0 ≡ true }
+    ensures standard_block { no_dead_end ACCESS_LIST IN_STANDARD ≡ true }
+    ensures extended_block { no_dead_end ACCESS_LIST IN_EXTENDED ≡ true }
+    ensures match_names { no_dead_end MATCH_NAMES 0 ≡ true }
+    ensures match_as_path { no_dead_end MATCH_AS_PATH 0 ≡ true }
+    ensures set_number { no_dead_end SET_NUMBER 0 ≡ true }
+    ensures set_weight { no_dead_end SET_WEIGHT 0 ≡ true }
+    ensures set_community { no_dead_end SET_COMMUNITY 0 ≡ true }
+    ensures set_origin { no_dead_end SET_ORIGIN 0 ≡ true }
+    ensures set_prepend { no_dead_end SET_PREPEND 0 ≡ true }
+    ensures set_metric_type { no_dead_end SET_METRIC_TYPE 0 ≡ true }
 {}
 
 /// Worked lines of prefix lists: which word is bad.
@@ -90,4 +93,16 @@ pub fn map_block_lines()
     ensures prepend { bad_word_of SET_PREPEND 3 (codes "set as-path prepend 65001 4294967295") ≡ 0 }
     ensures prepend_zero { bad_word_of SET_PREPEND 3 (codes "set as-path prepend 65001 0") ≡ 5 }
     ensures kind { bad_word_of SET_METRIC_TYPE 2 (codes "set metric-type type-1") ≡ 0 }
+{}
+
+/// Worked lines in the blocks of access lists: which word is bad.
+pub fn list_block_lines()
+    ensures numbered { bad_word_from ACCESS_LIST IN_STANDARD 0 (codes "10 permit any log") ≡ 0 }
+    ensures numbered_remark { bad_word_from ACCESS_LIST IN_STANDARD 0 (codes "10 remark any words") ≡ 2 }
+    ensures number_alone { bad_word_from ACCESS_LIST IN_STANDARD 0 (codes "10") ≡ 2 }
+    ensures no_action { bad_word_from ACCESS_LIST IN_STANDARD 0 (codes "10 any") ≡ 2 }
+    ensures no_host { bad_word_from ACCESS_LIST IN_STANDARD 0 (codes "deny host") ≡ 3 }
+    ensures remark { bad_word_from ACCESS_LIST IN_EXTENDED 0 (codes "remark any words") ≡ 0 }
+    ensures ports { bad_word_from ACCESS_LIST IN_EXTENDED 0 (codes "4294967295 permit tcp any gt 1023 any eq bgp") ≡ 0 }
+    ensures no_target { bad_word_from ACCESS_LIST IN_EXTENDED 0 (codes "permit ip any") ≡ 4 }
 {}

@@ -7,6 +7,8 @@ pub mod laws;
 pub mod masks;
 pub mod names;
 pub mod patterns;
+pub mod router_laws;
+pub mod router_tables;
 pub mod said;
 pub mod tables;
 pub mod tail;

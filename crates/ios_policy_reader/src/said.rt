@@ -1,7 +1,7 @@
 //! What the words of a line said.
 
 ghost use Rattle.std.specs.Prelude.{◌≡◌, ◌==◌};
-ghost use Rattle.ios_policy_reader.specs.Said.{tag_number, number_in, number_more, number_under, length_in, length_more, length_said, least_length, has_ports, address_in, address_more, address_said, has_class, has_said};
+ghost use Rattle.ios_policy_reader.specs.Said.{tag_number, number_in, number_more, number_under, length_in, length_more, length_said, least_length, has_ports, address_in, address_more, address_said, is_classful, has_said};
 
 use ios_ast::Pattern;
 use mw_text::{Addr, Prefix};
@@ -32,6 +32,39 @@ pub enum Tag {
     TargetPort,
     TargetTop,
     Community,
+    Address,
+    /// The length of a mask.
+    Length,
+    Wildcard,
+    NextHop,
+    /// `Null0`.
+    Discard,
+    /// The interface by which packets leave.
+    Leaving,
+    Distance,
+    Direction,
+    Area,
+    /// `default`, for every interface.
+    Every,
+    /// Whence routes are redistributed: 0 connected, 1 static, 2 OSPF, 3 BGP.
+    Origin,
+    Metric,
+    MetricType,
+    Subnets,
+    Map,
+    Always,
+    /// Which OSPF routes are redistributed: 0 internal, 1 and 2 external of that type, 3 external.
+    Match,
+    /// What a line on a neighbour is about.
+    Remote,
+    UpdateSource,
+    NextHopSelf,
+    Client,
+    SendCommunity,
+    Weight,
+    Shutdown,
+    PrefixList,
+    FilterList,
 }
 
 /// What a word says.
@@ -142,8 +175,8 @@ pub fn last_address(said: &[Said]) -> Addr
 }
 
 /// Whether the address is of class A, B or C.
-pub fn is_classful(address: Addr) -> bool
-    ensures { result ≡ has_class address }
+pub fn has_class(address: Addr) -> bool
+    ensures { result ≡ is_classful address }
 {
     address.0 < 0xe000_0000
 }

@@ -56,3 +56,11 @@ returns-clause-set_prepend c = refl
 pub returns-clause-set_metric_type : goal.returns-clause-set_metric_type
 unfolding closes opens said_by said_back length_below port_of
 returns-clause-set_metric_type c = refl
+
+pub returns-clause-standard_block : goal.returns-clause-standard_block
+unfolding closes opens said_by said_back length_below port_of
+returns-clause-standard_block c = refl
+
+pub returns-clause-extended_block : goal.returns-clause-extended_block
+unfolding closes opens said_by said_back length_below port_of
+returns-clause-extended_block c = refl
