@@ -5,3 +5,4 @@ pub mod Patterns
 pub mod Said
 pub mod Edges
 pub mod Least
+pub mod Heads

@@ -3,12 +3,15 @@
 
 pub mod cause;
 pub mod edges;
+pub mod head_table;
+pub mod heads;
 pub mod laws;
 pub mod masks;
 pub mod names;
 pub mod patterns;
 pub mod router_laws;
 pub mod router_tables;
+pub mod rows;
 pub mod said;
 pub mod tables;
 pub mod tail;
@@ -16,5 +19,7 @@ pub mod words;
 
 pub use cause::{Cause, Refused};
 pub use edges::{Edge, Takes};
+pub use heads::{Context, Found, Row, find_row};
+pub use rows::read_row;
 pub use said::{Said, Tag, Value};
 pub use tail::read_tail;

@@ -236,3 +236,14 @@ pub const NEIGHBOR: [Edge; 29] = [
     Edge(10, End, Plain, 10),
     Edge(10, Any, Plain, 10),
 ];
+
+/// `banner` (`motd` | `login` | `exec` | `incoming`) and a text
+pub const BANNER: [Edge; 7] = [
+    Edge(0, Key(*b"motd                  "), Plain, 1),
+    Edge(0, Key(*b"login                 "), Plain, 1),
+    Edge(0, Key(*b"exec                  "), Plain, 1),
+    Edge(0, Key(*b"incoming              "), Plain, 1),
+    Edge(1, Any, Plain, 2),
+    Edge(2, End, Plain, 2),
+    Edge(2, Any, Plain, 2),
+];

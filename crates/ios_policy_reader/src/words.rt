@@ -31,6 +31,13 @@ fn keyword_in(key: &[u8]) -> &[u8]
     }
 }
 
+/// How long the part before the first blank is.
+pub fn length_of_keyword(key: &[u8]) -> usize
+    ensures { result ≡ length (keyword_of key.now) }
+{
+    keyword_in(key).len()
+}
+
 /// Whether the word is that word of a table, in any case.
 pub fn is_table_word(word: &[u8], key: &[u8]) -> bool
     ensures { result ≡ is_key key.now word.now }
