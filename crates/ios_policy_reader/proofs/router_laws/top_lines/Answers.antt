@@ -83,3 +83,11 @@ returns-clause-extended c = refl
 pub returns-clause-two_names : goal.returns-clause-two_names
 unfolding said_by said_back length_below port_of
 returns-clause-two_names c = refl
+
+pub returns-clause-banner : goal.returns-clause-banner
+unfolding said_by said_back length_below port_of
+returns-clause-banner c = refl
+
+pub returns-clause-no_banner : goal.returns-clause-no_banner
+unfolding said_by said_back length_below port_of
+returns-clause-no_banner c = refl
