@@ -1,6 +1,6 @@
 //! Which row a line is of: the longest head that fits in the context.
 
-ghost use Rattle.std.specs.Prelude.{◌≡◌, ℕ, ◌<◌, ◌^◌, length};
+ghost use Rattle.std.specs.Prelude.{◌≡◌, ℕ, ◌<◌, ◌≤◌, ◌^◌, length, IfSome, IfOk};
 ghost use Rattle.std.specs.List.{list_any};
 ghost use Rattle.ios_policy_reader.specs.Heads.{context_number, is_over, rest_of, fit, found_by, longer, numbered_entry, row_among, fits_any, row_of};
 
@@ -112,7 +112,8 @@ fn after_word(head: &[u8]) -> &[u8]
 /// How many words a head has, where the line begins with them.
 fn words_of_head(head: &[u8], words: &[List<u8>]) -> Option<u32>
     requires few { length words.now < 2 ^ 32 }
-    ensures { result ≡ fit 0 head.now words.now }
+    ensures value { result ≡ fit 0 head.now words.now }
+    ensures within { IfSome result (λ count. count ≤ length words.now) }
 {
     let mut rest = head;
     for at in 0..words.len() {
@@ -134,7 +135,8 @@ fn words_of_head(head: &[u8], words: &[List<u8>]) -> Option<u32>
 /// The row of a head, where it stands in the context and the line begins with it.
 fn find_by(context: Context, words: &[List<u8>], head: &Head) -> Option<Found>
     requires few { length words.now < 2 ^ 32 }
-    ensures { result ≡ found_by context words.now head.now }
+    ensures value { result ≡ found_by context words.now head.now }
+    ensures within { IfSome result (λ found. found.head ≤ length words.now) }
 {
     if head.0 as u8 != context as u8 {
         return None;
@@ -148,7 +150,8 @@ fn find_by(context: Context, words: &[List<u8>], head: &Head) -> Option<Found>
 
 /// The one with the longer head.
 fn longer_of(best: Option<Found>, next: Option<Found>) -> Option<Found>
-    ensures { result ≡ longer best next }
+    ensures value { result ≡ longer best next }
+    ensures within { (n : ℕ) → IfSome best (λ old. old.head ≤ n) → IfSome next (λ new. new.head ≤ n) → IfSome result (λ found. found.head ≤ n) }
 {
     match (best, next) {
         (None, _) => next,
@@ -159,7 +162,8 @@ fn longer_of(best: Option<Found>, next: Option<Found>) -> Option<Found>
 
 /// The entry that a line in the block of an access list is, where it begins with a number.
 fn find_numbered(context: Context, words: &[List<u8>]) -> Option<Found>
-    ensures { result ≡ numbered_entry context words.now }
+    ensures value { result ≡ numbered_entry context words.now }
+    ensures none_before { IfSome result (λ found. found.head ≡ 0) }
 {
     let first = words.first()?;
     read_range(first.as_slice(), 0, 4_294_967_295)?;
@@ -179,7 +183,8 @@ fn find_numbered(context: Context, words: &[List<u8>]) -> Option<Found>
 /// The row with the longest of these heads that fits in the context.
 fn longest(heads: &[Head], context: Context, words: &[List<u8>]) -> Option<Found>
     requires few { length words.now < 2 ^ 32 }
-    ensures { result ≡ row_among heads.now context words.now }
+    ensures value { result ≡ row_among heads.now context words.now }
+    ensures within { IfSome result (λ found. found.head ≤ length words.now) }
 {
     let mut best = find_numbered(context, words);
     for head in heads {
@@ -208,7 +213,8 @@ fn has_head(heads: &[Head], words: &[List<u8>]) -> bool
 /// head of another context fits, else its command is unknown.
 pub fn find_row(context: Context, words: &[List<u8>]) -> Result<Found, Cause>
     requires few { length words.now < 2 ^ 32 }
-    ensures { result ≡ row_of context words.now }
+    ensures value { result ≡ row_of context words.now }
+    ensures within { IfOk result (λ found. found.head ≤ length words.now) }
 {
     match longest(&HEADS, context, words) {
         Some(found) => Ok(found),

@@ -7,7 +7,7 @@ fit-over n head [] h = rw h refl
 fit-over n head (word ∷ rest) h = rw h refl
 
 -- src/heads.rt:120:13
-pub returns-then-is_empty_head : goal.returns-then-is_empty_head
-returns-then-is_empty_head c =
+pub returns-then-is_empty_head-clause-value : goal.returns-then-is_empty_head-clause-value
+returns-then-is_empty_head-clause-value c =
     let over : is_over c.loop-at.rest.now ≡ true = sym c.is_empty_head.ensures ∙ c.if-is_empty_head.true in
     sym (fit-over c.loop-at.at c.loop-at.rest.now (drop c.loop-at.at c.args.words.now) over) ∙ c.loop-at.invariant

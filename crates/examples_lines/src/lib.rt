@@ -1,0 +1,5 @@
+//! Lines of configurations: which row each is of, and what its words say.
+#![tactic(auto)]
+
+#[cfg(test)]
+mod saying;
