@@ -8,13 +8,13 @@ use std::test::Fail;
 
 /// The row of a line, and what its words say.
 #[derive(Drop)]
-struct LineRead {
-    row: Row,
-    said: List<Said>,
+pub struct LineRead {
+    pub row: Row,
+    pub said: List<Said>,
 }
 
 /// Reads a line in a context.
-fn read(alloc: Global, context: Context, text: &str) -> Result<LineRead, Cause> {
+pub fn read(alloc: Global, context: Context, text: &str) -> Result<LineRead, Cause> {
     if text.len() > 1_000 {
         return Err(Cause::Limit);
     }

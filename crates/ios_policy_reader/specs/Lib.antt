@@ -6,3 +6,4 @@ pub mod Said
 pub mod Edges
 pub mod Least
 pub mod Heads
+pub mod Entries

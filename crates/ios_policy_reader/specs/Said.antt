@@ -2,6 +2,9 @@
 use Rattle.std.specs.Prelude.{ℕ, ◌==◌, ◌||◌, Bool, List, fold, max, min, nat_lt, if◌then◌else◌}
 use Rattle.std.specs.List.{list_any}
 use Rattle.mw_text.specs.declared.address.Addr.{Addr}
+use Rattle.mw_text.specs.declared.address.Prefix.{Prefix as WrittenPrefix}
+use Rattle.ios_ast.specs.declared.policies.Pattern.{Pattern as PathPattern}
+use Rattle.ios_ast.specs.declared.policies.Pattern.TheVariants.{Any}
 use Rattle.ios_policy_reader.specs.declared.said.Tag.{Tag}
 use Rattle.ios_policy_reader.specs.declared.said.Tag.TheVariants.{Plain, Action, Name, Number as NumberTag, Sequence, Prefix as PrefixTag, Low, High, Protocol, Source, SourceWild, SourceTest, SourcePort, SourceTop, Target, TargetWild, TargetTest, TargetPort, TargetTop, Community, Address as AddressTag, Length as LengthTag, Wildcard, NextHop, Discard, Leaving, Distance, Direction, Area, Every, Origin, Metric, MetricType, Subnets, Map, Always, Match, Remote, UpdateSource, NextHopSelf, Client, SendCommunity, Weight, Shutdown, PrefixList, FilterList}
 use Rattle.ios_policy_reader.specs.declared.said.Value.{Value}
@@ -112,6 +115,45 @@ address_more a s = address_in a s.value
 -- the address that was said last, or 0.0.0.0
 abbrev pub address_said : List Said → Addr
 address_said said = fold address_more (record { 0 = 0 }) said
+
+-- the address that was said last under a tag
+abbrev pub address_more_under : Tag → Addr → Said → Addr
+address_more_under tag a s = if tag_number s.tag == tag_number tag then address_in a s.value else a
+
+abbrev pub address_under : Tag → List Said → Addr → Addr
+address_under tag said otherwise = fold (address_more_under tag) otherwise said
+
+abbrev pub prefix_in : WrittenPrefix → Value → WrittenPrefix
+prefix_in otherwise Nothing = otherwise
+prefix_in otherwise (Number n) = otherwise
+prefix_in otherwise (Address a) = otherwise
+prefix_in otherwise (Length n) = otherwise
+prefix_in otherwise (Prefix p) = p
+prefix_in otherwise (Pattern p) = otherwise
+prefix_in otherwise (Word at) = otherwise
+
+abbrev pub prefix_more : WrittenPrefix → Said → WrittenPrefix
+prefix_more p s = prefix_in p s.value
+
+-- the prefix that was said last, or 0.0.0.0/0
+abbrev pub prefix_said : List Said → WrittenPrefix
+prefix_said said = fold prefix_more (record { addr = record { 0 = 0 }; len = 0 }) said
+
+abbrev pub pattern_in : PathPattern → Value → PathPattern
+pattern_in otherwise Nothing = otherwise
+pattern_in otherwise (Number n) = otherwise
+pattern_in otherwise (Address a) = otherwise
+pattern_in otherwise (Length n) = otherwise
+pattern_in otherwise (Prefix p) = otherwise
+pattern_in otherwise (Pattern p) = p
+pattern_in otherwise (Word at) = otherwise
+
+abbrev pub pattern_more : PathPattern → Said → PathPattern
+pattern_more p s = pattern_in p s.value
+
+-- the pattern that was said last, or that of any path
+abbrev pub pattern_said : List Said → PathPattern
+pattern_said said = fold pattern_more Any said
 
 -- class A, B or C: the first three bits are not all 1
 abbrev pub is_classful : Addr → Bool

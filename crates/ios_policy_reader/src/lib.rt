@@ -3,6 +3,7 @@
 
 pub mod cause;
 pub mod edges;
+pub mod entries;
 pub mod head_table;
 pub mod heads;
 pub mod laws;

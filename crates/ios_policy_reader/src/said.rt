@@ -1,7 +1,7 @@
 //! What the words of a line said.
 
 ghost use Rattle.std.specs.Prelude.{◌≡◌, ◌==◌};
-ghost use Rattle.ios_policy_reader.specs.Said.{tag_number, number_in, number_more, number_under, length_in, length_more, length_said, least_length, has_ports, address_in, address_more, address_said, is_classful, has_said};
+ghost use Rattle.ios_policy_reader.specs.Said.{tag_number, number_in, number_more, number_under, length_in, length_more, length_said, least_length, has_ports, address_in, address_more, address_said, address_more_under, address_under, prefix_in, prefix_more, prefix_said, pattern_in, pattern_more, pattern_said, is_classful, has_said};
 
 use ios_ast::Pattern;
 use mw_text::{Addr, Prefix};
@@ -172,6 +172,64 @@ pub fn last_address(said: &[Said]) -> Addr
         address = address_of_value(one.value, address);
     }
     address
+}
+
+/// The address that was said last under a tag.
+pub fn address_said_under(tag: Tag, said: &[Said], otherwise: Addr) -> Addr
+    ensures { result ≡ address_under tag said.now otherwise }
+{
+    let mut address = otherwise;
+    for one in said {
+        if is_under(tag, *one) {
+            address = address_of_value(one.value, address);
+        }
+    }
+    address
+}
+
+/// The prefix that this is, if it is one.
+fn prefix_of_value(value: Value, otherwise: Prefix) -> Prefix
+    ensures { result ≡ prefix_in otherwise value }
+{
+    match value {
+        Value::Prefix(prefix) => prefix,
+        _ => otherwise,
+    }
+}
+
+/// The prefix that was said last, or 0.0.0.0/0.
+pub fn last_prefix(said: &[Said]) -> Prefix
+    ensures { result ≡ prefix_said said.now }
+{
+    let mut prefix = Prefix {
+        addr: Addr(0),
+        len: 0,
+    };
+    for one in said {
+        prefix = prefix_of_value(one.value, prefix);
+    }
+    prefix
+}
+
+/// The pattern that this is, if it is one.
+fn pattern_of_value(value: Value, otherwise: Pattern) -> Pattern
+    ensures { result ≡ pattern_in otherwise value }
+{
+    match value {
+        Value::Pattern(pattern) => pattern,
+        _ => otherwise,
+    }
+}
+
+/// The pattern that was said last, or that of any path.
+pub fn last_pattern(said: &[Said]) -> Pattern
+    ensures { result ≡ pattern_said said.now }
+{
+    let mut pattern = Pattern::Any;
+    for one in said {
+        pattern = pattern_of_value(one.value, pattern);
+    }
+    pattern
 }
 
 /// Whether the address is of class A, B or C.
