@@ -1,5 +1,6 @@
 -- Books: one place more, one clause more.
 use Rattle.std.proofs.Common.{◌≡◌, ◌≢◌, ℕ, ◌+◌, ◌<◌, ◌==◌, Bool, true, false, cond, ◌||◌, ◌&&◌, List, [], ◌∷◌, ◌++◌, length, length-append, take, set, Some, None, get_or, slice_get, inl, inr, refl, sym, ap, ap₂, ◌∙◌, arith, nat_lt}
+use Rattle.cnf_blaster.proofs.Properness.{weaker}
 use Rattle.std.specs.List.{list_all, list_any}
 use Rattle.std.specs.Bool.{beq}
 use Rattle.std.proofs.lemmas.Bool.{ltb-true, lt-ltb, cases_Bool, eqb-true, eq-eqb, false≢true, or_left, or_right, and_from}
@@ -12,7 +13,7 @@ use Rattle.mw_text.proofs.Lists.{each_place-push}
 use Rattle.resolution_check.specs.declared.log.Lit.{Lit}
 use Rattle.resolution_check.specs.declared.log.Clause.{Clause}
 use Rattle.resolution_check.specs.Clauses.{has, is_same, is_below}
-use Rattle.cdcl_search.proofs.Places.{all_at, all_set, all_push, all_more}
+use Rattle.cdcl_search.proofs.Places.{all_at, all_set, all_push}
 use Rattle.cdcl_search.specs.Books.{Shelf, are_places, IsIndexed, listed, has_place, Finds}
 
 eqb_sym : (m n : ℕ) → (m == n) ≡ (n == m)
@@ -39,8 +40,8 @@ places-put lists var place count old new within there e below all =
 pub places-more : (count more : ℕ) (lists : List (List ℕ)) → count < more → list_all (are_places count) lists ≡ true
     → list_all (are_places more) lists ≡ true
 places-more count more lists h =
-    all_more (are_places count) (are_places more) lists
-    (λ places. all_more (λ k. nat_lt k count) (λ k. nat_lt k more) places
+    weaker (are_places count) (are_places more) lists
+    (λ places. weaker (λ k. nat_lt k count) (λ k. nat_lt k more) places
     (λ k below. let known : k < count = ltb-true k count below in lt-ltb k more (omega arith)))
 
 -- what is read back of a list after its items were written in place

@@ -1,6 +1,7 @@
 -- The log of a search: its entries and their lines.
 use Rattle.resolution_check.proofs.Values.{below_larger}
 use Rattle.std.proofs.Common.{◌≡◌, ℕ, zero, suc, ◌+◌, ◌<◌, ◌≤◌, ◌^◌, ◌==◌, Bool, true, false, cond, ◌||◌, List, [], ◌∷◌, ◌++◌, length, take, drop, slice_get, Option, Some, None, is_some, Result, Ok, Err, IfOk, refl, sym, ap, ap₂, subst, ◌∙◌, arith, inl, inr, add-zero, append_assoc, length-append, take-append-drop}
+use Rattle.cnf_blaster.proofs.Properness.{weaker}
 use Rattle.std.specs.Option.{option_or}
 use Rattle.std.specs.List.{list_all, AllByRecursion}
 use Rattle.std.proofs.lemmas.Bool.{and_parts, ltb-true, leb-true, cases_Bool, eqb-true, eq-eqb, false≢true, false_from_ne_true}
@@ -31,7 +32,7 @@ use Rattle.cdcl_search.specs.declared.outcome.Outcome.{Outcome}
 use Rattle.cdcl_search.specs.declared.outcome.Outcome.TheVariants.{Unsat, Sat, Unknown}
 use Rattle.cdcl_search.specs.Outcomes.{input_entries, adds_or_deletes, IsSearchLog, IsCut, IsLogged, OnUnsat}
 use Rattle.cdcl_search.specs.Going.{IsGoing, IsRefuted}
-use Rattle.cdcl_search.proofs.Places.{take_at, all_push, all_more}
+use Rattle.cdcl_search.proofs.Places.{take_at, all_push}
 use Rattle.cdcl_search.proofs.Followed.{same_bool}
 
 -- ---- what has a text
@@ -200,7 +201,7 @@ pub record MayBeInputs (count : ℕ) (cs : List Clause) : Type 0 where
 pub small_inputs : (vars : ℕ) (cs : List Clause) → vars ≤ 2 ^ 63 → list_all (λ c. is_below vars c.lits) cs ≡ true
     → list_all (λ c. is_below (2 ^ 63) c.lits) cs ≡ true
 small_inputs vars cs few below =
-    all_more (λ (k : Clause). is_below vars k.lits) (λ (k : Clause). is_below _ k.lits) cs
+    weaker (λ (k : Clause). is_below vars k.lits) (λ (k : Clause). is_below _ k.lits) cs
     (λ k. below_larger vars _ k.lits few) below
 
 may_be_inputs : (vars budget : ℕ) (cs : List Clause) → vars ≤ 2 ^ 63 → length cs + budget ≤ 2 ^ 63

@@ -61,12 +61,6 @@ pub all_push : {X : Type 0} (p : X → Bool) (xs : List X) (x : X) → list_all 
 all_push p [] x all h = and_from _ _ h refl
 all_push p (z ∷ xs) x all h = and_from _ _ (and_parts _ _ all).0 (all_push p xs x (and_parts _ _ all).1 h)
 
-pub all_more : {X : Type 0} (p q : X → Bool) (xs : List X) → ((x : X) → p x ≡ true → q x ≡ true)
-    → list_all p xs ≡ true → list_all q xs ≡ true
-all_more p q [] more all = refl
-all_more p q (z ∷ xs) more all =
-    and_from _ _ (more z (and_parts _ _ all).0) (all_more p q xs more (and_parts _ _ all).1)
-
 -- the first items and the one behind them
 pub take_at : {X : Type 0} (xs : List X) (i : ℕ) (x : X) → slice_get xs i ≡ Some x
     → take (i + 1) xs ≡ take i xs ++ x ∷ []

@@ -1,5 +1,6 @@
 -- No number of a counterexample is a float.
 use Rattle.std.proofs.Common.{◌≡◌, ℕ, ◌+◌, List, [], ◌∷◌, ◌++◌, Bool, true, false, ◌||◌, cond, map, Option, Some, None, option_map, refl, ap, ◌∙◌}
+use Rattle.std.proofs.lemmas.Bool.{or_from, or_parts}
 use Rattle.std.specs.Prelude.{slice_get}
 use Rattle.std.specs.Option.{option_map_or}
 use Rattle.std.specs.Ordering.{nat_cmp, match_ordering}
@@ -30,32 +31,21 @@ use Rattle.cex_json.specs.Json.{members_with_from, number_of, with_field}
 use Rattle.cex_json.specs.Text.{cex_data, shown_fields, surroundings_of, tables_data, world_fields}
 use Rattle.cex_json.specs.Worlds.{announcement_data, announcement_fields, link_data, peer_data, peers_from}
 
-neither : (a b : Bool) → a ≡ false → b ≡ false → (a || b) ≡ false
-neither a b is_a is_b = ap (λ x. x || b) is_a ∙ is_b
-
-first : (a b : Bool) → (a || b) ≡ false → a ≡ false
-first false b h = refl
-first true b h = cc
-
-second : (a b : Bool) → (a || b) ≡ false → b ≡ false
-second false b h = h
-second true b h = cc
-
 put_plain : (name : List ℕ) (value : Data) (members : Members) → has_float value ≡ false → members_have_float members ≡ false →
     members_have_float (put name value members) ≡ false
-put_plain name value no_members plain others = neither (has_float value) false plain refl
+put_plain name value no_members plain others = or_from (has_float value) false plain refl
 put_plain name value (member other held rest) plain others =
-    let rest_plain : members_have_float rest ≡ false = second (has_float held) (members_have_float rest) others in
+    let rest_plain : members_have_float rest ≡ false = (or_parts (has_float held) (members_have_float rest) others).1 in
     by_order (slice_cmp nat_cmp name other) rest_plain (put_plain name value rest plain rest_plain)
   where
     held_plain : has_float held ≡ false
-    held_plain = first (has_float held) (members_have_float rest) others
+    held_plain = (or_parts (has_float held) (members_have_float rest) others).0
 
     by_order : (o : Ordering) → members_have_float rest ≡ false → members_have_float (put name value rest) ≡ false → members_have_float
         (match_ordering o (member name value (member other held rest)) (member other value rest) (member other held (put name value rest))) ≡ false
-    by_order Less rest_plain deeper = neither (has_float value) (has_float held || members_have_float rest) plain others
-    by_order Equal rest_plain deeper = neither (has_float value) (members_have_float rest) plain rest_plain
-    by_order Greater rest_plain deeper = neither (has_float held) (members_have_float (put name value rest)) held_plain deeper
+    by_order Less rest_plain deeper = or_from (has_float value) (has_float held || members_have_float rest) plain others
+    by_order Equal rest_plain deeper = or_from (has_float value) (members_have_float rest) plain rest_plain
+    by_order Greater rest_plain deeper = or_from (has_float held) (members_have_float (put name value rest)) held_plain deeper
 
 -- a value that is there has no float
 abbrev pub IsPlain : Option Data → Type 0
@@ -84,7 +74,7 @@ option_plain f plain (Some x) = plain x
 all_plain : {A : Type 0} (f : A → Data) → ((x : A) → has_float (f x) ≡ false) → (xs : List A) →
     items_have_float (items_of (map f xs)) ≡ false
 all_plain f plain [] = refl
-all_plain f plain (x ∷ xs) = neither (has_float (f x)) (items_have_float (items_of (map f xs))) (plain x) (all_plain f plain xs)
+all_plain f plain (x ∷ xs) = or_from (has_float (f x)) (items_have_float (items_of (map f xs))) (plain x) (all_plain f plain xs)
 
 packet_plain : (packet : Packet) → has_float (packet_data packet) ≡ false
 unfolding packet_data
@@ -119,7 +109,7 @@ parts_plain files place slot = fields_plain no_members (parts_fields files place
 
 one_plain : (b : Bool) (value : Data) (rest : List Data) → has_float value ≡ false → items_have_float (items_of rest) ≡ false →
     items_have_float (items_of (cond b (value ∷ []) [] ++ rest)) ≡ false
-one_plain true value rest plain others = neither (has_float value) (items_have_float (items_of rest)) plain others
+one_plain true value rest plain others = or_from (has_float value) (items_have_float (items_of rest)) plain others
 one_plain false value rest plain others = others
 
 slots_plain : (files : List File) (place : ℕ) (slots : List Slot) → items_have_float (items_of (slots_from files place slots)) ≡ false
@@ -147,7 +137,7 @@ peers_plain files ids at (end ∷ rest) = by_id (slice_get ids at) (peers_plain 
   by_id : (id : Option Addr) → items_have_float (items_of (peers_from files ids (at + 1) rest)) ≡ false →
       items_have_float (items_of (option_map_or (λ written. written ∷ []) (option_map (peer_data files end) id) [] ++ peers_from files ids (at + 1) rest)) ≡ false
   by_id None others = others
-  by_id (Some id) others = neither (has_float (peer_data files end id)) (items_have_float (items_of (peers_from files ids (at + 1) rest)))
+  by_id (Some id) others = or_from (has_float (peer_data files end id)) (items_have_float (items_of (peers_from files ids (at + 1) rest)))
       (peer_plain files end id) others
 
 announcement_plain : (files : List File) (announcement : Announcement) → has_float (announcement_data files announcement) ≡ false

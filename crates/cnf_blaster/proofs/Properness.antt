@@ -205,7 +205,8 @@ clauses-good nodes vars roots sound below =
     within j (omega arith) (reached-operand nodes vars roots i j n sound s t named))))
     (roots-good count var roots (λ k r h. within r.0 (below k r h) (reached-root nodes roots k r h)))
 
-weaker : {X : Type 0} (p q : X → Bool) (xs : List X) → ((x : X) → p x ≡ true → q x ≡ true) → list_all p xs ≡ true
+-- a test that follows from one that all items pass
+pub weaker : {X : Type 0} (p q : X → Bool) (xs : List X) → ((x : X) → p x ≡ true → q x ≡ true) → list_all p xs ≡ true
     → list_all q xs ≡ true
 weaker p q [] each h = refl
 weaker p q (x ∷ xs) each h = let both = and_parts _ _ h in and_from _ _ (each x both.0) (weaker p q xs each both.1)

@@ -1,5 +1,6 @@
 -- Which assignments make the clauses true.
 use Rattle.std.proofs.Common.{◌≡◌, ℕ, zero, suc, ◌<◌, Bool, true, false, not, ◌&&◌, ◌||◌, cond, List, [], ◌∷◌, length}
+use Rattle.resolution_check.proofs.Truth.{true_from_has}
 use Rattle.std.proofs.Common.{slice_get, Option, Some, None, inl, inr, refl, sym, ap, ap₂, subst, ◌∙◌, arith}
 use Rattle.std.specs.List.{list_any, list_all}
 use Rattle.std.specs.Bool.{beq}
@@ -24,12 +25,6 @@ use Rattle.cnf_blaster.specs.Laws.{has_value, IsTrueUnder}
 -- the negation, as a literal's value has it
 abbrev neg : Bool → Bool
 neg b = cond b false true
-
-true_from_has : (v : ℕ → Bool) (c : List Lit) (l : Lit) → has c l ≡ true → lit_value v l ≡ true
-    → clause_value v c ≡ true
-true_from_has v [] l h t = h
-true_from_has v (x ∷ c) l h t =
-    elim (or_cases _ _ h) [ inl here ↦ or_left _ _ (sym (alike (lit_value v) l x here) ∙ t) | inr later ↦ or_right _ _ (true_from_has v c l later t) ]
 
 absorbed : (a b : Bool) → (a ≡ true → b ≡ true) → b ≡ (a || b)
 absorbed true b h = h refl

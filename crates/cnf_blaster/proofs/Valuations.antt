@@ -1,5 +1,6 @@
 -- Assignments of the clauses' variables and valuations of the terms' variables.
 use Rattle.std.proofs.Common.{◌≡◌, ℕ, zero, suc, ◌<◌, Bool, true, false, cond, List, [], ◌∷◌, map, slice_get, get_or}
+use Rattle.resolution_check.proofs.Literals.{beq-true}
 use Rattle.std.proofs.Common.{Option, Some, None, inl, inr, ◌↔◌, refl, sym, ap, subst, ◌∙◌, arith, zero-add, eqb}
 use Rattle.std.specs.List.{list_all, range_with_len}
 use Rattle.std.specs.Option.{option_map_or}
@@ -24,12 +25,6 @@ use Rattle.cnf_blaster.proofs.Truth.{true_under, satisfied}
 
 -- ---- one node
 
-beq-same : (a b : Bool) → beq a b ≡ true → a ≡ b
-beq-same true true h = refl
-beq-same true false h = absurd cc
-beq-same false true h = absurd cc
-beq-same false false h = refl
-
 same-beq : (a b : Bool) → a ≡ b → beq a b ≡ true
 same-beq true true h = refl
 same-beq true false h = absurd cc
@@ -40,23 +35,23 @@ module _ (w : Reading) (v : ℕ → Bool) (var : ℕ → ℕ) (g : ℕ) where
   -- where a node's operands have the values of their variables, the node has that of its own
   value-from : (n : Node) → has_value v var g n ≡ true → ((k : ℕ) → n ≡ Var k → w.variable k ≡ v g)
       → ((i : ℕ) → names (operands n) i ≡ true → w.node i ≡ v (var i)) → gate w n ≡ v g
-  value-from (Const b) h leaf each = sym (beq-same _ _ h)
+  value-from (Const b) h leaf each = sym (beq-true _ _ h)
   value-from (Var k) h leaf each = leaf k refl
-  value-from (Not a) h leaf each = let p = each a.0 (first_named a []) in rw p (sym (beq-same _ _ h))
+  value-from (Not a) h leaf each = let p = each a.0 (first_named a []) in rw p (sym (beq-true _ _ h))
   value-from (And a b) h leaf each =
       let p = each a.0 (first_named a (b ∷ [])) in
-      let q = each b.0 (or_right _ _ (first_named b [])) in rw (p, q) (sym (beq-same _ _ h))
+      let q = each b.0 (or_right _ _ (first_named b [])) in rw (p, q) (sym (beq-true _ _ h))
   value-from (Or a b) h leaf each =
       let p = each a.0 (first_named a (b ∷ [])) in
-      let q = each b.0 (or_right _ _ (first_named b [])) in rw (p, q) (sym (beq-same _ _ h))
+      let q = each b.0 (or_right _ _ (first_named b [])) in rw (p, q) (sym (beq-true _ _ h))
   value-from (Xor a b) h leaf each =
       let p = each a.0 (first_named a (b ∷ [])) in
-      let q = each b.0 (or_right _ _ (first_named b [])) in rw (p, q) (sym (beq-same _ _ h))
+      let q = each b.0 (or_right _ _ (first_named b [])) in rw (p, q) (sym (beq-true _ _ h))
   value-from (Ite c a b) h leaf each =
       let o = each c.0 (first_named c (a ∷ b ∷ [])) in
       let p = each a.0 (or_right _ _ (first_named a (b ∷ []))) in
       let q = each b.0 (or_right _ _ (or_right _ _ (first_named b []))) in
-      rw (o, p, q) (sym (beq-same _ _ h))
+      rw (o, p, q) (sym (beq-true _ _ h))
 
   -- and where all these have their values, the node's variable has the value of its kind
   value-to : (n : Node) → v g ≡ gate w n → ((i : ℕ) → names (operands n) i ≡ true → w.node i ≡ v (var i))

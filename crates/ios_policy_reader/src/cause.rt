@@ -47,3 +47,16 @@ pub struct Refused {
     pub line: u32,
     pub cause: Cause,
 }
+
+impl From<AllocError> for Refused {
+    ghost use Rattle.ios_policy_reader.specs.declared.cause.Cause.TheVariants.{Memory};
+
+    ghost from_gives = { λ _ refused. refused ≡ record { line = 0; cause = Memory } };
+
+    fn from(_error: AllocError) -> Refused {
+        Refused {
+            line: 0,
+            cause: Cause::Memory,
+        }
+    }
+}

@@ -2,3 +2,4 @@ pub mod Address
 pub mod Digits
 pub mod Words
 pub mod Text
+pub mod Reading

@@ -1,5 +1,5 @@
 -- Lines and words of a text.
-use Rattle.std.specs.Prelude.{ℕ, ◌+◌, ◌==◌, ◌||◌, ◌&&◌, Bool, not, List, [], ◌∷◌, length, map, filter, nat_lt, slice_index}
+use Rattle.std.specs.Prelude.{ℕ, ◌+◌, ◌==◌, ◌||◌, ◌&&◌, Bool, true, not, List, [], ◌∷◌, length, map, filter, nat_lt, slice_index}
 use Rattle.std.specs.List.{slice_split}
 use Rattle.bstr.specs.Text.{lines_of, without_terminator}
 use Rattle.mw_text.specs.declared.words.Line.{Line}
@@ -25,6 +25,11 @@ line_at number raw = record {
 abbrev pub numbered : ℕ → List (List ℕ) → List Line
 numbered number [] = []
 numbered number (raw ∷ rest) = line_at number raw ∷ numbered (number + 1) rest
+
+-- a line of these words says nothing: there are none, or the first begins with '!'
+abbrev pub is_skipped : List (List ℕ) → Bool
+is_skipped [] = true
+is_skipped (word ∷ rest) = slice_index word 0 == 33
 
 -- the lines of a text, numbered from 1: a line feed ends a line, with one carriage return before it,
 -- and bytes after the last line feed are a line as they stand

@@ -9,4 +9,4 @@ pub mod words;
 pub use address::{Addr, Prefix, contains, mask, prefix_of};
 pub use digits::{read_addr, read_number, read_prefix};
 pub use list::{List, list_of, same_bytes};
-pub use words::{Line, lines_of};
+pub use words::{Line, lines_of, says_nothing};

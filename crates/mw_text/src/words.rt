@@ -2,7 +2,7 @@
 
 ghost use Rattle.std.specs.Prelude.{◌≡◌, ◌<◌, ◌^◌, IfOk, length, map};
 ghost use Rattle.std.specs.List.{slice_split};
-ghost use Rattle.mw_text.specs.Words.{is_blank, words_in, line_at, text_lines};
+ghost use Rattle.mw_text.specs.Words.{is_blank, is_skipped, words_in, line_at, text_lines};
 
 use crate::list::{List, list_of};
 use bstr::ByteSlice;
@@ -73,4 +73,15 @@ pub fn lines_of(alloc: Global, bytes: &[u8]) -> Result<List<Line>, AllocError>
         lines.items.push(read_line(alloc, number, raw)?)?;
     }
     Ok(lines)
+}
+
+/// Whether a line of these words says nothing: there are none, or the first begins with `!`. Such a line is counted all
+/// the same.
+pub fn says_nothing(words: &[List<u8>]) -> bool
+    ensures { result ≡ is_skipped words.now }
+{
+    match words {
+        [] => true,
+        [word, ..] => word.as_slice().first() == Some(&b'!'),
+    }
 }

@@ -1,5 +1,6 @@
 -- Answers one after another.
 use Rattle.std.proofs.Common.{◌≡◌, ℕ, zero, suc, ◌+◌, ◌<◌, ◌≤◌, Bool, true, false, ◌||◌, List, [], ◌∷◌, ◌++◌, length, take, get_or, Option, Some, None, refl, ap, sym, subst, arith, ◌∙◌, append_assoc}
+use Rattle.std.proofs.lemmas.Bool.{or_from, or_parts}
 use Rattle.std.specs.List.{list_any}
 use Rattle.std.proofs.lemmas.List.{append-nil}
 use Rattle.mw_outside.specs.Taken.{Takes, TakesPart, takes_more, part_more, part_of_all}
@@ -35,17 +36,6 @@ or-assoc : (a b c : Bool) → ((a || b) || c) ≡ (a || (b || c))
 or-assoc true b c = refl
 or-assoc false b c = refl
 
-both_false : (a b : Bool) → a ≡ false → b ≡ false → (a || b) ≡ false
-both_false a b is_a is_b = ap (λ x. x || b) is_a ∙ is_b
-
-first_false : (a b : Bool) → (a || b) ≡ false → a ≡ false
-first_false false b h = refl
-first_false true b h = cc
-
-rest_false : (a b : Bool) → (a || b) ≡ false → b ≡ false
-rest_false false b h = h
-rest_false true b h = cc
-
 or-false : (b : Bool) → b ≡ (b || false)
 or-false true = refl
 or-false false = refl
@@ -58,7 +48,7 @@ one_stands files all budget number n question verdict place right may known =
     let R : ℕ → Type 0 = λ k. IsRight files k question verdict in record {
       right = ((subst R place right, may), tt);
       broken_so = or-false (is_broken_verdict verdict);
-      none_unknown = both_false (is_unknown_verdict verdict) false known refl;
+      none_unknown = or_from (is_unknown_verdict verdict) false known refl;
       lines = sym (append-nil (verdict_text files all question verdict));
       none_logged = refl;
     }
@@ -85,7 +75,7 @@ stand-more files all budget number (x ∷ xs) (answer ∷ others) broken text n 
     let rest : StandFor files all budget (number + 1) xs others rest_broken rest_text = record {
       right = so_far.right.1;
       broken_so = refl;
-      none_unknown = rest_false (is_unknown answer) (list_any is_unknown others) so_far.none_unknown;
+      none_unknown = (or_parts (is_unknown answer) (list_any is_unknown others) so_far.none_unknown).1;
       lines = refl;
       none_logged = empty_back _ _ so_far.none_logged;
     } in
@@ -94,7 +84,7 @@ stand-more files all budget number (x ∷ xs) (answer ∷ others) broken text n 
       right = (so_far.right.0, deeper.right);
       broken_so = ap (λ b. b || is_broken_verdict verdict) so_far.broken_so
           ∙ or-assoc (is_broken answer) rest_broken (is_broken_verdict verdict) ∙ ap (λ b. is_broken answer || b) deeper.broken_so;
-      none_unknown = both_false (is_unknown answer) _ (first_false (is_unknown answer) (list_any is_unknown others) so_far.none_unknown) deeper.none_unknown;
+      none_unknown = or_from (is_unknown answer) _ (or_parts (is_unknown answer) (list_any is_unknown others) so_far.none_unknown).0 deeper.none_unknown;
       lines = ap (λ t. t ++ verdict_text files all question verdict) so_far.lines
           ∙ append_assoc (verdict_text files all x answer.verdict) rest_text (verdict_text files all question verdict)
           ∙ ap (λ t. verdict_text files all x answer.verdict ++ t) deeper.lines;

@@ -1,5 +1,6 @@
 -- One packet from a router to a router, where no link fails: the one stable routing decides.
 use Rattle.std.proofs.Common.{◌≡◌, ℕ, zero, suc, ◌+◌, ◌<◌, ◌≤◌, Bool, true, false, not, cond, inl, inr, ◌&&◌, List, [], ◌∷◌, length, Option, Some, None, refl, ap, sym, subst, arith, ◌∙◌, eqb}
+use Rattle.std.proofs.lemmas.Bool.{lt-ltb}
 use Rattle.std.proofs.lemmas.Grind.{common_steps}
 use Rattle.mw_text.specs.declared.address.Addr.{Addr}
 use Rattle.ios_ast.specs.declared.file.File.{File}
@@ -42,16 +43,13 @@ answerable_parts question h =
 past_end : (k n : ℕ) → nat_lt (1 + k) (suc n) ≡ false → nat_lt k n ≡ false
 past_end k n h = grind (arith, nat_tests, common_steps)
 
-lt_true : (a b : ℕ) → a < b → nat_lt a b ≡ true
-lt_true a b h = grind arith
-
 -- where all items at the front pass, all pass
 all-front : (p : Question → Bool) (xs : List Question) → nat_lt (prefix_len (λ q. not (not (p q))) xs) (length xs) ≡ false →
     list_all p xs ≡ true
 all-front p [] h = refl
 all-front p (x ∷ xs) h = elim (cases_Bool (p x)) [
   | inl t ↦ rw t (all-front p xs (past_end (prefix_len (λ q. not (not (p q))) xs) (length xs) (rw t at h)))
-  | inr f ↦ let none : true ≡ false = sym (lt_true 0 (length (x ∷ xs)) (omega arith)) ∙ rw f at h in cc
+  | inr f ↦ let none : true ≡ false = sym (lt-ltb 0 (length (x ∷ xs)) (omega arith)) ∙ rw f at h in cc
 ]
 
 found_none : (b : Bool) (n : ℕ) → cond b (Some n) None ≡ None → b ≡ false

@@ -157,10 +157,6 @@ read-map f [] i x within is = absurd (omega arith)
 read-map f (y ∷ ys) zero x within is = ap f is
 read-map f (y ∷ ys) (suc i) x within is = read-map f ys i x (omega arith) is
 
-pub length-images : {A B : Type 0} (f : A → B) (xs : List A) → length (map f xs) ≡ length xs
-length-images f [] = refl
-length-images f (x ∷ xs) = ap suc (length-images f xs)
-
 -- a read of one of the files failed, after those before it were read
 pub stops-here : (told : Option Contents) (names : List (List ℕ)) (i : ℕ) (name : List ℕ) (texts : List Text) (last : Option (List ℕ)) →
     i < length names → name ≡ get_or names i name → IfSome told (λ contents. BecameSo (text_of contents) names i texts) →

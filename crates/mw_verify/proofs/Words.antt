@@ -1,5 +1,6 @@
 -- The words of a command.
 use Rattle.std.proofs.Common.{◌≡◌, ℕ, suc, ◌||◌, ◌<◌, ◌≤◌, Bool, true, false, ◌&&◌, not, List, [], ◌∷◌, ◌++◌, length, take, drop, get_or, refl, ap, map, sym, arith, ◌∙◌, nat_le, le-leb}
+use Rattle.std.proofs.lemmas.List.{length-map}
 use Rattle.std.specs.List.{list_any}
 use Rattle.mw_text.specs.Text.{same_text}
 use Rattle.std.specs.Prelude.{codes, IfSome}
@@ -21,17 +22,13 @@ any-map : {A B : Type 0} (test : B → Bool) (f : A → B) (xs : List A) → lis
 any-map test f [] = refl
 any-map test f (x ∷ xs) = ap (λ b. test (f x) || b) (any-map test f xs)
 
-length-map : {A B : Type 0} (f : A → B) (xs : List A) → length (map f xs) ≡ length xs
-length-map f [] = refl
-length-map f (x ∷ xs) = ap suc (length-map f xs)
-
 -- words of which there is one at least
 pub verify_words : {A : Type 0} (f : A → List ℕ) (words : List A) (x : A) → 0 < length words → x ≡ get_or words 0 x →
     is_verify (map f words) ≡ (same_text (f x) (codes "verify") && (nat_le 2 (length (drop 1 words)) && not (list_any (λ w. is_option (f w)) (drop 1 words))))
 verify_words f [] x some is = absurd (omega arith)
 verify_words f (y ∷ rest) x some is =
     ap (λ w. same_text (f w) (codes "verify") && (nat_le 2 (length (map f rest)) && not (list_any is_option (map f rest)))) (sym is)
-    ∙ ap (λ n. same_text (f x) (codes "verify") && (nat_le 2 n && not (list_any is_option (map f rest)))) (length-map f rest)
+    ∙ ap (λ n. same_text (f x) (codes "verify") && (nat_le 2 n && not (list_any is_option (map f rest)))) (length-map rest f)
     ∙ ap (λ b. same_text (f x) (codes "verify") && (nat_le 2 (length rest) && not b)) (any-map is_option f rest)
 
 -- what is due for the words after the command

@@ -6,11 +6,12 @@ use Rattle.mw_text.specs.declared.address.Prefix.{Prefix}
 use Rattle.mw_text.specs.declared.words.Line.{Line}
 use Rattle.mw_text.specs.Digits.{cut_at, number_of, prefix_of_text}
 use Rattle.mw_text.specs.Text.{same_text}
-use Rattle.mw_text.specs.Words.{text_lines}
+use Rattle.mw_text.specs.Words.{is_skipped, text_lines}
 use Rattle.ios_ast.specs.declared.file.File.{File}
-use Rattle.ios_reader.specs.declared.refused.Refused.{Refused}
-use Rattle.ios_reader.specs.Reading.{not_built}
-use Rattle.ios_reader.specs.Statements.{is_keyword, is_skipped}
+use Rattle.mw_text.specs.Reading.{in_turn}
+use Rattle.ios_policy_reader.specs.declared.cause.Cause.TheVariants.{NotBuilt}
+use Rattle.ios_policy_reader.specs.declared.cause.Refused.{Refused}
+use Rattle.ios_policy_reader.specs.Words.{is_keyword}
 use Rattle.question_lang.specs.declared.question.PacketSet.{PacketSet}
 use Rattle.question_lang.specs.declared.question.Question.{Question}
 use Rattle.question_lang.specs.declared.asking.TheConstants.{MOST_FAILURES}
@@ -100,12 +101,15 @@ abbrev pub with_asked : List File → List Question → Line → Option (List Qu
 with_asked files so_far line =
     if is_skipped line.words then Some so_far else option_and_then (with_question so_far) (asked files line.words)
 
--- the questions so far and those of the lines after them, or the refusal at the first line that may not stand there
-unfoldable pub ask_lines : List File → List Question → List Line → Result (List Question) Refused
-ask_lines files so_far [] = Ok so_far
-ask_lines files so_far (line ∷ rest) =
-    option_map_or (λ next. ask_lines files next rest) (with_asked files so_far line) (Err (not_built line.number))
+-- refused at that line, as what is not built
+abbrev pub not_built : ℕ → Refused
+not_built line = record { line = line; cause = NotBuilt }
+
+-- the questions with a line more, or the refusal at that line, which may not stand there
+abbrev pub next_asked : List File → List Question → Line → Result (List Question) Refused
+next_asked files so_far line =
+    option_map_or (λ next. Ok next) (with_asked files so_far line) (Err (not_built line.number))
 
 -- the questions that a text reads as, over the files, or its refusal
 abbrev pub asking : List File → List ℕ → Result (List Question) Refused
-asking files bytes = ask_lines files [] (text_lines bytes)
+asking files bytes = in_turn (next_asked files) [] (text_lines bytes)

@@ -7,7 +7,7 @@ ghost use Rattle.question_lang.specs.Asking as asking;
 ghost use Rattle.question_lang.specs.Single.{IsReach};
 
 use crate::question::{Kind, PacketSet, Question, Start, Target};
-use ios_reader::statement::is_word;
+use ios_policy_reader::words::is_word;
 use mw_text::digits::cut;
 use mw_text::{Addr, List, Prefix, list_of, read_number, read_prefix};
 use net_model::Net;

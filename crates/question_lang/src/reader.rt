@@ -2,26 +2,20 @@
 
 ghost use Rattle.std.specs.Prelude.{◌≡◌, ◌≢◌, ◌<◌, ◌≤◌, ◌^◌, ℕ, IfOk, IfErr, IfSome, Ok, Err, None, Some, [], length};
 ghost use Rattle.std.specs.List.{list_any};
+ghost use Rattle.mw_text.specs.Reading.{in_turn};
 ghost use Rattle.mw_text.specs.Text.{same_text};
-ghost use Rattle.ios_reader.specs.Reading.{not_built};
 ghost use Rattle.question_lang.specs.Asking as asking;
 ghost use Rattle.question_lang.specs.Single.{AreReach, IsReach};
 
 use crate::asking::read_question;
 use crate::question::Question;
-use ios_reader::statement::says_nothing;
-use ios_reader::{Cause, Refused};
-use mw_text::{Line, List, lines_of, same_bytes};
+use ios_policy_reader::{Cause, Refused};
+use mw_text::{Line, List, lines_of, same_bytes, says_nothing};
 use net_model::Net;
 use std::alloc::{AllocError, Global};
 
 /// How many questions a file has at most.
 pub const MOST_QUESTIONS: usize = 64;
-
-const MEMORY: Refused = Refused {
-    line: 0,
-    cause: Cause::Memory,
-};
 
 fn has_name(questions: &[Question], name: &[u8]) -> bool
     ensures { result ≡ list_any (λ q. same_text q.name name.now) questions.now }
@@ -83,33 +77,26 @@ fn next_questions(
     requires few { length questions ≤ MOST_QUESTIONS }
     ensures few { IfOk result (λ next. length next ≤ MOST_QUESTIONS) }
     ensures reach { IfOk result (AreReach (length net.now)) }
-    ensures taken { IfOk result (λ next. asking.with_asked net.now questions line.now ≡ Some next) }
+    ensures taken { IfOk result (λ next. asking.next_asked net.now questions line.now ≡ Ok next) }
     ensures refused { IfErr result (λ refused. refused.cause ≢ Cause.Memory →
-        (asking.with_asked net.now questions line.now ≡ None) × (refused ≡ not_built line.now.number)) }
+        asking.next_asked net.now questions line.now ≡ Err refused) }
 {
-    match take_line(alloc, net, questions, line) {
-        Err(_) => Err(MEMORY),
-        Ok(None) => Err(Refused {
-            line: line.number,
-            cause: Cause::NotBuilt,
-        }),
-        Ok(Some(next)) => Ok(next),
-    }
+    take_line(alloc, net, questions, line)?.ok_or(Refused {
+        line: line.number,
+        cause: Cause::NotBuilt,
+    })
 }
 
 // The questions of all lines.
 fn read_all(alloc: Global, net: &Net, lines: &[Line]) -> Result<List<Question>, Refused>
     ensures few { IfOk result (λ questions. length questions ≤ MOST_QUESTIONS) }
     ensures reach { IfOk result (AreReach (length net.now)) }
-    ensures ok { IfOk result (λ questions. asking.ask_lines net.now [] lines.now ≡ Ok questions) }
-    ensures refused { IfErr result (λ refused. refused.cause ≢ Cause.Memory → asking.ask_lines net.now [] lines.now ≡ Err refused) }
+    ensures ok { IfOk result (λ questions. in_turn (asking.next_asked net.now) [] lines.now ≡ Ok questions) }
+    ensures refused { IfErr result (λ refused. refused.cause ≢ Cause.Memory → in_turn (asking.next_asked net.now) [] lines.now ≡ Err refused) }
 {
     let mut questions = List::new(alloc);
     for line in lines {
-        match next_questions(alloc, net, questions, line) {
-            Ok(next) => questions = next,
-            Err(refused) => return Err(refused),
-        }
+        questions = next_questions(alloc, net, questions, line)?;
     }
     Ok(questions)
 }
@@ -123,8 +110,6 @@ pub fn read_questions(alloc: Global, bytes: &[u8], net: &Net) -> Result<List<Que
     ensures reach { IfOk result (AreReach (length net.now)) }
     ensures few { IfOk result (λ questions. length questions ≤ MOST_QUESTIONS) }
 {
-    match lines_of(alloc, bytes) {
-        Err(_) => Err(MEMORY),
-        Ok(lines) => read_all(alloc, net, lines.as_slice()),
-    }
+    let lines = lines_of(alloc, bytes)?;
+    read_all(alloc, net, lines.as_slice())
 }

@@ -1,5 +1,6 @@
 -- Each next hop leads to a router of the network, or ends there.
-use Rattle.std.proofs.Common.{◌≡◌, ℕ, ◌+◌, ◌<◌, ◌≤◌, Bool, true, false, ◌&&◌, List, [], ◌∷◌, ◌++◌, length, Option, Some, None, refl, ap, arith, ◌∙◌, cond, eqb}
+use Rattle.std.proofs.Common.{◌≡◌, ℕ, ◌+◌, ◌<◌, ◌≤◌, Bool, true, false, List, [], ◌∷◌, ◌++◌, length, Option, Some, None, refl, arith, ◌∙◌, cond, eqb}
+use Rattle.std.proofs.lemmas.Bool.{and_from, and_parts, lt-ltb}
 use Rattle.std.specs.Prelude.{nat_lt, filter, option_map, slice_get}
 use Rattle.std.specs.List.{find, flat_map, list_all, list_any}
 use Rattle.std.specs.Option.{option_map_or}
@@ -40,32 +41,21 @@ use Rattle.walk_def.specs.Safety.{is_inside, is_end}
 abbrev pub of_router_below : ℕ → Addressed → Bool
 of_router_below bound x = nat_lt x.id.router bound
 
-both : (a b : Bool) → a ≡ true → b ≡ true → (a && b) ≡ true
-both a b is_a is_b = ap (λ x. x && b) is_a ∙ is_b
-
 all-append : {A : Type 0} (test : A → Bool) (xs ys : List A) → list_all test xs ≡ true → list_all test ys ≡ true →
     list_all test (xs ++ ys) ≡ true
-all-append test xs ys front back = list_all-append test xs ys ∙ both (list_all test xs) (list_all test ys) front back
-
-tail_all : (a b : Bool) → (a && b) ≡ true → b ≡ true
-tail_all true b h = h
-tail_all false b h = cc
-
-head_all : (a b : Bool) → (a && b) ≡ true → a ≡ true
-head_all true b h = refl
-head_all false b h = h
+all-append test xs ys front back = list_all-append test xs ys ∙ and_from (list_all test xs) (list_all test ys) front back
 
 -- what is kept of items that pass passes
 one_kept : {A : Type 0} (test : A → Bool) (k : Bool) (x : A) (rest : List A) → test x ≡ true → list_all test rest ≡ true →
     list_all test (cond k (x ∷ rest) rest) ≡ true
-one_kept test true x rest first others = both (test x) (list_all test rest) first others
+one_kept test true x rest first others = and_from (test x) (list_all test rest) first others
 one_kept test false x rest first others = others
 
 all-filter : {A : Type 0} (test keep : A → Bool) (xs : List A) → list_all test xs ≡ true → list_all test (filter keep xs) ≡ true
 all-filter test keep [] h = refl
 all-filter test keep (x ∷ xs) h =
-    one_kept test (keep x) x (filter keep xs) (head_all (test x) (list_all test xs) h)
-    (all-filter test keep xs (tail_all (test x) (list_all test xs) h))
+    one_kept test (keep x) x (filter keep xs) (and_parts (test x) (list_all test xs) h).0
+    (all-filter test keep xs (and_parts (test x) (list_all test xs) h).1)
 
 -- what is found among items that pass passes
 abbrev pub PassesIfThere : {A : Type 0} → (A → Bool) → Option A → Type 0
@@ -80,16 +70,13 @@ one_found test false x o first others = others
 found_passes : {A : Type 0} (test wanted : A → Bool) (xs : List A) → list_all test xs ≡ true → PassesIfThere test (find wanted xs)
 found_passes test wanted [] h = tt
 found_passes test wanted (x ∷ xs) h =
-    one_found test (wanted x) x (find wanted xs) (head_all (test x) (list_all test xs) h)
-    (found_passes test wanted xs (tail_all (test x) (list_all test xs) h))
-
-lt_true : (a b : ℕ) → a < b → nat_lt a b ≡ true
-lt_true a b h = grind arith
+    one_found test (wanted x) x (find wanted xs) (and_parts (test x) (list_all test xs) h).0
+    (found_passes test wanted xs (and_parts (test x) (list_all test xs) h).1)
 
 one_address : (bound router at : ℕ) (iface : Iface) (a : Option IfAddr) → router < bound →
     list_all (of_router_below bound) (option_map_or (λ x. addressed_iface (record { router = router; at = at }) iface x ∷ []) a []) ≡ true
 one_address bound router at iface None h = refl
-one_address bound router at iface (Some x) h = both (nat_lt router bound) true (lt_true router bound h) refl
+one_address bound router at iface (Some x) h = and_from (nat_lt router bound) true (lt-ltb router bound h) refl
 
 below-from : (bound router at : ℕ) (interfaces : List Iface) → router < bound →
     list_all (of_router_below bound) (addressed_from router at interfaces) ≡ true
@@ -128,7 +115,7 @@ owner_inside bound files packet end None found ends = ends
 owner_inside bound files packet end (Some x) found ends = arrive_inside bound files packet x.id found
 
 one_inside : (bound : ℕ) (hop : Hop) → is_inside bound hop ≡ true → list_all (is_inside bound) (hop ∷ []) ≡ true
-one_inside bound hop inside = both (is_inside bound hop) true inside refl
+one_inside bound hop inside = and_from (is_inside bound hop) true inside refl
 
 -- out of an interface, to an address of a subnet or else so
 out_inside : (bound : ℕ) (files : List File) (packet : Packet) (up : List Addressed) (out : IfaceId) (subnet : Prefix) (a : Addr) (end : End) →

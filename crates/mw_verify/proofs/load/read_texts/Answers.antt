@@ -1,4 +1,5 @@
 use Rattle.std.proofs.Common.{◌≡◌, ◌∙◌, List, [], refl, ℕ, map, Option, Err, Ok, subst, sym, ap, arith, length, get_or, ◌+◌, ◌<◌, ◌≤◌}
+use Rattle.std.proofs.lemmas.List.{length-map}
 use Rattle.std.specs.Prelude.{IfSome, slice_get, string_bytes}
 use Rattle.mw_outside.specs.Contents.{Contents, TellsOnly}
 use Rattle.mw_outside.specs.Faults.{Rose}
@@ -7,7 +8,7 @@ use Rattle.mw_verify.specs.declared.text.Text.{Text}
 use Rattle.mw_verify.specs.Loading.{AreSmall}
 use Rattle.mw_verify.specs.Due.{text_of, refused}
 use Rattle.mw_text.proofs.Lists.{each_place-push}
-use Rattle.mw_verify.proofs.Loading.{BecameSo, all_told, each-none, became-one, became-stop, became-all, on_stop-map, if_told, if_told_one, read-map, length-images, stops-here}
+use Rattle.mw_verify.proofs.Loading.{BecameSo, all_told, each-none, became-one, became-stop, became-all, on_stop-map, if_told, if_told_one, read-map, stops-here}
 use Rattle.mw_verify.proofs.load.read_texts.Goals as goal
 
 pub loop-name-init : goal.loop-name-init
@@ -29,7 +30,7 @@ returns-in-Err-clause-stop g c =
     let i : ℕ = c.loop-name.name-index in
     let so_far : List Text = c.loop-name.texts-inside.items.items in
     let test = c.loop-name-test.true in
-    let within : i < length names = omega (arith, test, length-images string_bytes c.args.names.now) in
+    let within : i < length names = omega (arith, test, length-map c.args.names.now string_bytes) in
     let is_name : name ≡ get_or names i name = read-map string_bytes c.args.names.now i c.name-item.result test c.name-item.is in
     on_stop-map c.in-Err.stop _ _ _ _ c.in-Err.ensures.stop
     (λ line said.
@@ -52,7 +53,7 @@ loop-name-preserved g c =
     let told : Option Contents = g.F.Files.contents c.args.files.now in
     let i : ℕ = c.loop-name.name-index in
     let test = c.loop-name-test.true in
-    let within : i < length names = omega (arith, test, length-images string_bytes c.args.names.now) in
+    let within : i < length names = omega (arith, test, length-map c.args.names.now string_bytes) in
     let before = c.loop-name.texts-inside.items.items in
     let is_name : name ≡ get_or names i name = read-map string_bytes c.args.names.now i c.name-item.result test c.name-item.is in
     let T : Option Contents → Type 0 = λ o. IfSome o (λ contents. text_of contents c.as_str.result.now ≡ Ok c.in-Ok.text) in
@@ -74,4 +75,4 @@ returns-clause-ok g c =
     let names : List (List ℕ) = map string_bytes c.args.names.now in
     if_told_one (g.F.Files.contents c.args.files.now) _ _ c.loop-name.invariant.3
     (λ contents so. became-all (text_of contents) names c.loop-name.texts-inside.items.items c.loop-name.name-index so
-    (omega (arith, c.loop-name-test.false, length-images string_bytes c.args.names.now)))
+    (omega (arith, c.loop-name-test.false, length-map c.args.names.now string_bytes)))

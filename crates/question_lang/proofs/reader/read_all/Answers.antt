@@ -1,22 +1,25 @@
-use Rattle.std.proofs.Common.{◌∙◌, sym, ap, Err}
-use Rattle.question_lang.proofs.Lines.{ask_lines_done, ask_lines_taken, ask_lines_refused}
+use Rattle.std.proofs.Common.{[], arith}
+use Rattle.std.proofs.lemmas.Result.{err_from_is_err_and}
+use Rattle.mw_text.proofs.Reading.{read-none, read-one, read-refused}
+use Rattle.question_lang.specs.Asking.{next_asked}
 use Rattle.question_lang.proofs.reader.read_all.Goals as goal
 
-pub returns-in-Err-clause-refused : goal.returns-in-Err-clause-refused
-returns-in-Err-clause-refused c other =
-    let why = c.in-Err.ensures.refused other in
-    c.loop-line.invariant.0
-    ∙ ask_lines_refused c.args.net.now c.loop-line.questions c.args.lines.now c.loop-line.line-index c.line-item.result c.loop-line-test.true c.line-item.is why.0
-    ∙ ap Err (sym why.1)
+pub loop-line-init : goal.loop-line-init
+loop-line-init c = rw c.new-questions.ensures (read-none (next_asked c.args.net.now) [], λ k question found. absurd cc, omega arith)
+
+pub returns-in_err-questions-clause-refused : goal.returns-in_err-questions-clause-refused
+returns-in_err-questions-clause-refused c =
+    let p = err_from_is_err_and c.from_residual.result c.from_residual.ensures.1 in
+    rw (p.1, p.2)
+    (λ other. read-refused (next_asked c.args.net.now) [] c.args.lines.now c.loop-line.line-index c.line-item.result
+    c.loop-line.questions c.in_err-questions.field-0.0 c.loop-line.invariant.0 c.loop-line-test.true c.line-item.is
+    (c.in_err-questions.ensures.refused other))
 
 pub loop-line-preserved : goal.loop-line-preserved
 loop-line-preserved c = (
-  c.loop-line.invariant.0
-      ∙ ask_lines_taken c.args.net.now c.loop-line.questions c.in-Ok.next c.args.lines.now c.loop-line.line-index c.line-item.result c.loop-line-test.true c.line-item.is c.in-Ok.ensures.taken,
-  c.in-Ok.ensures.reach,
-  c.in-Ok.ensures.few,
+  read-one (next_asked c.args.net.now) [] c.args.lines.now c.loop-line.line-index c.line-item.result
+      c.loop-line.questions c.in_ok-questions.questions c.loop-line.invariant.0 c.loop-line-test.true c.line-item.is
+      c.in_ok-questions.ensures.taken,
+  c.in_ok-questions.ensures.reach,
+  c.in_ok-questions.ensures.few,
 )
-
-pub returns-clause-ok : goal.returns-clause-ok
-returns-clause-ok c =
-    c.loop-line.invariant.0 ∙ ask_lines_done c.args.net.now c.loop-line.questions c.args.lines.now c.loop-line.line-index c.loop-line-test.false
