@@ -6,7 +6,7 @@ use Rattle.std.specs.Option.{option_map_or}
 use Rattle.mw_text.specs.declared.words.Line.{Line}
 use Rattle.ios_ast.specs.declared.file.File.{File}
 use Rattle.ios_reader.specs.declared.draft.Draft.{Draft}
-use Rattle.ios_reader.specs.declared.refused.Refused.{Refused}
+use Rattle.ios_policy_reader.specs.declared.cause.Refused.{Refused}
 use Rattle.ios_reader.specs.Reading.{read_lines, finished, with_line, not_built}
 
 drop_line : (lines : List Line) (i : ℕ) (line : Line) → i < length lines → line ≡ get_or lines i line →

@@ -15,8 +15,8 @@ use Rattle.ios_ast.specs.declared.file.StaticRoute.{StaticRoute}
 use Rattle.ios_ast.specs.declared.file.Via.TheVariants.{Next}
 use Rattle.ios_reader.specs.declared.draft.Draft.{Draft}
 use Rattle.ios_reader.specs.declared.draft.TheConstants.{MOST_LINES}
-use Rattle.ios_reader.specs.declared.refused.Cause.TheVariants.{NotBuilt}
-use Rattle.ios_reader.specs.declared.refused.Refused.{Refused}
+use Rattle.ios_policy_reader.specs.declared.cause.Cause.TheVariants.{NotBuilt}
+use Rattle.ios_policy_reader.specs.declared.cause.Refused.{Refused}
 use Rattle.ios_reader.specs.declared.statement.Statement.{Statement}
 use Rattle.ios_reader.specs.declared.statement.Statement.TheVariants.{Skipped, Hostname, Interface, Address, Route, Other}
 use Rattle.ios_reader.specs.Statements.{statement_of}

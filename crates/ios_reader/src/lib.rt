@@ -3,8 +3,7 @@
 
 pub mod draft;
 pub mod reader;
-pub mod refused;
 pub mod statement;
 
+pub use ios_policy_reader::{Cause, Refused};
 pub use reader::read_file;
-pub use refused::{Cause, Refused};

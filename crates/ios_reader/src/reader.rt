@@ -4,8 +4,8 @@ ghost use Rattle.std.specs.Prelude.{◌≡◌, ◌≢◌, ◌≤◌, ◌<◌, �
 ghost use Rattle.ios_reader.specs.Reading.{reading, read_lines, empty_draft, finished, with_line, not_built};
 
 use crate::draft::{Draft, new_draft, take_line};
-use crate::refused::{Cause, Refused};
 use ios_ast::File;
+use ios_policy_reader::{Cause, Refused};
 use mw_text::{Line, lines_of};
 use std::alloc::Global;
 

@@ -13,7 +13,7 @@ use Rattle.mw_verify.specs.Due.{answering}
 use Rattle.mw_verify.specs.Loading.{IsLine, IsWhole}
 use Rattle.mw_verify.specs.Running.{PrintsPart}
 use Rattle.mw_verify.specs.Verdicts.{Answer, AreRight, IsRight, MayGoUnlogged, answers_text, is_broken, is_broken_verdict, is_unknown, is_unknown_verdict, sections_text, status_of, verdict_text}
-use Rattle.mw_verify.proofs.Loading.{take-more}
+use Rattle.mw_text.proofs.Reading.{take-read}
 
 -- an answer without a section
 abbrev pub unlogged : Verdict → Answer
@@ -130,7 +130,7 @@ stand_next : (files : List File) (questions : List Question) (budget i : ℕ) (q
 stand_next files questions budget i q answers broken text verdict so_far within is right may known =
     let P : List Question → Type 0 = λ qs. StandFor files questions budget 0 qs (answers ++ unlogged verdict ∷ [])
     (broken || is_broken_verdict verdict) (text ++ verdict_text files questions q verdict) in
-    subst P (sym (take-more questions i q within is))
+    subst P (sym (take-read questions i q within is))
     (stand-more files questions budget 0 (take i questions) answers broken text i q verdict so_far
     (length-taken questions i (omega (arith, within))) right may known)
 

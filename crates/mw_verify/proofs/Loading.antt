@@ -2,13 +2,14 @@
 use Rattle.std.proofs.Common.{◌≡◌, ℕ, zero, suc, ◌+◌, ◌<◌, ◌≤◌, true, false, List, [], ◌∷◌, ◌++◌, length, take, drop, take-append-drop, get_or, Option, Some, None, Result, Ok, Err, refl, ap, sym, arith, ◌∙◌, cond, append_assoc, nat_le, map, subst}
 use Rattle.std.specs.Prelude.{IfSome, IsSomeAnd}
 use Rattle.std.specs.Option.{option_map_or}
-use Rattle.mw_text.proofs.Lists.{drop-read}
 use Rattle.mw_outside.specs.Contents.{Contents, get, Has, TellsOnly}
 use Rattle.mw_verify.specs.declared.load.Stop.{Stop}
 use Rattle.mw_verify.specs.declared.load.Stop.TheVariants.{Refused, ReadFault, Memory}
 use Rattle.mw_verify.specs.Loading.{OnStop}
 use Rattle.mw_verify.specs.declared.text.Text.{Text}
-use Rattle.mw_verify.specs.Due.{Outcome, unread, refused, following, each, text_of}
+use Rattle.mw_text.proofs.Reading.{EachTo, split-read}
+use Rattle.mw_text.specs.Reading.{each}
+use Rattle.mw_verify.specs.Due.{Outcome, unread, refused, text_of}
 use Rattle.mw_verify.specs.declared.load.TheConstants.{MOST_BYTES}
 use Rattle.mw_verify.specs.Running.{StopsAt}
 use Rattle.mw_verify.specs.Texts.{too_long}
@@ -52,90 +53,6 @@ text_too_long None name line long is = tt
 text_too_long (Some contents) name line long is =
     there_too_long name (get contents name) long ∙ ap (λ l. Err (refused l)) (sym is)
 
--- what became of the first items
-abbrev pub BecameSo : {A B : Type 0} → (A → Result B Outcome) → List A → ℕ → List B → Type 0
-BecameSo become all i so_far = each become (take i all) ≡ Ok so_far
-
--- nothing became of no item
-pub each-none : {A B : Type 0} (become : A → Result B Outcome) → each become [] ≡ Ok []
-unfolding each
-each-none become = refl
-
--- what becomes of a list and of one behind it
-following-ok : {B : Type 0} (r : Result (List B) Outcome) → r ≡ following (λ rest. Ok rest) r
-following-ok (Ok xs) = refl
-following-ok (Err e) = refl
-
-one_first : {B : Type 0} (y : B) (front back : Result (List B) Outcome) →
-    following (λ zs. Ok (y ∷ zs)) (following (λ xs. following (λ ys. Ok (xs ++ ys)) back) front)
-    ≡ following (λ xs. following (λ ys. Ok (xs ++ ys)) back) (following (λ zs. Ok (y ∷ zs)) front)
-one_first y (Ok xs) (Ok ys) = refl
-one_first y (Ok xs) (Err e) = refl
-one_first y (Err e) back = refl
-
-each-append : {A B : Type 0} (become : A → Result B Outcome) (xs ys : List A) →
-    each become (xs ++ ys) ≡ following (λ front. following (λ back. Ok (front ++ back)) (each become ys)) (each become xs)
-unfolding each
-each-append become [] ys = following-ok (each become ys)
-each-append {B = B} become (x ∷ xs) ys =
-    ap (λ r. following (λ y. following (λ zs. Ok (y ∷ zs)) r) (become x)) (each-append become xs ys) ∙ by_first (become x)
-  where
-    by_first : (first : Result B Outcome) →
-        following (λ y. following (λ zs. Ok (y ∷ zs)) (following (λ front. following (λ back. Ok (front ++ back)) (each become ys)) (each become xs))) first
-        ≡ following (λ front. following (λ back. Ok (front ++ back)) (each become ys)) (following (λ y. following (λ zs. Ok (y ∷ zs)) (each become xs)) first)
-    by_first (Ok y) = one_first y (each become xs) (each become ys)
-    by_first (Err e) = refl
-
-each-one : {A B : Type 0} (become : A → Result B Outcome) (x : A) → each become (x ∷ []) ≡ following (λ y. Ok (y ∷ [])) (become x)
-unfolding each
-each-one become x = refl
-
-each-first : {A B : Type 0} (become : A → Result B Outcome) (x : A) (rest : List A) (outcome : Outcome) → become x ≡ Err outcome →
-    each become (x ∷ rest) ≡ Err outcome
-unfolding each
-each-first become x rest outcome stops = ap (λ r. following (λ y. following (λ ys. Ok (y ∷ ys)) (each become rest)) r) stops
-
--- one item more at the front
-pub take-more : {A : Type 0} (all : List A) (i : ℕ) (x : A) → i < length all → x ≡ get_or all i x → take (i + 1) all ≡ take i all ++ x ∷ []
-take-more [] i x within is = absurd (omega arith)
-take-more (y ∷ ys) zero x within is = ap (λ z. z ∷ []) (sym is)
-take-more (y ∷ ys) (suc i) x within is =
-    let next : suc i + 1 ≡ suc (i + 1) = omega arith in
-    ap (λ n. take n (y ∷ ys)) next ∙ ap (λ zs. y ∷ zs) (take-more ys i x (omega arith) is)
-
--- the items are the first, that one and those after it
-pub split-at : {A : Type 0} (all : List A) (i : ℕ) (x : A) → i < length all → x ≡ get_or all i x → all ≡ take i all ++ x ∷ drop (i + 1) all
-split-at all i x within is = sym (take-append-drop i all) ∙ ap (λ rest. take i all ++ rest) (drop-read all i x within is)
-
--- one more becomes a value
-pub became-one : {A B : Type 0} (become : A → Result B Outcome) (all : List A) (so_far : List B) (i : ℕ) (x : A) (y : B) →
-    BecameSo become all i so_far → i < length all → x ≡ get_or all i x → become x ≡ Ok y →
-    BecameSo become all (i + 1) (so_far ++ y ∷ [])
-became-one become all so_far i x y before within is became =
-    ap (each become) (take-more all i x within is) ∙ each-append become (take i all) (x ∷ [])
-    ∙ ap (λ r. following (λ front. following (λ back. Ok (front ++ back)) (each become (x ∷ []))) r) before
-    ∙ ap (λ r. following (λ back. Ok (so_far ++ back)) r) (each-one become x ∙ ap (λ r. following (λ z. Ok (z ∷ [])) r) became)
-
--- one becomes an outcome
-pub became-stop : {A B : Type 0} (become : A → Result B Outcome) (all : List A) (so_far : List B) (i : ℕ) (x : A) (outcome : Outcome) →
-    BecameSo become all i so_far → i < length all → x ≡ get_or all i x → become x ≡ Err outcome →
-    each become all ≡ Err outcome
-became-stop become all so_far i x outcome before within is stops =
-    ap (each become) (split-at all i x within is) ∙ each-append become (take i all) (x ∷ drop (i + 1) all)
-    ∙ ap (λ r. following (λ front. following (λ back. Ok (front ++ back)) (each become (x ∷ drop (i + 1) all))) r) before
-    ∙ ap (λ r. following (λ back. Ok (so_far ++ back)) r) (each-first become x (drop (i + 1) all) outcome stops)
-
--- no item is left
-pub became-all : {A B : Type 0} (become : A → Result B Outcome) (all : List A) (so_far : List B) (i : ℕ) →
-    BecameSo become all i so_far → length all ≤ i → each become all ≡ Ok so_far
-became-all {A = A} become all so_far i before done = ap (each become) (sym (take_all all i done)) ∙ before
-  where
-    take_all : (xs : List A) (n : ℕ) → length xs ≤ n → take n xs ≡ xs
-    take_all [] zero h = refl
-    take_all [] (suc n) h = refl
-    take_all (x ∷ xs) zero h = absurd (omega arith)
-    take_all (x ∷ xs) (suc n) h = ap (λ ys. x ∷ ys) (take_all xs n (omega arith))
-
 -- what is said of a stop
 pub on_stop-map : (stop : Stop) (P P' : List ℕ → Type 0) (Q Q' : Type 0) → OnStop stop P Q → ((line : List ℕ) → P line → P' line) → (Q → Q') → OnStop stop P' Q'
 on_stop-map (Refused line) P P' Q Q' said lines faults = lines line said
@@ -159,14 +76,14 @@ read-map f (y ∷ ys) (suc i) x within is = read-map f ys i x (omega arith) is
 
 -- a read of one of the files failed, after those before it were read
 pub stops-here : (told : Option Contents) (names : List (List ℕ)) (i : ℕ) (name : List ℕ) (texts : List Text) (last : Option (List ℕ)) →
-    i < length names → name ≡ get_or names i name → IfSome told (λ contents. BecameSo (text_of contents) names i texts) →
+    i < length names → name ≡ get_or names i name → IfSome told (λ contents. EachTo (text_of contents) names i texts) →
     TellsOnly name last → StopsAt told names last
 stops-here told names i name texts None within is read only = tt
 stops-here told names i name texts (Some other) within is read only =
     let P : List ℕ → Type 0 = λ n. names ≡ take i names ++ n ∷ drop (i + 1) names in (
       take i names,
       drop (i + 1) names,
-      subst P (sym only) (split-at names i name within is),
+      subst P (sym only) (split-read names i name within is),
       if_told_one told _ _ read (λ contents so. (texts, so)),
     )
 

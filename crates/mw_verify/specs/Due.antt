@@ -1,22 +1,22 @@
 -- What is due for words over the contents of files: usage, a refusal, or answers to questions over a network.
-use Rattle.std.specs.Prelude.{ℕ, ◌==◌, ◌&&◌, Bool, false, not, List, [], ◌∷◌, length, nat_lt, nat_le, codes, slice_index, slice_get, filter, is_none, position, Result, Ok, Err, if◌then◌else◌}
+use Rattle.std.specs.Prelude.{ℕ, ◌==◌, ◌&&◌, Bool, false, not, List, [], ◌∷◌, length, nat_lt, nat_le, codes, slice_index, slice_get, filter, is_none, position, fold, min, Option, Some, None, option_and_then, option_map, is_some, Result, Ok, Err, if◌then◌else◌}
 use Rattle.std.specs.List.{list_any}
 use Rattle.std.specs.Option.{option_map_or}
+use Rattle.mw_text.specs.Reading.{each, following}
 use Rattle.mw_text.specs.Text.{same_text}
 use Rattle.mw_outside.specs.Contents.{Contents, get}
 use Rattle.ios_ast.specs.declared.file.File.{File}
-use Rattle.ios_reader.specs.declared.refused.Refused.{Refused}
+use Rattle.ios_policy_reader.specs.declared.cause.Refused.{Refused}
+use Rattle.ios_ast.specs.declared.file.Iface.{Iface}
 use Rattle.ios_reader.specs.Reading.{reading}
 use Rattle.net_model.specs.Network.{is_network}
 use Rattle.question_lang.specs.declared.question.Question.{Question}
 use Rattle.mw_text.specs.declared.words.Line.{Line}
-use Rattle.mw_text.specs.Words.{text_lines}
-use Rattle.ios_reader.specs.Reading.{not_built}
-use Rattle.ios_reader.specs.Statements.{is_skipped}
+use Rattle.mw_text.specs.Words.{is_skipped, text_lines}
 use Rattle.question_lang.specs.declared.question.Kind.{Kind}
 use Rattle.question_lang.specs.declared.question.Kind.TheVariants.{Reach, Isolate, Waypoint, NoLoop, NoBlackHole, Within, Alike, NoStable}
 use Rattle.question_lang.specs.declared.question.Target.TheVariants.{Router, Subnet, Peer}
-use Rattle.question_lang.specs.Asking.{asking}
+use Rattle.question_lang.specs.Asking.{asking, not_built}
 use Rattle.question_lang.specs.Single.{is_single}
 use Rattle.mw_verify.specs.declared.load.TheConstants.{DEFAULT_CONFLICTS, MOST_BYTES}
 use Rattle.mw_verify.specs.declared.text.Text.{Text}
@@ -43,16 +43,6 @@ is_verify [] = false
 is_verify (command ∷ names) =
     same_text command (codes "verify") && (nat_le 2 (length names) && not (list_any is_option names))
 
--- what follows a value, where there is one
-abbrev pub following : {A B : Type 0} → (A → Result B Outcome) → Result A Outcome → Result B Outcome
-following next (Ok x) = next x
-following next (Err outcome) = Err outcome
-
--- what becomes of each item, in their order, up to the first that becomes an outcome
-unfoldable pub each : {A B : Type 0} → (A → Result B Outcome) → List A → Result (List B) Outcome
-each become [] = Ok []
-each become (x ∷ xs) = following (λ y. following (λ ys. Ok (y ∷ ys)) (each become xs)) (become x)
-
 -- a value, or the refusal of that file
 abbrev pub read_as : {A : Type 0} → List ℕ → Result A Refused → Result A Outcome
 read_as name (Ok x) = Ok x
@@ -73,9 +63,41 @@ abbrev pub first_name : List Text → List ℕ
 first_name [] = []
 first_name (text ∷ texts) = text.name
 
--- the files of some texts, where they are a network
+-- the earlier of two lines, each of which may not be there
+abbrev pub earlier : Option ℕ → Option ℕ → Option ℕ
+earlier None b = b
+earlier (Some a) None = Some a
+earlier (Some a) (Some b) = Some (min a b)
+
+-- the line that applies an access list to the interface
+abbrev pub list_line : Iface → Option ℕ
+list_line iface = earlier (option_map (λ list. list.line) iface.list_in) (option_map (λ list. list.line) iface.list_out)
+
+-- the first line of a file that `verify` cannot answer for yet: its OSPF or BGP block, or one that applies an access list
+abbrev pub unbuilt_line : File → Option ℕ
+unbuilt_line file =
+    fold (λ line iface. earlier line (list_line iface))
+    (earlier (option_map (λ ospf. ospf.line) file.ospf) (option_map (λ bgp. bgp.line) file.bgp)) file.interfaces
+
+-- the name of the text of that number
+abbrev pub name_at : List Text → ℕ → List ℕ
+name_at texts at = option_map_or (λ text. text.name) (slice_get texts at) []
+
+-- such a line of the file of that number
+abbrev pub unbuilt_line_at : List File → ℕ → ℕ
+unbuilt_line_at files at = option_map_or (λ line. line) (option_and_then unbuilt_line (slice_get files at)) 0
+
+-- the first file that has such a line is refused at it
+abbrev pub unbuilt : List Text → List File → Option (List ℕ)
+unbuilt texts files =
+    option_map (λ at. refusal (name_at texts at) (not_built (unbuilt_line_at files at)))
+    (position (λ file. is_some (unbuilt_line file)) files)
+
+-- the files of some texts, where they are a network for which `verify` can answer
 abbrev pub network_of : List Text → List File → Result (List File) Outcome
-network_of texts files = if is_network files then Ok files else Err (refused (no_network (first_name texts)))
+network_of texts files =
+    option_map_or (λ line. Err (refused line))
+    (unbuilt texts files) (if is_network files then Ok files else Err (refused (no_network (first_name texts))))
 
 -- the network of some texts
 abbrev pub network_due : List Text → Result (List File) Outcome

@@ -1,5 +1,6 @@
 -- What a run prints and logs.
 use Rattle.std.specs.Prelude.{◌≡◌, ℕ, false, List, [], ◌∷◌, ◌++◌, take, Option, IfSome, Ok}
+use Rattle.mw_text.specs.Reading.{each}
 use Rattle.mw_outside.specs.Contents.{Contents}
 use Rattle.mw_outside.specs.Taken.{Takes, TakesPart}
 use Rattle.ios_ast.specs.declared.file.File.{File}
@@ -7,7 +8,7 @@ use Rattle.question_lang.specs.declared.question.Question.{Question}
 use Rattle.mw_verify.specs.declared.status.Status.{Status}
 use Rattle.mw_verify.specs.declared.status.Status.TheVariants.{Good, Bad, Unknown, Usage, Refused, ReadFault, WriteFault, Memory}
 use Rattle.mw_verify.specs.declared.text.Text.{Text}
-use Rattle.mw_verify.specs.Due.{Outcome, usage, unread, refused, answering, due, each, is_verify, text_of}
+use Rattle.mw_verify.specs.Due.{Outcome, usage, unread, refused, answering, due, is_verify, text_of}
 use Rattle.mw_verify.specs.Texts.{usage_text}
 use Rattle.mw_verify.specs.Verdicts.{Answer, AreRight, answers_text, sections_text, status_of}
 

@@ -1,9 +1,9 @@
 -- The lines that are printed.
 use Rattle.std.specs.Prelude.{ℕ, ◌++◌, ◌∷◌, [], List, codes}
 use Rattle.std.specs.Fmt.{decimal}
-use Rattle.ios_reader.specs.declared.refused.Cause.{Cause}
-use Rattle.ios_reader.specs.declared.refused.Cause.TheVariants.{UnknownCommand, BadWord, NotBuilt, Repeated, OutOfPlace, Limit, NoHostname, UnknownRouter, UnknownPeer, TooManyQuestions, Undefined, Memory}
-use Rattle.ios_reader.specs.declared.refused.Refused.{Refused}
+use Rattle.ios_policy_reader.specs.declared.cause.Cause.{Cause}
+use Rattle.ios_policy_reader.specs.declared.cause.Cause.TheVariants.{UnknownCommand, BadWord, NotBuilt, Repeated, OutOfPlace, Limit, NoHostname, UnknownRouter, UnknownPeer, TooManyQuestions, Undefined, Memory}
+use Rattle.ios_policy_reader.specs.declared.cause.Refused.{Refused}
 use Rattle.question_lang.specs.declared.question.Question.{Question}
 
 -- the line feed

@@ -1,10 +1,11 @@
 //! Reads and parses the files that the words name.
 
-ghost use Rattle.std.specs.Prelude.{◌≡◌, ◌≤◌, ◌++◌, ◌∷◌, [], Ok, Err, None, IfOk, IfErr, IfSome, filter, length, map, not, position, slice_get, string_bytes};
+ghost use Rattle.std.specs.Prelude.{◌≡◌, ◌≢◌, ◌≤◌, ◌++◌, ◌∷◌, [], Ok, Err, None, IfOk, IfErr, IfSome, filter, is_some, length, map, not, position, slice_get, string_bytes};
 ghost use Rattle.std.specs.Option.{option_map_or};
-ghost use Rattle.ios_reader.specs.Reading.{not_built};
-ghost use Rattle.ios_reader.specs.Statements.{is_skipped};
-ghost use Rattle.mw_verify.specs.Texts as texts;
+ghost use Rattle.mw_text.specs.Reading.{each};
+ghost use Rattle.mw_text.specs.Words.{is_skipped};
+ghost use Rattle.question_lang.specs.Asking.{not_built};
+ghost use Rattle.mw_verify.specs.Texts as lines;
 ghost use Rattle.mw_outside.specs.Faults.{Rose};
 ghost use Rattle.mw_outside.specs.Contents.{TellsOnly};
 ghost use Rattle.question_lang.specs.Single.{AreReach};
@@ -13,14 +14,14 @@ ghost use Rattle.mw_verify.specs.Running.{StopsAt};
 ghost use Rattle.mw_verify.specs.Loading.{OnStop, UnlessReadFault, AreSmall, AreAnswerable};
 
 use crate::text::{Text, no_network, refusal, too_long};
-use ios_ast::File;
-use ios_reader::statement::says_nothing;
-use ios_reader::{Cause, Refused, read_file};
+use ios_ast::{File, Iface};
+use ios_policy_reader::{Cause, Refused};
+use ios_reader::read_file;
 use mw_outside::{Files, ReadRefused, read_whole};
-use mw_text::{Line, List, lines_of, list_of};
+use mw_text::{Line, List, lines_of, list_of, says_nothing};
 use net_model::Net;
 use question_lang::{Kind, MOST_QUESTIONS, Question, Target, is_single, read_questions};
-use std::alloc::{AllocError, Global};
+use std::alloc::{AllocError, AllocFailed, Global};
 
 /// How many bytes a configuration or a questions file has at most.
 pub const MOST_BYTES: u64 = 1_048_576;
@@ -34,6 +35,46 @@ pub enum Stop {
     Refused(List<u8>),
     ReadFault,
     Memory,
+}
+
+impl From<AllocError> for Stop {
+    ghost use Rattle.mw_verify.specs.declared.load.Stop.TheVariants.{Memory};
+
+    ghost from_gives = { λ _ stop. stop ≡ Memory };
+
+    fn from(_error: AllocError) -> Stop {
+        Stop::Memory
+    }
+}
+
+impl<T: Drop> From<AllocFailed<T>> for Stop {
+    ghost use Rattle.mw_verify.specs.declared.load.Stop.TheVariants.{Memory};
+
+    ghost from_gives = { λ _ stop. stop ≡ Memory };
+
+    fn from(_error: AllocFailed<T>) -> Stop {
+        Stop::Memory
+    }
+}
+
+// A run that ends with that line.
+fn stop_with(line: Result<List<u8>, AllocError>) -> Stop
+    ensures { OnStop result (λ printed. line ≡ Ok printed) ⊥ }
+{
+    match line {
+        Ok(line) => Stop::Refused(line),
+        Err(_) => Stop::Memory,
+    }
+}
+
+// A run that ends at the refusal of a file.
+fn stop_at(alloc: Global, name: &[u8], refused: &Refused) -> Stop
+    ensures { OnStop result (λ line. (refused.now.cause ≢ Cause.Memory) × (line ≡ lines.refusal name.now refused.now)) ⊥ }
+{
+    match refused.cause {
+        Cause::Memory => Stop::Memory,
+        _ => stop_with(refusal(alloc, name, refused)),
+    }
 }
 
 fn named(alloc: Global, name: &str, bytes: List<u8>) -> Result<Text, AllocError>
@@ -58,14 +99,8 @@ fn read_text<F: Files>(alloc: Global, files: &mut F, name: &str) -> Result<Text,
         (Rose (F.faults files.old) (F.faults files.new) × TellsOnly name.now (F.last_failed files.new))) }
 {
     match read_whole(alloc, files, name, MOST_BYTES) {
-        Ok(bytes) => match named(alloc, name, bytes) {
-            Ok(text) => Ok(text),
-            Err(_) => Err(Stop::Memory),
-        },
-        Err(ReadRefused::TooLong) => match too_long(alloc, name.as_bytes()) {
-            Ok(line) => Err(Stop::Refused(line)),
-            Err(_) => Err(Stop::Memory),
-        },
+        Ok(bytes) => Ok(named(alloc, name, bytes)?),
+        Err(ReadRefused::TooLong) => Err(stop_with(too_long(alloc, name.as_bytes()))),
         Err(ReadRefused::Failed) => Err(Stop::ReadFault),
         Err(ReadRefused::Memory) => Err(Stop::Memory),
     }
@@ -75,23 +110,18 @@ fn read_text<F: Files>(alloc: Global, files: &mut F, name: &str) -> Result<Text,
 fn read_texts<F: Files>(alloc: Global, files: &mut F, names: &[String]) -> Result<List<Text>, Stop>
     ensures kept { F.contents files.new ≡ F.contents files.old }
     ensures ok { IfOk result (λ texts. IfSome (F.contents files.old) (λ contents.
-        due.each (due.text_of contents) (map string_bytes names.now) ≡ Ok texts)) }
+        each (due.text_of contents) (map string_bytes names.now) ≡ Ok texts)) }
     ensures small { IfOk result AreSmall }
     ensures quiet { UnlessReadFault result (F.faults files.new ≡ F.faults files.old) }
     ensures name_stays { UnlessReadFault result (F.last_failed files.new ≡ F.last_failed files.old) }
     ensures stop { IfErr result (λ stop. OnStop stop
-        (λ line. IfSome (F.contents files.old) (λ contents. due.each (due.text_of contents) (map string_bytes names.now) ≡ Err (due.refused line)))
+        (λ line. IfSome (F.contents files.old) (λ contents. each (due.text_of contents) (map string_bytes names.now) ≡ Err (due.refused line)))
         (Rose (F.faults files.old) (F.faults files.new) × StopsAt (F.contents files.old) (map string_bytes names.now) (F.last_failed files.new))) }
 {
     let mut texts = List::new(alloc);
     for name in names {
-        match read_text(alloc, files, name.as_str()) {
-            Ok(text) => match texts.items.push(text) {
-                Ok(()) => {}
-                Err(_) => return Err(Stop::Memory),
-            },
-            Err(stop) => return Err(stop),
-        }
+        let text = read_text(alloc, files, name.as_str())?;
+        texts.items.push(text)?;
     }
     Ok(texts)
 }
@@ -104,31 +134,20 @@ fn parse_file(alloc: Global, text: &Text) -> Result<File, Stop>
 {
     match read_file(alloc, text.bytes.as_slice()) {
         Ok(file) => Ok(file),
-        Err(refused) => match refused.cause {
-            Cause::Memory => Err(Stop::Memory),
-            _ => match refusal(alloc, text.name.as_slice(), &refused) {
-                Ok(line) => Err(Stop::Refused(line)),
-                Err(_) => Err(Stop::Memory),
-            },
-        },
+        Err(refused) => Err(stop_at(alloc, text.name.as_slice(), &refused)),
     }
 }
 
 // The files that the texts read as.
 fn parse_files(alloc: Global, texts: &[Text]) -> Result<List<File>, Stop>
     requires { AreSmall texts.now }
-    ensures ok { IfOk result (λ files. due.each due.file_of texts.now ≡ Ok files) }
-    ensures stop { IfErr result (λ stop. OnStop stop (λ line. due.each due.file_of texts.now ≡ Err (due.refused line)) ⊥) }
+    ensures ok { IfOk result (λ files. each due.file_of texts.now ≡ Ok files) }
+    ensures stop { IfErr result (λ stop. OnStop stop (λ line. each due.file_of texts.now ≡ Err (due.refused line)) ⊥) }
 {
     let mut files = List::new(alloc);
     for text in texts {
-        match parse_file(alloc, text) {
-            Ok(file) => match files.items.push(file) {
-                Ok(()) => {}
-                Err(_) => return Err(Stop::Memory),
-            },
-            Err(stop) => return Err(stop),
-        }
+        let file = parse_file(alloc, text)?;
+        files.items.push(file)?;
     }
     Ok(files)
 }
@@ -142,23 +161,98 @@ fn first_name(texts: &[Text]) -> &[u8]
     }
 }
 
+fn earlier(a: Option<u32>, b: Option<u32>) -> Option<u32>
+    ensures { result ≡ due.earlier a b }
+{
+    match (a, b) {
+        (None, _) => b,
+        (_, None) => a,
+        (Some(a), Some(b)) => Some(a.min(b)),
+    }
+}
+
+// The line that applies an access list to the interface.
+fn list_line(iface: &Iface) -> Option<u32>
+    ensures { result ≡ due.list_line iface.now }
+{
+    let inwards = iface.list_in.as_ref().map(|list| list.line);
+    let outwards = iface.list_out.as_ref().map(|list| list.line);
+    earlier(inwards, outwards)
+}
+
+// The first line of a file that `verify` cannot answer for yet.
+fn unbuilt_line(file: &File) -> Option<u32>
+    ensures { result ≡ due.unbuilt_line file.now }
+{
+    let ospf = file.ospf.as_ref().map(|ospf| ospf.line);
+    let bgp = file.bgp.as_ref().map(|bgp| bgp.line);
+    let mut line = earlier(ospf, bgp);
+    for iface in file.interfaces.as_slice() {
+        line = earlier(line, list_line(iface));
+    }
+    line
+}
+
+fn has_unbuilt(file: &File) -> bool
+    ensures { result ≡ is_some (due.unbuilt_line file.now) }
+{
+    unbuilt_line(file).is_some()
+}
+
+// The number of the first file that `verify` cannot answer for yet.
+fn first_unbuilt(files: &[File]) -> Option<usize>
+    ensures { result ≡ position (λ file. is_some (due.unbuilt_line file)) files.now }
+{
+    files.iter().position(|file| has_unbuilt(file))
+}
+
+fn name_at(texts: &[Text], at: usize) -> &[u8]
+    ensures { result.now ≡ due.name_at texts.now at }
+{
+    match texts.get(at) {
+        Some(text) => text.name.as_slice(),
+        None => b"",
+    }
+}
+
+fn unbuilt_line_at(files: &[File], at: usize) -> u32
+    ensures { result ≡ due.unbuilt_line_at files.now at }
+{
+    match files.get(at) {
+        Some(file) => unbuilt_line(file).unwrap_or(0),
+        None => 0,
+    }
+}
+
+// The refusal of the file of that number.
+fn unbuilt_refusal(
+    alloc: Global,
+    texts: &[Text],
+    files: &[File],
+    at: usize,
+) -> Result<List<u8>, AllocError>
+    ensures { IfOk result (λ line. line ≡ lines.refusal (due.name_at texts.now at) (not_built (due.unbuilt_line_at files.now at))) }
+{
+    let refused = Refused {
+        line: unbuilt_line_at(files, at),
+        cause: Cause::NotBuilt,
+    };
+    refusal(alloc, name_at(texts, at), &refused)
+}
+
 // The network of the texts.
 fn parse_network(alloc: Global, texts: &[Text]) -> Result<Net, Stop>
     requires { AreSmall texts.now }
     ensures ok { IfOk result (λ net. due.network_due texts.now ≡ Ok net) }
     ensures stop { IfErr result (λ stop. OnStop stop (λ line. due.network_due texts.now ≡ Err (due.refused line)) ⊥) }
 {
-    let files = match parse_files(alloc, texts) {
-        Ok(files) => files,
-        Err(stop) => return Err(stop),
-    };
-    match Net::of(alloc, files) {
-        Err(_) => Err(Stop::Memory),
-        Ok(Some(net)) => Ok(net),
-        Ok(None) => match no_network(alloc, first_name(texts)) {
-            Ok(line) => Err(Stop::Refused(line)),
-            Err(_) => Err(Stop::Memory),
-        },
+    let files = parse_files(alloc, texts)?;
+    if let Some(at) = first_unbuilt(files.as_slice()) {
+        return Err(stop_with(unbuilt_refusal(alloc, texts, files.as_slice(), at)));
+    }
+    match Net::of(alloc, files)? {
+        Some(net) => Ok(net),
+        None => Err(stop_with(no_network(alloc, first_name(texts)))),
     }
 }
 
@@ -220,7 +314,7 @@ fn line_of(lines: &[Line], number: usize) -> u32
 // The line of a question that cannot be answered.
 fn unanswerable(alloc: Global, asked: &Text, number: usize) -> Result<List<u8>, AllocError>
     requires { length asked.now.bytes ≤ MOST_BYTES }
-    ensures { IfOk result (λ line. line ≡ texts.refusal asked.now.name (not_built (due.line_of asked.now.bytes number))) }
+    ensures { IfOk result (λ line. line ≡ lines.refusal asked.now.name (not_built (due.line_of asked.now.bytes number))) }
 {
     let lines = lines_of(alloc, asked.bytes.as_slice())?;
     let refused = Refused {
@@ -242,18 +336,9 @@ fn parse_questions(alloc: Global, asked: &Text, net: &Net) -> Result<List<Questi
     match read_questions(alloc, asked.bytes.as_slice(), net) {
         Ok(questions) => match first_unanswerable(questions.as_slice()) {
             None => Ok(questions),
-            Some(number) => match unanswerable(alloc, asked, number) {
-                Ok(line) => Err(Stop::Refused(line)),
-                Err(_) => Err(Stop::Memory),
-            },
+            Some(number) => Err(stop_with(unanswerable(alloc, asked, number))),
         },
-        Err(refused) => match refused.cause {
-            Cause::Memory => Err(Stop::Memory),
-            _ => match refusal(alloc, asked.name.as_slice(), &refused) {
-                Ok(line) => Err(Stop::Refused(line)),
-                Err(_) => Err(Stop::Memory),
-            },
-        },
+        Err(refused) => Err(stop_at(alloc, asked.name.as_slice(), &refused)),
     }
 }
 
@@ -287,21 +372,9 @@ pub fn load<F: Files>(
         (Rose (F.faults files.old) (F.faults files.new)
         × StopsAt (F.contents files.old) (map string_bytes names.now ++ questions.now ∷ []) (F.last_failed files.new))) }
 {
-    let texts = match read_texts(alloc, files, names) {
-        Ok(texts) => texts,
-        Err(stop) => return Err(stop),
-    };
-    let asked = match read_text(alloc, files, questions) {
-        Ok(asked) => asked,
-        Err(stop) => return Err(stop),
-    };
-    let net = match parse_network(alloc, texts.as_slice()) {
-        Ok(net) => net,
-        Err(stop) => return Err(stop),
-    };
-    let questions = match parse_questions(alloc, &asked, &net) {
-        Ok(questions) => questions,
-        Err(stop) => return Err(stop),
-    };
+    let texts = read_texts(alloc, files, names)?;
+    let asked = read_text(alloc, files, questions)?;
+    let net = parse_network(alloc, texts.as_slice())?;
+    let questions = parse_questions(alloc, &asked, &net)?;
     Ok(Loaded { net, questions })
 }

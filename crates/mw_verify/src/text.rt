@@ -3,7 +3,7 @@
 ghost use Rattle.std.specs.Prelude.{◌≡◌, ◌++◌, IfOk, OnOk};
 ghost use Rattle.mw_verify.specs.Texts as texts;
 
-use ios_reader::{Cause, Refused};
+use ios_policy_reader::{Cause, Refused};
 use mw_text::List;
 use std::alloc::{AllocError, Global};
 

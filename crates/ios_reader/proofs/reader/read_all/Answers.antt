@@ -1,5 +1,5 @@
 use Rattle.std.proofs.Common.{◌≡◌, ◌≢◌, ◌∙◌, sym, ap, Err}
-use Rattle.ios_reader.specs.declared.refused.Cause.TheVariants.{Memory}
+use Rattle.ios_policy_reader.specs.declared.cause.Cause.TheVariants.{Memory}
 use Rattle.ios_reader.proofs.Lines.{read_lines_done, read_lines_taken, read_lines_refused, if_ok-same, if_err-same}
 use Rattle.ios_reader.proofs.reader.read_all.Goals as goal
 

@@ -1,7 +1,7 @@
 use Rattle.std.proofs.Common.{◌≡◌, drop, not}
 use Rattle.std.specs.Prelude.{filter, slice_get}
 use Rattle.std.specs.Option.{option_map_or}
-use Rattle.ios_reader.specs.Statements.{is_skipped}
+use Rattle.mw_text.specs.Words.{is_skipped}
 use Rattle.mw_verify.proofs.load.line_of.Given as goal
 
 -- the lines that are left decide, with what is left of the number

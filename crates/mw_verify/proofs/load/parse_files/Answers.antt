@@ -1,32 +1,38 @@
-use Rattle.std.proofs.Common.{List, ◌+◌, ◌∙◌, Ok, ap, length, refl, subst, sym}
+use Rattle.std.proofs.Common.{[], List, ◌+◌, ◌∙◌, Ok, ap, length, refl, subst, sym}
 use Rattle.std.proofs.lemmas.Option.{slice_get_read}
+use Rattle.std.proofs.lemmas.Result.{err_from_is_err_and}
 use Rattle.ios_ast.specs.declared.file.File.{File}
+use Rattle.mw_text.specs.Reading.{with_value}
+use Rattle.mw_text.proofs.Reading.{EachTo, read-none, read-done, each-one, each-refused}
 use Rattle.mw_verify.specs.Due.{file_of, refused}
-use Rattle.mw_verify.proofs.Loading.{BecameSo, each-none, became-one, became-stop, became-all, on_stop-map}
+use Rattle.mw_verify.proofs.Loading.{on_stop-map}
 use Rattle.mw_verify.proofs.load.parse_files.Goals as goal
 
 pub loop-text-init : goal.loop-text-init
-loop-text-init c = each-none file_of ∙ ap Ok (sym (c.files.view_is ∙ c.new-files.ensures))
+loop-text-init c = read-none (with_value file_of) [] ∙ ap Ok (sym (c.files.view_is ∙ c.new-files.ensures))
 
 pub parse_file-requires : goal.parse_file-requires
 parse_file-requires c =
     c.requires c.loop-text.text-index c.text-item.result
     (slice_get_read c.args.texts.now (length c.args.texts.now) c.loop-text.text-index c.text-item.result refl c.loop-text-test.true c.text-item.is)
 
-pub returns-in-Err-clause-stop : goal.returns-in-Err-clause-stop
-returns-in-Err-clause-stop c =
-    on_stop-map c.in-Err.stop _ _ _ _ c.in-Err.ensures.stop
-    (λ line said. became-stop file_of c.args.texts.now c.loop-text.files-inside.items.items c.loop-text.text-index c.text-item.result (refused line)
-    c.loop-text.invariant c.loop-text-test.true c.text-item.is said)
-    (λ never. never)
+pub returns-in_err-file-clause-stop : goal.returns-in_err-file-clause-stop
+returns-in_err-file-clause-stop c =
+    let p = err_from_is_err_and c.from_residual.result c.from_residual.ensures.1 in
+    rw (p.1, p.2)
+    (on_stop-map c.in_err-file.field-0.0 _ _ _ _ c.in_err-file.ensures.stop
+    (λ line said. each-refused file_of c.args.texts.now c.loop-text.text-index c.text-item.result c.loop-text.files-inside.items.items
+    (refused line) c.loop-text.invariant c.loop-text-test.true c.text-item.is said)
+    (λ never. never))
 
 pub loop-text-preserved : goal.loop-text-preserved
 loop-text-preserved c =
-    let P : List File → Type 0 = λ fs. BecameSo file_of c.args.texts.now (c.loop-text.text-index + 1) fs in
-    subst P (sym c.in-Ok-push.ensures.items)
-    (became-one file_of c.args.texts.now c.loop-text.files-inside.items.items c.loop-text.text-index c.text-item.result c.in-Ok.file
-    c.loop-text.invariant c.loop-text-test.true c.text-item.is c.in-Ok.ensures.ok)
+    let P : List File → Type 0 = λ fs. EachTo file_of c.args.texts.now (c.loop-text.text-index + 1) fs in
+    subst P (sym c.in_ok-push.ensures.items)
+    (each-one file_of c.args.texts.now c.loop-text.text-index c.text-item.result c.loop-text.files-inside.items.items c.in_ok-file.file
+    c.loop-text.invariant c.loop-text-test.true c.text-item.is c.in_ok-file.ensures.ok)
 
 pub returns-clause-ok : goal.returns-clause-ok
 returns-clause-ok c =
-    became-all file_of c.args.texts.now c.loop-text.files-inside.items.items c.loop-text.text-index c.loop-text.invariant c.loop-text-test.false
+    read-done (with_value file_of) [] c.args.texts.now c.loop-text.text-index c.loop-text.files-inside.items.items c.loop-text.invariant
+    c.loop-text-test.false

@@ -8,7 +8,10 @@ use Rattle.mw_verify.specs.declared.text.Text.{Text}
 use Rattle.mw_verify.specs.Loading.{AreSmall}
 use Rattle.mw_verify.specs.Due.{text_of, refused}
 use Rattle.mw_text.proofs.Lists.{each_place-push}
-use Rattle.mw_verify.proofs.Loading.{BecameSo, all_told, each-none, became-one, became-stop, became-all, on_stop-map, if_told, if_told_one, read-map, stops-here}
+use Rattle.std.proofs.lemmas.Result.{err_from_is_err_and}
+use Rattle.mw_text.specs.Reading.{with_value}
+use Rattle.mw_text.proofs.Reading.{EachTo, read-none, read-done, each-one, each-refused}
+use Rattle.mw_verify.proofs.Loading.{all_told, on_stop-map, if_told, if_told_one, read-map, stops-here}
 use Rattle.mw_verify.proofs.load.read_texts.Goals as goal
 
 pub loop-name-init : goal.loop-name-init
@@ -18,12 +21,13 @@ loop-name-init g c =
       refl,
       refl,
       refl,
-      all_told (g.F.Files.contents c.args.files.now) _ (λ contents. each-none (text_of contents) ∙ ap Ok (sym empty)),
+      all_told (g.F.Files.contents c.args.files.now) _ (λ contents. read-none (with_value (text_of contents)) [] ∙ ap Ok (sym empty)),
       subst S (sym empty) (λ k text found. absurd cc),
     )
 
-pub returns-in-Err-clause-stop : goal.returns-in-Err-clause-stop
-returns-in-Err-clause-stop g c =
+pub returns-in_err-text-clause-stop : goal.returns-in_err-text-clause-stop
+returns-in_err-text-clause-stop g c =
+    let p = err_from_is_err_and c.from_residual.result c.from_residual.ensures.1 in
     let names : List (List ℕ) = map string_bytes c.args.names.now in
     let name : List ℕ = string_bytes c.name-item.result in
     let told : Option Contents = g.F.Files.contents c.args.files.now in
@@ -32,19 +36,20 @@ returns-in-Err-clause-stop g c =
     let test = c.loop-name-test.true in
     let within : i < length names = omega (arith, test, length-map c.args.names.now string_bytes) in
     let is_name : name ≡ get_or names i name = read-map string_bytes c.args.names.now i c.name-item.result test c.name-item.is in
-    on_stop-map c.in-Err.stop _ _ _ _ c.in-Err.ensures.stop
+    rw (p.1, p.2)
+    (on_stop-map c.in_err-text.field-0.0 _ _ _ _ c.in_err-text.ensures.stop
     (λ line said.
     let T : Option Contents → Type 0 = λ o. IfSome o (λ contents. text_of contents c.as_str.result.now ≡ Err (refused line)) in
     let U : List ℕ → Type 0 = λ n. IfSome told (λ contents. text_of contents n ≡ Err (refused line)) in
     if_told told _ _ _ c.loop-name.invariant.3 (subst U c.as_str.ensures.value (subst T c.loop-name.invariant.0 said))
-    (λ contents before stopped. became-stop (text_of contents) names so_far i name (refused line) before within is_name stopped))
+    (λ contents before stopped. each-refused (text_of contents) names i name so_far (refused line) before within is_name stopped))
     (λ said.
     let R : ℕ → Type 0 = λ before. Rose before (g.F.Files.faults c.read_text.new.files) in
     let N : List ℕ → Type 0 = λ n. TellsOnly n (g.F.Files.last_failed c.read_text.new.files) in (
       subst R c.loop-name.invariant.1 said.0,
       stops-here told names i name so_far (g.F.Files.last_failed c.read_text.new.files) within is_name c.loop-name.invariant.3
           (subst N c.as_str.ensures.value said.1),
-    ))
+    )))
 
 pub loop-name-preserved : goal.loop-name-preserved
 loop-name-preserved g c =
@@ -56,17 +61,17 @@ loop-name-preserved g c =
     let within : i < length names = omega (arith, test, length-map c.args.names.now string_bytes) in
     let before = c.loop-name.texts-inside.items.items in
     let is_name : name ≡ get_or names i name = read-map string_bytes c.args.names.now i c.name-item.result test c.name-item.is in
-    let T : Option Contents → Type 0 = λ o. IfSome o (λ contents. text_of contents c.as_str.result.now ≡ Ok c.in-Ok.text) in
-    let U : List ℕ → Type 0 = λ n. IfSome told (λ contents. text_of contents n ≡ Ok c.in-Ok.text) in
-    let P : List Text → Type 0 = λ texts. IfSome told (λ contents. BecameSo (text_of contents) names (i + 1) texts) in
-    let items = c.in-Ok-push.ensures.items in (
-      c.in-Ok.ensures.kept ∙ c.loop-name.invariant.0,
-      c.in-Ok.ensures.quiet ∙ c.loop-name.invariant.1,
-      c.in-Ok.ensures.name_stays ∙ c.loop-name.invariant.2,
+    let T : Option Contents → Type 0 = λ o. IfSome o (λ contents. text_of contents c.as_str.result.now ≡ Ok c.in_ok-text.text) in
+    let U : List ℕ → Type 0 = λ n. IfSome told (λ contents. text_of contents n ≡ Ok c.in_ok-text.text) in
+    let P : List Text → Type 0 = λ texts. IfSome told (λ contents. EachTo (text_of contents) names (i + 1) texts) in
+    let items = c.in_ok-push.ensures.items in (
+      c.in_ok-text.ensures.kept ∙ c.loop-name.invariant.0,
+      c.in_ok-text.ensures.quiet ∙ c.loop-name.invariant.1,
+      c.in_ok-text.ensures.name_stays ∙ c.loop-name.invariant.2,
       subst P (sym items)
-          (if_told told _ _ _ c.loop-name.invariant.3 (subst U c.as_str.ensures.value (subst T c.loop-name.invariant.0 c.in-Ok.ensures.ok))
-          (λ contents so read. became-one (text_of contents) names before i name c.in-Ok.text so within is_name read)),
-      λ k text found. each_place-push (λ _ t. length t.bytes ≤ MOST_BYTES) before c.in-Ok.text c.loop-name.invariant.4 c.in-Ok.ensures.small k text
+          (if_told told _ _ _ c.loop-name.invariant.3 (subst U c.as_str.ensures.value (subst T c.loop-name.invariant.0 c.in_ok-text.ensures.ok))
+          (λ contents so read. each-one (text_of contents) names i name before c.in_ok-text.text so within is_name read)),
+      λ k text found. each_place-push (λ _ t. length t.bytes ≤ MOST_BYTES) before c.in_ok-text.text c.loop-name.invariant.4 c.in_ok-text.ensures.small k text
           (sym (ap (λ xs. slice_get xs k) items) ∙ found),
     )
 
@@ -74,5 +79,5 @@ pub returns-clause-ok : goal.returns-clause-ok
 returns-clause-ok g c =
     let names : List (List ℕ) = map string_bytes c.args.names.now in
     if_told_one (g.F.Files.contents c.args.files.now) _ _ c.loop-name.invariant.3
-    (λ contents so. became-all (text_of contents) names c.loop-name.texts-inside.items.items c.loop-name.name-index so
+    (λ contents so. read-done (with_value (text_of contents)) [] names c.loop-name.name-index c.loop-name.texts-inside.items.items so
     (omega (arith, c.loop-name-test.false, length-map c.args.names.now string_bytes)))

@@ -2,7 +2,7 @@ use Rattle.std.proofs.Common.{◌≡◌, map}
 use Rattle.std.specs.Prelude.{IfSome, string_bytes}
 use Rattle.mw_verify.specs.Due.{text_of}
 use Rattle.mw_verify.specs.Loading.{AreSmall}
-use Rattle.mw_verify.proofs.Loading.{BecameSo}
+use Rattle.mw_text.proofs.Reading.{EachTo}
 use Rattle.mw_verify.proofs.load.read_texts.Given as goal
 
 -- contents are kept and no read failed; the texts so far are those of the names so far, and have few enough bytes
@@ -12,5 +12,5 @@ invariant-loop-name g l =
     (g.F.Files.faults l.files ≡ g.F.Files.faults l.initial.files) ×
     (g.F.Files.last_failed l.files ≡ g.F.Files.last_failed l.initial.files) ×
     IfSome (g.F.Files.contents l.initial.files) (λ contents.
-    BecameSo (text_of contents) (map string_bytes l.names) l.name-index l.texts-inside.items.items) ×
+    EachTo (text_of contents) (map string_bytes l.names) l.name-index l.texts-inside.items.items) ×
     AreSmall l.texts-inside.items.items
