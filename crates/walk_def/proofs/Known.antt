@@ -2,6 +2,7 @@
 use Rattle.std.proofs.Common.{◌≡◌, ℕ, zero, suc, ◌<◌, Bool, true, false, List, [], ◌∷◌, ◌++◌, length, get_or, set, Some, None, refl, ap, arith, ◌∙◌, sym, cond}
 use Rattle.std.specs.Prelude.{sum_by, replicate, slice_get, unwrap_or, Any}
 use Rattle.std.proofs.lemmas.Option.{slice_get_read}
+use Rattle.std.proofs.lemmas.List.Quantifiers.{Any-push}
 use Rattle.std.proofs.lemmas.List.Sums.{sum_by-set}
 use Rattle.mw_text.proofs.Lists.{item_there}
 use Rattle.question_lang.specs.declared.question.Start.{Start}
@@ -80,10 +81,6 @@ marked_safe all target at safe read same within harmless sound hops lists router
 any-later : {A : Type 0} (P : A → Type 0) (y : A) (xs : List A) → Any P xs → Any P (y ∷ xs)
 any-later P y xs (k, x, within, is, holds) = (suc k, x, omega arith, is, holds)
 
-any-last : {A : Type 0} (P : A → Type 0) (xs : List A) (x : A) → P x → Any P (xs ++ x ∷ [])
-any-last P [] x holds = (zero, x, omega arith, refl, holds)
-any-last P (y ∷ ys) x holds = any-later P y (ys ++ x ∷ []) (any-last P ys x holds)
-
 any-front : {A : Type 0} (P : A → Type 0) (xs ys : List A) → Any P xs → Any P (xs ++ ys)
 any-front P [] ys (k, x, within, is, holds) = absurd (omega arith)
 any-front P (y ∷ xs) ys (zero, x, within, is, holds) = (zero, x, omega arith, is, holds)
@@ -96,5 +93,5 @@ pub seen-marked : (seen : List Bool) (stood : List Start) (now : Start) →
     (router : ℕ) → known (set seen now.router true) router ≡ true → Any (λ s. s.router ≡ router) (stood ++ now ∷ [])
 seen-marked seen stood now before router marked =
     known-set (λ r. Any (λ s. s.router ≡ r) (stood ++ now ∷ [])) seen now.router router
-    (any-last (λ s. s.router ≡ now.router) stood now refl)
+    (Any-push (λ s. s.router ≡ now.router) stood now refl)
     (λ h. any-front (λ s. s.router ≡ router) stood (now ∷ []) (before router h)) marked
