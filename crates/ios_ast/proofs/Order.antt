@@ -1,10 +1,11 @@
 -- Entries in the order of their numbers, and which of them decides.
-use Rattle.std.proofs.Common.{◌≡◌, ℕ, ◌≤◌, nat_le, Bool, true, false, if◌then◌else◌, List, [], ◌∷◌, Option, Some, None}
-use Rattle.std.proofs.Common.{refl, sym, ap, arith}
+use Rattle.std.proofs.Common.{◌≡◌, ℕ, ◌<◌, ◌≤◌, nat_le, Bool, true, false, if◌then◌else◌, List, [], ◌∷◌, Some}
+use Rattle.std.proofs.Common.{refl, sym, ap, ◌∙◌, arith, ◌+◌, ◌-◌, length, drop, get_or}
+use Rattle.std.proofs.lemmas.List.{drop_more}
 use Rattle.std.proofs.lemmas.Bool.{le-leb}
 use Rattle.std.proofs.lemmas.Bool.Decides.{nat_tests}
 use Rattle.std.specs.List.{find}
-use Rattle.ios_ast.specs.Deciding.{put_by, in_order}
+use Rattle.ios_ast.specs.Deciding.{put_by, in_order, sooner}
 
 -- no entry of the list has a number below `n`
 abbrev Above : {E : Type 0} → (E → ℕ) → ℕ → List E → Type 0
@@ -47,11 +48,6 @@ ascends_order : {E : Type 0} (number : E → ℕ) (es : List E) → Ascends numb
 ascends_order number [] = tt
 ascends_order number (e ∷ es) = ascends_put number e (in_order number es) (ascends_order number es)
 
--- of an entry and one that is found later, the one that comes first
-abbrev pub sooner : {E : Type 0} → (E → ℕ) → E → Option E → E
-sooner number e None = e
-sooner number e (Some d) = if nat_le (number e) (number d) then e else d
-
 -- an entry before all others comes first
 sooner_above : {E : Type 0} (number : E → ℕ) (takes : E → Bool) (e : E) (xs : List E) → Above number (number e) xs
     → sooner number e (find takes xs) ≡ e
@@ -88,8 +84,15 @@ find_put number takes e (x ∷ xs) h =
         found true = picked (takes e)
         found false = rest
 
--- which entry is the first to take an argument, with one more entry
-pub find_in_order : {E : Type 0} (number : E → ℕ) (takes : E → Bool) (e : E) (es : List E)
-    → find takes (in_order number (e ∷ es))
-    ≡ (if takes e then Some (sooner number e (find takes (in_order number es))) else find takes (in_order number es))
-find_in_order number takes e es = find_put number takes e (in_order number es) (ascends_order number es)
+-- which entry is the first to take an argument, with one more entry in front
+pub find_more : {E : Type 0} (number : E → ℕ) (takes : E → Bool) (es : List E) (i : ℕ) (d : E) → 0 < i → i ≤ length es
+    → find takes (in_order number (drop (i - 1) es))
+    ≡ (if takes (get_or es (i - 1) d) then Some (sooner number (get_or es (i - 1) d) (find takes (in_order number (drop i es)))) else find takes (in_order number (drop i es)))
+find_more number takes es i d above within =
+    let next : i - 1 + 1 ≡ i = omega arith in
+    let e = get_or es (i - 1) d in
+    ap (λ l. find takes (in_order number l)) (drop_more es (i - 1) d (omega arith))
+    ∙ find_put number takes e (in_order number (drop (i - 1 + 1) es)) (ascends_order number (drop (i - 1 + 1) es))
+    ∙ ap
+    (λ j. if takes e then Some (sooner number e (find takes (in_order number (drop j es)))) else find takes (in_order number (drop j es)))
+    next

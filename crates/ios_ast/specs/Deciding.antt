@@ -1,5 +1,5 @@
 -- Which entry of a list decides.
-use Rattle.std.specs.Prelude.{ℕ, ◌==◌, nat_le, Bool, false, if◌then◌else◌, List, [], ◌∷◌}
+use Rattle.std.specs.Prelude.{ℕ, ◌==◌, nat_le, Bool, false, if◌then◌else◌, List, [], ◌∷◌, Option, Some, None}
 use Rattle.std.specs.List.{find, list_any}
 use Rattle.std.specs.Option.{option_map_or}
 
@@ -16,6 +16,11 @@ put_by number e (x ∷ xs) = if nat_le (number e) (number x) then e ∷ x ∷ xs
 abbrev pub in_order : {E : Type 0} → (E → ℕ) → List E → List E
 in_order number [] = []
 in_order number (e ∷ es) = put_by number e (in_order number es)
+
+-- of an entry and one that is found in the list behind it, the one that comes first
+abbrev pub sooner : {E : Type 0} → (E → ℕ) → E → Option E → E
+sooner number e None = e
+sooner number e (Some d) = if nat_le (number e) (number d) then e else d
 
 -- whether a number stands in a list
 abbrev pub carries : List ℕ → ℕ → Bool

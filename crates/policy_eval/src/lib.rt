@@ -1,0 +1,8 @@
+//! What the lists and route maps of a configuration answer for a prefix, a route or a packet.
+#![tactic(auto)]
+
+mod lists;
+mod packets;
+
+pub use lists::{as_path_list, community_list, prefix_list};
+pub use packets::access_list;
