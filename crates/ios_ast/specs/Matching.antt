@@ -51,6 +51,10 @@ kind_of (Prefixes names) = 1
 kind_of (Communities names) = 2
 kind_of (Paths names) = 3
 
+-- some line of that kind holds
+abbrev pub kind_holds : (Match → Bool) → List Match → ℕ → Bool
+kind_holds holds lines kind = list_any (λ line. (kind_of line == kind) && holds line) lines
+
 -- lines of one kind are alternatives: all hold where for each line one of its kind does
 abbrev pub lines_hold : (Match → Bool) → List Match → Bool
-lines_hold holds lines = list_all (λ line. list_any (λ other. (kind_of other == kind_of line) && holds other) lines) lines
+lines_hold holds lines = list_all (λ line. kind_holds holds lines (kind_of line)) lines

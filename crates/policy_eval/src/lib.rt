@@ -2,7 +2,12 @@
 #![tactic(auto)]
 
 mod lists;
+
+mod matches;
 mod packets;
+mod sets;
+
 
 pub use lists::{as_path_list, community_list, prefix_list};
+
 pub use packets::access_list;
