@@ -96,3 +96,14 @@ find_more number takes es i d above within =
     ∙ ap
     (λ j. if takes e then Some (sooner number e (find takes (in_order number (drop j es)))) else find takes (in_order number (drop j es)))
     next
+
+-- the same of an entry that was read
+pub find_read : {E : Type 0} (number : E → ℕ) (takes : E → Bool) (es : List E) (i : ℕ) (e : E) → 0 < i → i ≤ length es
+    → e ≡ get_or es (i - 1) e
+    → find takes (in_order number (drop (i - 1) es))
+    ≡ (if takes e then Some (sooner number e (find takes (in_order number (drop i es)))) else find takes (in_order number (drop i es)))
+find_read number takes es i e above within here =
+    find_more number takes es i e above within
+    ∙ ap
+    (λ x. if takes x then Some (sooner number x (find takes (in_order number (drop i es)))) else find takes (in_order number (drop i es)))
+    (sym here)

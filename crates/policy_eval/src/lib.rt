@@ -2,12 +2,11 @@
 #![tactic(auto)]
 
 mod lists;
-
+mod maps;
 mod matches;
 mod packets;
 mod sets;
 
-
 pub use lists::{as_path_list, community_list, prefix_list};
-
+pub use maps::route_map;
 pub use packets::access_list;

@@ -62,7 +62,9 @@ fn prefixes_permit(policies: &Policies, p: &Prefix, named: &Use) -> bool
 fn any_prefixes(policies: &Policies, p: &Prefix, names: &[Use]) -> bool
     ensures { result ≡ list_any (prefixes_named policies.now p.now) names.now }
 {
-    names.iter().any(|named| prefixes_permit(policies, p, named))
+    names
+        .iter()
+        .any(|named| prefixes_permit(policies, p, named))
 }
 
 /// Whether the community list of that name permits the communities. One that is not there denies.
@@ -81,7 +83,9 @@ fn communities_permit(policies: &Policies, communities: &[u32], named: &Use) -> 
 fn any_communities(policies: &Policies, communities: &[u32], names: &[Use]) -> bool
     ensures { result ≡ list_any (communities_named policies.now communities.now) names.now }
 {
-    names.iter().any(|named| communities_permit(policies, communities, named))
+    names
+        .iter()
+        .any(|named| communities_permit(policies, communities, named))
 }
 
 /// Whether the AS-path list of that name permits the path. One that is not there denies.
@@ -100,7 +104,9 @@ fn paths_permit(policies: &Policies, path: &[u32], named: &Use) -> bool
 fn any_paths(policies: &Policies, path: &[u32], names: &[Use]) -> bool
     ensures { result ≡ list_any (paths_named policies.now path.now) names.now }
 {
-    names.iter().any(|named| paths_permit(policies, path, named))
+    names
+        .iter()
+        .any(|named| paths_permit(policies, path, named))
 }
 
 /// Whether one of the lists that a match line names permits the route.
@@ -133,9 +139,7 @@ fn kind(line: &Match) -> u8
 fn kind_matches(policies: &Policies, p: &Prefix, rec: &BgpRec, lines: &[Match], wanted: u8) -> bool
     ensures { result ≡ kind_holds (line_holds policies.now p.now rec.now.path rec.now.communities) lines.now wanted }
 {
-    lines
-        .iter()
-        .any(|other| kind(other) == wanted && line_matches(policies, p, rec, other))
+    lines.iter().any(|other| kind(other) == wanted && line_matches(policies, p, rec, other))
 }
 
 /// Whether for each line one of its kind matches the route.
