@@ -1,16 +1,21 @@
 //! Packets, and the records of routes that a router holds, as plain data.
 #![tactic(auto)]
 
+mod shaping;
+mod tracked;
+
 ghost use Rattle.std.specs.Prelude.{◌≡◌};
 ghost use Rattle.std.specs.Option.{option_copied};
 
 use mw_text::{Addr, List};
+pub use shaping::shape;
+pub use tracked::{MOST_TRACKED, Shape, Tracked};
 
 /// How many prefix lengths there are: 0 to 32.
 pub const LENGTHS: usize = 33;
 
 /// A packet, by the fields of its IP header (RFC 791) and the ports of TCP or UDP.
-#[derive(Clone, Copy)]
+#[derive(Clone, Copy, Debug, PartialEq, Eq)]
 pub struct Packet {
     pub src: Addr,
     pub dst: Addr,
@@ -20,7 +25,7 @@ pub struct Packet {
 }
 
 /// The kind of an OSPF route (RFC 2328, section 11).
-#[derive(Clone, Copy)]
+#[derive(Clone, Copy, Debug, PartialEq, Eq)]
 pub enum OspfKind {
     Internal,
     Ext1,
@@ -28,7 +33,7 @@ pub enum OspfKind {
 }
 
 /// An OSPF route with its external metric and its cost.
-#[derive(Clone, Copy)]
+#[derive(Clone, Copy, Debug, PartialEq, Eq)]
 pub struct OspfRec {
     pub kind: OspfKind,
     pub metric: u32,
@@ -36,7 +41,7 @@ pub struct OspfRec {
 }
 
 /// The ORIGIN of a BGP route (RFC 4271, section 5.1.1).
-#[derive(Clone, Copy)]
+#[derive(Clone, Copy, Debug, PartialEq, Eq)]
 pub enum Origin {
     Igp,
     Egp,
@@ -44,14 +49,14 @@ pub enum Origin {
 }
 
 /// Where a BGP route was learnt.
-#[derive(Clone, Copy)]
+#[derive(Clone, Copy, Debug, PartialEq, Eq)]
 pub enum Learnt {
     Local,
     Peer(Addr),
 }
 
 /// A BGP route that a router holds (RFC 4271, section 5; RFC 4456; RFC 1997).
-#[derive(Drop)]
+#[derive(Debug, Drop)]
 pub struct BgpRec {
     pub from: Learnt,
     pub weight: u32,
@@ -63,6 +68,43 @@ pub struct BgpRec {
     pub next_hop: Addr,
     pub originator: Option<Addr>,
     pub clusters: List<Addr>,
+}
+
+/// A BGP route as it is sent over a session: what an UPDATE message carries (RFC 4271, section 4.3). Over an external
+/// session it has no local preference, no originator and no clusters.
+#[derive(Debug, Drop)]
+pub struct BgpMsg {
+    pub local_pref: Option<u32>,
+    pub path: List<u32>,
+    pub origin: Origin,
+    pub med: Option<u32>,
+    pub communities: List<u32>,
+    pub next_hop: Addr,
+    pub originator: Option<Addr>,
+    pub clusters: List<Addr>,
+}
+
+/// Where a route map is used: on an external or an internal BGP session, or at a redistribution.
+#[derive(Clone, Copy, Debug, PartialEq, Eq)]
+pub enum Side {
+    External,
+    Internal,
+    Redistribution,
+}
+
+/// What a route map acts on: a route, and whether it is redistributed into OSPF as one of type 1. A route that is not
+/// from BGP has an empty path and no communities, and its metric stands as the MED.
+#[derive(Debug, Drop)]
+pub struct MapRec {
+    pub bgp: BgpRec,
+    pub type1: bool,
+}
+
+/// Which prefix lengths share one slice of a routing: the class of each of the 33 lengths, and the slices of each class.
+#[derive(Debug, Drop)]
+pub struct Plan {
+    pub class: List<u8>,
+    pub slices: List<u8>,
 }
 
 /// What an external peer announces for one prefix length of the destination.

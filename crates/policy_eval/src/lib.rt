@@ -1,0 +1,12 @@
+//! What the lists and route maps of a configuration answer for a prefix, a route or a packet.
+#![tactic(auto)]
+
+mod lists;
+mod maps;
+mod matches;
+mod packets;
+mod sets;
+
+pub use lists::{as_path_list, community_list, prefix_list};
+pub use maps::route_map;
+pub use packets::access_list;

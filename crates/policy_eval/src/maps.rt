@@ -1,0 +1,114 @@
+//! Route maps.
+
+ghost use Rattle.std.specs.Prelude.{◌≡◌, Bool, if◌then◌else◌, Option, Some, IfOk, IfSome};
+ghost use Rattle.std.specs.Option.{option_copied, option_map};
+ghost use Rattle.ios_ast.specs.Deciding.{sooner};
+ghost use Rattle.ios_ast.specs.Maps.{deciding, mapped};
+ghost use Rattle.policy_eval.specs.Attributes.{attributes_of, is_external, KeepsRest};
+
+use crate::matches::takes_route;
+use crate::sets::set_lines;
+use ios_ast::{MapEntry, Policies, RouteMap};
+use mw_text::{List, Prefix};
+use route_record::{BgpRec, MapRec, Side};
+use std::alloc::{AllocError, Global};
+
+/// Which entry decides where one more stands before those that `later` was found among.
+fn decider<'a>(
+    entry: &'a MapEntry,
+    takes: bool,
+    later: Option<&'a MapEntry>,
+) -> Option<&'a MapEntry>
+    ensures { option_copied result ≡ (if takes then Some (sooner (λ e. e.seq) entry.now (option_copied later.entry)) else option_copied later.entry) }
+{
+    match later {
+        _ if !takes => later,
+        Some(other) if other.seq < entry.seq => later,
+        _ => Some(entry),
+    }
+}
+
+/// The entry that decides: of those that take the route the one with the least sequence number.
+fn deciding_entry<'a>(
+    map: &'a RouteMap,
+    policies: &Policies,
+    p: &Prefix,
+    rec: &MapRec,
+) -> Option<&'a MapEntry>
+    ensures { option_copied result ≡ deciding policies.now p.now (attributes_of rec.now) map.now.entries }
+{
+    let entries = map.entries.as_slice();
+    let mut found = None;
+    for i in (0..entries.len()).rev() {
+        let entry = &entries[i];
+        let takes = takes_route(policies, p, rec, entry);
+        found = decider(entry, takes, found);
+    }
+    found
+}
+
+/// A copy of a list.
+fn copy<T: Copy>(alloc: Global, list: &List<T>) -> Result<List<T>, AllocError>
+    ensures { IfOk result (λ made. made ≡ list.now) }
+{
+    Ok(List {
+        items: Vec::from_slice(alloc, list.as_slice())?,
+    })
+}
+
+/// A copy of a record.
+fn copy_of(alloc: Global, rec: &MapRec) -> Result<MapRec, AllocError>
+    ensures { IfOk result (λ made. made ≡ rec.now) }
+{
+    let path = copy(alloc, &rec.bgp.path)?;
+    let communities = copy(alloc, &rec.bgp.communities)?;
+    let clusters = copy(alloc, &rec.bgp.clusters)?;
+    let bgp = BgpRec {
+        from: rec.bgp.from,
+        weight: rec.bgp.weight,
+        local_pref: rec.bgp.local_pref,
+        path,
+        origin: rec.bgp.origin,
+        med: rec.bgp.med,
+        communities,
+        next_hop: rec.bgp.next_hop,
+        originator: rec.bgp.originator,
+        clusters,
+    };
+    Ok(MapRec {
+        bgp,
+        type1: rec.type1,
+    })
+}
+
+/// Whether the side is an external session.
+fn external(side: Side) -> bool
+    ensures { result ≡ is_external side }
+{
+    match side {
+        Side::External => true,
+        Side::Internal | Side::Redistribution => false,
+    }
+}
+
+/// What the route map makes of a route to the prefix. None where its deciding entry denies, or no entry takes the route.
+pub fn route_map(
+    alloc: Global,
+    map: &RouteMap,
+    policies: &Policies,
+    p: &Prefix,
+    rec: &MapRec,
+    side: Side,
+) -> Result<Option<MapRec>, AllocError>
+    ensures value { IfOk result (λ made. option_map attributes_of made ≡ mapped policies.now map.now.entries p.now (is_external side) (attributes_of rec.now)) }
+    ensures rest { IfOk result (λ made. IfSome made (KeepsRest rec.now)) }
+{
+    match deciding_entry(map, policies, p, rec) {
+        Some(entry) if entry.permit => {
+            let mut made = copy_of(alloc, rec)?;
+            set_lines(alloc, &mut made, entry.sets.as_slice(), external(side))?;
+            Ok(Some(made))
+        }
+        _ => Ok(None),
+    }
+}

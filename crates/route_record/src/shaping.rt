@@ -1,0 +1,67 @@
+//! The shape of a BGP route: all that policies and the decision process can tell of its lists.
+
+ghost use Rattle.std.specs.Prelude.{◌≡◌, ℕ, ◌+◌, ◌*◌, ◌≤◌, ◌<◌, ◌^◌, Bool, if◌then◌else◌, List, length, map};
+ghost use Rattle.std.specs.List.{list_any};
+ghost use Rattle.route_record.specs.Shape.{marked_number, shape_of, first_of, last_of, AlikeOf};
+
+use crate::BgpRec;
+use crate::tracked::{MOST_TRACKED, Shape, Tracked};
+
+/// A set with one more position in front.
+fn with_mark(set: u128, there: bool) -> u128
+    requires { set < 2 ^ 127 }
+    ensures { result ≡ (if there then 1 else 0) + 2 * set }
+{
+    2 * set + u128::from(there)
+}
+
+/// The set of the tracked values that stand in a list.
+fn marks<T: PartialEq>(tracked: &[T], held: &[T]) -> u128
+    requires { length tracked.now ≤ MOST_TRACKED }
+    ensures { result ≡ marked_number (map (λ x. list_any (λ y. T.eq y x) held.now) tracked.now) }
+{
+    let mut set = 0u128;
+    for i in (0..tracked.len()).rev() {
+        let there = held.contains(&tracked[i]);
+        set = with_mark(set, there);
+    }
+    set
+}
+
+/// The first number of a path, 0 where it is empty.
+fn first_number(path: &[u32]) -> u32
+    ensures { result ≡ first_of path.now }
+{
+    path.first().copied().unwrap_or(0)
+}
+
+/// The last number of a path, 0 where it is empty.
+fn last_number(path: &[u32]) -> u32
+    ensures { result ≡ last_of path.now }
+{
+    path.last().copied().unwrap_or(0)
+}
+
+/// The shape of a record's lists.
+pub fn shape(rec: &BgpRec, tracked: &Tracked) -> Shape
+    requires communities { length tracked.now.communities ≤ MOST_TRACKED }
+    requires numbers { length tracked.now.numbers ≤ MOST_TRACKED }
+    requires clusters { length tracked.now.clusters ≤ MOST_TRACKED }
+    requires path { length rec.now.path < 2 ^ 32 }
+    requires reflected { length rec.now.clusters < 2 ^ 32 }
+    ensures value { result ≡ shape_of tracked.now rec.now }
+
+    // Records that differ in untracked communities alone have one shape.
+    ensures untracked { (other : BgpRec) → AlikeOf tracked.now rec.now other → result ≡ shape_of tracked.now other }
+{
+    let path = rec.path.as_slice();
+    Shape {
+        len: path.len() as u32,
+        first: first_number(path),
+        last: last_number(path),
+        numbers: marks(tracked.numbers.as_slice(), path),
+        communities: marks(tracked.communities.as_slice(), rec.communities.as_slice()),
+        cluster_len: rec.clusters.as_slice().len() as u32,
+        clusters: marks(tracked.clusters.as_slice(), rec.clusters.as_slice()),
+    }
+}
