@@ -3,7 +3,11 @@ pub mod Names
 pub mod Masks
 pub mod Patterns
 pub mod Said
+pub mod Values
 pub mod Edges
 pub mod Least
 pub mod Heads
 pub mod Entries
+pub mod Lists
+pub mod Clauses
+pub mod Policies
