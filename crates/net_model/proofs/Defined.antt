@@ -1,5 +1,5 @@
 -- What a network does not have, since its definition is not written yet.
-use Rattle.std.proofs.Common.{◌≡◌, ℕ, zero, suc, Bool, true, false, ◌&&◌, ◌||◌, not, List, [], ◌∷◌, Option, Some, None, refl, ◌∙◌, subst}
+use Rattle.std.proofs.Common.{◌≡◌, ℕ, zero, suc, ◌+◌, Bool, true, false, ◌&&◌, ◌||◌, not, List, [], ◌∷◌, Option, Some, None, refl, ◌∙◌, subst}
 use Rattle.std.specs.Prelude.{filter, fold, is_some, map, slice_get}
 use Rattle.std.specs.List.{list_all, list_any}
 use Rattle.ios_ast.specs.declared.file.File.{File}
@@ -8,7 +8,8 @@ use Rattle.mw_text.specs.declared.address.Prefix.{Prefix}
 use Rattle.net_model.specs.declared.interfaces.Addressed.{Addressed}
 use Rattle.net_model.specs.Network.{all_pairs, fit_together, is_defined, is_filtered, is_network, is_small, names_differ, statics_connected}
 use Rattle.net_model.specs.Interfaces.{addressed}
-use Rattle.net_model.specs.Sessions.{ends_of, runs_bgp}
+use Rattle.ios_ast.specs.declared.bgp.Bgp.{Bgp}
+use Rattle.net_model.specs.Sessions.{ends_of, peerings, peerings_routers, runs_bgp, sessions}
 use Rattle.net_model.specs.World.{is_joined_by, is_link, links_of, put_in_order}
 
 -- what two tests and a third say together
@@ -34,14 +35,35 @@ no_bgp (file ∷ rest) all =
     two true false h = cc
     two false b h = cc
 
+-- where no router runs BGP there is no neighbour line
+peerings_routers-none : (all : List Addressed) (router : ℕ) (files : List File) → list_any runs_bgp files ≡ false →
+    peerings_routers all router files ≡ []
+peerings_routers-none all router [] none = refl
+peerings_routers-none all router (file ∷ rest) none =
+    let both = neither (runs_bgp file) (list_any runs_bgp rest) none in
+    rw (none_runs file.bgp both.0, peerings_routers-none all (router + 1) rest both.1) refl
+  where
+    neither : (a b : Bool) → (a || b) ≡ false → (a ≡ false) × (b ≡ false)
+    neither false b h = (refl, h)
+    neither true b h = cc
+
+    none_runs : (o : Option Bgp) → is_some o ≡ false → o ≡ None
+    none_runs None h = refl
+    none_runs (Some x) h = cc
+
+peerings-none : (files : List File) → list_all is_defined files ≡ true → peerings files ≡ []
+unfolding peerings
+peerings-none files all = peerings_routers-none (addressed files) 0 files (no_bgp files all)
+
 -- a network runs no BGP, so it has no ends of sessions
 pub no_ends : (files : List File) → list_all is_defined files ≡ true → ends_of files ≡ []
-no_ends files all = rw (no_bgp files all) refl
+unfolding ends_of sessions
+no_ends files all = rw (peerings-none files all) refl
 
 -- without BGP a link is where two routers meet
 is_link-joined : (files : List File) → list_all is_defined files ≡ true → (p : Prefix) →
     list_any (is_joined_by (addressed files) p) (addressed files) ≡ is_link files p
-is_link-joined files all p = rw (no_bgp files all) (or_false _)
+is_link-joined files all p = rw (peerings-none files all) (or_false _)
   where
     or_false : (b : Bool) → b ≡ (b || false)
     or_false true = refl

@@ -1,5 +1,5 @@
--- The routing table of a router for one prefix (RFC 1812, section 5.2.4; administrative distances as Cisco IOS has them).
-use Rattle.std.specs.Prelude.{ℕ, ◌==◌, ◌&&◌, Bool, true, not, List, [], ◌∷◌, ◌++◌, filter, map, nat_lt, fold, Option, Some, None, is_some, ◌||◌, if◌then◌else◌}
+-- Connected and static routes of a router for one prefix (RFC 1812, section 5.2.4).
+use Rattle.std.specs.Prelude.{ℕ, ◌==◌, ◌&&◌, Bool, true, not, List, [], ◌∷◌, ◌++◌, filter, map, nat_lt, fold, Option, Some, None, if◌then◌else◌}
 use Rattle.std.specs.List.{list_any}
 use Rattle.mw_text.specs.declared.address.Addr.{Addr}
 use Rattle.mw_text.specs.declared.address.Prefix.{Prefix}
@@ -11,10 +11,8 @@ use Rattle.ios_ast.specs.declared.file.Via.TheVariants.{Null0, Next, Out}
 use Rattle.route_record.specs.declared.Failures.{Failures}
 use Rattle.route_record.specs.declared.RibEntry.{RibEntry}
 use Rattle.route_record.specs.declared.RibSource.TheVariants.{Connected, Static}
-use Rattle.route_record.specs.declared.Slot.{Slot}
 use Rattle.net_model.specs.declared.interfaces.Addressed.{Addressed}
 use Rattle.net_model.specs.Interfaces.{addressed}
-use Rattle.net_model.specs.Undefined.{entries_by_protocols}
 use Rattle.net_model.specs.World.{is_up}
 
 -- the interfaces of a router that have an address and are up
@@ -61,13 +59,3 @@ closer (Some best) entry = if nat_lt entry.distance best.distance then Some entr
 -- the first candidate of least distance
 abbrev pub least_distance : List RibEntry → Option RibEntry
 least_distance entries = fold closer None entries
-
--- what the OSPF and BGP parts of a slot offer; a slot without these offers nothing
-abbrev pub learnt_entries : List File → Failures → ℕ → Prefix → Slot → List RibEntry
-learnt_entries files failures router p slot =
-    if is_some slot.ospf || is_some slot.bgp then entries_by_protocols files failures router p slot else []
-
--- the entry for that prefix
-abbrev pub table_entry : List File → Failures → ℕ → File → Prefix → Slot → Option RibEntry
-table_entry files failures router file p slot =
-    least_distance (candidates (up_interfaces files failures router) file.statics p ++ learnt_entries files failures router p slot)

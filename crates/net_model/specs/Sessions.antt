@@ -1,20 +1,105 @@
--- Ends of BGP sessions (RFC 4271, section 8).
-use Rattle.std.specs.Prelude.{Bool, true, false, List, [], filter, is_some, slice_get, Option, option_and_then, if◌then◌else◌}
-use Rattle.std.specs.List.{list_any}
+-- Ends of BGP sessions (RFC 4271, section 8; Cisco IOS, `neighbor remote-as` and `neighbor update-source`).
+use Rattle.std.specs.Prelude.{ℕ, ◌+◌, ◌==◌, ◌&&◌, ◌||◌, Bool, true, false, not, List, [], ◌∷◌, ◌++◌, filter, is_some, map, position, slice_get, Option, Some, None, option_and_then, unwrap_or, if◌then◌else◌}
+use Rattle.std.specs.List.{find, list_any}
+use Rattle.std.specs.Option.{option_map_or}
+use Rattle.mw_text.specs.Address.{covers, same_prefix}
+use Rattle.mw_text.specs.Text.{same_text}
 use Rattle.ios_ast.specs.declared.bgp.Neighbour.{Neighbour}
 use Rattle.ios_ast.specs.declared.file.File.{File}
+use Rattle.net_model.specs.declared.interfaces.Addressed.{Addressed}
 use Rattle.net_model.specs.declared.sessions.Far.{Far}
 use Rattle.net_model.specs.declared.sessions.Far.TheVariants.{Outside, Inside}
 use Rattle.net_model.specs.declared.sessions.SessionEnd.{SessionEnd}
-use Rattle.net_model.specs.Undefined.{ends_by_bgp}
+use Rattle.net_model.specs.Interfaces.{addressed}
 
 -- the router runs BGP
 abbrev pub runs_bgp : File → Bool
 runs_bgp file = is_some file.bgp
 
--- the ends of all sessions, by router and then by neighbour line. Where no router runs BGP there is none
-abbrev pub ends_of : List File → List SessionEnd
-ends_of files = if list_any runs_bgp files then ends_by_bgp files else []
+-- a neighbour line with the AS number of its router and the interface from which the router speaks to that neighbour
+pub record Peering : Type 0 where
+  pub router : ℕ
+  pub at : ℕ
+  pub asn : ℕ
+  pub neighbour : Neighbour
+  pub source : Addressed
+
+-- the interface has that name in the file of its router
+abbrev pub has_name : File → Addressed → List ℕ → Bool
+has_name file x name = option_map_or (λ iface. same_text iface.name name) (slice_get file.interfaces x.id.at) false
+
+-- a router speaks to a neighbour from the interface that `update-source` names, and without that line from the one whose
+-- subnet has the neighbour's address
+abbrev pub speaks_from : File → Neighbour → Addressed → Bool
+speaks_from file neighbour x =
+    option_map_or (λ named. has_name file x named.name) neighbour.source (covers x.subnet neighbour.addr)
+
+-- the neighbour lines of one router, from that place on, which have such an interface among the router's own
+abbrev pub peerings_from : List Addressed → ℕ → File → ℕ → ℕ → List Neighbour → List Peering
+peerings_from own router file asn at [] = []
+peerings_from own router file asn at (neighbour ∷ rest) =
+    option_map_or (λ source. record { router = router; at = at; asn = asn; neighbour = neighbour; source = source } ∷ [])
+    (find (speaks_from file neighbour) own) []
+    ++ peerings_from own router file asn (at + 1) rest
+
+-- those of one router
+abbrev pub peerings_of : List Addressed → ℕ → File → List Peering
+peerings_of all router file =
+    option_map_or (λ bgp. peerings_from (filter (λ x. x.id.router == router) all) router file bgp.asn 0 bgp.neighbours) file.bgp []
+
+-- those of the routers from that number on
+abbrev pub peerings_routers : List Addressed → ℕ → List File → List Peering
+peerings_routers all router [] = []
+peerings_routers all router (file ∷ rest) = peerings_of all router file ++ peerings_routers all (router + 1) rest
+
+-- all of them, by router and then by neighbour line
+unfoldable pub peerings : List File → List Peering
+peerings files = peerings_routers (addressed files) 0 files
+
+-- the one names the other's address with the other's AS
+abbrev pub names_other : Peering → Peering → Bool
+names_other a b = (a.neighbour.addr.0 == b.source.addr.0) && (a.neighbour.asn == b.asn)
+
+-- two routers have a session where each names the other; over an external one both addresses are on one subnet
+abbrev pub meet : Peering → Peering → Bool
+meet a b =
+    not (a.router == b.router) && (names_other a b && (names_other b a
+    && ((a.asn == b.asn) || same_prefix a.source.subnet b.source.subnet)))
+
+-- an external peer: its address is no interface's of the files, and lies on the subnet of the router's own interface
+abbrev pub is_external_peer : List Addressed → Peering → Bool
+is_external_peer all a =
+    not (list_any (λ x. x.addr.0 == a.neighbour.addr.0) all) && covers a.source.subnet a.neighbour.addr
+
+-- the neighbour lines that are not shut down
+abbrev pub speaking : List File → List Peering
+speaking files = filter (λ a. not a.neighbour.shutdown) (peerings files)
+
+-- a session stands for each of these which meets that of another router, or names an external peer
+abbrev pub has_session : List File → Peering → Bool
+has_session files a = is_external_peer (addressed files) a || list_any (meet a) (speaking files)
+
+unfoldable pub sessions : List File → List Peering
+sessions files = filter (has_session files) (speaking files)
+
+-- what lies at the far side: an external peer, or the end of the other router, by its place
+abbrev pub far_of : List File → Peering → Far
+far_of files a =
+    if is_external_peer (addressed files) a then Outside else Inside (unwrap_or (position (meet a) (sessions files)) 0)
+
+abbrev pub end_of : List File → Peering → SessionEnd
+end_of files a = record {
+  router = a.router;
+  neighbour = a.at;
+  far = far_of files a;
+  internal = a.asn == a.neighbour.asn;
+  own = a.source.id;
+  shared = covers a.source.subnet a.neighbour.addr;
+}
+
+-- the ends of all sessions, by router and then by neighbour line
+unfoldable pub ends_of : List File → List SessionEnd
+ends_of files = map (end_of files) (sessions files)
 
 abbrev pub is_outside : Far → Bool
 is_outside Outside = true

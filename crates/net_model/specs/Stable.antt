@@ -12,18 +12,19 @@ use Rattle.route_record.specs.declared.Slot.{Slot}
 use Rattle.route_record.specs.declared.Tables.{Tables}
 use Rattle.route_record.specs.declared.TheConstants.{LENGTHS}
 use Rattle.route_record.specs.Places.{slot_at}
-use Rattle.net_model.specs.Routing.{table_entry}
-use Rattle.net_model.specs.Undefined.{held_by_ospf, DecidedByBgp}
+use Rattle.net_model.specs.Decisions.{DecidedByBgp}
+use Rattle.net_model.specs.Entries.{table_entry}
+use Rattle.net_model.specs.OspfRoutes.{held_by_ospf}
 
 -- the OSPF record that the router holds: none where it runs no OSPF
 abbrev pub held_ospf : List File → Failures → Tables → ℕ → File → Prefix → Option OspfRec
 held_ospf files failures tables router file p =
-    option_and_then (λ process. held_by_ospf files failures tables router process p) file.ospf
+    option_and_then (λ process. held_by_ospf files failures tables router file process p) file.ospf
 
 -- the BGP record is what the decision process leaves: none where the router runs no BGP
 abbrev pub IsDecided : List File → Failures → Environment → Tables → ℕ → File → Prefix → Option BgpRec → Type 0
 IsDecided files failures environment tables router file p held =
-    MatchOption file.bgp (held ≡ None) (λ process. DecidedByBgp files failures environment tables router process p held)
+    MatchOption file.bgp (held ≡ None) (λ process. DecidedByBgp files failures environment tables router file process p held)
 
 -- the three equations of a slot: its OSPF part, its BGP part and its table entry, each computed from the tables
 pub record IsStableSlot (files : List File) (failures : Failures) (environment : Environment) (tables : Tables)

@@ -12,8 +12,7 @@ use Rattle.net_model.specs.declared.interfaces.Addressed.{Addressed}
 use Rattle.route_record.specs.declared.TheConstants.{LENGTHS}
 use Rattle.net_model.specs.declared.sessions.SessionEnd.{SessionEnd}
 use Rattle.net_model.specs.Interfaces.{addressed}
-use Rattle.net_model.specs.Sessions.{ends_of, external_ends, is_outside, neighbour_of, runs_bgp}
-use Rattle.net_model.specs.Undefined.{is_peered_by_bgp}
+use Rattle.net_model.specs.Sessions.{ends_of, external_ends, is_external_peer, is_outside, neighbour_of, peerings}
 
 -- in ascending order of prefixes p comes before q
 abbrev pub comes_before : Prefix → Prefix → Bool
@@ -33,9 +32,10 @@ is_joined_by all p x =
     joins : Addressed → Bool
     joins y = same_prefix y.subnet p && not (y.shutdown || y.loopback)
 
--- an external peer lies on the subnet. Where no router runs BGP there is none
+-- an external peer lies on the subnet, which is no loopback's
 abbrev pub is_peered : List File → Prefix → Bool
-is_peered files p = if list_any runs_bgp files then is_peered_by_bgp files p else Bool.false
+is_peered files p =
+    list_any (λ a. is_external_peer (addressed files) a && (same_prefix a.source.subnet p && not a.source.loopback)) (peerings files)
 
 abbrev pub is_link : List File → Prefix → Bool
 is_link files p = list_any (is_joined_by (addressed files) p) (addressed files) || is_peered files p

@@ -9,7 +9,7 @@ use mw_text::{Addr, List, Prefix, prefix_of};
 use std::alloc::{AllocError, Global};
 
 /// An interface by its router and its place among the interfaces of that router.
-#[derive(Clone, Copy, PartialEq, Eq)]
+#[derive(Clone, Copy, Debug, PartialEq, Eq)]
 pub struct IfaceId {
     pub router: u32,
     pub at: u32,
