@@ -1,7 +1,7 @@
 -- What a network does not have, since its definition is not written yet.
 use Rattle.std.proofs.Common.{◌≡◌, ℕ, zero, suc, ◌+◌, Bool, true, false, ◌&&◌, ◌||◌, not, List, [], ◌∷◌, Option, Some, None, refl, ◌∙◌, subst}
-use Rattle.std.specs.Prelude.{filter, fold, is_some, map, slice_get}
-use Rattle.std.specs.List.{list_all, list_any}
+use Rattle.std.specs.Prelude.{filter, fold, if◌then◌else◌, is_some, map, option_and_then, option_map, slice_get}
+use Rattle.std.specs.List.{filter_map, list_all, list_any}
 use Rattle.ios_ast.specs.declared.file.File.{File}
 use Rattle.ios_ast.specs.declared.file.Iface.{Iface}
 use Rattle.mw_text.specs.declared.address.Prefix.{Prefix}
@@ -10,6 +10,12 @@ use Rattle.net_model.specs.Network.{all_pairs, fit_together, is_defined, is_filt
 use Rattle.net_model.specs.Interfaces.{addressed}
 use Rattle.ios_ast.specs.declared.bgp.Bgp.{Bgp}
 use Rattle.net_model.specs.Sessions.{ends_of, peerings, peerings_routers, runs_bgp, sessions}
+use Rattle.mw_text.specs.declared.address.Addr.{Addr}
+use Rattle.route_record.specs.declared.Failures.{Failures}
+use Rattle.route_record.specs.declared.OspfRec.{OspfRec}
+use Rattle.route_record.specs.declared.Tables.{Tables}
+use Rattle.net_model.specs.Ospf.{adjacencies, advertised, is_matched, ospf_at, ospf_interfaces, running, up_adjacencies}
+use Rattle.net_model.specs.Sending.{sent_by_ospf, sent_towards}
 use Rattle.net_model.specs.World.{is_joined_by, is_link, links_of, put_in_order}
 
 -- what two tests and a third say together
@@ -152,3 +158,40 @@ pub no_filter : (files : List File) → is_network files ≡ true → (router : 
 no_filter files network router file found at iface is =
     let here = parts file (defined_at files (all_defined files network) router file found) in
     none_of_both iface (plain_at file.interfaces here.2 at iface is)
+
+-- ---- no router of a network runs OSPF
+
+none_of_all : {A B : Type 0} (h : A → Option B) → ((x : A) → h x ≡ None) → (xs : List A) → filter_map h xs ≡ []
+none_of_all h none [] = refl
+none_of_all h none (x ∷ xs) = rw (none x, none_of_all h none xs) refl
+
+no_ospf_at : (files : List File) → is_network files ≡ true → (x : Addressed) → ospf_at files x ≡ None
+no_ospf_at files network x = by_file (slice_get files x.id.router) (λ file is. (no_protocol files network x.id.router file is).0)
+  where
+    by_file : (found : Option File) → ((file : File) → found ≡ Some file → file.ospf ≡ None) →
+        option_and_then (λ file. option_and_then (λ process.
+        if is_matched process x.addr then option_map (λ iface. running process iface x) (slice_get file.interfaces x.id.at) else None)
+        file.ospf) found ≡ None
+    by_file None none = refl
+    by_file (Some file) none = rw (none file refl) refl
+
+no_ospf_interfaces : (files : List File) → is_network files ≡ true → ospf_interfaces files ≡ []
+unfolding ospf_interfaces
+no_ospf_interfaces files network = none_of_all (ospf_at files) (no_ospf_at files network) (addressed files)
+
+-- it has no adjacency that is up
+pub no_up_adjacencies : (files : List File) (failures : Failures) (router : ℕ) → is_network files ≡ true →
+    up_adjacencies files failures router ≡ []
+unfolding up_adjacencies adjacencies
+no_up_adjacencies files failures router network = rw (no_ospf_interfaces files network) refl
+
+-- so it sends over none
+pub no_sent_by_ospf : (files : List File) (failures : Failures) (tables : Tables) (router : ℕ) (p : Prefix) (held : OspfRec) →
+    is_network files ≡ true → sent_by_ospf files failures tables router p held ≡ []
+unfolding sent_by_ospf
+no_sent_by_ospf files failures tables router p held network = rw (no_up_adjacencies files failures router network) refl
+
+pub no_sent_towards : (files : List File) (failures : Failures) (router : ℕ) (a : Addr) → is_network files ≡ true →
+    sent_towards files failures router a ≡ []
+unfolding sent_towards advertised
+no_sent_towards files failures router a network = rw (no_ospf_interfaces files network) refl

@@ -1,5 +1,5 @@
 -- The slots of all routers, by their places.
-use Rattle.std.proofs.Common.{◌≡◌, ℕ, true, ◌+◌, ◌*◌, ◌/◌, ◌%◌, ◌<◌, List, [], ◌++◌, length, Option, Some, None, refl, ap, arith, sym, ◌∙◌, subst, get_or}
+use Rattle.std.proofs.Common.{◌≡◌, ℕ, true, ◌+◌, ◌*◌, ◌/◌, ◌%◌, ◌<◌, List, [], ◌++◌, length, Option, Some, None, refl, ap, ap₂, arith, sym, ◌∙◌, subst, get_or}
 use Rattle.std.specs.Prelude.{MatchOption, option_and_then, slice_get}
 use Rattle.std.proofs.lemmas.List.{append-nil}
 use Rattle.std.proofs.lemmas.Option.{slice_get_within, get_or_from_slice_get}
@@ -20,8 +20,11 @@ use Rattle.net_model.specs.declared.interfaces.Addressed.{Addressed}
 use Rattle.net_model.specs.Interfaces.{addressed}
 use Rattle.net_model.proofs.Defined.{no_protocol}
 use Rattle.net_model.specs.Network.{is_network}
-use Rattle.net_model.specs.Routing.{candidates, learnt_entries, least_distance, open_interfaces, table_entry}
-use Rattle.net_model.specs.Undefined.{held_by_ospf, DecidedByBgp}
+use Rattle.net_model.specs.Decisions.{DecidedByBgp}
+use Rattle.net_model.specs.Entries.{bgp_entry, entry_with, ospf_entry, own_is_as_good, table_entry}
+use Rattle.net_model.specs.OspfRoutes.{held_by_ospf}
+use Rattle.net_model.specs.Routing.{candidates, least_distance, open_interfaces}
+use Rattle.std.specs.Option.{option_to_list}
 use Rattle.net_model.specs.World.{no_failures}
 use Rattle.route_record.specs.declared.TheConstants.{LENGTHS}
 use Rattle.route_record.specs.Places.{slot_at}
@@ -50,17 +53,15 @@ slot_for files d k router len slot place rest found =
     let Q : ℕ → Type 0 = λ l. IsSlotFor files d (k / LENGTHS) l slot in
     subst P place (subst Q rest found)
 
--- a slot without OSPF and BGP parts offers its table nothing
-no_learnt : (files : List File) (router : ℕ) (p : Prefix) (slot : Slot) → slot.ospf ≡ None → slot.bgp ≡ None →
-    learnt_entries files no_failures router p slot ≡ []
-no_learnt files router p slot ospf bgp = rw (ospf, bgp) refl
-
--- and its entry is that of the connected and static routes
+-- the entry of a slot without OSPF and BGP parts is that of the connected and static routes
 plain_entry : (files : List File) (router : ℕ) (file : File) (p : Prefix) (slot : Slot) → slot.ospf ≡ None → slot.bgp ≡ None →
     table_entry files no_failures router file p slot ≡ least_distance (candidates (open_interfaces (addressed files) router) file.statics p)
+unfolding entry_with
 plain_entry files router file p slot ospf bgp =
     let plain : List RibEntry = candidates (open_interfaces (addressed files) router) file.statics p in
-    ap (λ more. least_distance (plain ++ more)) (no_learnt files router p slot ospf bgp) ∙ ap least_distance (append-nil plain)
+    let none : option_to_list (bgp_entry files router slot) ≡ [] = rw bgp refl in
+    let own : option_to_list (ospf_entry (own_is_as_good files no_failures router file p slot) slot) ≡ [] = rw ospf refl in
+    ap₂ (λ b o. least_distance (plain ++ b ++ o)) none own ∙ ap least_distance (append-nil (plain ++ []) ∙ append-nil plain)
 
 -- slots that are those of their places are a stable routing
 pub stable-from_places : (files : List File) (d : Addr) (slots : List Slot) (environment : Environment) → is_network files ≡ true →
@@ -76,9 +77,9 @@ stable-from_places files d slots environment network size each = record {
       (each k slot is_slot) file is_file in
       let none = no_protocol files network router file is_file in
       let Held : Option Ospf → Type 0 = λ o.
-      slot.ospf ≡ option_and_then (λ process. held_by_ospf files no_failures (record { slots = slots }) router process (prefix_at d len)) o in
+      slot.ospf ≡ option_and_then (λ process. held_by_ospf files no_failures (record { slots = slots }) router file process (prefix_at d len)) o in
       let Decided : Option Bgp → Type 0 = λ o.
-      MatchOption o (slot.bgp ≡ None) (λ process. DecidedByBgp files no_failures environment (record { slots = slots }) router process (prefix_at d len) slot.bgp) in
+      MatchOption o (slot.bgp ≡ None) (λ process. DecidedByBgp files no_failures environment (record { slots = slots }) router file process (prefix_at d len) slot.bgp) in
       record {
         ospf = subst Held (sym none.0) (ap (λ s. s.ospf) found);
         bgp = subst Decided (sym none.1) (ap (λ s. s.bgp) found);
@@ -100,9 +101,9 @@ slot-of_stable files d environment tables network stable k slot is_slot file is_
     let p : Prefix = prefix_at d (k % LENGTHS) in
     let none = no_protocol files network (k / LENGTHS) file is_file in
     let Held : Option Ospf → Type 0 = λ o.
-    slot.ospf ≡ option_and_then (λ process. held_by_ospf files no_failures tables (k / LENGTHS) process p) o in
+    slot.ospf ≡ option_and_then (λ process. held_by_ospf files no_failures tables (k / LENGTHS) file process p) o in
     let Decided : Option Bgp → Type 0 = λ o.
-    MatchOption o (slot.bgp ≡ None) (λ process. DecidedByBgp files no_failures environment tables (k / LENGTHS) process p slot.bgp) in
+    MatchOption o (slot.bgp ≡ None) (λ process. DecidedByBgp files no_failures environment tables (k / LENGTHS) file process p slot.bgp) in
     let ospf : slot.ospf ≡ None = subst Held none.0 holds.ospf in
     let bgp : slot.bgp ≡ None = subst Decided none.1 holds.bgp in
     slot_by_parts slot (slot_over (addressed files) (k / LENGTHS) file p) ospf bgp

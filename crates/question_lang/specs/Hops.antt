@@ -24,7 +24,8 @@ use Rattle.route_record.specs.Places.{slot_at}
 use Rattle.net_model.specs.declared.interfaces.Addressed.{Addressed}
 use Rattle.net_model.specs.declared.interfaces.IfaceId.{IfaceId}
 use Rattle.net_model.specs.Interfaces.{addressed}
-use Rattle.net_model.specs.Undefined.{permitted_by_list, sent_by_ospf, resolved_by_ospf}
+use Rattle.net_model.specs.declared.adjacencies.Adjacency.{Adjacency}
+use Rattle.net_model.specs.Sending.{permitted_by_list, sent_by_ospf, sent_towards}
 use Rattle.net_model.specs.World.{is_up}
 use Rattle.net_model.specs.Routing.{up_interfaces, static_routes}
 use Rattle.question_lang.specs.declared.walk.End.TheVariants.{Delivered, Left, NoRoute, Discarded, DeniedIn, DeniedOut}
@@ -89,22 +90,23 @@ connected_hops files packet up own p =
     depart files packet out.id (option_map_or (arrive files packet) (owner_on up p packet.dst) (Ends Delivered)) ∷ [])
     (find (λ x. same_prefix x.subnet p) own) []
 
--- an OSPF entry sends over the adjacencies of the router's OSPF process, and nowhere where the slot has no OSPF record
--- or the router no process
-abbrev pub ospf_hops : List File → World → ℕ → File → Prefix → Slot → List Hop
-ospf_hops files world router file p slot =
-    option_map_or (λ held. option_map_or (λ process.
-    map (arrive files world.packet) (sent_by_ospf files world.failures world.tables router process p held)) file.ospf []) slot.ospf []
+-- over an adjacency, out of the own interface and in at the other router's
+abbrev pub send_adjacent : List File → Packet → Adjacency → Hop
+send_adjacent files packet a = depart files packet a.from (arrive files packet a.to)
 
--- a BGP entry sends to its next hop where that is on a subnet of the router, else over the adjacencies of the OSPF
--- process that lead to it, and nowhere where the slot has no BGP record
-abbrev pub bgp_hops : List File → World → List Addressed → List Addressed → ℕ → File → Slot → List Hop
-bgp_hops files world up own router file slot =
+-- an OSPF entry sends over the adjacencies that offer the record which the router holds, and nowhere where it holds none
+abbrev pub ospf_hops : List File → World → ℕ → Prefix → Slot → List Hop
+ospf_hops files world router p slot =
+    option_map_or (λ held.
+    map (send_adjacent files world.packet) (sent_by_ospf files world.failures world.tables router p held)) slot.ospf []
+
+-- a BGP entry sends to its next hop where that is on a subnet of the router, else over the adjacencies that lead to it,
+-- and nowhere where the router holds no BGP route
+abbrev pub bgp_hops : List File → World → List Addressed → List Addressed → ℕ → Slot → List Hop
+bgp_hops files world up own router slot =
     option_map_or (λ held.
     if list_any (λ x. covers x.subnet held.next_hop) own then send_over files world.packet up own held.next_hop
-    else option_map_or (λ process.
-    map (arrive files world.packet) (resolved_by_ospf files world.failures router process held.next_hop.0)) file.ospf [])
-    slot.bgp []
+    else map (send_adjacent files world.packet) (sent_towards files world.failures router held.next_hop)) slot.bgp []
 
 -- the next hops of the entry of a slot
 abbrev pub entry_hops : List File → World → List Addressed → List Addressed → ℕ → File → ℕ × Slot × RibEntry → List Hop
@@ -114,9 +116,9 @@ entry_hops files world up own router file (len, slot, entry) = by_source entry.s
   by_source Static =
       flat_map (static_hops files world.packet up own)
       (filter (λ route. route.distance == entry.distance) (static_routes own file.statics (prefix_at world.packet.dst len)))
-  by_source Ebgp = bgp_hops files world up own router file slot
-  by_source Ospf = ospf_hops files world router file (prefix_at world.packet.dst len) slot
-  by_source Ibgp = bgp_hops files world up own router file slot
+  by_source Ebgp = bgp_hops files world up own router slot
+  by_source Ospf = ospf_hops files world router (prefix_at world.packet.dst len) slot
+  by_source Ibgp = bgp_hops files world up own router slot
 
 -- the slot of a router for a prefix length, where it has an entry
 abbrev pub entry_at : Tables → ℕ → ℕ → Option (Slot × RibEntry)

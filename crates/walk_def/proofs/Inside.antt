@@ -26,7 +26,7 @@ use Rattle.route_record.specs.declared.World.{World}
 use Rattle.net_model.specs.declared.interfaces.Addressed.{Addressed}
 use Rattle.net_model.specs.declared.interfaces.IfaceId.{IfaceId}
 use Rattle.net_model.specs.Interfaces.{addressed, addressed_from, addressed_routers, addressed_iface}
-use Rattle.net_model.proofs.Defined.{no_protocol}
+use Rattle.walk_def.proofs.Adjacent.{bgp_hops_over, ospf_hops_none}
 use Rattle.net_model.specs.Network.{is_network}
 use Rattle.net_model.specs.Routing.{static_routes, up_interfaces}
 use Rattle.net_model.specs.World.{is_up}
@@ -155,51 +155,50 @@ connected_inside bound files packet up own p all = by_out (find (λ x. same_pref
   by_out None = refl
   by_out (Some out) = one_inside bound _ (out_inside bound files packet up out.id p packet.dst End.Delivered all refl)
 
--- without an OSPF process
-ospf_inside : (bound : ℕ) (files : List File) (world : World) (router : ℕ) (file : File) (p : Prefix) (slot : Slot) → file.ospf ≡ None →
-    list_all (is_inside bound) (ospf_hops files world router file p slot) ≡ true
-ospf_inside bound files world router file p slot none = rw none (by_held slot.ospf) where
-  by_held : (held : Option OspfRec) → list_all (is_inside bound) (option_map_or (λ _. []) held []) ≡ true
-  by_held None = refl
-  by_held (Some held) = refl
+-- no hop goes over an adjacency
+ospf_inside : (bound : ℕ) (files : List File) (world : World) (router : ℕ) (p : Prefix) (slot : Slot) → is_network files ≡ true →
+    list_all (is_inside bound) (ospf_hops files world router p slot) ≡ true
+ospf_inside bound files world router p slot network = rw (ospf_hops_none files world router p slot network) refl
 
-bgp_inside : (bound : ℕ) (files : List File) (world : World) (up own : List Addressed) (router : ℕ) (file : File) (slot : Slot) →
-    list_all (of_router_below bound) up ≡ true → file.ospf ≡ None →
-    list_all (is_inside bound) (bgp_hops files world up own router file slot) ≡ true
-bgp_inside bound files world up own router file slot all none = rw none (by_held slot.bgp) where
-  by_next : (b : Bool) (a : Addr) → list_all (is_inside bound) (cond b (send_over files world.packet up own a) []) ≡ true
-  by_next true a = over_inside bound files world.packet up own a all
-  by_next false a = refl
+bgp_inside : (bound : ℕ) (files : List File) (world : World) (up own : List Addressed) (router : ℕ) (slot : Slot) →
+    list_all (of_router_below bound) up ≡ true → is_network files ≡ true →
+    list_all (is_inside bound) (bgp_hops files world up own router slot) ≡ true
+bgp_inside bound files world up own router slot all network =
+    rw (bgp_hops_over files world up own router slot network) (by_held slot.bgp)
+  where
+    by_next : (b : Bool) (a : Addr) → list_all (is_inside bound) (cond b (send_over files world.packet up own a) []) ≡ true
+    by_next true a = over_inside bound files world.packet up own a all
+    by_next false a = refl
 
-  by_held : (held : Option BgpRec) → list_all (is_inside bound)
-      (option_map_or (λ h. cond (list_any (λ x. covers x.subnet h.next_hop) own) (send_over files world.packet up own h.next_hop) []) held []) ≡ true
-  by_held None = refl
-  by_held (Some held) = by_next (list_any (λ x. covers x.subnet held.next_hop) own) held.next_hop
+    by_held : (held : Option BgpRec) → list_all (is_inside bound)
+        (option_map_or (λ h. cond (list_any (λ x. covers x.subnet h.next_hop) own) (send_over files world.packet up own h.next_hop) []) held []) ≡ true
+    by_held None = refl
+    by_held (Some held) = by_next (list_any (λ x. covers x.subnet held.next_hop) own) held.next_hop
 
 entry_inside : (bound : ℕ) (files : List File) (world : World) (up own : List Addressed) (router : ℕ) (file : File) (len : ℕ) (slot : Slot) (entry : RibEntry) →
-    list_all (of_router_below bound) up ≡ true → file.ospf ≡ None →
+    list_all (of_router_below bound) up ≡ true → is_network files ≡ true →
     list_all (is_inside bound) (entry_hops files world up own router file (len, slot, entry)) ≡ true
-entry_inside bound files world up own router file len slot entry all none = by_source entry.source where
+entry_inside bound files world up own router file len slot entry all network = by_source entry.source where
   by_source : (source : RibSource) →
       list_all (is_inside bound) (entry_hops files world up own router file (len, slot, record entry { source = source })) ≡ true
   by_source Connected = connected_inside bound files world.packet up own (prefix_at world.packet.dst len) all
   by_source Static =
       statics_inside bound files world.packet up own
       (filter (λ route. eqb route.distance entry.distance) (static_routes own file.statics (prefix_at world.packet.dst len))) all
-  by_source Ebgp = bgp_inside bound files world up own router file slot all none
-  by_source Ospf = ospf_inside bound files world router file (prefix_at world.packet.dst len) slot none
-  by_source Ibgp = bgp_inside bound files world up own router file slot all none
+  by_source Ebgp = bgp_inside bound files world up own router slot all network
+  by_source Ospf = ospf_inside bound files world router (prefix_at world.packet.dst len) slot network
+  by_source Ibgp = bgp_inside bound files world up own router slot all network
 
 over_inside_all : (bound : ℕ) (files : List File) (world : World) (up own : List Addressed) (router : ℕ) (file : File) →
-    list_all (of_router_below bound) up ≡ true → file.ospf ≡ None →
+    list_all (of_router_below bound) up ≡ true → is_network files ≡ true →
     list_all (is_inside bound) (hops_over files world up own router file) ≡ true
-over_inside_all bound files world up own router file all none =
+over_inside_all bound files world up own router file all network =
     by_own (list_any (λ x. eqb x.addr.0 world.packet.dst.0) own) (longest_below world.tables router LENGTHS)
   where
     by_longest : (o : Option (ℕ × Slot × RibEntry)) → list_all (is_inside bound)
         (option_map_or (entry_hops files world up own router file) o (Ends End.NoRoute ∷ [])) ≡ true
     by_longest None = refl
-    by_longest (Some (len, slot, entry)) = entry_inside bound files world up own router file len slot entry all none
+    by_longest (Some (len, slot, entry)) = entry_inside bound files world up own router file len slot entry all network
 
     by_own : (b : Bool) (o : Option (ℕ × Slot × RibEntry)) → list_all (is_inside bound)
         (cond b (Ends End.Delivered ∷ []) (option_map_or (entry_hops files world up own router file) o (Ends End.NoRoute ∷ []))) ≡ true
@@ -218,4 +217,4 @@ next_hops_inside files network world router = by_file (slice_get files router) r
   by_file None is = refl
   by_file (Some file) is =
       over_inside_all (length files) files world (all_up files world.failures) (up_interfaces files world.failures router) router file
-      below (no_protocol files network router file is).0
+      below network

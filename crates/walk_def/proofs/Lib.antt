@@ -7,5 +7,5 @@ pub mod Known
 pub mod AllHops
 pub mod Unfiltered
 pub mod Worlds
-pub mod Routers
+pub mod Adjacent
 pub mod EachOnce

@@ -1,9 +1,10 @@
 //! The next hops of a router.
 
-ghost use Rattle.std.specs.Prelude.{◌≡◌, ◌==◌, ◌&&◌, ◌++◌, ◌∷◌, [], None, filter, IfOk, IfSome, OnOk, option_map, slice_get};
+ghost use Rattle.std.specs.Prelude.{◌≡◌, ◌==◌, ◌&&◌, ◌++◌, ◌∷◌, [], true, filter, IfOk, OnOk, option_map, slice_get};
 ghost use Rattle.std.specs.List.{find, flat_map, list_any};
 ghost use Rattle.std.specs.Option.{option_copied, option_map_or};
 ghost use Rattle.mw_text.specs.Address.{covers, same_prefix};
+ghost use Rattle.net_model.specs.Network.{is_network};
 ghost use Rattle.net_model.specs.Routing.{static_routes};
 ghost use Rattle.question_lang.specs.Hops as hops;
 
@@ -154,7 +155,9 @@ fn some_subnet_has(own: &[Addressed], a: Addr) -> bool
     own.iter().any(|x| contains(&x.subnet, a))
 }
 
-// The hops of a BGP entry at a router that runs no OSPF: to the next hop, where that is on a subnet of the router.
+// The hops of a BGP entry: to the next hop, where that is on a subnet of the router. In a network of today no adjacency
+// leads to another.
+#[tactic(auto, using(crate::proofs::Adjacent::bgp_hops_over))]
 fn bgp_hops_of(
     alloc: Global,
     net: &Net,
@@ -162,13 +165,12 @@ fn bgp_hops_of(
     up: &[Addressed],
     own: &[Addressed],
     router: u32,
-    file: &File,
     slot: &Slot,
 ) -> Result<List<Hop>, AllocError>
-    requires { file.now.ospf ≡ None }
-    ensures { IfOk result (λ all. all ≡ hops.bgp_hops net.now world.now up.now own.now router file.now slot.now) }
+    requires { is_network net.now ≡ true }
+    ensures { IfOk result (λ all. all ≡ hops.bgp_hops net.now world.now up.now own.now router slot.now) }
 {
-    let _places = (router, file.hostname_line);
+    let _place = router;
     let mut out = List::new(alloc);
     if let Some(held) = &slot.bgp {
         if some_subnet_has(own, held.next_hop) {
@@ -178,26 +180,20 @@ fn bgp_hops_of(
     Ok(out)
 }
 
-// The hops of an OSPF entry at a router that runs no OSPF: none.
+// The hops of an OSPF entry: none, since a network of today has no adjacency.
+#[tactic(auto, using(crate::proofs::Adjacent::ospf_hops_none))]
 fn ospf_hops_of(
     alloc: Global,
     net: &Net,
     world: &World,
     router: u32,
-    file: &File,
     p: &Prefix,
     slot: &Slot,
 ) -> List<Hop>
-    requires { file.now.ospf ≡ None }
-    ensures { result ≡ hops.ospf_hops net.now world.now router file.now p.now slot.now }
+    requires { is_network net.now ≡ true }
+    ensures { result ≡ hops.ospf_hops net.now world.now router p.now slot.now }
 {
-    let _places = (
-        net.routers().len(),
-        world.packet.dst,
-        router,
-        file.hostname_line,
-        p.len,
-    );
+    let _places = (net.routers().len(), world.packet.dst, router, p.len);
     let _held = slot.ospf.is_some();
     List::new(alloc)
 }
@@ -215,7 +211,7 @@ fn entry_hops_of(
     file: &File,
     found: &Longest<'_>,
 ) -> Result<List<Hop>, AllocError>
-    requires { file.now.ospf ≡ None }
+    requires { is_network net.now ≡ true }
     ensures { IfOk result (λ all. all ≡ hops.entry_hops net.now world.now up.now own.now router file.now
         (found.now.0, found.now.1.now, found.now.2)) }
 {
@@ -234,9 +230,9 @@ fn entry_hops_of(
             &p,
             entry.distance,
         ),
-        RibSource::Ebgp => bgp_hops_of(alloc, net, world, up, own, router, file, slot),
-        RibSource::Ospf => Ok(ospf_hops_of(alloc, net, world, router, file, &p, slot)),
-        RibSource::Ibgp => bgp_hops_of(alloc, net, world, up, own, router, file, slot),
+        RibSource::Ebgp => bgp_hops_of(alloc, net, world, up, own, router, slot),
+        RibSource::Ospf => Ok(ospf_hops_of(alloc, net, world, router, &p, slot)),
+        RibSource::Ibgp => bgp_hops_of(alloc, net, world, up, own, router, slot),
     }
 }
 
@@ -290,7 +286,7 @@ fn hops_of(
     router: u32,
     file: &File,
 ) -> Result<List<Hop>, AllocError>
-    requires { file.now.ospf ≡ None }
+    requires { is_network net.now ≡ true }
     ensures { IfOk result (λ all. all ≡ hops.hops_over net.now world.now up.now own.now router file.now) }
 {
     if is_own(own, world.packet.dst) {
@@ -302,11 +298,10 @@ fn hops_of(
     }
 }
 
-// The file of a router, which runs no OSPF in a network of today.
-#[tactic(auto, using(crate::proofs::Routers::runs_no_ospf))]
+// The file of a router.
 fn file_of(net: &Net, router: u32) -> Option<&File>
     ensures value { option_copied result ≡ slice_get net.entry.now router }
-    ensures plain { IfSome result (λ file. file.now.ospf ≡ None) }
+    ensures network { is_network net.entry.now ≡ true }
 {
     net.routers().get(router as usize)
 }
