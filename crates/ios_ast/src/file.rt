@@ -17,8 +17,17 @@ pub struct File {
     pub policies: Policies,
 }
 
+/// How many lines a file has at most.
+pub const MOST_LINES: usize = 20_000;
+
 /// How many interfaces a router has at most.
 pub const MOST_INTERFACES: usize = 64;
+
+/// How many neighbours a router has at most.
+pub const MOST_NEIGHBOURS: usize = 64;
+
+/// How many entries the lists and route maps of a file have at most, all together.
+pub const MOST_POLICY_ENTRIES: usize = 512;
 
 /// An interface. The bandwidth is in kilobits a second.
 #[derive(Drop)]

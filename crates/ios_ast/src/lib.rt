@@ -7,7 +7,10 @@ pub mod ospf;
 pub mod policies;
 
 pub use bgp::{Bgp, BgpNet, Neighbour};
-pub use file::{File, IfAddr, Iface, MOST_INTERFACES, StaticRoute, Use, Via};
+pub use file::{
+    File, IfAddr, Iface, MOST_INTERFACES, MOST_LINES, MOST_NEIGHBOURS, MOST_POLICY_ENTRIES,
+    StaticRoute, Use, Via,
+};
 pub use ospf::{DefaultOrigin, Ospf, OspfNet, Redist, Source};
 pub use policies::{
     AccessEntry, AccessList, AsPathEntry, AsPathList, CommunityEntry, CommunityList, MapEntry,

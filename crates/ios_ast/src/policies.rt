@@ -95,10 +95,12 @@ pub struct AccessEntry {
     pub dport: Ports,
 }
 
+/// An access list. It is named where an `ip access-list` line opened it.
 #[derive(Drop)]
 pub struct AccessList {
     pub name: List<u8>,
     pub extended: bool,
+    pub named: bool,
     pub entries: List<AccessEntry>,
 }
 

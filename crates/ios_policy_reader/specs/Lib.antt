@@ -7,3 +7,4 @@ pub mod Edges
 pub mod Least
 pub mod Heads
 pub mod Entries
+pub mod Policies
