@@ -1,1 +1,4 @@
 pub mod Names
+pub mod Interfaces
+pub mod Ospf
+pub mod Bgp
