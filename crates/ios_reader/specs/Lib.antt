@@ -2,3 +2,5 @@ pub mod Names
 pub mod Interfaces
 pub mod Ospf
 pub mod Bgp
+pub mod Drafts
+pub mod InterfaceRows

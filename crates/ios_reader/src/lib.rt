@@ -2,6 +2,8 @@
 #![tactic(auto)]
 
 pub mod bgp;
+pub mod draft;
+pub mod interface_rows;
 pub mod interfaces;
 pub mod names;
 pub mod ospf;
