@@ -4,3 +4,4 @@ pub mod Ospf
 pub mod Bgp
 pub mod Drafts
 pub mod InterfaceRows
+pub mod OspfRows

@@ -7,3 +7,4 @@ pub mod interface_rows;
 pub mod interfaces;
 pub mod names;
 pub mod ospf;
+pub mod ospf_rows;
