@@ -3,6 +3,7 @@ pub mod Names
 pub mod Masks
 pub mod Patterns
 pub mod Said
+pub mod Values
 pub mod Edges
 pub mod Least
 pub mod Heads

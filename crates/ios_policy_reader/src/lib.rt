@@ -17,6 +17,7 @@ pub mod rows;
 pub mod said;
 pub mod tables;
 pub mod tail;
+pub mod values;
 pub mod words;
 
 pub use cause::{Cause, Refused};

@@ -87,14 +87,15 @@ pub struct Said {
     pub value: Value,
 }
 
-fn is_under(tag: Tag, said: Said) -> bool
+/// Whether it was said under the tag.
+pub fn is_under(tag: Tag, said: Said) -> bool
     ensures { result ≡ (tag_number said.tag == tag_number tag) }
 {
     said.tag as u8 == tag as u8
 }
 
 /// The number that this is, if it is one.
-fn number_of_value(value: Value, otherwise: u32) -> u32
+pub fn number_of_value(value: Value, otherwise: u32) -> u32
     ensures { result ≡ number_in otherwise value }
 {
     match value {
