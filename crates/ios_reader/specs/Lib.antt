@@ -5,3 +5,4 @@ pub mod Bgp
 pub mod Drafts
 pub mod InterfaceRows
 pub mod OspfRows
+pub mod Neighbours

@@ -6,5 +6,6 @@ pub mod draft;
 pub mod interface_rows;
 pub mod interfaces;
 pub mod names;
+pub mod neighbours;
 pub mod ospf;
 pub mod ospf_rows;
