@@ -6,3 +6,4 @@ pub mod Drafts
 pub mod InterfaceRows
 pub mod OspfRows
 pub mod Neighbours
+pub mod BgpRows

@@ -2,6 +2,7 @@
 #![tactic(auto)]
 
 pub mod bgp;
+pub mod bgp_rows;
 pub mod draft;
 pub mod interface_rows;
 pub mod interfaces;
