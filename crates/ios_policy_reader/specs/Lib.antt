@@ -8,4 +8,6 @@ pub mod Edges
 pub mod Least
 pub mod Heads
 pub mod Entries
+pub mod Lists
+pub mod Clauses
 pub mod Policies

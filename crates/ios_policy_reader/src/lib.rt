@@ -2,11 +2,13 @@
 #![tactic(auto)]
 
 pub mod cause;
+pub mod clauses;
 pub mod edges;
 pub mod entries;
 pub mod head_table;
 pub mod heads;
 pub mod laws;
+pub mod lists;
 pub mod masks;
 pub mod names;
 pub mod patterns;
