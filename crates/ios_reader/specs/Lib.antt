@@ -7,3 +7,4 @@ pub mod InterfaceRows
 pub mod OspfRows
 pub mod Neighbours
 pub mod BgpRows
+pub mod Banners

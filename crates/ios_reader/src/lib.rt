@@ -1,6 +1,7 @@
 //! The reader of configuration files.
 #![tactic(auto)]
 
+pub mod banner;
 pub mod bgp;
 pub mod bgp_rows;
 pub mod draft;
