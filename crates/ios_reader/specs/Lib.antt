@@ -8,3 +8,4 @@ pub mod OspfRows
 pub mod Neighbours
 pub mod BgpRows
 pub mod Banners
+pub mod TopRows

@@ -11,3 +11,4 @@ pub mod names;
 pub mod neighbours;
 pub mod ospf;
 pub mod ospf_rows;
+pub mod top_rows;
