@@ -38,7 +38,7 @@ fn has_open_entry(at: u32, policies: &Policies) -> bool
 }
 
 /// Where the lines of the open block stand. None where no block of a policy is open.
-fn context_in(block: PolicyBlock, policies: &Policies) -> Option<Context>
+pub fn context_in(block: PolicyBlock, policies: &Policies) -> Option<Context>
     ensures { result ≡ context_of block policies.now }
 {
     match block {

@@ -9,3 +9,4 @@ pub mod Neighbours
 pub mod BgpRows
 pub mod Banners
 pub mod TopRows
+pub mod SubRows

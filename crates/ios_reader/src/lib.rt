@@ -11,4 +11,5 @@ pub mod names;
 pub mod neighbours;
 pub mod ospf;
 pub mod ospf_rows;
+pub mod sub_rows;
 pub mod top_rows;
