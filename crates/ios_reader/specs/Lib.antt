@@ -10,3 +10,4 @@ pub mod BgpRows
 pub mod Banners
 pub mod TopRows
 pub mod SubRows
+pub mod Reading
