@@ -115,3 +115,25 @@ with_line line rest draft =
     if nat_lt MOST_LINES line.number then Err Limit
     else option_map_or (λ delimiter. Ok (in_banner delimiter line draft)) draft.banner
     (if is_skipped line.words then Ok draft else policy_first line rest draft)
+
+-- ---- all lines
+
+-- refused at that line
+abbrev pub at_line : {T : Type 0} → ℕ → Result T Cause → Result T Refused
+at_line line (Ok x) = Ok x
+at_line line (Err cause) = Err (record { line = line; cause = cause })
+
+-- a file has a hostname
+abbrev pub finished : Draft → Result File Refused
+finished draft =
+    if length draft.file.hostname == 0 then Err (record { line = 1; cause = NoHostname }) else Ok draft.file
+
+-- the file of a draft and the lines after it, or the refusal at the first line with a cause
+unfoldable pub read_lines : Draft → List Line → Result File Refused
+read_lines draft [] = finished draft
+read_lines draft (line ∷ rest) =
+    result_then (λ next. read_lines next rest) (at_line line.number (with_line line rest draft))
+
+-- the file that a text reads as, or its refusal
+abbrev pub reading : List ℕ → Result File Refused
+reading bytes = read_lines empty_draft (text_lines bytes)

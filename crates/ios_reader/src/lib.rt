@@ -12,5 +12,9 @@ pub mod names;
 pub mod neighbours;
 pub mod ospf;
 pub mod ospf_rows;
+pub mod reader;
 pub mod sub_rows;
 pub mod top_rows;
+
+pub use ios_policy_reader::{Cause, Refused};
+pub use reader::read_file;
