@@ -1,14 +1,17 @@
 -- What the words of a line say, as the entry of a list.
-use Rattle.std.specs.Prelude.{ℕ, ◌+◌, ◌-◌, ◌==◌, Bool, min, nat_lt, List, Option, Some, None, if◌then◌else◌}
+use Rattle.std.specs.Prelude.{ℕ, ◌+◌, ◌-◌, ◌==◌, Bool, min, nat_lt, List, [], Option, Some, None, if◌then◌else◌}
 use Rattle.ios_ast.specs.declared.policies.PrefixEntry.{PrefixEntry}
 use Rattle.ios_ast.specs.declared.policies.AsPathEntry.{AsPathEntry}
 use Rattle.ios_ast.specs.declared.policies.AccessEntry.{AccessEntry}
+use Rattle.ios_ast.specs.declared.policies.CommunityEntry.{CommunityEntry}
+use Rattle.ios_ast.specs.declared.policies.MapEntry.{MapEntry}
 use Rattle.ios_ast.specs.declared.policies.Wild.{Wild}
 use Rattle.ios_ast.specs.declared.policies.Ports.{Ports}
 use Rattle.ios_ast.specs.declared.policies.Ports.TheVariants.{Any, Range, Not, Empty}
 use Rattle.ios_policy_reader.specs.declared.said.Tag.{Tag}
-use Rattle.ios_policy_reader.specs.declared.said.Tag.TheVariants.{Action, Low, High, Protocol, Source, SourceWild, SourceTest, SourcePort, SourceTop, Target, TargetWild, TargetTest, TargetPort, TargetTop}
+use Rattle.ios_policy_reader.specs.declared.said.Tag.TheVariants.{Action, Sequence, Community, Low, High, Protocol, Source, SourceWild, SourceTest, SourcePort, SourceTop, Target, TargetWild, TargetTest, TargetPort, TargetTop}
 use Rattle.ios_policy_reader.specs.declared.said.Said.{Said}
+use Rattle.ios_policy_reader.specs.Values.{numbers_under}
 use Rattle.ios_policy_reader.specs.Said.{number_under, has_said, address_under, prefix_said, pattern_said}
 
 abbrev pub permits : List Said → Bool
@@ -57,6 +60,20 @@ ports_under test port top said =
     if has_said test said
     then ports_by (number_under test said 0) (min (number_under port said 0) 65535) (min (number_under top said 0) 65535)
     else Any
+
+-- an entry of a community list
+abbrev pub community_entry : ℕ → List Said → CommunityEntry
+community_entry line said = record { line = line; permit = permits said; values = numbers_under Community said }
+
+-- an entry of a route map, before its lines
+abbrev pub map_entry : ℕ → List Said → MapEntry
+map_entry line said = record {
+  line = line;
+  seq = number_under Sequence said 0;
+  permit = permits said;
+  matches = [];
+  sets = [];
+}
 
 -- 256 stands for every protocol
 abbrev pub protocol_in : ℕ → Option ℕ

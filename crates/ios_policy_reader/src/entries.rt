@@ -1,13 +1,15 @@
 //! What the words of a line say, as the entry of a list.
 
-ghost use Rattle.std.specs.Prelude.{◌≡◌};
-ghost use Rattle.ios_policy_reader.specs.Entries.{permits, prefix_entry, path_entry, wild_under, ports_by, ports_under, protocol_in, access_entry};
+ghost use Rattle.std.specs.Prelude.{◌≡◌, IfOk};
+ghost use Rattle.ios_policy_reader.specs.Entries.{permits, prefix_entry, path_entry, community_entry, map_entry, wild_under, ports_by, ports_under, protocol_in, access_entry};
 ghost use Rattle.ios_policy_reader.specs.Said.{number_under};
 ghost use Rattle.ios_policy_reader.specs.declared.said.Tag.TheVariants.{Protocol};
 
 use crate::said::{Said, Tag, address_said_under, is_said, last_pattern, last_prefix, number_said};
-use ios_ast::{AccessEntry, AsPathEntry, Ports, PrefixEntry, Wild};
-use mw_text::Addr;
+use crate::values::numbers_said;
+use ios_ast::{AccessEntry, AsPathEntry, CommunityEntry, MapEntry, Ports, PrefixEntry, Wild};
+use mw_text::{Addr, List};
+use std::alloc::{AllocError, Global};
 
 /// Whether the line permits.
 fn is_permit(said: &[Said]) -> bool
@@ -44,6 +46,34 @@ pub fn as_path_entry(line: u32, said: &[Said]) -> AsPathEntry
         line,
         permit: is_permit(said),
         pattern: last_pattern(said),
+    }
+}
+
+/// The entry of a community list, at its line.
+pub fn community_list_entry(
+    alloc: Global,
+    line: u32,
+    said: &[Said],
+) -> Result<CommunityEntry, AllocError>
+    ensures { IfOk result (λ entry. entry ≡ community_entry line said.now) }
+{
+    Ok(CommunityEntry {
+        line,
+        permit: is_permit(said),
+        values: numbers_said(alloc, Tag::Community, said)?,
+    })
+}
+
+/// The entry of a route map, at its line.
+pub fn route_map_entry(alloc: Global, line: u32, said: &[Said]) -> MapEntry
+    ensures { result ≡ map_entry line said.now }
+{
+    MapEntry {
+        line,
+        seq: number_said(Tag::Sequence, said, 0),
+        permit: is_permit(said),
+        matches: List::new(alloc),
+        sets: List::new(alloc),
     }
 }
 

@@ -1,6 +1,7 @@
 //! The reader of lists and route maps, and the grammar of configuration lines.
 #![tactic(auto)]
 
+pub mod access_lists;
 pub mod cause;
 pub mod clauses;
 pub mod edges;
@@ -13,6 +14,8 @@ pub mod masks;
 pub mod names;
 pub mod patterns;
 pub mod policies;
+pub mod policy_lines;
+pub mod room;
 pub mod router_laws;
 pub mod router_tables;
 pub mod rows;

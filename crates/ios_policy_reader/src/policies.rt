@@ -1,14 +1,22 @@
 //! Reads the lines of lists and route maps.
 
-ghost use Rattle.std.specs.Prelude.{◌≡◌, ◌≢◌, ◌-◌, ◌<◌, ◌^◌, IfOk, IfErr, OnErr, Ok, Err, is_some, length};
-ghost use Rattle.ios_policy_reader.specs.Policies.{open_entry, context_of, is_policy_row, put, context_reading, policy_reading};
+ghost use Rattle.std.specs.Prelude.{◌≡◌, ◌≢◌, ◌-◌, ◌<◌, ◌^◌, IfOk, IfErr, OnErr, Ok, Err, false, length};
+ghost use Rattle.ios_policy_reader.specs.Policies.{open_line, map_line, taken_in, access_block, map_block, is_top_row, top_line, context_of, put, is_policy_row, context_reading, policy_reading};
 
+use crate::access_lists::access_list_place;
 use crate::cause::{Cause, Refused};
-use crate::heads::{Context, Found, Row, find_row};
+use crate::clauses::last_entry;
+use crate::heads::{Context, Row, find_row};
+use crate::lists::map_place;
+use crate::policy_lines::{
+    put_access_line, put_community_line, put_entry_line, put_map_block_line, put_map_line,
+    put_open_line, put_path_line, put_prefix_line,
+};
 use crate::rows::read_row;
 use crate::said::Said;
+use crate::values::list_name;
 use ios_ast::Policies;
-use mw_text::Line;
+use mw_text::{Line, List};
 use std::alloc::Global;
 
 /// The block that is open: none of a policy, an access list by its position, or the last entry of the map at that
@@ -27,13 +35,13 @@ pub struct Step {
     pub block: PolicyBlock,
 }
 
-/// Whether the map at a position has an entry.
-fn has_open_entry(at: u32, policies: &Policies) -> bool
-    ensures { result ≡ is_some (open_entry at policies.now) }
+/// A line that is no policy's.
+fn passed(block: PolicyBlock) -> Step
+    ensures { result ≡ record { taken = false; block = block } }
 {
-    match policies.maps.items.get(at as usize) {
-        Some(map) => !map.entries.items.is_empty(),
-        None => false,
+    Step {
+        taken: false,
+        block,
     }
 }
 
@@ -48,78 +56,151 @@ pub fn context_in(block: PolicyBlock, policies: &Policies) -> Option<Context>
             Some(_) => Some(Context::InStandard),
             None => None,
         },
-        PolicyBlock::Map(at) => {
-            if has_open_entry(at, policies) {
-                Some(Context::InMap)
-            } else {
-                None
-            }
-        }
+        PolicyBlock::Map(at) => match last_entry(policies.maps.as_slice(), at) {
+            Some(_) => Some(Context::InMap),
+            None => None,
+        },
     }
 }
 
-/// Whether the row is one of lists and route maps. In the block of a map those that are ignored are.
+/// Whether the row is one of lists and route maps at the top.
+fn is_at_top(row: Row) -> bool
+    ensures { result ≡ is_top_row row }
+{
+    matches!(
+        row,
+        Row::AccessList
+            | Row::StandardBlock
+            | Row::ExtendedBlock
+            | Row::PrefixList
+            | Row::CommunityList
+            | Row::PathList
+            | Row::MapBlock
+    )
+}
+
+/// Whether the row is one of lists and route maps; in an open block each row is.
 fn takes_row(context: Context, row: Row) -> bool
     ensures { result ≡ is_policy_row context row }
 {
-    match row {
-        Row::Ignored => matches!(context, Context::InMap),
-        _ => false,
+    match context {
+        Context::Top => is_at_top(row),
+        _ => true,
     }
 }
 
-/// Does what a line of the row says.
-#[tactic(auto, unfolding(crate::specs::Policies::put))]
-fn put_row(
-    _alloc: Global,
+/// Opens the access list of that name.
+fn open_list(
+    alloc: Global,
+    extended: bool,
+    name: List<u8>,
+    policies: &mut Policies,
+) -> Result<Step, Cause>
+    ensures ok { IfOk result (λ step. taken_in (access_block name policies.old) (open_line extended name policies.old) ≡ Ok (record { taken = step.taken; block = step.block; policies = policies.new })) }
+    ensures refused { IfErr result (λ cause. cause ≢ Cause.Memory → taken_in (access_block name policies.old) (open_line extended name policies.old) ≡ Err cause) }
+    ensures unchanged { OnErr result (policies.new ≡ policies.old) }
+{
+    let place = access_list_place(policies.access.as_slice(), name.as_slice());
+    put_open_line(alloc, extended, name, policies)?;
+    Ok(Step {
+        taken: true,
+        block: PolicyBlock::Access(place),
+    })
+}
+
+/// Opens a new entry of the map of that name.
+fn open_map(
+    alloc: Global,
+    line: &Line,
+    said: &[Said],
+    name: List<u8>,
+    policies: &mut Policies,
+) -> Result<Step, Cause>
+    ensures ok { IfOk result (λ step. taken_in (map_block name policies.old) (map_line line.now said.now name policies.old) ≡ Ok (record { taken = step.taken; block = step.block; policies = policies.new })) }
+    ensures refused { IfErr result (λ cause. cause ≢ Cause.Memory → taken_in (map_block name policies.old) (map_line line.now said.now name policies.old) ≡ Err cause) }
+    ensures unchanged { OnErr result (policies.new ≡ policies.old) }
+{
+    let place = map_place(policies.maps.as_slice(), name.as_slice());
+    put_map_line(alloc, line, said, name, policies)?;
+    Ok(Step {
+        taken: true,
+        block: PolicyBlock::Map(place),
+    })
+}
+
+/// Does what a line at the top says.
+#[tactic(auto, unfolding(crate::specs::Policies::top_line))]
+fn put_at_top(
+    alloc: Global,
     row: Row,
     line: &Line,
     said: &[Said],
-    block: PolicyBlock,
     policies: &mut Policies,
 ) -> Result<Step, Cause>
-    ensures ok { IfOk result (λ step. put row line.now said.now block policies.old ≡ Ok (record { taken = step.taken; block = step.block; policies = policies.new })) }
-    ensures refused { IfErr result (λ cause. cause ≢ Cause.Memory → put row line.now said.now block policies.old ≡ Err cause) }
+    ensures ok { IfOk result (λ step. top_line row line.now said.now policies.old ≡ Ok (record { taken = step.taken; block = step.block; policies = policies.new })) }
+    ensures refused { IfErr result (λ cause. cause ≢ Cause.Memory → top_line row line.now said.now policies.old ≡ Err cause) }
     ensures unchanged { OnErr result (policies.new ≡ policies.old) }
 {
+    let name = list_name(alloc, line.words.as_slice(), said)?;
     match row {
-        Row::Ignored => Ok(Step { taken: true, block }),
-        _ => Ok(Step {
-            taken: false,
-            block,
-        }),
+        Row::StandardBlock => return open_list(alloc, false, name, policies),
+        Row::ExtendedBlock => return open_list(alloc, true, name, policies),
+        Row::MapBlock => return open_map(alloc, line, said, name, policies),
+        Row::AccessList => put_access_line(alloc, line, said, name, policies)?,
+        Row::PrefixList => put_prefix_line(alloc, line, said, name, policies)?,
+        Row::CommunityList => put_community_line(alloc, line, said, name, policies)?,
+        Row::PathList => put_path_line(alloc, line, said, name, policies)?,
+        _ => return Ok(passed(PolicyBlock::Outside)),
     }
+    Ok(Step {
+        taken: true,
+        block: PolicyBlock::Outside,
+    })
+}
+
+/// Does what a line of the row says where the block is open.
+fn put_line(
+    alloc: Global,
+    block: PolicyBlock,
+    row: Row,
+    line: &Line,
+    said: &[Said],
+    policies: &mut Policies,
+) -> Result<Step, Cause>
+    ensures ok { IfOk result (λ step. put block row line.now said.now policies.old ≡ Ok (record { taken = step.taken; block = step.block; policies = policies.new })) }
+    ensures refused { IfErr result (λ cause. cause ≢ Cause.Memory → put block row line.now said.now policies.old ≡ Err cause) }
+    ensures unchanged { OnErr result (policies.new ≡ policies.old) }
+{
+    match block {
+        PolicyBlock::Outside => return put_at_top(alloc, row, line, said, policies),
+        PolicyBlock::Access(at) => put_entry_line(line, said, at, policies)?,
+        PolicyBlock::Map(at) => put_map_block_line(alloc, row, line, said, at, policies)?,
+    }
+    Ok(Step { taken: true, block })
 }
 
 /// Reads a line that stands in a context.
 fn read_in(
     alloc: Global,
     context: Context,
-    line: &Line,
     block: PolicyBlock,
+    line: &Line,
     policies: &mut Policies,
 ) -> Result<Step, Cause>
     requires few { length line.now.words < 2 ^ 32 - 1 }
-    ensures ok { IfOk result (λ step. context_reading context line.now block policies.old ≡ Ok (record { taken = step.taken; block = step.block; policies = policies.new })) }
-    ensures refused { IfErr result (λ cause. cause ≢ Cause.Memory → context_reading context line.now block policies.old ≡ Err cause) }
+    ensures ok { IfOk result (λ step. context_reading context block line.now policies.old ≡ Ok (record { taken = step.taken; block = step.block; policies = policies.new })) }
+    ensures refused { IfErr result (λ cause. cause ≢ Cause.Memory → context_reading context block line.now policies.old ≡ Err cause) }
     ensures unchanged { OnErr result (policies.new ≡ policies.old) }
 {
     let words = line.words.as_slice();
     let Ok(found) = find_row(context, words) else {
-        return Ok(Step {
-            taken: false,
-            block,
-        });
+        return Ok(passed(block));
     };
-    if takes_row(context, found.row) {
-        let said = read_row(alloc, found, words)?;
-        put_row(alloc, found.row, line, said.as_slice(), block, policies)
-    } else {
-        Ok(Step {
-            taken: false,
-            block,
-        })
+    if !takes_row(context, found.row) {
+        return Ok(passed(block));
     }
+    let said = read_row(alloc, found, words)?;
+    put_line(alloc, block, found.row, line, said.as_slice(), policies)
 }
 
 /// Reads a line in the open block, or at the top, where it closes the block.
@@ -136,14 +217,11 @@ fn read_line(
     ensures unchanged { OnErr result (policies.new ≡ policies.old) }
 {
     if !line.indented {
-        return read_in(alloc, Context::Top, line, PolicyBlock::Outside, policies);
+        return read_in(alloc, Context::Top, PolicyBlock::Outside, line, policies);
     }
     match context_in(block, policies) {
-        Some(context) => read_in(alloc, context, line, block, policies),
-        None => Ok(Step {
-            taken: false,
-            block,
-        }),
+        Some(context) => read_in(alloc, context, block, line, policies),
+        None => Ok(passed(block)),
     }
 }
 
