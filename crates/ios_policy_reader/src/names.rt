@@ -71,7 +71,8 @@ fn all_place_parts(word: &[u8]) -> bool
     word.iter().all(|b| is_place_part(*b))
 }
 
-fn has_kind(word: &[u8], kind: &[u8]) -> bool
+/// Whether the word is a kind of interface, in any case, and then one or more digits, `/` and `.`.
+pub fn has_kind(word: &[u8], kind: &[u8]) -> bool
     ensures { result ≡ is_of_kind (map to_ascii_lowercase kind.now) word.now }
 {
     if word.len() <= kind.len() {

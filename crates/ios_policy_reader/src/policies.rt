@@ -46,7 +46,7 @@ fn passed(block: PolicyBlock) -> Step
 }
 
 /// Where the lines of the open block stand. None where no block of a policy is open.
-fn context_in(block: PolicyBlock, policies: &Policies) -> Option<Context>
+pub fn context_in(block: PolicyBlock, policies: &Policies) -> Option<Context>
     ensures { result ≡ context_of block policies.now }
 {
     match block {

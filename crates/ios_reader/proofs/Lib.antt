@@ -1,2 +1,2 @@
-pub mod Masks
-pub mod Lines
+pub mod Carets
+pub mod LineByLine

@@ -1,2 +1,13 @@
-pub mod Statements
+pub mod Names
+pub mod Interfaces
+pub mod Ospf
+pub mod Bgp
+pub mod Drafts
+pub mod InterfaceRows
+pub mod OspfRows
+pub mod Neighbours
+pub mod BgpRows
+pub mod Banners
+pub mod TopRows
+pub mod SubRows
 pub mod Reading

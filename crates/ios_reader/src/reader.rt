@@ -1,69 +1,96 @@
 //! Reads a configuration file.
 
-ghost use Rattle.std.specs.Prelude.{◌≡◌, ◌≢◌, ◌≤◌, ◌<◌, ◌^◌, IfOk, IfErr, Ok, Err, length};
-ghost use Rattle.ios_reader.specs.Reading.{reading, read_lines, empty_draft, finished, with_line, not_built};
+ghost use Rattle.std.specs.Prelude.{◌≡◌, ◌≢◌, ◌+◌, ◌-◌, ◌≤◌, ◌<◌, ◌^◌, IfOk, IfErr, Ok, Err, drop, length};
+ghost use Rattle.std.specs.List.{All};
+ghost use Rattle.ios_reader.specs.Drafts.{empty_draft};
+ghost use Rattle.ios_reader.specs.Reading.{at_line, with_line, finished, read_lines, reading};
 
-use crate::draft::{Draft, new_draft, take_line};
+use crate::draft::{Draft, new_draft};
+use crate::lines::take_line;
 use ios_ast::File;
 use ios_policy_reader::{Cause, Refused};
 use mw_text::{Line, lines_of};
 use std::alloc::Global;
-
-fn refused_at(line: u32) -> Refused
-    ensures { result ≡ not_built line }
-{
-    Refused {
-        line,
-        cause: Cause::NotBuilt,
-    }
-}
 
 const MEMORY: Refused = Refused {
     line: 0,
     cause: Cause::Memory,
 };
 
-// The draft with a line more.
-fn next_draft(alloc: Global, draft: Draft, line: &Line) -> Result<Draft, Refused>
-    ensures taken { IfOk result (λ next. with_line draft line.now ≡ Some next) }
-    ensures refused { IfErr result (λ refused. refused.cause ≢ Cause.Memory →
-        (with_line draft line.now ≡ None) × (refused ≡ not_built line.now.number)) }
+/// Takes a line, and says of a refusal at which line it is.
+fn take_numbered(
+    alloc: Global,
+    line: &Line,
+    rest: &[Line],
+    draft: &mut Draft,
+) -> Result<(), Refused>
+    requires few { length line.now.words < 2 ^ 32 - 1 }
+    ensures ok { IfOk result (λ _. at_line line.now.number (with_line line.now rest.now draft.old) ≡ Ok draft.new) }
+    ensures refused { IfErr result (λ refused. refused.cause ≢ Cause.Memory → at_line line.now.number (with_line line.now rest.now draft.old) ≡ Err refused) }
 {
-    match take_line(alloc, draft, line) {
-        Err(_) => Err(MEMORY),
-        Ok(None) => Err(refused_at(line.number)),
-        Ok(Some(next)) => Ok(next),
+    match take_line(alloc, line, rest, draft) {
+        Ok(()) => Ok(()),
+        Err(Cause::Memory) => Err(MEMORY),
+        Err(cause) => Err(Refused {
+            line: line.number,
+            cause,
+        }),
     }
 }
 
+/// The file of all lines, which has a hostname.
 fn finish(draft: Draft) -> Result<File, Refused>
     ensures { result ≡ finished draft }
 {
     if draft.file.hostname.items.is_empty() {
-        Err(refused_at(1))
+        Err(Refused {
+            line: 1,
+            cause: Cause::NoHostname,
+        })
     } else {
         Ok(draft.file)
     }
 }
 
-// The file of all lines.
+/// The lines after a place.
+fn lines_after(lines: &[Line], at: usize) -> &[Line]
+    requires { at < length lines.now }
+    ensures { result.now ≡ drop (at + 1) lines.now }
+{
+    &lines[at + 1..]
+}
+
+/// Takes the line at a place.
+#[tactic(auto, using(crate::proofs::LineByLine::read_lines_taken, crate::proofs::LineByLine::read_lines_refused))]
+fn take_at(alloc: Global, lines: &[Line], at: usize, draft: &mut Draft) -> Result<(), Refused>
+    requires within { at < length lines.now }
+    requires few { All (λ line. length line.words < 2 ^ 32 - 1) lines.now }
+    ensures ok { IfOk result (λ _. read_lines draft.old (drop at lines.now) ≡ read_lines draft.new (drop (at + 1) lines.now)) }
+    ensures refused { IfErr result (λ refused. refused.cause ≢ Cause.Memory → read_lines draft.old (drop at lines.now) ≡ Err refused) }
+{
+    match take_numbered(alloc, &lines[at], lines_after(lines, at), draft) {
+        Ok(()) => Ok(()),
+        Err(refused) => Err(refused),
+    }
+}
+
+/// The file of these lines.
+#[tactic(auto, using(crate::proofs::LineByLine::read_lines_done))]
 fn read_all(alloc: Global, lines: &[Line]) -> Result<File, Refused>
+    requires few { All (λ line. length line.words < 2 ^ 32 - 1) lines.now }
     ensures ok { IfOk result (λ file. read_lines empty_draft lines.now ≡ Ok file) }
     ensures refused { IfErr result (λ refused. refused.cause ≢ Cause.Memory → read_lines empty_draft lines.now ≡ Err refused) }
 {
     let mut draft = new_draft(alloc);
-    for line in lines {
-        match next_draft(alloc, draft, line) {
-            Ok(next) => draft = next,
-            Err(refused) => return Err(refused),
-        }
+    for at in 0..lines.len() {
+        take_at(alloc, lines, at, &mut draft)?;
     }
     finish(draft)
 }
 
-/// The file that a text reads as. The lines that are read today are `hostname NAME`, `interface IF`, ` ip address A M`,
-/// `ip route A M A` and those that say nothing. A text is refused at its first line that is none of these or may not
-/// stand there, and at line 1 where it has no hostname.
+/// The file that a text reads as. Each line is of the row with the longest head that fits where the line stands. A text
+/// is refused at its first line with a cause: of several causes at a line the first counts in the order too many lines,
+/// out of place, unknown command, bad word, repeated, over a limit. A text without a hostname is refused at line 1.
 pub fn read_file(alloc: Global, bytes: &[u8]) -> Result<File, Refused>
     requires { length bytes.now < 2 ^ 32 }
     ensures ok { IfOk result (λ file. reading bytes.now ≡ Ok file) }

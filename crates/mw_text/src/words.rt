@@ -1,7 +1,7 @@
 //! Lines and words of a text.
 
-ghost use Rattle.std.specs.Prelude.{◌≡◌, ◌<◌, ◌^◌, IfOk, length, map};
-ghost use Rattle.std.specs.List.{slice_split};
+ghost use Rattle.std.specs.Prelude.{◌≡◌, ◌-◌, ◌<◌, ◌^◌, IfOk, length, map};
+ghost use Rattle.std.specs.List.{All, slice_split};
 ghost use Rattle.mw_text.specs.Words.{is_blank, is_skipped, words_in, line_at, text_lines};
 
 use crate::list::{List, list_of};
@@ -60,9 +60,7 @@ fn read_line(alloc: Global, number: u32, raw: &[u8]) -> Result<Line, AllocError>
     })
 }
 
-/// The lines of a text. A line feed ends a line, and one carriage return before it is dropped; bytes after the
-/// last line feed are a line as they stand.
-pub fn lines_of(alloc: Global, bytes: &[u8]) -> Result<List<Line>, AllocError>
+fn split_lines(alloc: Global, bytes: &[u8]) -> Result<List<Line>, AllocError>
     requires { length bytes.now < 2 ^ 32 }
     ensures { IfOk result (λ lines. lines ≡ text_lines bytes.now) }
 {
@@ -73,6 +71,17 @@ pub fn lines_of(alloc: Global, bytes: &[u8]) -> Result<List<Line>, AllocError>
         lines.items.push(read_line(alloc, number, raw)?)?;
     }
     Ok(lines)
+}
+
+/// The lines of a text. A line feed ends a line, and one carriage return before it is dropped; bytes after the
+/// last line feed are a line as they stand. No line has as many words as a `u32` can count.
+#[tactic(auto, using(crate::proofs::WordCounts::lines_few))]
+pub fn lines_of(alloc: Global, bytes: &[u8]) -> Result<List<Line>, AllocError>
+    requires { length bytes.now < 2 ^ 32 }
+    ensures value { IfOk result (λ lines. lines ≡ text_lines bytes.now) }
+    ensures few { IfOk result (λ lines. All (λ line. length line.words < 2 ^ 32 - 1) lines) }
+{
+    split_lines(alloc, bytes)
 }
 
 /// Whether a line of these words says nothing: there are none, or the first begins with `!`. Such a line is counted all

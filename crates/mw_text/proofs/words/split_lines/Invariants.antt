@@ -1,6 +1,6 @@
 use Rattle.std.proofs.Common.{◌≡◌, ◌≤◌, ◌+◌, ◌++◌, length}
 use Rattle.mw_text.specs.Words.{numbered, text_lines}
-use Rattle.mw_text.proofs.words.lines_of.Given as goal
+use Rattle.mw_text.proofs.words.split_lines.Given as goal
 
 -- the lines so far and those of the pieces that are left, of which there are no more than bytes
 abbrev pub invariant-loop-raw : goal.invariant-loop-raw

@@ -1,7 +1,0 @@
-use Rattle.std.proofs.Common.{◌≡◌, ◌-◌}
-use Rattle.ios_reader.specs.Statements.{length_below}
-use Rattle.ios_reader.proofs.statement.length_of.Given as goal
-
--- the lengths that are left decide
-abbrev pub invariant-loop-zeros : goal.invariant-loop-zeros
-invariant-loop-zeros l = length_below l.m 33 ≡ length_below l.m (33 - l.zeros)
