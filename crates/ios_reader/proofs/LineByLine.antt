@@ -6,7 +6,7 @@ use Rattle.mw_text.specs.declared.words.Line.{Line}
 use Rattle.ios_ast.specs.declared.file.File.{File}
 use Rattle.ios_policy_reader.specs.declared.cause.Refused.{Refused}
 use Rattle.ios_reader.specs.declared.draft.Draft.{Draft}
-use Rattle.ios_reader.specs.Drafts.{result_then}
+use Rattle.mw_text.specs.Reading.{following}
 use Rattle.ios_reader.specs.Reading.{read_lines, finished, at_line, with_line}
 
 drop_line : (lines : List Line) (at : ℕ) (line : Line) → at < length lines → line ≡ get_or lines at line →
@@ -27,7 +27,7 @@ pub read_lines_taken : (draft next : Draft) (lines : List Line) (at : ℕ) (line
 unfolding read_lines
 read_lines_taken draft next lines at line within is taken =
     ap (read_lines draft) (drop_line lines at line within is)
-    ∙ ap (λ (r : Result Draft Refused). result_then (λ d. read_lines d (drop (at + 1) lines)) r) taken
+    ∙ ap (λ (r : Result Draft Refused). following (λ d. read_lines d (drop (at + 1) lines)) r) taken
 
 -- at a line that is refused
 pub read_lines_refused : (draft : Draft) (refused : Refused) (lines : List Line) (at : ℕ) (line : Line) → at < length lines →
@@ -36,4 +36,4 @@ pub read_lines_refused : (draft : Draft) (refused : Refused) (lines : List Line)
 unfolding read_lines
 read_lines_refused draft refused lines at line within is no_more =
     ap (read_lines draft) (drop_line lines at line within is)
-    ∙ ap (λ (r : Result Draft Refused). result_then (λ d. read_lines d (drop (at + 1) lines)) r) no_more
+    ∙ ap (λ (r : Result Draft Refused). following (λ d. read_lines d (drop (at + 1) lines)) r) no_more

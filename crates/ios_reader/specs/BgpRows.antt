@@ -13,7 +13,7 @@ use Rattle.ios_policy_reader.specs.declared.said.Tag.TheVariants.{Address}
 use Rattle.ios_policy_reader.specs.declared.said.Said.{Said}
 use Rattle.ios_policy_reader.specs.Said.{address_under}
 use Rattle.ios_policy_reader.specs.Words.{is_keyword}
-use Rattle.ios_reader.specs.Drafts.{result_then}
+use Rattle.mw_text.specs.Reading.{following}
 use Rattle.ios_reader.specs.Interfaces.{no_address}
 use Rattle.ios_reader.specs.Bgp.{network_of, into_bgp}
 use Rattle.ios_reader.specs.Neighbours.{place_of, with_neighbour}
@@ -42,7 +42,7 @@ abbrev pub with_redistribution : Line → List Said → Bgp → Bgp
 with_redistribution line said bgp = record bgp { redistribute = bgp.redistribute ++ into_bgp line said ∷ [] }
 
 abbrev pub on_neighbours : Bgp → Result (List Neighbour) Cause → Result Bgp Cause
-on_neighbours bgp changed = result_then (λ neighbours. Ok (record bgp { neighbours = neighbours })) changed
+on_neighbours bgp changed = following (λ neighbours. Ok (record bgp { neighbours = neighbours })) changed
 
 -- a line of a BGP block; `bgp deterministic-med` and a row that is ignored change nothing
 abbrev pub bgp_row : Row → Line → List Said → Bgp → Result Bgp Cause

@@ -11,7 +11,7 @@ use Rattle.ios_policy_reader.specs.declared.said.Tag.TheVariants.{Number, Name, 
 use Rattle.ios_policy_reader.specs.declared.said.Said.{Said}
 use Rattle.ios_policy_reader.specs.Said.{number_under}
 use Rattle.ios_reader.specs.declared.draft.Seen.{Seen}
-use Rattle.ios_reader.specs.Drafts.{result_then}
+use Rattle.mw_text.specs.Reading.{following}
 use Rattle.ios_reader.specs.Names.{use_under}
 use Rattle.ios_reader.specs.Interfaces.{address_of}
 
@@ -44,11 +44,11 @@ named_once line said old = if is_some old then Err Repeated else Ok (Some (use_u
 abbrev pub with_list : Line → List Said → Iface → Result Iface Cause
 with_list line said iface =
     if is_inward said
-    then result_then (λ list. Ok (record iface { list_in = list })) (named_once line said iface.list_in)
-    else result_then (λ list. Ok (record iface { list_out = list })) (named_once line said iface.list_out)
+    then following (λ list. Ok (record iface { list_in = list })) (named_once line said iface.list_in)
+    else following (λ list. Ok (record iface { list_out = list })) (named_once line said iface.list_out)
 
 abbrev pub still : Seen → Result Iface Cause → Result (Iface × Seen) Cause
-still seen changed = result_then (λ iface. Ok (iface, seen)) changed
+still seen changed = following (λ iface. Ok (iface, seen)) changed
 
 -- a line of an interface block; a row that is ignored changes nothing
 abbrev pub interface_row : Row → Line → List Said → Iface → Seen → Result (Iface × Seen) Cause

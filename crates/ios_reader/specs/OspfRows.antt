@@ -10,7 +10,7 @@ use Rattle.ios_policy_reader.specs.declared.said.Tag.TheVariants.{Name, Number, 
 use Rattle.ios_policy_reader.specs.declared.said.Said.{Said}
 use Rattle.ios_policy_reader.specs.Said.{number_under, has_said}
 use Rattle.ios_reader.specs.declared.draft.Seen.{Seen}
-use Rattle.ios_reader.specs.Drafts.{result_then}
+use Rattle.mw_text.specs.Reading.{following}
 use Rattle.ios_reader.specs.Names.{use_under}
 use Rattle.ios_reader.specs.Ospf.{network_of, into_ospf, default_of}
 
@@ -48,11 +48,11 @@ with_default line said ospf =
 
 -- a line of an OSPF block; a row that is ignored changes nothing
 abbrev pub ospf_row : Row → Line → List Said → Ospf → Seen → Result (Ospf × Seen) Cause
-ospf_row RouterId line said ospf seen = result_then (λ next. Ok (ospf, next)) (once_router_id seen)
+ospf_row RouterId line said ospf seen = following (λ next. Ok (ospf, next)) (once_router_id seen)
 ospf_row OspfNetwork line said ospf seen = Ok (with_network line said ospf, seen)
 ospf_row Passive line said ospf seen = Ok (with_passive line said ospf, seen)
 ospf_row NoPassive line said ospf seen = Ok (with_active line said ospf, seen)
 ospf_row ReferenceBandwidth line said ospf seen = with_reference said ospf seen
 ospf_row OspfRedistribute line said ospf seen = Ok (with_redistribution line said ospf, seen)
-ospf_row Originate line said ospf seen = result_then (λ next. Ok (next, seen)) (with_default line said ospf)
+ospf_row Originate line said ospf seen = following (λ next. Ok (next, seen)) (with_default line said ospf)
 ospf_row _ line said ospf seen = Ok (ospf, seen)

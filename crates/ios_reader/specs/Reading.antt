@@ -1,10 +1,10 @@
 -- Which text reads as which file (Cisco IOS command references).
-use Rattle.std.specs.Prelude.{ℕ, ◌==◌, ◌&&◌, ◌||◌, Bool, true, false, List, [], ◌∷◌, length, nat_eq, nat_lt, slice_index, codes, Option, Some, None, Result, Ok, Err, if◌then◌else◌}
+use Rattle.std.specs.Prelude.{ℕ, ◌==◌, ◌&&◌, ◌||◌, Bool, true, false, List, [], ◌∷◌, length, nat_eq, nat_lt, codes, Option, Some, None, Result, Ok, Err, if◌then◌else◌}
 use Rattle.std.specs.List.{starts_with}
 use Rattle.std.specs.Option.{option_map_or}
 use Rattle.mw_text.specs.declared.words.Line.{Line}
 use Rattle.mw_text.specs.Text.{same_text}
-use Rattle.mw_text.specs.Words.{text_lines}
+use Rattle.mw_text.specs.Words.{is_skipped, text_lines}
 use Rattle.ios_ast.specs.declared.file.TheConstants.{MOST_LINES}
 use Rattle.ios_ast.specs.declared.file.File.{File}
 use Rattle.ios_policy_reader.specs.declared.cause.Cause.{Cause}
@@ -22,18 +22,14 @@ use Rattle.ios_reader.specs.declared.draft.Block.{Block}
 use Rattle.ios_reader.specs.declared.draft.Block.TheVariants.{Closed, Interface, Ospf, Bgp, Ignored}
 use Rattle.ios_reader.specs.declared.draft.Delimiter.{Delimiter}
 use Rattle.ios_reader.specs.declared.draft.Draft.{Draft}
-use Rattle.ios_reader.specs.Drafts.{result_then, empty_draft, closed}
+use Rattle.ios_reader.specs.Drafts.{empty_draft, closed}
+use Rattle.mw_text.specs.Reading.{following}
 use Rattle.ios_reader.specs.Banners.{holds}
 use Rattle.ios_reader.specs.BgpRows.{is_unnamed}
 use Rattle.ios_reader.specs.TopRows.{top_row}
 use Rattle.ios_reader.specs.SubRows.{sub_row}
 
 -- ---- the row of a line
-
--- no words, or a first word that begins with '!'
-abbrev pub is_skipped : List (List ℕ) → Bool
-is_skipped [] = true
-is_skipped (word ∷ rest) = slice_index word 0 == 33
 
 -- the lines that stand before a configuration that was shown
 abbrev pub is_preamble : List ℕ → Bool
@@ -66,7 +62,7 @@ is_misplaced _ words draft = false
 abbrev pub found_in : Line → Draft → Result Found Cause
 found_in line draft =
     option_map_or
-    (λ context. result_then
+    (λ context. following
     (λ found. if is_misplaced found.row line.words draft then Err OutOfPlace else Ok found) (row_of context line.words))
     (line_context line draft) (Err OutOfPlace)
 
@@ -83,8 +79,8 @@ in_ignored line draft = line.indented && is_ignored draft.block
 
 -- a line of a row of a router: its row first, then its words, then what it does
 abbrev pub row_line : Line → List Line → Draft → Result Draft Cause
-row_line line rest draft = result_then
-    (λ found. result_then (λ said. put_row found.row line rest said draft) (said_in found line.words))
+row_line line rest draft = following
+    (λ found. following (λ said. put_row found.row line rest said draft) (said_in found line.words))
     (found_in line draft)
 
 -- a line that is no policy's
@@ -100,7 +96,7 @@ from_policies draft taken =
 
 -- a line that says something: a policy's, or else a router's
 abbrev pub policy_first : Line → List Line → Draft → Result Draft Cause
-policy_first line rest draft = result_then
+policy_first line rest draft = following
     (λ taken. if taken.taken then Ok (record (from_policies draft taken) { block = Closed })
     else own_line line rest (from_policies draft taken))
     (policy_reading line draft.policy_block draft.file.policies)
@@ -132,7 +128,7 @@ finished draft =
 unfoldable pub read_lines : Draft → List Line → Result File Refused
 read_lines draft [] = finished draft
 read_lines draft (line ∷ rest) =
-    result_then (λ next. read_lines next rest) (at_line line.number (with_line line rest draft))
+    following (λ next. read_lines next rest) (at_line line.number (with_line line rest draft))
 
 -- the file that a text reads as, or its refusal
 abbrev pub reading : List ℕ → Result File Refused

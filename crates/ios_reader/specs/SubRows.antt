@@ -13,7 +13,7 @@ use Rattle.ios_reader.specs.declared.draft.Block.{Block}
 use Rattle.ios_reader.specs.declared.draft.Block.TheVariants.{Closed, Interface, Ospf as OspfBlock, Bgp as BgpBlock, Ignored}
 use Rattle.ios_reader.specs.declared.draft.Seen.{Seen}
 use Rattle.ios_reader.specs.declared.draft.Draft.{Draft}
-use Rattle.ios_reader.specs.Drafts.{result_then}
+use Rattle.mw_text.specs.Reading.{following}
 use Rattle.ios_reader.specs.InterfaceRows.{interface_row}
 use Rattle.ios_reader.specs.OspfRows.{ospf_row}
 use Rattle.ios_reader.specs.BgpRows.{bgp_row}
@@ -31,7 +31,7 @@ last_set draft changed = record draft {
 abbrev pub in_last_interface : Row → Line → List Said → Draft → Result Draft Cause
 in_last_interface row line said draft =
     option_map_or
-    (λ last. result_then (λ changed. Ok (last_set draft changed)) (interface_row row line said last draft.seen))
+    (λ last. following (λ changed. Ok (last_set draft changed)) (interface_row row line said last draft.seen))
     (slice_get draft.file.interfaces (length draft.file.interfaces - 1)) (Err OutOfPlace)
 
 abbrev pub ospf_set : Draft → Ospf × Seen → Draft
@@ -40,7 +40,7 @@ ospf_set draft changed = record draft { file = record draft.file { ospf = Some c
 -- a line of the block of the OSPF process
 abbrev pub in_ospf : Row → Line → List Said → Draft → Result Draft Cause
 in_ospf row line said draft =
-    option_map_or (λ ospf. result_then (λ changed. Ok (ospf_set draft changed)) (ospf_row row line said ospf draft.seen))
+    option_map_or (λ ospf. following (λ changed. Ok (ospf_set draft changed)) (ospf_row row line said ospf draft.seen))
     draft.file.ospf (Err OutOfPlace)
 
 abbrev pub bgp_set : Draft → Bgp → Draft
@@ -49,7 +49,7 @@ bgp_set draft bgp = record draft { file = record draft.file { bgp = Some bgp } }
 -- a line of the block of the BGP process
 abbrev pub in_bgp : Row → Line → List Said → Draft → Result Draft Cause
 in_bgp row line said draft =
-    option_map_or (λ bgp. result_then (λ changed. Ok (bgp_set draft changed)) (bgp_row row line said bgp))
+    option_map_or (λ bgp. following (λ changed. Ok (bgp_set draft changed)) (bgp_row row line said bgp))
     draft.file.bgp (Err OutOfPlace)
 
 abbrev pub block_row : Block → Row → Line → List Said → Draft → Result Draft Cause

@@ -3,7 +3,7 @@
 ghost use Rattle.std.specs.Prelude.{◌≡◌, ◌≢◌, ◌≤◌, ◌<◌, ◌-◌, ◌^◌, IfOk, IfErr, Ok, Err, length, nat_eq};
 ghost use Rattle.std.specs.List.{starts_with};
 ghost use Rattle.ios_reader.specs.Drafts.{closed};
-ghost use Rattle.ios_reader.specs.Reading.{is_skipped, is_preamble, line_context, is_misplaced, found_in, put_row, in_ignored, row_line, own_line, from_policies, policy_first, in_banner, with_line};
+ghost use Rattle.ios_reader.specs.Reading.{is_preamble, line_context, is_misplaced, found_in, put_row, in_ignored, row_line, own_line, from_policies, policy_first, in_banner, with_line};
 
 use crate::banner::contains_delimiter;
 use crate::bgp_rows::is_unnamed_neighbour;
@@ -15,18 +15,8 @@ use ios_policy_reader::policies::context_in;
 use ios_policy_reader::{
     Cause, Context, Found, PolicyBlock, Row, Said, find_row, policy_line, read_row,
 };
-use mw_text::{Line, List, same_bytes};
+use mw_text::{Line, List, same_bytes, says_nothing};
 use std::alloc::Global;
-
-/// Whether a line of these words says nothing: there are none, or the first begins with `!`.
-pub fn says_nothing(words: &[List<u8>]) -> bool
-    ensures { result ≡ is_skipped words.now }
-{
-    match words {
-        [] => true,
-        [word, ..] => word.as_slice().first() == Some(&b'!'),
-    }
-}
 
 fn begins_with(text: &[u8], front: &[u8]) -> bool
     ensures { result ≡ starts_with nat_eq text.now front.now }
