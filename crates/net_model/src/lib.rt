@@ -3,6 +3,7 @@
 
 pub mod adjacencies;
 pub mod interfaces;
+pub mod laws;
 pub mod links;
 pub mod network;
 pub mod routing;
