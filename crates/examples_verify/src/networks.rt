@@ -135,3 +135,48 @@ fn one_of_two_equal_routes_leads_nowhere(rt: HostRuntime) -> Result<(), Fail> {
     assert_eq!(rt; ran.status, Status::Bad);
     Ok(())
 }
+
+#[test]
+fn null_route_discards(rt: HostRuntime) -> Result<(), Fail> {
+    let first = "hostname N1\nip route 10.2.0.0 255.255.0.0 Null0\n";
+    let files = [
+        ("n1.cfg", first.as_bytes()),
+        ("n2.cfg", N2.as_bytes()),
+        ("q", Q1.as_bytes()),
+    ];
+    let ran = run_over(
+        rt.alloc(),
+        &files,
+        &["verify", "q", "n1.cfg", "n2.cfg"],
+        &[],
+    )?;
+    let wanted =
+        "broken q1\n{\"announcements\":[],\"failures\":[],\"format\":1,\"packet\":{\"dport\":0,\"dst\":\"10.2.0.1\",\"proto\":1,\"sport\":0,\"src\":\"10.0.0.1\"},\"peers\":[],\"question\":\"q1\",\"tables\":[{\"len\":16,\"rib\":{\"distance\":1,\"source\":\"static\"},\"router\":\"N1\"},{\"len\":32,\"rib\":{\"distance\":0,\"source\":\"connected\"},\"router\":\"N2\"}],\"walk\":{\"end\":\"discarded\",\"hops\":[{\"router\":\"N1\"}]}}\n";
+    assert_eq!(rt; ran.text.as_slice(), wanted.as_bytes());
+    assert_eq!(rt; ran.status, Status::Bad);
+    Ok(())
+}
+
+// A whole configuration as a router shows it, with lines that are ignored, a banner, lists that nothing uses, an interface
+// that is shut down, and the route out of an interface, with its distance and its name.
+const WHOLE: &str = "Building configuration...\n\nCurrent configuration : 700 bytes\n!\nversion 15.2\nservice timestamps debug datetime msec\n!\nhostname N1\n!\nno aaa new-model\nip cef\n!\ninterface GigabitEthernet0/0\n description to N2\n ip address 10.0.0.1 255.255.255.252\n duplex auto\n!\ninterface GigabitEthernet0/1\n ip address 10.2.0.1 255.255.0.0\n shutdown\n!\nip route 10.2.0.1 255.255.255.255 GigabitEthernet0/0 10.0.0.2 5 name to-n2\n!\nip prefix-list UNUSED seq 5 deny 10.0.0.0/8 le 32\naccess-list 101 deny tcp any any eq www\naccess-list 101 permit ip any any\n!\nbanner motd ^C\nrouter ospf 1\n^C\n!\nline con 0\n login\n!\nend\n";
+
+#[test]
+fn whole_configuration_is_answered(rt: HostRuntime) -> Result<(), Fail> {
+    let second = "hostname N2\ninterface GigabitEthernet0/0\n ip address 10.0.0.2 255.255.255.252\ninterface Loopback0\n ip address 10.3.0.1 255.255.255.255\n";
+    let asked = "q1 reach from N1 to router N2 packets icmp 10.0.0.1/32 any 10.0.0.2/32 any failures 0\n";
+    let files = [
+        ("n1.cfg", WHOLE.as_bytes()),
+        ("n2.cfg", second.as_bytes()),
+        ("q", asked.as_bytes()),
+    ];
+    let ran = run_over(
+        rt.alloc(),
+        &files,
+        &["verify", "q", "n1.cfg", "n2.cfg"],
+        &[],
+    )?;
+    assert_eq!(rt; ran.text.as_slice(), "holds q1\n".as_bytes());
+    assert_eq!(rt; ran.status, Status::Good);
+    Ok(())
+}

@@ -42,36 +42,57 @@ fn name_that_is_not_there_is_a_read_fault(rt: HostRuntime) -> Result<(), Fail> {
 #[test]
 fn first_line_that_is_not_read_is_refused(rt: HostRuntime) -> Result<(), Fail> {
     let cases = [
-        ("", "refused n1.cfg:1 3 NotBuilt\n"),
-        ("\0\0\n", "refused n1.cfg:1 3 NotBuilt\n"),
+        ("", "refused n1.cfg:1 24 NoHostname\n"),
+        ("\0\0\n", "refused n1.cfg:1 1 UnknownCommand\n"),
         (
             "interface GigabitEthernet0/0\n ip address 10.0.0.1 255.255.255.252\n",
-            "refused n1.cfg:1 3 NotBuilt\n",
+            "refused n1.cfg:1 24 NoHostname\n",
         ),
         (
             "hostname N1\ninterface GigabitEthernet0/0\n ip address 10.0.0.1 255.255.255.252\nip route 10.2.0.1 255.255.255.255 10.0.0.2\n!\n!\nrouter eigrp 1\n",
-            "refused n1.cfg:7 3 NotBuilt\n",
+            "refused n1.cfg:7 1 UnknownCommand\n",
         ),
         (
             "hostname N1\ninterface GigabitEthernet0/0\n ip address 10.0.0.0.1 255.255.255.252\n",
-            "refused n1.cfg:3 3 NotBuilt\n",
-        ),
-        (
-            "hostname N1\nip route 10.2.0.0 255.255.0.0 Null0\n",
-            "refused n1.cfg:2 3 NotBuilt\n",
+            "refused n1.cfg:3 2 BadWord 3\n",
         ),
         (
             "hostname N1\nhostname N3\n",
-            "refused n1.cfg:2 3 NotBuilt\n",
+            "refused n1.cfg:2 4 Repeated\n",
         ),
         (
             " ip address 10.0.0.1 255.255.255.252\n",
-            "refused n1.cfg:1 3 NotBuilt\n",
+            "refused n1.cfg:1 5 OutOfPlace\n",
         ),
         ("hostname N2\n", "refused n1.cfg:0 3 NotBuilt\n"),
         (
             "hostname N1\nip route 10.2.0.1 255.255.255.255 10.0.0.2\n",
             "refused n1.cfg:0 3 NotBuilt\n",
+        ),
+    ];
+    for (first, wanted) in cases {
+        let ran = with_first(rt.alloc(), first.as_bytes(), &[])?;
+        assert_eq!(rt; ran.text.as_slice(), wanted.as_bytes(), "at {first:?}");
+        assert_eq!(rt; ran.status, Status::Refused, "at {first:?}");
+    }
+    Ok(())
+}
+
+#[test]
+fn first_block_that_cannot_be_answered_is_refused(rt: HostRuntime) -> Result<(), Fail> {
+    let cases = [
+        (
+            "hostname N1\nrouter bgp 65000\nrouter ospf 1\n",
+            "refused n1.cfg:2 3 NotBuilt\n",
+        ),
+        (
+            "hostname N1\ninterface Vlan1\n ip access-group 5 out\nrouter ospf 1\n",
+            "refused n1.cfg:3 3 NotBuilt\n",
+        ),
+        // A line that does not read comes first, wherever it stands.
+        (
+            "hostname N1\nrouter ospf 1\nrouter eigrp 1\n",
+            "refused n1.cfg:3 1 UnknownCommand\n",
         ),
     ];
     for (first, wanted) in cases {
