@@ -180,3 +180,27 @@ fn whole_configuration_is_answered(rt: HostRuntime) -> Result<(), Fail> {
     assert_eq!(rt; ran.status, Status::Good);
     Ok(())
 }
+
+// The second router with an access list on the interface at which packets come in.
+const FILTERED: &str = "hostname N2\ninterface GigabitEthernet0/0\n ip address 10.0.0.2 255.255.255.252\n ip access-group 101 in\ninterface Loopback0\n ip address 10.2.0.1 255.255.255.255\naccess-list 101 deny tcp any any eq www\naccess-list 101 permit ip any any\n";
+
+#[test]
+fn access_list_denies_web_packets(rt: HostRuntime) -> Result<(), Fail> {
+    let asked = "q1 reach from N1 to router N2 packets icmp 10.0.0.1/32 any 10.2.0.1/32 any failures 0\nq2 reach from N1 to router N2 packets tcp 10.0.0.1/32 1234 10.2.0.1/32 80 failures 0\n";
+    let files = [
+        ("n1.cfg", N1.as_bytes()),
+        ("n2.cfg", FILTERED.as_bytes()),
+        ("q", asked.as_bytes()),
+    ];
+    let ran = run_over(
+        rt.alloc(),
+        &files,
+        &["verify", "q", "n1.cfg", "n2.cfg"],
+        &[],
+    )?;
+    let wanted =
+        "holds q1\nbroken q2\n{\"announcements\":[],\"failures\":[],\"format\":1,\"packet\":{\"dport\":80,\"dst\":\"10.2.0.1\",\"proto\":6,\"sport\":1234,\"src\":\"10.0.0.1\"},\"peers\":[],\"question\":\"q2\",\"tables\":[{\"len\":32,\"rib\":{\"distance\":1,\"source\":\"static\"},\"router\":\"N1\"},{\"len\":32,\"rib\":{\"distance\":0,\"source\":\"connected\"},\"router\":\"N2\"}],\"walk\":{\"end\":\"deniedin N2 GigabitEthernet0/0\",\"hops\":[{\"router\":\"N1\"}]}}\n";
+    assert_eq!(rt; ran.text.as_slice(), wanted.as_bytes());
+    assert_eq!(rt; ran.status, Status::Bad);
+    Ok(())
+}

@@ -87,7 +87,11 @@ fn first_block_that_cannot_be_answered_is_refused(rt: HostRuntime) -> Result<(),
         ),
         (
             "hostname N1\ninterface Vlan1\n ip access-group 5 out\nrouter ospf 1\n",
-            "refused n1.cfg:3 3 NotBuilt\n",
+            "refused n1.cfg:3 7 Undefined\n",
+        ),
+        (
+            "hostname N1\naccess-list 5 permit any\ninterface Vlan1\n ip access-group 5 out\nrouter ospf 1\n",
+            "refused n1.cfg:5 3 NotBuilt\n",
         ),
         // A line that does not read comes first, wherever it stands.
         (

@@ -1,5 +1,5 @@
 -- What is due for words over the contents of files: usage, a refusal, or answers to questions over a network.
-use Rattle.std.specs.Prelude.{ℕ, ◌==◌, ◌&&◌, Bool, false, not, List, [], ◌∷◌, length, nat_lt, nat_le, codes, slice_index, slice_get, filter, is_none, position, fold, min, Option, Some, None, option_and_then, option_map, is_some, Result, Ok, Err, if◌then◌else◌}
+use Rattle.std.specs.Prelude.{ℕ, ◌==◌, ◌&&◌, Bool, false, not, List, [], ◌∷◌, length, nat_lt, nat_le, codes, slice_index, slice_get, filter, is_none, position, fold, Option, Some, None, option_and_then, option_map, is_some, unwrap_or, Result, Ok, Err, if◌then◌else◌}
 use Rattle.std.specs.List.{list_any}
 use Rattle.std.specs.Option.{option_map_or}
 use Rattle.mw_text.specs.Reading.{each, following}
@@ -8,6 +8,8 @@ use Rattle.mw_outside.specs.Contents.{Contents, get}
 use Rattle.ios_ast.specs.declared.file.File.{File}
 use Rattle.ios_policy_reader.specs.declared.cause.Refused.{Refused}
 use Rattle.ios_ast.specs.declared.file.Iface.{Iface}
+use Rattle.ios_ast.specs.declared.file.Use.{Use}
+use Rattle.ios_policy_reader.specs.declared.cause.Cause.TheVariants.{Undefined}
 use Rattle.ios_reader.specs.Reading.{reading}
 use Rattle.net_model.specs.Network.{is_network}
 use Rattle.question_lang.specs.declared.question.Question.{Question}
@@ -63,35 +65,43 @@ abbrev pub first_name : List Text → List ℕ
 first_name [] = []
 first_name (text ∷ texts) = text.name
 
--- the earlier of two lines, each of which may not be there
-abbrev pub earlier : Option ℕ → Option ℕ → Option ℕ
+-- the refusal at the earlier line, each of which may not be there
+abbrev pub earlier : Option Refused → Option Refused → Option Refused
 earlier None b = b
 earlier (Some a) None = Some a
-earlier (Some a) (Some b) = Some (min a b)
+earlier (Some a) (Some b) = if nat_lt b.line a.line then Some b else Some a
 
--- the line that applies an access list to the interface
-abbrev pub list_line : Iface → Option ℕ
-list_line iface = earlier (option_map (λ list. list.line) iface.list_in) (option_map (λ list. list.line) iface.list_out)
+-- the file has an access list of that name; one without entries counts as none
+abbrev pub is_listed : File → Use → Bool
+is_listed file named = list_any (λ l. same_text l.name named.name && nat_lt 0 (length l.entries)) file.policies.access
 
--- the first line of a file that `verify` cannot answer for yet: its OSPF or BGP block, or one that applies an access list
-abbrev pub unbuilt_line : File → Option ℕ
-unbuilt_line file =
-    fold (λ line iface. earlier line (list_line iface))
-    (earlier (option_map (λ ospf. ospf.line) file.ospf) (option_map (λ bgp. bgp.line) file.bgp)) file.interfaces
+-- an access list that is applied and that the file does not have
+abbrev pub undefined_use : File → Option Use → Option Refused
+undefined_use file used =
+    option_and_then (λ named. if is_listed file named then None else Some (record { line = named.line; cause = Undefined })) used
+
+abbrev pub unlisted : File → Iface → Option Refused
+unlisted file iface = earlier (undefined_use file iface.list_in) (undefined_use file iface.list_out)
+
+-- the first line of a file for which `verify` cannot answer: its OSPF or BGP block, or one that applies an access list
+-- which the file does not have
+abbrev pub unanswered : File → Option Refused
+unanswered file =
+    fold (λ why iface. earlier why (unlisted file iface))
+    (earlier (option_map (λ ospf. not_built ospf.line) file.ospf) (option_map (λ bgp. not_built bgp.line) file.bgp)) file.interfaces
 
 -- the name of the text of that number
 abbrev pub name_at : List Text → ℕ → List ℕ
 name_at texts at = option_map_or (λ text. text.name) (slice_get texts at) []
 
--- such a line of the file of that number
-abbrev pub unbuilt_line_at : List File → ℕ → ℕ
-unbuilt_line_at files at = option_map_or (λ line. line) (option_and_then unbuilt_line (slice_get files at)) 0
+-- the refusal of the file of that number
+abbrev pub refused_at : List File → ℕ → Refused
+refused_at files at = unwrap_or (option_and_then unanswered (slice_get files at)) (not_built 0)
 
 -- the first file that has such a line is refused at it
 abbrev pub unbuilt : List Text → List File → Option (List ℕ)
 unbuilt texts files =
-    option_map (λ at. refusal (name_at texts at) (not_built (unbuilt_line_at files at)))
-    (position (λ file. is_some (unbuilt_line file)) files)
+    option_map (λ at. refusal (name_at texts at) (refused_at files at)) (position (λ file. is_some (unanswered file)) files)
 
 -- the files of some texts, where they are a network for which `verify` can answer
 abbrev pub network_of : List Text → List File → Result (List File) Outcome

@@ -1,8 +1,9 @@
 //! Reads and parses the files that the words name.
 
-ghost use Rattle.std.specs.Prelude.{◌≡◌, ◌≢◌, ◌≤◌, ◌++◌, ◌∷◌, [], Ok, Err, None, IfOk, IfErr, IfSome, filter, is_some, length, map, not, position, slice_get, string_bytes};
+ghost use Rattle.std.specs.Prelude.{◌≡◌, ◌≢◌, ◌≤◌, ◌++◌, ◌∷◌, ◌&&◌, nat_lt, [], Ok, Err, None, IfOk, IfErr, IfSome, filter, is_some, length, map, not, position, slice_get, string_bytes};
 ghost use Rattle.std.specs.Option.{option_map_or};
 ghost use Rattle.mw_text.specs.Reading.{each};
+ghost use Rattle.mw_text.specs.Text.{same_text};
 ghost use Rattle.mw_text.specs.Words.{is_skipped};
 ghost use Rattle.question_lang.specs.Asking.{not_built};
 ghost use Rattle.mw_verify.specs.Texts as lines;
@@ -14,11 +15,11 @@ ghost use Rattle.mw_verify.specs.Running.{StopsAt};
 ghost use Rattle.mw_verify.specs.Loading.{OnStop, UnlessReadFault, AreSmall, AreAnswerable};
 
 use crate::text::{Text, no_network, refusal, too_long};
-use ios_ast::{File, Iface};
+use ios_ast::{AccessList, File, Iface, Use};
 use ios_policy_reader::{Cause, Refused};
 use ios_reader::read_file;
 use mw_outside::{Files, ReadRefused, read_whole};
-use mw_text::{Line, List, lines_of, list_of, says_nothing};
+use mw_text::{Line, List, lines_of, list_of, same_bytes, says_nothing};
 use net_model::Net;
 use question_lang::{Kind, MOST_QUESTIONS, Question, Target, is_single, read_questions};
 use std::alloc::{AllocError, AllocFailed, Global};
@@ -161,49 +162,87 @@ fn first_name(texts: &[Text]) -> &[u8]
     }
 }
 
-fn earlier(a: Option<u32>, b: Option<u32>) -> Option<u32>
+fn earlier(a: Option<Refused>, b: Option<Refused>) -> Option<Refused>
     ensures { result ≡ due.earlier a b }
 {
     match (a, b) {
         (None, _) => b,
         (_, None) => a,
-        (Some(a), Some(b)) => Some(a.min(b)),
+        (Some(first), Some(second)) => { if second.line < first.line { b } else { a } }
     }
 }
 
-// The line that applies an access list to the interface.
-fn list_line(iface: &Iface) -> Option<u32>
-    ensures { result ≡ due.list_line iface.now }
+fn is_of_name(list: &AccessList, named: &Use) -> bool
+    ensures { result ≡ (same_text list.now.name named.now.name && nat_lt 0 (length list.now.entries)) }
 {
-    let inwards = iface.list_in.as_ref().map(|list| list.line);
-    let outwards = iface.list_out.as_ref().map(|list| list.line);
+    same_bytes(list.name.as_slice(), named.name.as_slice()) && !list.entries.as_slice().is_empty()
+}
+
+// Whether the file has an access list of that name.
+fn is_listed(file: &File, named: &Use) -> bool
+    ensures { result ≡ due.is_listed file.now named.now }
+{
+    file.policies
+        .access
+        .as_slice()
+        .iter()
+        .any(|list| is_of_name(list, named))
+}
+
+fn undefined_use(file: &File, used: &Option<Use>) -> Option<Refused>
+    ensures { result ≡ due.undefined_use file.now used.now }
+{
+    match used {
+        Some(named) if !is_listed(file, named) => Some(Refused {
+            line: named.line,
+            cause: Cause::Undefined,
+        }),
+        _ => None,
+    }
+}
+
+// The first line that applies an access list to the interface which the file does not have.
+fn unlisted(file: &File, iface: &Iface) -> Option<Refused>
+    ensures { result ≡ due.unlisted file.now iface.now }
+{
+    let inwards = undefined_use(file, &iface.list_in);
+    let outwards = undefined_use(file, &iface.list_out);
     earlier(inwards, outwards)
 }
 
-// The first line of a file that `verify` cannot answer for yet.
-fn unbuilt_line(file: &File) -> Option<u32>
-    ensures { result ≡ due.unbuilt_line file.now }
+fn not_built_at(line: u32) -> Refused
+    ensures { result ≡ not_built line }
 {
-    let ospf = file.ospf.as_ref().map(|ospf| ospf.line);
-    let bgp = file.bgp.as_ref().map(|bgp| bgp.line);
-    let mut line = earlier(ospf, bgp);
-    for iface in file.interfaces.as_slice() {
-        line = earlier(line, list_line(iface));
+    Refused {
+        line,
+        cause: Cause::NotBuilt,
     }
-    line
 }
 
-fn has_unbuilt(file: &File) -> bool
-    ensures { result ≡ is_some (due.unbuilt_line file.now) }
+// The first line of a file for which `verify` cannot answer.
+fn unanswered(file: &File) -> Option<Refused>
+    ensures { result ≡ due.unanswered file.now }
 {
-    unbuilt_line(file).is_some()
+    let ospf = file.ospf.as_ref().map(|ospf| not_built_at(ospf.line));
+    let bgp = file.bgp.as_ref().map(|bgp| not_built_at(bgp.line));
+    let mut why = earlier(ospf, bgp);
+    for iface in file.interfaces.as_slice() {
+        why = earlier(why, unlisted(file, iface));
+    }
+    why
 }
 
-// The number of the first file that `verify` cannot answer for yet.
-fn first_unbuilt(files: &[File]) -> Option<usize>
-    ensures { result ≡ position (λ file. is_some (due.unbuilt_line file)) files.now }
+fn is_unanswered(file: &File) -> bool
+    ensures { result ≡ is_some (due.unanswered file.now) }
 {
-    files.iter().position(|file| has_unbuilt(file))
+    unanswered(file).is_some()
+}
+
+// The number of the first file for which `verify` cannot answer.
+fn first_unanswered(files: &[File]) -> Option<usize>
+    ensures { result ≡ position (λ file. is_some (due.unanswered file)) files.now }
+{
+    files.iter().position(|file| is_unanswered(file))
 }
 
 fn name_at(texts: &[Text], at: usize) -> &[u8]
@@ -215,29 +254,25 @@ fn name_at(texts: &[Text], at: usize) -> &[u8]
     }
 }
 
-fn unbuilt_line_at(files: &[File], at: usize) -> u32
-    ensures { result ≡ due.unbuilt_line_at files.now at }
+fn refused_at(files: &[File], at: usize) -> Refused
+    ensures { result ≡ due.refused_at files.now at }
 {
     match files.get(at) {
-        Some(file) => unbuilt_line(file).unwrap_or(0),
-        None => 0,
+        Some(file) => unanswered(file).unwrap_or(not_built_at(0)),
+        None => not_built_at(0),
     }
 }
 
-// The refusal of the file of that number.
-fn unbuilt_refusal(
+// The line of the refusal of the file of that number.
+fn unanswered_refusal(
     alloc: Global,
     texts: &[Text],
     files: &[File],
     at: usize,
 ) -> Result<List<u8>, AllocError>
-    ensures { IfOk result (λ line. line ≡ lines.refusal (due.name_at texts.now at) (not_built (due.unbuilt_line_at files.now at))) }
+    ensures { IfOk result (λ line. line ≡ lines.refusal (due.name_at texts.now at) (due.refused_at files.now at)) }
 {
-    let refused = Refused {
-        line: unbuilt_line_at(files, at),
-        cause: Cause::NotBuilt,
-    };
-    refusal(alloc, name_at(texts, at), &refused)
+    refusal(alloc, name_at(texts, at), &refused_at(files, at))
 }
 
 // The network of the texts.
@@ -247,8 +282,8 @@ fn parse_network(alloc: Global, texts: &[Text]) -> Result<Net, Stop>
     ensures stop { IfErr result (λ stop. OnStop stop (λ line. due.network_due texts.now ≡ Err (due.refused line)) ⊥) }
 {
     let files = parse_files(alloc, texts)?;
-    if let Some(at) = first_unbuilt(files.as_slice()) {
-        return Err(stop_with(unbuilt_refusal(alloc, texts, files.as_slice(), at)));
+    if let Some(at) = first_unanswered(files.as_slice()) {
+        return Err(stop_with(unanswered_refusal(alloc, texts, files.as_slice(), at)));
     }
     match Net::of(alloc, files)? {
         Some(net) => Ok(net),

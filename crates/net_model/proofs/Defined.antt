@@ -3,10 +3,9 @@ use Rattle.std.proofs.Common.{◌≡◌, ℕ, zero, suc, ◌+◌, Bool, true, fa
 use Rattle.std.specs.Prelude.{filter, fold, if◌then◌else◌, is_some, map, option_and_then, option_map, slice_get}
 use Rattle.std.specs.List.{filter_map, list_all, list_any}
 use Rattle.ios_ast.specs.declared.file.File.{File}
-use Rattle.ios_ast.specs.declared.file.Iface.{Iface}
 use Rattle.mw_text.specs.declared.address.Prefix.{Prefix}
 use Rattle.net_model.specs.declared.interfaces.Addressed.{Addressed}
-use Rattle.net_model.specs.Network.{all_pairs, fit_together, is_defined, is_filtered, is_network, is_small, names_differ, statics_connected}
+use Rattle.net_model.specs.Network.{all_pairs, fit_together, is_defined, is_network, is_small, names_differ, statics_connected}
 use Rattle.net_model.specs.Interfaces.{addressed}
 use Rattle.ios_ast.specs.declared.bgp.Bgp.{Bgp}
 use Rattle.net_model.specs.Sessions.{ends_of, peerings, peerings_routers, runs_bgp, sessions}
@@ -18,17 +17,15 @@ use Rattle.net_model.specs.Ospf.{adjacencies, advertised, is_matched, ospf_at, o
 use Rattle.net_model.specs.Sending.{sent_by_ospf, sent_towards}
 use Rattle.net_model.specs.World.{is_joined_by, is_link, links_of, put_in_order}
 
--- what two tests and a third say together
-all_three : (a b c : Bool) → (not a && (not b && not c)) ≡ true → (a ≡ false) × (b ≡ false) × (c ≡ false)
-all_three true b c h = cc
-all_three false true c h = cc
-all_three false false true h = cc
-all_three false false false h = (refl, refl, refl)
+-- what two tests say together
+both_none : (a b : Bool) → (not a && not b) ≡ true → (a ≡ false) × (b ≡ false)
+both_none true b h = cc
+both_none false true h = cc
+both_none false false h = (refl, refl)
 
--- a file that asks for what is defined runs no protocol and has no filter
-parts : (file : File) → is_defined file ≡ true →
-    (is_some file.ospf ≡ false) × (is_some file.bgp ≡ false) × (list_any is_filtered file.interfaces ≡ false)
-parts file defined = all_three (is_some file.ospf) (is_some file.bgp) (list_any is_filtered file.interfaces) defined
+-- a file that asks for what can be computed runs no protocol
+parts : (file : File) → is_defined file ≡ true → (is_some file.ospf ≡ false) × (is_some file.bgp ≡ false)
+parts file defined = both_none (is_some file.ospf) (is_some file.bgp) defined
 
 pub no_bgp : (files : List File) → list_all is_defined files ≡ true → list_any runs_bgp files ≡ false
 no_bgp [] all = refl
@@ -125,39 +122,6 @@ pub no_protocol : (files : List File) → is_network files ≡ true → (router 
 no_protocol files network router file found =
     let here = parts file (defined_at files (all_defined files network) router file found) in
     (none_here file.ospf here.0, none_here file.bgp here.1)
-
-none_of_both : (iface : Iface) → is_filtered iface ≡ false → (iface.list_in ≡ None) × (iface.list_out ≡ None)
-none_of_both iface plain =
-    let both = neither (is_some iface.list_in) (is_some iface.list_out) plain in
-    (none_here iface.list_in both.0, none_here iface.list_out both.1)
-  where
-    neither : (a b : Bool) → (a || b) ≡ false → (a ≡ false) × (b ≡ false)
-    neither false false h = (refl, refl)
-    neither false true h = cc
-    neither true b h = cc
-
-plain_at : (interfaces : List Iface) → list_any is_filtered interfaces ≡ false → (at : ℕ) (iface : Iface) →
-    slice_get interfaces at ≡ Some iface → is_filtered iface ≡ false
-plain_at [] none at iface found = cc
-plain_at (x ∷ xs) none zero iface found =
-    let same : x ≡ iface = cc in
-    let P : Iface → Type 0 = λ i. is_filtered i ≡ false in subst P same (first_false (is_filtered x) (list_any is_filtered xs) none)
-  where
-    first_false : (a b : Bool) → (a || b) ≡ false → a ≡ false
-    first_false false b h = refl
-    first_false true b h = cc
-plain_at (x ∷ xs) none (suc at) iface found = plain_at xs (rest_false (is_filtered x) (list_any is_filtered xs) none) at iface found
-  where
-    rest_false : (a b : Bool) → (a || b) ≡ false → b ≡ false
-    rest_false false b h = h
-    rest_false true b h = cc
-
--- no interface of a network has an access list
-pub no_filter : (files : List File) → is_network files ≡ true → (router : ℕ) (file : File) → slice_get files router ≡ Some file →
-    (at : ℕ) (iface : Iface) → slice_get file.interfaces at ≡ Some iface → (iface.list_in ≡ None) × (iface.list_out ≡ None)
-no_filter files network router file found at iface is =
-    let here = parts file (defined_at files (all_defined files network) router file found) in
-    none_of_both iface (plain_at file.interfaces here.2 at iface is)
 
 -- ---- no router of a network runs OSPF
 

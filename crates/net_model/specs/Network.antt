@@ -55,18 +55,12 @@ statics_connected file = list_all (is_connected file.interfaces) file.statics
 abbrev pub is_small : List File → Bool
 is_small files = nat_le (length files) MOST_ROUTERS && list_all (λ file. nat_le (length file.interfaces) MOST_INTERFACES) files
 
--- an access list is applied to the interface
-abbrev pub is_filtered : Iface → Bool
-is_filtered iface = is_some iface.list_in || is_some iface.list_out
-
--- what the file asks for is defined: its router runs neither OSPF nor BGP, and no access list is applied. Whoever
--- writes one of these definitions (see Undefined) lifts its guard here
+-- what the file asks for can be computed: its router runs neither OSPF nor BGP
 abbrev pub is_defined : File → Bool
-is_defined file =
-    not (is_some file.ospf) && (not (is_some file.bgp) && not (list_any is_filtered file.interfaces))
+is_defined file = not (is_some file.ospf) && not (is_some file.bgp)
 
 -- the files are a network: they are not too many, hostnames differ, addresses and subnets fit together, the next hop of
--- each static route is connected, and all that they ask for is defined
+-- each static route is connected, and all that they ask for can be computed
 abbrev pub is_network : List File → Bool
 is_network files =
     is_small files && (all_pairs names_differ files && (all_pairs fit_together (addressed files)

@@ -3,7 +3,7 @@
 ghost use Rattle.std.specs.Prelude.{◌≡◌, ◌≤◌, nat_le, IfOk, MatchOption, IfSome, ◌<◌, IsTrue, position, true, false, length, ◌&&◌};
 ghost use Rattle.std.specs.List.{list_all, list_any};
 ghost use Rattle.mw_text.specs.Text.{same_text};
-ghost use Rattle.net_model.specs.Network.{names_differ, all_pairs, overlap, fit_together, reaches, is_connected, statics_connected, is_small, is_network, is_filtered, is_defined};
+ghost use Rattle.net_model.specs.Network.{names_differ, all_pairs, overlap, fit_together, reaches, is_connected, statics_connected, is_small, is_network, is_defined};
 ghost use Rattle.net_model.specs.Interfaces.{addressed};
 ghost use Rattle.net_model.specs.Kept.{IsKept};
 ghost use Rattle.net_model.specs.Sessions.{ends_of};
@@ -151,23 +151,11 @@ fn all_routes_connected(files: &[File]) -> bool
     files.iter().all(|file| routes_are_connected(file))
 }
 
-fn is_filtered_iface(iface: &Iface) -> bool
-    ensures { result ≡ is_filtered iface.now }
-{
-    iface.list_in.is_some() || iface.list_out.is_some()
-}
-
-fn some_filtered(interfaces: &[Iface]) -> bool
-    ensures { result ≡ list_any is_filtered interfaces.now }
-{
-    interfaces.iter().any(|iface| is_filtered_iface(iface))
-}
-
-// Whether all that the file asks for is defined.
+// Whether all that the file asks for can be computed.
 fn asks_for_defined(file: &File) -> bool
     ensures { result ≡ is_defined file.now }
 {
-    file.ospf.is_none() && file.bgp.is_none() && !some_filtered(file.interfaces.as_slice())
+    file.ospf.is_none() && file.bgp.is_none()
 }
 
 fn all_defined(files: &[File]) -> bool
@@ -228,7 +216,7 @@ fn parts_of(alloc: Global, files: &[File]) -> Result<Option<Parts>, AllocError>
 impl Net {
     /// The network of these files. None exactly where they are none: two hostnames or two addresses are the same, two
     /// subnets clash, a static route has a next hop that is on no subnet of its router, the routers are too many, or a
-    /// file asks for what is not defined yet: OSPF, BGP, or an access list on an interface.
+    /// file asks for what cannot be computed yet: OSPF or BGP.
     pub fn of(alloc: Global, files: List<File>) -> Result<Option<Net>, AllocError>
         ensures { IfOk result (λ found. MatchOption found (is_network files ≡ false) (λ net. (net ≡ files) × (is_network files ≡ true))) }
     {

@@ -5,7 +5,6 @@ pub mod SafeWalks
 pub mod Following
 pub mod Known
 pub mod AllHops
-pub mod Unfiltered
 pub mod Worlds
 pub mod Adjacent
 pub mod EachOnce
