@@ -19,8 +19,9 @@ fn show(rt: &(impl Print + AllocGlobal), name: &str, text: &[u8]) -> io::Result<
     }
     match read_file(alloc, text) {
         Ok(file) => {
-            println!(rt; "{name}:")?;
-            show_file(rt, &file)
+            let mut shown = String::new(alloc);
+            let _ = show_file(&mut shown, &file);
+            print!(rt; "{name}:\n{shown}")
         }
         Err(refused) => println!(rt; "{name}: {} {:?}", refused.line, refused.cause),
     }

@@ -1,268 +1,264 @@
-//! Prints files.
+//! Files as text, each part with its line after an `@`.
 
 use ios_ast::{
     Bgp, BgpNet, DefaultOrigin, File, IfAddr, Iface, Neighbour, Ospf, OspfNet, Policies, Redist,
     Source, StaticRoute, Use, Via,
 };
 use mw_text::{Addr, List, Prefix};
-use std::{io, str};
+use std::alloc::AllocError;
+use std::fmt::Write;
 
-fn text_of(bytes: &List<u8>) -> &str {
-    str::from_utf8(bytes.as_slice()).unwrap_or("?")
+/// A number after a text.
+fn show_number(out: &mut String, before: &str, number: u32) -> Result<(), AllocError> {
+    out.push_str(before)?;
+    write!(out, "{number}")
 }
 
-fn show_address(rt: &impl Print, address: Addr) -> io::Result<()> {
-    let [a, b, c, d] = address.0.to_be_bytes();
-    print!(rt; "{a}.{b}.{c}.{d}")
-}
-
-fn show_prefix(rt: &impl Print, prefix: Prefix) -> io::Result<()> {
-    show_address(rt, prefix.addr)?;
-    print!(rt; "/{}", prefix.len)
-}
-
-/// A use with its line, where there is one.
-fn show_use(rt: &impl Print, label: &str, used: &Option<Use>) -> io::Result<()> {
-    match used {
-        Some(used) => print!(rt; " {label} {}@{}", text_of(&used.name), used.line),
-        None => Ok(()),
-    }
-}
-
-fn show_uses(rt: &impl Print, label: &str, uses: &[Use]) -> io::Result<()> {
-    for used in uses {
-        println!(rt; "  {label} {}@{}", text_of(&used.name), used.line)?;
+/// A name after a text.
+fn show_name(out: &mut String, before: &str, name: &List<u8>) -> Result<(), AllocError> {
+    out.push_str(before)?;
+    for byte in name.as_slice() {
+        out.push(char::from(*byte))?;
     }
     Ok(())
 }
 
-fn show_flag(rt: &impl Print, label: &str, is_set: bool) -> io::Result<()> {
-    if is_set {
-        print!(rt; " {label}")
-    } else {
-        Ok(())
-    }
+/// A name and its line after a text.
+fn show_named(
+    out: &mut String,
+    before: &str,
+    name: &List<u8>,
+    line: u32,
+) -> Result<(), AllocError> {
+    show_name(out, before, name)?;
+    show_number(out, "@", line)
 }
 
-fn show_interface_address(rt: &impl Print, address: &Option<IfAddr>) -> io::Result<()> {
-    match address {
-        Some(address) => {
-            print!(rt; " address ")?;
-            show_address(rt, address.addr)?;
-            print!(rt; "/{}@{}", address.len, address.line)
-        }
-        None => Ok(()),
-    }
+fn show_flag(out: &mut String, text: &str, is_set: bool) -> Result<(), AllocError> {
+    if is_set { out.push_str(text) } else { Ok(()) }
 }
 
-fn show_number(rt: &impl Print, label: &str, number: Option<u32>) -> io::Result<()> {
+fn show_number_if(out: &mut String, before: &str, number: Option<u32>) -> Result<(), AllocError> {
     match number {
-        Some(number) => print!(rt; " {label} {number}"),
+        Some(number) => show_number(out, before, number),
         None => Ok(()),
     }
 }
 
-fn show_interface(rt: &impl Print, iface: &Iface) -> io::Result<()> {
-    print!(rt; " interface {}@{}", text_of(&iface.name), iface.line)?;
-    show_interface_address(rt, &iface.address)?;
-    show_flag(rt, "shutdown", iface.shutdown)?;
-    print!(rt; " bandwidth {}", iface.bandwidth)?;
-    show_number(rt, "cost", iface.cost)?;
-    show_use(rt, "in", &iface.list_in)?;
-    show_use(rt, "out", &iface.list_out)?;
-    println!(rt; "")
+fn show_use(out: &mut String, before: &str, used: &Option<Use>) -> Result<(), AllocError> {
+    match used {
+        Some(used) => show_named(out, before, &used.name, used.line),
+        None => Ok(()),
+    }
 }
 
-fn show_via(rt: &impl Print, via: &Via) -> io::Result<()> {
+fn show_uses(out: &mut String, before: &str, uses: &[Use]) -> Result<(), AllocError> {
+    for used in uses {
+        show_named(out, before, &used.name, used.line)?;
+    }
+    Ok(())
+}
+
+/// An address after a text.
+fn show_address(out: &mut String, before: &str, address: Addr) -> Result<(), AllocError> {
+    let [a, b, c, d] = address.0.to_be_bytes();
+    show_number(out, before, u32::from(a))?;
+    show_number(out, ".", u32::from(b))?;
+    show_number(out, ".", u32::from(c))?;
+    show_number(out, ".", u32::from(d))
+}
+
+fn show_prefix(out: &mut String, prefix: Prefix) -> Result<(), AllocError> {
+    show_address(out, " ", prefix.addr)?;
+    show_number(out, "/", u32::from(prefix.len))
+}
+
+fn show_interface_address(out: &mut String, address: &Option<IfAddr>) -> Result<(), AllocError> {
+    let Some(address) = address else {
+        return Ok(());
+    };
+    show_address(out, " address ", address.addr)?;
+    show_number(out, "/", u32::from(address.len))?;
+    show_number(out, "@", address.line)
+}
+
+fn show_interface(out: &mut String, iface: &Iface) -> Result<(), AllocError> {
+    show_named(out, " interface ", &iface.name, iface.line)?;
+    show_interface_address(out, &iface.address)?;
+    show_flag(out, " shutdown", iface.shutdown)?;
+    show_number(out, " bandwidth ", iface.bandwidth)?;
+    show_number_if(out, " cost ", iface.cost)?;
+    show_use(out, " in ", &iface.list_in)?;
+    show_use(out, " out ", &iface.list_out)?;
+    out.push_str("\n")
+}
+
+fn show_via(out: &mut String, via: &Via) -> Result<(), AllocError> {
     match via {
-        Via::Null0 => print!(rt; "null"),
-        Via::Next(address) => show_address(rt, *address),
+        Via::Null0 => out.push_str(" null"),
+        Via::Next(address) => show_address(out, " to ", *address),
         Via::Out(used, address) => {
-            print!(rt; "{}@{} ", text_of(&used.name), used.line)?;
-            show_address(rt, *address)
+            show_named(out, " by ", &used.name, used.line)?;
+            show_address(out, " to ", *address)
         }
     }
 }
 
-fn show_route(rt: &impl Print, route: &StaticRoute) -> io::Result<()> {
-    print!(rt; " route@{} ", route.line)?;
-    show_prefix(rt, route.prefix)?;
-    print!(rt; " to ")?;
-    show_via(rt, &route.via)?;
-    println!(rt; " distance {}", route.distance)
+fn show_route(out: &mut String, route: &StaticRoute) -> Result<(), AllocError> {
+    show_number(out, " route@", route.line)?;
+    show_prefix(out, route.prefix)?;
+    show_via(out, &route.via)?;
+    show_number(out, " distance ", u32::from(route.distance))?;
+    out.push_str("\n")
 }
 
-fn show_source(rt: &impl Print, source: Source) -> io::Result<()> {
+fn show_source(out: &mut String, source: Source) -> Result<(), AllocError> {
     match source {
-        Source::Connected => print!(rt; "connected"),
-        Source::Static => print!(rt; "static"),
-        Source::Bgp(number) => print!(rt; "bgp {number}"),
-        Source::Ospf(number) => print!(rt; "ospf {number}"),
+        Source::Connected => out.push_str(" connected"),
+        Source::Static => out.push_str(" static"),
+        Source::Bgp(number) => show_number(out, " bgp ", number),
+        Source::Ospf(number) => show_number(out, " ospf ", number),
     }
 }
 
-fn show_redist(rt: &impl Print, redist: &Redist) -> io::Result<()> {
-    print!(rt; "  redistribute@{} ", redist.line)?;
-    show_source(rt, redist.source)?;
-    show_number(rt, "metric", redist.metric)?;
-    show_flag(rt, "type1", redist.type1)?;
-    show_flag(rt, "subnets", redist.subnets)?;
-    show_flag(rt, "internal", redist.internal)?;
-    show_flag(rt, "ext1", redist.ext1)?;
-    show_flag(rt, "ext2", redist.ext2)?;
-    show_use(rt, "map", &redist.map)?;
-    println!(rt; "")
+fn show_redist(out: &mut String, redist: &Redist) -> Result<(), AllocError> {
+    show_number(out, "  redistribute@", redist.line)?;
+    show_source(out, redist.source)?;
+    show_number_if(out, " metric ", redist.metric)?;
+    show_flag(out, " type1", redist.type1)?;
+    show_flag(out, " subnets", redist.subnets)?;
+    show_flag(out, " internal", redist.internal)?;
+    show_flag(out, " ext1", redist.ext1)?;
+    show_flag(out, " ext2", redist.ext2)?;
+    show_use(out, " map ", &redist.map)?;
+    out.push_str("\n")
 }
 
-fn show_ospf_network(rt: &impl Print, network: &OspfNet) -> io::Result<()> {
-    print!(rt; "  network@{} ", network.line)?;
-    show_address(rt, network.addr)?;
-    print!(rt; " ")?;
-    show_address(rt, Addr(network.wild))?;
-    println!(rt; " area {}", network.area)
+fn show_ospf_network(out: &mut String, network: &OspfNet) -> Result<(), AllocError> {
+    show_number(out, "  network@", network.line)?;
+    show_address(out, " ", network.addr)?;
+    show_address(out, " ", Addr(network.wild))?;
+    show_number(out, " area ", network.area)?;
+    out.push_str("\n")
 }
 
-fn show_default(rt: &impl Print, origin: &Option<DefaultOrigin>) -> io::Result<()> {
-    match origin {
-        Some(origin) => {
-            print!(rt; "  default@{} metric {}", origin.line, origin.metric)?;
-            show_flag(rt, "always", origin.always)?;
-            show_flag(rt, "type1", origin.type1)?;
-            println!(rt; "")
-        }
-        None => Ok(()),
-    }
+fn show_default(out: &mut String, origin: &Option<DefaultOrigin>) -> Result<(), AllocError> {
+    let Some(origin) = origin else {
+        return Ok(());
+    };
+    show_number(out, "  default@", origin.line)?;
+    show_number(out, " metric ", origin.metric)?;
+    show_flag(out, " always", origin.always)?;
+    show_flag(out, " type1", origin.type1)?;
+    out.push_str("\n")
 }
 
-fn show_ospf(rt: &impl Print, ospf: &Ospf) -> io::Result<()> {
-    print!(rt;
-        " ospf {}@{} reference {}",
-        ospf.process, ospf.line, ospf.reference
-    )?;
-    show_flag(rt, "passive", ospf.passive_default)?;
-    println!(rt; "")?;
+fn show_ospf(out: &mut String, ospf: &Ospf) -> Result<(), AllocError> {
+    show_number(out, " ospf ", ospf.process)?;
+    show_number(out, "@", ospf.line)?;
+    show_number(out, " reference ", ospf.reference)?;
+    show_flag(out, " passive", ospf.passive_default)?;
+    show_uses(out, " passive ", ospf.passive.as_slice())?;
+    show_uses(out, " active ", ospf.active.as_slice())?;
+    out.push_str("\n")?;
     for network in ospf.networks.as_slice() {
-        show_ospf_network(rt, network)?;
+        show_ospf_network(out, network)?;
     }
-    show_uses(rt, "passive", ospf.passive.as_slice())?;
-    show_uses(rt, "active", ospf.active.as_slice())?;
     for redist in ospf.redistribute.as_slice() {
-        show_redist(rt, redist)?;
+        show_redist(out, redist)?;
     }
-    show_default(rt, &ospf.default)
+    show_default(out, &ospf.default)
 }
 
-fn show_bgp_network(rt: &impl Print, network: &BgpNet) -> io::Result<()> {
-    print!(rt; "  network@{} ", network.line)?;
-    show_prefix(rt, network.prefix)?;
-    show_use(rt, "map", &network.map)?;
-    println!(rt; "")
+fn show_bgp_network(out: &mut String, network: &BgpNet) -> Result<(), AllocError> {
+    show_number(out, "  network@", network.line)?;
+    show_prefix(out, network.prefix)?;
+    show_use(out, " map ", &network.map)?;
+    out.push_str("\n")
 }
 
-fn show_neighbour(rt: &impl Print, neighbour: &Neighbour) -> io::Result<()> {
-    print!(rt; "  neighbour@{} ", neighbour.line)?;
-    show_address(rt, neighbour.addr)?;
-    print!(rt; " as {} weight {}", neighbour.asn, neighbour.weight)?;
-    show_use(rt, "source", &neighbour.source)?;
-    show_flag(rt, "next-hop-self", neighbour.next_hop_self)?;
-    show_flag(rt, "client", neighbour.client)?;
-    show_flag(rt, "communities", neighbour.send_community)?;
-    show_flag(rt, "shutdown", neighbour.shutdown)?;
-    show_use(rt, "prefix-in", &neighbour.prefix_in)?;
-    show_use(rt, "prefix-out", &neighbour.prefix_out)?;
-    show_use(rt, "filter-in", &neighbour.filter_in)?;
-    show_use(rt, "filter-out", &neighbour.filter_out)?;
-    show_use(rt, "map-in", &neighbour.map_in)?;
-    show_use(rt, "map-out", &neighbour.map_out)?;
-    println!(rt; "")
+/// What a neighbour uses.
+fn show_neighbour_uses(out: &mut String, neighbour: &Neighbour) -> Result<(), AllocError> {
+    show_use(out, " source ", &neighbour.source)?;
+    show_use(out, " prefix-in ", &neighbour.prefix_in)?;
+    show_use(out, " prefix-out ", &neighbour.prefix_out)?;
+    show_use(out, " filter-in ", &neighbour.filter_in)?;
+    show_use(out, " filter-out ", &neighbour.filter_out)?;
+    show_use(out, " map-in ", &neighbour.map_in)?;
+    show_use(out, " map-out ", &neighbour.map_out)
 }
 
-fn show_router_id(rt: &impl Print, router_id: Option<Addr>) -> io::Result<()> {
+fn show_neighbour(out: &mut String, neighbour: &Neighbour) -> Result<(), AllocError> {
+    show_number(out, "  neighbour@", neighbour.line)?;
+    show_address(out, " ", neighbour.addr)?;
+    show_number(out, " as ", neighbour.asn)?;
+    show_number(out, " weight ", neighbour.weight)?;
+    show_flag(out, " next-hop-self", neighbour.next_hop_self)?;
+    show_flag(out, " client", neighbour.client)?;
+    show_flag(out, " communities", neighbour.send_community)?;
+    show_flag(out, " shutdown", neighbour.shutdown)?;
+    show_neighbour_uses(out, neighbour)?;
+    out.push_str("\n")
+}
+
+fn show_router_id(out: &mut String, router_id: Option<Addr>) -> Result<(), AllocError> {
     match router_id {
-        Some(address) => {
-            print!(rt; " id ")?;
-            show_address(rt, address)
-        }
+        Some(address) => show_address(out, " id ", address),
         None => Ok(()),
     }
 }
 
-fn show_bgp(rt: &impl Print, bgp: &Bgp) -> io::Result<()> {
-    print!(rt; " bgp {}@{}", bgp.asn, bgp.line)?;
-    show_router_id(rt, bgp.router_id)?;
-    show_flag(rt, "always-compare-med", bgp.always_compare)?;
-    show_flag(rt, "compare-routerid", bgp.compare_routerid)?;
-    println!(rt; "")?;
+fn show_bgp(out: &mut String, bgp: &Bgp) -> Result<(), AllocError> {
+    show_number(out, " bgp ", bgp.asn)?;
+    show_number(out, "@", bgp.line)?;
+    show_router_id(out, bgp.router_id)?;
+    show_flag(out, " always-compare-med", bgp.always_compare)?;
+    show_flag(out, " compare-routerid", bgp.compare_routerid)?;
+    out.push_str("\n")?;
     for network in bgp.networks.as_slice() {
-        show_bgp_network(rt, network)?;
+        show_bgp_network(out, network)?;
     }
     for redist in bgp.redistribute.as_slice() {
-        show_redist(rt, redist)?;
+        show_redist(out, redist)?;
     }
     for neighbour in bgp.neighbours.as_slice() {
-        show_neighbour(rt, neighbour)?;
+        show_neighbour(out, neighbour)?;
     }
     Ok(())
 }
 
-/// How many lists and maps there are, each with its name and how many entries it has.
-fn show_policies(rt: &impl Print, policies: &Policies) -> io::Result<()> {
+/// The names of the lists and maps.
+fn show_policies(out: &mut String, policies: &Policies) -> Result<(), AllocError> {
     for list in policies.prefix_lists.as_slice() {
-        println!(rt;
-            " prefix-list {} {}",
-            text_of(&list.name),
-            list.entries.items.len()
-        )?;
-    }
-    for list in policies.communities.as_slice() {
-        println!(rt;
-            " community-list {} {}",
-            text_of(&list.name),
-            list.entries.items.len()
-        )?;
+        show_name(out, " prefix-list ", &list.name)?;
     }
     for list in policies.as_paths.as_slice() {
-        println!(rt;
-            " as-path {} {}",
-            text_of(&list.name),
-            list.entries.items.len()
-        )?;
+        show_name(out, " as-path ", &list.name)?;
     }
     for list in policies.access.as_slice() {
-        println!(rt;
-            " access-list {} {}",
-            text_of(&list.name),
-            list.entries.items.len()
-        )?;
+        show_name(out, " access-list ", &list.name)?;
     }
     for map in policies.maps.as_slice() {
-        println!(rt;
-            " route-map {} {}",
-            text_of(&map.name),
-            map.entries.items.len()
-        )?;
+        show_name(out, " route-map ", &map.name)?;
     }
-    Ok(())
+    out.push_str("\n")
 }
 
-/// Prints a file, each part with its line after an `@`.
-pub fn show_file(rt: &impl Print, file: &File) -> io::Result<()> {
-    println!(rt;
-        " hostname {}@{}",
-        text_of(&file.hostname),
-        file.hostname_line
-    )?;
+/// A file, each part with its line after an `@`.
+pub fn show_file(out: &mut String, file: &File) -> Result<(), AllocError> {
+    show_named(out, " hostname ", &file.hostname, file.hostname_line)?;
+    show_policies(out, &file.policies)?;
     for iface in file.interfaces.as_slice() {
-        show_interface(rt, iface)?;
+        show_interface(out, iface)?;
     }
     for route in file.statics.as_slice() {
-        show_route(rt, route)?;
+        show_route(out, route)?;
     }
     if let Some(ospf) = &file.ospf {
-        show_ospf(rt, ospf)?;
+        show_ospf(out, ospf)?;
     }
-    if let Some(bgp) = &file.bgp {
-        show_bgp(rt, bgp)?;
+    match &file.bgp {
+        Some(bgp) => show_bgp(out, bgp),
+        None => Ok(()),
     }
-    show_policies(rt, &file.policies)
 }
