@@ -96,8 +96,6 @@ pub fn read_file(alloc: Global, bytes: &[u8]) -> Result<File, Refused>
     ensures ok { IfOk result (λ file. reading bytes.now ≡ Ok file) }
     ensures refused { IfErr result (λ refused. refused.cause ≢ Cause.Memory → reading bytes.now ≡ Err refused) }
 {
-    match lines_of(alloc, bytes) {
-        Err(_) => Err(MEMORY),
-        Ok(lines) => read_all(alloc, lines.as_slice()),
-    }
+    let lines = lines_of(alloc, bytes)?;
+    read_all(alloc, lines.as_slice())
 }
