@@ -5,9 +5,9 @@
 #![tactic(auto)]
 
 mod packets;
-
+mod prefixes;
 mod records;
 
 pub use packets::sym_access_list;
-
+pub use prefixes::sym_prefix_list;
 pub use records::{SymBgp, SymMapRec, SymNet, SymOspf, SymPacket};

@@ -15,15 +15,15 @@ use term_arith::gates::{both, constant_node, negate, select};
 use term_arith::{Bits, constant, equal_masked, equal_number, less};
 use term_store::{NodeId, Terms};
 
-/// Whether a number is the protocol, where one is asked for.
-fn sym_proto(terms: &mut Terms, proto: Option<u8>, number: &Bits) -> Result<NodeId, AllocError>
-    requires { ids_end number.now.nodes ≤ size terms.old }
+/// Whether a field is the protocol, where one is asked for.
+fn sym_proto(terms: &mut Terms, proto: Option<u8>, field: &Bits) -> Result<NodeId, AllocError>
+    requires { ids_end field.now.nodes ≤ size terms.old }
     ensures builds { Builds terms.old terms.new }
     ensures within { IfOk result (λ r. r.0 < size terms.new) }
-    ensures value { Gives terms.new result (λ w r. at w r ≡ option_map_or (λ n. Rattle.term_arith.specs.Bits.number w number.now.nodes == n) proto true) }
+    ensures value { Gives terms.new result (λ w r. at w r ≡ option_map_or (λ n. number w field.now.nodes == n) proto true) }
 {
     match proto {
-        Some(wanted) => equal_number(terms, number.nodes.as_slice(), u64::from(wanted)),
+        Some(wanted) => equal_number(terms, field.nodes.as_slice(), u64::from(wanted)),
         None => constant_node(terms, true),
     }
 }
