@@ -1,1 +1,2 @@
 pub mod HighBits
+pub mod ShapeLaw
