@@ -1,2 +1,3 @@
 pub mod HighBits
 pub mod ShapeLaw
+pub mod Choices

@@ -28,11 +28,15 @@ pub record PathShape : Type 0 where
   pub last : ℕ
   pub numbers : List Bool
 
-pub record RouteShape : Type 0 where
+-- the numbers by which routes are preferred
+pub record Preferences : Type 0 where
   pub weight : ℕ
   pub local_pref : ℕ
   pub med : ℕ
   pub origin : ℕ
+
+pub record RouteShape : Type 0 where
+  pub preferences : Preferences
   pub path : PathShape
   pub communities : List Bool
   pub type1 : Bool
@@ -46,12 +50,12 @@ path_shape tracked path = record {
   numbers = map (carries path) tracked;
 }
 
+abbrev pub preferences_of : Attributes → Preferences
+preferences_of r = record { weight = r.weight; local_pref = r.local_pref; med = r.med; origin = r.origin }
+
 abbrev pub route_shape : Tracked → Attributes → RouteShape
 route_shape tracked r = record {
-  weight = r.weight;
-  local_pref = r.local_pref;
-  med = r.med;
-  origin = r.origin;
+  preferences = preferences_of r;
   path = path_shape tracked.numbers r.path;
   communities = map (carries r.communities) tracked.communities;
   type1 = r.type1;
@@ -117,13 +121,13 @@ shape_prepended tracked numbers s = record {
 
 -- one set line
 abbrev pub set_shape : Tracked → Bool → RouteShape → SetAct → RouteShape
-set_shape tracked external s (LocalPref n) = record s { local_pref = n }
-set_shape tracked external s (Metric n) = record s { med = n }
-set_shape tracked external s (Weight n) = record s { weight = n }
+set_shape tracked external s (LocalPref n) = record s { preferences = record s.preferences { local_pref = n } }
+set_shape tracked external s (Metric n) = record s { preferences = record s.preferences { med = n } }
+set_shape tracked external s (Weight n) = record s { preferences = record s.preferences { weight = n } }
 set_shape tracked external s NoCommunity = record s { communities = marks_with tracked.communities [] false s.communities }
 set_shape tracked external s (Community values additive) =
     record s { communities = marks_with tracked.communities values additive s.communities }
-set_shape tracked external s (Origin igp) = record s { origin = origin_set igp }
+set_shape tracked external s (Origin igp) = record s { preferences = record s.preferences { origin = origin_set igp } }
 set_shape tracked external s (Prepend numbers) =
     record s { path = if external then shape_prepended tracked.numbers numbers s.path else s.path }
 set_shape tracked external s (Type1 type1) = record s { type1 = type1 }

@@ -5,8 +5,10 @@
 #![tactic(auto)]
 
 mod packets;
+mod parts;
 mod prefixes;
 mod records;
+mod routes;
 
 pub use packets::sym_access_list;
 pub use prefixes::sym_prefix_list;
