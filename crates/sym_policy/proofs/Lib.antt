@@ -1,3 +1,4 @@
 pub mod HighBits
 pub mod ShapeLaw
 pub mod Choices
+pub mod Rows

@@ -6,6 +6,7 @@
 
 mod packets;
 mod parts;
+mod lists;
 mod prefixes;
 mod records;
 mod routes;
