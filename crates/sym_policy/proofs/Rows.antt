@@ -1,7 +1,7 @@
 -- Rows of marks, one for each tracked value, item by item.
 use Rattle.std.proofs.Common.{◌≡◌, ℕ, ◌+◌, ◌==◌, ◌<◌, ◌≤◌, ◌&&◌, ◌||◌, Bool, false, if◌then◌else◌, List, [], ◌∷◌, ◌++◌}
 use Rattle.std.proofs.Common.{length, drop, get_or, refl, sym, ap, ◌∙◌}
-use Rattle.std.proofs.lemmas.List.{drop_more, drop_all, append_assoc, length_push}
+use Rattle.std.proofs.lemmas.List.{drop_more, drop_all, append_assoc, append-nil}
 use Rattle.std.proofs.Common.{arith}
 use Rattle.std.proofs.lemmas.Bool.Decides.{nat_tests}
 use Rattle.term_store.specs.declared.NodeId.{NodeId}
@@ -55,3 +55,15 @@ pub with_at : (w : Reading) (tracked values : List ℕ) (beside : Bool) (marks :
 with_at w tracked values beside marks i d in_tracked in_marks =
     (refl, ap (λ ts. marks_with ts values beside (bits w (drop i marks))) (drop_more tracked i 0 in_tracked)
     ∙ ap (λ ms. marks_with (get_or tracked i 0 ∷ drop (i + 1) tracked) values beside (bits w ms)) (drop_more marks i d in_marks))
+
+-- a row with one more mark, before the rest
+pub with_push : (w : Reading) (out : List NodeId) (id : NodeId) (rest : List Bool)
+    → bits w (out ++ id ∷ []) ++ rest ≡ bits w out ++ at w id ∷ rest
+with_push w out id rest = ap (λ bs. bs ++ rest) (bits_push w out id) ∙ append_assoc (bits w out) (at w id ∷ []) rest
+
+-- past the last tracked value
+pub with_end : (tracked values : List ℕ) (beside : Bool) (marks : List Bool) (i : ℕ) → length tracked ≤ i
+    → marks_with (drop i tracked) values beside marks ≡ []
+with_end tracked values beside marks i h = ap (λ ts. marks_with ts values beside marks) (drop_all i tracked h)
+
+pub ruleset with_steps = (node_steps, with_at, with_push, with_end, append-nil)

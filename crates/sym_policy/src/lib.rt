@@ -10,6 +10,7 @@ mod lists;
 mod prefixes;
 mod records;
 mod routes;
+mod sets;
 
 pub use packets::sym_access_list;
 pub use prefixes::sym_prefix_list;
