@@ -2,3 +2,4 @@ pub mod HighBits
 pub mod ShapeLaw
 pub mod Choices
 pub mod Rows
+pub mod LowBits

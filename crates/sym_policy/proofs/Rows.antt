@@ -15,11 +15,13 @@ use Rattle.sym_policy.specs.Shapes.{marked, marks_with}
 pub marked_at : (w : Reading) (tracked : List ℕ) (marks : List NodeId) (i : ℕ) (d : NodeId) (x : ℕ)
     → i < length tracked → i < length marks
     → (at w (get_or marks i d) ≡ at w (get_or marks i d))
-        × (marked (drop i tracked) (bits w (drop i marks)) x
-            ≡ (if get_or tracked i 0 == x then at w (get_or marks i d) else marked (drop (i + 1) tracked) (bits w (drop (i + 1) marks)) x))
-marked_at w tracked marks i d x in_tracked in_marks =
-    (refl, ap (λ ts. marked ts (bits w (drop i marks)) x) (drop_more tracked i 0 in_tracked)
-    ∙ ap (λ ms. marked (get_or tracked i 0 ∷ drop (i + 1) tracked) (bits w ms) x) (drop_more marks i d in_marks))
+    × (marked (drop i tracked) (bits w (drop i marks)) x
+    ≡ (if get_or tracked i 0 == x then at w (get_or marks i d) else marked (drop (i + 1) tracked) (bits w (drop (i + 1) marks)) x))
+marked_at w tracked marks i d x in_tracked in_marks = (
+  refl,
+  ap (λ ts. marked ts (bits w (drop i marks)) x) (drop_more tracked i 0 in_tracked)
+      ∙ ap (λ ms. marked (get_or tracked i 0 ∷ drop (i + 1) tracked) (bits w ms) x) (drop_more marks i d in_marks),
+)
 
 -- a tracked value that is another one does not count
 pub marked_next : (w : Reading) (tracked : List ℕ) (marks : List NodeId) (i x : ℕ)
@@ -49,12 +51,14 @@ pub ruleset marked_steps = (node_steps, marked_at, marked_end)
 pub with_at : (w : Reading) (tracked values : List ℕ) (beside : Bool) (marks : List NodeId) (i : ℕ) (d : NodeId)
     → i < length tracked → i < length marks
     → (at w (get_or marks i d) ≡ at w (get_or marks i d))
-        × (marks_with (drop i tracked) values beside (bits w (drop i marks))
-            ≡ (carries values (get_or tracked i 0) || (beside && at w (get_or marks i d)))
-                ∷ marks_with (drop (i + 1) tracked) values beside (bits w (drop (i + 1) marks)))
-with_at w tracked values beside marks i d in_tracked in_marks =
-    (refl, ap (λ ts. marks_with ts values beside (bits w (drop i marks))) (drop_more tracked i 0 in_tracked)
-    ∙ ap (λ ms. marks_with (get_or tracked i 0 ∷ drop (i + 1) tracked) values beside (bits w ms)) (drop_more marks i d in_marks))
+    × (marks_with (drop i tracked) values beside (bits w (drop i marks))
+    ≡ (carries values (get_or tracked i 0) || (beside && at w (get_or marks i d)))
+    ∷ marks_with (drop (i + 1) tracked) values beside (bits w (drop (i + 1) marks)))
+with_at w tracked values beside marks i d in_tracked in_marks = (
+  refl,
+  ap (λ ts. marks_with ts values beside (bits w (drop i marks))) (drop_more tracked i 0 in_tracked)
+      ∙ ap (λ ms. marks_with (get_or tracked i 0 ∷ drop (i + 1) tracked) values beside (bits w ms)) (drop_more marks i d in_marks),
+)
 
 -- a row with one more mark, before the rest
 pub with_push : (w : Reading) (out : List NodeId) (id : NodeId) (rest : List Bool)

@@ -1,5 +1,5 @@
 -- What a reading makes of the part of a symbolic route that route maps see.
-use Rattle.std.specs.Prelude.{◌≡◌, ℕ, ◌+◌, max, if◌then◌else◌, List, Option, Some, None, length}
+use Rattle.std.specs.Prelude.{◌≡◌, ℕ, ◌+◌, max, if◌then◌else◌, Option, Some, None, length}
 use Rattle.term_store.specs.Terms.{Reading, at}
 use Rattle.term_arith.specs.Bits.{bits, number, ids_end}
 use Rattle.route_record.specs.declared.tracked.Tracked.{Tracked}

@@ -4,9 +4,9 @@
 //! plain one of `policy_eval`: under every reading its result is what the definition says of the values read.
 #![tactic(auto)]
 
+mod lists;
 mod packets;
 mod parts;
-mod lists;
 mod prefixes;
 mod records;
 mod routes;

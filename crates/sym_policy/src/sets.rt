@@ -65,3 +65,114 @@ fn sym_marks_with(
     }
     Ok(out)
 }
+
+/// The lowest bits of a number.
+#[tactic(auto, using(crate::proofs::LowBits::low_steps))]
+fn low_bits(alloc: Global, bits: &Bits, width: usize) -> Result<Bits, AllocError>
+    requires { width ≤ length bits.now.nodes }
+    ensures within { IfOk result (λ r. ids_end r.nodes ≤ ids_end bits.now.nodes) }
+    ensures width { IfOk result (λ r. length r.nodes ≡ width) }
+    ensures value { IfOk result (λ r. (w : Reading) → number w r.nodes ≡ number w bits.now.nodes % 2 ^ width) }
+{
+    let items = Vec::from_slice(alloc, &bits.nodes.as_slice()[..width])?;
+    Ok(Bits {
+        nodes: List { items },
+    })
+}
+
+/// A length with more items, in 32 bits.
+#[tactic(auto, using(crate::proofs::LowBits::mod_of_sum))]
+fn sym_longer(alloc: Global, terms: &mut Terms, len: &Bits, more: u64) -> Result<Bits, AllocError>
+    requires wide { length len.now.nodes ≡ 32 }
+    requires nodes { ids_end len.now.nodes ≤ size terms.old }
+    ensures builds { Builds terms.old terms.new }
+    ensures within { IfOk result (λ r. ids_end r.nodes ≤ size terms.new) }
+    ensures width { IfOk result (λ r. length r.nodes ≡ 32) }
+    ensures value { Gives terms.new result (λ w r. number w r.nodes ≡ (number w len.now.nodes + more) % 2 ^ 32) }
+{
+    let step = constant(alloc, terms, more % (1 << 32), 32)?;
+    let sum = add(alloc, terms, len, &step)?;
+    let cut = low_bits(alloc, &sum, 32)?;
+    Ok(cut)
+}
+
+/// The first number of a list, 0 where it is empty.
+fn first_number(numbers: &[u32]) -> u32
+    ensures { result ≡ first_of numbers.now }
+{
+    numbers.first().copied().unwrap_or(0)
+}
+
+/// The last number of a list, 0 where it is empty.
+fn last_number(numbers: &[u32]) -> u32
+    ensures { result ≡ last_of numbers.now }
+{
+    numbers.last().copied().unwrap_or(0)
+}
+
+/// The first number of a path with numbers in front.
+fn sym_first(
+    alloc: Global,
+    terms: &mut Terms,
+    numbers: &[u32],
+    first: &Bits,
+) -> Result<Bits, AllocError>
+    requires wide { length first.now.nodes ≡ 32 }
+    requires nodes { ids_end first.now.nodes ≤ size terms.old }
+    ensures builds { Builds terms.old terms.new }
+    ensures within { IfOk result (λ r. ids_end r.nodes ≤ size terms.new) }
+    ensures width { IfOk result (λ r. length r.nodes ≡ 32) }
+    ensures value { Gives terms.new result (λ w r. number w r.nodes ≡ (if length numbers.now == 0 then number w first.now.nodes else first_of numbers.now)) }
+{
+    if numbers.is_empty() {
+        copy(alloc, first)
+    } else {
+        constant(alloc, terms, u64::from(first_number(numbers)), 32)
+    }
+}
+
+/// The last number of a path with numbers in front.
+fn sym_last(
+    alloc: Global,
+    terms: &mut Terms,
+    numbers: &[u32],
+    path: &SymPath,
+) -> Result<Bits, AllocError>
+    requires { path_end path.now ≤ size terms.old }
+    ensures builds { Builds terms.old terms.new }
+    ensures within { IfOk result (λ r. ids_end r.nodes ≤ size terms.new) }
+    ensures width { IfOk result (λ r. length r.nodes ≡ 32) }
+    ensures value { Gives terms.new result (λ w r. number w r.nodes ≡ (if number w path.now.len.nodes == 0 then last_of numbers.now else number w path.now.last.nodes)) }
+{
+    let none = equal_number(terms, path.len.nodes.as_slice(), 0)?;
+    let last = constant(alloc, terms, u64::from(last_number(numbers)), 32)?;
+    choose(alloc, terms, none, &last, &path.last)
+}
+
+/// A path with numbers in front.
+fn sym_prepended(
+    alloc: Global,
+    terms: &mut Terms,
+    tracked: &[u32],
+    numbers: &[u32],
+    path: &SymPath,
+) -> Result<SymPath, AllocError>
+    requires rows { length path.now.numbers.nodes ≡ length tracked.now }
+    requires nodes { path_end path.now ≤ size terms.old }
+    ensures builds { Builds terms.old terms.new }
+    ensures within { IfOk result (λ r. path_end r ≤ size terms.new) }
+    ensures rows { IfOk result (λ r. length r.numbers.nodes ≡ length tracked.now) }
+    ensures value { Gives terms.new result (λ w r. path_at w r ≡ shape_prepended tracked.now numbers.now (path_at w path.now)) }
+{
+    let len = sym_longer(alloc, terms, &path.len, numbers.len() as u64)?;
+    let first = sym_first(alloc, terms, numbers, &path.first)?;
+    let last = sym_last(alloc, terms, numbers, path)?;
+    let marks = path.numbers.nodes.as_slice();
+    let nodes = sym_marks_with(alloc, terms, tracked, numbers, true, marks)?;
+    Ok(SymPath {
+        len,
+        first,
+        last,
+        numbers: Bits { nodes },
+    })
+}

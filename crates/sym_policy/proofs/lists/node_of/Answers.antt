@@ -1,4 +1,4 @@
-use Rattle.std.proofs.Common.{◌≡◌, ◌∙◌, sym, arith}
+use Rattle.std.proofs.Common.{◌∙◌, sym, arith}
 use Rattle.sym_policy.proofs.Rows.{marked_next}
 use Rattle.sym_policy.proofs.lists.node_of.Goals as goal
 
