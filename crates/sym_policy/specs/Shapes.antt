@@ -119,18 +119,35 @@ shape_prepended tracked numbers s = record {
   numbers = marks_with tracked numbers true s.numbers;
 }
 
+-- what one set line changes, part by part
+abbrev pub set_preferences : Preferences → SetAct → Preferences
+set_preferences s (LocalPref n) = record s { local_pref = n }
+set_preferences s (Metric n) = record s { med = n }
+set_preferences s (Weight n) = record s { weight = n }
+set_preferences s (Origin igp) = record s { origin = origin_set igp }
+set_preferences s _ = s
+
+abbrev pub set_path : List ℕ → Bool → PathShape → SetAct → PathShape
+set_path tracked external s (Prepend numbers) = if external then shape_prepended tracked numbers s else s
+set_path tracked external s _ = s
+
+abbrev pub set_marks : List ℕ → List Bool → SetAct → List Bool
+set_marks tracked marks NoCommunity = marks_with tracked [] false marks
+set_marks tracked marks (Community values additive) = marks_with tracked values additive marks
+set_marks tracked marks _ = marks
+
+abbrev pub set_type1 : Bool → SetAct → Bool
+set_type1 before (Type1 type1) = type1
+set_type1 before _ = before
+
 -- one set line
 abbrev pub set_shape : Tracked → Bool → RouteShape → SetAct → RouteShape
-set_shape tracked external s (LocalPref n) = record s { preferences = record s.preferences { local_pref = n } }
-set_shape tracked external s (Metric n) = record s { preferences = record s.preferences { med = n } }
-set_shape tracked external s (Weight n) = record s { preferences = record s.preferences { weight = n } }
-set_shape tracked external s NoCommunity = record s { communities = marks_with tracked.communities [] false s.communities }
-set_shape tracked external s (Community values additive) =
-    record s { communities = marks_with tracked.communities values additive s.communities }
-set_shape tracked external s (Origin igp) = record s { preferences = record s.preferences { origin = origin_set igp } }
-set_shape tracked external s (Prepend numbers) =
-    record s { path = if external then shape_prepended tracked.numbers numbers s.path else s.path }
-set_shape tracked external s (Type1 type1) = record s { type1 = type1 }
+set_shape tracked external s line = record {
+  preferences = set_preferences s.preferences line;
+  path = set_path tracked.numbers external s.path line;
+  communities = set_marks tracked.communities s.communities line;
+  type1 = set_type1 s.type1 line;
+}
 
 abbrev pub set_shapes : Tracked → Bool → RouteShape → List SetAct → RouteShape
 set_shapes tracked external s lines = fold (set_shape tracked external) s lines

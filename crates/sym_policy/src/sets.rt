@@ -9,7 +9,7 @@ ghost use Rattle.ios_ast.specs.Deciding.{carries};
 ghost use Rattle.ios_ast.specs.Paths.{first_of, last_of};
 ghost use Rattle.ios_ast.specs.Setting.{origin_set};
 ghost use Rattle.sym_policy.specs.Routes.{path_at, path_end, route_at, route_end, preferences_at, preferences_end, HasRows};
-ghost use Rattle.sym_policy.specs.Shapes.{marks_with, shape_prepended, set_shape, set_shapes};
+ghost use Rattle.sym_policy.specs.Shapes.{marks_with, shape_prepended, set_shape, set_preferences as preferences_set, set_path as path_set, set_marks as marks_set, set_type1 as type1_set};
 
 use crate::parts::{SymPath, SymPreferences, SymRoute};
 use ios_ast::SetAct;
@@ -174,5 +174,141 @@ fn sym_prepended(
         first,
         last,
         numbers: Bits { nodes },
+    })
+}
+
+/// The numbers by which routes are preferred after one line.
+fn set_preferences(
+    alloc: Global,
+    terms: &mut Terms,
+    before: SymPreferences,
+    line: &SetAct,
+) -> Result<SymPreferences, AllocError>
+    requires { preferences_end before ≤ size terms.old }
+    ensures builds { Builds terms.old terms.new }
+    ensures within { IfOk result (λ r. preferences_end r ≤ size terms.new) }
+    ensures value { Gives terms.new result (λ w r. preferences_at w r ≡ preferences_set (preferences_at w before) line.now) }
+{
+    let mut made = before;
+    match line {
+        SetAct::LocalPref(value) => {
+            made.local_pref = constant(alloc, terms, u64::from(*value), 32)?;
+            Ok(made)
+        }
+        SetAct::Metric(value) => {
+            made.med = constant(alloc, terms, u64::from(*value), 32)?;
+            Ok(made)
+        }
+        SetAct::Weight(value) => {
+            made.weight = constant(alloc, terms, u64::from(*value), 32)?;
+            Ok(made)
+        }
+        SetAct::Origin(igp) => {
+            let code = if *igp { 0 } else { 2 };
+            made.origin = constant(alloc, terms, code, 2)?;
+            Ok(made)
+        }
+        _ => Ok(made),
+    }
+}
+
+/// The path after one line. On another than an external side no number is put in front of it.
+fn set_path(
+    alloc: Global,
+    terms: &mut Terms,
+    tracked: &[u32],
+    external: bool,
+    before: SymPath,
+    line: &SetAct,
+) -> Result<SymPath, AllocError>
+    requires rows { length before.numbers.nodes ≡ length tracked.now }
+    requires nodes { path_end before ≤ size terms.old }
+    ensures builds { Builds terms.old terms.new }
+    ensures within { IfOk result (λ r. path_end r ≤ size terms.new) }
+    ensures rows { IfOk result (λ r. length r.numbers.nodes ≡ length tracked.now) }
+    ensures value { Gives terms.new result (λ w r. path_at w r ≡ path_set tracked.now external (path_at w before) line.now) }
+{
+    match line {
+        SetAct::Prepend(numbers) if external => {
+            sym_prepended(alloc, terms, tracked, numbers.as_slice(), &before)
+        }
+        _ => Ok(before),
+    }
+}
+
+/// The marks of the tracked communities after one line.
+fn set_marks(
+    alloc: Global,
+    terms: &mut Terms,
+    tracked: &[u32],
+    before: Bits,
+    line: &SetAct,
+) -> Result<Bits, AllocError>
+    requires rows { length before.nodes ≡ length tracked.now }
+    requires nodes { ids_end before.nodes ≤ size terms.old }
+    ensures builds { Builds terms.old terms.new }
+    ensures within { IfOk result (λ r. ids_end r.nodes ≤ size terms.new) }
+    ensures rows { IfOk result (λ r. length r.nodes ≡ length tracked.now) }
+    ensures value { Gives terms.new result (λ w r. bits w r.nodes ≡ marks_set tracked.now (bits w before.nodes) line.now) }
+{
+    let marks = before.nodes.as_slice();
+    match line {
+        SetAct::NoCommunity => {
+            let nodes = sym_marks_with(alloc, terms, tracked, &[], false, marks)?;
+            Ok(Bits { nodes })
+        }
+        SetAct::Community(values, additive) => {
+            let values = values.as_slice();
+            let nodes = sym_marks_with(alloc, terms, tracked, values, *additive, marks)?;
+            Ok(Bits { nodes })
+        }
+        _ => Ok(before),
+    }
+}
+
+/// Whether the route is redistributed as one of type 1 after one line.
+fn set_type1(terms: &mut Terms, before: NodeId, line: &SetAct) -> Result<NodeId, AllocError>
+    requires { before.0 < size terms.old }
+    ensures builds { Builds terms.old terms.new }
+    ensures within { IfOk result (λ r. r.0 < size terms.new) }
+    ensures value { Gives terms.new result (λ w r. at w r ≡ type1_set (at w before) line.now) }
+{
+    match line {
+        SetAct::Type1(type1) => constant_node(terms, *type1),
+        _ => Ok(before),
+    }
+}
+
+/// The route after one line.
+fn set_line(
+    alloc: Global,
+    terms: &mut Terms,
+    tracked: &Tracked,
+    external: bool,
+    before: SymRoute,
+    line: &SetAct,
+) -> Result<SymRoute, AllocError>
+    requires rows { HasRows tracked.now before }
+    requires nodes { route_end before ≤ size terms.old }
+    ensures builds { Builds terms.old terms.new }
+    ensures within { IfOk result (λ r. route_end r ≤ size terms.new) }
+    ensures rows { IfOk result (λ r. HasRows tracked.now r) }
+    ensures value { Gives terms.new result (λ w r. route_at w r ≡ set_shape tracked.now external (route_at w before) line.now) }
+{
+    let SymRoute {
+        preferences,
+        path,
+        communities,
+        type1,
+    } = before;
+    let preferences = set_preferences(alloc, terms, preferences, line)?;
+    let path = set_path(alloc, terms, tracked.numbers.as_slice(), external, path, line)?;
+    let communities = set_marks(alloc, terms, tracked.communities.as_slice(), communities, line)?;
+    let type1 = set_type1(terms, type1, line)?;
+    Ok(SymRoute {
+        preferences,
+        path,
+        communities,
+        type1,
     })
 }
