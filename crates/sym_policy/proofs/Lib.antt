@@ -3,3 +3,5 @@ pub mod ShapeLaw
 pub mod Choices
 pub mod Rows
 pub mod LowBits
+pub mod SetLines
+pub mod NetworkBits

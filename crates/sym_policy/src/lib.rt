@@ -4,7 +4,9 @@
 //! plain one of `policy_eval`: under every reading its result is what the definition says of the values read.
 #![tactic(auto)]
 
+mod entries;
 mod lists;
+mod matches;
 mod packets;
 mod parts;
 mod prefixes;

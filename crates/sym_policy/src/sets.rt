@@ -280,7 +280,7 @@ fn set_type1(terms: &mut Terms, before: NodeId, line: &SetAct) -> Result<NodeId,
 }
 
 /// The route after one line.
-fn set_line(
+pub(crate) fn set_line(
     alloc: Global,
     terms: &mut Terms,
     tracked: &Tracked,
@@ -302,8 +302,21 @@ fn set_line(
         type1,
     } = before;
     let preferences = set_preferences(alloc, terms, preferences, line)?;
-    let path = set_path(alloc, terms, tracked.numbers.as_slice(), external, path, line)?;
-    let communities = set_marks(alloc, terms, tracked.communities.as_slice(), communities, line)?;
+    let path = set_path(
+        alloc,
+        terms,
+        tracked.numbers.as_slice(),
+        external,
+        path,
+        line,
+    )?;
+    let communities = set_marks(
+        alloc,
+        terms,
+        tracked.communities.as_slice(),
+        communities,
+        line,
+    )?;
     let type1 = set_type1(terms, type1, line)?;
     Ok(SymRoute {
         preferences,
