@@ -1,6 +1,6 @@
 -- What the match lines of a route map test, by the lists that they name.
-use Rattle.std.specs.Prelude.{ℕ, ◌==◌, ◌&&◌, Bool, false, List}
-use Rattle.std.specs.List.{find, list_any, list_all}
+use Rattle.std.specs.Prelude.{ℕ, ◌==◌, ◌&&◌, ◌||◌, not, Bool, false, List}
+use Rattle.std.specs.List.{find, list_any}
 use Rattle.std.specs.Option.{option_map_or}
 use Rattle.mw_text.specs.declared.address.Prefix.{Prefix}
 use Rattle.mw_text.specs.Text.{same_text}
@@ -66,6 +66,15 @@ kind_of (Paths names) = 3
 abbrev pub kind_holds : (Match → Bool) → List Match → ℕ → Bool
 kind_holds holds lines kind = list_any (λ line. (kind_of line == kind) && holds line) lines
 
--- lines of one kind are alternatives: all hold where for each line one of its kind does
+-- some line is of that kind
+abbrev pub asks : List Match → ℕ → Bool
+asks lines kind = list_any (λ line. kind_of line == kind) lines
+
+-- lines of one kind are alternatives: where there are any, one holds
+abbrev pub kind_passes : (Match → Bool) → List Match → ℕ → Bool
+kind_passes holds lines kind = not (asks lines kind) || kind_holds holds lines kind
+
+-- all match lines hold
 abbrev pub lines_hold : (Match → Bool) → List Match → Bool
-lines_hold holds lines = list_all (λ line. kind_holds holds lines (kind_of line)) lines
+lines_hold holds lines =
+    (kind_passes holds lines 0 && kind_passes holds lines 1) && (kind_passes holds lines 2 && kind_passes holds lines 3)

@@ -1,7 +1,7 @@
 //! The match lines of a route map.
 
 ghost use Rattle.std.specs.Prelude.{◌≡◌, ◌==◌, ◌&&◌};
-ghost use Rattle.ios_ast.specs.Matching.{access_named, prefixes_named, communities_named, paths_named, names_of, list_permits, line_holds, lines_hold, kind_of, kind_holds, header_of_prefix};
+ghost use Rattle.ios_ast.specs.Matching.{access_named, prefixes_named, communities_named, paths_named, names_of, list_permits, line_holds, lines_hold, kind_of, kind_holds, kind_passes, asks, header_of_prefix};
 ghost use Rattle.ios_ast.specs.Maps.{route_taken};
 ghost use Rattle.policy_eval.specs.Attributes.{attributes_of};
 ghost use Rattle.policy_eval.specs.Header.{header_of};
@@ -131,16 +131,34 @@ fn kind_matches(policies: &Policies, p: &Prefix, rec: &BgpRec, lines: &[Match], 
     lines.iter().any(|other| kind(other) == wanted && line_matches(policies, p, rec, other))
 }
 
-/// Whether for each line one of its kind matches the route.
+/// Whether some line is of that kind.
+fn asks_for(lines: &[Match], wanted: u8) -> bool
+    ensures { result ≡ asks lines.now wanted }
+{
+    lines.iter().any(|line| kind(line) == wanted)
+}
+
+/// Whether the lines of that kind let the route through: one of them matches, or there is none.
+fn kind_lets_through(
+    policies: &Policies,
+    p: &Prefix,
+    rec: &BgpRec,
+    lines: &[Match],
+    wanted: u8,
+) -> bool
+    ensures { result ≡ kind_passes (line_holds policies.now p.now rec.now.path rec.now.communities) lines.now wanted }
+{
+    !asks_for(lines, wanted) || kind_matches(policies, p, rec, lines, wanted)
+}
+
+/// Whether for each kind of which there are lines one of them matches the route.
 fn lines_match(policies: &Policies, p: &Prefix, rec: &BgpRec, lines: &[Match]) -> bool
     ensures { result ≡ lines_hold (line_holds policies.now p.now rec.now.path rec.now.communities) lines.now }
 {
-    for line in lines {
-        if !kind_matches(policies, p, rec, lines, kind(line)) {
-            return false;
-        }
-    }
-    true
+    kind_lets_through(policies, p, rec, lines, 0)
+        && kind_lets_through(policies, p, rec, lines, 1)
+        && kind_lets_through(policies, p, rec, lines, 2)
+        && kind_lets_through(policies, p, rec, lines, 3)
 }
 
 /// Whether the match lines of the entry hold; an entry without one takes every route.

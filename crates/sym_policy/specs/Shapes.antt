@@ -88,14 +88,22 @@ shape_taken tracked s e = shape_matches tracked s e.pattern
 abbrev pub shape_permitted : List ℕ → PathShape → List AsPathEntry → Bool
 shape_permitted tracked s entries = first_permits (shape_taken tracked s) (λ e. e.permit) entries
 
+-- the answers of the community list and of the AS-path list of a name
+abbrev pub marks_named : Policies → List ℕ → List Bool → Use → Bool
+marks_named policies tracked marks named =
+    named_answer (λ l. l.name) (λ l. marks_permitted tracked marks l.entries) policies.communities named.name
+
+abbrev pub shape_named : Policies → List ℕ → PathShape → Use → Bool
+shape_named policies tracked path named =
+    named_answer (λ l. l.name) (λ l. shape_permitted tracked path l.entries) policies.as_paths named.name
+
 -- whether the list of that name and of the line's kind permits the route
 abbrev pub shape_list_permits : Policies → Tracked → Prefix → PathShape → List Bool → Match → Use → Bool
 shape_list_permits policies tracked p path marks (Access names) named = access_named policies p named
 shape_list_permits policies tracked p path marks (Prefixes names) named = prefixes_named policies p named
 shape_list_permits policies tracked p path marks (Communities names) named =
-    named_answer (λ l. l.name) (λ l. marks_permitted tracked.communities marks l.entries) policies.communities named.name
-shape_list_permits policies tracked p path marks (Paths names) named =
-    named_answer (λ l. l.name) (λ l. shape_permitted tracked.numbers path l.entries) policies.as_paths named.name
+    marks_named policies tracked.communities marks named
+shape_list_permits policies tracked p path marks (Paths names) named = shape_named policies tracked.numbers path named
 
 abbrev pub shape_line_holds : Policies → Tracked → Prefix → PathShape → List Bool → Match → Bool
 shape_line_holds policies tracked p path marks line =

@@ -10,8 +10,12 @@ ghost use Rattle.term_arith.specs.Bits.{bits, number, ids_end};
 ghost use Rattle.ios_ast.specs.Packets.{packet_permitted};
 ghost use Rattle.ios_ast.specs.Matching.{access_named, prefixes_named, header_of_prefix, names_of};
 ghost use Rattle.sym_policy.specs.Records.{prefix_of, packet_end, header_of};
+ghost use Rattle.sym_policy.specs.Routes.{path_at, path_end};
+ghost use Rattle.sym_policy.specs.Shapes.{marks_named, shape_named};
 
+use crate::lists::{sym_communities, sym_paths};
 use crate::packets::sym_access_list;
+use crate::parts::SymPath;
 use crate::prefixes::{high_bits, sym_prefix_list};
 use crate::records::SymPacket;
 use ios_ast::{AccessList, AsPathList, CommunityList, Match, Policies, PrefixList, Use};
@@ -197,6 +201,44 @@ fn sym_access_named(
 {
     match find_access(policies, named.name.as_slice()) {
         Some(list) => sym_access_of(alloc, terms, list, dst, len),
+        None => constant_node(terms, false),
+    }
+}
+
+/// Whether the community list of that name permits the marked communities. One that is not there denies.
+fn sym_communities_named(
+    terms: &mut Terms,
+    policies: &Policies,
+    tracked: &[u32],
+    marks: &[NodeId],
+    named: &Use,
+) -> Result<NodeId, AllocError>
+    requires { ids_end marks.now ≤ size terms.old }
+    ensures builds { Builds terms.old terms.new }
+    ensures within { IfOk result (λ r. r.0 < size terms.new) }
+    ensures value { Gives terms.new result (λ w r. at w r ≡ marks_named policies.now tracked.now (bits w marks.now) named.now) }
+{
+    match find_communities(policies, named.name.as_slice()) {
+        Some(list) => sym_communities(terms, tracked, marks, list.entries.as_slice()),
+        None => constant_node(terms, false),
+    }
+}
+
+/// Whether the AS-path list of that name permits the path. One that is not there denies.
+fn sym_paths_named(
+    terms: &mut Terms,
+    policies: &Policies,
+    tracked: &[u32],
+    path: &SymPath,
+    named: &Use,
+) -> Result<NodeId, AllocError>
+    requires { path_end path.now ≤ size terms.old }
+    ensures builds { Builds terms.old terms.new }
+    ensures within { IfOk result (λ r. r.0 < size terms.new) }
+    ensures value { Gives terms.new result (λ w r. at w r ≡ shape_named policies.now tracked.now (path_at w path.now) named.now) }
+{
+    match find_paths(policies, named.name.as_slice()) {
+        Some(list) => sym_paths(terms, tracked, path, list.entries.as_slice()),
         None => constant_node(terms, false),
     }
 }
