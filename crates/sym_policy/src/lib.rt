@@ -5,8 +5,9 @@
 #![tactic(auto)]
 
 mod entries;
+mod lines;
 mod lists;
-mod matches;
+mod named;
 mod packets;
 mod parts;
 mod prefixes;

@@ -1,4 +1,4 @@
-//! Match lines over terms.
+//! The lists that match lines name, over terms.
 
 ghost use Rattle.std.specs.Prelude.{◌≡◌, ◌==◌, ℕ, ◌+◌, ◌<◌, ◌≤◌, Bool, false, ◌&&◌, ◌||◌, ◌++◌, IfOk, length};
 ghost use Rattle.std.specs.List.{find, list_any};
@@ -74,7 +74,7 @@ fn find_paths<'a>(policies: &'a Policies, name: &[u8]) -> Option<&'a AsPathList>
 }
 
 /// Whether the prefix list of that name permits the prefix of that length of an address. One that is not there denies.
-fn sym_prefixes_named(
+pub(crate) fn sym_prefixes_named(
     alloc: Global,
     terms: &mut Terms,
     policies: &Policies,
@@ -184,7 +184,7 @@ fn sym_access_of(
 }
 
 /// Whether the access list of that name permits the network address of the prefix. One that is not there denies.
-fn sym_access_named(
+pub(crate) fn sym_access_named(
     alloc: Global,
     terms: &mut Terms,
     policies: &Policies,
@@ -206,7 +206,7 @@ fn sym_access_named(
 }
 
 /// Whether the community list of that name permits the marked communities. One that is not there denies.
-fn sym_communities_named(
+pub(crate) fn sym_communities_named(
     terms: &mut Terms,
     policies: &Policies,
     tracked: &[u32],
@@ -225,7 +225,7 @@ fn sym_communities_named(
 }
 
 /// Whether the AS-path list of that name permits the path. One that is not there denies.
-fn sym_paths_named(
+pub(crate) fn sym_paths_named(
     terms: &mut Terms,
     policies: &Policies,
     tracked: &[u32],
