@@ -110,3 +110,115 @@ fn sym_line(
     }
     Ok(any)
 }
+
+/// Whether a match line is of that kind and holds.
+fn sym_line_of(
+    alloc: Global,
+    terms: &mut Terms,
+    policies: &Policies,
+    tracked: &Tracked,
+    dst: &Bits,
+    len: u8,
+    route: &SymRoute,
+    line: &Match,
+    wanted: u8,
+) -> Result<NodeId, AllocError>
+    requires long { len ≤ 32 }
+    requires wide { length dst.now.nodes ≡ 32 }
+    requires dst { ids_end dst.now.nodes ≤ size terms.old }
+    requires nodes { route_end route.now ≤ size terms.old }
+    ensures builds { Builds terms.old terms.new }
+    ensures within { IfOk result (λ r. r.0 < size terms.new) }
+    ensures value { Gives terms.new result (λ w r. at w r ≡ ((kind_of line.now == wanted) && shape_line_holds policies.now tracked.now (prefix_of w dst.now len) (path_at w route.now.path) (bits w route.now.communities.nodes) line.now)) }
+{
+    if kind(line) == wanted {
+        sym_line(alloc, terms, policies, tracked, dst, len, route, line)
+    } else {
+        constant_node(terms, false)
+    }
+}
+
+/// Whether a line of that kind holds.
+fn sym_kind(
+    alloc: Global,
+    terms: &mut Terms,
+    policies: &Policies,
+    tracked: &Tracked,
+    dst: &Bits,
+    len: u8,
+    route: &SymRoute,
+    lines: &[Match],
+    wanted: u8,
+) -> Result<NodeId, AllocError>
+    requires long { len ≤ 32 }
+    requires wide { length dst.now.nodes ≡ 32 }
+    requires dst { ids_end dst.now.nodes ≤ size terms.old }
+    requires nodes { route_end route.now ≤ size terms.old }
+    ensures builds { Builds terms.old terms.new }
+    ensures within { IfOk result (λ r. r.0 < size terms.new) }
+    ensures value { Gives terms.new result (λ w r. at w r ≡ kind_holds (shape_line_holds policies.now tracked.now (prefix_of w dst.now len) (path_at w route.now.path) (bits w route.now.communities.nodes)) lines.now wanted) }
+{
+    let mut any = constant_node(terms, false)?;
+    for line in lines {
+        let holds =
+            sym_line_of(alloc, terms, policies, tracked, dst, len, route, line, wanted)?;
+        any = either(terms, any, holds)?;
+    }
+    Ok(any)
+}
+
+/// Whether the lines of that kind let the route through: one of them holds, or there is none.
+fn sym_kind_passes(
+    alloc: Global,
+    terms: &mut Terms,
+    policies: &Policies,
+    tracked: &Tracked,
+    dst: &Bits,
+    len: u8,
+    route: &SymRoute,
+    lines: &[Match],
+    wanted: u8,
+) -> Result<NodeId, AllocError>
+    requires long { len ≤ 32 }
+    requires wide { length dst.now.nodes ≡ 32 }
+    requires dst { ids_end dst.now.nodes ≤ size terms.old }
+    requires nodes { route_end route.now ≤ size terms.old }
+    ensures builds { Builds terms.old terms.new }
+    ensures within { IfOk result (λ r. r.0 < size terms.new) }
+    ensures value { Gives terms.new result (λ w r. at w r ≡ kind_passes (shape_line_holds policies.now tracked.now (prefix_of w dst.now len) (path_at w route.now.path) (bits w route.now.communities.nodes)) lines.now wanted) }
+{
+    if asks_for(lines, wanted) {
+        sym_kind(alloc, terms, policies, tracked, dst, len, route, lines, wanted)
+    } else {
+        constant_node(terms, true)
+    }
+}
+
+/// Whether the match lines of the entry hold; an entry without one takes every route.
+pub(crate) fn sym_takes(
+    alloc: Global,
+    terms: &mut Terms,
+    policies: &Policies,
+    tracked: &Tracked,
+    dst: &Bits,
+    len: u8,
+    route: &SymRoute,
+    entry: &MapEntry,
+) -> Result<NodeId, AllocError>
+    requires long { len ≤ 32 }
+    requires wide { length dst.now.nodes ≡ 32 }
+    requires dst { ids_end dst.now.nodes ≤ size terms.old }
+    requires nodes { route_end route.now ≤ size terms.old }
+    ensures builds { Builds terms.old terms.new }
+    ensures within { IfOk result (λ r. r.0 < size terms.new) }
+    ensures value { Gives terms.new result (λ w r. at w r ≡ shape_route_taken policies.now tracked.now (prefix_of w dst.now len) (route_at w route.now) entry.now) }
+{
+    let lines = entry.matches.as_slice();
+    let access = sym_kind_passes(alloc, terms, policies, tracked, dst, len, route, lines, 0)?;
+    let prefixes = sym_kind_passes(alloc, terms, policies, tracked, dst, len, route, lines, 1)?;
+    let communities = sym_kind_passes(alloc, terms, policies, tracked, dst, len, route, lines, 2)?;
+    let paths = sym_kind_passes(alloc, terms, policies, tracked, dst, len, route, lines, 3)?;
+    let first = both(terms, access, prefixes)?;
+    let second = both(terms, communities, paths)?;
+    both(terms, first, second)
+}
