@@ -8,6 +8,7 @@ mod entries;
 mod lines;
 mod lists;
 mod named;
+mod order;
 mod packets;
 mod parts;
 mod prefixes;
