@@ -5,3 +5,4 @@ pub mod Rows
 pub mod LowBits
 pub mod SetLines
 pub mod NetworkBits
+pub mod Decided

@@ -164,6 +164,11 @@ set_shapes tracked external s lines = fold (set_shape tracked external) s lines
 abbrev pub shape_made : Tracked → Bool → RouteShape → MapEntry → Option RouteShape
 shape_made tracked external s e = if e.permit then Some (set_shapes tracked external s e.sets) else None
 
+-- what an entry makes of a route that it takes, and else what those behind it made
+abbrev pub shape_after : Policies → Tracked → Prefix → Bool → RouteShape → MapEntry → Option RouteShape → Option RouteShape
+shape_after policies tracked p external s e behind =
+    if shape_route_taken policies tracked p s e then shape_made tracked external s e else behind
+
 -- what entries in their order make of a route: the first that takes it decides, and the end drops it
 abbrev pub shape_decided : Policies → Tracked → Prefix → Bool → RouteShape → List MapEntry → Option RouteShape
 shape_decided policies tracked p external s entries =
