@@ -8,6 +8,7 @@ mod decisions;
 mod entries;
 mod lines;
 mod lists;
+mod maps;
 mod named;
 mod order;
 mod packets;
