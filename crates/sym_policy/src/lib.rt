@@ -18,6 +18,7 @@ mod records;
 mod routes;
 mod sets;
 
+pub use maps::sym_route_map;
 pub use packets::sym_access_list;
 pub use prefixes::sym_prefix_list;
 pub use records::{SymBgp, SymMapRec, SymNet, SymOspf, SymPacket};

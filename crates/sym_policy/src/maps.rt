@@ -137,3 +137,82 @@ fn with_route(
     };
     Ok(SymMapRec { bgp, type1 })
 }
+
+/// What a route map makes of a route.
+fn sym_mapped(
+    alloc: Global,
+    terms: &mut Terms,
+    tracked: &Tracked,
+    policies: &Policies,
+    map: &RouteMap,
+    dst: &Bits,
+    len: u8,
+    route: &SymRoute,
+    external: bool,
+) -> Result<SymMade, AllocError>
+    requires long { len ≤ 32 }
+    requires wide { length dst.now.nodes ≡ 32 }
+    requires dst { ids_end dst.now.nodes ≤ size terms.old }
+    requires rows { HasRows tracked.now route.now }
+    requires nodes { route_end route.now ≤ size terms.old }
+    ensures builds { Builds terms.old terms.new }
+    ensures within { IfOk result (λ r. made_end r ≤ size terms.new) }
+    ensures rows { IfOk result (λ r. HasRows tracked.now r.route) }
+    ensures value { Gives terms.new result (λ w r. made_at w r ≡ shape_mapped policies.now map.now.entries tracked.now (prefix_of w dst.now len) external (route_at w route.now)) }
+{
+    let entries = ordered(alloc, map.entries.as_slice())?;
+    let made = sym_decided(
+        alloc,
+        terms,
+        policies,
+        tracked,
+        dst,
+        len,
+        external,
+        route,
+        entries.as_slice(),
+    )?;
+    Ok(made)
+}
+
+/// What the route map makes of a route to the prefix of that length of an address: the record is there where the map
+/// permits it. Each community and each number of a pattern `_N_` that lists test is to be tracked: where all are, and the
+/// record stands for a route whose path as the map leaves it is shorter than 2^32, the result stands for what the map
+/// makes of that route.
+pub fn sym_route_map(
+    alloc: Global,
+    terms: &mut Terms,
+    tracked: &Tracked,
+    policies: &Policies,
+    map: &RouteMap,
+    dst: &Bits,
+    len: u8,
+    rec: &SymMapRec,
+    side: Side,
+) -> Result<SymMapRec, AllocError>
+    requires long { len ≤ 32 }
+    requires wide { length dst.now.nodes ≡ 32 }
+    requires dst { ids_end dst.now.nodes ≤ size terms.old }
+    requires marks { HasMarks tracked.now rec.now }
+    requires nodes { map_rec_end rec.now ≤ size terms.old }
+    ensures builds { Builds terms.old terms.new }
+    ensures within { IfOk result (λ r. map_rec_end r ≤ size terms.new) }
+    ensures marks { IfOk result (λ r. HasMarks tracked.now r) }
+    ensures rest { IfOk result (λ r. KeepsRest rec.now r) }
+    ensures value { Gives terms.new result (λ w r. map_rec_at w r ≡ option_and_then (shape_mapped policies.now map.now.entries tracked.now (prefix_of w dst.now len) (at_external side)) (map_rec_at w rec.now)) }
+    ensures stands { Gives terms.new result (λ w r. (c : Attributes) → all_tracked tracked.now policies.now ≡ true
+        → map_rec_at w rec.now ≡ Some (route_shape tracked.now c)
+        → IfSome (mapped policies.now map.now.entries (prefix_of w dst.now len) (at_external side) c) (λ made. length made.path < 2 ^ 32)
+        → map_rec_at w r ≡ option_map (route_shape tracked.now) (mapped policies.now map.now.entries (prefix_of w dst.now len) (at_external side) c)) }
+{
+    let route = route_of(alloc, rec)?;
+    let external = side.is_external();
+    let made = sym_mapped(alloc, terms, tracked, policies, map, dst, len, &route, external)?;
+    let SymMade {
+        valid: permitted,
+        route: left,
+    } = made;
+    let valid = both(terms, rec.bgp.valid, permitted)?;
+    let mapped = with_route(alloc, rec, valid, left)?;
+    Ok(mapped)
+}
