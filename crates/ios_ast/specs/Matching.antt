@@ -1,6 +1,6 @@
 -- What the match lines of a route map test, by the lists that they name.
-use Rattle.std.specs.Prelude.{ℕ, ◌==◌, ◌&&◌, Bool, false, List}
-use Rattle.std.specs.List.{find, list_any, list_all}
+use Rattle.std.specs.Prelude.{ℕ, ◌==◌, ◌&&◌, ◌||◌, not, Bool, false, List}
+use Rattle.std.specs.List.{find, list_any}
 use Rattle.std.specs.Option.{option_map_or}
 use Rattle.mw_text.specs.declared.address.Prefix.{Prefix}
 use Rattle.mw_text.specs.Text.{same_text}
@@ -37,12 +37,23 @@ abbrev pub paths_named : Policies → List ℕ → Use → Bool
 paths_named policies path named =
     named_answer (λ l. l.name) (λ l. path_permitted l.entries path) policies.as_paths named.name
 
+-- the names of the lists of a match line
+abbrev pub names_of : Match → List Use
+names_of (Access names) = names
+names_of (Prefixes names) = names
+names_of (Communities names) = names
+names_of (Paths names) = names
+
+-- whether the list of that name and of the line's kind permits the route
+abbrev pub list_permits : Policies → Prefix → (path communities : List ℕ) → Match → Use → Bool
+list_permits policies p path communities (Access names) named = access_named policies p named
+list_permits policies p path communities (Prefixes names) named = prefixes_named policies p named
+list_permits policies p path communities (Communities names) named = communities_named policies communities named
+list_permits policies p path communities (Paths names) named = paths_named policies path named
+
 -- a match line holds where one of the lists that it names permits the route
 abbrev pub line_holds : Policies → Prefix → (path communities : List ℕ) → Match → Bool
-line_holds policies p path communities (Access names) = list_any (access_named policies p) names
-line_holds policies p path communities (Prefixes names) = list_any (prefixes_named policies p) names
-line_holds policies p path communities (Communities names) = list_any (communities_named policies communities) names
-line_holds policies p path communities (Paths names) = list_any (paths_named policies path) names
+line_holds policies p path communities line = list_any (list_permits policies p path communities line) (names_of line)
 
 -- the kind of a match line. An access list and prefix lists are two kinds
 abbrev pub kind_of : Match → ℕ
@@ -55,6 +66,15 @@ kind_of (Paths names) = 3
 abbrev pub kind_holds : (Match → Bool) → List Match → ℕ → Bool
 kind_holds holds lines kind = list_any (λ line. (kind_of line == kind) && holds line) lines
 
--- lines of one kind are alternatives: all hold where for each line one of its kind does
+-- some line is of that kind
+abbrev pub asks : List Match → ℕ → Bool
+asks lines kind = list_any (λ line. kind_of line == kind) lines
+
+-- lines of one kind are alternatives: where there are any, one holds
+abbrev pub kind_passes : (Match → Bool) → List Match → ℕ → Bool
+kind_passes holds lines kind = not (asks lines kind) || kind_holds holds lines kind
+
+-- all match lines hold
 abbrev pub lines_hold : (Match → Bool) → List Match → Bool
-lines_hold holds lines = list_all (λ line. kind_holds holds lines (kind_of line)) lines
+lines_hold holds lines =
+    (kind_passes holds lines 0 && kind_passes holds lines 1) && (kind_passes holds lines 2 && kind_passes holds lines 3)

@@ -1,22 +1,15 @@
 -- What route maps see of a record, and what they leave.
-use Rattle.std.specs.Prelude.{◌≡◌, ℕ, Bool, true, false}
+use Rattle.std.specs.Prelude.{◌≡◌, ℕ}
 use Rattle.ios_ast.specs.Setting.{Attributes}
 use Rattle.route_record.specs.declared.MapRec.{MapRec}
 use Rattle.route_record.specs.declared.Origin.{Origin}
 use Rattle.route_record.specs.declared.Origin.TheVariants.{Igp, Egp, Incomplete}
-use Rattle.route_record.specs.declared.Side.{Side}
-use Rattle.route_record.specs.declared.Side.TheVariants.{External, Internal, Redistribution}
 
 -- the codes of origins (RFC 4271, section 5.1.1)
 abbrev pub origin_code : Origin → ℕ
 origin_code Igp = 0
 origin_code Egp = 1
 origin_code Incomplete = 2
-
-abbrev pub is_external : Side → Bool
-is_external External = true
-is_external Internal = false
-is_external Redistribution = false
 
 -- what route maps see of a record and may set
 abbrev pub attributes_of : MapRec → Attributes

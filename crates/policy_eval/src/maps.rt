@@ -4,7 +4,8 @@ ghost use Rattle.std.specs.Prelude.{◌≡◌, Bool, if◌then◌else◌, Option
 ghost use Rattle.std.specs.Option.{option_copied, option_map};
 ghost use Rattle.ios_ast.specs.Deciding.{sooner};
 ghost use Rattle.ios_ast.specs.Maps.{deciding, mapped};
-ghost use Rattle.policy_eval.specs.Attributes.{attributes_of, is_external, KeepsRest};
+ghost use Rattle.policy_eval.specs.Attributes.{attributes_of, KeepsRest};
+ghost use Rattle.route_record.specs.Sides.{at_external};
 
 use crate::matches::takes_route;
 use crate::sets::set_lines;
@@ -81,16 +82,6 @@ fn copy_of(alloc: Global, rec: &MapRec) -> Result<MapRec, AllocError>
     })
 }
 
-/// Whether the side is an external session.
-fn external(side: Side) -> bool
-    ensures { result ≡ is_external side }
-{
-    match side {
-        Side::External => true,
-        Side::Internal | Side::Redistribution => false,
-    }
-}
-
 /// What the route map makes of a route to the prefix. None where its deciding entry denies, or no entry takes the route.
 pub fn route_map(
     alloc: Global,
@@ -100,13 +91,13 @@ pub fn route_map(
     rec: &MapRec,
     side: Side,
 ) -> Result<Option<MapRec>, AllocError>
-    ensures value { IfOk result (λ made. option_map attributes_of made ≡ mapped policies.now map.now.entries p.now (is_external side) (attributes_of rec.now)) }
+    ensures value { IfOk result (λ made. option_map attributes_of made ≡ mapped policies.now map.now.entries p.now (at_external side) (attributes_of rec.now)) }
     ensures rest { IfOk result (λ made. IfSome made (KeepsRest rec.now)) }
 {
     match deciding_entry(map, policies, p, rec) {
         Some(entry) if entry.permit => {
             let mut made = copy_of(alloc, rec)?;
-            set_lines(alloc, &mut made, entry.sets.as_slice(), external(side))?;
+            set_lines(alloc, &mut made, entry.sets.as_slice(), side.is_external())?;
             Ok(Some(made))
         }
         _ => Ok(None),

@@ -1,8 +1,7 @@
 //! The match lines of a route map.
 
 ghost use Rattle.std.specs.Prelude.{◌≡◌, ◌==◌, ◌&&◌};
-ghost use Rattle.std.specs.List.{list_any};
-ghost use Rattle.ios_ast.specs.Matching.{access_named, prefixes_named, communities_named, paths_named, line_holds, lines_hold, kind_of, kind_holds, header_of_prefix};
+ghost use Rattle.ios_ast.specs.Matching.{access_named, prefixes_named, communities_named, paths_named, names_of, list_permits, line_holds, lines_hold, kind_of, kind_holds, kind_passes, asks, header_of_prefix};
 ghost use Rattle.ios_ast.specs.Maps.{route_taken};
 ghost use Rattle.policy_eval.specs.Attributes.{attributes_of};
 ghost use Rattle.policy_eval.specs.Header.{header_of};
@@ -39,13 +38,6 @@ fn access_permits(policies: &Policies, p: &Prefix, named: &Use) -> bool
     false
 }
 
-/// Whether one of the access lists of these names does.
-fn any_access(policies: &Policies, p: &Prefix, names: &[Use]) -> bool
-    ensures { result ≡ list_any (access_named policies.now p.now) names.now }
-{
-    names.iter().any(|named| access_permits(policies, p, named))
-}
-
 /// Whether the prefix list of that name permits the prefix. One that is not there denies.
 fn prefixes_permit(policies: &Policies, p: &Prefix, named: &Use) -> bool
     ensures { result ≡ prefixes_named policies.now p.now named.now }
@@ -56,15 +48,6 @@ fn prefixes_permit(policies: &Policies, p: &Prefix, named: &Use) -> bool
         }
     }
     false
-}
-
-/// Whether one of the prefix lists of these names does.
-fn any_prefixes(policies: &Policies, p: &Prefix, names: &[Use]) -> bool
-    ensures { result ≡ list_any (prefixes_named policies.now p.now) names.now }
-{
-    names
-        .iter()
-        .any(|named| prefixes_permit(policies, p, named))
 }
 
 /// Whether the community list of that name permits the communities. One that is not there denies.
@@ -79,15 +62,6 @@ fn communities_permit(policies: &Policies, communities: &[u32], named: &Use) -> 
     false
 }
 
-/// Whether one of the community lists of these names does.
-fn any_communities(policies: &Policies, communities: &[u32], names: &[Use]) -> bool
-    ensures { result ≡ list_any (communities_named policies.now communities.now) names.now }
-{
-    names
-        .iter()
-        .any(|named| communities_permit(policies, communities, named))
-}
-
 /// Whether the AS-path list of that name permits the path. One that is not there denies.
 fn paths_permit(policies: &Policies, path: &[u32], named: &Use) -> bool
     ensures { result ≡ paths_named policies.now path.now named.now }
@@ -100,27 +74,42 @@ fn paths_permit(policies: &Policies, path: &[u32], named: &Use) -> bool
     false
 }
 
-/// Whether one of the AS-path lists of these names does.
-fn any_paths(policies: &Policies, path: &[u32], names: &[Use]) -> bool
-    ensures { result ≡ list_any (paths_named policies.now path.now) names.now }
+/// The names of the lists of a match line.
+fn names(line: &Match) -> &[Use]
+    ensures { result.now ≡ names_of line.now }
 {
-    names
-        .iter()
-        .any(|named| paths_permit(policies, path, named))
+    match line {
+        Match::Access(names)
+        | Match::Prefixes(names)
+        | Match::Communities(names)
+        | Match::Paths(names) => names.as_slice(),
+    }
+}
+
+/// Whether the list of that name and of the line's kind permits the route.
+fn permits(policies: &Policies, p: &Prefix, rec: &BgpRec, line: &Match, named: &Use) -> bool
+    ensures { result ≡ list_permits policies.now p.now rec.now.path rec.now.communities line.now named.now }
+{
+    match line {
+        Match::Access(_) => access_permits(policies, p, named),
+        Match::Prefixes(_) => prefixes_permit(policies, p, named),
+        Match::Communities(_) => {
+            communities_permit(policies, rec.communities.as_slice(), named)
+        }
+        Match::Paths(_) => paths_permit(policies, rec.path.as_slice(), named),
+    }
 }
 
 /// Whether one of the lists that a match line names permits the route.
 fn line_matches(policies: &Policies, p: &Prefix, rec: &BgpRec, line: &Match) -> bool
     ensures { result ≡ line_holds policies.now p.now rec.now.path rec.now.communities line.now }
 {
-    match line {
-        Match::Access(names) => any_access(policies, p, names.as_slice()),
-        Match::Prefixes(names) => any_prefixes(policies, p, names.as_slice()),
-        Match::Communities(names) => {
-            any_communities(policies, rec.communities.as_slice(), names.as_slice())
+    for named in names(line) {
+        if permits(policies, p, rec, line, named) {
+            return true;
         }
-        Match::Paths(names) => any_paths(policies, rec.path.as_slice(), names.as_slice()),
     }
+    false
 }
 
 /// The number of a match line's kind.
@@ -142,16 +131,34 @@ fn kind_matches(policies: &Policies, p: &Prefix, rec: &BgpRec, lines: &[Match], 
     lines.iter().any(|other| kind(other) == wanted && line_matches(policies, p, rec, other))
 }
 
-/// Whether for each line one of its kind matches the route.
+/// Whether some line is of that kind.
+fn asks_for(lines: &[Match], wanted: u8) -> bool
+    ensures { result ≡ asks lines.now wanted }
+{
+    lines.iter().any(|line| kind(line) == wanted)
+}
+
+/// Whether the lines of that kind let the route through: one of them matches, or there is none.
+fn kind_lets_through(
+    policies: &Policies,
+    p: &Prefix,
+    rec: &BgpRec,
+    lines: &[Match],
+    wanted: u8,
+) -> bool
+    ensures { result ≡ kind_passes (line_holds policies.now p.now rec.now.path rec.now.communities) lines.now wanted }
+{
+    !asks_for(lines, wanted) || kind_matches(policies, p, rec, lines, wanted)
+}
+
+/// Whether for each kind of which there are lines one of them matches the route.
 fn lines_match(policies: &Policies, p: &Prefix, rec: &BgpRec, lines: &[Match]) -> bool
     ensures { result ≡ lines_hold (line_holds policies.now p.now rec.now.path rec.now.communities) lines.now }
 {
-    for line in lines {
-        if !kind_matches(policies, p, rec, lines, kind(line)) {
-            return false;
-        }
-    }
-    true
+    kind_lets_through(policies, p, rec, lines, 0)
+        && kind_lets_through(policies, p, rec, lines, 1)
+        && kind_lets_through(policies, p, rec, lines, 2)
+        && kind_lets_through(policies, p, rec, lines, 3)
 }
 
 /// Whether the match lines of the entry hold; an entry without one takes every route.

@@ -92,6 +92,17 @@ pub enum Side {
     Redistribution,
 }
 
+impl Side {
+    ghost use Rattle.route_record.specs.Sides.{at_external};
+
+    /// Whether the route map is used on an external session.
+    pub fn is_external(self) -> bool
+        ensures { result ≡ at_external self }
+    {
+        matches!(self, Side::External)
+    }
+}
+
 /// What a route map acts on: a route, and whether it is redistributed into OSPF as one of type 1. A route that is not
 /// from BGP has an empty path and no communities, and its metric stands as the MED.
 #[derive(Debug, Drop)]

@@ -1,3 +1,4 @@
 pub mod NumberLemmas
 pub mod CountLemmas
 pub mod ValueLemmas
+pub mod MaskLemmas

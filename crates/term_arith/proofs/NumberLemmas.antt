@@ -9,7 +9,7 @@ use Rattle.std.proofs.lemmas.Grind.{common_steps}
 use Rattle.std.proofs.Math.Nat.{pow-suc, pow-succ', div-one, div-div-eq-div-mul, zero-div}
 use Rattle.term_store.specs.declared.NodeId.{NodeId}
 use Rattle.term_store.specs.Terms.{Reading, at, differ}
-use Rattle.term_arith.specs.Bits.{bit, bits, number, ids_end}
+use Rattle.term_arith.specs.Bits.{bit, bits, number, ids_end, variables}
 
 -- a bit is 0 or 1
 pub bit_small : (b : Bool) → bit b ≤ 1
@@ -158,3 +158,18 @@ ids_end_drop (id ∷ ids) (suc i) = let rest = ids_end_drop ids i in omega arith
 
 -- for a loop over nodes, in `using`: the usual steps on lists, and those on ends, bits and numbers
 pub ruleset node_steps = (common_steps, ids_end_at, ids_end_push, ids_end_take, ids_end_drop, bits_push, bits_take, number_drop, length_bits)
+
+-- one more variable
+pub variables_more : (w : Reading) (first count : ℕ)
+    → variables w first count ++ w.variable (first + count) ∷ [] ≡ variables w first (count + 1)
+variables_more w first zero = ap (λ n. w.variable n ∷ []) (omega arith)
+variables_more w first (suc count) =
+    let rest = variables_more w (first + 1) count in
+    let place : first + suc count ≡ first + 1 + count = omega arith in
+    let width : suc (count + 1) ≡ suc count + 1 = omega arith in
+    ap (λ n. (w.variable first ∷ variables w (first + 1) count) ++ w.variable n ∷ []) place
+    ∙ ap (λ bs. w.variable first ∷ bs) rest
+    ∙ ap (variables w first) width
+
+-- for a loop over new variables, in `using`
+pub ruleset fresh_steps = (common_steps, ids_end_push, bits_push, variables_more)

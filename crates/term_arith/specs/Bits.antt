@@ -1,5 +1,5 @@
 -- Numbers as lists of nodes, lowest bit first, and what a reading makes of them.
-use Rattle.std.specs.Prelude.{ℕ, ◌+◌, ◌*◌, max, Bool, true, false, ◌&&◌, ◌||◌, List, [], ◌∷◌, map}
+use Rattle.std.specs.Prelude.{ℕ, zero, suc, ◌+◌, ◌*◌, max, Bool, true, false, ◌&&◌, ◌||◌, List, [], ◌∷◌, map}
 use Rattle.term_store.specs.declared.NodeId.{NodeId}
 use Rattle.term_store.specs.Terms.{Reading, at}
 
@@ -20,6 +20,11 @@ bits w ids = map (at w) ids
 -- the number that a reading gives to nodes
 abbrev pub number : Reading → List NodeId → ℕ
 number w ids = number_of (bits w ids)
+
+-- the truth values that a reading gives to so many variables, from that number on
+abbrev pub variables : Reading → ℕ → ℕ → List Bool
+variables w first zero = []
+variables w first (suc count) = w.variable first ∷ variables w (first + 1) count
 
 -- the least size of a store that has all of these nodes
 abbrev pub ids_end : List NodeId → ℕ

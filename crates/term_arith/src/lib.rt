@@ -9,12 +9,15 @@ mod constants;
 mod count;
 pub mod gates;
 pub mod lists;
+mod masked;
 mod sum;
 mod values;
 
 pub use compare::{choose, equal, equal_number, less};
 pub use constants::constant;
 pub use count::at_most;
+pub use lists::{copy, fresh_bits};
+pub use masked::equal_masked;
 use mw_text::List;
 pub use sum::add;
 use term_store::NodeId;

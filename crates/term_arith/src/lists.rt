@@ -1,14 +1,15 @@
 //! Gates over lists of nodes.
 
-ghost use Rattle.std.specs.Prelude.{◌≡◌, ℕ, ◌+◌, ◌<◌, ◌≤◌, Bool, IfOk, OnOk, [], ◌∷◌, ◌++◌};
+ghost use Rattle.std.specs.Prelude.{◌≡◌, ℕ, ◌+◌, ◌<◌, ◌≤◌, Bool, IfOk, OnOk, [], ◌∷◌, ◌++◌, length};
 ghost use Rattle.std.specs.List.{list_all, list_any};
 ghost use Rattle.term_store.specs.Terms.{Reading, size, at};
-ghost use Rattle.term_store.specs.Reading.{Reads, Builds, Gives};
-ghost use Rattle.term_arith.specs.Bits.{ids_end};
+ghost use Rattle.term_store.specs.Reading.{Reads, Grows, Builds, Gives};
+ghost use Rattle.term_arith.specs.Bits.{bits, ids_end, variables};
 
+use crate::Bits;
 use crate::gates::{both, constant_node, either};
 use mw_text::List;
-use std::alloc::AllocError;
+use std::alloc::{AllocError, Global};
 use term_store::{NodeId, Terms};
 
 /// True where all nodes are.
@@ -39,6 +40,33 @@ pub fn any_of(terms: &mut Terms, ids: &[NodeId]) -> Result<NodeId, AllocError>
         any = either(terms, any, *id)?;
     }
     Ok(any)
+}
+
+/// A copy of a number's nodes.
+pub fn copy(alloc: Global, bits: &Bits) -> Result<Bits, AllocError>
+    ensures { IfOk result (λ r. r.nodes ≡ bits.now.nodes) }
+{
+    let items = Vec::from_slice(alloc, bits.nodes.as_slice())?;
+    Ok(Bits {
+        nodes: List { items },
+    })
+}
+
+/// A number of new variables, lowest bit first.
+#[tactic(auto, using(crate::proofs::NumberLemmas::fresh_steps))]
+pub fn fresh_bits(alloc: Global, terms: &mut Terms, width: u8) -> Result<Bits, AllocError>
+    ensures grows { Grows terms.old terms.new }
+    ensures within { IfOk result (λ r. ids_end r.nodes ≤ size terms.new) }
+    ensures width { IfOk result (λ r. length r.nodes ≡ width) }
+    ensures vars { OnOk result (terms.new.vars ≡ terms.old.vars + width) }
+    ensures value { Gives terms.new result (λ w r. bits w r.nodes ≡ variables w terms.old.vars width) }
+{
+    let mut nodes = List::new(alloc);
+    for i in 0..width {
+        let node = terms.fresh()?;
+        put(&mut nodes, node)?;
+    }
+    Ok(Bits { nodes })
 }
 
 /// Puts a node at the end of a list.

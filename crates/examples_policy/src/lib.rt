@@ -1,0 +1,7 @@
+//! Lists and route maps: worked cases, and random ones as terms against plain ones.
+#![tactic(auto)]
+
+#[cfg(test)]
+mod dice;
+#[cfg(test)]
+mod plain;

@@ -1,0 +1,5 @@
+pub mod Records
+pub mod Shapes
+pub mod Routes
+pub mod Order
+pub mod MapRecs

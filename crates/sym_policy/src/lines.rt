@@ -1,0 +1,224 @@
+//! Match lines over terms.
+
+ghost use Rattle.std.specs.Prelude.{◌≡◌, ◌==◌, ℕ, ◌+◌, ◌<◌, ◌≤◌, Bool, false, not, ◌&&◌, ◌||◌, IfOk, length};
+ghost use Rattle.std.specs.List.{list_any};
+ghost use Rattle.term_store.specs.Terms.{Reading, size, at};
+ghost use Rattle.term_store.specs.Reading.{Reads, Builds, Gives};
+ghost use Rattle.term_arith.specs.Bits.{bits, ids_end};
+ghost use Rattle.ios_ast.specs.Matching.{names_of, kind_of, asks, kind_holds, kind_passes};
+ghost use Rattle.sym_policy.specs.Records.{prefix_of};
+ghost use Rattle.sym_policy.specs.Routes.{path_at, route_at, route_end};
+ghost use Rattle.sym_policy.specs.Shapes.{shape_list_permits, shape_line_holds, shape_route_taken};
+
+use crate::named::{sym_access_named, sym_communities_named, sym_paths_named, sym_prefixes_named};
+use crate::parts::SymRoute;
+use ios_ast::{MapEntry, Match, Policies, Use};
+use route_record::Tracked;
+use std::alloc::{AllocError, Global};
+use term_arith::Bits;
+use term_arith::gates::{both, constant_node, either};
+use term_store::{NodeId, Terms};
+
+/// The names of the lists of a match line.
+fn names(line: &Match) -> &[Use]
+    ensures { result.now ≡ names_of line.now }
+{
+    match line {
+        Match::Access(names)
+        | Match::Prefixes(names)
+        | Match::Communities(names)
+        | Match::Paths(names) => names.as_slice(),
+    }
+}
+
+/// The number of a match line's kind.
+fn kind(line: &Match) -> u8
+    ensures { result ≡ kind_of line.now }
+{
+    match line {
+        Match::Access(_) => 0,
+        Match::Prefixes(_) => 1,
+        Match::Communities(_) => 2,
+        Match::Paths(_) => 3,
+    }
+}
+
+/// Whether some line is of that kind.
+fn asks_for(lines: &[Match], wanted: u8) -> bool
+    ensures { result ≡ asks lines.now wanted }
+{
+    lines.iter().any(|line| kind(line) == wanted)
+}
+
+/// Whether the list of that name and of the line's kind permits the route.
+fn sym_list_permits(
+    alloc: Global,
+    terms: &mut Terms,
+    policies: &Policies,
+    tracked: &Tracked,
+    dst: &Bits,
+    len: u8,
+    route: &SymRoute,
+    line: &Match,
+    named: &Use,
+) -> Result<NodeId, AllocError>
+    requires long { len ≤ 32 }
+    requires wide { length dst.now.nodes ≡ 32 }
+    requires dst { ids_end dst.now.nodes ≤ size terms.old }
+    requires nodes { route_end route.now ≤ size terms.old }
+    ensures builds { Builds terms.old terms.new }
+    ensures within { IfOk result (λ r. r.0 < size terms.new) }
+    ensures value { Gives terms.new result (λ w r. at w r ≡ shape_list_permits policies.now tracked.now (prefix_of w dst.now len) (path_at w route.now.path) (bits w route.now.communities.nodes) line.now named.now) }
+{
+    match line {
+        Match::Access(_) => sym_access_named(alloc, terms, policies, dst, len, named),
+        Match::Prefixes(_) => sym_prefixes_named(alloc, terms, policies, dst, len, named),
+        Match::Communities(_) => {
+            let marks = route.communities.nodes.as_slice();
+            sym_communities_named(terms, policies, tracked.communities.as_slice(), marks, named)
+        }
+        Match::Paths(_) => {
+            sym_paths_named(terms, policies, tracked.numbers.as_slice(), &route.path, named)
+        }
+    }
+}
+
+/// Whether one of the lists that a match line names permits the route.
+fn sym_line(
+    alloc: Global,
+    terms: &mut Terms,
+    policies: &Policies,
+    tracked: &Tracked,
+    dst: &Bits,
+    len: u8,
+    route: &SymRoute,
+    line: &Match,
+) -> Result<NodeId, AllocError>
+    requires long { len ≤ 32 }
+    requires wide { length dst.now.nodes ≡ 32 }
+    requires dst { ids_end dst.now.nodes ≤ size terms.old }
+    requires nodes { route_end route.now ≤ size terms.old }
+    ensures builds { Builds terms.old terms.new }
+    ensures within { IfOk result (λ r. r.0 < size terms.new) }
+    ensures value { Gives terms.new result (λ w r. at w r ≡ shape_line_holds policies.now tracked.now (prefix_of w dst.now len) (path_at w route.now.path) (bits w route.now.communities.nodes) line.now) }
+{
+    let mut any = constant_node(terms, false)?;
+    for named in names(line) {
+        let permits =
+            sym_list_permits(alloc, terms, policies, tracked, dst, len, route, line, named)?;
+        any = either(terms, any, permits)?;
+    }
+    Ok(any)
+}
+
+/// Whether a match line is of that kind and holds.
+fn sym_line_of(
+    alloc: Global,
+    terms: &mut Terms,
+    policies: &Policies,
+    tracked: &Tracked,
+    dst: &Bits,
+    len: u8,
+    route: &SymRoute,
+    line: &Match,
+    wanted: u8,
+) -> Result<NodeId, AllocError>
+    requires long { len ≤ 32 }
+    requires wide { length dst.now.nodes ≡ 32 }
+    requires dst { ids_end dst.now.nodes ≤ size terms.old }
+    requires nodes { route_end route.now ≤ size terms.old }
+    ensures builds { Builds terms.old terms.new }
+    ensures within { IfOk result (λ r. r.0 < size terms.new) }
+    ensures value { Gives terms.new result (λ w r. at w r ≡ ((kind_of line.now == wanted) && shape_line_holds policies.now tracked.now (prefix_of w dst.now len) (path_at w route.now.path) (bits w route.now.communities.nodes) line.now)) }
+{
+    if kind(line) == wanted {
+        sym_line(alloc, terms, policies, tracked, dst, len, route, line)
+    } else {
+        constant_node(terms, false)
+    }
+}
+
+/// Whether a line of that kind holds.
+fn sym_kind(
+    alloc: Global,
+    terms: &mut Terms,
+    policies: &Policies,
+    tracked: &Tracked,
+    dst: &Bits,
+    len: u8,
+    route: &SymRoute,
+    lines: &[Match],
+    wanted: u8,
+) -> Result<NodeId, AllocError>
+    requires long { len ≤ 32 }
+    requires wide { length dst.now.nodes ≡ 32 }
+    requires dst { ids_end dst.now.nodes ≤ size terms.old }
+    requires nodes { route_end route.now ≤ size terms.old }
+    ensures builds { Builds terms.old terms.new }
+    ensures within { IfOk result (λ r. r.0 < size terms.new) }
+    ensures value { Gives terms.new result (λ w r. at w r ≡ kind_holds (shape_line_holds policies.now tracked.now (prefix_of w dst.now len) (path_at w route.now.path) (bits w route.now.communities.nodes)) lines.now wanted) }
+{
+    let mut any = constant_node(terms, false)?;
+    for line in lines {
+        let holds =
+            sym_line_of(alloc, terms, policies, tracked, dst, len, route, line, wanted)?;
+        any = either(terms, any, holds)?;
+    }
+    Ok(any)
+}
+
+/// Whether the lines of that kind let the route through: one of them holds, or there is none.
+fn sym_kind_passes(
+    alloc: Global,
+    terms: &mut Terms,
+    policies: &Policies,
+    tracked: &Tracked,
+    dst: &Bits,
+    len: u8,
+    route: &SymRoute,
+    lines: &[Match],
+    wanted: u8,
+) -> Result<NodeId, AllocError>
+    requires long { len ≤ 32 }
+    requires wide { length dst.now.nodes ≡ 32 }
+    requires dst { ids_end dst.now.nodes ≤ size terms.old }
+    requires nodes { route_end route.now ≤ size terms.old }
+    ensures builds { Builds terms.old terms.new }
+    ensures within { IfOk result (λ r. r.0 < size terms.new) }
+    ensures value { Gives terms.new result (λ w r. at w r ≡ kind_passes (shape_line_holds policies.now tracked.now (prefix_of w dst.now len) (path_at w route.now.path) (bits w route.now.communities.nodes)) lines.now wanted) }
+{
+    if asks_for(lines, wanted) {
+        sym_kind(alloc, terms, policies, tracked, dst, len, route, lines, wanted)
+    } else {
+        constant_node(terms, true)
+    }
+}
+
+/// Whether the match lines of the entry hold; an entry without one takes every route.
+pub(crate) fn sym_takes(
+    alloc: Global,
+    terms: &mut Terms,
+    policies: &Policies,
+    tracked: &Tracked,
+    dst: &Bits,
+    len: u8,
+    route: &SymRoute,
+    entry: &MapEntry,
+) -> Result<NodeId, AllocError>
+    requires long { len ≤ 32 }
+    requires wide { length dst.now.nodes ≡ 32 }
+    requires dst { ids_end dst.now.nodes ≤ size terms.old }
+    requires nodes { route_end route.now ≤ size terms.old }
+    ensures builds { Builds terms.old terms.new }
+    ensures within { IfOk result (λ r. r.0 < size terms.new) }
+    ensures value { Gives terms.new result (λ w r. at w r ≡ shape_route_taken policies.now tracked.now (prefix_of w dst.now len) (route_at w route.now) entry.now) }
+{
+    let lines = entry.matches.as_slice();
+    let access = sym_kind_passes(alloc, terms, policies, tracked, dst, len, route, lines, 0)?;
+    let prefixes = sym_kind_passes(alloc, terms, policies, tracked, dst, len, route, lines, 1)?;
+    let communities = sym_kind_passes(alloc, terms, policies, tracked, dst, len, route, lines, 2)?;
+    let paths = sym_kind_passes(alloc, terms, policies, tracked, dst, len, route, lines, 3)?;
+    let first = both(terms, access, prefixes)?;
+    let second = both(terms, communities, paths)?;
+    both(terms, first, second)
+}

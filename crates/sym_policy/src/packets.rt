@@ -1,0 +1,136 @@
+//! Access lists over terms.
+
+ghost use Rattle.std.specs.Prelude.{◌≡◌, ◌==◌, ℕ, ◌+◌, ◌<◌, ◌≤◌, ◌^◌, Bool, true, not, ◌&&◌, nat_le, IfOk, length};
+ghost use Rattle.std.specs.Option.{option_map_or};
+ghost use Rattle.term_store.specs.Terms.{Reading, size, at};
+ghost use Rattle.term_store.specs.Reading.{Reads, Builds, Gives};
+ghost use Rattle.term_arith.specs.Bits.{number, ids_end};
+ghost use Rattle.ios_ast.specs.Packets.{address_matches, port_matches, packet_taken, packet_permitted};
+ghost use Rattle.sym_policy.specs.Records.{header_of, packet_end};
+
+use crate::records::SymPacket;
+use ios_ast::{AccessEntry, AccessList, Ports, Wild};
+use std::alloc::{AllocError, Global};
+use term_arith::gates::{both, constant_node, negate, select};
+use term_arith::{Bits, constant, equal_masked, equal_number, less};
+use term_store::{NodeId, Terms};
+
+/// Whether a field is the protocol, where one is asked for.
+fn sym_proto(terms: &mut Terms, proto: Option<u8>, field: &Bits) -> Result<NodeId, AllocError>
+    requires { ids_end field.now.nodes ≤ size terms.old }
+    ensures builds { Builds terms.old terms.new }
+    ensures within { IfOk result (λ r. r.0 < size terms.new) }
+    ensures value { Gives terms.new result (λ w r. at w r ≡ option_map_or (λ n. number w field.now.nodes == n) proto true) }
+{
+    match proto {
+        Some(wanted) => equal_number(terms, field.nodes.as_slice(), u64::from(wanted)),
+        None => constant_node(terms, true),
+    }
+}
+
+/// Whether an address agrees with the pattern's in each bit that the wildcard mask has 0.
+fn sym_address(terms: &mut Terms, pattern: Wild, address: &Bits) -> Result<NodeId, AllocError>
+    requires { ids_end address.now.nodes ≤ size terms.old }
+    ensures builds { Builds terms.old terms.new }
+    ensures within { IfOk result (λ r. r.0 < size terms.new) }
+    ensures value { Gives terms.new result (λ w r. at w r ≡ address_matches pattern (number w address.now.nodes)) }
+{
+    equal_masked(
+        terms,
+        address.nodes.as_slice(),
+        u64::from(pattern.addr.0),
+        u64::from(pattern.wild),
+    )
+}
+
+/// Whether a port is in a range, by two comparisons with constants.
+fn sym_range(
+    alloc: Global,
+    terms: &mut Terms,
+    low: u16,
+    high: u16,
+    port: &Bits,
+) -> Result<NodeId, AllocError>
+    requires wide { length port.now.nodes ≡ 16 }
+    requires nodes { ids_end port.now.nodes ≤ size terms.old }
+    ensures builds { Builds terms.old terms.new }
+    ensures within { IfOk result (λ r. r.0 < size terms.new) }
+    ensures value { Gives terms.new result (λ w r. at w r ≡ (nat_le low (number w port.now.nodes) && nat_le (number w port.now.nodes) high)) }
+{
+    let least = constant(alloc, terms, u64::from(low), 16)?;
+    let below = less(terms, port, &least)?;
+    let greatest = constant(alloc, terms, u64::from(high), 16)?;
+    let above = less(terms, &greatest, port)?;
+    let not_below = negate(terms, below)?;
+    let not_above = negate(terms, above)?;
+    both(terms, not_below, not_above)
+}
+
+/// Whether the ports have this one.
+fn sym_port(
+    alloc: Global,
+    terms: &mut Terms,
+    ports: Ports,
+    port: &Bits,
+) -> Result<NodeId, AllocError>
+    requires wide { length port.now.nodes ≡ 16 }
+    requires nodes { ids_end port.now.nodes ≤ size terms.old }
+    ensures builds { Builds terms.old terms.new }
+    ensures within { IfOk result (λ r. r.0 < size terms.new) }
+    ensures value { Gives terms.new result (λ w r. at w r ≡ port_matches ports (number w port.now.nodes)) }
+{
+    match ports {
+        Ports::Any => constant_node(terms, true),
+        Ports::Range(low, high) => sym_range(alloc, terms, low, high, port),
+        Ports::Not(other) => {
+            let same = equal_number(terms, port.nodes.as_slice(), u64::from(other))?;
+            negate(terms, same)
+        }
+        Ports::Empty => constant_node(terms, false),
+    }
+}
+
+/// Whether each test of the entry holds.
+fn sym_entry(
+    alloc: Global,
+    terms: &mut Terms,
+    entry: &AccessEntry,
+    packet: &SymPacket,
+) -> Result<NodeId, AllocError>
+    requires { packet_end packet.now ≤ size terms.old }
+    ensures builds { Builds terms.old terms.new }
+    ensures within { IfOk result (λ r. r.0 < size terms.new) }
+    ensures value { Gives terms.new result (λ w r. at w r ≡ packet_taken entry.now (header_of w packet.now)) }
+{
+    let proto = sym_proto(terms, entry.proto, &packet.proto)?;
+    let src = sym_address(terms, entry.src, &packet.src)?;
+    let sport = sym_port(alloc, terms, entry.sport, &packet.sport)?;
+    let dst = sym_address(terms, entry.dst, &packet.dst)?;
+    let dport = sym_port(alloc, terms, entry.dport, &packet.dport)?;
+    let from = both(terms, src, sport)?;
+    let to = both(terms, dst, dport)?;
+    let ends = both(terms, from, to)?;
+    both(terms, proto, ends)
+}
+
+/// Whether the access list permits the packet: its first entry that takes it decides, and the end denies.
+pub fn sym_access_list(
+    alloc: Global,
+    terms: &mut Terms,
+    list: &AccessList,
+    packet: &SymPacket,
+) -> Result<NodeId, AllocError>
+    requires { packet_end packet.now ≤ size terms.old }
+    ensures builds { Builds terms.old terms.new }
+    ensures within { IfOk result (λ r. r.0 < size terms.new) }
+    ensures value { Gives terms.new result (λ w r. at w r ≡ packet_permitted list.now.entries (header_of w packet.now)) }
+{
+    let entries = list.entries.as_slice();
+    let mut rest = constant_node(terms, false)?;
+    for i in (0..entries.len()).rev() {
+        let takes = sym_entry(alloc, terms, &entries[i], packet)?;
+        let permit = constant_node(terms, entries[i].permit)?;
+        rest = select(terms, takes, permit, rest)?;
+    }
+    Ok(rest)
+}

@@ -1,0 +1,48 @@
+//! The part of a route that route maps see and may set, as terms.
+
+ghost use Rattle.std.specs.Prelude.{◌≡◌, length};
+
+use term_arith::Bits;
+use term_store::NodeId;
+
+/// A path by its shape: its length, its ends, and one node for each tracked number.
+#[derive(Debug, Drop)]
+pub(crate) struct SymPath {
+    pub len: Bits,
+    pub first: Bits,
+    pub last: Bits,
+    pub numbers: Bits,
+    pub ghost len_wide: { length len.nodes ≡ 32 },
+    pub ghost first_wide: { length first.nodes ≡ 32 },
+    pub ghost last_wide: { length last.nodes ≡ 32 },
+}
+
+/// The numbers by which routes are preferred.
+#[derive(Debug, Drop)]
+pub(crate) struct SymPreferences {
+    pub weight: Bits,
+    pub local_pref: Bits,
+    pub med: Bits,
+    pub origin: Bits,
+    pub ghost weight_wide: { length weight.nodes ≡ 32 },
+    pub ghost local_pref_wide: { length local_pref.nodes ≡ 32 },
+    pub ghost med_wide: { length med.nodes ≡ 32 },
+    pub ghost origin_wide: { length origin.nodes ≡ 2 },
+}
+
+/// What route maps see of a route: beside its path one node for each tracked community, and whether it is redistributed
+/// as one of type 1.
+#[derive(Debug, Drop)]
+pub(crate) struct SymRoute {
+    pub preferences: SymPreferences,
+    pub path: SymPath,
+    pub communities: Bits,
+    pub type1: NodeId,
+}
+
+/// What a route map makes of a route: the route, where `valid` is true.
+#[derive(Debug, Drop)]
+pub(crate) struct SymMade {
+    pub valid: NodeId,
+    pub route: SymRoute,
+}
