@@ -13,7 +13,7 @@ use Rattle.mw_text.specs.declared.address.Addr.{Addr}
 use Rattle.route_record.specs.declared.Failures.{Failures}
 use Rattle.route_record.specs.declared.OspfRec.{OspfRec}
 use Rattle.route_record.specs.declared.Tables.{Tables}
-use Rattle.net_model.specs.Ospf.{adjacencies, advertised, is_matched, ospf_at, ospf_interfaces, running, up_adjacencies}
+use Rattle.net_model.specs.Ospf.{adjacencies, advertised, ospf_at, ospf_interfaces, running_in, up_adjacencies}
 use Rattle.net_model.specs.Sending.{sent_by_ospf, sent_towards}
 use Rattle.net_model.specs.World.{is_joined_by, is_link, links_of, put_in_order}
 
@@ -65,7 +65,7 @@ no_ends files all = rw (peerings-none files all) refl
 
 -- without BGP a link is where two routers meet
 is_link-joined : (files : List File) → list_all is_defined files ≡ true → (p : Prefix) →
-    list_any (is_joined_by (addressed files) p) (addressed files) ≡ is_link files p
+    list_any (is_joined_by (addressed files) p) (addressed files) ≡ is_link (addressed files) (peerings files) p
 is_link-joined files all p = rw (peerings-none files all) (or_false _)
   where
     or_false : (b : Bool) → b ≡ (b || false)
@@ -84,7 +84,7 @@ pub links_without_bgp : (files : List File) (all : List Addressed) (links : List
     links ≡ links_of files
 links_without_bgp files all links same defined made =
     let P : List Addressed → Type 0 = λ xs. links ≡ filter (λ p. list_any (is_joined_by xs p) xs) (fold put_in_order [] (map (λ x. x.subnet) xs)) in
-    subst P same made ∙ filter_same (λ p. list_any (is_joined_by (addressed files) p) (addressed files)) (is_link files) (is_link-joined files defined)
+    subst P same made ∙ filter_same (λ p. list_any (is_joined_by (addressed files) p) (addressed files)) (is_link (addressed files) (peerings files)) (is_link-joined files defined)
     (fold put_in_order [] (map (λ x. x.subnet) (addressed files)))
 
 two : (a b : Bool) → (a && b) ≡ true → (a ≡ true) × (b ≡ true)
@@ -133,9 +133,7 @@ no_ospf_at : (files : List File) → is_network files ≡ true → (x : Addresse
 no_ospf_at files network x = by_file (slice_get files x.id.router) (λ file is. (no_protocol files network x.id.router file is).0)
   where
     by_file : (found : Option File) → ((file : File) → found ≡ Some file → file.ospf ≡ None) →
-        option_and_then (λ file. option_and_then (λ process.
-        if is_matched process x.addr then option_map (λ iface. running process iface x) (slice_get file.interfaces x.id.at) else None)
-        file.ospf) found ≡ None
+        option_and_then (λ file. option_and_then (λ process. running_in file process x) file.ospf) found ≡ None
     by_file None none = refl
     by_file (Some file) none = rw (none file refl) refl
 

@@ -1,3 +1,4 @@
 pub mod Order
 pub mod Defined
 pub mod LeastWalks
+pub mod Peers

@@ -39,16 +39,22 @@ use Rattle.net_model.specs.Sessions.{ends_of, neighbour_of}
 abbrev pub highest : List Addr → Addr
 highest addresses = fold (λ best a. record { 0 = max best.0 a.0 }) (record { 0 = 0 }) addresses
 
--- the identifier of a router: as it is configured; else its highest loopback address; else its highest address; of
--- interfaces that are not shut down
+-- the identifier that the router's BGP process is given
+abbrev pub configured_id : List File → ℕ → Option Addr
+configured_id files router =
+    option_and_then (λ file. option_and_then (λ bgp. bgp.router_id) file.bgp) (slice_get files router)
+
+-- the highest loopback address of some interfaces; else their highest address
+abbrev pub id_by_addresses : List Addressed → Addr
+id_by_addresses own =
+    if list_any (λ x. x.loopback) own then highest (map (λ x. x.addr) (filter (λ x. x.loopback) own))
+    else highest (map (λ x. x.addr) own)
+
+-- the identifier of a router: as it is configured; else by the addresses of its interfaces that are not shut down
 unfoldable pub router_id : List File → ℕ → Addr
 router_id files router =
-    unwrap_or (option_and_then (λ file. option_and_then (λ bgp. bgp.router_id) file.bgp) (slice_get files router))
-    (if list_any (λ x. x.loopback) own then highest (map (λ x. x.addr) (filter (λ x. x.loopback) own))
-    else highest (map (λ x. x.addr) own))
-  where
-    own : List Addressed
-    own = filter (λ x. (x.id.router == router) && not x.shutdown) (addressed files)
+    unwrap_or (configured_id files router)
+    (id_by_addresses (filter (λ x. (x.id.router == router) && not x.shutdown) (addressed files)))
 
 -- a reflector has a client among its neighbours (RFC 4456, section 6). Its cluster identifier is its router identifier
 abbrev pub is_reflector : Bgp → Bool
@@ -186,7 +192,7 @@ sent files file process neighbour end p held =
     message r =
         if end.internal then internal_message files end.router neighbour (own_address files end) held r
         else external_message process neighbour (own_address files end)
-            (length held.path == 0 || sets_metric file.policies neighbour.map_out p (attributes_of held)) held r
+        (length held.path == 0 || sets_metric file.policies neighbour.map_out p (attributes_of held)) held r
 
 -- what the router at an end sends over the session of the route that it holds for the prefix, if anything
 unfoldable pub exported : List File → SessionEnd → Prefix → BgpRec → Option BgpMsg
@@ -197,8 +203,14 @@ exported files end p held =
 -- what an external peer at that address announces, as a message
 abbrev pub announced_message : Addr → Announcement → BgpMsg
 announced_message peer a = record {
-  local_pref = None; path = a.path; origin = a.origin; med = Some a.med; communities = a.communities; next_hop = peer;
-  originator = None; clusters = [];
+  local_pref = None;
+  path = a.path;
+  origin = a.origin;
+  med = Some a.med;
+  communities = a.communities;
+  next_hop = peer;
+  originator = None;
+  clusters = [];
 }
 
 -- ---- import

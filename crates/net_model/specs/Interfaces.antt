@@ -1,8 +1,11 @@
 -- The interfaces of a network that have an address, and their subnets.
-use Rattle.std.specs.Prelude.{ℕ, ◌+◌, Bool, List, [], ◌∷◌, ◌++◌, codes, map, take}
+use Rattle.std.specs.Prelude.{ℕ, ◌+◌, ◌==◌, Bool, List, [], ◌∷◌, ◌++◌, codes, map, take, Option, option_map}
+use Rattle.std.specs.List.{find}
 use Rattle.std.specs.Option.{option_map_or}
 use Rattle.std.specs.Char.{to_ascii_lowercase}
-use Rattle.mw_text.specs.Address.{prefix_at}
+use Rattle.mw_text.specs.declared.address.Addr.{Addr}
+use Rattle.mw_text.specs.declared.address.Prefix.{Prefix}
+use Rattle.mw_text.specs.Address.{covers, prefix_at}
 use Rattle.mw_text.specs.Text.{same_text}
 use Rattle.ios_ast.specs.declared.file.File.{File}
 use Rattle.ios_ast.specs.declared.file.Iface.{Iface}
@@ -39,3 +42,11 @@ addressed_routers router (file ∷ rest) = addressed_from router 0 file.interfac
 -- all interfaces of the files that have an address, in the order of the files
 abbrev pub addressed : List File → List Addressed
 addressed files = addressed_routers 0 files
+
+-- the interface that has the address
+abbrev pub owner : List File → Addr → Option IfaceId
+owner files a = option_map (λ x. x.id) (find (λ x. x.addr.0 == a.0) (addressed files))
+
+-- the subnet of an interface that contains the address
+abbrev pub subnet_of : List File → Addr → Option Prefix
+subnet_of files a = option_map (λ x. x.subnet) (find (λ x. covers x.subnet a) (addressed files))

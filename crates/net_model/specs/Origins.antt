@@ -58,7 +58,13 @@ is_from _ _ = false
 -- type, and of a BGP route its path and communities
 abbrev pub plain_route : Redist → ℕ → Attributes
 plain_route line metric = record {
-  weight = 0; local_pref = 0; med = unwrap_or line.metric metric; origin = 2; path = []; communities = []; type1 = line.type1;
+  weight = 0;
+  local_pref = 0;
+  med = unwrap_or line.metric metric;
+  origin = 2;
+  path = [];
+  communities = [];
+  type1 = line.type1;
 }
 
 abbrev pub redistributed_route : Redist → Slot → Option Attributes
@@ -106,8 +112,16 @@ redistributed file process p slot =
 -- a local route has weight 32768, local preference 100, no next hop and an empty path
 abbrev pub local_route : Origin → ℕ → BgpRec
 local_route origin med = record {
-  from = Local; weight = 32768; local_pref = 100; path = []; origin = origin; med = med; communities = [];
-  next_hop = record { 0 = 0 }; originator = None; clusters = [];
+  from = Local;
+  weight = 32768;
+  local_pref = 100;
+  path = [];
+  origin = origin;
+  med = med;
+  communities = [];
+  next_hop = record { 0 = 0 };
+  originator = None;
+  clusters = [];
 }
 
 -- the metric of an OSPF route: the cost of an internal one and of one of type 1, the metric of one of type 2

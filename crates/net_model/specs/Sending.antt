@@ -42,7 +42,11 @@ sent_towards files failures router a =
 -- what access lists test of a packet
 abbrev pub header_of : Packet → Header
 header_of packet = record {
-  src = packet.src.0; dst = packet.dst.0; proto = packet.proto; sport = packet.sport; dport = packet.dport;
+  src = packet.src.0;
+  dst = packet.dst.0;
+  proto = packet.proto;
+  sport = packet.sport;
+  dport = packet.dport;
 }
 
 -- the access list of that name in the file permits the packet; a list that is not there denies

@@ -1,28 +1,22 @@
 -- Ends of BGP sessions (RFC 4271, section 8; Cisco IOS, `neighbor remote-as` and `neighbor update-source`).
-use Rattle.std.specs.Prelude.{ℕ, ◌+◌, ◌==◌, ◌&&◌, ◌||◌, Bool, true, false, not, List, [], ◌∷◌, ◌++◌, filter, is_some, map, position, slice_get, Option, Some, None, option_and_then, unwrap_or, if◌then◌else◌}
+use Rattle.std.specs.Prelude.{ℕ, ◌+◌, ◌==◌, ◌&&◌, ◌||◌, Bool, true, false, not, List, [], ◌∷◌, ◌++◌, filter, is_some, length, map, nat_le, position, slice_get, Option, Some, None, option_and_then, unwrap_or, if◌then◌else◌}
 use Rattle.std.specs.List.{find, list_any}
 use Rattle.std.specs.Option.{option_map_or}
 use Rattle.mw_text.specs.Address.{covers, same_prefix}
 use Rattle.mw_text.specs.Text.{same_text}
 use Rattle.ios_ast.specs.declared.bgp.Neighbour.{Neighbour}
 use Rattle.ios_ast.specs.declared.file.File.{File}
+use Rattle.ios_ast.specs.declared.file.TheConstants.{MOST_NEIGHBOURS}
 use Rattle.net_model.specs.declared.interfaces.Addressed.{Addressed}
 use Rattle.net_model.specs.declared.sessions.Far.{Far}
 use Rattle.net_model.specs.declared.sessions.Far.TheVariants.{Outside, Inside}
+use Rattle.net_model.specs.declared.sessions.Peering.{Peering}
 use Rattle.net_model.specs.declared.sessions.SessionEnd.{SessionEnd}
 use Rattle.net_model.specs.Interfaces.{addressed}
 
 -- the router runs BGP
 abbrev pub runs_bgp : File → Bool
 runs_bgp file = is_some file.bgp
-
--- a neighbour line with the AS number of its router and the interface from which the router speaks to that neighbour
-pub record Peering : Type 0 where
-  pub router : ℕ
-  pub at : ℕ
-  pub asn : ℕ
-  pub neighbour : Neighbour
-  pub source : Addressed
 
 -- the interface has that name in the file of its router
 abbrev pub has_name : File → Addressed → List ℕ → Bool
@@ -34,18 +28,33 @@ abbrev pub speaks_from : File → Neighbour → Addressed → Bool
 speaks_from file neighbour x =
     option_map_or (λ named. has_name file x named.name) neighbour.source (covers x.subnet neighbour.addr)
 
+-- a neighbour line with the AS number of its router and the interface from which the router speaks to that neighbour
+abbrev pub peering : ℕ → ℕ → ℕ → Neighbour → Addressed → Peering
+peering router asn at neighbour source = record {
+  router = router;
+  at = at;
+  asn = asn;
+  neighbour = neighbour.addr;
+  remote = neighbour.asn;
+  shutdown = neighbour.shutdown;
+  source = source;
+}
+
 -- the neighbour lines of one router, from that place on, which have such an interface among the router's own
 abbrev pub peerings_from : List Addressed → ℕ → File → ℕ → ℕ → List Neighbour → List Peering
 peerings_from own router file asn at [] = []
 peerings_from own router file asn at (neighbour ∷ rest) =
-    option_map_or (λ source. record { router = router; at = at; asn = asn; neighbour = neighbour; source = source } ∷ [])
-    (find (speaks_from file neighbour) own) []
+    option_map_or (λ source. peering router asn at neighbour source ∷ []) (find (speaks_from file neighbour) own) []
     ++ peerings_from own router file asn (at + 1) rest
 
 -- those of one router
 abbrev pub peerings_of : List Addressed → ℕ → File → List Peering
 peerings_of all router file =
     option_map_or (λ bgp. peerings_from (filter (λ x. x.id.router == router) all) router file bgp.asn 0 bgp.neighbours) file.bgp []
+
+-- the router has not too many neighbour lines
+abbrev pub has_few_neighbours : File → Bool
+has_few_neighbours file = option_map_or (λ bgp. nat_le (length bgp.neighbours) MOST_NEIGHBOURS) file.bgp true
 
 -- those of the routers from that number on
 abbrev pub peerings_routers : List Addressed → ℕ → List File → List Peering
@@ -58,7 +67,7 @@ peerings files = peerings_routers (addressed files) 0 files
 
 -- the one names the other's address with the other's AS
 abbrev pub names_other : Peering → Peering → Bool
-names_other a b = (a.neighbour.addr.0 == b.source.addr.0) && (a.neighbour.asn == b.asn)
+names_other a b = (a.neighbour.0 == b.source.addr.0) && (a.remote == b.asn)
 
 -- two routers have a session where each names the other; over an external one both addresses are on one subnet
 abbrev pub meet : Peering → Peering → Bool
@@ -69,37 +78,36 @@ meet a b =
 -- an external peer: its address is no interface's of the files, and lies on the subnet of the router's own interface
 abbrev pub is_external_peer : List Addressed → Peering → Bool
 is_external_peer all a =
-    not (list_any (λ x. x.addr.0 == a.neighbour.addr.0) all) && covers a.source.subnet a.neighbour.addr
+    not (list_any (λ x. x.addr.0 == a.neighbour.0) all) && covers a.source.subnet a.neighbour
 
 -- the neighbour lines that are not shut down
 abbrev pub speaking : List File → List Peering
-speaking files = filter (λ a. not a.neighbour.shutdown) (peerings files)
+speaking files = filter (λ a. not a.shutdown) (peerings files)
 
 -- a session stands for each of these which meets that of another router, or names an external peer
-abbrev pub has_session : List File → Peering → Bool
-has_session files a = is_external_peer (addressed files) a || list_any (meet a) (speaking files)
+abbrev pub has_session : List Addressed → List Peering → Peering → Bool
+has_session all others a = is_external_peer all a || list_any (meet a) others
 
 unfoldable pub sessions : List File → List Peering
-sessions files = filter (has_session files) (speaking files)
+sessions files = filter (has_session (addressed files) (speaking files)) (speaking files)
 
 -- what lies at the far side: an external peer, or the end of the other router, by its place
-abbrev pub far_of : List File → Peering → Far
-far_of files a =
-    if is_external_peer (addressed files) a then Outside else Inside (unwrap_or (position (meet a) (sessions files)) 0)
+abbrev pub far_of : List Addressed → List Peering → Peering → Far
+far_of all others a = if is_external_peer all a then Outside else Inside (unwrap_or (position (meet a) others) 0)
 
-abbrev pub end_of : List File → Peering → SessionEnd
-end_of files a = record {
+abbrev pub end_of : List Addressed → List Peering → Peering → SessionEnd
+end_of all others a = record {
   router = a.router;
   neighbour = a.at;
-  far = far_of files a;
-  internal = a.asn == a.neighbour.asn;
+  far = far_of all others a;
+  internal = a.asn == a.remote;
   own = a.source.id;
-  shared = covers a.source.subnet a.neighbour.addr;
+  shared = covers a.source.subnet a.neighbour;
 }
 
 -- the ends of all sessions, by router and then by neighbour line
 unfoldable pub ends_of : List File → List SessionEnd
-ends_of files = map (end_of files) (sessions files)
+ends_of files = map (end_of (addressed files) (sessions files)) (sessions files)
 
 abbrev pub is_outside : Far → Bool
 is_outside Outside = true

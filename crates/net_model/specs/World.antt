@@ -10,6 +10,7 @@ use Rattle.route_record.specs.declared.Failures.{Failures}
 use Rattle.route_record.specs.declared.Environment.{Environment}
 use Rattle.net_model.specs.declared.interfaces.Addressed.{Addressed}
 use Rattle.route_record.specs.declared.TheConstants.{LENGTHS}
+use Rattle.net_model.specs.declared.sessions.Peering.{Peering}
 use Rattle.net_model.specs.declared.sessions.SessionEnd.{SessionEnd}
 use Rattle.net_model.specs.Interfaces.{addressed}
 use Rattle.net_model.specs.Sessions.{ends_of, external_ends, is_external_peer, is_outside, neighbour_of, peerings}
@@ -33,17 +34,16 @@ is_joined_by all p x =
     joins y = same_prefix y.subnet p && not (y.shutdown || y.loopback)
 
 -- an external peer lies on the subnet, which is no loopback's
-abbrev pub is_peered : List File → Prefix → Bool
-is_peered files p =
-    list_any (λ a. is_external_peer (addressed files) a && (same_prefix a.source.subnet p && not a.source.loopback)) (peerings files)
+abbrev pub is_peered_by : List Addressed → Prefix → Peering → Bool
+is_peered_by all p a = is_external_peer all a && (same_prefix a.source.subnet p && not a.source.loopback)
 
-abbrev pub is_link : List File → Prefix → Bool
-is_link files p = list_any (is_joined_by (addressed files) p) (addressed files) || is_peered files p
+abbrev pub is_link : List Addressed → List Peering → Prefix → Bool
+is_link all peers p = list_any (is_joined_by all p) all || list_any (is_peered_by all p) peers
 
 -- the links of a network: the subnets of no loopback on which at least two routers have an interface that is not shut
 -- down, or on which an external peer lies, in ascending order
 abbrev pub links_of : List File → List Prefix
-links_of files = filter (is_link files) (fold put_in_order [] (map (λ x. x.subnet) (addressed files)))
+links_of files = filter (is_link (addressed files) (peerings files)) (fold put_in_order [] (map (λ x. x.subnet) (addressed files)))
 
 -- numbers that ascend
 abbrev pub ascends : List ℕ → Bool

@@ -1,0 +1,98 @@
+//! Who has an address, and which interfaces are up while some links have failed.
+
+ghost use Rattle.std.specs.Prelude.{◌≡◌, ◌==◌, ◌&&◌, false, option_map, slice_get};
+ghost use Rattle.std.specs.List.{list_any, find};
+ghost use Rattle.std.specs.Option.{option_map_or};
+ghost use Rattle.mw_text.specs.Address.{covers, same_prefix};
+ghost use Rattle.net_model.specs.Interfaces as interfaces;
+ghost use Rattle.net_model.specs.Ospf as ospf;
+ghost use Rattle.net_model.specs.World as world;
+
+use crate::interfaces::{Addressed, IfaceId};
+use ios_ast::File;
+use mw_text::{Addr, Prefix, contains};
+use route_record::Failures;
+
+fn find_owner(addresses: &[Addressed], a: Addr) -> Option<Addressed>
+    ensures { result ≡ find (λ x. x.addr.0 == a.0) addresses.now }
+{
+    addresses.iter().copied().find(|x| x.addr == a)
+}
+
+/// The interface that has the address, shut down or not. None exactly where there is none.
+pub fn owner(files: &[File], addresses: &[Addressed], a: Addr) -> Option<IfaceId>
+    requires addresses { addresses.now ≡ interfaces.addressed files.now }
+    ensures { result ≡ interfaces.owner files.now a }
+{
+    let _routers = files.len();
+    match find_owner(addresses, a) {
+        None => None,
+        Some(x) => Some(x.id),
+    }
+}
+
+fn find_over(addresses: &[Addressed], a: Addr) -> Option<Addressed>
+    ensures { result ≡ find (λ x. covers x.subnet a) addresses.now }
+{
+    addresses.iter().copied().find(|x| contains(&x.subnet, a))
+}
+
+/// The subnet of an interface, shut down or not, that contains the address. None exactly where there is none.
+pub fn subnet_of(files: &[File], addresses: &[Addressed], a: Addr) -> Option<Prefix>
+    requires addresses { addresses.now ≡ interfaces.addressed files.now }
+    ensures { result ≡ interfaces.subnet_of files.now a }
+{
+    let _routers = files.len();
+    match find_over(addresses, a) {
+        None => None,
+        Some(x) => Some(x.subnet),
+    }
+}
+
+fn is_link_at(links: &[Prefix], at: u32, p: &Prefix) -> bool
+    ensures { result ≡ option_map_or (same_prefix p.now) (slice_get links.now at) false }
+{
+    match links.get(at as usize) {
+        None => false,
+        Some(link) => *p == *link,
+    }
+}
+
+fn is_failed(files: &[File], links: &[Prefix], failures: &Failures, p: &Prefix) -> bool
+    requires links { links.now ≡ world.links_of files.now }
+    ensures { result ≡ world.is_failed files.now failures.now p.now }
+{
+    let _routers = files.len();
+    failures
+        .links
+        .as_slice()
+        .iter()
+        .any(|at| is_link_at(links, *at, p))
+}
+
+fn is_up(files: &[File], links: &[Prefix], failures: &Failures, x: &Addressed) -> bool
+    requires links { links.now ≡ world.links_of files.now }
+    ensures { result ≡ world.is_up files.now failures.now x.now }
+{
+    !x.shutdown && !is_failed(files, links, failures, &x.subnet)
+}
+
+/// Whether the interface has an address, is not shut down, and its subnet is no failed link.
+pub fn is_up_at(
+    files: &[File],
+    addresses: &[Addressed],
+    links: &[Prefix],
+    failures: &Failures,
+    i: IfaceId,
+) -> bool
+    requires addresses { addresses.now ≡ interfaces.addressed files.now }
+    requires links { links.now ≡ world.links_of files.now }
+    ensures { result ≡ ospf.is_up_at files.now failures.now i }
+{
+    for x in addresses {
+        if x.id.router == i.router && x.id.at == i.at && is_up(files, links, failures, x) {
+            return true;
+        }
+    }
+    false
+}
