@@ -17,7 +17,8 @@ use Rattle.net_model.specs.declared.adjacencies.Adjacency.{Adjacency}
 use Rattle.net_model.specs.declared.interfaces.Addressed.{Addressed}
 use Rattle.net_model.specs.Distances.{distance_within, interior_distance, IsInteriorDistance, IsWalkSum, least, own_cost}
 use Rattle.net_model.specs.Interfaces.{addressed, addressed_from, addressed_iface, addressed_routers}
-use Rattle.net_model.specs.Ospf.{OspfInterface, adjacencies, adjacency, are_adjacent, is_matched, is_up_at, ospf_at, ospf_interfaces, running, up_adjacencies}
+use Rattle.net_model.specs.declared.ospf.OspfInterface.{OspfInterface}
+use Rattle.net_model.specs.Ospf.{adjacencies, adjacency, are_adjacent, is_matched, is_up_at, ospf_at, ospf_interfaces, running, up_adjacencies}
 
 -- ---- members of lists
 
