@@ -10,6 +10,8 @@ pub mod Mapping
 pub mod Origins
 pub mod OspfRoutes
 pub mod Exports
+pub mod Tracked
+pub mod Refusals
 pub mod Decisions
 pub mod Entries
 pub mod Sending

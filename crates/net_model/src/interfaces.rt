@@ -25,7 +25,8 @@ pub struct Addressed {
     pub shutdown: bool,
 }
 
-fn is_loopback_name(name: &[u8]) -> bool
+/// Whether an interface of that name is a loopback.
+pub fn is_loopback_name(name: &[u8]) -> bool
     ensures { result ≡ is_loopback name.now }
 {
     let kind = name.len().min(8);

@@ -2,8 +2,11 @@
 #![tactic(auto)]
 
 pub mod adjacencies;
+pub mod clashes;
+pub mod connections;
 pub mod interfaces;
 pub mod laws;
+pub mod lines;
 pub mod links;
 pub mod network;
 pub mod ospf;
@@ -12,10 +15,12 @@ pub mod router_ids;
 pub mod routing;
 pub mod sessions;
 pub mod states;
+pub mod tracking;
+pub mod undefined;
 
 pub use adjacencies::Adjacency;
 pub use interfaces::{Addressed, IfaceId};
 pub use network::{MOST_ROUTERS, Net};
 pub use ospf::OspfInterface;
-pub use refusals::MOST_FILES;
+pub use refusals::{MOST_FILES, NetCause, NetRefused, refuse};
 pub use sessions::{Far, Peering, SessionEnd};

@@ -73,7 +73,8 @@ fn all_names_differ(files: &[File]) -> bool
     true
 }
 
-fn prefixes_overlap(p: &Prefix, q: &Prefix) -> bool
+/// Whether one of two prefixes contains the other.
+pub fn prefixes_overlap(p: &Prefix, q: &Prefix) -> bool
     ensures { result ≡ overlap p.now q.now }
 {
     contains(p, q.addr) || contains(q, p.addr)
@@ -113,19 +114,22 @@ fn is_on_subnet(iface: &Iface, a: Addr) -> bool
     }
 }
 
-fn some_reaches(interfaces: &[Iface], a: Addr) -> bool
+/// Whether the address is on the subnet of an interface.
+pub fn some_reaches(interfaces: &[Iface], a: Addr) -> bool
     ensures { result ≡ list_any (reaches a) interfaces.now }
 {
     interfaces.iter().any(|iface| is_on_subnet(iface, a))
 }
 
-fn named_reaches(interfaces: &[Iface], name: &[u8], a: Addr) -> bool
+/// Whether the address is on the subnet of an interface of that name.
+pub fn named_reaches(interfaces: &[Iface], name: &[u8], a: Addr) -> bool
     ensures { result ≡ list_any (λ iface. same_text iface.name name.now && reaches a iface) interfaces.now }
 {
     interfaces.iter().any(|iface| same_bytes(iface.name.as_slice(), name) && is_on_subnet(iface, a))
 }
 
-fn route_is_connected(interfaces: &[Iface], route: &StaticRoute) -> bool
+/// Whether the next hop of a static route is on a subnet of its router, that of the interface which it names.
+pub fn route_is_connected(interfaces: &[Iface], route: &StaticRoute) -> bool
     ensures { result ≡ is_connected interfaces.now route.now }
 {
     match &route.via {
