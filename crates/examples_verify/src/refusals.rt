@@ -64,10 +64,10 @@ fn first_line_that_is_not_read_is_refused(rt: HostRuntime) -> Result<(), Fail> {
             " ip address 10.0.0.1 255.255.255.252\n",
             "refused n1.cfg:1 5 OutOfPlace\n",
         ),
-        ("hostname N2\n", "refused n1.cfg:0 3 NotBuilt\n"),
+        ("hostname N2\n", "refused n2.cfg:1 8 SameName\n"),
         (
             "hostname N1\nip route 10.2.0.1 255.255.255.255 10.0.0.2\n",
-            "refused n1.cfg:0 3 NotBuilt\n",
+            "refused n1.cfg:2 11 NextHopNotConnected\n",
         ),
     ];
     for (first, wanted) in cases {

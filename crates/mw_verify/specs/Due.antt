@@ -1,5 +1,5 @@
 -- What is due for words over the contents of files: usage, a refusal, or answers to questions over a network.
-use Rattle.std.specs.Prelude.{ℕ, ◌==◌, ◌&&◌, Bool, false, not, List, [], ◌∷◌, length, nat_lt, nat_le, codes, slice_index, slice_get, filter, is_none, position, fold, Option, Some, None, option_and_then, option_map, is_some, unwrap_or, Result, Ok, Err, if◌then◌else◌}
+use Rattle.std.specs.Prelude.{ℕ, ◌==◌, ◌&&◌, Bool, false, not, List, [], ◌∷◌, length, nat_lt, nat_le, codes, slice_index, slice_get, filter, is_none, position, min, Option, Some, None, option_and_then, option_map, is_some, unwrap_or, Result, Ok, Err, if◌then◌else◌}
 use Rattle.std.specs.List.{list_any}
 use Rattle.std.specs.Option.{option_map_or}
 use Rattle.mw_text.specs.Reading.{each, following}
@@ -7,9 +7,8 @@ use Rattle.mw_text.specs.Text.{same_text}
 use Rattle.mw_outside.specs.Contents.{Contents, get}
 use Rattle.ios_ast.specs.declared.file.File.{File}
 use Rattle.ios_policy_reader.specs.declared.cause.Refused.{Refused}
-use Rattle.ios_ast.specs.declared.file.Iface.{Iface}
-use Rattle.ios_ast.specs.declared.file.Use.{Use}
-use Rattle.ios_policy_reader.specs.declared.cause.Cause.TheVariants.{Undefined}
+use Rattle.net_model.specs.declared.refusals.NetRefused.{NetRefused}
+use Rattle.net_model.specs.Refusals.{first_refusal}
 use Rattle.ios_reader.specs.Reading.{reading}
 use Rattle.net_model.specs.Network.{is_network}
 use Rattle.question_lang.specs.declared.question.Question.{Question}
@@ -22,7 +21,7 @@ use Rattle.question_lang.specs.Asking.{asking, not_built}
 use Rattle.question_lang.specs.Single.{is_single}
 use Rattle.mw_verify.specs.declared.load.TheConstants.{DEFAULT_CONFLICTS, MOST_BYTES}
 use Rattle.mw_verify.specs.declared.text.Text.{Text}
-use Rattle.mw_verify.specs.Texts.{refusal, too_long, no_network}
+use Rattle.mw_verify.specs.Texts.{net_cause_text, no_network, refusal, refused_text, too_long}
 
 -- what the contents of files come to
 pub data Outcome : Type 0 where
@@ -65,49 +64,44 @@ abbrev pub first_name : List Text → List ℕ
 first_name [] = []
 first_name (text ∷ texts) = text.name
 
--- the refusal at the earlier line, each of which may not be there
-abbrev pub earlier : Option Refused → Option Refused → Option Refused
-earlier None b = b
-earlier (Some a) None = Some a
-earlier (Some a) (Some b) = if nat_lt b.line a.line then Some b else Some a
-
--- the file has an access list of that name; one without entries counts as none
-abbrev pub is_listed : File → Use → Bool
-is_listed file named = list_any (λ l. same_text l.name named.name && nat_lt 0 (length l.entries)) file.policies.access
-
--- an access list that is applied and that the file does not have
-abbrev pub undefined_use : File → Option Use → Option Refused
-undefined_use file used =
-    option_and_then (λ named. if is_listed file named then None else Some (record { line = named.line; cause = Undefined })) used
-
-abbrev pub unlisted : File → Iface → Option Refused
-unlisted file iface = earlier (undefined_use file iface.list_in) (undefined_use file iface.list_out)
-
--- the first line of a file for which `verify` cannot answer: its OSPF or BGP block, or one that applies an access list
--- which the file does not have
-abbrev pub unanswered : File → Option Refused
-unanswered file =
-    fold (λ why iface. earlier why (unlisted file iface))
-    (earlier (option_map (λ ospf. not_built ospf.line) file.ospf) (option_map (λ bgp. not_built bgp.line) file.bgp)) file.interfaces
-
 -- the name of the text of that number
 abbrev pub name_at : List Text → ℕ → List ℕ
 name_at texts at = option_map_or (λ text. text.name) (slice_get texts at) []
 
--- the refusal of the file of that number
-abbrev pub refused_at : List File → ℕ → Refused
-refused_at files at = unwrap_or (option_and_then unanswered (slice_get files at)) (not_built 0)
+-- the line of files that form no network: the file, the line and the rule that is broken first
+abbrev pub net_refusal : List Text → NetRefused → List ℕ
+net_refusal texts why = refused_text (name_at texts why.file) why.line (net_cause_text why.cause)
+
+-- the earlier of two lines, each of which may not be there
+abbrev pub earlier : Option ℕ → Option ℕ → Option ℕ
+earlier None b = b
+earlier (Some a) None = Some a
+earlier (Some a) (Some b) = Some (min a b)
+
+-- the first line of a file for which `verify` cannot answer yet: its OSPF or its BGP block
+abbrev pub unbuilt_line : File → Option ℕ
+unbuilt_line file = earlier (option_map (λ ospf. ospf.line) file.ospf) (option_map (λ bgp. bgp.line) file.bgp)
+
+-- such a line of the file of that number
+abbrev pub unbuilt_line_at : List File → ℕ → ℕ
+unbuilt_line_at files at = unwrap_or (option_and_then unbuilt_line (slice_get files at)) 0
 
 -- the first file that has such a line is refused at it
 abbrev pub unbuilt : List Text → List File → Option (List ℕ)
 unbuilt texts files =
-    option_map (λ at. refusal (name_at texts at) (refused_at files at)) (position (λ file. is_some (unanswered file)) files)
+    option_map (λ at. refusal (name_at texts at) (not_built (unbuilt_line_at files at)))
+    (position (λ file. is_some (unbuilt_line file)) files)
+
+-- files that break no rule of networks, and for which `verify` can answer
+abbrev pub answered_network : List Text → List File → Result (List File) Outcome
+answered_network texts files =
+    option_map_or (λ line. Err (refused line)) (unbuilt texts files)
+    (if is_network files then Ok files else Err (refused (no_network (first_name texts))))
 
 -- the files of some texts, where they are a network for which `verify` can answer
 abbrev pub network_of : List Text → List File → Result (List File) Outcome
 network_of texts files =
-    option_map_or (λ line. Err (refused line))
-    (unbuilt texts files) (if is_network files then Ok files else Err (refused (no_network (first_name texts))))
+    option_map_or (λ why. Err (refused (net_refusal texts why))) (first_refusal files) (answered_network texts files)
 
 -- the network of some texts
 abbrev pub network_due : List Text → Result (List File) Outcome

@@ -4,6 +4,9 @@ use Rattle.std.specs.Fmt.{decimal}
 use Rattle.ios_policy_reader.specs.declared.cause.Cause.{Cause}
 use Rattle.ios_policy_reader.specs.declared.cause.Cause.TheVariants.{UnknownCommand, BadWord, NotBuilt, Repeated, OutOfPlace, Limit, NoHostname, UnknownRouter, UnknownPeer, TooManyQuestions, Undefined, Memory}
 use Rattle.ios_policy_reader.specs.declared.cause.Refused.{Refused}
+use Rattle.net_model.specs.declared.refusals.NetCause.{NetCause}
+use Rattle.net_model.specs.declared.refusals.NetCause.TheVariants as net
+use Rattle.net_model.specs.declared.refusals.NetCause.TheVariants.{SameName, SameAddress, SubnetClash, NextHopNotConnected, ExternalInternalPeer, SecondArea, NetLimit}
 use Rattle.question_lang.specs.declared.question.Question.{Question}
 
 -- the line feed
@@ -24,6 +27,18 @@ cause_text UnknownPeer = codes "16 UnknownPeer"
 cause_text TooManyQuestions = codes "17 TooManyQuestions"
 cause_text NoHostname = codes "24 NoHostname"
 cause_text Memory = []
+
+-- a rule of networks by its number and its name
+abbrev pub net_cause_text : NetCause → List ℕ
+net_cause_text net.Undefined = codes "7 Undefined"
+net_cause_text SameName = codes "8 SameName"
+net_cause_text SameAddress = codes "9 SameAddress"
+net_cause_text SubnetClash = codes "10 SubnetClash"
+net_cause_text NextHopNotConnected = codes "11 NextHopNotConnected"
+net_cause_text ExternalInternalPeer = codes "12 ExternalInternalPeer"
+net_cause_text SecondArea = codes "13 SecondArea"
+net_cause_text NetLimit = codes "14 NetLimit"
+net_cause_text net.Memory = []
 
 -- refused FILE:LINE NUMBER CAUSE
 abbrev pub refused_text : List ℕ → ℕ → List ℕ → List ℕ

@@ -1,9 +1,8 @@
 //! Reads and parses the files that the words name.
 
-ghost use Rattle.std.specs.Prelude.{◌≡◌, ◌≢◌, ◌≤◌, ◌++◌, ◌∷◌, ◌&&◌, nat_lt, [], Ok, Err, None, IfOk, IfErr, IfSome, filter, is_some, length, map, not, position, slice_get, string_bytes};
+ghost use Rattle.std.specs.Prelude.{◌≡◌, ◌≢◌, ◌≤◌, ◌++◌, ◌∷◌, [], Ok, Err, None, IfOk, IfErr, IfSome, filter, is_some, length, map, not, position, slice_get, string_bytes};
 ghost use Rattle.std.specs.Option.{option_map_or};
 ghost use Rattle.mw_text.specs.Reading.{each};
-ghost use Rattle.mw_text.specs.Text.{same_text};
 ghost use Rattle.mw_text.specs.Words.{is_skipped};
 ghost use Rattle.question_lang.specs.Asking.{not_built};
 ghost use Rattle.mw_verify.specs.Texts as lines;
@@ -14,13 +13,13 @@ ghost use Rattle.mw_verify.specs.Due as due;
 ghost use Rattle.mw_verify.specs.Running.{StopsAt};
 ghost use Rattle.mw_verify.specs.Loading.{OnStop, UnlessReadFault, AreSmall, AreAnswerable};
 
-use crate::text::{Text, no_network, refusal, too_long};
-use ios_ast::{AccessList, File, Iface, Use};
+use crate::text::{Text, net_refused, no_network, refusal, too_long};
+use ios_ast::File;
 use ios_policy_reader::{Cause, Refused};
 use ios_reader::read_file;
 use mw_outside::{Files, ReadRefused, read_whole};
-use mw_text::{Line, List, lines_of, list_of, same_bytes, says_nothing};
-use net_model::Net;
+use mw_text::{Line, List, lines_of, list_of, says_nothing};
+use net_model::{Net, NetRefused, refuse};
 use question_lang::{Kind, MOST_QUESTIONS, Question, Target, is_single, read_questions};
 use std::alloc::{AllocError, AllocFailed, Global};
 
@@ -162,89 +161,6 @@ fn first_name(texts: &[Text]) -> &[u8]
     }
 }
 
-fn earlier(a: Option<Refused>, b: Option<Refused>) -> Option<Refused>
-    ensures { result ≡ due.earlier a b }
-{
-    match (a, b) {
-        (None, _) => b,
-        (_, None) => a,
-        (Some(first), Some(second)) => { if second.line < first.line { b } else { a } }
-    }
-}
-
-fn is_of_name(list: &AccessList, named: &Use) -> bool
-    ensures { result ≡ (same_text list.now.name named.now.name && nat_lt 0 (length list.now.entries)) }
-{
-    same_bytes(list.name.as_slice(), named.name.as_slice()) && !list.entries.as_slice().is_empty()
-}
-
-// Whether the file has an access list of that name.
-fn is_listed(file: &File, named: &Use) -> bool
-    ensures { result ≡ due.is_listed file.now named.now }
-{
-    file.policies
-        .access
-        .as_slice()
-        .iter()
-        .any(|list| is_of_name(list, named))
-}
-
-fn undefined_use(file: &File, used: &Option<Use>) -> Option<Refused>
-    ensures { result ≡ due.undefined_use file.now used.now }
-{
-    match used {
-        Some(named) if !is_listed(file, named) => Some(Refused {
-            line: named.line,
-            cause: Cause::Undefined,
-        }),
-        _ => None,
-    }
-}
-
-// The first line that applies an access list to the interface which the file does not have.
-fn unlisted(file: &File, iface: &Iface) -> Option<Refused>
-    ensures { result ≡ due.unlisted file.now iface.now }
-{
-    let inwards = undefined_use(file, &iface.list_in);
-    let outwards = undefined_use(file, &iface.list_out);
-    earlier(inwards, outwards)
-}
-
-fn not_built_at(line: u32) -> Refused
-    ensures { result ≡ not_built line }
-{
-    Refused {
-        line,
-        cause: Cause::NotBuilt,
-    }
-}
-
-// The first line of a file for which `verify` cannot answer.
-fn unanswered(file: &File) -> Option<Refused>
-    ensures { result ≡ due.unanswered file.now }
-{
-    let ospf = file.ospf.as_ref().map(|ospf| not_built_at(ospf.line));
-    let bgp = file.bgp.as_ref().map(|bgp| not_built_at(bgp.line));
-    let mut why = earlier(ospf, bgp);
-    for iface in file.interfaces.as_slice() {
-        why = earlier(why, unlisted(file, iface));
-    }
-    why
-}
-
-fn is_unanswered(file: &File) -> bool
-    ensures { result ≡ is_some (due.unanswered file.now) }
-{
-    unanswered(file).is_some()
-}
-
-// The number of the first file for which `verify` cannot answer.
-fn first_unanswered(files: &[File]) -> Option<usize>
-    ensures { result ≡ position (λ file. is_some (due.unanswered file)) files.now }
-{
-    files.iter().position(|file| is_unanswered(file))
-}
-
 fn name_at(texts: &[Text], at: usize) -> &[u8]
     ensures { result.now ≡ due.name_at texts.now at }
 {
@@ -254,25 +170,87 @@ fn name_at(texts: &[Text], at: usize) -> &[u8]
     }
 }
 
-fn refused_at(files: &[File], at: usize) -> Refused
-    ensures { result ≡ due.refused_at files.now at }
+// The line of files that form no network.
+fn net_refusal(alloc: Global, texts: &[Text], why: NetRefused) -> Result<List<u8>, AllocError>
+    ensures { IfOk result (λ line. line ≡ due.net_refusal texts.now why) }
+{
+    net_refused(alloc, name_at(texts, why.file as usize), &why)
+}
+
+fn earlier(a: Option<u32>, b: Option<u32>) -> Option<u32>
+    ensures { result ≡ due.earlier a b }
+{
+    match (a, b) {
+        (None, _) => b,
+        (_, None) => a,
+        (Some(a), Some(b)) => Some(a.min(b)),
+    }
+}
+
+// The first line of a file for which `verify` cannot answer yet.
+fn unbuilt_line(file: &File) -> Option<u32>
+    ensures { result ≡ due.unbuilt_line file.now }
+{
+    let ospf = file.ospf.as_ref().map(|ospf| ospf.line);
+    let bgp = file.bgp.as_ref().map(|bgp| bgp.line);
+    earlier(ospf, bgp)
+}
+
+fn has_unbuilt(file: &File) -> bool
+    ensures { result ≡ is_some (due.unbuilt_line file.now) }
+{
+    unbuilt_line(file).is_some()
+}
+
+// The number of the first file for which `verify` cannot answer yet.
+fn first_unbuilt(files: &[File]) -> Option<usize>
+    ensures { result ≡ position (λ file. is_some (due.unbuilt_line file)) files.now }
+{
+    files.iter().position(|file| has_unbuilt(file))
+}
+
+fn unbuilt_line_at(files: &[File], at: usize) -> u32
+    ensures { result ≡ due.unbuilt_line_at files.now at }
 {
     match files.get(at) {
-        Some(file) => unanswered(file).unwrap_or(not_built_at(0)),
-        None => not_built_at(0),
+        Some(file) => unbuilt_line(file).unwrap_or(0),
+        None => 0,
     }
 }
 
 // The line of the refusal of the file of that number.
-fn unanswered_refusal(
+fn unbuilt_refusal(
     alloc: Global,
     texts: &[Text],
     files: &[File],
     at: usize,
 ) -> Result<List<u8>, AllocError>
-    ensures { IfOk result (λ line. line ≡ lines.refusal (due.name_at texts.now at) (due.refused_at files.now at)) }
+    ensures { IfOk result (λ line. line ≡ lines.refusal (due.name_at texts.now at) (not_built (due.unbuilt_line_at files.now at))) }
 {
-    refusal(alloc, name_at(texts, at), &refused_at(files, at))
+    let refused = Refused {
+        line: unbuilt_line_at(files, at),
+        cause: Cause::NotBuilt,
+    };
+    refusal(alloc, name_at(texts, at), &refused)
+}
+
+// The network of files that break no rule of networks, where `verify` can answer for it.
+fn answered_network(alloc: Global, texts: &[Text], files: List<File>) -> Result<Net, Stop>
+    ensures ok { IfOk result (λ net. due.answered_network texts.now files ≡ Ok net) }
+    ensures stop { IfErr result (λ stop. OnStop stop (λ line. due.answered_network texts.now files ≡ Err (due.refused line)) ⊥) }
+{
+    if let Some(at) = first_unbuilt(files.as_slice()) {
+        return Err(stop_with(unbuilt_refusal(
+            alloc,
+            texts,
+            files.as_slice(),
+            at,
+        )));
+    }
+    match Net::of(alloc, files)? {
+        Some(net) => Ok(net),
+        None => Err(stop_with(no_network(alloc, first_name(texts)))),
+    }
 }
 
 // The network of the texts.
@@ -282,12 +260,9 @@ fn parse_network(alloc: Global, texts: &[Text]) -> Result<Net, Stop>
     ensures stop { IfErr result (λ stop. OnStop stop (λ line. due.network_due texts.now ≡ Err (due.refused line)) ⊥) }
 {
     let files = parse_files(alloc, texts)?;
-    if let Some(at) = first_unanswered(files.as_slice()) {
-        return Err(stop_with(unanswered_refusal(alloc, texts, files.as_slice(), at)));
-    }
-    match Net::of(alloc, files)? {
-        Some(net) => Ok(net),
-        None => Err(stop_with(no_network(alloc, first_name(texts)))),
+    match refuse(alloc, files.as_slice())? {
+        Some(why) => Err(stop_with(net_refusal(alloc, texts, why))),
+        None => answered_network(alloc, texts, files),
     }
 }
 

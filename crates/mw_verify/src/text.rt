@@ -5,6 +5,7 @@ ghost use Rattle.mw_verify.specs.Texts as texts;
 
 use ios_policy_reader::{Cause, Refused};
 use mw_text::List;
+use net_model::{NetCause, NetRefused};
 use std::alloc::{AllocError, Global};
 
 /// The bytes of a file with its name.
@@ -65,6 +66,29 @@ pub fn refusal(alloc: Global, name: &[u8], refused: &Refused) -> Result<List<u8>
 {
     let cause = cause_text(alloc, refused.cause)?;
     refused_text(alloc, name, refused.line, cause.as_slice())
+}
+
+fn net_cause_text(cause: NetCause) -> &'static [u8]
+    ensures { result.now ≡ texts.net_cause_text cause }
+{
+    match cause {
+        NetCause::Undefined => b"7 Undefined",
+        NetCause::SameName => b"8 SameName",
+        NetCause::SameAddress => b"9 SameAddress",
+        NetCause::SubnetClash => b"10 SubnetClash",
+        NetCause::NextHopNotConnected => b"11 NextHopNotConnected",
+        NetCause::ExternalInternalPeer => b"12 ExternalInternalPeer",
+        NetCause::SecondArea => b"13 SecondArea",
+        NetCause::NetLimit => b"14 NetLimit",
+        NetCause::Memory => b"",
+    }
+}
+
+/// The line of files that form no network, by the name of the file that breaks a rule.
+pub fn net_refused(alloc: Global, name: &[u8], why: &NetRefused) -> Result<List<u8>, AllocError>
+    ensures { IfOk result (λ text. text ≡ texts.refused_text name.now why.now.line (texts.net_cause_text why.now.cause)) }
+{
+    refused_text(alloc, name, why.line, net_cause_text(why.cause))
 }
 
 /// The line of a file with more bytes than its limit.

@@ -356,6 +356,6 @@ refused_by_uses found files =
     option_or (option_or (option_or found (undefined files)) (next_hop_not_connected files)) (external_internal_peer files)
 
 -- why the files form no network: by the first of the rules that they break
-abbrev pub first_refusal : List File → Option NetRefused
+unfoldable pub first_refusal : List File → Option NetRefused
 first_refusal files =
     option_or (option_or (refused_by_uses (refused_by_addresses files) files) (second_area_number files)) (net_limit files)

@@ -11,7 +11,6 @@ use crate::undefined::undefined_line;
 use ios_ast::File;
 use std::alloc::{AllocError, Global};
 
-
 /// How many configuration files, each of one router, form a network at most.
 pub const MOST_FILES: usize = 64;
 
@@ -136,6 +135,7 @@ fn refused_by_uses(
 /// Why the files form no network, by the first rule that they break: two hostnames are one; two addresses are; subnets
 /// clash; a line uses what its file does not define; a static next hop is not connected; an external peer has the AS number
 /// of its router; there is a second area; there are too many routers or tracked values. None exactly where they break none.
+#[tactic(auto, unfolding(crate::specs::Refusals::first_refusal))]
 pub fn refuse(alloc: Global, files: &[File]) -> Result<Option<NetRefused>, AllocError>
     ensures { IfOk result (λ found. found ≡ refusals.first_refusal files.now) }
 {

@@ -1,0 +1,173 @@
+//! A decider that goes by scores, which rise with each bump, later bumps counting more.
+
+ghost use Rattle.std.specs.Prelude.{◌≡◌, ◌<◌, ◌≤◌, None};
+
+use crate::decider::value_at;
+use crate::heap::{Heap, SHIFT};
+use crate::{Choice, Decider, Value};
+use std::alloc::{AllocError, Global};
+
+/// By how much the first bumps raise a score.
+const FIRST_STEP: u64 = 1 << 20;
+
+/// Above this the step and all scores are made smaller.
+const GREATEST_STEP: u64 = 1 << 40;
+
+/// A choice that was made: how many variables had been taken out before, the variable and its value.
+#[derive(Clone, Copy, Debug)]
+struct Chosen {
+    taken_before: usize,
+    var: u64,
+    positive: bool,
+}
+
+/// Chooses a free variable of highest score, with the value that it had last, false at first. It tells no bumps.
+///
+/// Variables leave the heap as they are chosen, or met with a value. Nobody says when they are free again, but each way
+/// back of a search comes with a `decay`: at the next `pick` the first choice that does not stand any more is looked
+/// for, and what left the heap from then on is put back.
+#[derive(Debug, Drop)]
+pub struct ScoreDecider {
+    heap: Heap,
+    step: u64,
+    phases: Vec<bool>,
+    taken: Vec<u64>,
+    chosen: Vec<Chosen>,
+    is_stale: bool,
+}
+
+// Puts an item last, where the reserved memory has room.
+fn push_within<T: Drop>(items: &mut Vec<T>, item: T) {
+    if items.len() < items.capacity() {
+        items.push_reserved(item);
+    }
+}
+
+// As many variables, false at first.
+fn all_false(alloc: Global, count: u64) -> Result<Vec<bool>, AllocError> {
+    let mut phases = Vec::new(alloc);
+    phases.resize(count as usize, false)?;
+    Ok(phases)
+}
+
+// Whether a choice still stands.
+fn stands(chosen: &Chosen, values: &[Value]) -> bool {
+    let wanted = if chosen.positive { Value::True } else { Value::False };
+    value_at(values, chosen.var) == wanted
+}
+
+// Keeps the value of a variable that has one.
+fn note_phase(phases: &mut [bool], var: u64, value: Value) {
+    if var < phases.len() as u64 {
+        phases[var as usize] = value == Value::True;
+    }
+}
+
+impl ScoreDecider {
+    /// A decider for no variables. It takes no memory.
+    pub fn new(alloc: Global) -> ScoreDecider
+        ensures { ⟦<ScoreDecider as Decider>⟧.told result ≡ None }
+    {
+        ScoreDecider {
+            heap: Heap::new(alloc),
+            step: FIRST_STEP,
+            phases: Vec::new(alloc),
+            taken: Vec::new(alloc),
+            chosen: Vec::new(alloc),
+            is_stale: false,
+        }
+    }
+
+    // Puts back what was taken out from the first choice on that does not stand any more.
+    fn put_back(&mut self, values: &[Value]) {
+        let Some(first) = self.chosen.iter().position(|choice| !stands(choice, values)) else {
+            return;
+        };
+        let from = self.chosen[first].taken_before.min(self.taken.len());
+        for var in &self.taken[from..] {
+            self.heap.put(*var);
+        }
+        self.taken.truncate(from);
+        self.chosen.truncate(first);
+    }
+
+    // Takes variables out, highest score first, up to one that is free.
+    fn next_free(&mut self, values: &[Value]) -> Option<u64> {
+        while let Some(var) = self.heap.pop() {
+            let value = value_at(values, var);
+            if value == Value::Free {
+                return Some(var);
+            }
+            note_phase(&mut self.phases, var, value);
+            push_within(&mut self.taken, var);
+        }
+        None
+    }
+
+    // Keeps a choice.
+    fn choose(&mut self, var: u64) -> Choice {
+        let positive = self.phases.get(var as usize).copied().unwrap_or(false);
+        let taken_before = self.taken.len();
+        push_within(
+            &mut self.chosen,
+            Chosen {
+                taken_before,
+                var,
+                positive,
+            },
+        );
+        push_within(&mut self.taken, var);
+        Choice { var, positive }
+    }
+}
+
+impl Decider for ScoreDecider {
+    ghost told = { λ _. None };
+
+    fn prepare(&mut self, alloc: Global, vars: u64) -> Result<(), AllocError> {
+        let heap = Heap::of_all(alloc, vars)?;
+        let phases = all_false(alloc, vars)?;
+        let taken = Vec::with_capacity(alloc, vars as usize)?;
+        let chosen = Vec::with_capacity(alloc, vars as usize)?;
+        *self = ScoreDecider {
+            heap,
+            step: FIRST_STEP,
+            phases,
+            taken,
+            chosen,
+            is_stale: false,
+        };
+        Ok(())
+    }
+
+    fn bump(&mut self, var: u64) {
+        self.heap.raise(var, self.step);
+    }
+
+    fn decay(&mut self) {
+        self.step = self.step.saturating_add(self.step / 16);
+        if self.step > GREATEST_STEP {
+            self.step >>= SHIFT;
+            self.heap.shrink_scores();
+        }
+        self.is_stale = true;
+    }
+
+    fn pick(&mut self, values: &[Value]) -> Choice {
+        if self.is_stale {
+            self.put_back(values);
+            self.is_stale = false;
+        }
+        match self.next_free(values) {
+            Some(var) => self.choose(var),
+            None => Choice {
+                var: values.len() as u64,
+                positive: false,
+            },
+        }
+    }
+
+    fn bumps(&self) -> &[u64] {
+        &[]
+    }
+}
