@@ -11,7 +11,6 @@ use crate::undefined::undefined_line;
 use ios_ast::File;
 use std::alloc::{AllocError, Global};
 
-
 /// How many configuration files, each of one router, form a network at most.
 pub const MOST_FILES: usize = 64;
 
