@@ -1,6 +1,6 @@
 -- What a network does not have, since its definition is not written yet.
 use Rattle.std.proofs.Common.{◌≡◌, ℕ, zero, suc, ◌+◌, Bool, true, false, ◌&&◌, ◌||◌, not, List, [], ◌∷◌, Option, Some, None, refl, ◌∙◌, subst}
-use Rattle.std.specs.Prelude.{filter, fold, if◌then◌else◌, is_some, map, option_and_then, option_map, slice_get}
+use Rattle.std.specs.Prelude.{filter, fold, is_some, map, option_and_then, slice_get}
 use Rattle.std.specs.List.{filter_map, list_all, list_any}
 use Rattle.ios_ast.specs.declared.file.File.{File}
 use Rattle.mw_text.specs.declared.address.Prefix.{Prefix}

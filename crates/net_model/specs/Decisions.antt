@@ -1,5 +1,5 @@
 -- The decision process of BGP (RFC 4271, section 9.1.2; Cisco IOS, best path selection).
-use Rattle.std.specs.Prelude.{◌≡◌, ℕ, ◌+◌, ◌==◌, ◌&&◌, ◌||◌, Bool, true, false, not, List, [], ◌∷◌, ◌++◌, Any, filter, fold, length, map, nat_lt, slice_get, take, Option, Some, None, MatchOption, option_and_then, option_map, unwrap_or, if◌then◌else◌}
+use Rattle.std.specs.Prelude.{◌≡◌, ℕ, ◌+◌, ◌==◌, ◌&&◌, ◌||◌, Bool, true, false, not, List, [], ◌∷◌, ◌++◌, Any, filter, fold, length, map, nat_lt, slice_get, take, Option, None, MatchOption, option_and_then, option_map, unwrap_or, if◌then◌else◌}
 use Rattle.std.specs.List.{filter_map, find, list_any}
 use Rattle.std.specs.Option.{option_map_or}
 use Rattle.mw_text.specs.declared.address.Addr.{Addr}

@@ -1,6 +1,6 @@
 -- Interfaces that run OSPF, what they advertise, and adjacencies (RFC 2328, sections 9 and 10; Cisco IOS, `network area`,
 -- `passive-interface`, `auto-cost` and `ip ospf cost`).
-use Rattle.std.specs.Prelude.{ℕ, ◌*◌, ◌/◌, ◌==◌, ◌&&◌, ◌||◌, Bool, not, List, [], max, min, filter, fold, map, slice_get, Option, Some, None, option_and_then, option_map, unwrap_or, if◌then◌else◌}
+use Rattle.std.specs.Prelude.{ℕ, ◌*◌, ◌/◌, ◌==◌, ◌&&◌, ◌||◌, Bool, not, List, [], max, min, filter, fold, map, slice_get, Option, None, option_and_then, option_map, unwrap_or, if◌then◌else◌}
 use Rattle.std.specs.List.{filter_map, find, flat_map, list_any}
 use Rattle.mw_text.specs.declared.address.Addr.{Addr}
 use Rattle.mw_text.specs.declared.address.Prefix.{Prefix}

@@ -17,14 +17,19 @@ use mw_text::{Addr, prefix_of, same_bytes};
 fn some_named(files: &[File], name: &[u8]) -> bool
     ensures { result ≡ list_any (λ other. same_text other.hostname name.now) files.now }
 {
-    files.iter().any(|other| same_bytes(other.hostname.as_slice(), name))
+    files
+        .iter()
+        .any(|other| same_bytes(other.hostname.as_slice(), name))
 }
 
 /// The line of the hostname, where an earlier file has it too.
 pub fn same_name_line(before: &[File], file: &File) -> Option<u32>
     ensures { result ≡ refusals.same_name_line before.now file.now }
 {
-    line_if(some_named(before, file.hostname.as_slice()), file.hostname_line)
+    line_if(
+        some_named(before, file.hostname.as_slice()),
+        file.hostname_line,
+    )
 }
 
 /// Whether the interface has that address.
@@ -40,7 +45,10 @@ pub fn has_address(iface: &Iface, a: Addr) -> bool
 fn file_has(file: &File, a: Addr) -> bool
     ensures { result ≡ list_any (refusals.has_address a) file.now.interfaces }
 {
-    file.interfaces.as_slice().iter().any(|iface| has_address(iface, a))
+    file.interfaces
+        .as_slice()
+        .iter()
+        .any(|iface| has_address(iface, a))
 }
 
 /// Whether an interface of the files has that address.
@@ -62,7 +70,10 @@ fn has_above(iface: &Iface, own: &IfAddr) -> bool
 fn some_above(file: &File, own: &IfAddr) -> bool
     ensures { result ≡ list_any (refusals.has_above own.now) file.now.interfaces }
 {
-    file.interfaces.as_slice().iter().any(|iface| has_above(iface, own))
+    file.interfaces
+        .as_slice()
+        .iter()
+        .any(|iface| has_above(iface, own))
 }
 
 fn taken_line(before: &[File], file: &File, iface: &Iface) -> Option<u32>
@@ -70,7 +81,10 @@ fn taken_line(before: &[File], file: &File, iface: &Iface) -> Option<u32>
 {
     match &iface.address {
         None => None,
-        Some(own) => line_if(some_has(before, own.addr) || some_above(file, own), own.line),
+        Some(own) => line_if(
+            some_has(before, own.addr) || some_above(file, own),
+            own.line,
+        ),
     }
 }
 
@@ -78,10 +92,10 @@ fn taken_line(before: &[File], file: &File, iface: &Iface) -> Option<u32>
 pub fn same_address_line(before: &[File], file: &File) -> Option<u32>
     ensures { result ≡ refusals.same_address_line before.now file.now }
 {
-    file.interfaces
-        .as_slice()
-        .iter()
-        .fold(None, |first, iface| earlier(first, taken_line(before, file, iface)))
+    file.interfaces.as_slice().iter().fold(
+        None,
+        |first, iface| earlier(first, taken_line(before, file, iface)),
+    )
 }
 
 fn addresses_overlap(a: &IfAddr, b: &IfAddr) -> bool
@@ -103,7 +117,8 @@ fn clashes_abroad(own: &IfAddr, loopback: bool, iface: &Iface) -> bool
         None => false,
         Some(other) => {
             addresses_overlap(own, other)
-                && !(are_on_one(own, other) && !(loopback || is_loopback_name(iface.name.as_slice())))
+                && !(are_on_one(own, other)
+                    && !(loopback || is_loopback_name(iface.name.as_slice())))
         }
     }
 }
@@ -135,7 +150,10 @@ fn clashes_above(own: &IfAddr, iface: &Iface) -> bool
 fn some_clashes_above(file: &File, own: &IfAddr) -> bool
     ensures { result ≡ list_any (refusals.clashes_above own.now) file.now.interfaces }
 {
-    file.interfaces.as_slice().iter().any(|iface| clashes_above(own, iface))
+    file.interfaces
+        .as_slice()
+        .iter()
+        .any(|iface| clashes_above(own, iface))
 }
 
 fn clashes(before: &[File], file: &File, own: &IfAddr, loopback: bool) -> bool
@@ -160,8 +178,8 @@ fn clash_line(before: &[File], file: &File, iface: &Iface) -> Option<u32>
 pub fn subnet_clash_line(before: &[File], file: &File) -> Option<u32>
     ensures { result ≡ refusals.subnet_clash_line before.now file.now }
 {
-    file.interfaces
-        .as_slice()
-        .iter()
-        .fold(None, |first, iface| earlier(first, clash_line(before, file, iface)))
+    file.interfaces.as_slice().iter().fold(
+        None,
+        |first, iface| earlier(first, clash_line(before, file, iface)),
+    )
 }

@@ -21,10 +21,10 @@ pub fn unconnected_line(file: &File) -> Option<u32>
     ensures { result ≡ refusals.unconnected_line file.now }
 {
     let interfaces = file.interfaces.as_slice();
-    file.statics
-        .as_slice()
-        .iter()
-        .fold(None, |first, route| earlier(first, unconnected_route(interfaces, route)))
+    file.statics.as_slice().iter().fold(
+        None,
+        |first, route| earlier(first, unconnected_route(interfaces, route)),
+    )
 }
 
 fn reached_over(interfaces: &[Iface], source: &Option<Use>, a: Addr) -> bool
@@ -40,22 +40,29 @@ fn is_outside(files: &[File], file: &File, neighbour: &Neighbour) -> bool
     ensures { result ≡ refusals.is_outside files.now file.now neighbour.now }
 {
     !some_has(files, neighbour.addr)
-        && reached_over(file.interfaces.as_slice(), &neighbour.source, neighbour.addr)
+        && reached_over(
+            file.interfaces.as_slice(),
+            &neighbour.source,
+            neighbour.addr,
+        )
 }
 
 fn internal_peer(files: &[File], file: &File, asn: u32, neighbour: &Neighbour) -> Option<u32>
     ensures { result ≡ refusals.internal_peer files.now file.now asn neighbour.now }
 {
-    line_if(neighbour.asn == asn && is_outside(files, file, neighbour), neighbour.line)
+    line_if(
+        neighbour.asn == asn && is_outside(files, file, neighbour),
+        neighbour.line,
+    )
 }
 
 fn internal_peer_of(files: &[File], file: &File, bgp: &Bgp) -> Option<u32>
     ensures { result ≡ refusals.internal_peer_of files.now file.now bgp.now }
 {
-    bgp.neighbours
-        .as_slice()
-        .iter()
-        .fold(None, |first, n| earlier(first, internal_peer(files, file, bgp.asn, n)))
+    bgp.neighbours.as_slice().iter().fold(
+        None,
+        |first, n| earlier(first, internal_peer(files, file, bgp.asn, n)),
+    )
 }
 
 /// The first `remote-as` line of an external peer that has the router's own AS number.
@@ -106,11 +113,10 @@ fn second_area(area: u32, line: &OspfNet) -> Option<u32>
 fn second_area_of(area: u32, process: &Ospf) -> Option<u32>
     ensures { result ≡ refusals.second_area_of area process.now }
 {
-    process
-        .networks
-        .as_slice()
-        .iter()
-        .fold(None, |first, line| earlier(first, second_area(area, line)))
+    process.networks.as_slice().iter().fold(
+        None,
+        |first, line| earlier(first, second_area(area, line)),
+    )
 }
 
 fn second_area_in(area: u32, file: &File) -> Option<u32>

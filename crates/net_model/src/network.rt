@@ -49,7 +49,8 @@ fn few_interfaces(files: &[File]) -> bool
         .all(|file| file.interfaces.items.len() <= MOST_INTERFACES)
 }
 
-fn few_enough(files: &[File]) -> bool
+/// Whether there are not too many routers, nor interfaces of one router.
+pub fn few_enough(files: &[File]) -> bool
     ensures { result ≡ is_small files.now }
 {
     files.len() <= MOST_ROUTERS && few_interfaces(files)

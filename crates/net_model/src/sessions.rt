@@ -137,6 +137,22 @@ fn add_router(
     }
 }
 
+fn has_few_neighbours(file: &File) -> bool
+    ensures { result ≡ sessions.has_few_neighbours file.now }
+{
+    match &file.bgp {
+        None => true,
+        Some(bgp) => bgp.neighbours.as_slice().len() <= MOST_NEIGHBOURS,
+    }
+}
+
+/// Whether no router has too many neighbour lines.
+pub fn few_neighbours(files: &[File]) -> bool
+    ensures { result ≡ list_all sessions.has_few_neighbours files.now }
+{
+    files.iter().all(|file| has_few_neighbours(file))
+}
+
 /// All neighbour lines that have an interface to speak from, by router and then by line.
 #[tactic(auto, unfolding(crate::specs::Sessions::peerings))]
 pub fn peerings(

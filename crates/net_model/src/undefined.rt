@@ -8,8 +8,8 @@ ghost use Rattle.net_model.specs.Refusals as refusals;
 
 use crate::lines::{earlier, line_if};
 use ios_ast::{
-    Bgp, File, Iface, MapEntry, Match, Neighbour, Ospf, Policies, Redist, RouteMap, Source, StaticRoute,
-    Use, Via,
+    Bgp, File, Iface, MapEntry, Match, Neighbour, Ospf, Policies, Redist, RouteMap, Source,
+    StaticRoute, Use, Via,
 };
 use mw_text::same_bytes;
 
@@ -36,51 +36,36 @@ fn has_interface(file: &File, name: &[u8]) -> bool
 fn has_access_list(policies: &Policies, name: &[u8]) -> bool
     ensures { result ≡ list_any (λ l. same_text l.name name.now && refusals.has_entries l.entries) policies.now.access }
 {
-    policies
-        .access
-        .as_slice()
-        .iter()
-        .any(|l| same_bytes(l.name.as_slice(), name) && l.entries.items.len() > 0)
+    policies.access.as_slice().iter().any(|l| same_bytes(l.name.as_slice(), name)
+        && l.entries.items.len() > 0)
 }
 
 fn has_prefix_list(policies: &Policies, name: &[u8]) -> bool
     ensures { result ≡ list_any (λ l. same_text l.name name.now && refusals.has_entries l.entries) policies.now.prefix_lists }
 {
-    policies
-        .prefix_lists
-        .as_slice()
-        .iter()
-        .any(|l| same_bytes(l.name.as_slice(), name) && l.entries.items.len() > 0)
+    policies.prefix_lists.as_slice().iter().any(|l| same_bytes(l.name.as_slice(), name)
+        && l.entries.items.len() > 0)
 }
 
 fn has_community_list(policies: &Policies, name: &[u8]) -> bool
     ensures { result ≡ list_any (λ l. same_text l.name name.now && refusals.has_entries l.entries) policies.now.communities }
 {
-    policies
-        .communities
-        .as_slice()
-        .iter()
-        .any(|l| same_bytes(l.name.as_slice(), name) && l.entries.items.len() > 0)
+    policies.communities.as_slice().iter().any(|l| same_bytes(l.name.as_slice(), name)
+        && l.entries.items.len() > 0)
 }
 
 fn has_path_list(policies: &Policies, name: &[u8]) -> bool
     ensures { result ≡ list_any (λ l. same_text l.name name.now && refusals.has_entries l.entries) policies.now.as_paths }
 {
-    policies
-        .as_paths
-        .as_slice()
-        .iter()
-        .any(|l| same_bytes(l.name.as_slice(), name) && l.entries.items.len() > 0)
+    policies.as_paths.as_slice().iter().any(|l| same_bytes(l.name.as_slice(), name)
+        && l.entries.items.len() > 0)
 }
 
 fn has_map(policies: &Policies, name: &[u8]) -> bool
     ensures { result ≡ list_any (λ l. same_text l.name name.now && refusals.has_entries l.entries) policies.now.maps }
 {
-    policies
-        .maps
-        .as_slice()
-        .iter()
-        .any(|l| same_bytes(l.name.as_slice(), name) && l.entries.items.len() > 0)
+    policies.maps.as_slice().iter().any(|l| same_bytes(l.name.as_slice(), name)
+        && l.entries.items.len() > 0)
 }
 
 /// Whether the file defines what has that name. A list or a map without entries is not defined.
@@ -115,8 +100,10 @@ fn undefined_option(file: &File, kind: Kind, named: &Option<Use>) -> Option<u32>
 fn undefined_uses(file: &File, kind: Kind, uses: &[Use]) -> Option<u32>
     ensures { result ≡ refusals.undefined_uses file.now kind uses.now }
 {
-    uses.iter()
-        .fold(None, |first, named| earlier(first, undefined_use(file, kind, named)))
+    uses.iter().fold(
+        None,
+        |first, named| earlier(first, undefined_use(file, kind, named)),
+    )
 }
 
 fn undefined_in_interface(file: &File, iface: &Iface) -> Option<u32>
@@ -131,10 +118,10 @@ fn undefined_in_interface(file: &File, iface: &Iface) -> Option<u32>
 fn undefined_in_interfaces(file: &File) -> Option<u32>
     ensures { result ≡ refusals.undefined_in_interfaces file.now }
 {
-    file.interfaces
-        .as_slice()
-        .iter()
-        .fold(None, |first, iface| earlier(first, undefined_in_interface(file, iface)))
+    file.interfaces.as_slice().iter().fold(
+        None,
+        |first, iface| earlier(first, undefined_in_interface(file, iface)),
+    )
 }
 
 fn undefined_in_static(file: &File, route: &StaticRoute) -> Option<u32>
@@ -150,10 +137,10 @@ fn undefined_in_static(file: &File, route: &StaticRoute) -> Option<u32>
 fn undefined_in_statics(file: &File) -> Option<u32>
     ensures { result ≡ refusals.undefined_in_statics file.now }
 {
-    file.statics
-        .as_slice()
-        .iter()
-        .fold(None, |first, route| earlier(first, undefined_in_static(file, route)))
+    file.statics.as_slice().iter().fold(
+        None,
+        |first, route| earlier(first, undefined_in_static(file, route)),
+    )
 }
 
 fn runs_process(file: &File, process: u32) -> bool
@@ -197,9 +184,10 @@ fn undefined_in_redist(file: &File, redist: &Redist) -> Option<u32>
 fn undefined_in_redists(file: &File, redists: &[Redist]) -> Option<u32>
     ensures { result ≡ refusals.undefined_in_redists file.now redists.now }
 {
-    redists
-        .iter()
-        .fold(None, |first, redist| earlier(first, undefined_in_redist(file, redist)))
+    redists.iter().fold(
+        None,
+        |first, redist| earlier(first, undefined_in_redist(file, redist)),
+    )
 }
 
 fn undefined_in_process(file: &File, process: &Ospf) -> Option<u32>
@@ -248,18 +236,19 @@ fn undefined_in_neighbour(file: &File, neighbour: &Neighbour) -> Option<u32>
 fn undefined_in_neighbours(file: &File, neighbours: &[Neighbour]) -> Option<u32>
     ensures { result ≡ refusals.undefined_in_neighbours file.now neighbours.now }
 {
-    neighbours
-        .iter()
-        .fold(None, |first, n| earlier(first, undefined_in_neighbour(file, n)))
+    neighbours.iter().fold(
+        None,
+        |first, n| earlier(first, undefined_in_neighbour(file, n)),
+    )
 }
 
 fn undefined_in_networks(file: &File, bgp: &Bgp) -> Option<u32>
     ensures { result ≡ refusals.undefined_in_networks file.now bgp.now }
 {
-    bgp.networks
-        .as_slice()
-        .iter()
-        .fold(None, |first, n| earlier(first, undefined_option(file, Kind::Map, &n.map)))
+    bgp.networks.as_slice().iter().fold(
+        None,
+        |first, n| earlier(first, undefined_option(file, Kind::Map, &n.map)),
+    )
 }
 
 fn undefined_in_as(file: &File, bgp: &Bgp) -> Option<u32>
@@ -294,30 +283,28 @@ fn undefined_in_match(file: &File, test: &Match) -> Option<u32>
 fn undefined_in_entry(file: &File, entry: &MapEntry) -> Option<u32>
     ensures { result ≡ refusals.undefined_in_entry file.now entry.now }
 {
-    entry
-        .matches
-        .as_slice()
-        .iter()
-        .fold(None, |first, test| earlier(first, undefined_in_match(file, test)))
+    entry.matches.as_slice().iter().fold(
+        None,
+        |first, test| earlier(first, undefined_in_match(file, test)),
+    )
 }
 
 fn undefined_in_map(file: &File, map: &RouteMap) -> Option<u32>
     ensures { result ≡ refusals.undefined_in_map file.now map.now }
 {
-    map.entries
-        .as_slice()
-        .iter()
-        .fold(None, |first, entry| earlier(first, undefined_in_entry(file, entry)))
+    map.entries.as_slice().iter().fold(
+        None,
+        |first, entry| earlier(first, undefined_in_entry(file, entry)),
+    )
 }
 
 fn undefined_in_maps(file: &File) -> Option<u32>
     ensures { result ≡ refusals.undefined_in_maps file.now }
 {
-    file.policies
-        .maps
-        .as_slice()
-        .iter()
-        .fold(None, |first, map| earlier(first, undefined_in_map(file, map)))
+    file.policies.maps.as_slice().iter().fold(
+        None,
+        |first, map| earlier(first, undefined_in_map(file, map)),
+    )
 }
 
 /// The first line that uses a list, a map, an interface, an OSPF process or an AS which its file does not define.
