@@ -5,7 +5,8 @@ ghost use Rattle.std.specs.Prelude.{◌≡◌, ◌<◌, ◌≤◌, None, length,
 use crate::{Choice, Decider, Value};
 use std::alloc::{AllocError, Global};
 
-/// Chooses the least free variable, false first. It tells no bumps.
+/// Chooses the next free variable in the order of their numbers, from 0 again after each `decay`, false first. It tells no
+/// bumps.
 #[derive(Clone, Copy, Debug)]
 pub struct OrderDecider {
     next: u64,

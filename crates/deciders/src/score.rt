@@ -52,7 +52,11 @@ fn all_false(alloc: Global, count: u64) -> Result<Vec<bool>, AllocError> {
 
 // Whether a choice still stands.
 fn stands(chosen: &Chosen, values: &[Value]) -> bool {
-    let wanted = if chosen.positive { Value::True } else { Value::False };
+    let wanted = if chosen.positive {
+        Value::True
+    } else {
+        Value::False
+    };
     value_at(values, chosen.var) == wanted
 }
 
@@ -80,7 +84,11 @@ impl ScoreDecider {
 
     // Puts back what was taken out from the first choice on that does not stand any more.
     fn put_back(&mut self, values: &[Value]) {
-        let Some(first) = self.chosen.iter().position(|choice| !stands(choice, values)) else {
+        let Some(first) = self
+            .chosen
+            .iter()
+            .position(|choice| !stands(choice, values))
+        else {
             return;
         };
         let from = self.chosen[first].taken_before.min(self.taken.len());
