@@ -1,5 +1,7 @@
 //! Numbers that look random, the same in every run, and lists of things.
 
+ghost use Rattle.std.specs.Prelude.{◌≡◌, IfOk};
+
 use mw_text::{Addr, List, Prefix};
 use std::alloc::{AllocError, Global};
 
@@ -21,11 +23,7 @@ impl Dice {
             .wrapping_mul(6_364_136_223_846_793_005)
             .wrapping_add(1_442_695_040_888_963_407);
         let high = (self.state >> 33) % 2_147_483_648;
-        if sides == 0 {
-            0
-        } else {
-            high as u32 % sides
-        }
+        if sides == 0 { 0 } else { high as u32 % sides }
     }
 
     pub fn flip(&mut self) -> bool {
@@ -41,7 +39,9 @@ impl Dice {
 }
 
 /// A list of these numbers.
-pub fn numbers(alloc: Global, items: &[u32]) -> Result<List<u32>, AllocError> {
+pub fn numbers(alloc: Global, items: &[u32]) -> Result<List<u32>, AllocError>
+    ensures { IfOk result (λ list. list ≡ items.now) }
+{
     Ok(List {
         items: Vec::from_slice(alloc, items)?,
     })

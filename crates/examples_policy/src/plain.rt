@@ -1,13 +1,15 @@
 //! What lists and maps answer, case by case.
 
+ghost use Rattle.std.specs.Prelude.{◌≡◌, [], IfOk};
+
 use crate::dice::{name, numbers, prefix};
 use ios_ast::{
-    AccessEntry, AccessList, AsPathEntry, AsPathList, CommunityEntry, CommunityList, MapEntry, Match,
-    Pattern, Policies, Ports, PrefixEntry, PrefixList, RouteMap, SetAct, Use, Wild,
+    AccessEntry, AccessList, AsPathEntry, AsPathList, CommunityEntry, CommunityList, MapEntry,
+    Match, Pattern, Policies, Ports, PrefixEntry, PrefixList, RouteMap, SetAct, Use, Wild,
 };
 use mw_text::{Addr, List, Prefix};
 use policy_eval::{access_list, as_path_list, community_list, prefix_list, route_map};
-use route_record::{BgpRec, Learnt, MapRec, Origin, Packet, Side, Tracked, shape};
+use route_record::{BgpRec, Learnt, MapRec, Origin, Packet, Shape, Side, Tracked, shape};
 use std::alloc::{AllocError, Global};
 use std::test::Fail;
 
@@ -33,14 +35,19 @@ fn prefixes(alloc: Global, entries: &[PrefixEntry]) -> Result<PrefixList, AllocE
 
 #[test]
 fn prefix_list_takes_lengths(rt: HostRuntime) -> Result<(), Fail> {
-    let alloc = rt.alloc();
-    let list = prefixes(alloc, &[prefix_entry(5, true, prefix(10, 0, 0, 0, 8), 16, 24)])?;
-    assert!(rt; prefix_list(&list, &prefix(10, 1, 0, 0, 16)));
-    assert!(rt; !prefix_list(&list, &prefix(10, 0, 0, 0, 8)));
-    assert!(rt; !prefix_list(&list, &prefix(10, 1, 2, 128, 25)));
-    assert!(rt; !prefix_list(&list, &prefix(11, 1, 0, 0, 16)));
-    let none = prefixes(alloc, &[])?;
-    assert!(rt; !prefix_list(&none, &prefix(10, 1, 0, 0, 16)));
+    let list = prefixes(
+        rt.alloc(),
+        &[prefix_entry(5, true, prefix(10, 0, 0, 0, 8), 16, 24)],
+    )?;
+    let table = [
+        (prefix(10, 1, 0, 0, 16), true),
+        (prefix(10, 0, 0, 0, 8), false),
+        (prefix(10, 1, 2, 128, 25), false),
+        (prefix(11, 1, 0, 0, 16), false),
+    ];
+    for (p, wanted) in table {
+        assert_eq!(rt; prefix_list(&list, &p), wanted);
+    }
     Ok(())
 }
 
@@ -48,20 +55,19 @@ fn prefix_list_takes_lengths(rt: HostRuntime) -> Result<(), Fail> {
 fn least_number_decides(rt: HostRuntime) -> Result<(), Fail> {
     let inner = prefix(10, 1, 0, 0, 16);
     let outer = prefix_entry(10, true, prefix(10, 0, 0, 0, 8), 8, 32);
-    let denied = prefix_entry(5, false, inner, 16, 16);
-    let late = prefix_entry(20, false, inner, 16, 16);
-    let alloc = rt.alloc();
-    assert!(rt; !prefix_list(&prefixes(alloc, &[outer, denied])?, &inner));
-    assert!(rt; prefix_list(&prefixes(alloc, &[late, outer])?, &inner));
-    assert!(rt; prefix_list(&prefixes(alloc, &[denied, outer])?, &prefix(10, 2, 0, 0, 16)));
+    let table = [
+        (outer, prefix_entry(5, false, inner, 16, 16), false),
+        (prefix_entry(20, false, inner, 16, 16), outer, true),
+        (prefix_entry(10, false, inner, 16, 16), outer, false),
+    ];
+    for (first, second, wanted) in table {
+        let list = prefixes(rt.alloc(), &[first, second])?;
+        assert_eq!(rt; prefix_list(&list, &inner), wanted);
+    }
     Ok(())
 }
 
-fn communities(
-    alloc: Global,
-    permit: bool,
-    values: &[u32],
-) -> Result<CommunityList, AllocError> {
+fn communities(alloc: Global, permit: bool, values: &[u32]) -> Result<CommunityList, AllocError> {
     let mut entries = List::new(alloc);
     entries.items.push(CommunityEntry {
         line: 1,
@@ -77,9 +83,11 @@ fn communities(
 #[test]
 fn community_entry_wants_all_its_values(rt: HostRuntime) -> Result<(), Fail> {
     let list = communities(rt.alloc(), true, &[4_259_840_001, 4_259_840_002])?;
-    assert!(rt; !community_list(&list, &[4_259_840_001]));
-    assert!(rt; community_list(&list, &[4_259_840_001, 4_259_840_002, 4_259_840_003]));
-    assert!(rt; !community_list(&communities(rt.alloc(), false, &[])?, &[]));
+    let one = [4_259_840_001, 4_259_840_003, 4_259_840_004];
+    let both = [4_259_840_001, 4_259_840_002, 4_259_840_003];
+    for (carried, wanted) in [(one, false), (both, true)] {
+        assert_eq!(rt; community_list(&list, &carried), wanted);
+    }
     Ok(())
 }
 
@@ -98,39 +106,47 @@ fn paths(alloc: Global, patterns: &[Pattern]) -> Result<AsPathList, AllocError> 
     })
 }
 
-/// Which of the six patterns match a path: empty, any, only 7, first 7, last 7, and anywhere 7.
-fn matched(alloc: Global, path: &[u32]) -> Result<[bool; 6], AllocError> {
-    Ok([
-        as_path_list(&paths(alloc, &[Pattern::Empty])?, path),
-        as_path_list(&paths(alloc, &[Pattern::Any])?, path),
-        as_path_list(&paths(alloc, &[Pattern::Only(7)])?, path),
-        as_path_list(&paths(alloc, &[Pattern::First(7)])?, path),
-        as_path_list(&paths(alloc, &[Pattern::Last(7)])?, path),
-        as_path_list(&paths(alloc, &[Pattern::Has(7)])?, path),
-    ])
+/// Which of the six patterns match a path, as the bits of a number.
+fn matched(alloc: Global, path: &[u32]) -> Result<u8, AllocError> {
+    let patterns = [
+        Pattern::Empty,
+        Pattern::Any,
+        Pattern::Only(7),
+        Pattern::First(7),
+        Pattern::Last(7),
+        Pattern::Has(7),
+    ];
+    let mut mask = 0u8;
+    for pattern in patterns {
+        let list = paths(alloc, &[pattern])?;
+        mask = (mask % 128) * 2 + u8::from(as_path_list(&list, path));
+    }
+    Ok(mask)
 }
 
-/// A path of 255 numbers, all 8 but for one at a place.
-fn long_path(alloc: Global, place: u32, number: u32) -> Result<Vec<u32>, AllocError> {
+/// A path of so many numbers, all 8 but for the 7 at a place.
+fn path_with(alloc: Global, len: u32, place: u32) -> Result<Vec<u32>, AllocError> {
     let mut path = Vec::new(alloc);
-    for i in 0..255u32 {
-        path.push(if i == place { number } else { 8 })?;
+    for i in 0..len {
+        path.push(if i == place { 7 } else { 8 })?;
     }
     Ok(path)
 }
 
 #[test]
 fn patterns_match_paths(rt: HostRuntime) -> Result<(), Fail> {
-    let alloc = rt.alloc();
-    assert_eq!(rt; matched(alloc, &[])?, [true, true, false, false, false, false]);
-    assert_eq!(rt; matched(alloc, &[7])?, [false, true, true, true, true, true]);
-    assert_eq!(rt; matched(alloc, &[8])?, [false, true, false, false, false, false]);
-    let first = long_path(alloc, 0, 7)?;
-    assert_eq!(rt; matched(alloc, first.as_slice())?, [false, true, false, true, false, true]);
-    let middle = long_path(alloc, 100, 7)?;
-    assert_eq!(rt; matched(alloc, middle.as_slice())?, [false, true, false, false, false, true]);
-    let last = long_path(alloc, 254, 7)?;
-    assert_eq!(rt; matched(alloc, last.as_slice())?, [false, true, false, false, true, true]);
+    let table = [
+        (0, 0, 0b110000),
+        (1, 0, 0b011111),
+        (1, 1, 0b010000),
+        (255, 0, 0b010101),
+        (255, 100, 0b010001),
+        (255, 254, 0b010011),
+    ];
+    for (len, place, wanted) in table {
+        let path = path_with(rt.alloc(), len, place)?;
+        assert_eq!(rt; matched(rt.alloc(), path.as_slice())?, wanted);
+    }
     Ok(())
 }
 
@@ -172,39 +188,49 @@ fn packet(src: u32, proto: u8, dport: u16) -> Packet {
 }
 
 #[test]
-fn wildcards_need_be_no_prefix(rt: HostRuntime) -> Result<(), Fail> {
+fn access_entries_test_packets(rt: HostRuntime) -> Result<(), Fail> {
     // Every even address whose third octet is 5, whatever its second one.
-    let pattern = Wild {
+    let even = Wild {
         addr: Addr(0x0a00_0500),
         wild: 0x00ff_00fe,
     };
-    let list = access(rt.alloc(), &[tcp(pattern, Ports::Any)])?;
-    assert!(rt; access_list(&list, &packet(0x0a63_0542, 6, 80)));
-    assert!(rt; !access_list(&list, &packet(0x0a63_0543, 6, 80)));
-    assert!(rt; !access_list(&list, &packet(0x0a63_0642, 6, 80)));
-    assert!(rt; !access_list(&list, &packet(0x0a63_0542, 17, 80)));
-    Ok(())
-}
-
-#[test]
-fn ports_at_their_ends(rt: HostRuntime) -> Result<(), Fail> {
-    let alloc = rt.alloc();
-    let none = access(alloc, &[tcp(EVERYWHERE, Ports::Empty)])?;
-    assert!(rt; !access_list(&none, &packet(1, 6, 0)));
-    assert!(rt; !access_list(&none, &packet(1, 6, 65535)));
-    let other = access(alloc, &[tcp(EVERYWHERE, Ports::Not(80))])?;
-    assert!(rt; access_list(&other, &packet(1, 6, 81)));
-    assert!(rt; !access_list(&other, &packet(1, 6, 80)));
-    let range = access(alloc, &[tcp(EVERYWHERE, Ports::Range(80, 81))])?;
-    assert!(rt; !access_list(&range, &packet(1, 6, 79)));
-    assert!(rt; access_list(&range, &packet(1, 6, 80)));
-    assert!(rt; access_list(&range, &packet(1, 6, 81)));
-    assert!(rt; !access_list(&range, &packet(1, 6, 82)));
+    let table = [
+        (tcp(even, Ports::Any), packet(0x0a63_0542, 6, 80), true),
+        (tcp(even, Ports::Any), packet(0x0a63_0543, 6, 80), false),
+        (tcp(even, Ports::Any), packet(0x0a63_0642, 6, 80), false),
+        (tcp(even, Ports::Any), packet(0x0a63_0542, 17, 80), false),
+        (tcp(EVERYWHERE, Ports::Empty), packet(1, 6, 0), false),
+        (tcp(EVERYWHERE, Ports::Empty), packet(1, 6, 65535), false),
+        (tcp(EVERYWHERE, Ports::Not(80)), packet(1, 6, 81), true),
+        (tcp(EVERYWHERE, Ports::Not(80)), packet(1, 6, 80), false),
+        (
+            tcp(EVERYWHERE, Ports::Range(80, 81)),
+            packet(1, 6, 79),
+            false,
+        ),
+        (
+            tcp(EVERYWHERE, Ports::Range(80, 81)),
+            packet(1, 6, 80),
+            true,
+        ),
+        (
+            tcp(EVERYWHERE, Ports::Range(80, 81)),
+            packet(1, 6, 82),
+            false,
+        ),
+    ];
+    for (entry, packet, wanted) in table {
+        let list = access(rt.alloc(), &[entry])?;
+        assert_eq!(rt; access_list(&list, &packet), wanted);
+    }
     Ok(())
 }
 
 /// A route with a path and communities.
-fn route(alloc: Global, path: &[u32], carried: &[u32]) -> Result<MapRec, AllocError> {
+fn route(alloc: Global, path: &[u32], carried: &[u32]) -> Result<MapRec, AllocError>
+    ensures path { IfOk result (λ r. r.bgp.path ≡ path.now) }
+    ensures clusters { IfOk result (λ r. r.bgp.clusters ≡ []) }
+{
     let path = numbers(alloc, path)?;
     let communities = numbers(alloc, carried)?;
     let bgp = BgpRec {
@@ -274,114 +300,223 @@ fn no_policies(alloc: Global) -> Policies {
     }
 }
 
-#[test]
-fn map_denies_by_a_path_and_then_sets_a_preference(rt: HostRuntime) -> Result<(), Fail> {
-    let alloc = rt.alloc();
-    let mut policies = no_policies(alloc);
-    policies.as_paths.items.push(paths(alloc, &[Pattern::Has(65002)])?)?;
-    let avoid = Some(Match::Paths(uses(alloc, b"1")?));
-    let mut map = one_entry(alloc, entry(alloc, 20, true, None, Some(SetAct::LocalPref(200)))?)?;
-    map.entries.items.push(entry(alloc, 10, false, avoid, None)?)?;
-    let p = prefix(10, 1, 0, 0, 16);
-    let long = route(alloc, &[65001, 65002], &[])?;
-    let short = route(alloc, &[65001], &[])?;
-    assert!(rt; route_map(alloc, &map, &policies, &p, &long, Side::External)?.is_none());
-    match route_map(alloc, &map, &policies, &p, &short, Side::External)? {
-        Some(made) => assert_eq!(rt; made.bgp.local_pref, 200),
-        None => assert!(rt; false),
-    }
-    Ok(())
+/// A map of which entry 20 sets a preference and entry 10 denies what AS-path list 1 permits.
+fn avoiding(alloc: Global) -> Result<RouteMap, AllocError> {
+    let line = Match::Paths(uses(alloc, b"1")?);
+    let mut map = one_entry(
+        alloc,
+        entry(alloc, 20, true, None, Some(SetAct::LocalPref(200)))?,
+    )?;
+    map.entries
+        .items
+        .push(entry(alloc, 10, false, Some(line), None)?)?;
+    Ok(map)
 }
 
-/// The preference that a map of one entry with this match line gives, or 0 where it drops the route.
-fn kept(
+/// The preference that a map gives a route, or 0 where it drops the route.
+fn preference(
     alloc: Global,
+    map: &RouteMap,
     policies: &Policies,
-    line: Match,
-    rec: &MapRec,
-    side: Side,
+    path: &[u32],
+    carried: &[u32],
 ) -> Result<u32, AllocError> {
-    let map = one_entry(alloc, entry(alloc, 10, true, Some(line), None)?)?;
-    let made = route_map(alloc, &map, policies, &prefix(10, 1, 0, 0, 16), rec, side)?;
+    let rec = route(alloc, path, carried)?;
+    let p = prefix(10, 1, 0, 0, 16);
+    let made = route_map(alloc, map, policies, &p, &rec, Side::External)?;
     Ok(made.map_or(0, |rec| rec.bgp.local_pref))
 }
 
 #[test]
-fn each_kind_of_match(rt: HostRuntime) -> Result<(), Fail> {
-    let alloc = rt.alloc();
-    let mut policies = no_policies(alloc);
-    let ten = Wild { addr: Addr(0x0a01_0000), wild: 0 };
-    policies.access.items.push(access(alloc, &[tcp(ten, Ports::Any)])?)?;
-    policies.communities.items.push(communities(alloc, true, &[7])?)?;
-    policies.as_paths.items.push(paths(alloc, &[Pattern::First(5)])?)?;
-    let wide = prefix_entry(5, true, prefix(10, 0, 0, 0, 8), 16, 16);
-    policies.prefix_lists.items.push(prefixes(alloc, &[wide])?)?;
-    let rec = route(alloc, &[5, 6], &[7])?;
-    let other = route(alloc, &[6, 5], &[8])?;
-    for side in [Side::External, Side::Internal, Side::Redistribution] {
-        // The tested packet has protocol 0, so an entry for TCP takes no route.
-        assert_eq!(rt; kept(alloc, &policies, Match::Access(uses(alloc, b"101")?), &rec, side)?, 0);
-        assert_eq!(rt; kept(alloc, &policies, Match::Prefixes(uses(alloc, b"P")?), &rec, side)?, 100);
-        assert_eq!(rt; kept(alloc, &policies, Match::Communities(uses(alloc, b"1")?), &rec, side)?, 100);
-        assert_eq!(rt; kept(alloc, &policies, Match::Communities(uses(alloc, b"1")?), &other, side)?, 0);
-        assert_eq!(rt; kept(alloc, &policies, Match::Paths(uses(alloc, b"1")?), &rec, side)?, 100);
-        assert_eq!(rt; kept(alloc, &policies, Match::Paths(uses(alloc, b"1")?), &other, side)?, 0);
-        assert_eq!(rt; kept(alloc, &policies, Match::Paths(uses(alloc, b"2")?), &rec, side)?, 0);
+fn map_denies_by_a_path_and_then_sets_a_preference(rt: HostRuntime) -> Result<(), Fail> {
+    let mut policies = no_policies(rt.alloc());
+    policies
+        .as_paths
+        .items
+        .push(paths(rt.alloc(), &[Pattern::Has(65002)])?)?;
+    let map = avoiding(rt.alloc())?;
+    for (path, wanted) in [([65001, 65002], 0), ([65001, 65003], 200)] {
+        assert_eq!(rt;
+            preference(rt.alloc(), &map, &policies, &path, &[])?,
+            wanted
+        );
     }
     Ok(())
 }
 
-/// The route that one set line leaves of a route with path 5 6 and communities 20 and 40.
-fn left(alloc: Global, line: SetAct, side: Side) -> Result<MapRec, AllocError> {
-    let map = one_entry(alloc, entry(alloc, 10, true, None, Some(line))?)?;
-    let rec = route(alloc, &[5, 6], &[20, 40])?;
-    let p = prefix(10, 1, 0, 0, 16);
-    let made = route_map(alloc, &map, &no_policies(alloc), &p, &rec, side)?;
-    match made {
-        Some(rec) => Ok(rec),
-        None => route(alloc, &[], &[]),
+/// One list of each kind: access list 101 takes nothing of protocol 0, prefix list P takes /16 inside 10.0.0.0/8,
+/// community list 1 takes 7, and AS-path list 1 paths that begin with 5.
+fn one_of_each(alloc: Global) -> Result<Policies, AllocError> {
+    let mut policies = no_policies(alloc);
+    let wide = prefix_entry(5, true, prefix(10, 0, 0, 0, 8), 16, 16);
+    policies
+        .access
+        .items
+        .push(access(alloc, &[tcp(EVERYWHERE, Ports::Any)])?)?;
+    policies.prefix_lists.items.push(prefixes(alloc, &[wide])?)?;
+    policies
+        .communities
+        .items
+        .push(communities(alloc, true, &[7])?)?;
+    policies
+        .as_paths
+        .items
+        .push(paths(alloc, &[Pattern::First(5)])?)?;
+    Ok(policies)
+}
+
+/// A match line by the number of its kind.
+fn line_of(kind: u32, names: List<Use>) -> Match {
+    match kind {
+        0 => Match::Access(names),
+        1 => Match::Prefixes(names),
+        2 => Match::Communities(names),
+        _ => Match::Paths(names),
     }
 }
 
 #[test]
+fn each_kind_of_match(rt: HostRuntime) -> Result<(), Fail> {
+    let policies = one_of_each(rt.alloc())?;
+    let table = [
+        (0, "101", 5, 7, 0),
+        (1, "P", 5, 7, 100),
+        (2, "1", 5, 7, 100),
+        (2, "1", 5, 8, 0),
+        (3, "1", 5, 7, 100),
+        (3, "1", 6, 7, 0),
+        (3, "2", 5, 7, 0),
+    ];
+    for (kind, named, number, community, wanted) in table {
+        let line = line_of(kind, uses(rt.alloc(), named.as_bytes())?);
+        let map = one_entry(rt.alloc(), entry(rt.alloc(), 10, true, Some(line), None)?)?;
+        assert_eq!(rt;
+            preference(rt.alloc(), &map, &policies, &[number, 6], &[community])?,
+            wanted
+        );
+    }
+    Ok(())
+}
+
+/// A set line by a number.
+fn setting(alloc: Global, which: u32) -> Result<SetAct, AllocError> {
+    match which {
+        0 => Ok(SetAct::LocalPref(7)),
+        1 => Ok(SetAct::Metric(7)),
+        2 => Ok(SetAct::Weight(7)),
+        3 => Ok(SetAct::Origin(true)),
+        4 => Ok(SetAct::Origin(false)),
+        5 => Ok(SetAct::Type1(true)),
+        6 => Ok(SetAct::NoCommunity),
+        7 => Ok(SetAct::Community(numbers(alloc, &[30, 10, 30])?, false)),
+        8 => Ok(SetAct::Community(numbers(alloc, &[30, 20])?, true)),
+        _ => Ok(SetAct::Prepend(numbers(alloc, &[9, 9])?)),
+    }
+}
+
+/// The decimal digits of these numbers, of two each, as one number.
+fn digits(items: &[u32]) -> u64 {
+    let mut number = 0u64;
+    for item in items {
+        number = number.wrapping_mul(100).wrapping_add(u64::from(*item));
+    }
+    number
+}
+
+/// What is seen of a record: preference, MED, weight, origin, type 1, and its communities and path by their digits.
+fn seen(rec: &MapRec) -> [u64; 7] {
+    let origin = match rec.bgp.origin {
+        Origin::Igp => 0,
+        Origin::Egp => 1,
+        Origin::Incomplete => 2,
+    };
+    [
+        u64::from(rec.bgp.local_pref),
+        u64::from(rec.bgp.med),
+        u64::from(rec.bgp.weight),
+        origin,
+        u64::from(rec.type1),
+        digits(rec.bgp.communities.as_slice()),
+        digits(rec.bgp.path.as_slice()),
+    ]
+}
+
+/// What one set line leaves of a route with path 5 6 and communities 20 and 40.
+fn left(alloc: Global, which: u32, side: Side) -> Result<[u64; 7], AllocError> {
+    let line = setting(alloc, which)?;
+    let map = one_entry(alloc, entry(alloc, 10, true, None, Some(line))?)?;
+    let rec = route(alloc, &[5, 6], &[20, 40])?;
+    let p = prefix(10, 1, 0, 0, 16);
+    let made = route_map(alloc, &map, &no_policies(alloc), &p, &rec, side)?;
+    Ok(made.map_or([0; 7], |rec| seen(&rec)))
+}
+
+#[test]
 fn each_set_line_on_each_side(rt: HostRuntime) -> Result<(), Fail> {
-    let alloc = rt.alloc();
+    let table = [
+        [7, 0, 0, 1, 0, 2040, 506],
+        [100, 7, 0, 1, 0, 2040, 506],
+        [100, 0, 7, 1, 0, 2040, 506],
+        [100, 0, 0, 0, 0, 2040, 506],
+        [100, 0, 0, 2, 0, 2040, 506],
+        [100, 0, 0, 1, 1, 2040, 506],
+        [100, 0, 0, 1, 0, 0, 506],
+        [100, 0, 0, 1, 0, 1030, 506],
+        [100, 0, 0, 1, 0, 203_040, 506],
+    ];
     for side in [Side::External, Side::Internal, Side::Redistribution] {
-        assert_eq!(rt; left(alloc, SetAct::LocalPref(7), side)?.bgp.local_pref, 7);
-        assert_eq!(rt; left(alloc, SetAct::Metric(7), side)?.bgp.med, 7);
-        assert_eq!(rt; left(alloc, SetAct::Weight(7), side)?.bgp.weight, 7);
-        assert_eq!(rt; left(alloc, SetAct::Origin(true), side)?.bgp.origin, Origin::Igp);
-        assert_eq!(rt; left(alloc, SetAct::Origin(false), side)?.bgp.origin, Origin::Incomplete);
-        assert!(rt; left(alloc, SetAct::Type1(true), side)?.type1);
-        let none = left(alloc, SetAct::NoCommunity, side)?;
-        assert!(rt; none.bgp.communities.items.is_empty());
-        let alone = left(alloc, SetAct::Community(numbers(alloc, &[30, 10, 30])?, false), side)?;
-        assert_eq!(rt; alone.bgp.communities.items.as_slice(), [10, 30].as_slice());
-        let beside = left(alloc, SetAct::Community(numbers(alloc, &[30, 20])?, true), side)?;
-        assert_eq!(rt; beside.bgp.communities.items.as_slice(), [20, 30, 40].as_slice());
-        let longer = left(alloc, SetAct::Prepend(numbers(alloc, &[9, 9])?), side)?;
-        if side == Side::External {
-            assert_eq!(rt; longer.bgp.path.items.as_slice(), [9, 9, 5, 6].as_slice());
-        } else {
-            assert_eq!(rt; longer.bgp.path.items.as_slice(), [5, 6].as_slice());
+        let mut which = 0u32;
+        for wanted in table {
+            assert_eq!(rt; left(rt.alloc(), which, side)?, wanted);
+            which = which.wrapping_add(1);
         }
     }
     Ok(())
 }
 
 #[test]
-fn untracked_communities_change_no_shape(rt: HostRuntime) -> Result<(), Fail> {
-    let alloc = rt.alloc();
+fn numbers_are_prepended_on_external_sides_alone(rt: HostRuntime) -> Result<(), Fail> {
+    let longer = [100, 0, 0, 1, 0, 2040, 9_090_506];
+    let same = [100, 0, 0, 1, 0, 2040, 506];
+    let table = [
+        (Side::External, longer),
+        (Side::Internal, same),
+        (Side::Redistribution, same),
+    ];
+    for (side, wanted) in table {
+        assert_eq!(rt; left(rt.alloc(), 9, side)?, wanted);
+    }
+    Ok(())
+}
+
+/// The shape of a route with path 5 8 7, where 10 and 20, and 5, 6 and 7, are tracked.
+fn shape_with(alloc: Global, carried: &[u32]) -> Result<Option<Shape>, AllocError> {
     let tracked = Tracked {
         communities: numbers(alloc, &[10, 20])?,
         numbers: numbers(alloc, &[5, 6, 7])?,
         clusters: List::new(alloc),
     };
-    let few = route(alloc, &[5, 8, 7], &[20])?;
-    let many = route(alloc, &[5, 8, 7], &[1, 20, 99])?;
-    let seen = shape(&few.bgp, &tracked);
-    assert_eq!(rt; seen, shape(&many.bgp, &tracked));
-    assert_eq!(rt; (seen.len, seen.first, seen.last), (3, 5, 7));
-    assert_eq!(rt; (seen.numbers, seen.communities), (5, 2));
+    let rec = route(alloc, &[5, 8, 7], carried)?;
+    if rec.bgp.path.items.len() < 10 {
+        Ok(Some(shape(&rec.bgp, &tracked)))
+    } else {
+        Ok(None)
+    }
+}
+
+#[test]
+fn untracked_communities_change_no_shape(rt: HostRuntime) -> Result<(), Fail> {
+    let wanted = Shape {
+        len: 3,
+        first: 5,
+        last: 7,
+        numbers: 5,
+        communities: 2,
+        cluster_len: 0,
+        clusters: 0,
+    };
+    for carried in [[20, 90], [1, 20]] {
+        assert_eq!(rt; shape_with(rt.alloc(), &carried)?, Some(wanted));
+    }
     Ok(())
 }

@@ -1,5 +1,5 @@
 -- A choice between two routes, part by part.
-use Rattle.std.proofs.Common.{◌≡◌, ◌&&◌, Bool, true, false, if◌then◌else◌, List, Option, Some, None, refl, sym}
+use Rattle.std.proofs.Common.{◌≡◌, ◌&&◌, Bool, true, false, if◌then◌else◌, List, Option, Some, None, refl}
 use Rattle.std.specs.Option.{option_and_then}
 use Rattle.sym_policy.specs.Shapes.{Preferences, PathShape, RouteShape}
 
@@ -12,9 +12,14 @@ chosen_parts true x y preferences path marks type1 p q r s =
 chosen_parts false x y preferences path marks type1 p q r s =
     λ i. record { preferences = p i; path = q i; communities = r i; type1 = s i }
 
--- a map over a route that is there where one test holds, into one that is there where another does
-pub joined : (there permitted : Bool) (before after : RouteShape) (F : RouteShape → Option RouteShape)
-    → F before ≡ (if permitted then Some after else None)
-    → (if there && permitted then Some after else None) ≡ option_and_then F (if there then Some before else None)
-joined true permitted before after F h = sym h
-joined false permitted before after F h = refl
+-- what is there where two tests hold
+pub both_there : (a b : Bool) (x : RouteShape)
+    → (if a && b then Some x else None) ≡ (if a then (if b then Some x else None) else None)
+both_there true b x = refl
+both_there false b x = refl
+
+-- a map over a route that is there where a test holds
+pub mapped_there : (there : Bool) (x : RouteShape) (F : RouteShape → Option RouteShape)
+    → (if there then F x else None) ≡ option_and_then F (if there then Some x else None)
+mapped_there true x F = refl
+mapped_there false x F = refl

@@ -1,6 +1,6 @@
 //! Route maps over terms.
 
-ghost use Rattle.std.specs.Prelude.{◌≡◌, ℕ, ◌+◌, ◌<◌, ◌≤◌, ◌^◌, Bool, true, Some, IfOk, IfSome, length, max};
+ghost use Rattle.std.specs.Prelude.{◌≡◌, ℕ, ◌+◌, ◌<◌, ◌≤◌, ◌^◌, Bool, true, if◌then◌else◌, Some, None, IfOk, IfSome, length, max};
 ghost use Rattle.std.specs.Option.{option_map, option_and_then};
 ghost use Rattle.term_store.specs.Terms.{Reading, size, at};
 ghost use Rattle.term_store.specs.Reading.{Reads, Builds, Gives};
@@ -138,6 +138,31 @@ fn with_route(
     Ok(SymMapRec { bgp, type1 })
 }
 
+/// A record with what a map makes of it: it is there where it was there before and the map permits it.
+fn with_made(
+    alloc: Global,
+    terms: &mut Terms,
+    rec: &SymMapRec,
+    made: SymMade,
+) -> Result<SymMapRec, AllocError>
+    requires nodes { map_rec_end rec.now ≤ size terms.old }
+    requires made { made_end made ≤ size terms.old }
+    ensures builds { Builds terms.old terms.new }
+    ensures within { IfOk result (λ r. map_rec_end r ≤ size terms.new) }
+    ensures numbers { IfOk result (λ r. length r.bgp.numbers.nodes ≡ length made.route.path.numbers.nodes) }
+    ensures communities { IfOk result (λ r. length r.bgp.communities.nodes ≡ length made.route.communities.nodes) }
+    ensures rest { IfOk result (λ r. KeepsRest rec.now r) }
+    ensures value { Gives terms.new result (λ w r. map_rec_at w r ≡ (if at w rec.now.bgp.valid then made_at w made else None)) }
+{
+    let SymMade {
+        valid: permitted,
+        route,
+    } = made;
+    let valid = both(terms, rec.bgp.valid, permitted)?;
+    let left = with_route(alloc, rec, valid, route)?;
+    Ok(left)
+}
+
 /// What a route map makes of a route.
 fn sym_mapped(
     alloc: Global,
@@ -208,11 +233,6 @@ pub fn sym_route_map(
     let route = route_of(alloc, rec)?;
     let external = side.is_external();
     let made = sym_mapped(alloc, terms, tracked, policies, map, dst, len, &route, external)?;
-    let SymMade {
-        valid: permitted,
-        route: left,
-    } = made;
-    let valid = both(terms, rec.bgp.valid, permitted)?;
-    let mapped = with_route(alloc, rec, valid, left)?;
-    Ok(mapped)
+    let left = with_made(alloc, terms, rec, made)?;
+    Ok(left)
 }
