@@ -11,3 +11,4 @@ pub mod Entries
 pub mod Lists
 pub mod Clauses
 pub mod Policies
+pub mod Worked

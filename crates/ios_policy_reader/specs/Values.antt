@@ -1,5 +1,6 @@
 -- Names and numbers that the words of a line say.
-use Rattle.std.specs.Prelude.{ℕ, ◌==◌, ◌||◌, Bool, List, [], map, fold, filter, slice_get, unwrap_or, decimal, if◌then◌else◌}
+use Rattle.std.specs.Prelude.{ℕ, ◌==◌, ◌||◌, Bool, List, [], map, fold, filter, slice_get, unwrap_or, if◌then◌else◌}
+use Rattle.std.specs.Fmt.{decimal}
 use Rattle.std.specs.Ordering.{nat_cmp}
 use Rattle.std.specs.BTreeSet.{insert_key}
 use Rattle.ios_ast.specs.declared.file.Use.{Use}

@@ -1,4 +1,5 @@
 //! What the grammar says of bad words. Each function only carries its law.
+#![tactic(auto, unfolding(crate::specs::Masks::length_below, crate::specs::Words::port_of, crate::specs::Edges::said_by, crate::specs::Edges::said_back))]
 
 ghost use Rattle.std.specs.Prelude.{◌≡◌, ℕ, true, codes, drop, List, [], Ok, Err};
 ghost use Rattle.ios_policy_reader.specs.Edges.{read_from, bad_word_of, bad_word_from};

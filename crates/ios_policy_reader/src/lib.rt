@@ -14,6 +14,7 @@ pub mod masks;
 pub mod names;
 pub mod patterns;
 pub mod policies;
+pub mod policy_laws;
 pub mod policy_lines;
 pub mod room;
 pub mod router_laws;

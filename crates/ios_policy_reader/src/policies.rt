@@ -1,12 +1,13 @@
 //! Reads the lines of lists and route maps.
 
-ghost use Rattle.std.specs.Prelude.{◌≡◌, ◌≢◌, ◌-◌, ◌<◌, ◌^◌, IfOk, IfErr, OnErr, Ok, Err, false, length};
-ghost use Rattle.ios_policy_reader.specs.Policies.{open_line, map_line, taken_in, access_block, map_block, is_top_row, top_line, context_of, put, is_policy_row, context_reading, policy_reading};
+ghost use Rattle.std.specs.Prelude.{◌≡◌, ◌≢◌, ◌-◌, ◌<◌, ◌≤◌, ◌^◌, IfOk, IfErr, OnErr, Ok, Err, false, length};
+ghost use Rattle.ios_policy_reader.specs.Heads.{said_in};
+ghost use Rattle.ios_policy_reader.specs.Policies.{open_line, map_line, taken_in, access_block, map_block, is_top_row, top_line, context_of, put, is_policy_row, said_reading, context_reading, policy_reading};
 
 use crate::access_lists::access_list_place;
 use crate::cause::{Cause, Refused};
 use crate::clauses::last_entry;
-use crate::heads::{Context, Row, find_row};
+use crate::heads::{Context, Found, Row, find_row};
 use crate::lists::map_place;
 use crate::policy_lines::{
     put_access_line, put_community_line, put_entry_line, put_map_block_line, put_map_line,
@@ -179,6 +180,24 @@ fn put_line(
     Ok(Step { taken: true, block })
 }
 
+/// Reads a line of a row.
+fn read_of_row(
+    alloc: Global,
+    block: PolicyBlock,
+    found: Found,
+    line: &Line,
+    policies: &mut Policies,
+) -> Result<Step, Cause>
+    requires few { length line.now.words < 2 ^ 32 - 1 }
+    requires head { found.head ≤ length line.now.words }
+    ensures ok { IfOk result (λ step. said_reading block found.row line.now policies.old (said_in found line.now.words) ≡ Ok (record { taken = step.taken; block = step.block; policies = policies.new })) }
+    ensures refused { IfErr result (λ cause. cause ≢ Cause.Memory → said_reading block found.row line.now policies.old (said_in found line.now.words) ≡ Err cause) }
+    ensures unchanged { OnErr result (policies.new ≡ policies.old) }
+{
+    let said = read_row(alloc, found, line.words.as_slice())?;
+    put_line(alloc, block, found.row, line, said.as_slice(), policies)
+}
+
 /// Reads a line that stands in a context.
 fn read_in(
     alloc: Global,
@@ -192,15 +211,12 @@ fn read_in(
     ensures refused { IfErr result (λ cause. cause ≢ Cause.Memory → context_reading context block line.now policies.old ≡ Err cause) }
     ensures unchanged { OnErr result (policies.new ≡ policies.old) }
 {
-    let words = line.words.as_slice();
-    let Ok(found) = find_row(context, words) else {
-        return Ok(passed(block));
-    };
-    if !takes_row(context, found.row) {
-        return Ok(passed(block));
+    match find_row(context, line.words.as_slice()) {
+        Ok(found) if takes_row(context, found.row) => {
+            read_of_row(alloc, block, found, line, policies)
+        }
+        _ => Ok(passed(block)),
     }
-    let said = read_row(alloc, found, words)?;
-    put_line(alloc, block, found.row, line, said.as_slice(), policies)
 }
 
 /// Reads a line in the open block, or at the top, where it closes the block.
