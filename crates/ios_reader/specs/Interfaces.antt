@@ -1,5 +1,5 @@
 -- What lines say of interfaces and static routes (Cisco IOS command references).
-use Rattle.std.specs.Prelude.{ℕ, false, min, List, Option, None, codes, if◌then◌else◌}
+use Rattle.std.specs.Prelude.{ℕ, false, min, List, None, codes, if◌then◌else◌}
 use Rattle.mw_text.specs.declared.address.Addr.{Addr}
 use Rattle.mw_text.specs.declared.words.Line.{Line}
 use Rattle.ios_ast.specs.declared.file.Iface.{Iface}

@@ -1,5 +1,5 @@
 -- What a line of an OSPF block does to the process (Cisco IOS command references).
-use Rattle.std.specs.Prelude.{ℕ, true, List, [], ◌∷◌, ◌++◌, is_some, Some, Result, Ok, Err, if◌then◌else◌}
+use Rattle.std.specs.Prelude.{true, List, [], ◌∷◌, ◌++◌, is_some, Some, Result, Ok, Err, if◌then◌else◌}
 use Rattle.mw_text.specs.declared.words.Line.{Line}
 use Rattle.ios_ast.specs.declared.ospf.Ospf.{Ospf}
 use Rattle.ios_policy_reader.specs.declared.cause.Cause.{Cause}

@@ -1,5 +1,5 @@
 -- What a line of the open block does to the draft.
-use Rattle.std.specs.Prelude.{ℕ, ◌-◌, List, length, slice_get, slice_set, Some, Result, Ok, Err}
+use Rattle.std.specs.Prelude.{◌-◌, List, length, slice_get, slice_set, Some, Result, Ok, Err}
 use Rattle.std.specs.Option.{option_map_or}
 use Rattle.mw_text.specs.declared.words.Line.{Line}
 use Rattle.ios_policy_reader.specs.declared.cause.Cause.{Cause}

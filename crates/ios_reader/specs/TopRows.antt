@@ -1,5 +1,5 @@
 -- What a top line of a router does to the draft (Cisco IOS command references).
-use Rattle.std.specs.Prelude.{ℕ, ◌==◌, false, not, List, [], ◌∷◌, ◌++◌, length, nat_le, is_some, Some, Result, Ok, Err, if◌then◌else◌}
+use Rattle.std.specs.Prelude.{ℕ, ◌==◌, false, List, [], ◌∷◌, ◌++◌, length, nat_le, is_some, Some, Result, Ok, Err, if◌then◌else◌}
 use Rattle.std.specs.List.{list_any}
 use Rattle.mw_text.specs.declared.words.Line.{Line}
 use Rattle.mw_text.specs.Text.{same_text}

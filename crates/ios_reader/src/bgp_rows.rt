@@ -58,12 +58,7 @@ fn put_network(alloc: Global, line: &Line, said: &[Said], bgp: &mut Bgp) -> Resu
     Ok(())
 }
 
-fn put_redistribution(
-    alloc: Global,
-    line: &Line,
-    said: &[Said],
-    bgp: &mut Bgp,
-) -> Result<(), Cause>
+fn put_redistribution(alloc: Global, line: &Line, said: &[Said], bgp: &mut Bgp) -> Result<(), Cause>
     ensures ok { IfOk result (λ _. bgp.new ≡ with_redistribution line.now said.now bgp.old) }
     ensures refused { IfErr result (λ cause. cause ≡ Cause.Memory) }
 {

@@ -112,12 +112,7 @@ fn is_in_ignored_block(line: &Line, draft: &Draft) -> bool
 }
 
 /// Takes a line of a row of a router.
-fn take_row(
-    alloc: Global,
-    line: &Line,
-    rest: &[Line],
-    draft: &mut Draft,
-) -> Result<(), Cause>
+fn take_row(alloc: Global, line: &Line, rest: &[Line], draft: &mut Draft) -> Result<(), Cause>
     requires few { length line.now.words < 2 ^ 32 - 1 }
     ensures ok { IfOk result (λ _. row_line line.now rest.now draft.old ≡ Ok draft.new) }
     ensures refused { IfErr result (λ cause. cause ≢ Cause.Memory → row_line line.now rest.now draft.old ≡ Err cause) }
@@ -128,12 +123,7 @@ fn take_row(
 }
 
 /// Takes a line that is no policy's.
-fn take_own(
-    alloc: Global,
-    line: &Line,
-    rest: &[Line],
-    draft: &mut Draft,
-) -> Result<(), Cause>
+fn take_own(alloc: Global, line: &Line, rest: &[Line], draft: &mut Draft) -> Result<(), Cause>
     requires few { length line.now.words < 2 ^ 32 - 1 }
     ensures ok { IfOk result (λ _. own_line line.now rest.now draft.old ≡ Ok draft.new) }
     ensures refused { IfErr result (λ cause. cause ≢ Cause.Memory → own_line line.now rest.now draft.old ≡ Err cause) }
@@ -149,12 +139,7 @@ fn take_own(
 }
 
 /// Takes a line that says something: a policy's, or else a router's.
-fn take_words(
-    alloc: Global,
-    line: &Line,
-    rest: &[Line],
-    draft: &mut Draft,
-) -> Result<(), Cause>
+fn take_words(alloc: Global, line: &Line, rest: &[Line], draft: &mut Draft) -> Result<(), Cause>
     requires few { length line.now.words < 2 ^ 32 - 1 }
     ensures ok { IfOk result (λ _. policy_first line.now rest.now draft.old ≡ Ok draft.new) }
     ensures refused { IfErr result (λ cause. cause ≢ Cause.Memory → policy_first line.now rest.now draft.old ≡ Err cause) }
@@ -184,12 +169,7 @@ fn take_of_banner(delimiter: Delimiter, line: &Line, draft: &mut Draft)
 }
 
 /// Takes a line; `rest` are the lines after it.
-pub fn take_line(
-    alloc: Global,
-    line: &Line,
-    rest: &[Line],
-    draft: &mut Draft,
-) -> Result<(), Cause>
+pub fn take_line(alloc: Global, line: &Line, rest: &[Line], draft: &mut Draft) -> Result<(), Cause>
     requires few { length line.now.words < 2 ^ 32 - 1 }
     ensures ok { IfOk result (λ _. with_line line.now rest.now draft.old ≡ Ok draft.new) }
     ensures refused { IfErr result (λ cause. cause ≢ Cause.Memory → with_line line.now rest.now draft.old ≡ Err cause) }

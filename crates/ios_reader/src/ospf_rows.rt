@@ -29,9 +29,7 @@ fn put_network(line: &Line, said: &[Said], ospf: &mut Ospf) -> Result<(), Cause>
     ensures ok { IfOk result (λ _. ospf.new ≡ with_network line.now said.now ospf.old) }
     ensures refused { IfErr result (λ cause. cause ≡ Cause.Memory) }
 {
-    ospf.networks
-        .items
-        .push(ospf_network(line.number, said))?;
+    ospf.networks.items.push(ospf_network(line.number, said))?;
     Ok(())
 }
 

@@ -39,12 +39,7 @@ fn has_interface(interfaces: &[Iface], name: &[u8]) -> bool
 }
 
 /// Opens the block of an interface with another name than each before.
-fn put_interface(
-    alloc: Global,
-    line: &Line,
-    said: &[Said],
-    draft: &mut Draft,
-) -> Result<(), Cause>
+fn put_interface(alloc: Global, line: &Line, said: &[Said], draft: &mut Draft) -> Result<(), Cause>
     ensures ok { IfOk result (λ _. with_interface line.now said.now draft.old ≡ Ok draft.new) }
     ensures refused { IfErr result (λ cause. cause ≢ Cause.Memory → with_interface line.now said.now draft.old ≡ Err cause) }
 {

@@ -1,5 +1,3 @@
-use Rattle.std.proofs.Common.{◌≡◌, ◌∙◌, ap, sym, Err}
-use Rattle.ios_reader.specs.Reading.{at_line, with_line}
 use Rattle.ios_reader.proofs.LineByLine.{read_lines_refused}
 use Rattle.ios_reader.proofs.reader.take_at.Goals as goal
 
