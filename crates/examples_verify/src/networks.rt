@@ -159,12 +159,15 @@ fn null_route_discards(rt: HostRuntime) -> Result<(), Fail> {
 
 // A whole configuration as a router shows it, with lines that are ignored, a banner, lists that nothing uses, an interface
 // that is shut down, and the route out of an interface, with its distance and its name.
-const WHOLE: &str = "Building configuration...\n\nCurrent configuration : 700 bytes\n!\nversion 15.2\nservice timestamps debug datetime msec\n!\nhostname N1\n!\nno aaa new-model\nip cef\n!\ninterface GigabitEthernet0/0\n description to N2\n ip address 10.0.0.1 255.255.255.252\n duplex auto\n!\ninterface GigabitEthernet0/1\n ip address 10.2.0.1 255.255.0.0\n shutdown\n!\nip route 10.2.0.1 255.255.255.255 GigabitEthernet0/0 10.0.0.2 5 name to-n2\n!\nip prefix-list UNUSED seq 5 deny 10.0.0.0/8 le 32\naccess-list 101 deny tcp any any eq www\naccess-list 101 permit ip any any\n!\nbanner motd ^C\nrouter ospf 1\n^C\n!\nline con 0\n login\n!\nend\n";
+const WHOLE: &str =
+    "Building configuration...\n\nCurrent configuration : 700 bytes\n!\nversion 15.2\nservice timestamps debug datetime msec\n!\nhostname N1\n!\nno aaa new-model\nip cef\n!\ninterface GigabitEthernet0/0\n description to N2\n ip address 10.0.0.1 255.255.255.252\n duplex auto\n!\ninterface GigabitEthernet0/1\n ip address 10.2.0.1 255.255.0.0\n shutdown\n!\nip route 10.2.0.1 255.255.255.255 GigabitEthernet0/0 10.0.0.2 5 name to-n2\n!\nip prefix-list UNUSED seq 5 deny 10.0.0.0/8 le 32\naccess-list 101 deny tcp any any eq www\naccess-list 101 permit ip any any\n!\nbanner motd ^C\nrouter ospf 1\n^C\n!\nline con 0\n login\n!\nend\n";
 
 #[test]
 fn whole_configuration_is_answered(rt: HostRuntime) -> Result<(), Fail> {
-    let second = "hostname N2\ninterface GigabitEthernet0/0\n ip address 10.0.0.2 255.255.255.252\ninterface Loopback0\n ip address 10.3.0.1 255.255.255.255\n";
-    let asked = "q1 reach from N1 to router N2 packets icmp 10.0.0.1/32 any 10.0.0.2/32 any failures 0\n";
+    let second =
+        "hostname N2\ninterface GigabitEthernet0/0\n ip address 10.0.0.2 255.255.255.252\ninterface Loopback0\n ip address 10.3.0.1 255.255.255.255\n";
+    let asked =
+        "q1 reach from N1 to router N2 packets icmp 10.0.0.1/32 any 10.0.0.2/32 any failures 0\n";
     let files = [
         ("n1.cfg", WHOLE.as_bytes()),
         ("n2.cfg", second.as_bytes()),
@@ -182,11 +185,13 @@ fn whole_configuration_is_answered(rt: HostRuntime) -> Result<(), Fail> {
 }
 
 // The second router with an access list on the interface at which packets come in.
-const FILTERED: &str = "hostname N2\ninterface GigabitEthernet0/0\n ip address 10.0.0.2 255.255.255.252\n ip access-group 101 in\ninterface Loopback0\n ip address 10.2.0.1 255.255.255.255\naccess-list 101 deny tcp any any eq www\naccess-list 101 permit ip any any\n";
+const FILTERED: &str =
+    "hostname N2\ninterface GigabitEthernet0/0\n ip address 10.0.0.2 255.255.255.252\n ip access-group 101 in\ninterface Loopback0\n ip address 10.2.0.1 255.255.255.255\naccess-list 101 deny tcp any any eq www\naccess-list 101 permit ip any any\n";
 
 #[test]
 fn access_list_denies_web_packets(rt: HostRuntime) -> Result<(), Fail> {
-    let asked = "q1 reach from N1 to router N2 packets icmp 10.0.0.1/32 any 10.2.0.1/32 any failures 0\nq2 reach from N1 to router N2 packets tcp 10.0.0.1/32 1234 10.2.0.1/32 80 failures 0\n";
+    let asked =
+        "q1 reach from N1 to router N2 packets icmp 10.0.0.1/32 any 10.2.0.1/32 any failures 0\nq2 reach from N1 to router N2 packets tcp 10.0.0.1/32 1234 10.2.0.1/32 80 failures 0\n";
     let files = [
         ("n1.cfg", N1.as_bytes()),
         ("n2.cfg", FILTERED.as_bytes()),

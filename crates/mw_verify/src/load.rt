@@ -240,12 +240,7 @@ fn answered_network(alloc: Global, texts: &[Text], files: List<File>) -> Result<
     ensures stop { IfErr result (λ stop. OnStop stop (λ line. due.answered_network texts.now files ≡ Err (due.refused line)) ⊥) }
 {
     if let Some(at) = first_unbuilt(files.as_slice()) {
-        return Err(stop_with(unbuilt_refusal(
-            alloc,
-            texts,
-            files.as_slice(),
-            at,
-        )));
+        return Err(stop_with(unbuilt_refusal(alloc, texts, files.as_slice(), at)));
     }
     match Net::of(alloc, files)? {
         Some(net) => Ok(net),

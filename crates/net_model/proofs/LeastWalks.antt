@@ -297,9 +297,13 @@ simple files failures p router (a ∷ rest) sum (there, further, walks, is) =
         let second = back.3 in
         (back.0, back.1, back.2, omega (arith, first, second, is), back.4)
     by_stands found false stands =
-        let below = found.3 in
-        (a ∷ found.0, a.cost + found.1, (there, found.1, found.2, refl), omega (arith, below, is),
-        and_from _ _ (ap not stands) found.4)
+        let below = found.3 in (
+          a ∷ found.0,
+          a.cost + found.1,
+          (there, found.1, found.2, refl),
+          omega (arith, below, is),
+          and_from _ _ (ap not stands) found.4,
+        )
 
     by_found : Shorter files failures p a.to.router further → Shorter files failures p router sum
     by_found found = by_stands found (list_any (eqb router) (standings a.to.router found.0)) refl

@@ -13,5 +13,4 @@ ghost use Rattle.net_model.specs.Distances.{IsInteriorDistance, interior_distanc
 pub fn interior_distance_law()
     ensures { (files : ListOf FileOf) (failures : FailuresOf) (p : PrefixOf) (router : ℕ) →
         IsInteriorDistance files failures p router (interior_distance files failures router p) }
-{
-}
+{}

@@ -93,9 +93,7 @@ fn permits(policies: &Policies, p: &Prefix, rec: &BgpRec, line: &Match, named: &
     match line {
         Match::Access(_) => access_permits(policies, p, named),
         Match::Prefixes(_) => prefixes_permit(policies, p, named),
-        Match::Communities(_) => {
-            communities_permit(policies, rec.communities.as_slice(), named)
-        }
+        Match::Communities(_) => { communities_permit(policies, rec.communities.as_slice(), named) }
         Match::Paths(_) => paths_permit(policies, rec.path.as_slice(), named),
     }
 }

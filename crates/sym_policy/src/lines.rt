@@ -75,10 +75,22 @@ fn sym_list_permits(
         Match::Prefixes(_) => sym_prefixes_named(alloc, terms, policies, dst, len, named),
         Match::Communities(_) => {
             let marks = route.communities.nodes.as_slice();
-            sym_communities_named(terms, policies, tracked.communities.as_slice(), marks, named)
+            sym_communities_named(
+                terms,
+                policies,
+                tracked.communities.as_slice(),
+                marks,
+                named,
+            )
         }
         Match::Paths(_) => {
-            sym_paths_named(terms, policies, tracked.numbers.as_slice(), &route.path, named)
+            sym_paths_named(
+                terms,
+                policies,
+                tracked.numbers.as_slice(),
+                &route.path,
+                named,
+            )
         }
     }
 }
@@ -104,8 +116,9 @@ fn sym_line(
 {
     let mut any = constant_node(terms, false)?;
     for named in names(line) {
-        let permits =
-            sym_list_permits(alloc, terms, policies, tracked, dst, len, route, line, named)?;
+        let permits = sym_list_permits(
+            alloc, terms, policies, tracked, dst, len, route, line, named,
+        )?;
         any = either(terms, any, permits)?;
     }
     Ok(any)
@@ -160,8 +173,9 @@ fn sym_kind(
 {
     let mut any = constant_node(terms, false)?;
     for line in lines {
-        let holds =
-            sym_line_of(alloc, terms, policies, tracked, dst, len, route, line, wanted)?;
+        let holds = sym_line_of(
+            alloc, terms, policies, tracked, dst, len, route, line, wanted,
+        )?;
         any = either(terms, any, holds)?;
     }
     Ok(any)
@@ -188,7 +202,9 @@ fn sym_kind_passes(
     ensures value { Gives terms.new result (λ w r. at w r ≡ kind_passes (shape_line_holds policies.now tracked.now (prefix_of w dst.now len) (path_at w route.now.path) (bits w route.now.communities.nodes)) lines.now wanted) }
 {
     if asks_for(lines, wanted) {
-        sym_kind(alloc, terms, policies, tracked, dst, len, route, lines, wanted)
+        sym_kind(
+            alloc, terms, policies, tracked, dst, len, route, lines, wanted,
+        )
     } else {
         constant_node(terms, true)
     }

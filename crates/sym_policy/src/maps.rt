@@ -232,7 +232,9 @@ pub fn sym_route_map(
 {
     let route = route_of(alloc, rec)?;
     let external = side.is_external();
-    let made = sym_mapped(alloc, terms, tracked, policies, map, dst, len, &route, external)?;
+    let made = sym_mapped(
+        alloc, terms, tracked, policies, map, dst, len, &route, external,
+    )?;
     let left = with_made(alloc, terms, rec, made)?;
     Ok(left)
 }
