@@ -1,0 +1,179 @@
+-- Small networks, and the routes that go over them.
+use Rattle.std.specs.Prelude.{ℕ, Bool, true, false, List, [], ◌∷◌, codes, Option, Some, None}
+use Rattle.mw_text.specs.declared.address.Addr.{Addr}
+use Rattle.mw_text.specs.declared.address.Prefix.{Prefix}
+use Rattle.ios_ast.specs.declared.bgp.Bgp.{Bgp}
+use Rattle.ios_ast.specs.declared.bgp.Neighbour.{Neighbour}
+use Rattle.ios_ast.specs.declared.file.File.{File}
+use Rattle.ios_ast.specs.declared.file.Iface.{Iface}
+use Rattle.ios_ast.specs.declared.file.Use.{Use}
+use Rattle.ios_ast.specs.declared.ospf.Ospf.{Ospf}
+use Rattle.ios_ast.specs.declared.ospf.Redist.{Redist}
+use Rattle.ios_ast.specs.declared.ospf.Source.TheVariants.{Connected}
+use Rattle.route_record.specs.declared.BgpMsg.{BgpMsg}
+use Rattle.route_record.specs.declared.BgpRec.{BgpRec}
+use Rattle.route_record.specs.declared.Failures.{Failures}
+use Rattle.route_record.specs.declared.Learnt.{Learnt}
+use Rattle.route_record.specs.declared.Learnt.TheVariants.{Peer}
+use Rattle.route_record.specs.declared.Origin.TheVariants.{Igp}
+use Rattle.route_record.specs.declared.OspfKind.{OspfKind}
+use Rattle.route_record.specs.declared.OspfRec.{OspfRec}
+use Rattle.route_record.specs.declared.RibSource.TheVariants as source
+use Rattle.route_record.specs.declared.Slot.{Slot}
+use Rattle.net_model.specs.Decisions.{Candidate}
+
+abbrev pub address : ℕ → Addr
+address a = record { 0 = a }
+
+abbrev pub prefix : ℕ → ℕ → Prefix
+prefix a len = record { addr = address a; len = len }
+
+abbrev pub failed : List ℕ → Failures
+failed links = record { links = links }
+
+-- an interface of a gigabit a second
+abbrev pub interface : List ℕ → ℕ → ℕ → Iface
+interface name a len = record {
+  line = 1;
+  name = name;
+  address = Some (record { line = 1; addr = address a; len = len });
+  shutdown = false;
+  bandwidth = 1000000;
+  cost = None;
+  list_in = None;
+  list_out = None;
+}
+
+-- OSPF on all interfaces in 10.0.0.0/8, by the reference of 100 Mb/s
+abbrev pub ospf : List Redist → Ospf
+ospf redistribute = record {
+  line = 1;
+  process = 1;
+  networks = record { line = 1; addr = address 167772160; wild = 16777215; area = 0 } ∷ [];
+  passive_default = false;
+  passive = [];
+  active = [];
+  reference = 100;
+  redistribute = redistribute;
+  default = None;
+}
+
+abbrev pub router : List ℕ → List Iface → Option Ospf → Option Bgp → File
+router name interfaces process bgp = record {
+  hostname = name;
+  hostname_line = 1;
+  interfaces = interfaces;
+  statics = [];
+  ospf = process;
+  bgp = bgp;
+  policies = record { prefix_lists = []; communities = []; as_paths = []; access = []; maps = [] };
+}
+
+-- three routers with a link between each two, and a loopback 10.9.0.3 at the third
+abbrev pub triangle : List File
+triangle =
+    router (codes "K1") (interface (codes "Ethernet2") 167775233 30 ∷ interface (codes "Ethernet3") 167775489 30 ∷ []) (Some (ospf [])) None
+    ∷ router (codes "K2") (interface (codes "Ethernet1") 167775234 30 ∷ interface (codes "Ethernet3") 167778049 30 ∷ []) (Some (ospf [])) None
+    ∷ router (codes "K3") (interface (codes "Ethernet1") 167775490 30 ∷ interface (codes "Ethernet2") 167778050 30
+    ∷ interface (codes "Loopback0") 168361987 32 ∷ []) (Some (ospf [])) None ∷ []
+
+abbrev pub neighbour : ℕ → ℕ → Option Use → Neighbour
+neighbour a asn source = record {
+  line = 1;
+  addr = address a;
+  asn = asn;
+  source = source;
+  next_hop_self = false;
+  client = false;
+  send_community = false;
+  weight = 0;
+  shutdown = false;
+  prefix_in = None;
+  prefix_out = None;
+  filter_in = None;
+  filter_out = None;
+  map_in = None;
+  map_out = None;
+}
+
+abbrev pub bgp : ℕ → List Neighbour → Bgp
+bgp asn neighbours = record {
+  line = 1;
+  asn = asn;
+  router_id = None;
+  always_compare = false;
+  compare_routerid = false;
+  networks = [];
+  redistribute = [];
+  neighbours = neighbours;
+}
+
+abbrev pub loopback0 : Option Use
+loopback0 = Some (record { line = 1; name = codes "Loopback0" })
+
+-- E1 with an external peer at 192.0.2.2 and an internal session to E2, between loopbacks
+abbrev pub edge : List File
+edge =
+    router (codes "E1") (interface (codes "Ethernet0") 3221225985 30 ∷ interface (codes "Ethernet1") 167772161 30
+    ∷ interface (codes "Loopback0") 184483841 32 ∷ []) (Some (ospf []))
+    (Some (bgp 65000 (neighbour 3221225986 65001 None ∷ neighbour 184483842 65000 loopback0 ∷ [])))
+    ∷ router (codes "E2") (interface (codes "Ethernet1") 167772162 30 ∷ interface (codes "Loopback0") 184483842 32 ∷ []) (Some (ospf []))
+    (Some (bgp 65000 (neighbour 184483841 65000 loopback0 ∷ []))) ∷ []
+
+-- a message without communities and clusters
+abbrev pub message : List ℕ → ℕ → Option Addr → BgpMsg
+message path next_hop originator = record {
+  local_pref = None;
+  path = path;
+  origin = Igp;
+  med = None;
+  communities = [];
+  next_hop = address next_hop;
+  originator = originator;
+  clusters = [];
+}
+
+-- a route that was learnt from that address
+abbrev pub learnt : ℕ → List ℕ → ℕ → Option Addr → BgpRec
+learnt from path next_hop originator = record {
+  from = Peer (address from);
+  weight = 0;
+  local_pref = 0;
+  path = path;
+  origin = Igp;
+  med = 0;
+  communities = [];
+  next_hop = address next_hop;
+  originator = originator;
+  clusters = [];
+}
+
+abbrev pub route : OspfKind → ℕ → ℕ → OspfRec
+route kind metric cost = record { kind = kind; metric = metric; cost = cost }
+
+-- a candidate by its neighbouring AS, its MED and its identifier
+abbrev pub candidate : ℕ → ℕ → ℕ → Candidate
+candidate asn med id = record {
+  rec = record (learnt 1 (asn ∷ []) 1 None) { med = med; local_pref = 100 };
+  external = true;
+  cost = 0;
+  peer_id = address id;
+}
+
+-- `redistribute connected`, without `subnets`
+abbrev pub connected_routes : Redist
+connected_routes = record {
+  line = 1;
+  source = Connected;
+  metric = None;
+  type1 = false;
+  subnets = false;
+  internal = true;
+  ext1 = false;
+  ext2 = false;
+  map = None;
+}
+
+-- a slot with a connected entry
+abbrev pub connected : Slot
+connected = record { ospf = None; bgp = None; rib = Some (record { source = source.Connected; distance = 0 }) }
