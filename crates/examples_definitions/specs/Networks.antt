@@ -1,5 +1,5 @@
 -- Small networks, and the routes that go over them.
-use Rattle.std.specs.Prelude.{ℕ, Bool, true, false, List, [], ◌∷◌, codes, Option, Some, None}
+use Rattle.std.specs.Prelude.{ℕ, Bool, true, false, List, [], ◌∷◌, ◌++◌, codes, replicate, Option, Some, None}
 use Rattle.mw_text.specs.declared.address.Addr.{Addr}
 use Rattle.mw_text.specs.declared.address.Prefix.{Prefix}
 use Rattle.ios_ast.specs.declared.bgp.Bgp.{Bgp}
@@ -9,17 +9,20 @@ use Rattle.ios_ast.specs.declared.file.Iface.{Iface}
 use Rattle.ios_ast.specs.declared.file.Use.{Use}
 use Rattle.ios_ast.specs.declared.ospf.Ospf.{Ospf}
 use Rattle.ios_ast.specs.declared.ospf.Redist.{Redist}
-use Rattle.ios_ast.specs.declared.ospf.Source.TheVariants.{Connected}
+use Rattle.ios_ast.specs.declared.ospf.Source.TheVariants.{Connected, Bgp as OfBgp, Ospf as OfOspf}
 use Rattle.route_record.specs.declared.BgpMsg.{BgpMsg}
 use Rattle.route_record.specs.declared.BgpRec.{BgpRec}
 use Rattle.route_record.specs.declared.Failures.{Failures}
 use Rattle.route_record.specs.declared.Learnt.{Learnt}
-use Rattle.route_record.specs.declared.Learnt.TheVariants.{Peer}
-use Rattle.route_record.specs.declared.Origin.TheVariants.{Igp}
+use Rattle.route_record.specs.declared.Learnt.TheVariants.{Local, Peer}
+use Rattle.route_record.specs.declared.Origin.TheVariants.{Igp, Incomplete}
+use Rattle.route_record.specs.declared.Environment.{Environment}
 use Rattle.route_record.specs.declared.OspfKind.{OspfKind}
+use Rattle.route_record.specs.declared.OspfKind.TheVariants.{Ext2}
 use Rattle.route_record.specs.declared.OspfRec.{OspfRec}
 use Rattle.route_record.specs.declared.RibSource.TheVariants as source
 use Rattle.route_record.specs.declared.Slot.{Slot}
+use Rattle.route_record.specs.declared.Tables.{Tables}
 use Rattle.net_model.specs.Decisions.{Candidate}
 
 abbrev pub address : ℕ → Addr
@@ -177,3 +180,86 @@ connected_routes = record {
 -- a slot with a connected entry
 abbrev pub connected : Slot
 connected = record { ospf = None; bgp = None; rib = Some (record { source = source.Connected; distance = 0 }) }
+
+-- ---- two routers that support each other's routes
+
+-- X takes external routes of type 2 from OSPF into BGP, and Y what it learns from X by BGP into OSPF
+abbrev pub from_ospf : Redist
+from_ospf = record {
+  line = 1;
+  source = OfOspf 1;
+  metric = None;
+  type1 = false;
+  subnets = false;
+  internal = false;
+  ext1 = false;
+  ext2 = true;
+  map = None;
+}
+
+abbrev pub from_bgp : Redist
+from_bgp = record {
+  line = 1;
+  source = OfBgp 65002;
+  metric = None;
+  type1 = false;
+  subnets = true;
+  internal = true;
+  ext1 = false;
+  ext2 = false;
+  map = None;
+}
+
+abbrev pub x : File
+x =
+    router (codes "X") (interface (codes "Ethernet0") 167772161 30 ∷ []) (Some (ospf []))
+    (Some (record (bgp 65001 (neighbour 167772162 65002 None ∷ [])) { redistribute = from_ospf ∷ [] }))
+
+abbrev pub y : File
+y =
+    router (codes "Y") (interface (codes "Ethernet0") 167772162 30 ∷ []) (Some (ospf (from_bgp ∷ [])))
+    (Some (bgp 65002 (neighbour 167772161 65001 None ∷ [])))
+
+abbrev pub pair : List File
+pair = x ∷ y ∷ []
+
+abbrev pub nobody : Environment
+nobody = record { ids = []; announced = [] }
+
+abbrev pub empty : Slot
+empty = record { ospf = None; bgp = None; rib = None }
+
+-- tables with these two slots at length 24, and empty ones elsewhere
+abbrev pub tables_at_24 : Slot → Slot → Tables
+tables_at_24 of_x of_y =
+    record { slots = replicate 24 empty ++ of_x ∷ [] ++ replicate 32 empty ++ of_y ∷ [] ++ replicate 8 empty }
+
+-- 203.0.113.0/24
+abbrev pub outside : Prefix
+outside = prefix 3405803776 24
+
+abbrev pub local_route : BgpRec
+local_route = record {
+  from = Local;
+  weight = 32768;
+  local_pref = 100;
+  path = [];
+  origin = Incomplete;
+  med = 1;
+  communities = [];
+  next_hop = address 0;
+  originator = None;
+  clusters = [];
+}
+
+abbrev pub learnt_route : BgpRec
+learnt_route = record (learnt 167772161 (65001 ∷ []) 167772161 None) { local_pref = 100; origin = Incomplete; med = 1 }
+
+abbrev pub slot_of_x : Slot
+slot_of_x = record { ospf = Some (route Ext2 1 1); bgp = Some local_route; rib = Some (record { source = source.Ospf; distance = 110 }) }
+
+abbrev pub slot_of_y : Slot
+slot_of_y = record { ospf = Some (route Ext2 1 0); bgp = Some learnt_route; rib = Some (record { source = source.Ebgp; distance = 20 }) }
+
+abbrev pub supporting : Tables
+supporting = tables_at_24 slot_of_x slot_of_y
