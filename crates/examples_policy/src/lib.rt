@@ -5,3 +5,7 @@
 mod dice;
 #[cfg(test)]
 mod plain;
+#[cfg(test)]
+mod routes;
+#[cfg(test)]
+mod symbolic;
