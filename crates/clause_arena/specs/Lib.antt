@@ -1,0 +1,4 @@
+pub mod Links
+pub mod Store
+pub mod Held
+pub mod Watched
