@@ -8,7 +8,7 @@ use Rattle.clause_arena.specs.Links.{word, In, Threads, places}
 use Rattle.clause_arena.specs.Store.{IsLaid, IsLinked, IsSound}
 use Rattle.clause_arena.proofs.Threads.{places_are}
 
-word_of_zeros : (n k : ℕ) → word (replicate n 0) k ≡ 0
+pub word_of_zeros : (n k : ℕ) → word (replicate n 0) k ≡ 0
 word_of_zeros n k = elim (cases_lt k n) [ inl h ↦ get_or-replicate n k 0 0 h | inr h ↦ get_or_past (replicate n 0) k 0 (omega (arith, length-replicate {A = ℕ})) ]
 
 -- no list has a place where all words are 0

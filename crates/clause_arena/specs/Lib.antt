@@ -2,3 +2,4 @@ pub mod Links
 pub mod Store
 pub mod Held
 pub mod Watched
+pub mod Changes

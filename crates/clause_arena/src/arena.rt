@@ -1,7 +1,10 @@
 //! The arena.
 
-ghost use Rattle.std.specs.Prelude.{◌≡◌, ℕ, ◌*◌, ◌<◌, [], IfOk, IfSome, Option, Some, None, replicate};
+ghost use Rattle.std.specs.Prelude.{◌≡◌, ℕ, ◌*◌, ◌<◌, [], IfOk, IfSome, OnErr, Option, Some, None, map, true, replicate};
+ghost use Rattle.resolution_check.specs.Clauses.{is_below};
+ghost use Rattle.resolution_check.specs.Earned.{vars_differ};
 
+use crate::adding::add_in;
 use crate::names::{ClauseRef, Watch};
 use crate::reading::{code, code_in, literal, number_in, size_in};
 use crate::walking::{first_in, next_in};
@@ -48,7 +51,9 @@ fn no_watches(alloc: Global, vars: u64) -> Result<Vec<u64>, AllocError>
 impl Arena {
     ghost use Rattle.resolution_check.specs.declared.log.Lit.{Lit};
     ghost use Rattle.clause_arena.specs.Links.{places};
+    ghost use Rattle.clause_arena.specs.declared.names.ClauseRef.{ClauseRef};
     ghost use Rattle.clause_arena.specs.declared.names.Watch.{Watch};
+    ghost use Rattle.clause_arena.specs.Changes.{Adds};
     ghost use Rattle.clause_arena.specs.Held.{IsHeld, size_of, number_of, lit_at, clauses, code_of};
     ghost use Rattle.clause_arena.specs.Watched.{place, place_or, own, Stands, head, left};
 
@@ -64,6 +69,21 @@ impl Arena {
             refs: Vec::new(alloc),
             vars,
         })
+    }
+
+    /// Adds a clause of different variables, whose number is above all numbers held. It keeps the order of the literals.
+    ///
+    /// # Errors
+    /// Want of memory alone. The arena is then unchanged.
+    pub fn add(&mut self, id: u64, lits: &[Lit]) -> Result<ClauseRef, AllocError>
+        requires below { is_below self.old.vars lits.now ≡ true }
+        requires differ { vars_differ lits.now ≡ true }
+        requires above { (c : ClauseRef) → IsHeld self.old c → number_of self.old c < id }
+        ensures ok { IfOk result (λ c. Adds self.old self.new c.0 id (map code_of lits.now)) }
+        ensures unchanged { OnErr result (self.new ≡ self.old) }
+    {
+        let clause = add_in(&mut self.words, &mut self.refs, self.vars, id, lits)?;
+        Ok(ClauseRef(clause))
     }
 
     /// How many literals a clause has.
