@@ -159,6 +159,7 @@ fn access(alloc: Global, entries: &[AccessEntry]) -> Result<AccessList, AllocErr
     Ok(AccessList {
         name: name(alloc, b"101")?,
         extended: true,
+        named: false,
         entries: List {
             items: Vec::from_slice(alloc, entries)?,
         },

@@ -88,6 +88,7 @@ pub fn access(alloc: Global, dice: &mut Dice) -> Result<AccessList, AllocError> 
     Ok(AccessList {
         name: name(alloc, b"101")?,
         extended: true,
+        named: false,
         entries,
     })
 }

@@ -1,0 +1,5 @@
+pub mod Links
+pub mod Store
+pub mod Held
+pub mod Watched
+pub mod Changes

@@ -1,0 +1,90 @@
+//! Adding of a clause behind all others.
+
+ghost use Rattle.std.specs.Prelude.{◌≡◌, ◌≢◌, ℕ, ◌+◌, ◌*◌, ◌<◌, ◌≤◌, ◌∷◌, [], ◌++◌, IfOk, OnErr, length, map, true};
+ghost use Rattle.resolution_check.specs.Clauses.{is_below};
+ghost use Rattle.resolution_check.specs.Earned.{vars_differ};
+ghost use Rattle.clause_arena.specs.Links.{word, In};
+ghost use Rattle.clause_arena.specs.Store.{IsSound, store};
+ghost use Rattle.clause_arena.specs.Held.{code_of};
+ghost use Rattle.clause_arena.specs.Changes.{HasCodes, IsWritten, IsPut, IsPlaced, Adds};
+
+use crate::reading::code;
+use resolution_check::Lit;
+use std::alloc::AllocError;
+
+/// Writes the codes of literals from a place on.
+fn write_codes(words: &mut [u64], vars: u64, at: u64, lits: &[Lit])
+    requires room { at + length lits.now ≤ length words.old }
+    requires heads { 2 * vars ≤ length words.old }
+    requires below { is_below vars lits.now ≡ true }
+    ensures { HasCodes (word words.old) (word words.new) at (map code_of lits.now) }
+{
+    for (i, lit) in lits.iter().enumerate() {
+        words[at as usize + i] = code(*lit);
+    }
+}
+
+/// Writes a clause, but for its links.
+fn write_clause(words: &mut [u64], vars: u64, clause: u64, id: u64, lits: &[Lit])
+    requires room { clause + 4 + length lits.now ≤ length words.old }
+    requires heads { 2 * vars ≤ length words.old }
+    requires below { is_below vars lits.now ≡ true }
+    ensures { IsWritten (word words.old) (word words.new) clause id (map code_of lits.now) }
+{
+    write_codes(words, vars, clause + 4, lits);
+    words[clause as usize] = lits.len() as u64;
+    words[clause as usize + 1] = id;
+}
+
+#[tactic(auto, using(crate::proofs::Placing::put_of))]
+/// Puts a place in front of the list of a code.
+pub(crate) fn put_link(words: &mut [u64], code: u64, place: u64)
+    requires code { code < length words.old }
+    requires place { place < length words.old }
+    requires apart { code ≢ place }
+    ensures { IsPut (word words.old) (word words.new) code place }
+{
+    words[place as usize] = words[code as usize];
+    words[code as usize] = place;
+}
+
+/// Writes a clause, and puts its watches in front of their lists.
+fn place_clause(words: &mut [u64], vars: u64, clause: u64, id: u64, lits: &[Lit])
+    requires room { clause + 4 + length lits.now ≤ length words.old }
+    requires heads { 2 * vars ≤ clause }
+    requires below { is_below vars lits.now ≡ true }
+    requires differ { vars_differ lits.now ≡ true }
+    ensures { IsPlaced (word words.old) (word words.new) clause id (map code_of lits.now) }
+{
+    write_clause(words, vars, clause, id, lits);
+    if lits.len() >= 2 {
+        put_link(words, code(lits[0]), clause + 2);
+        put_link(words, code(lits[1]), clause + 3);
+    }
+}
+
+/// Adds a clause.
+pub(crate) fn add_in(
+    words: &mut Vec<u64>,
+    refs: &mut Vec<u64>,
+    vars: u64,
+    id: u64,
+    lits: &[Lit],
+) -> Result<u64, AllocError>
+    requires sound { IsSound vars words.old.items refs.old.items }
+    requires below { is_below vars lits.now ≡ true }
+    requires differ { vars_differ lits.now ≡ true }
+    requires above { (s : ℕ) → In s refs.old.items → word words.old.items (s + 1) < id }
+    ensures sound { IsSound vars words.new.items refs.new.items }
+    ensures ok { IfOk result (λ r. Adds (store vars words.old.items refs.old.items)
+        (store vars words.new.items refs.new.items) r id (map code_of lits.now)) }
+    ensures words { OnErr result (words.new.items ≡ words.old.items) }
+    ensures refs { OnErr result (refs.new.items ≡ refs.old.items) }
+{
+    refs.reserve(1)?;
+    let clause = words.len() + words.len() % 2;
+    words.resize(clause + 4 + lits.len(), 0)?;
+    place_clause(words, vars, clause as u64, id, lits);
+    refs.push_reserved(clause as u64);
+    Ok(clause as u64)
+}

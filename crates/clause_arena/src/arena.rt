@@ -1,0 +1,133 @@
+//! The arena.
+
+ghost use Rattle.std.specs.Prelude.{◌≡◌, ℕ, ◌*◌, ◌<◌, [], IfOk, IfSome, OnErr, Option, Some, None, map, true, replicate};
+ghost use Rattle.resolution_check.specs.Clauses.{is_below};
+ghost use Rattle.resolution_check.specs.Earned.{vars_differ};
+
+use crate::adding::add_in;
+use crate::names::{ClauseRef, Watch};
+use crate::reading::{code, code_in, literal, number_in, size_in};
+use crate::walking::{first_in, next_in};
+use resolution_check::Lit;
+use std::alloc::{AllocError, Global};
+use std::marker::Model;
+
+/// Clauses by their references, and for each literal the list of its watches.
+#[derive(Debug, Drop)]
+pub struct Arena {
+    words: Vec<u64>,
+    // By number.
+    refs: Vec<u64>,
+    vars: u64,
+}
+
+impl Model for Arena {
+    ghost use Rattle.clause_arena.specs.Store.{Store, IsSound};
+
+    ghost Value = { Store };
+
+    ghost view = { λ a. record { vars = a.vars; words = a.words.items; refs = a.refs.items } };
+
+    ghost invariant = { λ a. IsSound a.vars a.words.items a.refs.items };
+}
+
+/// So many words that are 0.
+fn zeros(alloc: Global, count: u64) -> Result<Vec<u64>, AllocError>
+    ensures { IfOk result (λ words. words.items ≡ replicate count 0) }
+{
+    let mut words = Vec::new(alloc);
+    words.resize(count as usize, 0)?;
+    Ok(words)
+}
+
+/// The heads of empty lists.
+fn no_watches(alloc: Global, vars: u64) -> Result<Vec<u64>, AllocError>
+    ensures { IfOk result (λ words. words.items ≡ replicate (vars * 2) 0) }
+{
+    let heads = vars.checked_mul(2).ok_or(AllocError)?;
+    zeros(alloc, heads)
+}
+
+impl Arena {
+    ghost use Rattle.resolution_check.specs.declared.log.Lit.{Lit};
+    ghost use Rattle.clause_arena.specs.Links.{places};
+    ghost use Rattle.clause_arena.specs.declared.names.ClauseRef.{ClauseRef};
+    ghost use Rattle.clause_arena.specs.declared.names.Watch.{Watch};
+    ghost use Rattle.clause_arena.specs.Changes.{Adds};
+    ghost use Rattle.clause_arena.specs.Held.{IsHeld, size_of, number_of, lit_at, clauses, code_of};
+    ghost use Rattle.clause_arena.specs.Watched.{place, place_or, own, Stands, head, left};
+
+    #[tactic(auto, using(crate::proofs::Empty::sound_zeros, crate::proofs::Empty::places_of_zeros))]
+    /// No clauses so far, over the variables below `vars`.
+    pub fn new(alloc: Global, vars: u64) -> Result<Arena, AllocError>
+        ensures vars { IfOk result (λ arena. arena.vars ≡ vars) }
+        ensures clauses { IfOk result (λ arena. clauses arena ≡ []) }
+        ensures unwatched { IfOk result (λ arena. (n : ℕ) → n < 2 * vars → places arena.words n ≡ []) }
+    {
+        Ok(Arena {
+            words: no_watches(alloc, vars)?,
+            refs: Vec::new(alloc),
+            vars,
+        })
+    }
+
+    /// Adds a clause of different variables, whose number is above all numbers held. It keeps the order of the literals.
+    ///
+    /// # Errors
+    /// Want of memory alone. The arena is then unchanged.
+    pub fn add(&mut self, id: u64, lits: &[Lit]) -> Result<ClauseRef, AllocError>
+        requires below { is_below self.old.vars lits.now ≡ true }
+        requires differ { vars_differ lits.now ≡ true }
+        requires above { (c : ClauseRef) → IsHeld self.old c → number_of self.old c < id }
+        ensures ok { IfOk result (λ c. Adds self.old self.new c.0 id (map code_of lits.now)) }
+        ensures unchanged { OnErr result (self.new ≡ self.old) }
+    {
+        let clause = add_in(&mut self.words, &mut self.refs, self.vars, id, lits)?;
+        Ok(ClauseRef(clause))
+    }
+
+    /// How many literals a clause has.
+    pub fn size(&self, c: ClauseRef) -> u64
+        requires { IsHeld self.now c }
+        ensures { result ≡ size_of self.now c }
+    {
+        size_in(&self.words, &self.refs, self.vars, c.0)
+    }
+
+    /// A clause's number.
+    pub fn id(&self, c: ClauseRef) -> u64
+        requires { IsHeld self.now c }
+        ensures { result ≡ number_of self.now c }
+    {
+        number_in(&self.words, &self.refs, self.vars, c.0)
+    }
+
+    /// A clause's literal at a place.
+    pub fn lit(&self, c: ClauseRef, at: u64) -> Lit
+        requires held { IsHeld self.now c }
+        requires at { at < size_of self.now c }
+        ensures { result ≡ lit_at self.now c at }
+    {
+        literal(code_in(&self.words, &self.refs, self.vars, c.0, at))
+    }
+
+    /// The first watch in a literal's list. None at its end.
+    pub fn first_watch(&self, lit: Lit) -> Option<Watch>
+        requires { lit.var < self.now.vars }
+        ensures head { place_or result ≡ head self.now None (code_of lit) }
+        ensures stands { IfSome result (Stands self.now (code_of lit)) }
+    {
+        first_in(&self.words, &self.refs, self.vars, code(lit))
+    }
+
+    /// The watch that follows another in the list of its literal. None at its end.
+    pub fn next_watch(&self, w: Watch) -> Option<Watch>
+        requires { Stands self.now (own self.now w) w }
+        ensures head { place_or result ≡ head self.now (Some w) (own self.now w) }
+        ensures stands { IfSome result (Stands self.now (own self.now w)) }
+        ensures fewer { (before : Option Watch) → head self.now before (own self.now w) ≡ place w
+            → left self.now (Some w) (own self.now w) < left self.now before (own self.now w) }
+    {
+        next_in(&self.words, &self.refs, self.vars, w)
+    }
+}
