@@ -1,7 +1,10 @@
 pub mod Additions
 pub mod Codes
 pub mod Empty
+pub mod Moves
+pub mod Shifts
 pub mod Placing
 pub mod Settling
 pub mod Threads
 pub mod Walks
+pub mod Words

@@ -11,7 +11,7 @@ pub record Settles (vars : ℕ) (ws refs : List ℕ) (lists : ℕ → List ℕ) 
   pub places_are : (n : ℕ) → n < 2 * vars → places ws n ≡ lists n
 
 -- the link of a watch is within the words
-within_words : (vars : ℕ) (ws refs : List ℕ) (n p : ℕ) → IsLaid vars (length ws) (word ws) refs → IsWatch (word ws) refs n p → p < length ws
+pub within_words : (vars : ℕ) (ws refs : List ℕ) (n p : ℕ) → IsLaid vars (length ws) (word ws) refs → IsWatch (word ws) refs n p → p < length ws
 within_words vars ws refs n p laid w =
     let inside : w.ref + 4 + word ws w.ref ≤ length ws = laid.inside w.ref w.held in
     let at : p ≡ w.ref + 2 + w.side = w.place in

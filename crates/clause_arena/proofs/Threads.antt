@@ -170,3 +170,21 @@ in_cut f at b (q ∷ qs) j t here i ne =
     | inr off_it ↦ subst (λ (u : _). In j (cond u qs (q ∷ cut b q qs))) (sym off_it)
         (elim i [ inl k ↦ inl k | inr k ↦ inr (in_cut f q b qs j t.2 (later b at (q ∷ qs) off_it here) k ne) ])
     ]
+
+all_after : (b at : ℕ) (qs : List ℕ) → eqb b at ≡ true → length (after b at qs) ≤ length qs
+all_after b at [] h = omega arith
+all_after b at (s ∷ ss) h = subst (λ (u : _). length (cond u (s ∷ ss) (after b s ss)) ≤ length (s ∷ ss)) (sym h) (omega arith)
+
+-- fewer follow a place once the next one is taken out
+pub after_cut : (f : ℕ → ℕ) (at b : ℕ) (xs : List ℕ) → Threads f at xs → (b ≡ at) ⊎ In b xs → 0 < f b
+    → length (after b at (cut b at xs)) < length (after b at xs)
+after_cut f at b [] t (inl e) h = let z : f b ≡ 0 = ap f e ∙ t in absurd (omega arith)
+after_cut f at b [] t (inr i) h = absurd i
+after_cut f at b (q ∷ qs) t here h =
+    elim (cases_Bool (eqb b at)) [
+      inl at_it ↦ subst (λ (u : _). length (after b at (cond u qs (q ∷ cut b q qs))) < length (cond u (q ∷ qs) (after b q qs))) (sym at_it)
+        (let e : length (after b at qs) ≤ length qs = all_after b at qs at_it in omega arith)
+    | inr off_it ↦ subst (λ (u : _). length (after b at (cond u qs (q ∷ cut b q qs))) < length (cond u (q ∷ qs) (after b q qs))) (sym off_it)
+        (subst (λ (u : _). length (cond u (q ∷ cut b q qs) (after b q (cut b q qs))) < length (after b q qs)) (sym off_it)
+          (after_cut f q b qs t.2 (later b at (q ∷ qs) off_it here) h))
+    ]

@@ -82,7 +82,7 @@ low_or_high vars ws refs n b s h here =
 -- ---- how many follow
 
 -- what is followed is in the list
-followed : (f : ℕ → ℕ) (at b : ℕ) (xs : List ℕ) → 0 < first (after b at xs) → (b ≡ at) ⊎ In b xs
+pub followed : (f : ℕ → ℕ) (at b : ℕ) (xs : List ℕ) → 0 < first (after b at xs) → (b ≡ at) ⊎ In b xs
 followed f at b [] h = absurd (omega arith)
 followed f at b (q ∷ qs) h =
     elim (cases_Bool (eqb b at)) [

@@ -48,3 +48,44 @@ pub record Adds (old new : Store) (r id : ℕ) (codes : List ℕ) : Type 0 where
     → places new.words (word codes side) ≡ (r + 2 + side) ∷ places old.words (word codes side)
   pub others : (n : ℕ) → n < 2 * old.vars → ((side : ℕ) → side < 2 → 2 ≤ length codes → n ≢ word codes side)
     → places new.words n ≡ places old.words n
+
+-- a watch at place p was taken from behind the link b and put in front of the list of the code m, and the codes at x and y
+-- are now m and n
+pub record IsMoved (f g : ℕ → ℕ) (b p m n x y : ℕ) : Type 0 where
+  pub link : g b ≡ f p
+  pub place : g p ≡ f m
+  pub head : g m ≡ p
+  pub one : g x ≡ m
+  pub other : g y ≡ n
+  pub others : (j : ℕ) → j ≢ b → j ≢ p → j ≢ m → j ≢ x → j ≢ y → g j ≡ f j
+
+-- places that differ and are within so many words: a link, the place to which it leads, a head, and two places of codes
+pub record IsClear (len b p m x y : ℕ) : Type 0 where
+  pub link : b < len
+  pub place : p < len
+  pub head : m < len
+  pub one : x < len
+  pub other : y < len
+  pub link_place : b ≢ p
+  pub link_head : b ≢ m
+  pub place_head : p ≢ m
+  pub one_link : x ≢ b
+  pub one_place : x ≢ p
+  pub one_head : x ≢ m
+  pub other_link : y ≢ b
+  pub other_place : y ≢ p
+  pub other_head : y ≢ m
+  pub one_other : x ≢ y
+
+-- the place p was taken from behind the link b and put in front of the list of the code m
+pub record IsRelinked (f g : ℕ → ℕ) (b p m : ℕ) : Type 0 where
+  pub link : g b ≡ f p
+  pub place : g p ≡ f m
+  pub head : g m ≡ p
+  pub others : (j : ℕ) → j ≢ b → j ≢ p → j ≢ m → g j ≡ f j
+
+-- two words were written
+pub record IsTwo (f g : ℕ → ℕ) (x m y n : ℕ) : Type 0 where
+  pub one : g x ≡ m
+  pub other : g y ≡ n
+  pub others : (j : ℕ) → j ≢ x → j ≢ y → g j ≡ f j

@@ -3,3 +3,4 @@ pub mod Store
 pub mod Held
 pub mod Watched
 pub mod Changes
+pub mod Moved

@@ -1,10 +1,11 @@
 //! The arena.
 
-ghost use Rattle.std.specs.Prelude.{◌≡◌, ℕ, ◌*◌, ◌<◌, [], IfOk, IfSome, OnErr, Option, Some, None, map, true, replicate};
+ghost use Rattle.std.specs.Prelude.{◌≡◌, ℕ, ◌*◌, ◌<◌, ◌≤◌, [], IfOk, IfSome, OnErr, Option, Some, None, map, true, replicate};
 ghost use Rattle.resolution_check.specs.Clauses.{is_below};
 ghost use Rattle.resolution_check.specs.Earned.{vars_differ};
 
 use crate::adding::add_in;
+use crate::moving::move_in;
 use crate::names::{ClauseRef, Watch};
 use crate::reading::{code, code_in, literal, number_in, size_in};
 use crate::walking::{first_in, next_in};
@@ -54,6 +55,7 @@ impl Arena {
     ghost use Rattle.clause_arena.specs.declared.names.ClauseRef.{ClauseRef};
     ghost use Rattle.clause_arena.specs.declared.names.Watch.{Watch};
     ghost use Rattle.clause_arena.specs.Changes.{Adds};
+    ghost use Rattle.clause_arena.specs.Moved.{Moves};
     ghost use Rattle.clause_arena.specs.Held.{IsHeld, size_of, number_of, lit_at, clauses, code_of};
     ghost use Rattle.clause_arena.specs.Watched.{place, place_or, own, Stands, head, left};
 
@@ -129,5 +131,21 @@ impl Arena {
             → left self.now (Some w) (own self.now w) < left self.now before (own self.now w) }
     {
         next_in(&self.words, &self.refs, self.vars, w)
+    }
+
+    /// Exchanges the literal at a watch's side with one that is not watched, and puts the watch in front of the list of
+    /// its new literal. `before` stands directly before it in its list, or is None where it is the first. Answers what
+    /// came after it there.
+    pub fn watch_move(&mut self, before: Option<Watch>, w: Watch, to: u64) -> Option<Watch>
+        requires stands { Stands self.old (own self.old w) w }
+        requires before { head self.old before (own self.old w) ≡ place w }
+        requires behind { 2 ≤ to }
+        requires within { to < size_of self.old w.clause }
+        ensures moves { Moves self.old self.new before w to }
+        ensures head { place_or result ≡ head self.new before (own self.old w) }
+        ensures stands { IfSome result (Stands self.new (own self.old w)) }
+        ensures fewer { left self.new before (own self.old w) < left self.old before (own self.old w) }
+    {
+        move_in(&mut self.words, &self.refs, self.vars, before, w, to)
     }
 }

@@ -9,7 +9,7 @@ use crate::names::{ClauseRef, Watch};
 use crate::reading::read;
 
 /// The watch whose link stands at a place, none at 0.
-fn watch_of(place: u64) -> Option<Watch>
+pub(crate) fn watch_of(place: u64) -> Option<Watch>
     requires { (place ≡ 0) ⊎ (3 < place + 2) }
     ensures { result ≡ watch_at place }
 {
