@@ -27,10 +27,11 @@ sound_zeros vars = record {
     apart = λ r s i. absurd i;
     below = λ r k i. absurd i;
     differ = λ r j k i. absurd i;
-    numbers = λ r s i. absurd i
+    numbers = λ r s i. absurd i;
   };
   linked = record {
     threads = λ n h. subst (λ (xs : List ℕ). Threads (word (replicate (vars * 2) 0)) n xs) (sym (places_of_zeros (vars * 2) n)) (word_of_zeros (vars * 2) n);
     watch = λ n p h i. absurd (subst (λ (xs : List ℕ). In p xs) (places_of_zeros (vars * 2) n) i);
-    listed = λ r side i. absurd i
-  } }
+    listed = λ r side i. absurd i;
+  };
+}

@@ -29,7 +29,7 @@ returns-clause-head c =
     let a = c.args in
     let s = store a.vars a.words.now a.refs.now in
     let l = leads a.vars a.words.now a.refs.now (own s a.w) (place a.w) c.requires.sound
-        (code_below a.vars a.words.now a.refs.now a.w c.requires.sound c.requires.stands) (inr c.requires.stands.listed) in
+    (code_below a.vars a.words.now a.refs.now a.w c.requires.sound c.requires.stands) (inr c.requires.stands.listed) in
     ap place_or (c.watch_of.ensures ∙ ap watch_at (c.read.ensures ∙ ap (word a.words.now) c.place_of.ensures)) ∙ l.head
 
 pub returns-clause-stands : goal.returns-clause-stands
@@ -37,7 +37,7 @@ returns-clause-stands c =
     let a = c.args in
     let s = store a.vars a.words.now a.refs.now in
     let l = leads a.vars a.words.now a.refs.now (own s a.w) (place a.w) c.requires.sound
-        (code_below a.vars a.words.now a.refs.now a.w c.requires.sound c.requires.stands) (inr c.requires.stands.listed) in
+    (code_below a.vars a.words.now a.refs.now a.w c.requires.sound c.requires.stands) (inr c.requires.stands.listed) in
     subst (λ (w : Option Watch). IfSome w (Stands s (own s a.w)))
     (sym (c.watch_of.ensures ∙ ap watch_at (c.read.ensures ∙ ap (word a.words.now) c.place_of.ensures))) l.stands
 
