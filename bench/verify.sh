@@ -59,9 +59,9 @@ mixed() {
             add("interface GigabitEthernet0/" n "\n description link number " n "\n ip address 10.1." n ".1 255.255.255.0\n duplex auto\n speed auto\n ip ospf cost " n);
         for (n = 1; n <= 200; n++) add("ip prefix-list LIST" (n % 20) " permit 10." n ".0.0/16 ge 20 le 28");
         for (n = 1; n <= 200; n++) add("access-list " (100 + n % 20) " permit tcp 10." n ".0.0 0.0.255.255 any range 1000 2000 log");
-        for (n = 1; n <= 100; n++) add("route-map MAP" n " permit 10\n match ip address prefix-list LIST" (n % 20) "\n set local-preference " n "\n set community 65000:" n " additive");
+        for (n = 1; n <= 100; n++) add("route-map MAP" n " permit 10\n match ip address prefix-list LIST" (n % 20) "\n set local-preference " n "\n set community 65000:" (n % 60) " additive");
         add("ip route 10.9.0.0 255.255.0.0 10.0.1.2");
-        for (n = 0; n < 17000; n++)
+        for (n = 0; n < 17000 && bytes + 100 < 1048576; n++)
             add("ip route 172." (16 + int(n / 65536)) "." (int(n / 256) % 256) "." (n % 256) " 255.255.255.255 Ethernet1 10.0.1.2 " (1 + n % 200));
         pad = "!"; while (length(pad) < 1048576 - bytes - 1) pad = pad (1048576 - bytes - length(pad) > 65 ? "xxxxxxxxxxxxxxxxxxxxxxxxxxxxxxxxxxxxxxxxxxxxxxxxxxxxxxxxxxxxxxxx" : "x");
         print pad;
