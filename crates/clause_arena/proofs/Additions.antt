@@ -3,7 +3,7 @@ use Rattle.std.specs.Prelude.{ℕ, ◌≡◌, ◌≢◌, ◌+◌, ◌*◌, ◌%�
 use Rattle.std.proofs.Common.{sym, ◌∙◌, ap, subst, inl, inr, arith}
 use Rattle.std.proofs.lemmas.Bool.{cases_eq, cases_lt}
 use Rattle.clause_arena.specs.Links.{word, In, Threads, places}
-use Rattle.clause_arena.specs.Store.{Rises, IsWatch, IsLaid, IsLinked, IsSound, store}
+use Rattle.clause_arena.specs.Store.{IsWatch, IsLaid, IsLinked, IsSound, store}
 use Rattle.std.proofs.lemmas.List.{length-map}
 use Rattle.resolution_check.specs.declared.log.Lit.{Lit}
 use Rattle.resolution_check.specs.Clauses.{is_below}
@@ -37,14 +37,14 @@ IsOther codes n = (side : ℕ) → side < 2 → 2 ≤ length codes → n ≢ wor
 which : (codes : List ℕ) (n : ℕ) → IsWatched codes n ⊎ IsOther codes n
 which codes n =
     elim (cases_lt (length codes) 2) [
-      inl few ↦ inr (λ side low two e. omega arith)
-    | inr two ↦ elim (cases_eq n (word codes 0)) [
-        inl e ↦ inl (record { side = 0; low = omega arith; two = two; code = e })
-      | inr a ↦ elim (cases_eq n (word codes 1)) [
-          inl e ↦ inl (record { side = 1; low = omega arith; two = two; code = e })
-        | inr b ↦ inr (λ side low w e. elim (cases_eq side 0) [
-            inl z ↦ a (e ∙ ap (word codes) z)
-          | inr nz ↦ (let one : side ≡ 1 = omega arith in b (e ∙ ap (word codes) one))
+      | inl few ↦ inr (λ side low two e. omega arith)
+      | inr two ↦ elim (cases_eq n (word codes 0)) [
+        | inl e ↦ inl (record { side = 0; low = omega arith; two = two; code = e })
+        | inr a ↦ elim (cases_eq n (word codes 1)) [
+          | inl e ↦ inl (record { side = 1; low = omega arith; two = two; code = e })
+          | inr b ↦ inr (λ side low w e. elim (cases_eq side 0) [
+            | inl z ↦ a (e ∙ ap (word codes) z)
+            | inr nz ↦ (let one : side ≡ 1 = omega arith in b (e ∙ ap (word codes) one))
           ])
         ]
       ]
@@ -62,8 +62,8 @@ frame vars len f g refs r id codes first room p s k i h =
     let behind : s + 4 + f s ≤ r = room.behind s i in
     let high : 2 * vars ≤ s = first s i in
     p.others (s + k) (omega arith) (λ side low two e.
-      let below : word codes side < 2 * vars = room.below side (omega arith) in
-      omega arith)
+    let below : word codes side < 2 * vars = room.below side (omega arith) in
+    omega arith)
 
 pub same_of : (vars len : ℕ) (f g : ℕ → ℕ) (refs : List ℕ) (r id : ℕ) (codes : List ℕ) → ((s : ℕ) → In s refs → 2 * vars ≤ s)
     → IsRoom vars len f refs r id codes → IsPlaced f g r id codes → (s : ℕ) → In s refs → IsSame f g s
@@ -72,7 +72,7 @@ same_of vars len f g refs r id codes first room p s i =
     record {
       size = (let z : s + 0 ≡ s = omega arith in subst (λ (u : ℕ). g u ≡ f u) z (at 0 i (omega arith)));
       number = at 1 i (omega arith);
-      codes = λ k h. (let z : s + (4 + k) ≡ s + 4 + k = omega arith in subst (λ (u : ℕ). g u ≡ f u) z (at (4 + k) i (omega arith)))
+      codes = λ k h. (let z : s + (4 + k) ≡ s + 4 + k = omega arith in subst (λ (u : ℕ). g u ≡ f u) z (at (4 + k) i (omega arith)));
     }
 
 -- ---- where the clauses stand
@@ -87,41 +87,50 @@ laid_more vars len f g refs r id codes old laid longer room p =
       first = λ s i. elim (in_split s r refs i) [ inl k ↦ laid.first s k | inr k ↦ subst (λ (u : ℕ). 2 * vars ≤ u) (sym k) room.first ];
       even = λ s i. elim (in_split s r refs i) [ inl k ↦ laid.even s k | inr k ↦ subst (λ (u : ℕ). u % 2 ≡ 0) (sym k) room.even ];
       inside = λ s i. elim (in_split s r refs i) [
-          inl k ↦ (let a : s + 4 + f s ≤ old = laid.inside s k in let e : g s ≡ f s = (same s k).size in omega arith)
-        | inr k ↦ subst (λ (u : ℕ). u + 4 + g u ≤ len) (sym k) (let e : g r ≡ length codes = p.size in let a : r + 4 + length codes ≤ len = room.inside in omega arith) ];
+        | inl k ↦ (let a : s + 4 + f s ≤ old = laid.inside s k in let e : g s ≡ f s = (same s k).size in omega arith)
+        | inr k ↦ subst (λ (u : ℕ). u + 4 + g u ≤ len) (sym k) (let e : g r ≡ length codes = p.size in let a : r + 4 + length codes ≤ len = room.inside in omega arith)
+      ];
       apart = λ s t i j h. elim (in_split s r refs i) [
-          inl k ↦ (let e : g s ≡ f s = (same s k).size in
+        | inl k ↦ (let e : g s ≡ f s = (same s k).size in
             elim (in_split t r refs j) [
-              inl l ↦ (let a : s + 4 + f s ≤ t = laid.apart s t k l h in omega arith)
-            | inr l ↦ (let a : s + 4 + f s ≤ r = room.behind s k in omega arith) ])
+              | inl l ↦ (let a : s + 4 + f s ≤ t = laid.apart s t k l h in omega arith)
+              | inr l ↦ (let a : s + 4 + f s ≤ r = room.behind s k in omega arith)
+            ])
         | inr k ↦ elim (in_split t r refs j) [
-              inl l ↦ (let a : t + 4 + f t ≤ r = room.behind t l in absurd (omega arith))
-            | inr l ↦ absurd (omega arith) ] ];
+          | inl l ↦ (let a : t + 4 + f t ≤ r = room.behind t l in absurd (omega arith))
+          | inr l ↦ absurd (omega arith)
+        ]
+      ];
       below = λ s k i h. elim (in_split s r refs i) [
-          inl q ↦ (let z : g s ≡ f s = (same s q).size in
+        | inl q ↦ (let z : g s ≡ f s = (same s q).size in
             let e : g (s + 4 + k) ≡ f (s + 4 + k) = (same s q).codes k (omega arith) in
             let a : f (s + 4 + k) < 2 * vars = laid.below s k q (omega arith) in omega arith)
         | inr q ↦ (let h2 : k < g r = subst (λ (u : ℕ). k < g u) q h in let z : g r ≡ length codes = p.size in
             subst (λ (u : ℕ). g (u + 4 + k) < 2 * vars) (sym q)
-            (let e : g (r + 4 + k) ≡ word codes k = p.codes_at k (omega arith) in let a : word codes k < 2 * vars = room.below k (omega arith) in omega arith)) ];
+            (let e : g (r + 4 + k) ≡ word codes k = p.codes_at k (omega arith) in let a : word codes k < 2 * vars = room.below k (omega arith) in omega arith))
+      ];
       differ = λ s j k i hj hk e. elim (in_split s r refs i) [
-          inl q ↦ (let z : g s ≡ f s = (same s q).size in
+        | inl q ↦ (let z : g s ≡ f s = (same s q).size in
             let lj : j < f s = omega arith in let lk : k < f s = omega arith in
             laid.differ s j k q lj lk (sym ((same s q).codes j lj) ∙ e ∙ (same s q).codes k lk))
         | inr q ↦ (let z : g r ≡ length codes = p.size in
             let mj : j < g r = subst (λ (u : ℕ). j < g u) q hj in let mk : k < g r = subst (λ (u : ℕ). k < g u) q hk in
             let lj : j < length codes = omega arith in let lk : k < length codes = omega arith in
             let e2 : g (r + 4 + j) ≡ g (r + 4 + k) = subst (λ (u : ℕ). g (u + 4 + j) ≡ g (u + 4 + k)) q e in
-            room.differ j k lj lk (sym (p.codes_at j lj) ∙ e2 ∙ p.codes_at k lk)) ];
+            room.differ j k lj lk (sym (p.codes_at j lj) ∙ e2 ∙ p.codes_at k lk))
+      ];
       numbers = λ s t i j h. elim (in_split s r refs i) [
-          inl k ↦ (let e : g (s + 1) ≡ f (s + 1) = (same s k).number in
+        | inl k ↦ (let e : g (s + 1) ≡ f (s + 1) = (same s k).number in
             elim (in_split t r refs j) [
-              inl l ↦ (let a : f (s + 1) < f (t + 1) = laid.numbers s t k l h in let b : g (t + 1) ≡ f (t + 1) = (same t l).number in omega arith)
-            | inr l ↦ subst (λ (u : ℕ). g (s + 1) < g (u + 1)) (sym l)
-                (let a : f (s + 1) < id = room.above s k in let b : g (r + 1) ≡ id = p.number in omega arith) ])
+              | inl l ↦ (let a : f (s + 1) < f (t + 1) = laid.numbers s t k l h in let b : g (t + 1) ≡ f (t + 1) = (same t l).number in omega arith)
+              | inr l ↦ subst (λ (u : ℕ). g (s + 1) < g (u + 1)) (sym l)
+                  (let a : f (s + 1) < id = room.above s k in let b : g (r + 1) ≡ id = p.number in omega arith)
+            ])
         | inr k ↦ elim (in_split t r refs j) [
-              inl l ↦ (let a : t + 4 + f t ≤ r = room.behind t l in absurd (omega arith))
-            | inr l ↦ absurd (omega arith) ] ]
+          | inl l ↦ (let a : t + 4 + f t ≤ r = room.behind t l in absurd (omega arith))
+          | inr l ↦ absurd (omega arith)
+        ]
+      ];
     }
 
 -- ---- the lists
@@ -134,10 +143,13 @@ watch_more vars len f g refs r id codes first room p n q w =
     let low : w.side < 2 = w.low in
     let two : 2 ≤ f w.ref = w.two in
     record {
-      ref = w.ref; side = w.side; held = in_front w.ref r refs w.held; low = w.low;
+      ref = w.ref;
+      side = w.side;
+      held = in_front w.ref r refs w.held;
+      low = w.low;
       two = (let e : g w.ref ≡ f w.ref = same.size in omega arith);
       place = w.place;
-      code = same.codes w.side (omega arith) ∙ w.code
+      code = same.codes w.side (omega arith) ∙ w.code;
     }
 
 -- the link of a watch that was there leads where it led
@@ -157,47 +169,57 @@ linked_more vars len f g refs r id codes old lists more laid linked room p joine
     let high : 2 * vars ≤ r = room.first in
     record {
       threads = λ n h. elim (which codes n) [
-          inl w ↦
+        | inl w ↦
             (let low : w.side < 2 = w.low in let two : 2 ≤ length codes = w.two in
-             let e : more n ≡ (r + 2 + w.side) ∷ lists n = subst (λ (u : ℕ). more u ≡ (r + 2 + w.side) ∷ lists u) (sym w.code) (joined.watched w.side low two) in
-             let gn : g n ≡ r + 2 + w.side = ap g w.code ∙ p.heads w.side two low in
-             let gp : g (r + 2 + w.side) ≡ f n = p.links w.side two low ∙ ap f (sym w.code) in
-             subst (λ (xs : List ℕ). Threads g n xs) (sym e)
-             (gn, omega arith, threads_from f g n (r + 2 + w.side) (lists n) (linked.threads n h) gp (link n h)))
+            let e : more n ≡ (r + 2 + w.side) ∷ lists n = subst (λ (u : ℕ). more u ≡ (r + 2 + w.side) ∷ lists u) (sym w.code) (joined.watched w.side low two) in
+            let gn : g n ≡ r + 2 + w.side = ap g w.code ∙ p.heads w.side two low in
+            let gp : g (r + 2 + w.side) ≡ f n = p.links w.side two low ∙ ap f (sym w.code) in
+            subst (λ (xs : List ℕ). Threads g n xs) (sym e)
+            (gn, omega arith, threads_from f g n (r + 2 + w.side) (lists n) (linked.threads n h) gp (link n h)))
         | inr o ↦ subst (λ (xs : List ℕ). Threads g n xs) (sym (joined.others n o))
-            (threads_from f g n n (lists n) (linked.threads n h) (p.others n (omega arith) o) (link n h)) ];
+            (threads_from f g n n (lists n) (linked.threads n h) (p.others n (omega arith) o) (link n h))
+      ];
       watch = λ n q h i. elim (which codes n) [
-          inl w ↦
+        | inl w ↦
             (let low : w.side < 2 = w.low in let two : 2 ≤ length codes = w.two in
-             let e : more n ≡ (r + 2 + w.side) ∷ lists n = subst (λ (u : ℕ). more u ≡ (r + 2 + w.side) ∷ lists u) (sym w.code) (joined.watched w.side low two) in
-             let i2 : (q ≡ r + 2 + w.side) ⊎ In q (lists n) = subst (λ (xs : List ℕ). In q xs) e i in
-             elim i2 [
-               inl k ↦ record { ref = r; side = w.side; held = in_end r refs; low = low;
-                 two = (let z : g r ≡ length codes = p.size in omega arith); place = k;
-                 code = p.codes_at w.side (omega arith) ∙ sym w.code }
-             | inr k ↦ watch_more vars len f g refs r id codes laid.first room p n q (linked.watch n q h k)
-             ])
+            let e : more n ≡ (r + 2 + w.side) ∷ lists n = subst (λ (u : ℕ). more u ≡ (r + 2 + w.side) ∷ lists u) (sym w.code) (joined.watched w.side low two) in
+            let i2 : (q ≡ r + 2 + w.side) ⊎ In q (lists n) = subst (λ (xs : List ℕ). In q xs) e i in
+            elim i2 [
+              | inl k ↦ record {
+                ref = r;
+                side = w.side;
+                held = in_end r refs;
+                low = low;
+                two = (let z : g r ≡ length codes = p.size in omega arith);
+                place = k;
+                code = p.codes_at w.side (omega arith) ∙ sym w.code;
+              }
+              | inr k ↦ watch_more vars len f g refs r id codes laid.first room p n q (linked.watch n q h k)
+            ])
         | inr o ↦ watch_more vars len f g refs r id codes laid.first room p n q
-            (linked.watch n q h (subst (λ (xs : List ℕ). In q xs) (joined.others n o) i)) ];
+            (linked.watch n q h (subst (λ (xs : List ℕ). In q xs) (joined.others n o) i))
+      ];
       listed = λ s side i two low. elim (in_split s r refs i) [
-          inl k ↦
+        | inl k ↦
             (let z : g s ≡ f s = (same s k).size in
-             let e : g (s + 4 + side) ≡ f (s + 4 + side) = (same s k).codes side (omega arith) in
-             let n = f (s + 4 + side) in
-             let there : In (s + 2 + side) (lists n) = linked.listed s side k (omega arith) low in
-             subst (λ (u : ℕ). In (s + 2 + side) (more u)) (sym e)
-             (elim (which codes n) [
-               inl w ↦
-                 (let e2 : more n ≡ (r + 2 + w.side) ∷ lists n = subst (λ (u : ℕ). more u ≡ (r + 2 + w.side) ∷ lists u) (sym w.code) (joined.watched w.side w.low w.two) in
+            let e : g (s + 4 + side) ≡ f (s + 4 + side) = (same s k).codes side (omega arith) in
+            let n = f (s + 4 + side) in
+            let there : In (s + 2 + side) (lists n) = linked.listed s side k (omega arith) low in
+            subst (λ (u : ℕ). In (s + 2 + side) (more u)) (sym e)
+            (elim (which codes n) [
+              | inl w ↦
+                  (let e2 : more n ≡ (r + 2 + w.side) ∷ lists n = subst (λ (u : ℕ). more u ≡ (r + 2 + w.side) ∷ lists u) (sym w.code) (joined.watched w.side w.low w.two) in
                   subst (λ (xs : List ℕ). In (s + 2 + side) xs) (sym e2) (inr there))
-             | inr o ↦ subst (λ (xs : List ℕ). In (s + 2 + side) xs) (sym (joined.others n o)) there ]))
+              | inr o ↦ subst (λ (xs : List ℕ). In (s + 2 + side) xs) (sym (joined.others n o)) there
+            ]))
         | inr k ↦
             (let two2 : 2 ≤ g r = subst (λ (u : ℕ). 2 ≤ g u) k two in
-             let z : g r ≡ length codes = p.size in
-             let w : 2 ≤ length codes = omega arith in
-             subst (λ (u : ℕ). In (u + 2 + side) (more (g (u + 4 + side)))) (sym k)
-             (subst (λ (u : ℕ). In (r + 2 + side) (more u)) (sym (p.codes_at side (omega arith)))
-              (subst (λ (xs : List ℕ). In (r + 2 + side) xs) (sym (joined.watched side low w)) (inl refl)))) ]
+            let z : g r ≡ length codes = p.size in
+            let w : 2 ≤ length codes = omega arith in
+            subst (λ (u : ℕ). In (u + 2 + side) (more (g (u + 4 + side)))) (sym k)
+            (subst (λ (u : ℕ). In (r + 2 + side) (more u)) (sym (p.codes_at side (omega arith)))
+            (subst (λ (xs : List ℕ). In (r + 2 + side) xs) (sym (joined.watched side low w)) (inl refl))))
+      ];
     }
 
 -- ---- the lists that are made so
@@ -230,19 +252,21 @@ joined_so : (lists : ℕ → List ℕ) (r : ℕ) (codes : List ℕ) → ((j k : 
     → IsJoined lists (more_lists lists r codes) r codes
 unfolding more_lists
 joined_so lists r codes differ = record {
-    watched = λ side low two. more_watched lists r codes side low two differ (which codes (word codes side));
-    others = λ n o. more_other lists r codes n o (which codes n)
-  }
+  watched = λ side low two. more_watched lists r codes side low two differ (which codes (word codes side));
+  others = λ n o. more_other lists r codes n o (which codes n);
+}
 
 -- ---- the whole addition
 
 placed_from : (f h g : ℕ → ℕ) (r id : ℕ) (codes : List ℕ) → ((k : ℕ) → h k ≡ f k) → IsPlaced h g r id codes → IsPlaced f g r id codes
 placed_from f h g r id codes same p = record {
-    size = p.size; number = p.number; codes_at = p.codes_at;
-    links = λ side two low. p.links side two low ∙ same (word codes side);
-    heads = p.heads;
-    others = λ j b o. p.others j b o ∙ same j
-  }
+  size = p.size;
+  number = p.number;
+  codes_at = p.codes_at;
+  links = λ side two low. p.links side two low ∙ same (word codes side);
+  heads = p.heads;
+  others = λ j b o. p.others j b o ∙ same j;
+}
 
 -- what an addition leaves
 pub record IsAdded (vars : ℕ) (ws refs new : List ℕ) (r id : ℕ) (codes : List ℕ) : Type 0 where
@@ -256,16 +280,20 @@ added vars ws grown new refs r id codes sound same longer room placed =
     let p = placed_from (word ws) (word grown) (word new) r id codes same placed in
     let joined = joined_so (places ws) r codes room.differ in
     let s = settle vars new (refs ++ r ∷ []) (more_lists (places ws) r codes)
-        (laid_more vars (length new) (word ws) (word new) refs r id codes (length ws) sound.laid longer room p)
-        (linked_more vars (length new) (word ws) (word new) refs r id codes (length ws) (places ws) (more_lists (places ws) r codes) sound.laid sound.linked room p joined) in
+    (laid_more vars (length new) (word ws) (word new) refs r id codes (length ws) sound.laid longer room p)
+    (linked_more vars (length new) (word ws) (word new) refs r id codes (length ws) (places ws) (more_lists (places ws) r codes) sound.laid sound.linked room p joined) in
     record {
       sound = s.sound;
       adds = record {
-        vars = refl; refs = refl; size = p.size; number = p.number; codes_at = p.codes_at;
+        vars = refl;
+        refs = refl;
+        size = p.size;
+        number = p.number;
+        codes_at = p.codes_at;
         kept = same_of vars (length new) (word ws) (word new) refs r id codes sound.laid.first room p;
         watched = λ side low two. s.places_are (word codes side) (room.below side (omega arith)) ∙ joined.watched side low two;
-        others = λ n h o. s.places_are n h ∙ joined.others n o
-      }
+        others = λ n h o. s.places_are n h ∙ joined.others n o;
+      };
     }
 
 -- behind all clauses there is room for one more
@@ -281,5 +309,5 @@ room_behind vars ws new refs r id lits sound at size below differ above =
       inside = (let l : length (map code_of lits) ≡ length lits = length-map lits code_of in omega arith);
       below = λ k h. codes_below vars lits k below h;
       differ = λ j k a b e. codes_differ lits j k differ a b e;
-      above = above
+      above = above;
     }

@@ -1,11 +1,11 @@
 -- An arena without clauses.
-use Rattle.std.specs.Prelude.{ℕ, zero, suc, ◌≡◌, ◌*◌, ◌<◌, List, [], ◌∷◌, length, replicate, refl}
-use Rattle.std.proofs.Common.{arith, get_or, subst, sym}
+use Rattle.std.specs.Prelude.{ℕ, ◌≡◌, ◌*◌, List, [], replicate}
+use Rattle.std.proofs.Common.{arith, subst, sym}
 use Rattle.std.proofs.Common.{inl, inr}
 use Rattle.std.proofs.lemmas.Bool.{cases_lt}
 use Rattle.std.proofs.lemmas.List.{get_or-replicate, get_or_past, length-replicate}
 use Rattle.clause_arena.specs.Links.{word, In, Threads, places}
-use Rattle.clause_arena.specs.Store.{IsLaid, IsLinked, IsSound}
+use Rattle.clause_arena.specs.Store.{IsSound}
 use Rattle.clause_arena.proofs.Threads.{places_are}
 
 pub word_of_zeros : (n k : ℕ) → word (replicate n 0) k ≡ 0
@@ -27,10 +27,11 @@ sound_zeros vars = record {
     apart = λ r s i. absurd i;
     below = λ r k i. absurd i;
     differ = λ r j k i. absurd i;
-    numbers = λ r s i. absurd i
+    numbers = λ r s i. absurd i;
   };
   linked = record {
     threads = λ n h. subst (λ (xs : List ℕ). Threads (word (replicate (vars * 2) 0)) n xs) (sym (places_of_zeros (vars * 2) n)) (word_of_zeros (vars * 2) n);
     watch = λ n p h i. absurd (subst (λ (xs : List ℕ). In p xs) (places_of_zeros (vars * 2) n) i);
-    listed = λ r side i. absurd i
-  } }
+    listed = λ r side i. absurd i;
+  };
+}

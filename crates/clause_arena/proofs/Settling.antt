@@ -1,6 +1,6 @@
 -- From lists that are given to those that are computed.
-use Rattle.std.specs.Prelude.{ℕ, ◌≡◌, ◌+◌, ◌*◌, ◌<◌, ◌≤◌, ◌⊎◌, List, [], ◌∷◌, ◌++◌, length, refl, ⊤}
-use Rattle.std.proofs.Common.{sym, ◌∙◌, ap, subst, inl, inr, arith}
+use Rattle.std.specs.Prelude.{ℕ, ◌≡◌, ◌+◌, ◌*◌, ◌<◌, ◌≤◌, ◌⊎◌, List, [], ◌∷◌, ◌++◌, length, refl}
+use Rattle.std.proofs.Common.{sym, subst, inl, inr, arith}
 use Rattle.clause_arena.specs.Links.{word, In, Threads, places}
 use Rattle.clause_arena.specs.Store.{Rises, IsWatch, IsLaid, IsLinked, IsSound}
 use Rattle.clause_arena.proofs.Threads.{places_are as list_places}
@@ -22,9 +22,9 @@ pub settle : (vars : ℕ) (ws refs : List ℕ) (lists : ℕ → List ℕ) → Is
     → Settles vars ws refs lists
 settle vars ws refs lists laid linked =
     let within = λ (n : ℕ) (h : n < 2 * vars) (p : ℕ) (i : In p (lists n)).
-        within_words vars ws refs n p laid (linked.watch n p h i) in
+    within_words vars ws refs n p laid (linked.watch n p h i) in
     let e : (n : ℕ) → n < 2 * vars → places ws n ≡ lists n =
-        λ n h. list_places ws n (lists n) (linked.threads n h) (within n h) in
+    λ n h. list_places ws n (lists n) (linked.threads n h) (within n h) in
     record {
       sound = record {
         laid = laid;
@@ -32,11 +32,11 @@ settle vars ws refs lists laid linked =
           threads = λ n h. subst (λ (xs : List ℕ). Threads (word ws) n xs) (sym (e n h)) (linked.threads n h);
           watch = λ n p h i. linked.watch n p h (subst (λ (xs : List ℕ). In p xs) (e n h) i);
           listed = λ r side held two low.
-            let below : word ws (r + 4 + side) < 2 * vars = laid.below r side held (omega arith) in
-            subst (λ (xs : List ℕ). In (r + 2 + side) xs) (sym (e (word ws (r + 4 + side)) below)) (linked.listed r side held two low)
-        }
+              let below : word ws (r + 4 + side) < 2 * vars = laid.below r side held (omega arith) in
+              subst (λ (xs : List ℕ). In (r + 2 + side) xs) (sym (e (word ws (r + 4 + side)) below)) (linked.listed r side held two low);
+        };
       };
-      places_are = e
+      places_are = e;
     }
 
 -- ---- members
@@ -58,6 +58,7 @@ in_end r (q ∷ qs) = inr (in_end r qs)
 
 pub rises_end : (r : ℕ) (rs : List ℕ) → Rises rs → ((s : ℕ) → In s rs → s < r) → Rises (rs ++ r ∷ [])
 rises_end r [] up below = (λ s i. absurd i, tt)
-rises_end r (q ∷ qs) up below =
-    (λ s i. elim (in_split s r qs i) [ inl k ↦ up.0 s k | inr k ↦ subst (λ (u : ℕ). q < u) (sym k) (below q (inl refl)) ],
-     rises_end r qs up.1 (λ s i. below s (inr i)))
+rises_end r (q ∷ qs) up below = (
+  λ s i. elim (in_split s r qs i) [ inl k ↦ up.0 s k | inr k ↦ subst (λ (u : ℕ). q < u) (sym k) (below q (inl refl)) ],
+  rises_end r qs up.1 (λ s i. below s (inr i)),
+)

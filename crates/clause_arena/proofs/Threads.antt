@@ -1,7 +1,7 @@
 -- Lists in words, and what a write does to them.
-use Rattle.std.specs.Prelude.{ℕ, zero, suc, ◌≡◌, ◌≢◌, ◌+◌, ◌<◌, ◌≤◌, ◌==◌, ◌⊎◌, if◌then◌else◌, List, [], ◌∷◌, length, true, false, refl, ⊤}
+use Rattle.std.specs.Prelude.{ℕ, zero, suc, ◌≡◌, ◌≢◌, ◌<◌, ◌≤◌, ◌⊎◌, List, [], ◌∷◌, length, true, false, refl}
 use Rattle.std.specs.List.{IsDistinct, AllByRecursion, list_any}
-use Rattle.std.proofs.Common.{sym, ◌∙◌, ap, subst, inl, inr, arith, cond, get_or}
+use Rattle.std.proofs.Common.{sym, ◌∙◌, ap, subst, inl, inr, arith, cond}
 use Rattle.std.proofs.lemmas.Bool.{cases_Bool, or_cases, eqb-false, ne_eqb}
 use Rattle.std.proofs.Math.Dec.{eqb}
 use borrow.Author.Tests.{eqb-true}
@@ -99,10 +99,10 @@ after_threads f at b [] t (inl e) = ap f e ∙ t
 after_threads f at b [] t (inr i) = absurd i
 after_threads f at b (q ∷ qs) t here =
     elim (cases_Bool (eqb b at)) [
-      inl at_it ↦ subst (λ (u : _). Threads f b (cond u (q ∷ qs) (after b q qs))) (sym at_it)
-        (subst (λ (u : ℕ). Threads f u (q ∷ qs)) (sym (eqb-true b at at_it)) t)
-    | inr off_it ↦ subst (λ (u : _). Threads f b (cond u (q ∷ qs) (after b q qs))) (sym off_it)
-        (after_threads f q b qs t.2 (later b at (q ∷ qs) off_it here))
+      | inl at_it ↦ subst (λ (u : _). Threads f b (cond u (q ∷ qs) (after b q qs))) (sym at_it)
+          (subst (λ (u : ℕ). Threads f u (q ∷ qs)) (sym (eqb-true b at at_it)) t)
+      | inr off_it ↦ subst (λ (u : _). Threads f b (cond u (q ∷ qs) (after b q qs))) (sym off_it)
+          (after_threads f q b qs t.2 (later b at (q ∷ qs) off_it here))
     ]
 
 pub first_threads : (f : ℕ → ℕ) (at : ℕ) (xs : List ℕ) → Threads f at xs → first xs ≡ f at
@@ -118,19 +118,20 @@ threads_cut f g at b [] t (inl e) h gb same = let z : f b ≡ 0 = ap f e ∙ t i
 threads_cut f g at b [] t (inr i) h gb same = absurd i
 threads_cut f g at b (q ∷ qs) t here h gb same =
     elim (cases_Bool (eqb b at)) [
-      inl at_it ↦ subst (λ (u : _). Threads g at (cond u qs (q ∷ cut b q qs))) (sym at_it)
-        (let e : b ≡ at = eqb-true b at at_it in
-         let fb : f b ≡ q = ap f e ∙ t.0 in
-         threads_from f g q at qs t.2 (ap g (sym e) ∙ gb ∙ ap f fb) (λ j i. same j (inr (inr i))
-           (λ (k : j ≡ b). off_own f at (q ∷ qs) t (inr (subst (λ (u : ℕ). In u qs) (k ∙ e) i)))
-           (λ (k : j ≡ f b). off_own f q qs t.2 (subst (λ (u : ℕ). In u qs) (k ∙ fb) i))))
-    | inr off_it ↦ subst (λ (u : _). Threads g at (cond u qs (q ∷ cut b q qs))) (sym off_it)
-        (let more : (b ≡ q) ⊎ In b qs = later b at (q ∷ qs) off_it here in
-         let next : In (f b) (q ∷ qs) = next_in f at b (q ∷ qs) t (inr more) h in
-         (same at (inl refl) (λ (k : at ≡ b). eqb-false b at off_it (sym k))
-            (λ (k : at ≡ f b). off_own f at (q ∷ qs) t (subst (λ (u : ℕ). In u (q ∷ qs)) (sym k) next)) ∙ t.0,
-          t.1,
-          threads_cut f g q b qs t.2 more h gb (λ j i. same j (inr i))))
+      | inl at_it ↦ subst (λ (u : _). Threads g at (cond u qs (q ∷ cut b q qs))) (sym at_it)
+          (let e : b ≡ at = eqb-true b at at_it in
+          let fb : f b ≡ q = ap f e ∙ t.0 in
+          threads_from f g q at qs t.2 (ap g (sym e) ∙ gb ∙ ap f fb) (λ j i. same j (inr (inr i))
+          (λ (k : j ≡ b). off_own f at (q ∷ qs) t (inr (subst (λ (u : ℕ). In u qs) (k ∙ e) i)))
+          (λ (k : j ≡ f b). off_own f q qs t.2 (subst (λ (u : ℕ). In u qs) (k ∙ fb) i))))
+      | inr off_it ↦ subst (λ (u : _). Threads g at (cond u qs (q ∷ cut b q qs))) (sym off_it)
+          (let more : (b ≡ q) ⊎ In b qs = later b at (q ∷ qs) off_it here in
+          let next : In (f b) (q ∷ qs) = next_in f at b (q ∷ qs) t (inr more) h in (
+            same at (inl refl) (λ (k : at ≡ b). eqb-false b at off_it (sym k))
+                (λ (k : at ≡ f b). off_own f at (q ∷ qs) t (subst (λ (u : ℕ). In u (q ∷ qs)) (sym k) next)) ∙ t.0,
+            t.1,
+            threads_cut f g q b qs t.2 more h gb (λ j i. same j (inr i)),
+          ))
     ]
 
 -- no place behind the start leads back to it
@@ -144,18 +145,18 @@ pub cut_in : (f : ℕ → ℕ) (at b : ℕ) (xs : List ℕ) (j : ℕ) → Thread
 cut_in f at b [] j t here i = absurd i
 cut_in f at b (q ∷ qs) j t here i =
     elim (cases_Bool (eqb b at)) [
-      inl at_it ↦
-        (let e : b ≡ at = eqb-true b at at_it in
-         let fb : f b ≡ q = ap f e ∙ t.0 in
-         let j_in : In j qs = subst (λ (u : _). In j (cond u qs (q ∷ cut b q qs))) at_it i in
-         (inr j_in, λ (k : j ≡ f b). off_own f q qs t.2 (subst (λ (u : ℕ). In u qs) (k ∙ fb) j_in)))
-    | inr off_it ↦
-        (let more : (b ≡ q) ⊎ In b qs = later b at (q ∷ qs) off_it here in
-         let j_in : (j ≡ q) ⊎ In j (cut b q qs) = subst (λ (u : _). In j (cond u qs (q ∷ cut b q qs))) off_it i in
-         elim j_in [
-           inl k ↦ (inl k, λ (w : j ≡ f b). off_next f q b qs t.2 more t.1 (sym w ∙ k))
-         | inr k ↦ (let found = cut_in f q b qs j t.2 more k in (inr found.0, found.1))
-         ])
+      | inl at_it ↦
+          (let e : b ≡ at = eqb-true b at at_it in
+          let fb : f b ≡ q = ap f e ∙ t.0 in
+          let j_in : In j qs = subst (λ (u : _). In j (cond u qs (q ∷ cut b q qs))) at_it i in
+          (inr j_in, λ (k : j ≡ f b). off_own f q qs t.2 (subst (λ (u : ℕ). In u qs) (k ∙ fb) j_in)))
+      | inr off_it ↦
+          (let more : (b ≡ q) ⊎ In b qs = later b at (q ∷ qs) off_it here in
+          let j_in : (j ≡ q) ⊎ In j (cut b q qs) = subst (λ (u : _). In j (cond u qs (q ∷ cut b q qs))) off_it i in
+          elim j_in [
+            | inl k ↦ (inl k, λ (w : j ≡ f b). off_next f q b qs t.2 more t.1 (sym w ∙ k))
+            | inr k ↦ (let found = cut_in f q b qs j t.2 more k in (inr found.0, found.1))
+          ])
     ]
 
 -- what was in the list and is not the place that was taken out is in it still
@@ -163,12 +164,12 @@ pub in_cut : (f : ℕ → ℕ) (at b : ℕ) (xs : List ℕ) (j : ℕ) → Thread
 in_cut f at b [] j t here i ne = absurd i
 in_cut f at b (q ∷ qs) j t here i ne =
     elim (cases_Bool (eqb b at)) [
-      inl at_it ↦ subst (λ (u : _). In j (cond u qs (q ∷ cut b q qs))) (sym at_it)
-        (let e : b ≡ at = eqb-true b at at_it in
-         let fb : f b ≡ q = ap f e ∙ t.0 in
-         elim i [ inl k ↦ absurd (ne (k ∙ sym fb)) | inr k ↦ k ])
-    | inr off_it ↦ subst (λ (u : _). In j (cond u qs (q ∷ cut b q qs))) (sym off_it)
-        (elim i [ inl k ↦ inl k | inr k ↦ inr (in_cut f q b qs j t.2 (later b at (q ∷ qs) off_it here) k ne) ])
+      | inl at_it ↦ subst (λ (u : _). In j (cond u qs (q ∷ cut b q qs))) (sym at_it)
+          (let e : b ≡ at = eqb-true b at at_it in
+          let fb : f b ≡ q = ap f e ∙ t.0 in
+          elim i [ inl k ↦ absurd (ne (k ∙ sym fb)) | inr k ↦ k ])
+      | inr off_it ↦ subst (λ (u : _). In j (cond u qs (q ∷ cut b q qs))) (sym off_it)
+          (elim i [ inl k ↦ inl k | inr k ↦ inr (in_cut f q b qs j t.2 (later b at (q ∷ qs) off_it here) k ne) ])
     ]
 
 all_after : (b at : ℕ) (qs : List ℕ) → eqb b at ≡ true → length (after b at qs) ≤ length qs
@@ -182,9 +183,9 @@ after_cut f at b [] t (inl e) h = let z : f b ≡ 0 = ap f e ∙ t in absurd (om
 after_cut f at b [] t (inr i) h = absurd i
 after_cut f at b (q ∷ qs) t here h =
     elim (cases_Bool (eqb b at)) [
-      inl at_it ↦ subst (λ (u : _). length (after b at (cond u qs (q ∷ cut b q qs))) < length (cond u (q ∷ qs) (after b q qs))) (sym at_it)
-        (let e : length (after b at qs) ≤ length qs = all_after b at qs at_it in omega arith)
-    | inr off_it ↦ subst (λ (u : _). length (after b at (cond u qs (q ∷ cut b q qs))) < length (cond u (q ∷ qs) (after b q qs))) (sym off_it)
-        (subst (λ (u : _). length (cond u (q ∷ cut b q qs) (after b q (cut b q qs))) < length (after b q qs)) (sym off_it)
+      | inl at_it ↦ subst (λ (u : _). length (after b at (cond u qs (q ∷ cut b q qs))) < length (cond u (q ∷ qs) (after b q qs))) (sym at_it)
+          (let e : length (after b at qs) ≤ length qs = all_after b at qs at_it in omega arith)
+      | inr off_it ↦ subst (λ (u : _). length (after b at (cond u qs (q ∷ cut b q qs))) < length (cond u (q ∷ qs) (after b q qs))) (sym off_it)
+          (subst (λ (u : _). length (cond u (q ∷ cut b q qs) (after b q (cut b q qs))) < length (after b q qs)) (sym off_it)
           (after_cut f q b qs t.2 (later b at (q ∷ qs) off_it here) h))
     ]

@@ -1,13 +1,13 @@
 -- Walks along the lists of watches.
-use Rattle.std.specs.Prelude.{ℕ, zero, suc, ◌≡◌, ◌≢◌, ◌+◌, ◌-◌, ◌*◌, ◌%◌, ◌<◌, ◌≤◌, ◌==◌, ◌⊎◌, List, [], ◌∷◌, length, Option, Some, None, IfSome, true, false, refl}
-use Rattle.std.proofs.Common.{sym, ◌∙◌, ap, subst, inl, inr, arith, cond, get_or}
-use Rattle.std.proofs.lemmas.Bool.{cases_Bool, cases_eq, eqb-false, ne_eqb}
+use Rattle.std.specs.Prelude.{ℕ, ◌≡◌, ◌+◌, ◌-◌, ◌*◌, ◌%◌, ◌<◌, ◌≤◌, ◌⊎◌, List, [], ◌∷◌, length, Option, Some, None, IfSome, refl}
+use Rattle.std.proofs.Common.{sym, ◌∙◌, ap, subst, inl, inr, arith, cond}
+use Rattle.std.proofs.lemmas.Bool.{cases_Bool, cases_eq, ne_eqb}
 use Rattle.std.proofs.Math.Dec.{eqb}
 use borrow.Author.Tests.{eqb-true}
 use Rattle.clause_arena.specs.declared.names.Watch.{Watch}
 use Rattle.clause_arena.specs.Links.{word, In, Threads, places, after, first}
-use Rattle.clause_arena.specs.Store.{IsSound, IsWatch, Store, store}
-use Rattle.clause_arena.specs.Watched.{place, place_or, own, Stands, rest, head, left, watch_made, watch_at, link_of}
+use Rattle.clause_arena.specs.Store.{IsSound, Store, store}
+use Rattle.clause_arena.specs.Watched.{place, place_or, own, Stands, head, left, watch_made, watch_at, link_of}
 use Rattle.clause_arena.proofs.Threads.{threads_one, next_in, after_threads, first_threads}
 
 -- ---- a place and its watch
@@ -33,10 +33,10 @@ made vars ws refs n p s h i =
         low = omega arith;
         two = subst (λ (r : ℕ). 2 ≤ word ws r) ref w.two;
         code = subst (λ (r : ℕ). word ws (r + 4 + p % 2) ≡ n) ref (subst (λ (k : ℕ). word ws (w.ref + 4 + k) ≡ n) side w.code);
-        listed = subst (λ (q : ℕ). In q (places ws n)) (sym back) i
+        listed = subst (λ (q : ℕ). In q (places ws n)) (sym back) i;
       };
       place = back;
-      high = omega arith
+      high = omega arith;
     }
 
 -- ---- what a link answers
@@ -57,13 +57,13 @@ pub leads : (vars : ℕ) (ws refs : List ℕ) (n b : ℕ) → IsSound vars ws re
 leads vars ws refs n b s h here =
     let t : Threads (word ws) n (places ws n) = s.linked.threads n h in
     let f : first (after b n (places ws n)) ≡ word ws b =
-        first_threads (word ws) b (after b n (places ws n)) (after_threads (word ws) n b (places ws n) t here) in
+    first_threads (word ws) b (after b n (places ws n)) (after_threads (word ws) n b (places ws n) t here) in
     elim (cases_eq (word ws b) 0) [
-      inl z ↦ subst (λ (answer : Option Watch). Leads (store vars ws refs) n b answer) (sym (none (word ws b) z)) (record { head = sym (f ∙ z); stands = tt })
-    | inr nz ↦
-        (let i : In (word ws b) (places ws n) = next_in (word ws) n b (places ws n) t here (omega arith) in
-         let m = made vars ws refs n (word ws b) s h i in
-         subst (λ (answer : Option Watch). Leads (store vars ws refs) n b answer) (sym (some (word ws b) nz)) (record { head = m.place ∙ sym f; stands = m.stands }))
+      | inl z ↦ subst (λ (answer : Option Watch). Leads (store vars ws refs) n b answer) (sym (none (word ws b) z)) (record { head = sym (f ∙ z); stands = tt })
+      | inr nz ↦
+          (let i : In (word ws b) (places ws n) = next_in (word ws) n b (places ws n) t here (omega arith) in
+          let m = made vars ws refs n (word ws b) s h i in
+          subst (λ (answer : Option Watch). Leads (store vars ws refs) n b answer) (sym (some (word ws b) nz)) (record { head = m.place ∙ sym f; stands = m.stands }))
     ]
 
 -- what the word at a link leads to is no place below 2
@@ -71,12 +71,12 @@ pub low_or_high : (vars : ℕ) (ws refs : List ℕ) (n b : ℕ) → IsSound vars
     → (word ws b ≡ 0) ⊎ (3 < word ws b + 2)
 low_or_high vars ws refs n b s h here =
     elim (cases_eq (word ws b) 0) [
-      inl z ↦ inl z
-    | inr nz ↦
-        (let t : Threads (word ws) n (places ws n) = s.linked.threads n h in
-         let i : In (word ws b) (places ws n) = next_in (word ws) n b (places ws n) t here (omega arith) in
-         let m = made vars ws refs n (word ws b) s h i in
-         inr (omega (arith, m.high)))
+      | inl z ↦ inl z
+      | inr nz ↦
+          (let t : Threads (word ws) n (places ws n) = s.linked.threads n h in
+          let i : In (word ws b) (places ws n) = next_in (word ws) n b (places ws n) t here (omega arith) in
+          let m = made vars ws refs n (word ws b) s h i in
+          inr (omega (arith, m.high)))
     ]
 
 -- ---- how many follow
@@ -86,8 +86,8 @@ pub followed : (f : ℕ → ℕ) (at b : ℕ) (xs : List ℕ) → 0 < first (aft
 followed f at b [] h = absurd (omega arith)
 followed f at b (q ∷ qs) h =
     elim (cases_Bool (eqb b at)) [
-      inl at_it ↦ inl (eqb-true b at at_it)
-    | inr off_it ↦ inr (followed f q b qs (subst (λ (u : _). 0 < first (cond u (q ∷ qs) (after b q qs))) off_it h))
+      | inl at_it ↦ inl (eqb-true b at at_it)
+      | inr off_it ↦ inr (followed f q b qs (subst (λ (u : _). 0 < first (cond u (q ∷ qs) (after b q qs))) off_it h))
     ]
 
 -- a list is longer than what its first place leads to

@@ -1,7 +1,7 @@
 -- Which words are whose.
-use Rattle.std.specs.Prelude.{ℕ, ◌≡◌, ◌≢◌, ◌+◌, ◌*◌, ◌%◌, ◌<◌, ◌≤◌, ◌⊎◌, List, refl}
-use Rattle.std.proofs.Common.{sym, ◌∙◌, ap, subst, inl, inr, arith}
-use Rattle.std.proofs.lemmas.Bool.{cases_order, cases_eq}
+use Rattle.std.specs.Prelude.{ℕ, ◌≡◌, ◌+◌, ◌%◌, ◌<◌, ◌≤◌, List}
+use Rattle.std.proofs.Common.{sym, ◌∙◌, ap, inl, inr, arith}
+use Rattle.std.proofs.lemmas.Bool.{cases_order}
 use Rattle.clause_arena.specs.Links.{In}
 use Rattle.clause_arena.specs.Store.{IsWatch, IsLaid}
 
@@ -10,10 +10,10 @@ pub same_word : (vars len : ℕ) (f : ℕ → ℕ) (refs : List ℕ) (r s j k : 
     → j < 4 + f r → k < 4 + f s → r + j ≡ s + k → (r ≡ s) × (j ≡ k)
 same_word vars len f refs r s j k laid i h a b e =
     elim (cases_order r s) [
-      inl same ↦ (same, omega arith)
-    | inr apart ↦ elim apart [
-        inl lt ↦ (let l : r + 4 + f r ≤ s = laid.apart r s i h lt in absurd (omega arith))
-      | inr gt ↦ (let l : s + 4 + f s ≤ r = laid.apart s r h i gt in absurd (omega arith))
+      | inl same ↦ (same, omega arith)
+      | inr apart ↦ elim apart [
+        | inl lt ↦ (let l : r + 4 + f r ≤ s = laid.apart r s i h lt in absurd (omega arith))
+        | inr gt ↦ (let l : s + 4 + f s ≤ r = laid.apart s r h i gt in absurd (omega arith))
       ]
     ]
 

@@ -1,5 +1,5 @@
 -- What a call does to the words.
-use Rattle.std.specs.Prelude.{ℕ, ◌≡◌, ◌≢◌, ◌+◌, ◌*◌, ◌<◌, ◌≤◌, ◌⊎◌, List, [], ◌∷◌, ◌++◌, length}
+use Rattle.std.specs.Prelude.{ℕ, ◌≡◌, ◌≢◌, ◌+◌, ◌*◌, ◌<◌, ◌≤◌, List, [], ◌∷◌, ◌++◌, length}
 use Rattle.clause_arena.specs.Links.{word, In, places}
 use Rattle.clause_arena.specs.Store.{Store}
 
@@ -45,9 +45,9 @@ pub record Adds (old new : Store) (r id : ℕ) (codes : List ℕ) : Type 0 where
   pub codes_at : (k : ℕ) → k < length codes → word new.words (r + 4 + k) ≡ word codes k
   pub kept : (s : ℕ) → In s old.refs → IsSame (word old.words) (word new.words) s
   pub watched : (side : ℕ) → side < 2 → 2 ≤ length codes
-    → places new.words (word codes side) ≡ (r + 2 + side) ∷ places old.words (word codes side)
+      → places new.words (word codes side) ≡ (r + 2 + side) ∷ places old.words (word codes side)
   pub others : (n : ℕ) → n < 2 * old.vars → ((side : ℕ) → side < 2 → 2 ≤ length codes → n ≢ word codes side)
-    → places new.words n ≡ places old.words n
+      → places new.words n ≡ places old.words n
 
 -- a watch at place p was taken from behind the link b and put in front of the list of the code m, and the codes at x and y
 -- are now m and n

@@ -1,5 +1,5 @@
 -- What the move of a watch does.
-use Rattle.std.specs.Prelude.{ℕ, ◌≡◌, ◌≢◌, ◌+◌, ◌*◌, ◌<◌, List, ◌∷◌, Option}
+use Rattle.std.specs.Prelude.{ℕ, ◌≡◌, ◌≢◌, ◌+◌, ◌*◌, ◌<◌, ◌∷◌, Option}
 use Rattle.clause_arena.specs.declared.names.Watch.{Watch}
 use Rattle.clause_arena.specs.Links.{word, In, places, cut}
 use Rattle.clause_arena.specs.Store.{Store}
@@ -18,4 +18,4 @@ pub record Moves (old new : Store) (before : Option Watch) (w : Watch) (to : ℕ
   pub sizes : (r : ℕ) → In r old.refs → word new.words r ≡ word old.words r
   pub numbers : (r : ℕ) → In r old.refs → word new.words (r + 1) ≡ word old.words (r + 1)
   pub codes : (r k : ℕ) → In r old.refs → k < word old.words r → (r ≡ w.clause.0 → k ≢ w.side) → (r ≡ w.clause.0 → k ≢ to)
-    → word new.words (r + 4 + k) ≡ word old.words (r + 4 + k)
+      → word new.words (r + 4 + k) ≡ word old.words (r + 4 + k)

@@ -1,4 +1,4 @@
-use Rattle.std.specs.Prelude.{ℕ, ◌≡◌, ◌+◌, ◌-◌, ◌%◌, ◌≤◌, List, [], ◌∷◌, length, map, take, replicate, ◌++◌, refl}
+use Rattle.std.specs.Prelude.{ℕ, ◌≡◌, ◌+◌, ◌%◌, ◌≤◌, List, [], ◌∷◌, length, map, ◌++◌, refl}
 use Rattle.std.proofs.Common.{sym, ◌∙◌, ap, subst, arith}
 use Rattle.clause_arena.specs.Links.{word}
 use Rattle.clause_arena.specs.Store.{IsSound, store}
@@ -28,9 +28,9 @@ whole c =
     (λ k. subst (λ (g : List ℕ). word g k ≡ word ws k) (sym c.in_ok-resize.ensures.items) (grown_word ws n _ k fits))
     (omega arith)
     (room_behind c.args.vars ws c.place_clause.new.words c.args.refs.now.items r c.args.id c.args.lits.now c.requires.sound at size
-      c.requires.below c.requires.differ c.requires.above)
+    c.requires.below c.requires.differ c.requires.above)
     (subst (λ (g : List ℕ). IsPlaced (word g) (word c.place_clause.new.words) r c.args.id (map code_of c.args.lits.now)) c.deref_mut.ensures.value
-      c.place_clause.ensures)
+    c.place_clause.ensures)
 
 refs_are : (c : goal.After-push_reserved) → c.push_reserved.new.self.items ≡ c.args.refs.now.items ++ (c.len.result + c.len-2.result % 2) ∷ []
 refs_are c = c.push_reserved.ensures.items ∙ ap (λ (xs : List ℕ). xs ++ (c.len.result + c.len-2.result % 2) ∷ []) c.in_ok-reserve.ensures.items

@@ -6,5 +6,5 @@ use Rattle.clause_arena.proofs.adding.write_codes.Given as goal
 abbrev pub invariant-loop-i : goal.invariant-loop-i
 invariant-loop-i l = record {
   codes_at : (k : ℕ) → k < l.i → word l.words (l.at + k) ≡ word (map code_of l.lits) k;
-  others : (j : ℕ) → j < l.at → word l.words j ≡ word l.fn.words j
+  others : (j : ℕ) → j < l.at → word l.words j ≡ word l.fn.words j;
 }

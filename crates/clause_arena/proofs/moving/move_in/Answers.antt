@@ -27,8 +27,8 @@ pub read-requires : goal.read-requires
 read-requires c =
     let a = c.args in
     let k = clear_at a.vars a.words.now a.refs.now a.before a.w a.to c.link_in-link.result c.place_of.result c.code_in-new.result
-        c.requires.sound c.requires.stands c.requires.before c.requires.behind c.requires.within
-        (c.link_in-link.ensures ∙ ap (link_of a.before) c.code_in-old.ensures.value) c.place_of.ensures c.code_in-new.ensures.value in
+    c.requires.sound c.requires.stands c.requires.before c.requires.behind c.requires.within
+    (c.link_in-link.ensures ∙ ap (link_of a.before) c.code_in-old.ensures.value) c.place_of.ensures c.code_in-new.ensures.value in
     let l : c.link_in-link.result < length a.words.now = k.link in
     let e : length c.turn.new.words ≡ length a.words.now = c.turn.auto.words in
     omega arith
@@ -40,8 +40,8 @@ watch_of-requires c =
     let b = link_of a.before n in
     let eb : c.link_in-link.result ≡ b = c.link_in-link.ensures ∙ ap (link_of a.before) c.code_in-old.ensures.value in
     let d = done_at a.vars a.words.now c.turn.new.words a.refs.now a.before a.w a.to c.link_in-link.result c.place_of.result c.code_in-new.result
-        c.code_in-old.result c.requires.sound c.requires.stands c.requires.before c.requires.behind c.requires.within c.turn.auto.words
-        eb c.place_of.ensures c.code_in-new.ensures.value c.code_in-old.ensures.value c.turn.ensures in
+    c.code_in-old.result c.requires.sound c.requires.stands c.requires.before c.requires.behind c.requires.within c.turn.auto.words
+    eb c.place_of.ensures c.code_in-new.ensures.value c.code_in-old.ensures.value c.turn.ensures in
     subst (λ (u : ℕ). (u ≡ 0) ⊎ (3 < u + 2)) (sym (c.read.ensures ∙ ap (word c.turn.new.words) eb))
     (low_or_high a.vars c.turn.new.words a.refs.now n b d.sound d.below d.link)
 
@@ -52,8 +52,8 @@ returns-clause-sound c =
     let b = link_of a.before n in
     let eb : c.link_in-link.result ≡ b = c.link_in-link.ensures ∙ ap (link_of a.before) c.code_in-old.ensures.value in
     let d = done_at a.vars a.words.now c.turn.new.words a.refs.now a.before a.w a.to c.link_in-link.result c.place_of.result c.code_in-new.result
-        c.code_in-old.result c.requires.sound c.requires.stands c.requires.before c.requires.behind c.requires.within c.turn.auto.words
-        eb c.place_of.ensures c.code_in-new.ensures.value c.code_in-old.ensures.value c.turn.ensures in
+    c.code_in-old.result c.requires.sound c.requires.stands c.requires.before c.requires.behind c.requires.within c.turn.auto.words
+    eb c.place_of.ensures c.code_in-new.ensures.value c.code_in-old.ensures.value c.turn.ensures in
     d.sound
 
 pub returns-clause-moves : goal.returns-clause-moves
@@ -63,8 +63,8 @@ returns-clause-moves c =
     let b = link_of a.before n in
     let eb : c.link_in-link.result ≡ b = c.link_in-link.ensures ∙ ap (link_of a.before) c.code_in-old.ensures.value in
     let d = done_at a.vars a.words.now c.turn.new.words a.refs.now a.before a.w a.to c.link_in-link.result c.place_of.result c.code_in-new.result
-        c.code_in-old.result c.requires.sound c.requires.stands c.requires.before c.requires.behind c.requires.within c.turn.auto.words
-        eb c.place_of.ensures c.code_in-new.ensures.value c.code_in-old.ensures.value c.turn.ensures in
+    c.code_in-old.result c.requires.sound c.requires.stands c.requires.before c.requires.behind c.requires.within c.turn.auto.words
+    eb c.place_of.ensures c.code_in-new.ensures.value c.code_in-old.ensures.value c.turn.ensures in
     d.moves
 
 pub returns-clause-head : goal.returns-clause-head
@@ -74,8 +74,8 @@ returns-clause-head c =
     let b = link_of a.before n in
     let eb : c.link_in-link.result ≡ b = c.link_in-link.ensures ∙ ap (link_of a.before) c.code_in-old.ensures.value in
     let d = done_at a.vars a.words.now c.turn.new.words a.refs.now a.before a.w a.to c.link_in-link.result c.place_of.result c.code_in-new.result
-        c.code_in-old.result c.requires.sound c.requires.stands c.requires.before c.requires.behind c.requires.within c.turn.auto.words
-        eb c.place_of.ensures c.code_in-new.ensures.value c.code_in-old.ensures.value c.turn.ensures in
+    c.code_in-old.result c.requires.sound c.requires.stands c.requires.before c.requires.behind c.requires.within c.turn.auto.words
+    eb c.place_of.ensures c.code_in-new.ensures.value c.code_in-old.ensures.value c.turn.ensures in
     let l = leads a.vars c.turn.new.words a.refs.now n b d.sound d.below d.link in
     ap place_or (c.watch_of.ensures ∙ ap watch_at (c.read.ensures ∙ ap (word c.turn.new.words) eb)) ∙ l.head
 
@@ -86,8 +86,8 @@ returns-clause-stands c =
     let b = link_of a.before n in
     let eb : c.link_in-link.result ≡ b = c.link_in-link.ensures ∙ ap (link_of a.before) c.code_in-old.ensures.value in
     let d = done_at a.vars a.words.now c.turn.new.words a.refs.now a.before a.w a.to c.link_in-link.result c.place_of.result c.code_in-new.result
-        c.code_in-old.result c.requires.sound c.requires.stands c.requires.before c.requires.behind c.requires.within c.turn.auto.words
-        eb c.place_of.ensures c.code_in-new.ensures.value c.code_in-old.ensures.value c.turn.ensures in
+    c.code_in-old.result c.requires.sound c.requires.stands c.requires.before c.requires.behind c.requires.within c.turn.auto.words
+    eb c.place_of.ensures c.code_in-new.ensures.value c.code_in-old.ensures.value c.turn.ensures in
     let l = leads a.vars c.turn.new.words a.refs.now n b d.sound d.below d.link in
     subst (λ (w : Option Watch). IfSome w (Stands (store a.vars c.turn.new.words a.refs.now) n))
     (sym (c.watch_of.ensures ∙ ap watch_at (c.read.ensures ∙ ap (word c.turn.new.words) eb))) l.stands
@@ -99,6 +99,6 @@ returns-clause-fewer c =
     let b = link_of a.before n in
     let eb : c.link_in-link.result ≡ b = c.link_in-link.ensures ∙ ap (link_of a.before) c.code_in-old.ensures.value in
     let d = done_at a.vars a.words.now c.turn.new.words a.refs.now a.before a.w a.to c.link_in-link.result c.place_of.result c.code_in-new.result
-        c.code_in-old.result c.requires.sound c.requires.stands c.requires.before c.requires.behind c.requires.within c.turn.auto.words
-        eb c.place_of.ensures c.code_in-new.ensures.value c.code_in-old.ensures.value c.turn.ensures in
+    c.code_in-old.result c.requires.sound c.requires.stands c.requires.before c.requires.behind c.requires.within c.turn.auto.words
+    eb c.place_of.ensures c.code_in-new.ensures.value c.code_in-old.ensures.value c.turn.ensures in
     d.fewer

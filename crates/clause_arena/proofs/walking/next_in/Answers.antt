@@ -1,4 +1,4 @@
-use Rattle.std.specs.Prelude.{◌≡◌, ◌*◌, ◌<◌, ◌≤◌, ℕ, ◌+◌, Option, Some, None, IfSome, refl}
+use Rattle.std.specs.Prelude.{Option, IfSome}
 use Rattle.std.proofs.Common.{sym, ◌∙◌, ap, subst, inr, arith}
 use Rattle.clause_arena.specs.declared.names.Watch.{Watch}
 use Rattle.clause_arena.specs.Links.{word}
@@ -29,7 +29,7 @@ returns-clause-head c =
     let a = c.args in
     let s = store a.vars a.words.now a.refs.now in
     let l = leads a.vars a.words.now a.refs.now (own s a.w) (place a.w) c.requires.sound
-        (code_below a.vars a.words.now a.refs.now a.w c.requires.sound c.requires.stands) (inr c.requires.stands.listed) in
+    (code_below a.vars a.words.now a.refs.now a.w c.requires.sound c.requires.stands) (inr c.requires.stands.listed) in
     ap place_or (c.watch_of.ensures ∙ ap watch_at (c.read.ensures ∙ ap (word a.words.now) c.place_of.ensures)) ∙ l.head
 
 pub returns-clause-stands : goal.returns-clause-stands
@@ -37,7 +37,7 @@ returns-clause-stands c =
     let a = c.args in
     let s = store a.vars a.words.now a.refs.now in
     let l = leads a.vars a.words.now a.refs.now (own s a.w) (place a.w) c.requires.sound
-        (code_below a.vars a.words.now a.refs.now a.w c.requires.sound c.requires.stands) (inr c.requires.stands.listed) in
+    (code_below a.vars a.words.now a.refs.now a.w c.requires.sound c.requires.stands) (inr c.requires.stands.listed) in
     subst (λ (w : Option Watch). IfSome w (Stands s (own s a.w)))
     (sym (c.watch_of.ensures ∙ ap watch_at (c.read.ensures ∙ ap (word a.words.now) c.place_of.ensures))) l.stands
 
