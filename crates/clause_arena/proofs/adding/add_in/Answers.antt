@@ -5,6 +5,8 @@ use Rattle.clause_arena.specs.Store.{IsSound, store}
 use Rattle.clause_arena.specs.Held.{code_of}
 use Rattle.clause_arena.specs.Changes.{IsPlaced, Adds}
 use Rattle.clause_arena.proofs.Additions.{IsAdded, added, room_behind}
+use Rattle.clause_arena.specs.Held.{clauses}
+use Rattle.clause_arena.proofs.Views.{clauses_more}
 use Rattle.clause_arena.proofs.Placing.{grown_word, taken_back}
 use Rattle.clause_arena.proofs.adding.add_in.Goals as goal
 
@@ -49,3 +51,14 @@ returns-clause-ok c =
     subst (λ (xs : List ℕ). Adds old (store c.args.vars xs c.push_reserved.new.self.items) r c.args.id codes)
     (sym (taken_back c.resize.new.self.len c.place_clause.new.words _ (c.place_clause.auto.words ∙ c.deref_mut.ensures.len)))
     (subst (λ (xs : List ℕ). Adds old (store c.args.vars c.place_clause.new.words xs) r c.args.id codes) (sym (refs_are c)) (whole c).adds)
+
+pub returns-clause-clauses : goal.returns-clause-clauses
+returns-clause-clauses c =
+    let a = c.args in
+    let old = store a.vars a.words.now.items a.refs.now.items in
+    let r = c.len.result + c.len-2.result % 2 in
+    subst (λ (xs : List ℕ). clauses (store a.vars xs c.push_reserved.new.self.items) ≡ clauses old ++ (a.id, a.lits.now) ∷ [])
+    (sym (taken_back c.resize.new.self.len c.place_clause.new.words _ (c.place_clause.auto.words ∙ c.deref_mut.ensures.len)))
+    (subst (λ (xs : List ℕ). clauses (store a.vars c.place_clause.new.words xs) ≡ clauses old ++ (a.id, a.lits.now) ∷ []) (sym (refs_are c))
+    (clauses_more a.vars a.words.now.items a.refs.now.items c.place_clause.new.words (a.refs.now.items ++ r ∷ []) r a.id a.lits.now
+    c.requires.sound (whole c).sound (whole c).adds))
