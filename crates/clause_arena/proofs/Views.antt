@@ -1,19 +1,18 @@
 -- The clauses that are held, as a list.
-use Rattle.std.specs.Prelude.{ℕ, ◌≡◌, ◌+◌, ◌-◌, ◌*◌, ◌/◌, ◌%◌, ◌<◌, ◌≤◌, ◌==◌, Bool, true, false, if◌then◌else◌, List, [], ◌∷◌, ◌++◌, length, map, take, drop, refl}
-use Rattle.std.proofs.Common.{sym, ◌∙◌, ap, subst, inl, inr, arith, cond, get_or, length-take, length-drop}
-use Rattle.std.proofs.lemmas.List.{get_or-take, get_or-drop, length-map, map-append}
+use Rattle.std.specs.Prelude.{ℕ, ◌≡◌, ◌+◌, ◌-◌, ◌*◌, ◌/◌, ◌%◌, ◌<◌, ◌≤◌, Bool, true, false, List, [], ◌∷◌, ◌++◌, length, map, take, drop, refl}
+use Rattle.std.proofs.Common.{sym, ◌∙◌, ap, subst, inl, inr, arith, length-take, length-drop}
+use Rattle.std.proofs.lemmas.List.{get_or-take, get_or-drop, map-append}
 use Rattle.std.proofs.lemmas.Grind.{same_number_lists}
-use Rattle.std.proofs.lemmas.Bool.{cases_Bool}
-use Rattle.std.proofs.lemmas.Bool.Decides.{nat_tests}
 use Rattle.resolution_check.specs.declared.log.Lit.{Lit}
 use Rattle.clause_arena.specs.Links.{word, In}
-use Rattle.clause_arena.specs.Store.{Store, IsSound, store}
-use Rattle.clause_arena.specs.Held.{code_of, lit_of, lits_of, clauses}
-use Rattle.clause_arena.specs.Changes.{IsSame, Adds}
+use Rattle.clause_arena.specs.Store.{IsSound, store}
+use Rattle.clause_arena.specs.Held.{code_of, lit_of, clauses}
+use Rattle.clause_arena.specs.Changes.{Adds}
 use Rattle.clause_arena.proofs.Settling.{in_end, in_front}
 
 -- the words from a place on, where each is known
-segment : (ws : List ℕ) (at n : ℕ) (codes : List ℕ) → at + n ≤ length ws → n ≡ length codes → ((k : ℕ) → k < n → word ws (at + k) ≡ word codes k)
+segment : (ws : List ℕ) (at n : ℕ) (codes : List ℕ) → at + n ≤ length ws → n ≡ length codes
+    → ((k : ℕ) → k < n → word ws (at + k) ≡ word codes k)
     → take n (drop at ws) ≡ codes
 segment ws at n codes room size each =
     let d : length (drop at ws) ≡ length ws - at = length-drop at ws in
@@ -23,7 +22,8 @@ segment ws at n codes room size each =
     get_or-take n (drop at ws) k 0 low ∙ get_or-drop at ws k 0 ∙ each k low)
 
 -- a literal is that of its code
-lit_back : (var : ℕ) (negated : Bool) → lit_of (code_of (record { var = var; negated = negated })) ≡ record { var = var; negated = negated }
+lit_back : (var : ℕ) (negated : Bool)
+    → lit_of (code_of (record { var = var; negated = negated })) ≡ record { var = var; negated = negated }
 lit_back var true =
     let a : (2 * var + 1) / 2 ≡ var = omega arith in
     let b : (2 * var + 1) % 2 ≡ 1 = omega arith in
@@ -42,7 +42,8 @@ map_same f g [] each = refl
 map_same f g (r ∷ rs) each = let a : f r ≡ g r = each r (inl refl) in let b : map f rs ≡ map g rs = map_same f g rs (λ s i. each s (inr i)) in cc
 
 -- an addition appends the clause
-pub clauses_more : (vars : ℕ) (ws refs new more : List ℕ) (r id : ℕ) (lits : List Lit) → IsSound vars ws refs → IsSound vars new more
+pub clauses_more : (vars : ℕ) (ws refs new more : List ℕ) (r id : ℕ) (lits : List Lit) → IsSound vars ws refs
+    → IsSound vars new more
     → Adds (store vars ws refs) (store vars new more) r id (map code_of lits)
     → clauses (store vars new more) ≡ clauses (store vars ws refs) ++ (id, lits) ∷ []
 clauses_more vars ws refs new more r id lits sound after adds =

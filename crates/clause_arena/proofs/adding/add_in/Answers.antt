@@ -11,10 +11,12 @@ use Rattle.clause_arena.proofs.Placing.{grown_word, taken_back}
 use Rattle.clause_arena.proofs.adding.add_in.Goals as goal
 
 -- the words after the addition are as long as they were made
-long : (c : goal.After-push_reserved) → length c.place_clause.new.words ≡ c.len.result + c.len-2.result % 2 + 4 + length c.args.lits.now
+long : (c : goal.After-push_reserved)
+    → length c.place_clause.new.words ≡ c.len.result + c.len-2.result % 2 + 4 + length c.args.lits.now
 long c = c.place_clause.auto.words ∙ c.deref_mut.ensures.len ∙ c.in_ok-resize.ensures.len
 
-whole : (c : goal.After-push_reserved) → IsAdded c.args.vars c.args.words.now.items c.args.refs.now.items c.place_clause.new.words
+whole : (c : goal.After-push_reserved)
+    → IsAdded c.args.vars c.args.words.now.items c.args.refs.now.items c.place_clause.new.words
     (c.len.result + c.len-2.result % 2) c.args.id (map code_of c.args.lits.now)
 whole c =
     let ws = c.args.words.now.items in
@@ -34,7 +36,8 @@ whole c =
     (subst (λ (g : List ℕ). IsPlaced (word g) (word c.place_clause.new.words) r c.args.id (map code_of c.args.lits.now)) c.deref_mut.ensures.value
     c.place_clause.ensures)
 
-refs_are : (c : goal.After-push_reserved) → c.push_reserved.new.self.items ≡ c.args.refs.now.items ++ (c.len.result + c.len-2.result % 2) ∷ []
+refs_are : (c : goal.After-push_reserved)
+    → c.push_reserved.new.self.items ≡ c.args.refs.now.items ++ (c.len.result + c.len-2.result % 2) ∷ []
 refs_are c = c.push_reserved.ensures.items ∙ ap (λ (xs : List ℕ). xs ++ (c.len.result + c.len-2.result % 2) ∷ []) c.in_ok-reserve.ensures.items
 
 pub returns-clause-sound : goal.returns-clause-sound
