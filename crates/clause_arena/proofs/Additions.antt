@@ -3,7 +3,7 @@ use Rattle.std.specs.Prelude.{ℕ, ◌≡◌, ◌≢◌, ◌+◌, ◌*◌, ◌%�
 use Rattle.std.proofs.Common.{sym, ◌∙◌, ap, subst, inl, inr, arith}
 use Rattle.std.proofs.lemmas.Bool.{cases_eq, cases_lt}
 use Rattle.clause_arena.specs.Links.{word, In, Threads, places}
-use Rattle.clause_arena.specs.Store.{Rises, IsWatch, IsLaid, IsLinked, IsSound, store}
+use Rattle.clause_arena.specs.Store.{IsWatch, IsLaid, IsLinked, IsSound, store}
 use Rattle.std.proofs.lemmas.List.{length-map}
 use Rattle.resolution_check.specs.declared.log.Lit.{Lit}
 use Rattle.resolution_check.specs.Clauses.{is_below}
@@ -56,8 +56,10 @@ pub record IsJoined (lists more : ℕ → List ℕ) (r : ℕ) (codes : List ℕ)
   pub others : (n : ℕ) → IsOther codes n → more n ≡ lists n
 
 -- the words of a clause that was there are as they were
-pub frame : (vars len : ℕ) (f g : ℕ → ℕ) (refs : List ℕ) (r id : ℕ) (codes : List ℕ) → ((s : ℕ) → In s refs → 2 * vars ≤ s)
-    → IsRoom vars len f refs r id codes → IsPlaced f g r id codes → (s k : ℕ) → In s refs → k < 4 + f s → g (s + k) ≡ f (s + k)
+pub frame : (vars len : ℕ) (f g : ℕ → ℕ) (refs : List ℕ) (r id : ℕ) (codes : List ℕ)
+    → ((s : ℕ) → In s refs → 2 * vars ≤ s)
+    → IsRoom vars len f refs r id codes → IsPlaced f g r id codes → (s k : ℕ) → In s refs → k < 4 + f s
+    → g (s + k) ≡ f (s + k)
 frame vars len f g refs r id codes first room p s k i h =
     let behind : s + 4 + f s ≤ r = room.behind s i in
     let high : 2 * vars ≤ s = first s i in
@@ -65,7 +67,8 @@ frame vars len f g refs r id codes first room p s k i h =
     let below : word codes side < 2 * vars = room.below side (omega arith) in
     omega arith)
 
-pub same_of : (vars len : ℕ) (f g : ℕ → ℕ) (refs : List ℕ) (r id : ℕ) (codes : List ℕ) → ((s : ℕ) → In s refs → 2 * vars ≤ s)
+pub same_of : (vars len : ℕ) (f g : ℕ → ℕ) (refs : List ℕ) (r id : ℕ) (codes : List ℕ)
+    → ((s : ℕ) → In s refs → 2 * vars ≤ s)
     → IsRoom vars len f refs r id codes → IsPlaced f g r id codes → (s : ℕ) → In s refs → IsSame f g s
 same_of vars len f g refs r id codes first room p s i =
     let at = frame vars len f g refs r id codes first room p s in
@@ -77,7 +80,8 @@ same_of vars len f g refs r id codes first room p s i =
 
 -- ---- where the clauses stand
 
-pub laid_more : (vars len : ℕ) (f g : ℕ → ℕ) (refs : List ℕ) (r id : ℕ) (codes : List ℕ) (old : ℕ) → IsLaid vars old f refs → old ≤ len
+pub laid_more : (vars len : ℕ) (f g : ℕ → ℕ) (refs : List ℕ) (r id : ℕ) (codes : List ℕ) (old : ℕ)
+    → IsLaid vars old f refs → old ≤ len
     → IsRoom vars len f refs r id codes → IsPlaced f g r id codes → IsLaid vars len g (refs ++ r ∷ [])
 laid_more vars len f g refs r id codes old laid longer room p =
     let same = same_of vars len f g refs r id codes laid.first room p in
@@ -136,8 +140,10 @@ laid_more vars len f g refs r id codes old laid longer room p =
 -- ---- the lists
 
 -- a watch that was there is one still
-watch_more : (vars len : ℕ) (f g : ℕ → ℕ) (refs : List ℕ) (r id : ℕ) (codes : List ℕ) → ((s : ℕ) → In s refs → 2 * vars ≤ s)
-    → IsRoom vars len f refs r id codes → IsPlaced f g r id codes → (n q : ℕ) → IsWatch f refs n q → IsWatch g (refs ++ r ∷ []) n q
+watch_more : (vars len : ℕ) (f g : ℕ → ℕ) (refs : List ℕ) (r id : ℕ) (codes : List ℕ)
+    → ((s : ℕ) → In s refs → 2 * vars ≤ s)
+    → IsRoom vars len f refs r id codes → IsPlaced f g r id codes → (n q : ℕ) → IsWatch f refs n q
+    → IsWatch g (refs ++ r ∷ []) n q
 watch_more vars len f g refs r id codes first room p n q w =
     let same = same_of vars len f g refs r id codes first room p w.ref w.held in
     let low : w.side < 2 = w.low in
@@ -153,7 +159,8 @@ watch_more vars len f g refs r id codes first room p n q w =
     }
 
 -- the link of a watch that was there leads where it led
-link_same : (vars len : ℕ) (f g : ℕ → ℕ) (refs : List ℕ) (r id : ℕ) (codes : List ℕ) → ((s : ℕ) → In s refs → 2 * vars ≤ s)
+link_same : (vars len : ℕ) (f g : ℕ → ℕ) (refs : List ℕ) (r id : ℕ) (codes : List ℕ)
+    → ((s : ℕ) → In s refs → 2 * vars ≤ s)
     → IsRoom vars len f refs r id codes → IsPlaced f g r id codes → (n q : ℕ) → IsWatch f refs n q → g q ≡ f q
 link_same vars len f g refs r id codes first room p n q w =
     let low : w.side < 2 = w.low in
@@ -242,13 +249,15 @@ more_watched lists r codes side low two differ (inl w) =
     ap (λ (k : ℕ). (r + 2 + k) ∷ lists (word codes side)) (sym e)
 more_watched lists r codes side low two differ (inr o) = absurd (o side low two refl)
 
-more_other : (lists : ℕ → List ℕ) (r : ℕ) (codes : List ℕ) (n : ℕ) → IsOther codes n → (choice : IsWatched codes n ⊎ IsOther codes n)
+more_other : (lists : ℕ → List ℕ) (r : ℕ) (codes : List ℕ) (n : ℕ) → IsOther codes n
+    → (choice : IsWatched codes n ⊎ IsOther codes n)
     → more_by lists r codes n choice ≡ lists n
 unfolding more_by
 more_other lists r codes n o (inl w) = absurd (o w.side w.low w.two w.code)
 more_other lists r codes n o (inr q) = refl
 
-joined_so : (lists : ℕ → List ℕ) (r : ℕ) (codes : List ℕ) → ((j k : ℕ) → j < length codes → k < length codes → word codes j ≡ word codes k → j ≡ k)
+joined_so : (lists : ℕ → List ℕ) (r : ℕ) (codes : List ℕ)
+    → ((j k : ℕ) → j < length codes → k < length codes → word codes j ≡ word codes k → j ≡ k)
     → IsJoined lists (more_lists lists r codes) r codes
 unfolding more_lists
 joined_so lists r codes differ = record {
@@ -258,7 +267,8 @@ joined_so lists r codes differ = record {
 
 -- ---- the whole addition
 
-placed_from : (f h g : ℕ → ℕ) (r id : ℕ) (codes : List ℕ) → ((k : ℕ) → h k ≡ f k) → IsPlaced h g r id codes → IsPlaced f g r id codes
+placed_from : (f h g : ℕ → ℕ) (r id : ℕ) (codes : List ℕ) → ((k : ℕ) → h k ≡ f k) → IsPlaced h g r id codes
+    → IsPlaced f g r id codes
 placed_from f h g r id codes same p = record {
   size = p.size;
   number = p.number;
@@ -273,8 +283,10 @@ pub record IsAdded (vars : ℕ) (ws refs new : List ℕ) (r id : ℕ) (codes : L
   pub sound : IsSound vars new (refs ++ r ∷ [])
   pub adds : Adds (store vars ws refs) (store vars new (refs ++ r ∷ [])) r id codes
 
-pub added : (vars : ℕ) (ws grown new refs : List ℕ) (r id : ℕ) (codes : List ℕ) → IsSound vars ws refs → ((k : ℕ) → word grown k ≡ word ws k)
-    → length ws ≤ length new → IsRoom vars (length new) (word ws) refs r id codes → IsPlaced (word grown) (word new) r id codes
+pub added : (vars : ℕ) (ws grown new refs : List ℕ) (r id : ℕ) (codes : List ℕ) → IsSound vars ws refs
+    → ((k : ℕ) → word grown k ≡ word ws k)
+    → length ws ≤ length new → IsRoom vars (length new) (word ws) refs r id codes
+    → IsPlaced (word grown) (word new) r id codes
     → IsAdded vars ws refs new r id codes
 added vars ws grown new refs r id codes sound same longer room placed =
     let p = placed_from (word ws) (word grown) (word new) r id codes same placed in
@@ -297,8 +309,10 @@ added vars ws grown new refs r id codes sound same longer room placed =
     }
 
 -- behind all clauses there is room for one more
-pub room_behind : (vars : ℕ) (ws new refs : List ℕ) (r id : ℕ) (lits : List Lit) → IsSound vars ws refs → r ≡ length ws + length ws % 2
-    → length new ≡ r + 4 + length lits → is_below vars lits ≡ true → vars_differ lits ≡ true → ((s : ℕ) → In s refs → word ws (s + 1) < id)
+pub room_behind : (vars : ℕ) (ws new refs : List ℕ) (r id : ℕ) (lits : List Lit) → IsSound vars ws refs
+    → r ≡ length ws + length ws % 2
+    → length new ≡ r + 4 + length lits → is_below vars lits ≡ true → vars_differ lits ≡ true
+    → ((s : ℕ) → In s refs → word ws (s + 1) < id)
     → IsRoom vars (length new) (word ws) refs r id (map code_of lits)
 room_behind vars ws new refs r id lits sound at size below differ above =
     let heads : 2 * vars ≤ length ws = sound.laid.heads in

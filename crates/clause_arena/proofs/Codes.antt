@@ -1,7 +1,6 @@
 -- The codes of literals.
-use Rattle.std.specs.Prelude.{ℕ, zero, suc, ◌≡◌, ◌≢◌, ◌+◌, ◌*◌, ◌/◌, ◌%◌, ◌<◌, ◌≤◌, ◌==◌, ◌&&◌, Bool, true, false, not, nat_lt, if◌then◌else◌, List, [], ◌∷◌, length, map, refl}
-use Rattle.std.specs.List.{list_all, list_any}
-use Rattle.std.proofs.Common.{sym, ◌∙◌, ap, subst, inl, inr, arith, cond, get_or}
+use Rattle.std.specs.Prelude.{ℕ, zero, suc, ◌≡◌, ◌≢◌, ◌*◌, ◌/◌, ◌<◌, true, false, not, nat_lt, List, [], ◌∷◌, length, map, refl}
+use Rattle.std.proofs.Common.{sym, ◌∙◌, ap, inl, inr, arith}
 use Rattle.std.proofs.lemmas.Bool.{and_parts, cases_Bool}
 use Rattle.std.proofs.lemmas.Bool.Decides.{nat_tests}
 use Rattle.resolution_check.specs.declared.log.Lit.{Lit}
@@ -21,13 +20,15 @@ var_low : (vars : ℕ) (l : Lit) (c : List Lit) → is_below vars (l ∷ c) ≡ 
 var_low vars l c h = let t : nat_lt l.var vars ≡ true = (and_parts (nat_lt l.var vars) (is_below vars c) h).0 in grind (arith, nat_tests)
 
 -- the codes of a clause are those of heads
-pub codes_below : (vars : ℕ) (c : List Lit) (k : ℕ) → is_below vars c ≡ true → k < length (map code_of c) → word (map code_of c) k < 2 * vars
+pub codes_below : (vars : ℕ) (c : List Lit) (k : ℕ) → is_below vars c ≡ true → k < length (map code_of c)
+    → word (map code_of c) k < 2 * vars
 codes_below vars [] k h b = absurd (omega arith)
 codes_below vars (l ∷ c) zero h b = code_low vars l (var_low vars l c h)
 codes_below vars (l ∷ c) (suc k) h b = codes_below vars c k (and_parts (nat_lt l.var vars) (is_below vars c) h).1 (omega arith)
 
 -- a literal of another variable
-other_var : (c : List Lit) (var k : ℕ) → has_var c var ≡ false → k < length (map code_of c) → word (map code_of c) k / 2 ≢ var
+other_var : (c : List Lit) (var k : ℕ) → has_var c var ≡ false → k < length (map code_of c)
+    → word (map code_of c) k / 2 ≢ var
 other_var [] var k h b e = absurd (omega arith)
 other_var (l ∷ c) var zero h b e =
     let same : l.var ≡ var = sym (code_half l) ∙ e in
@@ -37,7 +38,8 @@ other_var (l ∷ c) var (suc k) h b e =
     other_var c var k tail (omega arith) e
 
 -- clauses of different variables have different codes
-pub codes_differ : (c : List Lit) (j k : ℕ) → vars_differ c ≡ true → j < length (map code_of c) → k < length (map code_of c)
+pub codes_differ : (c : List Lit) (j k : ℕ) → vars_differ c ≡ true → j < length (map code_of c)
+    → k < length (map code_of c)
     → word (map code_of c) j ≡ word (map code_of c) k → j ≡ k
 codes_differ [] j k h a b e = absurd (omega arith)
 codes_differ (l ∷ c) zero zero h a b e = refl

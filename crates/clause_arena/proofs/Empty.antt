@@ -1,11 +1,11 @@
 -- An arena without clauses.
-use Rattle.std.specs.Prelude.{ℕ, zero, suc, ◌≡◌, ◌*◌, ◌<◌, List, [], ◌∷◌, length, replicate, refl}
-use Rattle.std.proofs.Common.{arith, get_or, subst, sym}
+use Rattle.std.specs.Prelude.{ℕ, ◌≡◌, ◌*◌, List, [], replicate}
+use Rattle.std.proofs.Common.{arith, subst, sym}
 use Rattle.std.proofs.Common.{inl, inr}
 use Rattle.std.proofs.lemmas.Bool.{cases_lt}
 use Rattle.std.proofs.lemmas.List.{get_or-replicate, get_or_past, length-replicate}
 use Rattle.clause_arena.specs.Links.{word, In, Threads, places}
-use Rattle.clause_arena.specs.Store.{IsLaid, IsLinked, IsSound}
+use Rattle.clause_arena.specs.Store.{IsSound}
 use Rattle.clause_arena.proofs.Threads.{places_are}
 
 pub word_of_zeros : (n k : ℕ) → word (replicate n 0) k ≡ 0

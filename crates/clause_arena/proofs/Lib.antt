@@ -6,5 +6,6 @@ pub mod Shifts
 pub mod Placing
 pub mod Settling
 pub mod Threads
+pub mod Views
 pub mod Walks
 pub mod Words

@@ -1,14 +1,14 @@
 -- A watch is moved.
-use Rattle.std.specs.Prelude.{ℕ, ◌≡◌, ◌≢◌, ◌+◌, ◌*◌, ◌%◌, ◌<◌, ◌≤◌, ◌==◌, ◌⊎◌, List, [], ◌∷◌, length, true, false, refl}
+use Rattle.std.specs.Prelude.{ℕ, ◌≡◌, ◌≢◌, ◌+◌, ◌*◌, ◌<◌, ◌≤◌, ◌⊎◌, List, ◌∷◌, refl}
 use Rattle.std.proofs.Common.{sym, ◌∙◌, ap, subst, inl, inr, arith, cond}
 use Rattle.std.proofs.lemmas.Bool.{cases_eq, ne_eqb}
 use Rattle.std.proofs.lemmas.Bool.Decides.{nat_tests}
 use Rattle.std.proofs.Math.Dec.{eqb}
 use borrow.Author.Tests.{eq-eqb}
-use Rattle.clause_arena.specs.Links.{word, In, Threads, places, after, cut, first}
-use Rattle.clause_arena.specs.Store.{Rises, IsWatch, IsLaid, IsLinked}
-use Rattle.clause_arena.specs.Changes.{IsMoved, IsSame}
-use Rattle.clause_arena.proofs.Threads.{threads_from, threads_cut, cut_in, in_cut, off_own}
+use Rattle.clause_arena.specs.Links.{In, Threads, cut}
+use Rattle.clause_arena.specs.Store.{IsWatch, IsLaid, IsLinked}
+use Rattle.clause_arena.specs.Changes.{IsMoved}
+use Rattle.clause_arena.proofs.Threads.{threads_from, threads_cut, cut_in, in_cut}
 use Rattle.clause_arena.proofs.Words.{same_word, one_list}
 
 -- ---- where the move writes
@@ -41,7 +41,8 @@ turn vars len f refs lists r side to b laid spot =
     }
 
 -- the link is no word of a clause but one of its links
-pub off_link : (vars len : ℕ) (f : ℕ → ℕ) (refs : List ℕ) (lists : ℕ → List ℕ) (r side to b : ℕ) → IsLaid vars len f refs → IsLinked vars f refs lists
+pub off_link : (vars len : ℕ) (f : ℕ → ℕ) (refs : List ℕ) (lists : ℕ → List ℕ) (r side to b : ℕ)
+    → IsLaid vars len f refs → IsLinked vars f refs lists
     → IsSpot vars f refs lists r side to b → (s k : ℕ) → In s refs → k < 4 + f s → (k < 2) ⊎ (4 ≤ k) → s + k ≢ b
 off_link vars len f refs lists r side to b laid linked spot s k i h content e =
     let t = turn vars len f refs lists r side to b laid spot in
@@ -57,9 +58,12 @@ off_link vars len f refs lists r side to b laid linked spot s k i h content e =
     ]
 
 -- the words that are no link and not one of the two codes are as they were
-pub kept_word : (vars len : ℕ) (f g : ℕ → ℕ) (refs : List ℕ) (lists : ℕ → List ℕ) (r side to b : ℕ) → IsLaid vars len f refs → IsLinked vars f refs lists
-    → IsSpot vars f refs lists r side to b → IsMoved f g b (r + 2 + side) (f (r + 4 + to)) (f (r + 4 + side)) (r + 4 + side) (r + 4 + to)
-    → (s k : ℕ) → In s refs → k < 4 + f s → (k < 2) ⊎ (4 ≤ k) → (s ≡ r → k ≢ 4 + side) → (s ≡ r → k ≢ 4 + to) → g (s + k) ≡ f (s + k)
+pub kept_word : (vars len : ℕ) (f g : ℕ → ℕ) (refs : List ℕ) (lists : ℕ → List ℕ) (r side to b : ℕ)
+    → IsLaid vars len f refs → IsLinked vars f refs lists
+    → IsSpot vars f refs lists r side to b
+    → IsMoved f g b (r + 2 + side) (f (r + 4 + to)) (f (r + 4 + side)) (r + 4 + side) (r + 4 + to)
+    → (s k : ℕ) → In s refs → k < 4 + f s → (k < 2) ⊎ (4 ≤ k) → (s ≡ r → k ≢ 4 + side) → (s ≡ r → k ≢ 4 + to)
+    → g (s + k) ≡ f (s + k)
 kept_word vars len f g refs lists r side to b laid linked spot moved s k i h content one other =
     let t = turn vars len f refs lists r side to b laid spot in
     let low : side < 2 = spot.low in let behind : 2 ≤ to = spot.behind in let within : to < f r = spot.within in
@@ -94,8 +98,10 @@ source_one r side to s j k ne e =
       | inr apart ↦ rw (ne_eqb s r apart) at e
     ]
 
-coded : (vars len : ℕ) (f g : ℕ → ℕ) (refs : List ℕ) (lists : ℕ → List ℕ) (r side to b : ℕ) → IsLaid vars len f refs → IsLinked vars f refs lists
-    → IsSpot vars f refs lists r side to b → IsMoved f g b (r + 2 + side) (f (r + 4 + to)) (f (r + 4 + side)) (r + 4 + side) (r + 4 + to)
+coded : (vars len : ℕ) (f g : ℕ → ℕ) (refs : List ℕ) (lists : ℕ → List ℕ) (r side to b : ℕ) → IsLaid vars len f refs
+    → IsLinked vars f refs lists
+    → IsSpot vars f refs lists r side to b
+    → IsMoved f g b (r + 2 + side) (f (r + 4 + to)) (f (r + 4 + side)) (r + 4 + side) (r + 4 + to)
     → (s k : ℕ) → In s refs → k < f s → IsCode f g s k (source r side to s k)
 coded vars len f g refs lists r side to b laid linked spot moved s k i h =
     let low : side < 2 = spot.low in let behind : 2 ≤ to = spot.behind in let within : to < f r = spot.within in
@@ -121,8 +127,10 @@ coded vars len f g refs lists r side to b laid linked spot moved s k i h =
 
 -- ---- where the clauses stand
 
-pub laid_moved : (vars len : ℕ) (f g : ℕ → ℕ) (refs : List ℕ) (lists : ℕ → List ℕ) (r side to b : ℕ) → IsLaid vars len f refs → IsLinked vars f refs lists
-    → IsSpot vars f refs lists r side to b → IsMoved f g b (r + 2 + side) (f (r + 4 + to)) (f (r + 4 + side)) (r + 4 + side) (r + 4 + to)
+pub laid_moved : (vars len : ℕ) (f g : ℕ → ℕ) (refs : List ℕ) (lists : ℕ → List ℕ) (r side to b : ℕ)
+    → IsLaid vars len f refs → IsLinked vars f refs lists
+    → IsSpot vars f refs lists r side to b
+    → IsMoved f g b (r + 2 + side) (f (r + 4 + to)) (f (r + 4 + side)) (r + 4 + side) (r + 4 + to)
     → IsLaid vars len g refs
 laid_moved vars len f g refs lists r side to b laid linked spot moved =
     let low : side < 2 = spot.low in let behind : 2 ≤ to = spot.behind in
@@ -162,8 +170,10 @@ pub record IsShifted (lists more : ℕ → List ℕ) (b p m n : ℕ) : Type 0 wh
   pub others : (k : ℕ) → k ≢ n → k ≢ m → more k ≡ lists k
 
 -- a watch other than the one that is moved is one still
-watch_kept : (vars len : ℕ) (f g : ℕ → ℕ) (refs : List ℕ) (lists : ℕ → List ℕ) (r side to b : ℕ) → IsLaid vars len f refs → IsLinked vars f refs lists
-    → IsSpot vars f refs lists r side to b → IsMoved f g b (r + 2 + side) (f (r + 4 + to)) (f (r + 4 + side)) (r + 4 + side) (r + 4 + to)
+watch_kept : (vars len : ℕ) (f g : ℕ → ℕ) (refs : List ℕ) (lists : ℕ → List ℕ) (r side to b : ℕ)
+    → IsLaid vars len f refs → IsLinked vars f refs lists
+    → IsSpot vars f refs lists r side to b
+    → IsMoved f g b (r + 2 + side) (f (r + 4 + to)) (f (r + 4 + side)) (r + 4 + side) (r + 4 + to)
     → (n q : ℕ) → q ≢ r + 2 + side → IsWatch f refs n q → IsWatch g refs n q
 watch_kept vars len f g refs lists r side to b laid linked spot moved n q ne w =
     let low : w.side < 2 = w.low in let two : 2 ≤ f w.ref = w.two in let behind : 2 ≤ to = spot.behind in
@@ -177,7 +187,8 @@ watch_kept vars len f g refs lists r side to b laid linked spot moved n q ne w =
 
 -- the link of a watch leads where it led, but for the two that the move writes
 link_kept : (vars len : ℕ) (f g : ℕ → ℕ) (refs : List ℕ) (lists : ℕ → List ℕ) (r side to b : ℕ) → IsLaid vars len f refs
-    → IsSpot vars f refs lists r side to b → IsMoved f g b (r + 2 + side) (f (r + 4 + to)) (f (r + 4 + side)) (r + 4 + side) (r + 4 + to)
+    → IsSpot vars f refs lists r side to b
+    → IsMoved f g b (r + 2 + side) (f (r + 4 + to)) (f (r + 4 + side)) (r + 4 + side) (r + 4 + to)
     → (n q : ℕ) → IsWatch f refs n q → q ≢ b → q ≢ r + 2 + side → g q ≡ f q
 link_kept vars len f g refs lists r side to b laid spot moved n q w nb np =
     let t = turn vars len f refs lists r side to b laid spot in
@@ -191,8 +202,10 @@ link_kept vars len f g refs lists r side to b laid spot moved n q w nb np =
     moved.others q nb np (omega arith) (λ e. off (4 + side) (omega arith) (omega arith) (omega arith)) (λ e. off (4 + to) (omega arith) (omega arith) (omega arith))
 
 -- a place is in the list of a code other than the old one only if it is none of the two
-apart_from_link : (vars len : ℕ) (f : ℕ → ℕ) (refs : List ℕ) (lists : ℕ → List ℕ) (r side to b : ℕ) → IsLaid vars len f refs → IsLinked vars f refs lists
-    → IsSpot vars f refs lists r side to b → (k q : ℕ) → k < 2 * vars → k ≢ f (r + 4 + side) → In q (lists k) → (q ≢ b) × (q ≢ r + 2 + side)
+apart_from_link : (vars len : ℕ) (f : ℕ → ℕ) (refs : List ℕ) (lists : ℕ → List ℕ) (r side to b : ℕ)
+    → IsLaid vars len f refs → IsLinked vars f refs lists
+    → IsSpot vars f refs lists r side to b → (k q : ℕ) → k < 2 * vars → k ≢ f (r + 4 + side) → In q (lists k)
+    → (q ≢ b) × (q ≢ r + 2 + side)
 apart_from_link vars len f refs lists r side to b laid linked spot k q h ne i =
     let t = turn vars len f refs lists r side to b laid spot in
     let n = f (r + 4 + side) in
@@ -208,8 +221,10 @@ apart_from_link vars len f refs lists r side to b laid linked spot k q h ne i =
     )
 
 -- the size of each clause is as it was
-pub size_kept : (vars len : ℕ) (f g : ℕ → ℕ) (refs : List ℕ) (lists : ℕ → List ℕ) (r side to b : ℕ) → IsLaid vars len f refs → IsLinked vars f refs lists
-    → IsSpot vars f refs lists r side to b → IsMoved f g b (r + 2 + side) (f (r + 4 + to)) (f (r + 4 + side)) (r + 4 + side) (r + 4 + to)
+pub size_kept : (vars len : ℕ) (f g : ℕ → ℕ) (refs : List ℕ) (lists : ℕ → List ℕ) (r side to b : ℕ)
+    → IsLaid vars len f refs → IsLinked vars f refs lists
+    → IsSpot vars f refs lists r side to b
+    → IsMoved f g b (r + 2 + side) (f (r + 4 + to)) (f (r + 4 + side)) (r + 4 + side) (r + 4 + to)
     → (s : ℕ) → In s refs → g s ≡ f s
 size_kept vars len f g refs lists r side to b laid linked spot moved s i =
     let behind : 2 ≤ to = spot.behind in
@@ -218,7 +233,8 @@ size_kept vars len f g refs lists r side to b laid linked spot moved s i =
     (kept_word vars len f g refs lists r side to b laid linked spot moved s 0 i (omega arith) (inl (omega arith)) (λ q e. omega arith) (λ q e. omega arith))
 
 -- the head of another code is not the link
-off_head : (vars len : ℕ) (f : ℕ → ℕ) (refs : List ℕ) (lists : ℕ → List ℕ) (r side to b : ℕ) → IsLaid vars len f refs → IsLinked vars f refs lists
+off_head : (vars len : ℕ) (f : ℕ → ℕ) (refs : List ℕ) (lists : ℕ → List ℕ) (r side to b : ℕ) → IsLaid vars len f refs
+    → IsLinked vars f refs lists
     → IsSpot vars f refs lists r side to b → (k : ℕ) → k < 2 * vars → k ≢ f (r + 4 + side) → k ≢ b
 off_head vars len f refs lists r side to b laid linked spot k h ne e =
     let t = turn vars len f refs lists r side to b laid spot in
@@ -231,8 +247,10 @@ off_head vars len f refs lists r side to b laid linked spot k h ne e =
           omega arith)
     ]
 
-pub linked_moved : (vars len : ℕ) (f g : ℕ → ℕ) (refs : List ℕ) (lists more : ℕ → List ℕ) (r side to b : ℕ) → IsLaid vars len f refs → IsLinked vars f refs lists
-    → IsSpot vars f refs lists r side to b → IsMoved f g b (r + 2 + side) (f (r + 4 + to)) (f (r + 4 + side)) (r + 4 + side) (r + 4 + to)
+pub linked_moved : (vars len : ℕ) (f g : ℕ → ℕ) (refs : List ℕ) (lists more : ℕ → List ℕ) (r side to b : ℕ)
+    → IsLaid vars len f refs → IsLinked vars f refs lists
+    → IsSpot vars f refs lists r side to b
+    → IsMoved f g b (r + 2 + side) (f (r + 4 + to)) (f (r + 4 + side)) (r + 4 + side) (r + 4 + to)
     → IsShifted lists more b (r + 2 + side) (f (r + 4 + to)) (f (r + 4 + side)) → IsLinked vars g refs more
 linked_moved vars len f g refs lists more r side to b laid linked spot moved shifted =
     let t = turn vars len f refs lists r side to b laid spot in

@@ -1,8 +1,8 @@
 -- A clause is written, and its watches are put in front of their lists.
-use Rattle.std.specs.Prelude.{ℕ, ◌≡◌, ◌≢◌, ◌+◌, ◌-◌, ◌*◌, ◌<◌, ◌≤◌, List, [], ◌∷◌, ◌++◌, length, take, map, replicate, refl}
-use Rattle.std.proofs.Common.{sym, ◌∙◌, ap, subst, inl, inr, arith, get_or, length-append}
+use Rattle.std.specs.Prelude.{ℕ, ◌≡◌, ◌≢◌, ◌+◌, ◌-◌, ◌<◌, ◌≤◌, List, ◌++◌, length, take, map, replicate, refl}
+use Rattle.std.proofs.Common.{sym, ◌∙◌, subst, inl, inr, arith, get_or}
 use Rattle.std.proofs.lemmas.Bool.{cases_eq, cases_lt}
-use Rattle.std.proofs.lemmas.List.{get_or-set_same, get_or-set_other, get_or-map, get_or_append_left, get_or-append_right, get_or_past, length-replicate, take_all, take-append-le}
+use Rattle.std.proofs.lemmas.List.{get_or-set_same, get_or-set_other, get_or-map, get_or_append_left, get_or-append_right, get_or_past, take_all, take-append-le}
 use Rattle.clause_arena.specs.Links.{word}
 use Rattle.std.proofs.Math.ListN.{set, length-set}
 use Rattle.resolution_check.specs.declared.log.Lit.{Lit}
@@ -11,7 +11,8 @@ use Rattle.clause_arena.specs.Changes.{HasCodes, IsWritten, IsPut, IsPlaced}
 use Rattle.clause_arena.proofs.Empty.{word_of_zeros}
 
 -- a clause of fewer than two literals has no watches
-pub placed_few : (f g : ℕ → ℕ) (r id : ℕ) (codes : List ℕ) → IsWritten f g r id codes → length codes < 2 → IsPlaced f g r id codes
+pub placed_few : (f g : ℕ → ℕ) (r id : ℕ) (codes : List ℕ) → IsWritten f g r id codes → length codes < 2
+    → IsPlaced f g r id codes
 placed_few f g r id codes w few = record {
   size = w.size;
   number = w.number;
@@ -60,7 +61,8 @@ grown_word ws n more k h =
 -- ---- the writes
 
 -- one code more
-pub code_written : (ws : List ℕ) (lits : List Lit) (at i v : ℕ) (d : Lit) → at + i < length ws → i < length lits → v ≡ code_of (get_or lits i d)
+pub code_written : (ws : List ℕ) (lits : List Lit) (at i v : ℕ) (d : Lit) → at + i < length ws → i < length lits
+    → v ≡ code_of (get_or lits i d)
     → ((k : ℕ) → k < i → word ws (at + k) ≡ word (map code_of lits) k) → (k : ℕ) → k < i + 1
     → word (set ws (at + i) v) (at + k) ≡ word (map code_of lits) k
 code_written ws lits at i v d room here value before k h =
@@ -72,7 +74,8 @@ code_written ws lits at i v d room here value before k h =
     ]
 
 -- the size and the number in front of the codes
-pub written_of : (old ws : List ℕ) (r id n : ℕ) (codes : List ℕ) → HasCodes (word old) (word ws) (r + 4) codes → r + 1 < length ws → n ≡ length codes
+pub written_of : (old ws : List ℕ) (r id n : ℕ) (codes : List ℕ) → HasCodes (word old) (word ws) (r + 4) codes
+    → r + 1 < length ws → n ≡ length codes
     → IsWritten (word old) (word (set (set ws r n) (r + 1) id)) r id codes
 written_of old ws r id n codes has room size =
     let keep : (j : ℕ) → j ≢ r → j ≢ r + 1 → word (set (set ws r n) (r + 1) id) j ≡ word ws j =

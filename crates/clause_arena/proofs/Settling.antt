@@ -1,6 +1,6 @@
 -- From lists that are given to those that are computed.
-use Rattle.std.specs.Prelude.{ℕ, ◌≡◌, ◌+◌, ◌*◌, ◌<◌, ◌≤◌, ◌⊎◌, List, [], ◌∷◌, ◌++◌, length, refl, ⊤}
-use Rattle.std.proofs.Common.{sym, ◌∙◌, ap, subst, inl, inr, arith}
+use Rattle.std.specs.Prelude.{ℕ, ◌≡◌, ◌+◌, ◌*◌, ◌<◌, ◌≤◌, ◌⊎◌, List, [], ◌∷◌, ◌++◌, length, refl}
+use Rattle.std.proofs.Common.{sym, subst, inl, inr, arith}
 use Rattle.clause_arena.specs.Links.{word, In, Threads, places}
 use Rattle.clause_arena.specs.Store.{Rises, IsWatch, IsLaid, IsLinked, IsSound}
 use Rattle.clause_arena.proofs.Threads.{places_are as list_places}
@@ -11,14 +11,16 @@ pub record Settles (vars : ℕ) (ws refs : List ℕ) (lists : ℕ → List ℕ) 
   pub places_are : (n : ℕ) → n < 2 * vars → places ws n ≡ lists n
 
 -- the link of a watch is within the words
-pub within_words : (vars : ℕ) (ws refs : List ℕ) (n p : ℕ) → IsLaid vars (length ws) (word ws) refs → IsWatch (word ws) refs n p → p < length ws
+pub within_words : (vars : ℕ) (ws refs : List ℕ) (n p : ℕ) → IsLaid vars (length ws) (word ws) refs
+    → IsWatch (word ws) refs n p → p < length ws
 within_words vars ws refs n p laid w =
     let inside : w.ref + 4 + word ws w.ref ≤ length ws = laid.inside w.ref w.held in
     let at : p ≡ w.ref + 2 + w.side = w.place in
     let low : w.side < 2 = w.low in
     omega arith
 
-pub settle : (vars : ℕ) (ws refs : List ℕ) (lists : ℕ → List ℕ) → IsLaid vars (length ws) (word ws) refs → IsLinked vars (word ws) refs lists
+pub settle : (vars : ℕ) (ws refs : List ℕ) (lists : ℕ → List ℕ) → IsLaid vars (length ws) (word ws) refs
+    → IsLinked vars (word ws) refs lists
     → Settles vars ws refs lists
 settle vars ws refs lists laid linked =
     let within = λ (n : ℕ) (h : n < 2 * vars) (p : ℕ) (i : In p (lists n)).

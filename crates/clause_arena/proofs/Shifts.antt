@@ -1,21 +1,21 @@
 -- The move of a watch, from the writes to what a caller sees.
-use Rattle.std.specs.Prelude.{ℕ, ◌≡◌, ◌≢◌, ◌+◌, ◌*◌, ◌<◌, ◌≤◌, ◌⊎◌, List, [], ◌∷◌, length, Option, refl}
-use Rattle.std.proofs.Common.{sym, ◌∙◌, ap, subst, inl, inr, arith, cond}
-use Rattle.std.proofs.lemmas.Bool.{cases_eq, ne_eqb}
+use Rattle.std.specs.Prelude.{ℕ, ◌≡◌, ◌≢◌, ◌+◌, ◌*◌, ◌<◌, ◌≤◌, ◌⊎◌, List, ◌∷◌, length, Option, refl}
+use Rattle.std.proofs.Common.{sym, ◌∙◌, subst, inl, inr, arith, cond}
+use Rattle.std.proofs.lemmas.Bool.{ne_eqb}
 use Rattle.std.proofs.Math.Dec.{eqb}
 use borrow.Author.Tests.{eq-eqb}
 use Rattle.std.proofs.lemmas.List.{get_or-set_same, get_or-set_other}
 use Rattle.std.proofs.Math.ListN.{set, length-set}
 use Rattle.clause_arena.specs.declared.names.Watch.{Watch}
-use Rattle.clause_arena.specs.Links.{word, In, Threads, places, after, cut, first}
-use Rattle.clause_arena.specs.Store.{IsLaid, IsLinked, IsSound, store}
+use Rattle.clause_arena.specs.Links.{word, In, Threads, places, after, cut}
+use Rattle.clause_arena.specs.Store.{IsLaid, IsSound, store}
 use Rattle.clause_arena.specs.Watched.{place, own, Stands, head, left, link_of}
 use Rattle.clause_arena.specs.Changes.{IsMoved, IsClear, IsRelinked, IsTwo}
 use Rattle.clause_arena.specs.Moved.{Moves}
 use Rattle.clause_arena.proofs.Threads.{off_own, next_in, after_threads, first_threads, after_cut, in_cut}
 use Rattle.clause_arena.proofs.Settling.{settle, within_words}
 use Rattle.clause_arena.proofs.Walks.{followed, code_below}
-use Rattle.clause_arena.proofs.Moves.{IsSpot, IsTurn, IsShifted, turn, off_link, kept_word, size_kept, laid_moved, linked_moved}
+use Rattle.clause_arena.proofs.Moves.{IsSpot, IsShifted, turn, off_link, kept_word, size_kept, laid_moved, linked_moved}
 
 -- ---- the writes
 
@@ -32,14 +32,16 @@ relinked_of ws b p m lb lp lm bp bm pm =
       others = λ j nb np nm. get_or-set_other two m j p 0 nm ∙ get_or-set_other one p j (word one m) 0 np ∙ get_or-set_other ws b j (word ws p) 0 nb;
     }
 
-pub two_of : (ws : List ℕ) (x m y n : ℕ) → x < length ws → y < length ws → x ≢ y → IsTwo (word ws) (word (set (set ws x m) y n)) x m y n
+pub two_of : (ws : List ℕ) (x m y n : ℕ) → x < length ws → y < length ws → x ≢ y
+    → IsTwo (word ws) (word (set (set ws x m) y n)) x m y n
 two_of ws x m y n lx ly ne = record {
   one = get_or-set_other (set ws x m) y x n 0 ne ∙ get_or-set_same ws x m 0 lx;
   other = get_or-set_same (set ws x m) y n 0 (omega (arith, length-set {A = ℕ}));
   others = λ j nx ny. get_or-set_other (set ws x m) y j n 0 ny ∙ get_or-set_other ws x j m 0 nx;
 }
 
-pub moved_of : (len : ℕ) (f h g : ℕ → ℕ) (b p m n x y : ℕ) → IsClear len b p m x y → IsRelinked f h b p m → IsTwo h g x m y n → IsMoved f g b p m n x y
+pub moved_of : (len : ℕ) (f h g : ℕ → ℕ) (b p m n x y : ℕ) → IsClear len b p m x y → IsRelinked f h b p m
+    → IsTwo h g x m y n → IsMoved f g b p m n x y
 moved_of len f h g b p m n x y c r t = record {
   link = t.others b (λ e. c.one_link (sym e)) (λ e. c.other_link (sym e)) ∙ r.link;
   place = t.others p (λ e. c.one_place (sym e)) (λ e. c.other_place (sym e)) ∙ r.place;
@@ -52,7 +54,8 @@ moved_of len f h g b p m n x y c r t = record {
 -- ---- what is asked of a caller
 
 pub spot_of : (vars : ℕ) (ws refs : List ℕ) (before : Option Watch) (w : Watch) (to : ℕ) → IsSound vars ws refs
-    → Stands (store vars ws refs) (own (store vars ws refs) w) w → head (store vars ws refs) before (own (store vars ws refs) w) ≡ place w
+    → Stands (store vars ws refs) (own (store vars ws refs) w) w
+    → head (store vars ws refs) before (own (store vars ws refs) w) ≡ place w
     → 2 ≤ to → to < word ws w.clause.0
     → IsSpot vars (word ws) refs (places ws) w.clause.0 w.side to (link_of before (own (store vars ws refs) w))
 spot_of vars ws refs before w to s st e behind within =
@@ -70,7 +73,8 @@ spot_of vars ws refs before w to s st e behind within =
       leads = sym (first_threads (word ws) b (after b n (places ws n)) (after_threads (word ws) n b (places ws n) t here)) ∙ e;
     }
 
-pub clear_of : (vars : ℕ) (ws refs : List ℕ) (r side to b : ℕ) → IsSound vars ws refs → IsSpot vars (word ws) refs (places ws) r side to b
+pub clear_of : (vars : ℕ) (ws refs : List ℕ) (r side to b : ℕ) → IsSound vars ws refs
+    → IsSpot vars (word ws) refs (places ws) r side to b
     → IsClear (length ws) b (r + 2 + side) (word ws (r + 4 + to)) (r + 4 + side) (r + 4 + to)
 clear_of vars ws refs r side to b s spot =
     let f = word ws in
@@ -129,7 +133,8 @@ pub record IsDone (vars : ℕ) (ws new refs : List ℕ) (before : Option Watch) 
   pub fewer : left (store vars new refs) before (own (store vars ws refs) w) < left (store vars ws refs) before (own (store vars ws refs) w)
 
 pub done : (vars : ℕ) (ws new refs : List ℕ) (before : Option Watch) (w : Watch) (to : ℕ) → IsSound vars ws refs
-    → Stands (store vars ws refs) (own (store vars ws refs) w) w → head (store vars ws refs) before (own (store vars ws refs) w) ≡ place w
+    → Stands (store vars ws refs) (own (store vars ws refs) w) w
+    → head (store vars ws refs) before (own (store vars ws refs) w) ≡ place w
     → 2 ≤ to → to < word ws w.clause.0 → length new ≡ length ws
     → IsMoved (word ws) (word new) (link_of before (own (store vars ws refs) w)) (place w) (word ws (w.clause.0 + 4 + to)) (own (store vars ws refs) w)
     (w.clause.0 + 4 + w.side) (w.clause.0 + 4 + to)
@@ -183,7 +188,8 @@ done vars ws new refs before w to s st e behind within len moved =
 -- ---- as the code has it
 
 pub clear_at : (vars : ℕ) (ws refs : List ℕ) (before : Option Watch) (w : Watch) (to b p m : ℕ) → IsSound vars ws refs
-    → Stands (store vars ws refs) (own (store vars ws refs) w) w → head (store vars ws refs) before (own (store vars ws refs) w) ≡ place w
+    → Stands (store vars ws refs) (own (store vars ws refs) w) w
+    → head (store vars ws refs) before (own (store vars ws refs) w) ≡ place w
     → 2 ≤ to → to < word ws w.clause.0
     → b ≡ link_of before (own (store vars ws refs) w) → p ≡ place w → m ≡ word ws (w.clause.0 + 4 + to)
     → IsClear (length ws) b p m (w.clause.0 + 4 + w.side) (w.clause.0 + 4 + to)
@@ -196,10 +202,13 @@ clear_at vars ws refs before w to b p m s st e behind within eb ep em =
     (subst (λ (u : ℕ). IsClear (length ws) (link_of before n) u m x y) (sym ep)
     (subst (λ (u : ℕ). IsClear (length ws) (link_of before n) (place w) u x y) (sym em) c))
 
-pub done_at : (vars : ℕ) (ws new refs : List ℕ) (before : Option Watch) (w : Watch) (to b p m n : ℕ) → IsSound vars ws refs
-    → Stands (store vars ws refs) (own (store vars ws refs) w) w → head (store vars ws refs) before (own (store vars ws refs) w) ≡ place w
+pub done_at : (vars : ℕ) (ws new refs : List ℕ) (before : Option Watch) (w : Watch) (to b p m n : ℕ)
+    → IsSound vars ws refs
+    → Stands (store vars ws refs) (own (store vars ws refs) w) w
+    → head (store vars ws refs) before (own (store vars ws refs) w) ≡ place w
     → 2 ≤ to → to < word ws w.clause.0 → length new ≡ length ws
-    → b ≡ link_of before (own (store vars ws refs) w) → p ≡ place w → m ≡ word ws (w.clause.0 + 4 + to) → n ≡ own (store vars ws refs) w
+    → b ≡ link_of before (own (store vars ws refs) w) → p ≡ place w → m ≡ word ws (w.clause.0 + 4 + to)
+    → n ≡ own (store vars ws refs) w
     → IsMoved (word ws) (word new) b p m n (w.clause.0 + 4 + w.side) (w.clause.0 + 4 + to)
     → IsDone vars ws new refs before w to
 done_at vars ws new refs before w to b p m n s st e behind within len eb ep em en moved =

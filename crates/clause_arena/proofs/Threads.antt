@@ -1,7 +1,7 @@
 -- Lists in words, and what a write does to them.
-use Rattle.std.specs.Prelude.{ℕ, zero, suc, ◌≡◌, ◌≢◌, ◌+◌, ◌<◌, ◌≤◌, ◌==◌, ◌⊎◌, if◌then◌else◌, List, [], ◌∷◌, length, true, false, refl, ⊤}
+use Rattle.std.specs.Prelude.{ℕ, zero, suc, ◌≡◌, ◌≢◌, ◌<◌, ◌≤◌, ◌⊎◌, List, [], ◌∷◌, length, true, false, refl}
 use Rattle.std.specs.List.{IsDistinct, AllByRecursion, list_any}
-use Rattle.std.proofs.Common.{sym, ◌∙◌, ap, subst, inl, inr, arith, cond, get_or}
+use Rattle.std.proofs.Common.{sym, ◌∙◌, ap, subst, inl, inr, arith, cond}
 use Rattle.std.proofs.lemmas.Bool.{cases_Bool, or_cases, eqb-false, ne_eqb}
 use Rattle.std.proofs.Math.Dec.{eqb}
 use borrow.Author.Tests.{eqb-true}
@@ -11,7 +11,8 @@ use Rattle.clause_arena.specs.Links.{word, In, Threads, links, places, after, cu
 -- ---- what a list is
 
 -- the same list behind another place, where the words of the list's own places are the same
-pub threads_from : (f g : ℕ → ℕ) (at to : ℕ) (xs : List ℕ) → Threads f at xs → g to ≡ f at → ((j : ℕ) → In j xs → g j ≡ f j) → Threads g to xs
+pub threads_from : (f g : ℕ → ℕ) (at to : ℕ) (xs : List ℕ) → Threads f at xs → g to ≡ f at
+    → ((j : ℕ) → In j xs → g j ≡ f j) → Threads g to xs
 threads_from f g at to [] t e same = e ∙ t
 threads_from f g at to (q ∷ qs) t e same = (e ∙ t.0, t.1, threads_from f g q q qs t.2 (same q (inl refl)) (λ j i. same j (inr i)))
 
@@ -73,7 +74,8 @@ links_whole f (suc n) at (q ∷ qs) t h =
     rw (e, off_it, more) refl
 
 -- the list that the words lead to is the one that is computed
-pub places_are : (ws : List ℕ) (at : ℕ) (xs : List ℕ) → Threads (word ws) at xs → ((p : ℕ) → In p xs → p < length ws) → places ws at ≡ xs
+pub places_are : (ws : List ℕ) (at : ℕ) (xs : List ℕ) → Threads (word ws) at xs → ((p : ℕ) → In p xs → p < length ws)
+    → places ws at ≡ xs
 unfolding places
 places_are ws at xs t below =
     links_whole (word ws) (length ws) at xs t
@@ -94,7 +96,8 @@ later b at xs off_it (inl e) = absurd (eqb-false b at off_it e)
 later b at xs off_it (inr i) = i
 
 -- what stands behind a place is what the place leads to
-pub after_threads : (f : ℕ → ℕ) (at b : ℕ) (xs : List ℕ) → Threads f at xs → (b ≡ at) ⊎ In b xs → Threads f b (after b at xs)
+pub after_threads : (f : ℕ → ℕ) (at b : ℕ) (xs : List ℕ) → Threads f at xs → (b ≡ at) ⊎ In b xs
+    → Threads f b (after b at xs)
 after_threads f at b [] t (inl e) = ap f e ∙ t
 after_threads f at b [] t (inr i) = absurd i
 after_threads f at b (q ∷ qs) t here =
@@ -112,7 +115,8 @@ first_threads f at (q ∷ qs) t = sym t.0
 -- ---- what a write does to a list
 
 -- a place is taken out where the place before it leads past it
-pub threads_cut : (f g : ℕ → ℕ) (at b : ℕ) (xs : List ℕ) → Threads f at xs → (b ≡ at) ⊎ In b xs → 0 < f b → g b ≡ f (f b)
+pub threads_cut : (f g : ℕ → ℕ) (at b : ℕ) (xs : List ℕ) → Threads f at xs → (b ≡ at) ⊎ In b xs → 0 < f b
+    → g b ≡ f (f b)
     → ((j : ℕ) → (j ≡ at) ⊎ In j xs → j ≢ b → j ≢ f b → g j ≡ f j) → Threads g at (cut b at xs)
 threads_cut f g at b [] t (inl e) h gb same = let z : f b ≡ 0 = ap f e ∙ t in absurd (omega arith)
 threads_cut f g at b [] t (inr i) h gb same = absurd i
@@ -141,7 +145,8 @@ off_next f at b xs t here pos e =
     off_own f at xs t (subst (λ (u : ℕ). In u xs) e (next_in f at b xs t here h))
 
 -- what is in the list without a place was in the list, and is not that place
-pub cut_in : (f : ℕ → ℕ) (at b : ℕ) (xs : List ℕ) (j : ℕ) → Threads f at xs → (b ≡ at) ⊎ In b xs → In j (cut b at xs) → In j xs × (j ≢ f b)
+pub cut_in : (f : ℕ → ℕ) (at b : ℕ) (xs : List ℕ) (j : ℕ) → Threads f at xs → (b ≡ at) ⊎ In b xs → In j (cut b at xs)
+    → In j xs × (j ≢ f b)
 cut_in f at b [] j t here i = absurd i
 cut_in f at b (q ∷ qs) j t here i =
     elim (cases_Bool (eqb b at)) [
@@ -160,7 +165,8 @@ cut_in f at b (q ∷ qs) j t here i =
     ]
 
 -- what was in the list and is not the place that was taken out is in it still
-pub in_cut : (f : ℕ → ℕ) (at b : ℕ) (xs : List ℕ) (j : ℕ) → Threads f at xs → (b ≡ at) ⊎ In b xs → In j xs → j ≢ f b → In j (cut b at xs)
+pub in_cut : (f : ℕ → ℕ) (at b : ℕ) (xs : List ℕ) (j : ℕ) → Threads f at xs → (b ≡ at) ⊎ In b xs → In j xs → j ≢ f b
+    → In j (cut b at xs)
 in_cut f at b [] j t here i ne = absurd i
 in_cut f at b (q ∷ qs) j t here i ne =
     elim (cases_Bool (eqb b at)) [

@@ -1,13 +1,13 @@
 -- Walks along the lists of watches.
-use Rattle.std.specs.Prelude.{ℕ, zero, suc, ◌≡◌, ◌≢◌, ◌+◌, ◌-◌, ◌*◌, ◌%◌, ◌<◌, ◌≤◌, ◌==◌, ◌⊎◌, List, [], ◌∷◌, length, Option, Some, None, IfSome, true, false, refl}
-use Rattle.std.proofs.Common.{sym, ◌∙◌, ap, subst, inl, inr, arith, cond, get_or}
-use Rattle.std.proofs.lemmas.Bool.{cases_Bool, cases_eq, eqb-false, ne_eqb}
+use Rattle.std.specs.Prelude.{ℕ, ◌≡◌, ◌+◌, ◌-◌, ◌*◌, ◌%◌, ◌<◌, ◌≤◌, ◌⊎◌, List, [], ◌∷◌, length, Option, Some, None, IfSome, refl}
+use Rattle.std.proofs.Common.{sym, ◌∙◌, ap, subst, inl, inr, arith, cond}
+use Rattle.std.proofs.lemmas.Bool.{cases_Bool, cases_eq, ne_eqb}
 use Rattle.std.proofs.Math.Dec.{eqb}
 use borrow.Author.Tests.{eqb-true}
 use Rattle.clause_arena.specs.declared.names.Watch.{Watch}
 use Rattle.clause_arena.specs.Links.{word, In, Threads, places, after, first}
-use Rattle.clause_arena.specs.Store.{IsSound, IsWatch, Store, store}
-use Rattle.clause_arena.specs.Watched.{place, place_or, own, Stands, rest, head, left, watch_made, watch_at, link_of}
+use Rattle.clause_arena.specs.Store.{IsSound, Store, store}
+use Rattle.clause_arena.specs.Watched.{place, place_or, own, Stands, head, left, watch_made, watch_at, link_of}
 use Rattle.clause_arena.proofs.Threads.{threads_one, next_in, after_threads, first_threads}
 
 -- ---- a place and its watch
@@ -18,7 +18,8 @@ pub record IsMade (a : Store) (n p : ℕ) : Type 0 where
   pub place : place (watch_made p) ≡ p
   pub high : 2 ≤ p
 
-pub made : (vars : ℕ) (ws refs : List ℕ) (n p : ℕ) → IsSound vars ws refs → n < 2 * vars → In p (places ws n) → IsMade (store vars ws refs) n p
+pub made : (vars : ℕ) (ws refs : List ℕ) (n p : ℕ) → IsSound vars ws refs → n < 2 * vars → In p (places ws n)
+    → IsMade (store vars ws refs) n p
 made vars ws refs n p s h i =
     let w = s.linked.watch n p h i in
     let even : w.ref % 2 ≡ 0 = s.laid.even w.ref w.held in
@@ -67,7 +68,8 @@ leads vars ws refs n b s h here =
     ]
 
 -- what the word at a link leads to is no place below 2
-pub low_or_high : (vars : ℕ) (ws refs : List ℕ) (n b : ℕ) → IsSound vars ws refs → n < 2 * vars → (b ≡ n) ⊎ In b (places ws n)
+pub low_or_high : (vars : ℕ) (ws refs : List ℕ) (n b : ℕ) → IsSound vars ws refs → n < 2 * vars
+    → (b ≡ n) ⊎ In b (places ws n)
     → (word ws b ≡ 0) ⊎ (3 < word ws b + 2)
 low_or_high vars ws refs n b s h here =
     elim (cases_eq (word ws b) 0) [
@@ -91,7 +93,8 @@ followed f at b (q ∷ qs) h =
     ]
 
 -- a list is longer than what its first place leads to
-longer : (f : ℕ → ℕ) (b p : ℕ) (ys zs : List ℕ) → Threads f b ys → first ys ≡ p → 0 < p → Threads f p zs → length zs < length ys
+longer : (f : ℕ → ℕ) (b p : ℕ) (ys zs : List ℕ) → Threads f b ys → first ys ≡ p → 0 < p → Threads f p zs
+    → length zs < length ys
 longer f b p [] zs t e h u = absurd (omega arith)
 longer f b p (q ∷ qs) zs t e h u =
     let same : zs ≡ qs = threads_one f p zs qs u (subst (λ (k : ℕ). Threads f k qs) e t.2) in
@@ -112,12 +115,14 @@ fewer a n w before t i e =
 -- ---- a watch that stands in the list of its literal
 
 -- its literal's code is that of a head
-pub code_below : (vars : ℕ) (ws refs : List ℕ) (w : Watch) → IsSound vars ws refs → Stands (store vars ws refs) (own (store vars ws refs) w) w
+pub code_below : (vars : ℕ) (ws refs : List ℕ) (w : Watch) → IsSound vars ws refs
+    → Stands (store vars ws refs) (own (store vars ws refs) w) w
     → own (store vars ws refs) w < 2 * vars
 code_below vars ws refs w s st =
     s.laid.below w.clause.0 w.side st.held (let low : w.side < 2 = st.low in let two : 2 ≤ word ws w.clause.0 = st.two in omega arith)
 
 -- its link is within the words
-pub place_within : (vars : ℕ) (ws refs : List ℕ) (w : Watch) → IsSound vars ws refs → Stands (store vars ws refs) (own (store vars ws refs) w) w
+pub place_within : (vars : ℕ) (ws refs : List ℕ) (w : Watch) → IsSound vars ws refs
+    → Stands (store vars ws refs) (own (store vars ws refs) w) w
     → place w < length ws
 place_within vars ws refs w s st = omega (arith, s.laid.inside w.clause.0 st.held, st.low)

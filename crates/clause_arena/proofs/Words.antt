@@ -1,12 +1,13 @@
 -- Which words are whose.
-use Rattle.std.specs.Prelude.{ℕ, ◌≡◌, ◌≢◌, ◌+◌, ◌*◌, ◌%◌, ◌<◌, ◌≤◌, ◌⊎◌, List, refl}
-use Rattle.std.proofs.Common.{sym, ◌∙◌, ap, subst, inl, inr, arith}
-use Rattle.std.proofs.lemmas.Bool.{cases_order, cases_eq}
+use Rattle.std.specs.Prelude.{ℕ, ◌≡◌, ◌+◌, ◌%◌, ◌<◌, ◌≤◌, List}
+use Rattle.std.proofs.Common.{sym, ◌∙◌, ap, inl, inr, arith}
+use Rattle.std.proofs.lemmas.Bool.{cases_order}
 use Rattle.clause_arena.specs.Links.{In}
 use Rattle.clause_arena.specs.Store.{IsWatch, IsLaid}
 
 -- no word lies in two clauses
-pub same_word : (vars len : ℕ) (f : ℕ → ℕ) (refs : List ℕ) (r s j k : ℕ) → IsLaid vars len f refs → In r refs → In s refs
+pub same_word : (vars len : ℕ) (f : ℕ → ℕ) (refs : List ℕ) (r s j k : ℕ) → IsLaid vars len f refs → In r refs
+    → In s refs
     → j < 4 + f r → k < 4 + f s → r + j ≡ s + k → (r ≡ s) × (j ≡ k)
 same_word vars len f refs r s j k laid i h a b e =
     elim (cases_order r s) [
@@ -18,7 +19,8 @@ same_word vars len f refs r s j k laid i h a b e =
     ]
 
 -- no place is in the lists of two codes
-pub one_list : (vars len : ℕ) (f : ℕ → ℕ) (refs : List ℕ) (m n q : ℕ) → IsLaid vars len f refs → IsWatch f refs m q → IsWatch f refs n q → m ≡ n
+pub one_list : (vars len : ℕ) (f : ℕ → ℕ) (refs : List ℕ) (m n q : ℕ) → IsLaid vars len f refs → IsWatch f refs m q
+    → IsWatch f refs n q → m ≡ n
 one_list vars len f refs m n q laid a b =
     let pa : q ≡ a.ref + 2 + a.side = a.place in
     let pb : q ≡ b.ref + 2 + b.side = b.place in

@@ -1,5 +1,5 @@
 -- The clauses that an arena holds.
-use Rattle.std.specs.Prelude.{ℕ, ◌≡◌, ◌+◌, ◌*◌, ◌/◌, ◌%◌, ◌==◌, Bool, if◌then◌else◌, List, map, take, drop}
+use Rattle.std.specs.Prelude.{ℕ, ◌+◌, ◌*◌, ◌/◌, ◌%◌, ◌==◌, if◌then◌else◌, List, map, take, drop}
 use Rattle.resolution_check.specs.declared.log.Lit.{Lit}
 use Rattle.clause_arena.specs.declared.names.ClauseRef.{ClauseRef}
 use Rattle.clause_arena.specs.Links.{word, In}

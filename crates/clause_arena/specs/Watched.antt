@@ -1,6 +1,5 @@
 -- The lists of watches.
 use Rattle.std.specs.Prelude.{ℕ, ◌≡◌, ◌+◌, ◌-◌, ◌%◌, ◌==◌, ◌<◌, ◌≤◌, if◌then◌else◌, List, length, Option, Some, None}
-use Rattle.clause_arena.specs.declared.names.ClauseRef.{ClauseRef}
 use Rattle.clause_arena.specs.declared.names.Watch.{Watch}
 use Rattle.clause_arena.specs.Links.{In, places, after, first}
 use Rattle.clause_arena.specs.Store.{Store}

@@ -5,7 +5,7 @@ ghost use Rattle.resolution_check.specs.Clauses.{is_below};
 ghost use Rattle.resolution_check.specs.Earned.{vars_differ};
 ghost use Rattle.clause_arena.specs.Links.{word, In};
 ghost use Rattle.clause_arena.specs.Store.{IsSound, store};
-ghost use Rattle.clause_arena.specs.Held.{code_of};
+ghost use Rattle.clause_arena.specs.Held.{code_of, clauses};
 ghost use Rattle.clause_arena.specs.Changes.{HasCodes, IsWritten, IsPut, IsPlaced, Adds};
 
 use crate::reading::code;
@@ -78,6 +78,8 @@ pub(crate) fn add_in(
     ensures sound { IsSound vars words.new.items refs.new.items }
     ensures ok { IfOk result (λ r. Adds (store vars words.old.items refs.old.items)
         (store vars words.new.items refs.new.items) r id (map code_of lits.now)) }
+    ensures clauses { IfOk result (λ _. clauses (store vars words.new.items refs.new.items)
+        ≡ clauses (store vars words.old.items refs.old.items) ++ (id, lits.now) ∷ []) }
     ensures words { OnErr result (words.new.items ≡ words.old.items) }
     ensures refs { OnErr result (refs.new.items ≡ refs.old.items) }
 {

@@ -1,6 +1,6 @@
 //! The arena.
 
-ghost use Rattle.std.specs.Prelude.{◌≡◌, ℕ, ◌*◌, ◌<◌, ◌≤◌, [], IfOk, IfSome, OnErr, Option, Some, None, map, true, replicate};
+ghost use Rattle.std.specs.Prelude.{◌≡◌, ℕ, ◌*◌, ◌<◌, ◌≤◌, [], ◌∷◌, ◌++◌, IfOk, IfSome, OnErr, Option, Some, None, map, true, replicate};
 ghost use Rattle.resolution_check.specs.Clauses.{is_below};
 ghost use Rattle.resolution_check.specs.Earned.{vars_differ};
 
@@ -82,6 +82,7 @@ impl Arena {
         requires differ { vars_differ lits.now ≡ true }
         requires above { (c : ClauseRef) → IsHeld self.old c → number_of self.old c < id }
         ensures ok { IfOk result (λ c. Adds self.old self.new c.0 id (map code_of lits.now)) }
+        ensures clauses { IfOk result (λ _. clauses self.new ≡ clauses self.old ++ (id, lits.now) ∷ []) }
         ensures unchanged { OnErr result (self.new ≡ self.old) }
     {
         let clause = add_in(&mut self.words, &mut self.refs, self.vars, id, lits)?;

@@ -1,18 +1,22 @@
-use Rattle.std.specs.Prelude.{ℕ, ◌≡◌, ◌+◌, ◌-◌, ◌%◌, ◌≤◌, List, [], ◌∷◌, length, map, take, replicate, ◌++◌, refl}
+use Rattle.std.specs.Prelude.{ℕ, ◌≡◌, ◌+◌, ◌%◌, ◌≤◌, List, [], ◌∷◌, length, map, ◌++◌, refl}
 use Rattle.std.proofs.Common.{sym, ◌∙◌, ap, subst, arith}
 use Rattle.clause_arena.specs.Links.{word}
 use Rattle.clause_arena.specs.Store.{IsSound, store}
 use Rattle.clause_arena.specs.Held.{code_of}
 use Rattle.clause_arena.specs.Changes.{IsPlaced, Adds}
 use Rattle.clause_arena.proofs.Additions.{IsAdded, added, room_behind}
+use Rattle.clause_arena.specs.Held.{clauses}
+use Rattle.clause_arena.proofs.Views.{clauses_more}
 use Rattle.clause_arena.proofs.Placing.{grown_word, taken_back}
 use Rattle.clause_arena.proofs.adding.add_in.Goals as goal
 
 -- the words after the addition are as long as they were made
-long : (c : goal.After-push_reserved) → length c.place_clause.new.words ≡ c.len.result + c.len-2.result % 2 + 4 + length c.args.lits.now
+long : (c : goal.After-push_reserved)
+    → length c.place_clause.new.words ≡ c.len.result + c.len-2.result % 2 + 4 + length c.args.lits.now
 long c = c.place_clause.auto.words ∙ c.deref_mut.ensures.len ∙ c.in_ok-resize.ensures.len
 
-whole : (c : goal.After-push_reserved) → IsAdded c.args.vars c.args.words.now.items c.args.refs.now.items c.place_clause.new.words
+whole : (c : goal.After-push_reserved)
+    → IsAdded c.args.vars c.args.words.now.items c.args.refs.now.items c.place_clause.new.words
     (c.len.result + c.len-2.result % 2) c.args.id (map code_of c.args.lits.now)
 whole c =
     let ws = c.args.words.now.items in
@@ -32,7 +36,8 @@ whole c =
     (subst (λ (g : List ℕ). IsPlaced (word g) (word c.place_clause.new.words) r c.args.id (map code_of c.args.lits.now)) c.deref_mut.ensures.value
     c.place_clause.ensures)
 
-refs_are : (c : goal.After-push_reserved) → c.push_reserved.new.self.items ≡ c.args.refs.now.items ++ (c.len.result + c.len-2.result % 2) ∷ []
+refs_are : (c : goal.After-push_reserved)
+    → c.push_reserved.new.self.items ≡ c.args.refs.now.items ++ (c.len.result + c.len-2.result % 2) ∷ []
 refs_are c = c.push_reserved.ensures.items ∙ ap (λ (xs : List ℕ). xs ++ (c.len.result + c.len-2.result % 2) ∷ []) c.in_ok-reserve.ensures.items
 
 pub returns-clause-sound : goal.returns-clause-sound
@@ -49,3 +54,14 @@ returns-clause-ok c =
     subst (λ (xs : List ℕ). Adds old (store c.args.vars xs c.push_reserved.new.self.items) r c.args.id codes)
     (sym (taken_back c.resize.new.self.len c.place_clause.new.words _ (c.place_clause.auto.words ∙ c.deref_mut.ensures.len)))
     (subst (λ (xs : List ℕ). Adds old (store c.args.vars c.place_clause.new.words xs) r c.args.id codes) (sym (refs_are c)) (whole c).adds)
+
+pub returns-clause-clauses : goal.returns-clause-clauses
+returns-clause-clauses c =
+    let a = c.args in
+    let old = store a.vars a.words.now.items a.refs.now.items in
+    let r = c.len.result + c.len-2.result % 2 in
+    subst (λ (xs : List ℕ). clauses (store a.vars xs c.push_reserved.new.self.items) ≡ clauses old ++ (a.id, a.lits.now) ∷ [])
+    (sym (taken_back c.resize.new.self.len c.place_clause.new.words _ (c.place_clause.auto.words ∙ c.deref_mut.ensures.len)))
+    (subst (λ (xs : List ℕ). clauses (store a.vars c.place_clause.new.words xs) ≡ clauses old ++ (a.id, a.lits.now) ∷ []) (sym (refs_are c))
+    (clauses_more a.vars a.words.now.items a.refs.now.items c.place_clause.new.words (a.refs.now.items ++ r ∷ []) r a.id a.lits.now
+    c.requires.sound (whole c).sound (whole c).adds))

@@ -1,7 +1,6 @@
-use Rattle.std.specs.Prelude.{◌≡◌, Option, Some, None, IfSome, refl}
-use Rattle.std.proofs.Common.{sym, ◌∙◌, ap, subst, inl, arith}
+use Rattle.std.specs.Prelude.{Option, IfSome, refl}
+use Rattle.std.proofs.Common.{sym, ◌∙◌, ap, subst, inl}
 use Rattle.clause_arena.specs.declared.names.Watch.{Watch}
-use Rattle.clause_arena.specs.Links.{word}
 use Rattle.clause_arena.specs.Store.{store}
 use Rattle.clause_arena.specs.Watched.{place_or, Stands, watch_at}
 use Rattle.clause_arena.proofs.Walks.{leads, low_or_high}

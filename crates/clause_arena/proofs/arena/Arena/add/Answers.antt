@@ -1,4 +1,4 @@
-use Rattle.std.specs.Prelude.{ℕ, ◌+◌, ◌<◌}
+use Rattle.std.specs.Prelude.{◌+◌, ◌<◌}
 use Rattle.std.proofs.Common.{sym, subst}
 use Rattle.clause_arena.specs.declared.names.ClauseRef.{ClauseRef}
 use Rattle.clause_arena.specs.Links.{word, In}

@@ -1,0 +1,77 @@
+-- The clauses that are held, as a list.
+use Rattle.std.specs.Prelude.{ℕ, ◌≡◌, ◌+◌, ◌-◌, ◌*◌, ◌/◌, ◌%◌, ◌<◌, ◌≤◌, Bool, true, false, List, [], ◌∷◌, ◌++◌, length, map, take, drop, refl}
+use Rattle.std.proofs.Common.{sym, ◌∙◌, ap, subst, inl, inr, arith, length-take, length-drop}
+use Rattle.std.proofs.lemmas.List.{get_or-take, get_or-drop, map-append}
+use Rattle.std.proofs.lemmas.Grind.{same_number_lists}
+use Rattle.resolution_check.specs.declared.log.Lit.{Lit}
+use Rattle.clause_arena.specs.Links.{word, In}
+use Rattle.clause_arena.specs.Store.{IsSound, store}
+use Rattle.clause_arena.specs.Held.{code_of, lit_of, clauses}
+use Rattle.clause_arena.specs.Changes.{Adds}
+use Rattle.clause_arena.proofs.Settling.{in_end, in_front}
+
+-- the words from a place on, where each is known
+segment : (ws : List ℕ) (at n : ℕ) (codes : List ℕ) → at + n ≤ length ws → n ≡ length codes
+    → ((k : ℕ) → k < n → word ws (at + k) ≡ word codes k)
+    → take n (drop at ws) ≡ codes
+segment ws at n codes room size each =
+    let d : length (drop at ws) ≡ length ws - at = length-drop at ws in
+    let l : length (take n (drop at ws)) ≡ length codes = omega (arith, length-take n (drop at ws)) in
+    same_number_lists (take n (drop at ws)) codes l (λ k h.
+    let low : k < n = omega arith in
+    get_or-take n (drop at ws) k 0 low ∙ get_or-drop at ws k 0 ∙ each k low)
+
+-- a literal is that of its code
+lit_back : (var : ℕ) (negated : Bool)
+    → lit_of (code_of (record { var = var; negated = negated })) ≡ record { var = var; negated = negated }
+lit_back var true =
+    let a : (2 * var + 1) / 2 ≡ var = omega arith in
+    let b : (2 * var + 1) % 2 ≡ 1 = omega arith in
+    rw (a, b) refl
+lit_back var false =
+    let a : (2 * var + 0) / 2 ≡ var = omega arith in
+    let b : (2 * var + 0) % 2 ≡ 0 = omega arith in
+    rw (a, b) refl
+
+lits_back : (lits : List Lit) → map lit_of (map code_of lits) ≡ lits
+lits_back [] = refl
+lits_back (l ∷ lits) = let a : lit_of (code_of l) ≡ l = lit_back l.var l.negated in let b : map lit_of (map code_of lits) ≡ lits = lits_back lits in cc
+
+map_same : {X : Type 0} (f g : ℕ → X) (rs : List ℕ) → ((s : ℕ) → In s rs → f s ≡ g s) → map f rs ≡ map g rs
+map_same f g [] each = refl
+map_same f g (r ∷ rs) each = let a : f r ≡ g r = each r (inl refl) in let b : map f rs ≡ map g rs = map_same f g rs (λ s i. each s (inr i)) in cc
+
+-- an addition appends the clause
+pub clauses_more : (vars : ℕ) (ws refs new more : List ℕ) (r id : ℕ) (lits : List Lit) → IsSound vars ws refs
+    → IsSound vars new more
+    → Adds (store vars ws refs) (store vars new more) r id (map code_of lits)
+    → clauses (store vars new more) ≡ clauses (store vars ws refs) ++ (id, lits) ∷ []
+clauses_more vars ws refs new more r id lits sound after adds =
+    let f : ℕ → (ℕ × List Lit) = λ s. (word ws (s + 1), map lit_of (take (word ws s) (drop (s + 4) ws))) in
+    let g : ℕ → (ℕ × List Lit) = λ s. (word new (s + 1), map lit_of (take (word new s) (drop (s + 4) new))) in
+    let held : (s : ℕ) → In s refs → In s more = λ s i. subst (λ (xs : List ℕ). In s xs) (sym adds.refs) (in_front s r refs i) in
+    let same : (s : ℕ) → In s refs → g s ≡ f s = λ s i.
+    (let k = adds.kept s i in
+    let old : s + 4 + word ws s ≤ length ws = sound.laid.inside s i in
+    let now : s + 4 + word new s ≤ length new = after.laid.inside s (held s i) in
+    let size : word new s ≡ word ws s = k.size in
+    let number : word new (s + 1) ≡ word ws (s + 1) = k.number in
+    let d : length (drop (s + 4) ws) ≡ length ws - (s + 4) = length-drop (s + 4) ws in
+    let l : word new s ≡ length (take (word ws s) (drop (s + 4) ws)) = omega (arith, length-take (word ws s) (drop (s + 4) ws)) in
+    let codes : take (word new s) (drop (s + 4) new) ≡ take (word ws s) (drop (s + 4) ws) =
+    segment new (s + 4) (word new s) (take (word ws s) (drop (s + 4) ws)) now l (λ j h.
+    let low : j < word ws s = omega arith in
+    k.codes j low ∙ sym (get_or-take (word ws s) (drop (s + 4) ws) j 0 low ∙ get_or-drop (s + 4) ws j 0)) in
+    let whole : map lit_of (take (word new s) (drop (s + 4) new)) ≡ map lit_of (take (word ws s) (drop (s + 4) ws)) = ap (map lit_of) codes in
+    cc) in
+    let own : g r ≡ (id, lits) =
+    (let now : r + 4 + word new r ≤ length new = after.laid.inside r (subst (λ (xs : List ℕ). In r xs) (sym adds.refs) (in_end r refs)) in
+    let size : word new r ≡ length (map code_of lits) = adds.size in
+    let number : word new (r + 1) ≡ id = adds.number in
+    let codes : take (word new r) (drop (r + 4) new) ≡ map code_of lits =
+    segment new (r + 4) (word new r) (map code_of lits) now size (λ j h. adds.codes_at j (omega arith)) in
+    let whole : map lit_of (take (word new r) (drop (r + 4) new)) ≡ lits = ap (map lit_of) codes ∙ lits_back lits in
+    cc) in
+    let split : map g (refs ++ r ∷ []) ≡ map g refs ++ g r ∷ [] = map-append g refs (r ∷ []) in
+    ap (map g) adds.refs ∙ split ∙ ap (λ (xs : List (ℕ × List Lit)). xs ++ g r ∷ []) (map_same g f refs same)
+    ∙ ap (λ (x : ℕ × List Lit). map f refs ++ x ∷ []) own
