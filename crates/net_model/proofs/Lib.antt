@@ -2,3 +2,5 @@ pub mod Order
 pub mod Defined
 pub mod LeastWalks
 pub mod Peers
+pub mod Few
+pub mod Ids
