@@ -40,7 +40,7 @@ fn two_routers(alloc: Global) -> Result<Net, Fail> {
         alloc,
         b"hostname N2\ninterface GigabitEthernet0/0\n ip address 10.0.0.2 255.255.255.252\ninterface Loopback0\n ip address 10.2.0.1 255.255.255.255\n",
     )?;
-    let net = Net::of(alloc, both(alloc, first, second)?)?.ok_or("no network")?;
+    let net = Net::build(alloc, both(alloc, first, second)?)?;
     Ok(net)
 }
 

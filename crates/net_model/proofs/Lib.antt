@@ -4,3 +4,4 @@ pub mod LeastWalks
 pub mod Peers
 pub mod Few
 pub mod Ids
+pub mod Costs

@@ -1,6 +1,6 @@
 //! The network of a list of files.
 
-ghost use Rattle.std.specs.Prelude.{◌≡◌, ◌≢◌, ◌≤◌, ◌<◌, IfOk, IfErr, IfSome, None, Some, position, true, length};
+ghost use Rattle.std.specs.Prelude.{All, ◌≡◌, ◌≢◌, ◌≤◌, ◌<◌, IfOk, IfErr, IfSome, None, Some, position, true, length};
 ghost use Rattle.std.specs.List.{list_all};
 ghost use Rattle.mw_text.specs.Text.{same_text};
 ghost use Rattle.net_model.specs.Exports.{router_id};
@@ -189,15 +189,19 @@ impl Net {
     }
 
     /// The interfaces that run OSPF, shut down or not, in the order of the files.
+    #[tactic(auto, using(crate::proofs::Costs::interface_costs))]
     pub fn ospf_interfaces(&self) -> &[OspfInterface]
-        ensures { result.now ≡ ospf.ospf_interfaces self.now }
+        ensures value { result.now ≡ ospf.ospf_interfaces self.now }
+        ensures costs { All (λ x. (0 < x.cost) × (x.cost ≤ 65535)) (ospf.ospf_interfaces self.now) }
     {
         self.parts.running.as_slice()
     }
 
     /// All OSPF adjacencies while no link fails, by `from` and then by `to`.
+    #[tactic(auto, using(crate::proofs::Costs::adjacency_costs))]
     pub fn adjacencies(&self) -> &[Adjacency]
-        ensures { result.now ≡ ospf.adjacencies self.now }
+        ensures value { result.now ≡ ospf.adjacencies self.now }
+        ensures costs { All (λ a. (0 < a.cost) × (a.cost ≤ 65535)) (ospf.adjacencies self.now) }
     {
         self.parts.adjacencies.as_slice()
     }
