@@ -40,8 +40,11 @@ fn two_routers(alloc: Global) -> Result<Net, Fail> {
         alloc,
         b"hostname N2\ninterface GigabitEthernet0/0\n ip address 10.0.0.2 255.255.255.252\ninterface Loopback0\n ip address 10.2.0.1 255.255.255.255\n",
     )?;
-    let net = Net::build(alloc, both(alloc, first, second)?)?;
-    Ok(net)
+    let files = both(alloc, first, second)?;
+    if !keep_limits(files.as_slice()) {
+        return Err("too many".into());
+    }
+    Ok(Net::build(alloc, files)?)
 }
 
 fn one_question(alloc: Global, name: &[u8]) -> Result<List<Question>, AllocError> {
