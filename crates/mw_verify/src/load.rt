@@ -385,6 +385,22 @@ pub struct Loaded {
     pub questions: List<Question>,
 }
 
+// The network and the questions of the texts.
+fn parse(alloc: Global, texts: &[Text], asked: &Text) -> Result<Loaded, Stop>
+    requires texts { AreSmall texts.now }
+    requires asked { length asked.now.bytes ≤ MOST_BYTES }
+    ensures ok { IfOk result (λ loaded. due.texts_due texts.now asked.now ≡ Ok (due.answering loaded.net loaded.questions DEFAULT_CONFLICTS)) }
+    ensures plain { IfOk result (λ loaded. runs_no_protocol loaded.net ≡ true) }
+    ensures reach { IfOk result (λ loaded. AreReach (length loaded.net) loaded.questions) }
+    ensures answerable { IfOk result (λ loaded. AreAnswerable loaded.questions) }
+    ensures few { IfOk result (λ loaded. length loaded.questions ≤ MOST_QUESTIONS) }
+    ensures stop { IfErr result (λ stop. OnStop stop (λ line. due.texts_due texts.now asked.now ≡ Err (due.refused line)) ⊥) }
+{
+    let net = parse_network(alloc, texts)?;
+    let questions = parse_questions(alloc, asked, &net)?;
+    Ok(Loaded { net, questions })
+}
+
 /// Reads the configurations of these names and then the questions file, and parses them in this order. A read fault is
 /// answered only where a read of one of these files failed in this call, and a refusal is the first in this order. Files,
 /// network and questions are read whole; then the first question that `verify` cannot answer yet is refused.
@@ -411,7 +427,5 @@ pub fn load<F: Files>(
 {
     let texts = read_texts(alloc, files, names)?;
     let asked = read_text(alloc, files, questions)?;
-    let net = parse_network(alloc, texts.as_slice())?;
-    let questions = parse_questions(alloc, &asked, &net)?;
-    Ok(Loaded { net, questions })
+    parse(alloc, texts.as_slice(), &asked)
 }
