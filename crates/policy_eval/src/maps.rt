@@ -29,8 +29,9 @@ fn decider<'a>(
     }
 }
 
-/// The entry that decides: of those that take the route the one with the least sequence number.
-fn deciding_entry<'a>(
+/// The entry of a route map that decides: of those that take the route the one with the least sequence number. None exactly
+/// where no entry takes it.
+pub fn deciding_entry<'a>(
     map: &'a RouteMap,
     policies: &Policies,
     p: &Prefix,

@@ -1,0 +1,7 @@
+//! BGP: which routes a router sends and takes, and which of them survive its decision process.
+#![tactic(auto)]
+
+pub mod decision;
+mod steps;
+
+pub use decision::{Candidate, survivors};
