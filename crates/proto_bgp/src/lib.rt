@@ -2,6 +2,9 @@
 #![tactic(auto)]
 
 pub mod decision;
+mod importing;
+mod policies;
+mod routers;
 mod steps;
 
 pub use decision::{Candidate, survivors};
