@@ -2,6 +2,7 @@
 #![tactic(auto)]
 
 pub mod decision;
+mod exporting;
 mod importing;
 mod policies;
 mod routers;

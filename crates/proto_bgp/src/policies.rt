@@ -45,7 +45,8 @@ pub fn passes_paths(policies: &Policies, used: &Option<Use>, path: &[u32]) -> bo
     }
 }
 
-fn map_named<'a>(policies: &'a Policies, named: &Use) -> Option<&'a RouteMap>
+/// The route map of that name.
+pub fn map_named<'a>(policies: &'a Policies, named: &Use) -> Option<&'a RouteMap>
     ensures { option_copied result ≡ find (λ map. same_text map.name named.now.name) policies.now.maps }
 {
     for map in policies.maps.as_slice() {
