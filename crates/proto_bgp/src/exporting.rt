@@ -11,12 +11,16 @@ ghost use Rattle.net_model.specs.Mapping as mapping;
 ghost use Rattle.net_model.specs.Sessions as sessions;
 ghost use Rattle.policy_eval.specs.Attributes as policy;
 ghost use Rattle.proto_bgp.specs.Routes.{as_map_rec};
+ghost use Rattle.proto_bgp.specs.Sending.{Speaks, message_over};
 
-use crate::policies::{copy, map_named, map_rec, passes_paths, passes_prefixes, through_map};
+use crate::policies::{
+    copy, map_named, map_rec, passes_paths, passes_prefixes, through_map, with_front,
+};
 use crate::routers::{carries, is_reflector, neighbour_of};
+use crate::speaker::{Speaker, internal_next_hop, reflected_clusters, reflected_originator};
 use ios_ast::{Bgp, File, MapEntry, Neighbour, Policies, SetAct, Use};
 use mw_text::{Addr, List, Prefix};
-use net_model::{Addressed, IfaceId, SessionEnd};
+use net_model::{Addressed, SessionEnd};
 use policy_eval::deciding_entry;
 use route_record::{BgpMsg, BgpRec, Learnt, MapRec};
 use std::alloc::{AllocError, Global};
@@ -253,16 +257,6 @@ fn sent_communities(
     }
 }
 
-/// A list with one more in front.
-fn with_front<T: Copy>(alloc: Global, first: T, rest: &List<T>) -> Result<List<T>, AllocError>
-    ensures { IfOk result (λ made. made ≡ first ∷ rest.now) }
-{
-    let mut items = Vec::new(alloc);
-    items.push(first)?;
-    items.extend_from_slice(rest.as_slice())?;
-    Ok(List { items })
-}
-
 fn kept_metric(keeps: bool, med: u32) -> Option<u32>
     ensures { result ≡ (if keeps then Some med else None) }
 {
@@ -297,24 +291,158 @@ fn external_message(
     })
 }
 
-/// The next hop over an internal session: the own address for a local route, and with `next-hop-self` for one of an
-/// external peer.
-fn internal_next_hop(
+/// The message over an internal session: path, local preference and metric stay as the map leaves them.
+#[tactic(auto, using(crate::proofs::Mapped::code_back))]
+fn internal_message(
+    alloc: Global,
+    files: &[File],
     neighbour: &Neighbour,
-    own: Addr,
+    end: &SessionEnd,
+    speaker: &Speaker,
     held: &BgpRec,
-    from: &Option<SessionEnd>,
-) -> Addr
-    ensures { result ≡ exports.internal_next_hop neighbour.now own held.now from.now }
+    made: &BgpRec,
+) -> Result<BgpMsg, AllocError>
+    requires { Speaks files.now end.now held.now speaker.now }
+    ensures { IfOk result (λ msg. msg ≡ exports.internal_message files.now end.now.router neighbour.now speaker.now.address
+        held.now (mapping.attributes_of made.now)) }
 {
-    match from {
-        None => own,
-        Some(end) => {
-            if neighbour.next_hop_self && !end.internal {
-                own
-            } else {
-                held.next_hop
-            }
-        }
+    let from = &speaker.from;
+    let path = copy(alloc, &made.path)?;
+    let communities = sent_communities(alloc, neighbour, &made.communities)?;
+    let clusters = reflected_clusters(alloc, files, end.router, speaker.id, held, from)?;
+    Ok(BgpMsg {
+        local_pref: Some(made.local_pref),
+        path,
+        origin: made.origin,
+        med: Some(made.med),
+        communities,
+        next_hop: internal_next_hop(neighbour, speaker.address, held, from),
+        originator: reflected_originator(files, held, from, speaker.peer),
+        clusters,
+    })
+}
+
+/// The message of a route that the outgoing map leaves.
+fn message_over(
+    alloc: Global,
+    files: &[File],
+    file: &File,
+    process: &Bgp,
+    neighbour: &Neighbour,
+    end: &SessionEnd,
+    speaker: &Speaker,
+    p: &Prefix,
+    held: &BgpRec,
+    made: &BgpRec,
+) -> Result<BgpMsg, AllocError>
+    requires { Speaks files.now end.now held.now speaker.now }
+    ensures { IfOk result (λ msg. msg ≡ message_over files.now file.now process.now neighbour.now end.now
+        speaker.now.address p.now held.now (mapping.attributes_of made.now)) }
+{
+    if end.internal {
+        return internal_message(alloc, files, neighbour, end, speaker, held, made);
     }
+    let keeps = keeps_metric(alloc, &file.policies, &neighbour.map_out, p, held)?;
+    external_message(
+        alloc,
+        process,
+        neighbour,
+        speaker.address,
+        keeps,
+        held,
+        made,
+    )
+}
+
+/// What the outgoing map leaves of a route.
+fn mapped_out(
+    alloc: Global,
+    file: &File,
+    neighbour: &Neighbour,
+    end: &SessionEnd,
+    p: &Prefix,
+    held: &BgpRec,
+) -> Result<Option<BgpRec>, AllocError>
+    ensures { IfOk result (λ made. made ≡ option_map (mapping.with_attributes held.now)
+        (mapping.through_map file.now.policies neighbour.now.map_out p.now (not end.now.internal) (mapping.attributes_of held.now))) }
+{
+    let rec = copy_of(alloc, held)?;
+    through_map(
+        alloc,
+        &file.policies,
+        &neighbour.map_out,
+        p,
+        !end.internal,
+        rec,
+    )
+}
+
+/// Whether the route may go over the session, and the outgoing lists permit it.
+fn is_sent(
+    files: &[File],
+    file: &File,
+    process: &Bgp,
+    neighbour: &Neighbour,
+    end: &SessionEnd,
+    speaker: &Speaker,
+    p: &Prefix,
+    held: &BgpRec,
+) -> bool
+    requires { Speaks files.now end.now held.now speaker.now }
+    ensures { result ≡ (exports.may_go files.now process.now end.now held.now
+        && (exports.passes_prefixes file.now.policies neighbour.now.prefix_out p.now
+        && exports.passes_paths file.now.policies neighbour.now.filter_out held.now.path)) }
+{
+    may_go(files, process, end, held, &speaker.from)
+        && passes_lists(&file.policies, neighbour, p, held)
+}
+
+/// The message over the session, after the outgoing lists and the outgoing map.
+fn sent(
+    alloc: Global,
+    files: &[File],
+    file: &File,
+    process: &Bgp,
+    neighbour: &Neighbour,
+    end: &SessionEnd,
+    speaker: &Speaker,
+    p: &Prefix,
+    held: &BgpRec,
+) -> Result<Option<BgpMsg>, AllocError>
+    requires { Speaks files.now end.now held.now speaker.now }
+    ensures { IfOk result (λ msg. msg ≡ exports.sent files.now file.now process.now neighbour.now end.now p.now held.now) }
+{
+    if !is_sent(files, file, process, neighbour, end, speaker, p, held) {
+        return Ok(None);
+    }
+    match mapped_out(alloc, file, neighbour, end, p, held)? {
+        None => Ok(None),
+        Some(made) => Ok(Some(message_over(
+            alloc, files, file, process, neighbour, end, speaker, p, held, &made,
+        )?)),
+    }
+}
+
+/// What the router at an end sends over the session of the route that it holds for the prefix, if anything.
+#[tactic(auto, unfolding(net_model::specs::Exports::exported))]
+pub fn exported(
+    alloc: Global,
+    files: &[File],
+    end: &SessionEnd,
+    speaker: &Speaker,
+    p: &Prefix,
+    held: &BgpRec,
+) -> Result<Option<BgpMsg>, AllocError>
+    requires { Speaks files.now end.now held.now speaker.now }
+    ensures { IfOk result (λ msg. msg ≡ exports.exported files.now end.now p.now held.now) }
+{
+    let Some(file) = files.get(end.router as usize) else {
+        return Ok(None);
+    };
+    let (Some(process), Some(neighbour)) = (&file.bgp, neighbour_of(files, end)) else {
+        return Ok(None);
+    };
+    sent(
+        alloc, files, file, process, neighbour, end, speaker, p, held,
+    )
 }

@@ -6,7 +6,7 @@ ghost use Rattle.net_model.specs.Exports as exports;
 ghost use Rattle.net_model.specs.Mapping as mapping;
 
 use crate::policies::{copy, passes_paths, passes_prefixes, through_map};
-use crate::routers::{carries, has_id, is_reflector};
+use crate::routers::{carries, has_id, is_reflector, neighbour_of};
 use ios_ast::{Bgp, File, Neighbour, Policies};
 use mw_text::{Addr, Prefix};
 use net_model::SessionEnd;
@@ -166,4 +166,27 @@ fn taken_in(
         return Ok(None);
     }
     mapped_in(alloc, file, neighbour, end, p, msg)
+}
+
+/// What the router at an end makes of a message that it receives over the session, if it takes it. `own` is the router's
+/// identifier.
+#[tactic(auto, unfolding(net_model::specs::Exports::imported))]
+pub fn imported(
+    alloc: Global,
+    files: &[File],
+    end: &SessionEnd,
+    own: Addr,
+    p: &Prefix,
+    msg: &BgpMsg,
+) -> Result<Option<BgpRec>, AllocError>
+    requires own { own ≡ exports.router_id files.now end.now.router }
+    ensures { IfOk result (λ made. made ≡ exports.imported files.now end.now p.now msg.now) }
+{
+    let Some(file) = files.get(end.router as usize) else {
+        return Ok(None);
+    };
+    let (Some(process), Some(neighbour)) = (&file.bgp, neighbour_of(files, end)) else {
+        return Ok(None);
+    };
+    taken_in(alloc, files, own, file, process, neighbour, end, p, msg)
 }

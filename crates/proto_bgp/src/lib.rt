@@ -6,6 +6,7 @@ mod exporting;
 mod importing;
 mod policies;
 mod routers;
+mod speaker;
 mod steps;
 
 pub use decision::{Candidate, survivors};

@@ -1,6 +1,6 @@
 //! The lists and route maps of a neighbour.
 
-ghost use Rattle.std.specs.Prelude.{◌≡◌, false, IfOk, option_map};
+ghost use Rattle.std.specs.Prelude.{◌≡◌, ◌∷◌, false, IfOk, option_map};
 ghost use Rattle.std.specs.List.{find, list_any};
 ghost use Rattle.std.specs.Option.{option_copied, option_map_or};
 ghost use Rattle.ios_ast.specs.Maps.{deciding, mapped};
@@ -23,6 +23,16 @@ pub fn copy<T: Copy>(alloc: Global, list: &List<T>) -> Result<List<T>, AllocErro
     Ok(List {
         items: Vec::from_slice(alloc, list.as_slice())?,
     })
+}
+
+/// A list with one more in front.
+pub fn with_front<T: Copy>(alloc: Global, first: T, rest: &List<T>) -> Result<List<T>, AllocError>
+    ensures { IfOk result (λ made. made ≡ first ∷ rest.now) }
+{
+    let mut items = Vec::new(alloc);
+    items.push(first)?;
+    items.extend_from_slice(rest.as_slice())?;
+    Ok(List { items })
 }
 
 /// Whether the prefix list that is applied, if one is, permits the prefix.
