@@ -1,14 +1,13 @@
 //! What a router sends over a session of the route that it holds (RFC 4271, sections 5 and 9; RFC 4456; RFC 1997).
 
-ghost use Rattle.std.specs.Prelude.{◌≡◌, ◌==◌, ◌&&◌, ◌||◌, [], ◌∷◌, false, true, not, length, IfOk, option_and_then, option_map, unwrap_or, Some, None, if◌then◌else◌};
+ghost use Rattle.std.specs.Prelude.{◌≡◌, ◌==◌, ◌&&◌, ◌||◌, [], ◌∷◌, false, true, not, ◌<◌, length, slice_get, IfOk, option_and_then, option_map, unwrap_or, Some, None, if◌then◌else◌};
 ghost use Rattle.std.specs.List.{find, list_any};
 ghost use Rattle.std.specs.Option.{option_copied, option_map_or};
 ghost use Rattle.ios_ast.specs.Deciding.{carries};
 ghost use Rattle.ios_ast.specs.Maps.{deciding};
 ghost use Rattle.net_model.specs.Exports as exports;
-ghost use Rattle.net_model.specs.Interfaces.{addressed};
 ghost use Rattle.net_model.specs.Mapping as mapping;
-ghost use Rattle.net_model.specs.Sessions as sessions;
+ghost use Rattle.net_model.specs.Sessions.{ends_of};
 ghost use Rattle.policy_eval.specs.Attributes as policy;
 ghost use Rattle.proto_bgp.specs.Routes.{as_map_rec};
 ghost use Rattle.proto_bgp.specs.Sending.{Speaks, message_over};
@@ -17,12 +16,14 @@ use crate::policies::{
     copy, map_named, map_rec, passes_paths, passes_prefixes, through_map, with_front,
 };
 use crate::routers::{carries, is_reflector, neighbour_of};
-use crate::speaker::{Speaker, internal_next_hop, reflected_clusters, reflected_originator};
+use crate::speaker::{
+    Speaker, internal_next_hop, reflected_clusters, reflected_originator, speaker_of,
+};
 use ios_ast::{Bgp, File, MapEntry, Neighbour, Policies, SetAct, Use};
 use mw_text::{Addr, List, Prefix};
-use net_model::{Addressed, SessionEnd};
+use net_model::{Net, SessionEnd};
 use policy_eval::deciding_entry;
-use route_record::{BgpMsg, BgpRec, Learnt, MapRec};
+use route_record::{BgpMsg, BgpRec, MapRec};
 use std::alloc::{AllocError, Global};
 
 /// The well-known community of routes that go to no external peer (RFC 1997).
@@ -30,45 +31,6 @@ const NO_EXPORT: u32 = 4_294_967_041;
 
 /// The well-known community of routes that go to no peer (RFC 1997).
 const NO_ADVERTISE: u32 = 4_294_967_042;
-
-// ---- the end over which a route was learnt
-
-fn is_at(files: &[File], end: &SessionEnd, a: Addr) -> bool
-    ensures { result ≡ option_map_or (λ neighbour. neighbour.addr.0 == a.0) (sessions.neighbour_of files.now end.now) false }
-{
-    match neighbour_of(files, end) {
-        None => false,
-        Some(neighbour) => neighbour.addr.0 == a.0,
-    }
-}
-
-fn is_towards(files: &[File], router: u32, a: Addr, end: &SessionEnd) -> bool
-    ensures { result ≡ ((end.now.router == router)
-        && option_map_or (λ neighbour. neighbour.addr.0 == a.0) (sessions.neighbour_of files.now end.now) false) }
-{
-    end.router == router && is_at(files, end, a)
-}
-
-/// The end of the router whose neighbour has that address.
-fn end_towards(files: &[File], ends: &[SessionEnd], router: u32, a: Addr) -> Option<SessionEnd>
-    requires ends { ends.now ≡ sessions.ends_of files.now }
-    ensures { result ≡ exports.end_towards files.now router a }
-{
-    ends.iter()
-        .copied()
-        .find(|end| is_towards(files, router, a, end))
-}
-
-/// The end over which a route was learnt.
-fn learnt_over(files: &[File], ends: &[SessionEnd], router: u32, from: Learnt) -> Option<SessionEnd>
-    requires ends { ends.now ≡ sessions.ends_of files.now }
-    ensures { result ≡ exports.learnt_over files.now router from }
-{
-    match from {
-        Learnt::Local => None,
-        Learnt::Peer(a) => end_towards(files, ends, router, a),
-    }
-}
 
 // ---- whether a route may go over a session
 
@@ -425,7 +387,7 @@ fn sent(
 
 /// What the router at an end sends over the session of the route that it holds for the prefix, if anything.
 #[tactic(auto, unfolding(net_model::specs::Exports::exported))]
-pub fn exported(
+fn exported(
     alloc: Global,
     files: &[File],
     end: &SessionEnd,
@@ -445,4 +407,24 @@ pub fn exported(
     sent(
         alloc, files, file, process, neighbour, end, speaker, p, held,
     )
+}
+
+/// The message that the router at an end sends over the session of the route `held` for the prefix `p`, after the
+/// outgoing lists and the outgoing map of the neighbour (RFC 4271, sections 5 and 9; RFC 4456; RFC 1997). None where it
+/// sends none: a community forbids it, the route came over this session or may not be reflected, a list denies it or the
+/// map drops it. `end` is a place in the network's ends.
+pub fn export(
+    alloc: Global,
+    net: &Net,
+    end: u32,
+    p: &Prefix,
+    held: &BgpRec,
+) -> Result<Option<BgpMsg>, AllocError>
+    requires within { end < length (ends_of net.now) }
+    ensures { IfOk result (λ msg. msg
+        ≡ option_and_then (λ at. exports.exported net.now at p.now held.now) (slice_get (ends_of net.now) end)) }
+{
+    let at = net.ends()[end as usize];
+    let speaker = speaker_of(alloc, net, &at, held)?;
+    exported(alloc, net.routers(), &at, &speaker, p, held)
 }

@@ -1,15 +1,17 @@
 //! What a router makes of a message that it receives (RFC 4271, section 9; RFC 4456, section 8).
 
-ghost use Rattle.std.specs.Prelude.{◌≡◌, ◌==◌, ◌&&◌, false, not, IfOk, option_and_then, unwrap_or, if◌then◌else◌};
+ghost use Rattle.std.specs.Prelude.{◌≡◌, ◌==◌, ◌&&◌, false, not, ◌<◌, length, slice_get, IfOk, option_and_then, unwrap_or, if◌then◌else◌};
 ghost use Rattle.std.specs.Option.{option_map_or};
 ghost use Rattle.net_model.specs.Exports as exports;
 ghost use Rattle.net_model.specs.Mapping as mapping;
+ghost use Rattle.net_model.specs.Sessions.{ends_of};
 
 use crate::policies::{copy, passes_paths, passes_prefixes, through_map};
 use crate::routers::{carries, has_id, is_reflector, neighbour_of};
 use ios_ast::{Bgp, File, Neighbour, Policies};
 use mw_text::{Addr, Prefix};
-use net_model::SessionEnd;
+use net_model::router_ids::router_id;
+use net_model::{Net, SessionEnd};
 use route_record::{BgpMsg, BgpRec, Learnt};
 use std::alloc::{AllocError, Global};
 
@@ -171,7 +173,7 @@ fn taken_in(
 /// What the router at an end makes of a message that it receives over the session, if it takes it. `own` is the router's
 /// identifier.
 #[tactic(auto, unfolding(net_model::specs::Exports::imported))]
-pub fn imported(
+fn imported(
     alloc: Global,
     files: &[File],
     end: &SessionEnd,
@@ -189,4 +191,24 @@ pub fn imported(
         return Ok(None);
     };
     taken_in(alloc, files, own, file, process, neighbour, end, p, msg)
+}
+
+/// What the router at an end makes of a message for the prefix `p` that it receives over the session, after the incoming
+/// lists and the incoming map of the neighbour (RFC 4271, section 9; RFC 4456, section 8). None where it does not take
+/// it: its own AS, identifier or cluster is in it, its path has more than 255 numbers or the map makes it so, a list
+/// denies it or the map drops it. `end` is a place in the network's ends.
+pub fn import(
+    alloc: Global,
+    net: &Net,
+    end: u32,
+    p: &Prefix,
+    msg: &BgpMsg,
+) -> Result<Option<BgpRec>, AllocError>
+    requires within { end < length (ends_of net.now) }
+    ensures { IfOk result (λ made. made
+        ≡ option_and_then (λ at. exports.imported net.now at p.now msg.now) (slice_get (ends_of net.now) end)) }
+{
+    let at = net.ends()[end as usize];
+    let own = router_id(alloc, net.routers(), net.addresses(), at.router)?;
+    imported(alloc, net.routers(), &at, own, p, msg)
 }

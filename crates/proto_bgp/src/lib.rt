@@ -2,11 +2,13 @@
 #![tactic(auto)]
 
 pub mod decision;
-mod exporting;
-mod importing;
+pub mod exporting;
+pub mod importing;
 mod policies;
 mod routers;
 mod speaker;
 mod steps;
 
 pub use decision::{Candidate, survivors};
+pub use exporting::export;
+pub use importing::import;
