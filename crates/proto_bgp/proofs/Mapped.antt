@@ -1,25 +1,16 @@
 -- What route maps make of a BGP route.
-use Rattle.std.proofs.Common.{◌≡◌, ◌∙◌, ◌&&◌, true, not, if◌then◌else◌, List, refl, sym, ap, Option, Some, None}
+use Rattle.std.proofs.Common.{◌≡◌, ◌∙◌, false, refl, sym, ap, Option, Some, None}
 use Rattle.std.specs.Option.{option_and_then, option_map}
-use Rattle.std.specs.Prelude.{false, IfSome}
+use Rattle.std.specs.Prelude.{IfSome}
 use Rattle.ios_ast.specs.Setting.{Attributes}
-use Rattle.ios_ast.specs.declared.bgp.Bgp.{Bgp}
-use Rattle.ios_ast.specs.declared.bgp.Neighbour.{Neighbour}
-use Rattle.ios_ast.specs.declared.file.File.{File}
-use Rattle.mw_text.specs.declared.address.Addr.{Addr}
-use Rattle.mw_text.specs.declared.address.Prefix.{Prefix}
-use Rattle.net_model.specs.declared.sessions.SessionEnd.{SessionEnd}
 use Rattle.policy_eval.specs.Attributes as policies
 use Rattle.policy_eval.specs.Attributes.{KeepsRest}
-use Rattle.route_record.specs.declared.BgpMsg.{BgpMsg}
 use Rattle.route_record.specs.declared.BgpRec.{BgpRec}
 use Rattle.route_record.specs.declared.MapRec.{MapRec}
 use Rattle.route_record.specs.declared.Origin.{Origin}
 use Rattle.route_record.specs.declared.Origin.TheVariants.{Igp, Egp, Incomplete}
-use Rattle.net_model.specs.Exports as exports
-use Rattle.net_model.specs.Mapping.{attributes_of, origin_code, origin_of_code, through_map, with_attributes}
+use Rattle.net_model.specs.Mapping.{attributes_of, origin_code, origin_of_code, with_attributes}
 use Rattle.proto_bgp.specs.Routes.{as_map_rec}
-use Rattle.proto_bgp.specs.Sending.{message_over}
 
 -- the origin of its code
 pub code_back : (origin : Origin) → origin_of_code (origin_code origin) ≡ origin
@@ -75,33 +66,3 @@ pub then_mapped : {A B C : Type 0} (f : B → Option C) (g : A → B) (found : O
     option_and_then f (option_map g found) ≡ option_and_then (λ x. f (g x)) found
 then_mapped f g None = refl
 then_mapped f g (Some x) = refl
-
--- a message of what a map leaves is one of the route that it makes
-pub then_made : {A B C : Type 0} (g : A → B) (h : A → C) (k : B → C) (found : Option A) (made : B) →
-    ((a : A) → h a ≡ k (g a)) → Some made ≡ option_map g found → option_map h found ≡ Some (k made)
-then_made g h k None made same e = cc
-then_made g h k (Some a) made same e = let there : g a ≡ made = cc in ap Some (same a ∙ ap k there)
-
--- a message speaks of the origin alone by its code
-pub same_message : (files : List File) (file : File) (process : Bgp) (neighbour : Neighbour) (end : SessionEnd) (own : Addr)
-    (p : Prefix) (held : BgpRec) (r : Attributes) →
-    message_over files file process neighbour end own p held r
-    ≡ message_over files file process neighbour end own p held (attributes_of (with_attributes held r))
-same_message files file process neighbour end own p held r = rw (code_back (origin_of_code r.origin)) refl
-
--- what is sent where the route may go, the lists permit it and the map leaves it
-pub sent_law : (files : List File) (file : File) (process : Bgp) (neighbour : Neighbour) (end : SessionEnd) (p : Prefix)
-    (held made : BgpRec) (msg : BgpMsg) →
-    (exports.may_go files process end held
-    && (exports.passes_prefixes file.policies neighbour.prefix_out p && exports.passes_paths file.policies neighbour.filter_out held.path))
-    ≡ true →
-    Some made ≡ option_map (with_attributes held) (through_map file.policies neighbour.map_out p (not end.internal) (attributes_of held)) →
-    msg ≡ message_over files file process neighbour end (exports.own_address files end) p held (attributes_of made) →
-    Some msg ≡ exports.sent files file process neighbour end p held
-sent_law files file process neighbour end p held made msg may left is =
-    let found = through_map file.policies neighbour.map_out p (not end.internal) (attributes_of held) in
-    let message = message_over files file process neighbour end (exports.own_address files end) p held in
-    ap Some is
-    ∙ sym (then_made (with_attributes held) message (λ rec. message (attributes_of rec)) found made
-    (same_message files file process neighbour end (exports.own_address files end) p held) left)
-    ∙ sym (ap (λ b. if b then option_map message found else None) may)

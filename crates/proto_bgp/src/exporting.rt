@@ -10,12 +10,12 @@ ghost use Rattle.net_model.specs.Mapping as mapping;
 ghost use Rattle.net_model.specs.Sessions.{ends_of};
 ghost use Rattle.policy_eval.specs.Attributes as policy;
 ghost use Rattle.proto_bgp.specs.Routes.{as_map_rec};
-ghost use Rattle.proto_bgp.specs.Sending.{Speaks, message_over};
+ghost use Rattle.proto_bgp.specs.Sending.{Speaks};
 
 use crate::policies::{
     copy, map_named, map_rec, passes_paths, passes_prefixes, through_map, with_front,
 };
-use crate::routers::{carries, is_reflector, neighbour_of};
+use crate::routers::{carries, file_of, is_reflector, neighbour_of};
 use crate::speaker::{
     Speaker, internal_next_hop, reflected_clusters, reflected_originator, speaker_of,
 };
@@ -284,38 +284,6 @@ fn internal_message(
     })
 }
 
-/// The message of a route that the outgoing map leaves.
-fn message_over(
-    alloc: Global,
-    files: &[File],
-    file: &File,
-    process: &Bgp,
-    neighbour: &Neighbour,
-    end: &SessionEnd,
-    speaker: &Speaker,
-    p: &Prefix,
-    held: &BgpRec,
-    made: &BgpRec,
-) -> Result<BgpMsg, AllocError>
-    requires { Speaks files.now end.now held.now speaker.now }
-    ensures { IfOk result (λ msg. msg ≡ message_over files.now file.now process.now neighbour.now end.now
-        speaker.now.address p.now held.now (mapping.attributes_of made.now)) }
-{
-    if end.internal {
-        return internal_message(alloc, files, neighbour, end, speaker, held, made);
-    }
-    let keeps = keeps_metric(alloc, &file.policies, &neighbour.map_out, p, held)?;
-    external_message(
-        alloc,
-        process,
-        neighbour,
-        speaker.address,
-        keeps,
-        held,
-        made,
-    )
-}
-
 /// What the outgoing map leaves of a route.
 fn mapped_out(
     alloc: Global,
@@ -339,52 +307,6 @@ fn mapped_out(
     )
 }
 
-/// Whether the route may go over the session, and the outgoing lists permit it.
-fn is_sent(
-    files: &[File],
-    file: &File,
-    process: &Bgp,
-    neighbour: &Neighbour,
-    end: &SessionEnd,
-    speaker: &Speaker,
-    p: &Prefix,
-    held: &BgpRec,
-) -> bool
-    requires { Speaks files.now end.now held.now speaker.now }
-    ensures { result ≡ (exports.may_go files.now process.now end.now held.now
-        && (exports.passes_prefixes file.now.policies neighbour.now.prefix_out p.now
-        && exports.passes_paths file.now.policies neighbour.now.filter_out held.now.path)) }
-{
-    may_go(files, process, end, held, &speaker.from)
-        && passes_lists(&file.policies, neighbour, p, held)
-}
-
-/// The message over the session, after the outgoing lists and the outgoing map.
-fn sent(
-    alloc: Global,
-    files: &[File],
-    file: &File,
-    process: &Bgp,
-    neighbour: &Neighbour,
-    end: &SessionEnd,
-    speaker: &Speaker,
-    p: &Prefix,
-    held: &BgpRec,
-) -> Result<Option<BgpMsg>, AllocError>
-    requires { Speaks files.now end.now held.now speaker.now }
-    ensures { IfOk result (λ msg. msg ≡ exports.sent files.now file.now process.now neighbour.now end.now p.now held.now) }
-{
-    if !is_sent(files, file, process, neighbour, end, speaker, p, held) {
-        return Ok(None);
-    }
-    match mapped_out(alloc, file, neighbour, end, p, held)? {
-        None => Ok(None),
-        Some(made) => Ok(Some(message_over(
-            alloc, files, file, process, neighbour, end, speaker, p, held, &made,
-        )?)),
-    }
-}
-
 /// What the router at an end sends over the session of the route that it holds for the prefix, if anything.
 #[tactic(auto, unfolding(net_model::specs::Exports::exported))]
 fn exported(
@@ -398,15 +320,36 @@ fn exported(
     requires { Speaks files.now end.now held.now speaker.now }
     ensures { IfOk result (λ msg. msg ≡ exports.exported files.now end.now p.now held.now) }
 {
-    let Some(file) = files.get(end.router as usize) else {
+    let Some(file) = file_of(files, end.router) else {
         return Ok(None);
     };
     let (Some(process), Some(neighbour)) = (&file.bgp, neighbour_of(files, end)) else {
         return Ok(None);
     };
-    sent(
-        alloc, files, file, process, neighbour, end, speaker, p, held,
-    )
+    if !may_go(files, process, end, held, &speaker.from) {
+        return Ok(None);
+    }
+    if !passes_lists(&file.policies, neighbour, p, held) {
+        return Ok(None);
+    }
+    let Some(made) = mapped_out(alloc, file, neighbour, end, p, held)? else {
+        return Ok(None);
+    };
+    if end.internal {
+        let msg = internal_message(alloc, files, neighbour, end, speaker, held, &made)?;
+        return Ok(Some(msg));
+    }
+    let keeps = keeps_metric(alloc, &file.policies, &neighbour.map_out, p, held)?;
+    let msg = external_message(
+        alloc,
+        process,
+        neighbour,
+        speaker.address,
+        keeps,
+        held,
+        &made,
+    )?;
+    Ok(Some(msg))
 }
 
 /// The message that the router at an end sends over the session of the route `held` for the prefix `p`, after the

@@ -7,7 +7,7 @@ ghost use Rattle.net_model.specs.Mapping as mapping;
 ghost use Rattle.net_model.specs.Sessions.{ends_of};
 
 use crate::policies::{copy, passes_paths, passes_prefixes, through_map};
-use crate::routers::{carries, has_id, is_reflector, neighbour_of};
+use crate::routers::{carries, file_of, has_id, is_reflector, neighbour_of};
 use ios_ast::{Bgp, File, Neighbour, Policies};
 use mw_text::{Addr, Prefix};
 use net_model::router_ids::router_id;
@@ -128,48 +128,6 @@ fn mapped_in(
     Ok(if_short(made))
 }
 
-/// Whether the router takes the message, and its lists permit it.
-fn is_taken(
-    files: &[File],
-    own: Addr,
-    file: &File,
-    process: &Bgp,
-    neighbour: &Neighbour,
-    end: &SessionEnd,
-    p: &Prefix,
-    msg: &BgpMsg,
-) -> bool
-    requires own { own ≡ exports.router_id files.now end.now.router }
-    ensures { result ≡ (exports.is_acceptable files.now end.now.router process.now msg.now
-        && (exports.passes_prefixes file.now.policies neighbour.now.prefix_in p.now
-        && exports.passes_paths file.now.policies neighbour.now.filter_in msg.now.path)) }
-{
-    is_acceptable(files, end.router, own, process, msg)
-        && passes_lists(&file.policies, neighbour, p, msg)
-}
-
-/// The record of a message after the incoming lists and the incoming map.
-fn taken_in(
-    alloc: Global,
-    files: &[File],
-    own: Addr,
-    file: &File,
-    process: &Bgp,
-    neighbour: &Neighbour,
-    end: &SessionEnd,
-    p: &Prefix,
-    msg: &BgpMsg,
-) -> Result<Option<BgpRec>, AllocError>
-    requires own { own ≡ exports.router_id files.now end.now.router }
-    ensures { IfOk result (λ made. made
-        ≡ exports.taken_in files.now file.now process.now neighbour.now end.now p.now msg.now) }
-{
-    if !is_taken(files, own, file, process, neighbour, end, p, msg) {
-        return Ok(None);
-    }
-    mapped_in(alloc, file, neighbour, end, p, msg)
-}
-
 /// What the router at an end makes of a message that it receives over the session, if it takes it. `own` is the router's
 /// identifier.
 #[tactic(auto, unfolding(net_model::specs::Exports::imported))]
@@ -184,13 +142,19 @@ fn imported(
     requires own { own ≡ exports.router_id files.now end.now.router }
     ensures { IfOk result (λ made. made ≡ exports.imported files.now end.now p.now msg.now) }
 {
-    let Some(file) = files.get(end.router as usize) else {
+    let Some(file) = file_of(files, end.router) else {
         return Ok(None);
     };
     let (Some(process), Some(neighbour)) = (&file.bgp, neighbour_of(files, end)) else {
         return Ok(None);
     };
-    taken_in(alloc, files, own, file, process, neighbour, end, p, msg)
+    if !is_acceptable(files, end.router, own, process, msg) {
+        return Ok(None);
+    }
+    if !passes_lists(&file.policies, neighbour, p, msg) {
+        return Ok(None);
+    }
+    mapped_in(alloc, file, neighbour, end, p, msg)
 }
 
 /// What the router at an end makes of a message for the prefix `p` that it receives over the session, after the incoming

@@ -36,11 +36,18 @@ pub fn is_reflector(process: &Bgp) -> bool
         .any(|neighbour| neighbour.client)
 }
 
+/// The file of a router.
+pub fn file_of(files: &[File], router: u32) -> Option<&File>
+    ensures { option_copied result ≡ slice_get files.now router }
+{
+    files.get(router as usize)
+}
+
 /// The BGP process of a router, if it runs one.
 pub fn process_of(files: &[File], router: u32) -> Option<&Bgp>
     ensures { option_copied result ≡ option_and_then (λ file. file.bgp) (slice_get files.now router) }
 {
-    match files.get(router as usize) {
+    match file_of(files, router) {
         None => None,
         Some(file) => file.bgp.as_ref(),
     }
