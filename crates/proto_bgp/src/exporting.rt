@@ -12,9 +12,7 @@ ghost use Rattle.policy_eval.specs.Attributes as policy;
 ghost use Rattle.proto_bgp.specs.Routes.{as_map_rec};
 ghost use Rattle.proto_bgp.specs.Sending.{Speaks};
 
-use crate::policies::{
-    copy, map_named, map_rec, passes_paths, passes_prefixes, through_map, with_front,
-};
+use crate::policies::{map_named, map_rec, passes_paths, passes_prefixes, through_map, with_front};
 use crate::routers::{carries, file_of, is_reflector, neighbour_of};
 use crate::speaker::{
     Speaker, internal_next_hop, reflected_clusters, reflected_originator, speaker_of,
@@ -22,7 +20,7 @@ use crate::speaker::{
 use ios_ast::{Bgp, File, MapEntry, Neighbour, Policies, SetAct, Use};
 use mw_text::{Addr, List, Prefix};
 use net_model::{Net, SessionEnd};
-use policy_eval::deciding_entry;
+use policy_eval::{copy_list, copy_route, deciding_entry};
 use route_record::{BgpMsg, BgpRec, MapRec};
 use std::alloc::{AllocError, Global};
 
@@ -150,27 +148,6 @@ fn map_sets_metric(policies: &Policies, used: &Option<Use>, p: &Prefix, rec: &Ma
     }
 }
 
-/// A copy of a route.
-fn copy_of(alloc: Global, rec: &BgpRec) -> Result<BgpRec, AllocError>
-    ensures { IfOk result (λ made. made ≡ rec.now) }
-{
-    let path = copy(alloc, &rec.path)?;
-    let communities = copy(alloc, &rec.communities)?;
-    let clusters = copy(alloc, &rec.clusters)?;
-    Ok(BgpRec {
-        from: rec.from,
-        weight: rec.weight,
-        local_pref: rec.local_pref,
-        path,
-        origin: rec.origin,
-        med: rec.med,
-        communities,
-        next_hop: rec.next_hop,
-        originator: rec.originator,
-        clusters,
-    })
-}
-
 /// Whether the deciding entry of the map that is applied sets the metric.
 #[tactic(auto, using(crate::proofs::Mapped::same_attributes))]
 fn sets_metric(
@@ -182,7 +159,7 @@ fn sets_metric(
 ) -> Result<bool, AllocError>
     ensures { IfOk result (λ sets. sets ≡ exports.sets_metric policies.now used.now p.now (mapping.attributes_of held.now)) }
 {
-    let rec = map_rec(copy_of(alloc, held)?);
+    let rec = map_rec(copy_route(alloc, held)?);
     Ok(map_sets_metric(policies, used, p, &rec))
 }
 
@@ -213,7 +190,7 @@ fn sent_communities(
     ensures { IfOk result (λ made. made ≡ exports.sent_communities neighbour.now communities.now) }
 {
     if neighbour.send_community {
-        copy(alloc, communities)
+        copy_list(alloc, communities)
     } else {
         Ok(List::new(alloc))
     }
@@ -269,7 +246,7 @@ fn internal_message(
         held.now (mapping.attributes_of made.now)) }
 {
     let from = &speaker.from;
-    let path = copy(alloc, &made.path)?;
+    let path = copy_list(alloc, &made.path)?;
     let communities = sent_communities(alloc, neighbour, &made.communities)?;
     let clusters = reflected_clusters(alloc, files, end.router, speaker.id, held, from)?;
     Ok(BgpMsg {
@@ -296,7 +273,7 @@ fn mapped_out(
     ensures { IfOk result (λ made. made ≡ option_map (mapping.with_attributes held.now)
         (mapping.through_map file.now.policies neighbour.now.map_out p.now (not end.now.internal) (mapping.attributes_of held.now))) }
 {
-    let rec = copy_of(alloc, held)?;
+    let rec = copy_route(alloc, held)?;
     through_map(
         alloc,
         &file.policies,

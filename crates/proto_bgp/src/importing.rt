@@ -6,12 +6,13 @@ ghost use Rattle.net_model.specs.Exports as exports;
 ghost use Rattle.net_model.specs.Mapping as mapping;
 ghost use Rattle.net_model.specs.Sessions.{ends_of};
 
-use crate::policies::{copy, passes_paths, passes_prefixes, through_map};
+use crate::policies::{passes_paths, passes_prefixes, through_map};
 use crate::routers::{carries, file_of, has_id, is_reflector, neighbour_of};
 use ios_ast::{Bgp, File, Neighbour, Policies};
 use mw_text::{Addr, Prefix};
 use net_model::router_ids::router_id;
 use net_model::{Net, SessionEnd};
+use policy_eval::copy_list;
 use route_record::{BgpMsg, BgpRec, Learnt};
 use std::alloc::{AllocError, Global};
 
@@ -69,9 +70,9 @@ fn received(
 ) -> Result<BgpRec, AllocError>
     ensures { IfOk result (λ rec. rec ≡ exports.received neighbour.now end.now msg.now) }
 {
-    let path = copy(alloc, &msg.path)?;
-    let communities = copy(alloc, &msg.communities)?;
-    let clusters = copy(alloc, &msg.clusters)?;
+    let path = copy_list(alloc, &msg.path)?;
+    let communities = copy_list(alloc, &msg.communities)?;
+    let clusters = copy_list(alloc, &msg.clusters)?;
     Ok(BgpRec {
         from: Learnt::Peer(neighbour.addr),
         weight: neighbour.weight,

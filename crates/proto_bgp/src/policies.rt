@@ -16,15 +16,6 @@ use policy_eval::{deciding_entry, paths_permit, prefixes_permit, route_map};
 use route_record::{BgpRec, MapRec, Side};
 use std::alloc::{AllocError, Global};
 
-/// A copy of a list.
-pub fn copy<T: Copy>(alloc: Global, list: &List<T>) -> Result<List<T>, AllocError>
-    ensures { IfOk result (λ made. made ≡ list.now) }
-{
-    Ok(List {
-        items: Vec::from_slice(alloc, list.as_slice())?,
-    })
-}
-
 /// A list with one more in front.
 pub fn with_front<T: Copy>(alloc: Global, first: T, rest: &List<T>) -> Result<List<T>, AllocError>
     ensures { IfOk result (λ made. made ≡ first ∷ rest.now) }

@@ -8,12 +8,13 @@ ghost use Rattle.net_model.specs.Interfaces.{addressed};
 ghost use Rattle.net_model.specs.Sessions as sessions;
 ghost use Rattle.proto_bgp.specs.Sending.{Speaks};
 
-use crate::policies::{copy, with_front};
+use crate::policies::with_front;
 use crate::routers::neighbour_of;
 use ios_ast::{File, Neighbour};
 use mw_text::{Addr, List};
 use net_model::router_ids::router_id;
 use net_model::{Addressed, Far, IfaceId, Net, SessionEnd};
+use policy_eval::copy_list;
 use route_record::{BgpRec, Learnt};
 use std::alloc::{AllocError, Global};
 
@@ -88,12 +89,12 @@ pub fn reflected_clusters(
 {
     let _routers = files.len();
     match from {
-        None => copy(alloc, &held.clusters),
+        None => copy_list(alloc, &held.clusters),
         Some(end) => {
             if end.internal {
                 with_front(alloc, own, &held.clusters)
             } else {
-                copy(alloc, &held.clusters)
+                copy_list(alloc, &held.clusters)
             }
         }
     }
