@@ -22,12 +22,16 @@ then_made : {A B C : Type 0} (g : A → B) (h : A → C) (k : B → C) (found : 
 then_made g h k None made same e = cc
 then_made g h k (Some a) made same e = let there : g a ≡ made = cc in ap Some (same a ∙ ap k there)
 
+-- an external message carries the metric where the path was empty before, or the map sets one
+abbrev keeps_metric : File → Neighbour → Prefix → BgpRec → Bool
+keeps_metric file neighbour p held =
+    (length held.path == 0) || exports.sets_metric file.policies neighbour.map_out p (attributes_of held)
+
 -- the message of a route that the outgoing map leaves
 abbrev message_over : List File → File → Bgp → Neighbour → SessionEnd → Addr → Prefix → BgpRec → Attributes → BgpMsg
 message_over files file process neighbour end own p held r =
     if end.internal then exports.internal_message files end.router neighbour own held r
-    else exports.external_message process neighbour own
-    ((length held.path == 0) || exports.sets_metric file.policies neighbour.map_out p (attributes_of held)) held r
+    else exports.external_message process neighbour own (keeps_metric file neighbour p held) held r
 
 -- a message speaks of the origin alone by its code
 same_message : (files : List File) (file : File) (process : Bgp) (neighbour : Neighbour) (end : SessionEnd) (own : Addr)
@@ -80,29 +84,31 @@ exported_law files file process neighbour end p held made msg by is =
     ∙ ap (option_and_then (λ n. exports.sent files file process n end p held)) by.has)
 
 -- over an internal session
-pub internal_law : (files : List File) (file : File) (process : Bgp) (neighbour : Neighbour) (end : SessionEnd) (p : Prefix)
-    (held made : BgpRec) (own : Addr) (msg : BgpMsg) → IsSentBy files file process neighbour end p held made →
-    end.internal ≡ true → own ≡ exports.own_address files end →
+pub internal_law : (files : List File) (file : File) (process : Bgp) (neighbour : Neighbour) (end : SessionEnd)
+    (p : Prefix) (held made : BgpRec) (own : Addr) (msg : BgpMsg) →
+    IsSentBy files file process neighbour end p held made → end.internal ≡ true → own ≡ exports.own_address files end →
     msg ≡ exports.internal_message files end.router neighbour own held (attributes_of made) →
     Some msg ≡ exports.exported files end p held
 internal_law files file process neighbour end p held made own msg by internal address is =
+    let r = attributes_of made in
+    let own_is = exports.own_address files end in
     exported_law files file process neighbour end p held made msg by
-    (is ∙ ap (λ a. exports.internal_message files end.router neighbour a held (attributes_of made)) address
-    ∙ sym (ap (λ b. if b then exports.internal_message files end.router neighbour (exports.own_address files end) held (attributes_of made)
-    else exports.external_message process neighbour (exports.own_address files end)
-    ((length held.path == 0) || exports.sets_metric file.policies neighbour.map_out p (attributes_of held)) held (attributes_of made)) internal))
+    (is ∙ ap (λ a. exports.internal_message files end.router neighbour a held r) address
+    ∙ sym (ap (λ b. if b then exports.internal_message files end.router neighbour own_is held r
+    else exports.external_message process neighbour own_is (keeps_metric file neighbour p held) held r) internal))
 
 -- over an external one
-pub external_law : (files : List File) (file : File) (process : Bgp) (neighbour : Neighbour) (end : SessionEnd) (p : Prefix)
-    (held made : BgpRec) (own : Addr) (keeps : Bool) (msg : BgpMsg) → IsSentBy files file process neighbour end p held made →
-    end.internal ≡ false → own ≡ exports.own_address files end →
-    keeps ≡ ((length held.path == 0) || exports.sets_metric file.policies neighbour.map_out p (attributes_of held)) →
+pub external_law : (files : List File) (file : File) (process : Bgp) (neighbour : Neighbour) (end : SessionEnd)
+    (p : Prefix) (held made : BgpRec) (own : Addr) (keeps : Bool) (msg : BgpMsg) →
+    IsSentBy files file process neighbour end p held made → end.internal ≡ false → own ≡ exports.own_address files end →
+    keeps ≡ keeps_metric file neighbour p held →
     msg ≡ exports.external_message process neighbour own keeps held (attributes_of made) →
     Some msg ≡ exports.exported files end p held
 external_law files file process neighbour end p held made own keeps msg by external address metric is =
+    let r = attributes_of made in
+    let own_is = exports.own_address files end in
     exported_law files file process neighbour end p held made msg by
-    (is ∙ ap (λ a. exports.external_message process neighbour a keeps held (attributes_of made)) address
-    ∙ ap (λ k. exports.external_message process neighbour (exports.own_address files end) k held (attributes_of made)) metric
-    ∙ sym (ap (λ b. if b then exports.internal_message files end.router neighbour (exports.own_address files end) held (attributes_of made)
-    else exports.external_message process neighbour (exports.own_address files end)
-    ((length held.path == 0) || exports.sets_metric file.policies neighbour.map_out p (attributes_of held)) held (attributes_of made)) external))
+    (is ∙ ap (λ a. exports.external_message process neighbour a keeps held r) address
+    ∙ ap (λ k. exports.external_message process neighbour own_is k held r) metric
+    ∙ sym (ap (λ b. if b then exports.internal_message files end.router neighbour own_is held r
+    else exports.external_message process neighbour own_is (keeps_metric file neighbour p held) held r) external))

@@ -150,9 +150,11 @@ fn is_compared(compare_id: bool, candidates: &[Candidate], left: &[u64]) -> bool
     compare_id || !some_external(candidates, left)
 }
 
-/// The places of the candidates that all steps of the decision process leave, in ascending order. With `always_compare`
-/// the MED is compared across neighbouring AS numbers. Without `compare_id` the identifiers are not compared where external
-/// routes are left: the oldest of these is held, and a routing does not tell which that is, so all of them survive.
+/// The places of the candidates that all steps of the decision process leave, in ascending order (RFC 4271, section
+/// 9.1.2.2; RFC 4456, section 9; Cisco IOS, best path selection). With `always_compare` the MED is compared across
+/// neighbouring AS numbers. Without `compare_id` the identifiers are not compared where external routes are left: the
+/// oldest of these is held, and a routing does not tell which that is, so all of them survive. Each step looks at what
+/// the one before left.
 pub fn survivors(
     alloc: Global,
     always_compare: bool,

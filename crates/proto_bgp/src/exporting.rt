@@ -1,7 +1,7 @@
 //! What a router sends over a session of the route that it holds (RFC 4271, sections 5 and 9; RFC 4456; RFC 1997).
 
-ghost use Rattle.std.specs.Prelude.{◌≡◌, ◌==◌, ◌&&◌, ◌||◌, [], ◌∷◌, false, true, not, ◌<◌, length, slice_get, IfOk, option_and_then, option_map, unwrap_or, Some, None, if◌then◌else◌};
-ghost use Rattle.std.specs.List.{find, list_any};
+ghost use Rattle.std.specs.Prelude.{◌≡◌, ◌==◌, ◌&&◌, ◌||◌, false, true, not, ◌<◌, length, slice_get, IfOk, option_and_then, option_map, Some, None, if◌then◌else◌};
+ghost use Rattle.std.specs.List.{list_any};
 ghost use Rattle.std.specs.Option.{option_copied, option_map_or};
 ghost use Rattle.ios_ast.specs.Deciding.{carries};
 ghost use Rattle.ios_ast.specs.Maps.{deciding};
@@ -9,7 +9,6 @@ ghost use Rattle.net_model.specs.Exports as exports;
 ghost use Rattle.net_model.specs.Mapping as mapping;
 ghost use Rattle.net_model.specs.Sessions.{ends_of};
 ghost use Rattle.policy_eval.specs.Attributes as policy;
-ghost use Rattle.proto_bgp.specs.Routes.{as_map_rec};
 ghost use Rattle.proto_bgp.specs.Sending.{Speaks};
 
 use crate::policies::{map_named, map_rec, passes_paths, passes_prefixes, through_map, with_front};
@@ -121,7 +120,8 @@ fn deciding_of<'a>(
     p: &Prefix,
     rec: &MapRec,
 ) -> Option<&'a MapEntry>
-    ensures { option_copied result ≡ deciding policies.now p.now (policy.attributes_of rec.now) (mapping.entries_named policies.now named.now) }
+    ensures { option_copied result
+        ≡ deciding policies.now p.now (policy.attributes_of rec.now) (mapping.entries_named policies.now named.now) }
 {
     match map_named(policies, named) {
         None => None,
@@ -271,7 +271,8 @@ fn mapped_out(
     held: &BgpRec,
 ) -> Result<Option<BgpRec>, AllocError>
     ensures { IfOk result (λ made. made ≡ option_map (mapping.with_attributes held.now)
-        (mapping.through_map file.now.policies neighbour.now.map_out p.now (not end.now.internal) (mapping.attributes_of held.now))) }
+        (mapping.through_map file.now.policies neighbour.now.map_out p.now (not end.now.internal)
+        (mapping.attributes_of held.now))) }
 {
     let rec = copy_route(alloc, held)?;
     through_map(
@@ -331,8 +332,8 @@ fn exported(
 
 /// The message that the router at an end sends over the session of the route `held` for the prefix `p`, after the
 /// outgoing lists and the outgoing map of the neighbour (RFC 4271, sections 5 and 9; RFC 4456; RFC 1997). None where it
-/// sends none: a community forbids it, the route came over this session or may not be reflected, a list denies it or the
-/// map drops it. `end` is a place in the network's ends.
+/// sends none: a community forbids it, the route came over this session or may not be reflected, a list denies it or
+/// the map drops it. `end` is a place in the network's ends.
 pub fn export(
     alloc: Global,
     net: &Net,

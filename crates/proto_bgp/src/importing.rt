@@ -29,8 +29,8 @@ fn is_own(originator: Option<Addr>, own: Addr) -> bool
     }
 }
 
-/// Whether the router takes the message: no loop by its AS, by its identifier or by its cluster, and no path that is too
-/// long. `own` is its identifier.
+/// Whether the router takes the message: no loop by its AS, by its identifier or by its cluster, and no path that is
+/// too long. `own` is its identifier.
 fn is_acceptable(files: &[File], router: u32, own: Addr, process: &Bgp, msg: &BgpMsg) -> bool
     requires own { own ≡ exports.router_id files.now router }
     ensures { result ≡ exports.is_acceptable files.now router process.now msg.now }
@@ -113,7 +113,8 @@ fn mapped_in(
     p: &Prefix,
     msg: &BgpMsg,
 ) -> Result<Option<BgpRec>, AllocError>
-    ensures { IfOk result (λ made. made ≡ option_and_then (λ r. exports.if_short (mapping.with_attributes (exports.received neighbour.now end.now msg.now) r))
+    ensures { IfOk result (λ made. made
+        ≡ option_and_then (λ r. exports.if_short (mapping.with_attributes (exports.received neighbour.now end.now msg.now) r))
         (mapping.through_map file.now.policies neighbour.now.map_in p.now (not end.now.internal)
         (mapping.attributes_of (exports.received neighbour.now end.now msg.now)))) }
 {
@@ -129,8 +130,8 @@ fn mapped_in(
     Ok(if_short(made))
 }
 
-/// What the router at an end makes of a message that it receives over the session, if it takes it. `own` is the router's
-/// identifier.
+/// What the router at an end makes of a message that it receives over the session, if it takes it. `own` is the
+/// router's identifier.
 #[tactic(auto, unfolding(net_model::specs::Exports::imported))]
 fn imported(
     alloc: Global,
@@ -158,8 +159,8 @@ fn imported(
     mapped_in(alloc, file, neighbour, end, p, msg)
 }
 
-/// What the router at an end makes of a message for the prefix `p` that it receives over the session, after the incoming
-/// lists and the incoming map of the neighbour (RFC 4271, section 9; RFC 4456, section 8). None where it does not take
+/// What the router at an end makes of a message for the prefix `p` that it receives over the session, after the
+/// incoming lists and the incoming map of the neighbour (RFC 4271, section 9; RFC 4456, section 8). None where it does not take
 /// it: its own AS, identifier or cluster is in it, its path has more than 255 numbers or the map makes it so, a list
 /// denies it or the map drops it. `end` is a place in the network's ends.
 pub fn import(

@@ -1,9 +1,9 @@
 //! The lists and route maps of a neighbour.
 
-ghost use Rattle.std.specs.Prelude.{◌≡◌, ◌∷◌, false, IfOk, option_map};
-ghost use Rattle.std.specs.List.{find, list_any};
-ghost use Rattle.std.specs.Option.{option_copied, option_map_or};
-ghost use Rattle.ios_ast.specs.Maps.{deciding, mapped};
+ghost use Rattle.std.specs.Prelude.{◌≡◌, ◌∷◌, IfOk, option_map};
+ghost use Rattle.std.specs.List.{find};
+ghost use Rattle.std.specs.Option.{option_copied};
+ghost use Rattle.ios_ast.specs.Maps.{mapped};
 ghost use Rattle.mw_text.specs.Text.{same_text};
 ghost use Rattle.net_model.specs.Exports as exports;
 ghost use Rattle.net_model.specs.Mapping as mapping;

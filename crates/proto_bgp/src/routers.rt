@@ -2,7 +2,7 @@
 
 ghost use Rattle.std.specs.Prelude.{◌≡◌, ◌==◌, option_and_then, slice_get};
 ghost use Rattle.std.specs.List.{list_any};
-ghost use Rattle.std.specs.Option.{option_copied, option_map_or};
+ghost use Rattle.std.specs.Option.{option_copied};
 ghost use Rattle.ios_ast.specs.Deciding.{carries};
 ghost use Rattle.net_model.specs.Exports as exports;
 ghost use Rattle.net_model.specs.Sessions as sessions;

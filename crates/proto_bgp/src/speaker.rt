@@ -1,6 +1,6 @@
 //! What a router knows where it sends a route over a session.
 
-ghost use Rattle.std.specs.Prelude.{◌≡◌, ◌==◌, ◌&&◌, ◌∷◌, false, IfOk, option_and_then};
+ghost use Rattle.std.specs.Prelude.{◌≡◌, ◌==◌, ◌&&◌, false, IfOk, option_and_then};
 ghost use Rattle.std.specs.List.{find};
 ghost use Rattle.std.specs.Option.{option_map_or};
 ghost use Rattle.net_model.specs.Exports as exports;
@@ -74,8 +74,8 @@ pub fn reflected_originator(
     }
 }
 
-/// The clusters of a route that goes to an internal peer: where it came from one, the own cluster in front of those that
-/// it has (RFC 4456, section 8).
+/// The clusters of a route that goes to an internal peer: where it came from one, the own cluster in front of those
+/// that it has (RFC 4456, section 8).
 pub fn reflected_clusters(
     alloc: Global,
     files: &[File],
