@@ -8,5 +8,6 @@ mod packets;
 mod sets;
 
 pub use lists::{as_path_list, community_list, prefix_list};
-pub use maps::route_map;
+pub use maps::{copy_list, copy_route, deciding_entry, route_map};
+pub use matches::{paths_permit, prefixes_permit};
 pub use packets::access_list;

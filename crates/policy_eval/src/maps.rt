@@ -29,8 +29,9 @@ fn decider<'a>(
     }
 }
 
-/// The entry that decides: of those that take the route the one with the least sequence number.
-fn deciding_entry<'a>(
+/// The entry of a route map that decides: of those that take the route the one with the least sequence number. None exactly
+/// where no entry takes it.
+pub fn deciding_entry<'a>(
     map: &'a RouteMap,
     policies: &Policies,
     p: &Prefix,
@@ -49,7 +50,7 @@ fn deciding_entry<'a>(
 }
 
 /// A copy of a list.
-fn copy<T: Copy>(alloc: Global, list: &List<T>) -> Result<List<T>, AllocError>
+pub fn copy_list<T: Copy>(alloc: Global, list: &List<T>) -> Result<List<T>, AllocError>
     ensures { IfOk result (λ made. made ≡ list.now) }
 {
     Ok(List {
@@ -57,27 +58,33 @@ fn copy<T: Copy>(alloc: Global, list: &List<T>) -> Result<List<T>, AllocError>
     })
 }
 
+/// A copy of a route.
+pub fn copy_route(alloc: Global, rec: &BgpRec) -> Result<BgpRec, AllocError>
+    ensures { IfOk result (λ made. made ≡ rec.now) }
+{
+    let path = copy_list(alloc, &rec.path)?;
+    let communities = copy_list(alloc, &rec.communities)?;
+    let clusters = copy_list(alloc, &rec.clusters)?;
+    Ok(BgpRec {
+        from: rec.from,
+        weight: rec.weight,
+        local_pref: rec.local_pref,
+        path,
+        origin: rec.origin,
+        med: rec.med,
+        communities,
+        next_hop: rec.next_hop,
+        originator: rec.originator,
+        clusters,
+    })
+}
+
 /// A copy of a record.
 fn copy_of(alloc: Global, rec: &MapRec) -> Result<MapRec, AllocError>
     ensures { IfOk result (λ made. made ≡ rec.now) }
 {
-    let path = copy(alloc, &rec.bgp.path)?;
-    let communities = copy(alloc, &rec.bgp.communities)?;
-    let clusters = copy(alloc, &rec.bgp.clusters)?;
-    let bgp = BgpRec {
-        from: rec.bgp.from,
-        weight: rec.bgp.weight,
-        local_pref: rec.bgp.local_pref,
-        path,
-        origin: rec.bgp.origin,
-        med: rec.bgp.med,
-        communities,
-        next_hop: rec.bgp.next_hop,
-        originator: rec.bgp.originator,
-        clusters,
-    };
     Ok(MapRec {
-        bgp,
+        bgp: copy_route(alloc, &rec.bgp)?,
         type1: rec.type1,
     })
 }

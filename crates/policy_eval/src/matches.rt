@@ -39,7 +39,7 @@ fn access_permits(policies: &Policies, p: &Prefix, named: &Use) -> bool
 }
 
 /// Whether the prefix list of that name permits the prefix. One that is not there denies.
-fn prefixes_permit(policies: &Policies, p: &Prefix, named: &Use) -> bool
+pub fn prefixes_permit(policies: &Policies, p: &Prefix, named: &Use) -> bool
     ensures { result ≡ prefixes_named policies.now p.now named.now }
 {
     for list in policies.prefix_lists.as_slice() {
@@ -63,7 +63,7 @@ fn communities_permit(policies: &Policies, communities: &[u32], named: &Use) -> 
 }
 
 /// Whether the AS-path list of that name permits the path. One that is not there denies.
-fn paths_permit(policies: &Policies, path: &[u32], named: &Use) -> bool
+pub fn paths_permit(policies: &Policies, path: &[u32], named: &Use) -> bool
     ensures { result ≡ paths_named policies.now path.now named.now }
 {
     for list in policies.as_paths.as_slice() {
