@@ -1,0 +1,6 @@
+//! OSPF: interior distances, next-hop resolution, the states of BGP sessions, and the routes that a router offers.
+#![tactic(auto)]
+
+pub mod offers;
+
+pub use offers::{first_best, offer, prefer, transfer};
