@@ -2,5 +2,6 @@
 #![tactic(auto)]
 
 pub mod offers;
+pub mod rounds;
 
 pub use offers::{first_best, offer, prefer, transfer};

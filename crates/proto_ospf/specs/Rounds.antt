@@ -1,0 +1,35 @@
+-- The interior distances of all routers to one prefix, in rounds: each round allows one adjacency more.
+use Rattle.std.specs.Prelude.{ℕ, zero, suc, ◌+◌, ◌≤◌, All, IfSome, List, fold, map, min, slice_get, Option, Some, option_and_then, option_map}
+use Rattle.std.specs.List.{filter_map}
+use Rattle.std.specs.Option.{option_map_or}
+use Rattle.net_model.specs.declared.adjacencies.Adjacency.{Adjacency}
+use Rattle.proto_ospf.specs.declared.rounds.Receiver.{Receiver}
+
+-- the distance of a router
+abbrev pub of_router : List (Option ℕ) → ℕ → Option ℕ
+of_router distances router = option_and_then (λ d. d) (slice_get distances router)
+
+-- the cost over an adjacency, where the far router has a distance
+abbrev pub over : List (Option ℕ) → Adjacency → Option ℕ
+over before a = option_map (λ d. a.cost + d) (of_router before a.to.router)
+
+-- the lower one
+abbrev pub lower : Option ℕ → ℕ → Option ℕ
+lower best n = Some (option_map_or (min n) best n)
+
+-- the least of the router's own cost and the costs over its adjacencies
+abbrev pub nearest : List (Option ℕ) → List (Option ℕ) → Receiver → Option ℕ
+nearest own before x = fold lower (of_router own x.router) (filter_map (over before) x.adjacencies)
+
+-- the least costs of walks with at most so many adjacencies
+abbrev pub rounds : List (Option ℕ) → List Receiver → ℕ → List (Option ℕ)
+rounds own receivers zero = own
+rounds own receivers (suc most) = map (nearest own (rounds own receivers most)) receivers
+
+-- no distance is more
+abbrev pub AtMost : ℕ → List (Option ℕ) → Type 0
+AtMost most distances = All (λ o. IfSome o (λ d. d ≤ most)) distances
+
+-- no adjacency costs more than 65535
+abbrev pub AreCheap : List Receiver → Type 0
+AreCheap receivers = All (λ x. All (λ a. a.cost ≤ 65535) x.adjacencies) receivers
