@@ -1,11 +1,17 @@
 -- Distances stay small: each round adds at most one cost.
-use Rattle.std.proofs.Common.{◌≡◌, ℕ, zero, suc, ◌+◌, ◌*◌, ◌≤◌, List, [], ◌∷◌, Option, Some, None, arith, min, refl}
+use Rattle.std.proofs.Common.{◌≡◌, ℕ, zero, suc, ◌+◌, ◌*◌, ◌<◌, ◌≤◌, List, length, [], ◌∷◌, Option, Some, None, arith, min, refl}
 use Rattle.std.specs.Prelude.{All, IfSome, fold, map, option_map, cond}
-use Rattle.std.specs.List.{cons_option, filter_map}
-use Rattle.std.proofs.lemmas.List.Elements.{All-head, All-map, All-tail, All-weaker}
+use Rattle.std.specs.List.{cons_option, filter_map, range_with_len}
+use Rattle.std.proofs.lemmas.List.Elements.{All-cons, All-filter, All-head, All-map, All-nil, All-tail, All-weaker}
+use Rattle.mw_text.specs.declared.address.Prefix.{Prefix}
+use Rattle.ios_ast.specs.declared.file.File.{File}
+use Rattle.route_record.specs.declared.Failures.{Failures}
 use Rattle.net_model.specs.declared.adjacencies.Adjacency.{Adjacency}
+use Rattle.net_model.specs.declared.ospf.OspfInterface.{OspfInterface}
+use Rattle.net_model.specs.Distances.{own_cost}
+use Rattle.net_model.specs.Ospf.{adjacencies, origin_interfaces, ospf_interfaces, up_adjacencies}
 use Rattle.proto_ospf.specs.declared.rounds.Receiver.{Receiver}
-use Rattle.proto_ospf.specs.Rounds.{AreCheap, AtMost, lower, nearest, of_router, over, rounds}
+use Rattle.proto_ospf.specs.Rounds.{AreCheap, AtMost, everywhere, lower, nearest, of_router, over, receiver, rounds}
 
 -- the number, if there is one, is at most that
 abbrev Below : ℕ → Option ℕ → Type 0
@@ -15,18 +21,23 @@ lower_below : (most : ℕ) (best : Option ℕ) (n : ℕ) → Below most best →
 lower_below most None n held within = within
 lower_below most (Some b) n held within = omega (arith, held, within)
 
-fold_below : {X : Type 0} (most : ℕ) (f : X → Option ℕ) (best : Option ℕ) (xs : List X) → Below most best →
-    All (λ x. Below most (f x)) xs → Below most (fold lower best (filter_map f xs))
-fold_below most f best [] held all = held
-fold_below {X} most f best (x ∷ xs) held all =
-    by_first (f x) (All-head (λ y. Below most (f y)) x xs all)
-    (λ next within. fold_below most f next xs within (All-tail (λ y. Below most (f y)) x xs all))
+fold_below : (most : ℕ) (best : Option ℕ) (ns : List ℕ) → Below most best → All (λ n. n ≤ most) ns →
+    Below most (fold lower best ns)
+fold_below most best [] held all = held
+fold_below most best (n ∷ ns) held all =
+    fold_below most (lower best n) ns (lower_below most best n held (All-head (λ k. k ≤ most) n ns all))
+    (All-tail (λ k. k ≤ most) n ns all)
+
+-- what a function gives of each member
+pub all_filter_map : {X Y : Type 0} (P : X → Type 0) (Q : Y → Type 0) (f : X → Option Y) (xs : List X) →
+    ((x : X) (y : Y) → P x → f x ≡ Some y → Q y) → All P xs → All Q (filter_map f xs)
+all_filter_map P Q f [] gives all = All-nil Q
+all_filter_map {X} {Y} P Q f (x ∷ xs) gives all =
+    by_first (f x) refl (all_filter_map P Q f xs gives (All-tail P x xs all))
   where
-    by_first : (o : Option ℕ) → Below most o →
-        ((next : Option ℕ) → Below most next → Below most (fold lower next (filter_map f xs))) →
-        Below most (fold lower best (cons_option o (filter_map f xs)))
-    by_first None first rest = rest best held
-    by_first (Some n) first rest = rest (lower best n) (lower_below most best n held first)
+    by_first : (o : Option Y) → f x ≡ o → All Q (filter_map f xs) → All Q (cons_option o (filter_map f xs))
+    by_first None is rest = rest
+    by_first (Some y) is rest = All-cons Q y (filter_map f xs) (gives x y (All-head P x xs all) is) rest
 
 router_below : (most : ℕ) (distances : List (Option ℕ)) (router : ℕ) → AtMost most distances →
     Below most (of_router distances router)
@@ -49,10 +60,14 @@ weaker most more (Some d) is below = omega (arith, is, below)
 nearest_below : (most : ℕ) (own before : List (Option ℕ)) (x : Receiver) → AtMost 65535 own → AtMost most before →
     All (λ a. a.cost ≤ 65535) x.adjacencies → Below (65535 + most) (nearest own before x)
 nearest_below most own before x start all cheap =
-    fold_below (65535 + most) (over before) (of_router own x.router) x.adjacencies
+    fold_below (65535 + most) (of_router own x.router) (filter_map (over before) x.adjacencies)
     (weaker 65535 (65535 + most) (of_router own x.router) (omega arith) (router_below 65535 own x.router start))
-    (All-weaker (λ a. a.cost ≤ 65535) (λ a. Below (65535 + most) (over before a)) (λ a is. over_below most before a all is)
-    x.adjacencies cheap)
+    (all_filter_map (λ a. a.cost ≤ 65535) (λ n. n ≤ 65535 + most) (over before) x.adjacencies
+    (λ a n is gives. some_below (over before a) n gives (over_below most before a all is)) cheap)
+  where
+    some_below : (o : Option ℕ) (n : ℕ) → o ≡ Some n → Below (65535 + most) o → n ≤ 65535 + most
+    some_below None n gives below = cc
+    some_below (Some m) n gives below = let same : m ≡ n = cc in omega (arith, same, below)
 
 -- with at most so many adjacencies no distance is more than one cost for each, and the own
 pub rounds_below : (own : List (Option ℕ)) (receivers : List Receiver) (k : ℕ) → AtMost 65535 own → AreCheap receivers →
@@ -75,3 +90,39 @@ rounds_small own receivers k start cheap few =
     let all = rounds_below own receivers k start cheap in
     All-weaker (Below (65535 * (k + 1))) (Below 2147483647)
     (λ o is. weaker (65535 * (k + 1)) 2147483647 o (omega (arith, few)) is) (rounds own receivers k) all
+
+-- ---- of a network whose costs are those of OSPF
+
+-- a cost from 1 to 65535
+abbrev IsCost : ℕ → Type 0
+IsCost cost = (0 < cost) × (cost ≤ 65535)
+
+own_below : (files : List File) (failures : Failures) (p : Prefix) (router : ℕ) → All (λ x. IsCost x.cost) (ospf_interfaces files) →
+    Below 65535 (own_cost files failures p router)
+unfolding own_cost
+own_below files failures p router costs =
+    fold_below 65535 None (map (λ x. x.cost) (origin_interfaces files failures router p)) tt
+    (All-map (λ n. n ≤ 65535) (λ (x : OspfInterface). x.cost) (origin_interfaces files failures router p)
+    (All-filter _ (λ (x : OspfInterface). x.cost ≤ 65535) (ospf_interfaces files)
+    (All-weaker (λ (x : OspfInterface). IsCost x.cost) (λ (x : OspfInterface). x.cost ≤ 65535) (λ x is. is.1) (ospf_interfaces files) costs)))
+
+-- the own costs of all routers
+pub own_costs_below : (files : List File) (failures : Failures) (p : Prefix) → All (λ x. IsCost x.cost) (ospf_interfaces files) →
+    AtMost 65535 (everywhere files (own_cost files failures p))
+own_costs_below files failures p costs =
+    All-map (Below 65535) (own_cost files failures p) (range_with_len 0 (length files))
+    (λ k d within. own_below files failures p _ costs)
+
+receiver_cheap : (files : List File) (failures : Failures) (router : ℕ) → All (λ a. IsCost a.cost) (adjacencies files) →
+    All (λ a. a.cost ≤ 65535) (up_adjacencies files failures router)
+unfolding up_adjacencies
+receiver_cheap files failures router costs =
+    All-filter _ (λ (a : Adjacency). a.cost ≤ 65535) (adjacencies files)
+    (All-weaker (λ (a : Adjacency). IsCost a.cost) (λ (a : Adjacency). a.cost ≤ 65535) (λ a is. is.1) (adjacencies files) costs)
+
+-- the adjacencies of all routers
+pub receivers_cheap : (files : List File) (failures : Failures) → All (λ a. IsCost a.cost) (adjacencies files) →
+    AreCheap (everywhere files (receiver files failures))
+receivers_cheap files failures costs =
+    All-map (λ x. All (λ a. a.cost ≤ 65535) x.adjacencies) (receiver files failures) (range_with_len 0 (length files))
+    (λ k d within. receiver_cheap files failures _ costs)

@@ -1,8 +1,11 @@
 -- The interior distances of all routers to one prefix, in rounds: each round allows one adjacency more.
-use Rattle.std.specs.Prelude.{ℕ, zero, suc, ◌+◌, ◌≤◌, All, IfSome, List, fold, map, min, slice_get, Option, Some, option_and_then, option_map}
-use Rattle.std.specs.List.{filter_map}
+use Rattle.std.specs.Prelude.{ℕ, zero, suc, ◌+◌, ◌≤◌, All, IfSome, List, fold, length, map, min, slice_get, Option, Some, option_and_then, option_map}
+use Rattle.std.specs.List.{filter_map, range_with_len}
 use Rattle.std.specs.Option.{option_map_or}
+use Rattle.ios_ast.specs.declared.file.File.{File}
+use Rattle.route_record.specs.declared.Failures.{Failures}
 use Rattle.net_model.specs.declared.adjacencies.Adjacency.{Adjacency}
+use Rattle.net_model.specs.Ospf.{up_adjacencies}
 use Rattle.proto_ospf.specs.declared.rounds.Receiver.{Receiver}
 
 -- the distance of a router
@@ -25,6 +28,14 @@ nearest own before x = fold lower (of_router own x.router) (filter_map (over bef
 abbrev pub rounds : List (Option ℕ) → List Receiver → ℕ → List (Option ℕ)
 rounds own receivers zero = own
 rounds own receivers (suc most) = map (nearest own (rounds own receivers most)) receivers
+
+-- what each router of the files has
+abbrev pub everywhere : {X : Type 0} → List File → (ℕ → X) → List X
+everywhere files f = map f (range_with_len 0 (length files))
+
+-- a router, and the adjacencies over which it receives and that are up
+abbrev pub receiver : List File → Failures → ℕ → Receiver
+receiver files failures router = record { router = router; adjacencies = up_adjacencies files failures router }
 
 -- no distance is more
 abbrev pub AtMost : ℕ → List (Option ℕ) → Type 0
