@@ -1,2 +1,3 @@
+pub mod Everywhere
 pub mod Bounds
 pub mod Interior
