@@ -1,3 +1,4 @@
 pub mod Everywhere
 pub mod Bounds
 pub mod Interior
+pub mod Resolved

@@ -3,6 +3,7 @@
 
 pub mod distances;
 pub mod offers;
+pub mod reached;
 pub mod rounds;
 pub mod states;
 
