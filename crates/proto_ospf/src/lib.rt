@@ -5,6 +5,7 @@ pub mod distances;
 pub mod offers;
 pub mod reached;
 pub mod rounds;
+pub mod sessions;
 pub mod states;
 
 pub use offers::{first_best, offer, prefer, transfer};
