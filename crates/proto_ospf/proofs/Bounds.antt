@@ -1,6 +1,6 @@
 -- Distances stay small: each round adds at most one cost.
-use Rattle.std.proofs.Common.{◌≡◌, ℕ, zero, suc, ◌+◌, ◌*◌, ◌<◌, ◌≤◌, List, length, [], ◌∷◌, Option, Some, None, arith, min, refl}
-use Rattle.std.specs.Prelude.{All, IfSome, fold, map, option_map, cond}
+use Rattle.std.proofs.Common.{◌≡◌, ℕ, zero, suc, ◌+◌, ◌*◌, ◌<◌, ◌≤◌, List, length, [], ◌∷◌, Option, Some, None, arith, refl}
+use Rattle.std.specs.Prelude.{All, IfSome, fold, map, option_map}
 use Rattle.std.specs.List.{cons_option, filter_map, range_with_len}
 use Rattle.std.proofs.lemmas.List.Elements.{All-cons, All-filter, All-head, All-map, All-nil, All-tail, All-weaker}
 use Rattle.mw_text.specs.declared.address.Prefix.{Prefix}
@@ -76,10 +76,10 @@ rounds_below own receivers zero start cheap = start
 rounds_below own receivers (suc k) start cheap =
     let deeper = rounds_below own receivers k start cheap in
     let now : AtMost (65535 + 65535 * (k + 1)) (rounds own receivers (suc k)) =
-        All-map (Below (65535 + 65535 * (k + 1))) (nearest own (rounds own receivers k)) receivers
-        (All-weaker (λ x. All (λ a. a.cost ≤ 65535) x.adjacencies)
-        (λ x. Below (65535 + 65535 * (k + 1)) (nearest own (rounds own receivers k) x))
-        (λ x is. nearest_below (65535 * (k + 1)) own (rounds own receivers k) x start deeper is) receivers cheap) in
+    All-map (Below (65535 + 65535 * (k + 1))) (nearest own (rounds own receivers k)) receivers
+    (All-weaker (λ x. All (λ a. a.cost ≤ 65535) x.adjacencies)
+    (λ x. Below (65535 + 65535 * (k + 1)) (nearest own (rounds own receivers k) x))
+    (λ x is. nearest_below (65535 * (k + 1)) own (rounds own receivers k) x start deeper is) receivers cheap) in
     All-weaker (Below (65535 + 65535 * (k + 1))) (Below (65535 * (suc k + 1)))
     (λ o is. weaker (65535 + 65535 * (k + 1)) (65535 * (suc k + 1)) o (omega arith) is) (rounds own receivers (suc k)) now
 

@@ -1,7 +1,7 @@
 -- The rounds have the distances of the definition, at every router.
 use Rattle.std.proofs.Common.{◌≡◌, ℕ, zero, suc, ◌+◌, ◌<◌, ◌≤◌, Bool, true, false, ◌&&◌, eqb, List, [], ◌∷◌, ◌++◌, length, map, filter, Option, Some, None, inl, inr, refl, sym, ap, arith, ◌∙◌}
-use Rattle.std.specs.Prelude.{All, fold, option_map, option_and_then, slice_get, cond, if◌then◌else◌}
-use Rattle.std.specs.List.{cons_option, filter_map, flat_map, range_with_len}
+use Rattle.std.specs.Prelude.{All, fold, option_map, option_and_then, slice_get, if◌then◌else◌}
+use Rattle.std.specs.List.{filter_map, flat_map, range_with_len}
 use Rattle.std.specs.Option.{option_map_or, option_to_list}
 use Rattle.std.proofs.lemmas.Bool.{cases_lt}
 use Rattle.std.proofs.lemmas.List.Elements.{All-append, All-cons, All-head, All-map, All-nil, All-tail, All-weaker}
@@ -22,7 +22,7 @@ use Rattle.net_model.specs.Interfaces.{addressed, addressed_from, addressed_ifac
 use Rattle.net_model.specs.World.{is_up}
 use Rattle.mw_text.specs.Address.{same_prefix}
 use Rattle.net_model.specs.Ospf.{adjacencies, adjacencies_of, adjacency, advertisement, are_adjacent, is_matched, is_up_at, ospf_at, ospf_interfaces, running, up_adjacencies}
-use Rattle.proto_ospf.specs.Rounds.{everywhere, lower, nearest, of_router, over, receiver, rounds}
+use Rattle.proto_ospf.specs.Rounds.{everywhere, interior_distances, lower, nearest, of_router, over, receiver, rounds}
 use Rattle.proto_ospf.proofs.Bounds.{all_filter_map}
 
 -- ---- what holds of each member
@@ -92,9 +92,9 @@ unfolding ospf_interfaces
 interfaces_within files =
     all_filter_map (λ x. x.id.router < 0 + length files) (λ o. o.at.id.router < length files) (ospf_at files) (addressed files)
     (λ x o below is.
-      let same = same_place files x o is in
-      let there : o.at.id.router ≡ x.id.router = ap (λ (y : Addressed). y.id.router) same in
-      omega (arith, there, below))
+    let same = same_place files x o is in
+    let there : o.at.id.router ≡ x.id.router = ap (λ (y : Addressed). y.id.router) same in
+    omega (arith, there, below))
     (of_these 0 files)
 
 adjacencies_within : (files : List File) → All (λ a. a.from.router < length files) (adjacencies files)
@@ -166,10 +166,10 @@ looked_up : (files : List File) (f : ℕ → Option ℕ) (router : ℕ) → (len
     of_router (everywhere files f) router ≡ f router
 looked_up files f router none = elim (cases_lt router (length files)) [
   | inl below ↦ ap (option_and_then (λ d. d)) (slice_get-get_or (everywhere files f) router None
-    (omega (arith, below, length-map-range_with_len f 0 (length files)))
-    ∙ ap Some (get_or-map-range_with_len f 0 (length files) router router None below (omega arith)))
+      (omega (arith, below, length-map-range_with_len f 0 (length files)))
+      ∙ ap Some (get_or-map-range_with_len f 0 (length files) router router None below (omega arith)))
   | inr past ↦ ap (option_and_then (λ d. d)) (slice_get_past (everywhere files f) router
-    (omega (arith, past, length-map-range_with_len f 0 (length files)))) ∙ sym (none past)
+      (omega (arith, past, length-map-range_with_len f 0 (length files)))) ∙ sym (none past)
 ]
 
 least_from : (o : Option ℕ) (ns : List ℕ) → fold lower o ns ≡ least (option_to_list o ++ ns)
@@ -208,14 +208,14 @@ rounds_within files failures p (suc most) =
 -- after as many as there are routers it is the interior distance
 pub rounds_interior : (files : List File) (failures : Failures) (p : Prefix) →
     rounds (everywhere files (own_cost files failures p)) (everywhere files (receiver files failures)) (length files)
-    ≡ everywhere files (λ router. interior_distance files failures router p)
+    ≡ interior_distances files failures p
 unfolding interior_distance
 rounds_interior files failures p = rounds_within files failures p (length files)
 
--- the distance of a router among those of all; a router past the files has none
+-- it is the distance of a router among those of all; a router past the files has none
 pub interior_there : (files : List File) (failures : Failures) (p : Prefix) (router : ℕ) →
-    of_router (everywhere files (λ r. interior_distance files failures r p)) router ≡ interior_distance files failures router p
+    interior_distance files failures router p ≡ of_router (interior_distances files failures p) router
 unfolding interior_distance
 interior_there files failures p router =
-    looked_up files (distance_within files failures p (length files)) router
-    (no_distance files failures p (length files) router)
+    sym (looked_up files (distance_within files failures p (length files)) router
+    (no_distance files failures p (length files) router))

@@ -2,3 +2,5 @@ pub mod Everywhere
 pub mod Bounds
 pub mod Interior
 pub mod Resolved
+pub mod Origins
+pub mod Staying

@@ -1,6 +1,6 @@
 -- An address is resolved by what the distances to the first advertised prefix that contains it say.
-use Rattle.std.proofs.Common.{◌≡◌, ℕ, List, [], ◌∷◌, Option, Some, None, Bool, true, false, map, refl, ap, ◌∙◌}
-use Rattle.std.specs.Prelude.{option_and_then, option_map, cond}
+use Rattle.std.proofs.Common.{◌≡◌, ℕ, List, [], ◌∷◌, Bool, true, false, map, refl, sym}
+use Rattle.std.specs.Prelude.{option_and_then}
 use Rattle.std.specs.List.{find}
 use Rattle.mw_text.specs.declared.address.Addr.{Addr}
 use Rattle.mw_text.specs.declared.address.Prefix.{Prefix}
@@ -21,7 +21,7 @@ first_of files failures router a (p ∷ ps) = by_first (covers p a) refl (first_
       ≡ option_and_then (interior_distance files failures router) (find (λ q. covers q a) ps) →
       to_first (map (reached files failures) (p ∷ ps)) router a
       ≡ option_and_then (interior_distance files failures router) (find (λ q. covers q a) (p ∷ ps))
-  by_first true is rest = rw is (interior_there files failures p router)
+  by_first true is rest = rw is (sym (interior_there files failures p router))
   by_first false is rest = rw is rest
 
 pub first_is : (files : List File) (failures : Failures) (router : ℕ) (a : Addr) →

@@ -6,14 +6,13 @@ use Rattle.mw_text.specs.declared.address.Prefix.{Prefix}
 use Rattle.mw_text.specs.Address.{covers}
 use Rattle.ios_ast.specs.declared.file.File.{File}
 use Rattle.route_record.specs.declared.Failures.{Failures}
-use Rattle.net_model.specs.Distances.{interior_distance}
 use Rattle.net_model.specs.Ospf.{advertised}
 use Rattle.proto_ospf.specs.declared.reached.Reached.{Reached}
-use Rattle.proto_ospf.specs.Rounds.{everywhere, of_router}
+use Rattle.proto_ospf.specs.Rounds.{interior_distances, of_router}
 
 -- a prefix with the interior distance of each router
 abbrev pub reached : List File → Failures → Prefix → Reached
-reached files failures p = record { to = p; distances = everywhere files (λ router. interior_distance files failures router p) }
+reached files failures p = record { to = p; distances = interior_distances files failures p }
 
 -- every advertised prefix
 abbrev pub all_reached : List File → Failures → List Reached

@@ -2,9 +2,11 @@
 use Rattle.std.specs.Prelude.{ℕ, zero, suc, ◌+◌, ◌≤◌, All, IfSome, List, fold, length, map, min, slice_get, Option, Some, option_and_then, option_map}
 use Rattle.std.specs.List.{filter_map, range_with_len}
 use Rattle.std.specs.Option.{option_map_or}
+use Rattle.mw_text.specs.declared.address.Prefix.{Prefix}
 use Rattle.ios_ast.specs.declared.file.File.{File}
 use Rattle.route_record.specs.declared.Failures.{Failures}
 use Rattle.net_model.specs.declared.adjacencies.Adjacency.{Adjacency}
+use Rattle.net_model.specs.Distances.{interior_distance}
 use Rattle.net_model.specs.Ospf.{up_adjacencies}
 use Rattle.proto_ospf.specs.declared.rounds.Receiver.{Receiver}
 
@@ -32,6 +34,10 @@ rounds own receivers (suc most) = map (nearest own (rounds own receivers most)) 
 -- what each router of the files has
 abbrev pub everywhere : {X : Type 0} → List File → (ℕ → X) → List X
 everywhere files f = map f (range_with_len 0 (length files))
+
+-- the interior distance of each router to the prefix
+abbrev pub interior_distances : List File → Failures → Prefix → List (Option ℕ)
+interior_distances files failures p = everywhere files (λ router. interior_distance files failures router p)
 
 -- a router, and the adjacencies over which it receives and that are up
 abbrev pub receiver : List File → Failures → ℕ → Receiver

@@ -56,7 +56,9 @@ fn better_of(best: Option<OspfRec>, next: OspfRec) -> Option<OspfRec>
 pub fn first_best(offers: &[OspfRec]) -> Option<OspfRec>
     ensures { result ≡ routes.first_best offers.now }
 {
-    offers.iter().fold(None, |best, next| better_of(best, *next))
+    offers
+        .iter()
+        .fold(None, |best, next| better_of(best, *next))
 }
 
 /// A route as it is offered over an adjacency: the far router's, which costs more by the output cost of the receiving

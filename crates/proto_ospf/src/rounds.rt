@@ -1,7 +1,6 @@
 //! The interior distances of all routers to one prefix, in rounds: each round allows one adjacency more.
 
-ghost use Rattle.std.specs.Prelude.{◌≡◌, ◌≤◌, ◌*◌, ◌+◌, ◌<◌, All, IfOk, IfSome, fold, length, map, option_map, slice_get};
-ghost use Rattle.std.specs.List.{filter_map};
+ghost use Rattle.std.specs.Prelude.{◌≡◌, ◌≤◌, ◌*◌, ◌+◌, ◌<◌, ◌↔◌, All, IfOk, IsTrue, map};
 ghost use Rattle.proto_ospf.specs.Rounds as rounds;
 
 use mw_text::List;
@@ -80,7 +79,13 @@ fn round(
     Ok(after)
 }
 
-/// The least costs of walks with at most as many adjacencies as there are rounds.
+fn are_same(a: &[Option<u32>], b: &[Option<u32>]) -> bool
+    ensures { IsTrue result ↔ (a.now ≡ b.now) }
+{
+    a == b
+}
+
+/// The least costs of walks with at most so many adjacencies. A round that changes nothing is the last.
 #[tactic(auto, using(crate::proofs::Bounds::rounds_small))]
 pub fn distances_after(
     alloc: Global,
@@ -97,7 +102,11 @@ pub fn distances_after(
         items: Vec::from_slice(alloc, own)?,
     };
     for _ in 0..most {
-        before = round(alloc, own, before.as_slice(), receivers)?;
+        let after = round(alloc, own, before.as_slice(), receivers)?;
+        if are_same(after.as_slice(), before.as_slice()) {
+            return Ok(before);
+        }
+        before = after;
     }
     Ok(before)
 }

@@ -6,8 +6,7 @@ ghost use Rattle.net_model.specs.Resolution as resolution;
 ghost use Rattle.net_model.specs.Sessions.{ends_of, neighbour_of};
 ghost use Rattle.proto_ospf.specs.Reached.{all_reached};
 
-use crate::reached::{Reached, resolve_over};
-use crate::states::is_up_there;
+use crate::reached::{Reached, all_distances, resolve_over};
 use ios_ast::{Bgp, File};
 use mw_text::{Addr, List};
 use net_model::{Far, Net, SessionEnd};
@@ -52,7 +51,13 @@ fn resolves_neighbour(net: &Net, failures: &Failures, all: &[Reached], end: &Ses
     }
 }
 
-fn resolve_each_other(net: &Net, failures: &Failures, all: &[Reached], end: &SessionEnd, far: &SessionEnd) -> bool
+fn resolve_each_other(
+    net: &Net,
+    failures: &Failures,
+    all: &[Reached],
+    end: &SessionEnd,
+    far: &SessionEnd,
+) -> bool
     requires all { all.now ≡ all_reached net.now failures.now }
     ensures { result ≡ (resolution.resolves_neighbour net.now failures.now end.now
         && resolution.resolves_neighbour net.now failures.now far.now) }
@@ -60,12 +65,18 @@ fn resolve_each_other(net: &Net, failures: &Failures, all: &[Reached], end: &Ses
     resolves_neighbour(net, failures, all, end) && resolves_neighbour(net, failures, all, far)
 }
 
-fn is_up_between(net: &Net, failures: &Failures, all: &[Reached], end: &SessionEnd, far: &SessionEnd) -> bool
+fn is_up_between(
+    net: &Net,
+    failures: &Failures,
+    all: &[Reached],
+    end: &SessionEnd,
+    far: &SessionEnd,
+) -> bool
     requires all { all.now ≡ all_reached net.now failures.now }
     ensures { result ≡ resolution.is_up_between net.now failures.now end.now far.now }
 {
-    is_up_there(net, failures, end.own)
-        && is_up_there(net, failures, far.own)
+    net.is_up(failures, end.own)
+        && net.is_up(failures, far.own)
         && (end.shared || resolve_each_other(net, failures, all, end, far))
 }
 
@@ -77,7 +88,7 @@ pub fn is_up_at_end(net: &Net, failures: &Failures, all: &[Reached], end: &Sessi
     ensures { result ≡ resolution.session_up net.now failures.now end.now }
 {
     match end.far {
-        Far::Outside => is_up_there(net, failures, end.own),
+        Far::Outside => net.is_up(failures, end.own),
         Far::Inside(at) => match net.ends().get(at as usize) {
             None => false,
             Some(far) => is_up_between(net, failures, all, end, far),
@@ -100,4 +111,21 @@ pub fn sessions_up(
         up.items.push(is_up_at_end(net, failures, all, end))?;
     }
     Ok(up)
+}
+
+/// Whether the session of the end at that place is up: towards an external peer where the router's own interface is;
+/// towards another router where both interfaces are, and, over no shared subnet, where both routers resolve each other. Of
+/// all ends `sessions_up` answers the same over one table.
+pub fn session_up(
+    alloc: Global,
+    net: &Net,
+    failures: &Failures,
+    end: u32,
+) -> Result<bool, AllocError>
+    requires within { end < length (ends_of net.now) }
+    ensures { IfOk result (λ up. option_map (resolution.session_up net.now failures.now) (slice_get (ends_of net.now) end) ≡ Some up) }
+{
+    let all = all_distances(alloc, net, failures)?;
+    let ends = net.ends();
+    Ok(is_up_at_end(net, failures, all.as_slice(), &ends[end as usize]))
 }

@@ -9,8 +9,7 @@ ghost use Rattle.proto_ospf.specs.Rounds.{everywhere, receiver};
 
 use crate::rounds::Receiver;
 use mw_text::{List, Prefix};
-use net_model::states::is_up_at;
-use net_model::{Addressed, Adjacency, IfaceId, Net};
+use net_model::{Addressed, Adjacency, Net};
 use route_record::Failures;
 use std::alloc::{AllocError, Global};
 
@@ -27,7 +26,11 @@ fn is_failed(net: &Net, failures: &Failures, p: &Prefix) -> bool
     ensures { result ≡ world.is_failed net.now failures.now p.now }
 {
     let links = net.link_prefixes();
-    failures.links.as_slice().iter().any(|at| is_link_at(links, *at, p))
+    failures
+        .links
+        .as_slice()
+        .iter()
+        .any(|at| is_link_at(links, *at, p))
 }
 
 /// Whether an interface is up: not shut down, and its subnet no failed link.
@@ -37,18 +40,11 @@ pub fn is_up(net: &Net, failures: &Failures, x: &Addressed) -> bool
     !x.shutdown && !is_failed(net, failures, &x.subnet)
 }
 
-/// Whether the interface at that place has an address and is up.
-pub fn is_up_there(net: &Net, failures: &Failures, i: IfaceId) -> bool
-    ensures { result ≡ ospf.is_up_at net.now failures.now i }
-{
-    is_up_at(net.routers(), net.addresses(), net.link_prefixes(), failures, i)
-}
-
 fn is_up_over(net: &Net, failures: &Failures, router: u32, a: &Adjacency) -> bool
     ensures { result ≡ ((a.now.from.router == router)
         && (ospf.is_up_at net.now failures.now a.now.from && ospf.is_up_at net.now failures.now a.now.to)) }
 {
-    a.from.router == router && is_up_there(net, failures, a.from) && is_up_there(net, failures, a.to)
+    a.from.router == router && net.is_up(failures, a.from) && net.is_up(failures, a.to)
 }
 
 /// The adjacencies over which a router receives and that are up: both interfaces are (RFC 2328, section 9).
@@ -57,14 +53,12 @@ pub fn up_adjacencies(
     alloc: Global,
     net: &Net,
     failures: &Failures,
-    all: &[Adjacency],
     router: u32,
 ) -> Result<List<Adjacency>, AllocError>
-    requires all { all.now ≡ ospf.adjacencies net.now }
     ensures { IfOk result (λ up. up ≡ ospf.up_adjacencies net.now failures.now router) }
 {
     let mut up = List::new(alloc);
-    for a in all {
+    for a in net.adjacencies() {
         if is_up_over(net, failures, router, a) {
             up.items.push(*a)?;
         }
@@ -78,14 +72,12 @@ pub fn receivers(
     alloc: Global,
     net: &Net,
     failures: &Failures,
-    all: &[Adjacency],
 ) -> Result<List<Receiver>, AllocError>
-    requires all { all.now ≡ ospf.adjacencies net.now }
     ensures { IfOk result (λ routers. routers ≡ everywhere net.now (receiver net.now failures.now)) }
 {
     let mut routers = List::new(alloc);
     for router in 0..net.routers().len() {
-        let adjacencies = up_adjacencies(alloc, net, failures, all, router as u32)?;
+        let adjacencies = up_adjacencies(alloc, net, failures, router as u32)?;
         routers.items.push(Receiver {
             router: router as u32,
             adjacencies,
