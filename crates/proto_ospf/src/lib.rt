@@ -1,0 +1,16 @@
+//! OSPF: interior distances, next-hop resolution, the states of BGP sessions, and the routes that a router offers.
+#![tactic(auto)]
+
+mod distances;
+mod offers;
+mod reached;
+mod rounds;
+mod sessions;
+mod states;
+
+pub use distances::{distances_over, distances_to, igp_distance, own_cost};
+pub use offers::{first_best, offer, prefer, transfer};
+pub use reached::{Reached, all_distances, resolve, resolve_over};
+pub use rounds::Receiver;
+pub use sessions::{is_up_at_end, session_up, sessions_up};
+pub use states::{receivers, up_adjacencies};
