@@ -1,4 +1,3 @@
 pub mod Steps
 pub mod Places
-pub mod Routes
 pub mod Sending

@@ -1,1 +1,2 @@
 pub mod Unfailed
+pub mod Taken

@@ -1,7 +1,7 @@
 use Rattle.std.proofs.Common.{◌≡◌, drop}
 use Rattle.std.specs.List.{find}
 use Rattle.mw_text.specs.Text.{same_text}
-use Rattle.proto_bgp.proofs.policies.map_named.Given as goal
+use Rattle.policy_eval.proofs.routes.map_named.Given as goal
 
 abbrev pub invariant-loop-map : goal.invariant-loop-map
 invariant-loop-map l =
