@@ -4,3 +4,4 @@ pub mod Interior
 pub mod Resolved
 pub mod Origins
 pub mod Staying
+pub mod Steps

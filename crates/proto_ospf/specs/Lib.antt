@@ -1,3 +1,4 @@
 pub mod Rounds
 pub mod Reached
 pub mod Origins
+pub mod Steps

@@ -62,7 +62,7 @@ pub fn first_best(offers: &[OspfRec]) -> Option<OspfRec>
 }
 
 /// A route as it is offered over an adjacency: the far router's, which costs more by the output cost of the receiving
-/// interface (RFC 2328, section 16.1). None exactly where that cost has no 32 bits.
+/// interface (RFC 2328, section 16.1). None exactly where the sum is 2^32 or more.
 pub fn offer(rec: &OspfRec, cost: u32) -> Option<OspfRec>
     ensures { result ≡ routes.extended cost rec.now }
 {
@@ -72,7 +72,7 @@ pub fn offer(rec: &OspfRec, cost: u32) -> Option<OspfRec>
     }
 }
 
-/// A route as it is offered over an adjacency of that cost, where the sum has 32 bits.
+/// A route as it is offered over an adjacency of that cost, where the sum is below 2^32.
 pub fn transfer(rec: &OspfRec, cost: u32) -> OspfRec
     requires in_range { (0 < cost) × (cost ≤ 65535) }
     requires fits { rec.now.cost + cost < 2 ^ 32 }
