@@ -7,9 +7,8 @@ use ios_ast::File;
 use ios_reader::read_file;
 use mw_text::{Addr, List, list_of, prefix_of};
 use net_model::{IfaceId, Net};
-use proto_rib::tables_of;
 use question_lang::{End, Kind, PacketSet, Question, Start, Target, Walk};
-use route_record::{Environment, Failures, Packet, Tables};
+use route_record::{Environment, Failures, LENGTHS, Packet, RibEntry, RibSource, Slot, Tables};
 use std::alloc::{AllocError, Global};
 use std::test::Fail;
 
@@ -40,8 +39,11 @@ fn two_routers(alloc: Global) -> Result<Net, Fail> {
         alloc,
         b"hostname N2\ninterface GigabitEthernet0/0\n ip address 10.0.0.2 255.255.255.252\ninterface Loopback0\n ip address 10.2.0.1 255.255.255.255\n",
     )?;
-    let net = Net::of(alloc, both(alloc, first, second)?)?.ok_or("no network")?;
-    Ok(net)
+    let files = both(alloc, first, second)?;
+    if !keep_limits(files.as_slice()) {
+        return Err("too many".into());
+    }
+    Ok(Net::build(alloc, files)?)
 }
 
 fn one_question(alloc: Global, name: &[u8]) -> Result<List<Question>, AllocError> {
@@ -113,6 +115,23 @@ fn written(
     )
 }
 
+// Tables of two routers with one connected entry, at that place.
+fn one_entry(alloc: Global, entry: usize) -> Result<Tables, AllocError> {
+    let mut slots = List::new(alloc);
+    for place in 0..2 * LENGTHS {
+        let connected = RibEntry {
+            source: RibSource::Connected,
+            distance: 0,
+        };
+        slots.items.push(Slot {
+            ospf: None,
+            bgp: None,
+            rib: if place == entry { Some(connected) } else { None },
+        })?;
+    }
+    Ok(Tables { slots })
+}
+
 #[test]
 fn packet_without_a_route(rt: HostRuntime) -> Result<(), Fail> {
     let alloc = rt.alloc();
@@ -123,7 +142,7 @@ fn packet_without_a_route(rt: HostRuntime) -> Result<(), Fail> {
         iface: None,
     };
     let walk = walk_over(alloc, &[stand], End::NoRoute)?;
-    let cex = over_tables(alloc, tables_of(alloc, &net, DESTINATION)?, walk);
+    let cex = over_tables(alloc, one_entry(alloc, 33 + 32)?, walk);
     let text = write_cex(alloc, &net, questions.as_slice(), &cex)?;
     let wanted =
         "{\"announcements\":[],\"failures\":[],\"format\":1,\"packet\":{\"dport\":0,\"dst\":\"10.2.0.1\",\"proto\":1,\"sport\":0,\"src\":\"10.0.0.1\"},\"peers\":[],\"question\":\"q1\",\"tables\":[{\"len\":32,\"rib\":{\"distance\":0,\"source\":\"connected\"},\"router\":\"N2\"}],\"walk\":{\"end\":\"noroute\",\"hops\":[{\"router\":\"N1\"}]}}";

@@ -44,7 +44,7 @@ fn show_case(
     if second.len() > 0 {
         add_file(rt, &mut files, second)?;
     }
-    show_files(rt, name, files.as_slice())
+    show_files(rt, name, files)
 }
 
 fn main(rt: HostRuntime) -> io::Result<()> {

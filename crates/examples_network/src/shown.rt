@@ -1,16 +1,10 @@
 //! Prints networks.
 
 use ios_ast::File;
-use mw_text::{Addr, Prefix};
-use net_model::adjacencies::adjacencies;
-use net_model::interfaces::addressed_of;
-use net_model::links::links_of;
-use net_model::network::few_enough;
-use net_model::ospf::{advertised, ospf_interfaces};
-use net_model::sessions::{ends_of, few_neighbours, peerings};
-use net_model::tracking::tracked_of;
-use net_model::{Adjacency, Far, IfaceId, MOST_FILES, OspfInterface, SessionEnd, refuse};
-use std::alloc::Global;
+use mw_text::{Addr, List, Prefix};
+use net_model::{
+    Adjacency, Far, IfaceId, Net, NetRefused, OspfInterface, SessionEnd, keep_limits, refuse,
+};
 use std::io;
 
 fn show_address(rt: &impl Print, address: Addr) -> io::Result<()> {
@@ -63,24 +57,13 @@ fn show_ends(rt: &impl Print, ends: &[SessionEnd]) -> io::Result<()> {
     Ok(())
 }
 
-fn show_network(rt: &(impl Print + AllocGlobal), files: &[File]) -> io::Result<()> {
-    let alloc: Global = rt.alloc();
-    if files.len() > MOST_FILES || !few_enough(files) || !few_neighbours(files) {
-        return println!(rt; " too many");
-    }
-    let addresses = addressed_of(alloc, files)?;
-    let running = ospf_interfaces(alloc, files, addresses.as_slice())?;
-    let peers = peerings(alloc, files, addresses.as_slice())?;
-    let links = links_of(alloc, files, addresses.as_slice(), peers.as_slice())?;
-    let reached = advertised(alloc, files, running.as_slice())?;
-    let adjacent = adjacencies(alloc, files, running.as_slice())?;
-    let ends = ends_of(alloc, files, addresses.as_slice())?;
-    let tracked = tracked_of(alloc, files, addresses.as_slice())?;
-    show_prefixes(rt, "link", links.as_slice())?;
-    show_ospf(rt, running.as_slice())?;
-    show_prefixes(rt, "advertised", reached.as_slice())?;
-    show_adjacencies(rt, adjacent.as_slice())?;
-    show_ends(rt, ends.as_slice())?;
+fn show_network(rt: &impl Print, net: &Net) -> io::Result<()> {
+    show_prefixes(rt, "link", net.link_prefixes())?;
+    show_ospf(rt, net.ospf_interfaces())?;
+    show_prefixes(rt, "advertised", net.advertised())?;
+    show_adjacencies(rt, net.adjacencies())?;
+    show_ends(rt, net.ends())?;
+    let tracked = net.tracked();
     for community in tracked.communities.as_slice() {
         println!(rt; " community {}", *community)?;
     }
@@ -95,24 +78,31 @@ fn show_network(rt: &(impl Print + AllocGlobal), files: &[File]) -> io::Result<(
     Ok(())
 }
 
+fn show_why(rt: &impl Print, name: &str, refused: &NetRefused) -> io::Result<()> {
+    println!(rt;
+        "{name}: file {} line {} {:?}",
+        refused.file, refused.line, refused.cause
+    )
+}
+
 /// Prints why the files form no network, or that they form one.
 pub fn show_refusal(rt: &(impl Print + AllocGlobal), name: &str, files: &[File]) -> io::Result<()> {
     match refuse(rt.alloc(), files)? {
-        Some(refused) => {
-            println!(rt;
-                "{name}: file {} line {} {:?}",
-                refused.file, refused.line, refused.cause
-            )
-        }
+        Some(refused) => show_why(rt, name, &refused),
         None => println!(rt; "{name}:"),
     }
 }
 
 /// Prints why the files form no network, or the network.
-pub fn show_files(rt: &(impl Print + AllocGlobal), name: &str, files: &[File]) -> io::Result<()> {
-    show_refusal(rt, name, files)?;
-    if refuse(rt.alloc(), files)?.is_none() {
-        show_network(rt, files)?;
+pub fn show_files(rt: &(impl Print + AllocGlobal), name: &str, files: List<File>) -> io::Result<()> {
+    if !keep_limits(files.as_slice()) {
+        return println!(rt; "{name}: too many");
     }
-    Ok(())
+    match Net::build(rt.alloc(), files) {
+        Err(refused) => show_why(rt, name, &refused),
+        Ok(net) => {
+            println!(rt; "{name}:")?;
+            show_network(rt, &net)
+        }
+    }
 }

@@ -10,8 +10,8 @@ use Rattle.route_record.specs.declared.Failures.{Failures}
 use Rattle.route_record.specs.declared.Packet.{Packet}
 use Rattle.route_record.specs.declared.Tables.{Tables}
 use Rattle.route_record.specs.declared.World.{World}
-use Rattle.net_model.proofs.Defined.{all_defined, no_ends}
-use Rattle.net_model.specs.Network.{is_network}
+use Rattle.net_model.proofs.Defined.{no_ends}
+use Rattle.net_model.specs.Network.{is_plain, runs_no_protocol}
 use Rattle.net_model.specs.Sessions.{is_outside}
 use Rattle.net_model.specs.World.{IsFailureSet, IsEnvironment, no_failures}
 use Rattle.net_model.specs.Stable.{Stable}
@@ -44,7 +44,7 @@ past_end : (k n : ℕ) → nat_lt (1 + k) (suc n) ≡ false → nat_lt k n ≡ f
 past_end k n h = grind (arith, nat_tests, common_steps)
 
 -- where all items at the front pass, all pass
-all-front : (p : Question → Bool) (xs : List Question) → nat_lt (prefix_len (λ q. not (not (p q))) xs) (length xs) ≡ false →
+all-front : {A : Type 0} (p : A → Bool) (xs : List A) → nat_lt (prefix_len (λ q. not (not (p q))) xs) (length xs) ≡ false →
     list_all p xs ≡ true
 all-front p [] h = refl
 all-front p (x ∷ xs) h = elim (cases_Bool (p x)) [
@@ -58,12 +58,18 @@ found_none true n h = absurd (some_none n h) where
   some_none k same = absurd (let e : zero ≡ suc zero = cc in omega (arith, e))
 found_none false n h = refl
 
+-- where none is found that fails a test, all pass it
+pub all_pass : {A : Type 0} (p : A → Bool) (xs : List A) → position (λ x. not (p x)) xs ≡ None → list_all p xs ≡ true
+all_pass p xs none = all-front p xs (found_none (nat_lt (prefix_len (λ x. not (not (p x))) xs) (length xs)) _ none)
+
 -- where none is found that cannot be answered, all can be
 pub all_answerable : (questions : List Question) → position (λ q. not (is_answerable q)) questions ≡ None →
     list_all is_answerable questions ≡ true
-all_answerable questions none =
-    all-front is_answerable questions
-    (found_none (nat_lt (prefix_len (λ q. not (not (is_answerable q))) questions) (length questions)) _ none)
+all_answerable questions none = all_pass is_answerable questions none
+
+-- where no router is found that runs a routing protocol, none does
+pub all_plain : (files : List File) → position (λ file. not (is_plain file)) files ≡ None → runs_no_protocol files ≡ true
+all_plain files none = all_pass is_plain files none
 
 empty_list : {A : Type 0} (xs : List A) → length xs ≤ 0 → xs ≡ []
 empty_list [] few = refl
@@ -97,7 +103,7 @@ holds_from files question packet tables kind failures is_kind no_links unfailed 
     none walk (subst K is_kind (subst B same breaking.breaks))
 
 -- a network has no external peers, so nothing is announced
-nothing_announced : (files : List File) → is_network files ≡ true → (environment : Environment) → environment.ids ≡ [] →
+nothing_announced : (files : List File) → runs_no_protocol files ≡ true → (environment : Environment) → environment.ids ≡ [] →
     environment.announced ≡ [] → IsEnvironment files environment
 nothing_announced files network environment ids announced =
     let none : Environment = record { ids = []; announced = [] } in
@@ -105,7 +111,7 @@ nothing_announced files network environment ids announced =
     let by_announced = λ (all : List Announcement). let e : Environment = record { ids = []; announced = all } in e in
     let same : environment ≡ none = ap by_ids ids ∙ ap by_announced announced in
     let fits : IsEnvironment files none = record {
-      ids = sym (ap (λ ends. length (filter (λ end. is_outside end.far) ends)) (no_ends files (all_defined files network)));
+      ids = sym (ap (λ ends. length (filter (λ end. is_outside end.far) ends)) (no_ends files network));
       fit = λ k d within. absurd (omega arith);
       announced = λ k d within. absurd (omega arith);
       once = λ i j d less within. absurd (omega arith);
@@ -114,7 +120,7 @@ nothing_announced files network environment ids announced =
 
 -- what breaks the one stable routing is a true counterexample
 pub true_from : (files : List File) (number : ℕ) (question : Question) (packet : Packet) (tables : Tables) (walk : Walk) (kind : Kind)
-    (failures : Failures) (environment : Environment) → is_network files ≡ true →
+    (failures : Failures) (environment : Environment) → runs_no_protocol files ≡ true →
     question.kind ≡ kind → IsInSet question.packets packet → failures ≡ no_failures → environment.ids ≡ [] → environment.announced ≡ [] →
     ((e : Environment) → Stable files packet.dst no_failures e tables) →
     Breaks files (record { failures = failures; packet = packet; tables = tables }) kind (Some walk) →

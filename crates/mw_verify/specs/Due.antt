@@ -1,6 +1,6 @@
 -- What is due for words over the contents of files: usage, a refusal, or answers to questions over a network.
 use Rattle.std.specs.Prelude.{ℕ, ◌==◌, ◌&&◌, Bool, false, not, List, [], ◌∷◌, length, nat_lt, nat_le, codes, slice_index, slice_get, filter, is_none, position, min, Option, Some, None, option_and_then, option_map, is_some, unwrap_or, Result, Ok, Err, if◌then◌else◌}
-use Rattle.std.specs.List.{list_any}
+use Rattle.std.specs.List.{list_all, list_any}
 use Rattle.std.specs.Option.{option_map_or}
 use Rattle.mw_text.specs.Reading.{each, following}
 use Rattle.mw_text.specs.Text.{same_text}
@@ -10,7 +10,8 @@ use Rattle.ios_policy_reader.specs.declared.cause.Refused.{Refused}
 use Rattle.net_model.specs.declared.refusals.NetRefused.{NetRefused}
 use Rattle.net_model.specs.Refusals.{first_refusal}
 use Rattle.ios_reader.specs.Reading.{reading}
-use Rattle.net_model.specs.Network.{is_network}
+use Rattle.net_model.specs.Limits.{keeps_limits}
+use Rattle.net_model.specs.Network.{is_plain}
 use Rattle.question_lang.specs.declared.question.Question.{Question}
 use Rattle.mw_text.specs.declared.words.Line.{Line}
 use Rattle.mw_text.specs.Words.{is_skipped, text_lines}
@@ -86,22 +87,23 @@ unbuilt_line file = earlier (option_map (λ ospf. ospf.line) file.ospf) (option_
 abbrev pub unbuilt_line_at : List File → ℕ → ℕ
 unbuilt_line_at files at = unwrap_or (option_and_then unbuilt_line (slice_get files at)) 0
 
--- the first file that has such a line is refused at it
+-- the first file whose router runs a routing protocol is refused at that line
 abbrev pub unbuilt : List Text → List File → Option (List ℕ)
 unbuilt texts files =
     option_map (λ at. refusal (name_at texts at) (not_built (unbuilt_line_at files at)))
-    (position (λ file. is_some (unbuilt_line file)) files)
+    (position (λ file. not (is_plain file)) files)
 
 -- files that break no rule of networks, and for which `verify` can answer
 abbrev pub answered_network : List Text → List File → Result (List File) Outcome
-answered_network texts files =
-    option_map_or (λ line. Err (refused line)) (unbuilt texts files)
-    (if is_network files then Ok files else Err (refused (no_network (first_name texts))))
+answered_network texts files = option_map_or (λ line. Err (refused line)) (unbuilt texts files) (Ok files)
 
--- the files of some texts, where they are a network for which `verify` can answer
+-- the files of some texts, where they are a network for which `verify` can answer. Files beyond the limits of a file, which
+-- no text reads as, are none
 abbrev pub network_of : List Text → List File → Result (List File) Outcome
 network_of texts files =
-    option_map_or (λ why. Err (refused (net_refusal texts why))) (first_refusal files) (answered_network texts files)
+    if list_all keeps_limits files
+    then option_map_or (λ why. Err (refused (net_refusal texts why))) (first_refusal files) (answered_network texts files)
+    else Err (refused (no_network (first_name texts)))
 
 -- the network of some texts
 abbrev pub network_due : List Text → Result (List File) Outcome

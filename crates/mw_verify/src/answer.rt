@@ -1,6 +1,7 @@
 //! Answers one question after another.
 
 ghost use Rattle.std.specs.Prelude.{◌≡◌, ◌<◌, ℕ, IfOk, IfSome, None, length, true};
+ghost use Rattle.net_model.specs.Network.{runs_no_protocol};
 ghost use Rattle.question_lang.specs.Breaking.{reach_question};
 ghost use Rattle.question_lang.specs.Single.{IsReach};
 ghost use Rattle.mw_verify.specs.Due.{is_answerable};
@@ -56,6 +57,7 @@ pub fn verdict_of(
 ) -> Result<Verdict, AllocError>
     requires reach { IsReach (length net.now) question.now }
     requires answerable { is_answerable question.now ≡ true }
+    requires plain { runs_no_protocol net.now ≡ true }
     ensures { IfOk result (λ verdict. verdicts.IsRight net.now number question.now verdict
         × verdicts.MayGoUnlogged verdict) }
 {

@@ -1,11 +1,12 @@
 //! Reads and parses the files that the words name.
 
-ghost use Rattle.std.specs.Prelude.{◌≡◌, ◌≢◌, ◌≤◌, ◌++◌, ◌∷◌, [], Ok, Err, None, IfOk, IfErr, IfSome, filter, is_some, length, map, not, position, slice_get, string_bytes};
+ghost use Rattle.std.specs.Prelude.{◌≡◌, ◌≢◌, ◌≤◌, ◌++◌, ◌∷◌, [], Ok, Err, None, true, IfOk, IfErr, IfSome, filter, is_some, length, map, not, position, slice_get, string_bytes};
 ghost use Rattle.std.specs.Option.{option_map_or};
 ghost use Rattle.mw_text.specs.Reading.{each};
 ghost use Rattle.mw_text.specs.Words.{is_skipped};
 ghost use Rattle.question_lang.specs.Asking.{not_built};
 ghost use Rattle.mw_verify.specs.Texts as lines;
+ghost use Rattle.net_model.specs.Network.{is_plain, runs_no_protocol};
 ghost use Rattle.mw_outside.specs.Faults.{Rose};
 ghost use Rattle.mw_outside.specs.Contents.{TellsOnly};
 ghost use Rattle.question_lang.specs.Single.{AreReach};
@@ -19,7 +20,7 @@ use ios_policy_reader::{Cause, Refused};
 use ios_reader::read_file;
 use mw_outside::{Files, ReadRefused, read_whole};
 use mw_text::{Line, List, lines_of, list_of, says_nothing};
-use net_model::{Net, NetRefused, refuse};
+use net_model::{Net, NetCause, NetRefused, keep_limits};
 use question_lang::{Kind, MOST_QUESTIONS, Question, Target, is_single, read_questions};
 use std::alloc::{AllocError, AllocFailed, Global};
 
@@ -196,17 +197,26 @@ fn unbuilt_line(file: &File) -> Option<u32>
     earlier(ospf, bgp)
 }
 
-fn has_unbuilt(file: &File) -> bool
-    ensures { result ≡ is_some (due.unbuilt_line file.now) }
+fn runs_protocol(file: &File) -> bool
+    ensures { result ≡ not (is_plain file.now) }
 {
-    unbuilt_line(file).is_some()
+    file.ospf.is_some() || file.bgp.is_some()
 }
 
-// The number of the first file for which `verify` cannot answer yet.
-fn first_unbuilt(files: &[File]) -> Option<usize>
-    ensures { result ≡ position (λ file. is_some (due.unbuilt_line file)) files.now }
+fn find_unbuilt(files: &[File]) -> Option<usize>
+    ensures { result ≡ position (λ file. not (is_plain file)) files.now }
 {
-    files.iter().position(|file| has_unbuilt(file))
+    files.iter().position(|file| runs_protocol(file))
+}
+
+// The number of the first file for which `verify` cannot answer yet. Where there is none, no router runs a routing protocol.
+#[tactic(auto, using(crate::proofs::Deciding::all_plain))]
+fn first_unbuilt(files: &[File]) -> Option<usize>
+    ensures first { result ≡ position (λ file. not (is_plain file)) files.now }
+    ensures none { result ≡ None → runs_no_protocol files.now ≡ true }
+{
+    let found = find_unbuilt(files);
+    found
 }
 
 fn unbuilt_line_at(files: &[File], at: usize) -> u32
@@ -234,17 +244,40 @@ fn unbuilt_refusal(
     refusal(alloc, name_at(texts, at), &refused)
 }
 
-// The network of files that break no rule of networks, where `verify` can answer for it.
-fn answered_network(alloc: Global, texts: &[Text], files: List<File>) -> Result<Net, Stop>
-    ensures ok { IfOk result (λ net. due.answered_network texts.now files ≡ Ok net) }
-    ensures stop { IfErr result (λ stop. OnStop stop (λ line. due.answered_network texts.now files ≡ Err (due.refused line)) ⊥) }
+// A run that ends at the refusal of files that form no network.
+fn stop_at_network(alloc: Global, texts: &[Text], why: NetRefused) -> Stop
+    ensures { OnStop result (λ line. (why.cause ≢ NetCause.Memory) × (line ≡ due.net_refusal texts.now why)) ⊥ }
 {
-    if let Some(at) = first_unbuilt(files.as_slice()) {
-        return Err(stop_with(unbuilt_refusal(alloc, texts, files.as_slice(), at)));
+    match why.cause {
+        NetCause::Memory => Stop::Memory,
+        _ => stop_with(net_refusal(alloc, texts, why)),
     }
-    match Net::of(alloc, files)? {
-        Some(net) => Ok(net),
-        None => Err(stop_with(no_network(alloc, first_name(texts)))),
+}
+
+// The network, where `verify` can answer for it.
+fn answered_network(alloc: Global, texts: &[Text], net: Net) -> Result<Net, Stop>
+    ensures ok { IfOk result (λ answered. due.answered_network texts.now net ≡ Ok answered) }
+    ensures plain { IfOk result (λ answered. runs_no_protocol answered ≡ true) }
+    ensures stop { IfErr result (λ stop. OnStop stop (λ line. due.answered_network texts.now net ≡ Err (due.refused line)) ⊥) }
+{
+    match first_unbuilt(net.routers()) {
+        None => Ok(net),
+        Some(at) => Err(stop_with(unbuilt_refusal(alloc, texts, net.routers(), at))),
+    }
+}
+
+// The network of some files, where they form one for which `verify` can answer.
+fn network_of(alloc: Global, texts: &[Text], files: List<File>) -> Result<Net, Stop>
+    ensures ok { IfOk result (λ net. due.network_of texts.now files ≡ Ok net) }
+    ensures plain { IfOk result (λ net. runs_no_protocol net ≡ true) }
+    ensures stop { IfErr result (λ stop. OnStop stop (λ line. due.network_of texts.now files ≡ Err (due.refused line)) ⊥) }
+{
+    if !keep_limits(files.as_slice()) {
+        return Err(stop_with(no_network(alloc, first_name(texts))));
+    }
+    match Net::build(alloc, files) {
+        Ok(net) => answered_network(alloc, texts, net),
+        Err(why) => Err(stop_at_network(alloc, texts, why)),
     }
 }
 
@@ -252,13 +285,11 @@ fn answered_network(alloc: Global, texts: &[Text], files: List<File>) -> Result<
 fn parse_network(alloc: Global, texts: &[Text]) -> Result<Net, Stop>
     requires { AreSmall texts.now }
     ensures ok { IfOk result (λ net. due.network_due texts.now ≡ Ok net) }
+    ensures plain { IfOk result (λ net. runs_no_protocol net ≡ true) }
     ensures stop { IfErr result (λ stop. OnStop stop (λ line. due.network_due texts.now ≡ Err (due.refused line)) ⊥) }
 {
     let files = parse_files(alloc, texts)?;
-    match refuse(alloc, files.as_slice())? {
-        Some(why) => Err(stop_with(net_refusal(alloc, texts, why))),
-        None => answered_network(alloc, texts, files),
-    }
+    network_of(alloc, texts, files)
 }
 
 // Whether `verify` can answer the question today: whether one packet from a router reaches a router, while no link fails.
@@ -354,6 +385,22 @@ pub struct Loaded {
     pub questions: List<Question>,
 }
 
+// The network and the questions of the texts.
+fn parse(alloc: Global, texts: &[Text], asked: &Text) -> Result<Loaded, Stop>
+    requires texts { AreSmall texts.now }
+    requires asked { length asked.now.bytes ≤ MOST_BYTES }
+    ensures ok { IfOk result (λ loaded. due.texts_due texts.now asked.now ≡ Ok (due.answering loaded.net loaded.questions DEFAULT_CONFLICTS)) }
+    ensures plain { IfOk result (λ loaded. runs_no_protocol loaded.net ≡ true) }
+    ensures reach { IfOk result (λ loaded. AreReach (length loaded.net) loaded.questions) }
+    ensures answerable { IfOk result (λ loaded. AreAnswerable loaded.questions) }
+    ensures few { IfOk result (λ loaded. length loaded.questions ≤ MOST_QUESTIONS) }
+    ensures stop { IfErr result (λ stop. OnStop stop (λ line. due.texts_due texts.now asked.now ≡ Err (due.refused line)) ⊥) }
+{
+    let net = parse_network(alloc, texts)?;
+    let questions = parse_questions(alloc, asked, &net)?;
+    Ok(Loaded { net, questions })
+}
+
 /// Reads the configurations of these names and then the questions file, and parses them in this order. A read fault is
 /// answered only where a read of one of these files failed in this call, and a refusal is the first in this order. Files,
 /// network and questions are read whole; then the first question that `verify` cannot answer yet is refused.
@@ -366,6 +413,7 @@ pub fn load<F: Files>(
     ensures kept { F.contents files.new ≡ F.contents files.old }
     ensures ok { IfOk result (λ loaded. IfSome (F.contents files.old) (λ contents.
         due.files_due contents questions.now (map string_bytes names.now) ≡ Ok (due.answering loaded.net loaded.questions DEFAULT_CONFLICTS))) }
+    ensures plain { IfOk result (λ loaded. runs_no_protocol loaded.net ≡ true) }
     ensures reach { IfOk result (λ loaded. AreReach (length loaded.net) loaded.questions) }
     ensures answerable { IfOk result (λ loaded. AreAnswerable loaded.questions) }
     ensures few { IfOk result (λ loaded. length loaded.questions ≤ MOST_QUESTIONS) }
@@ -379,7 +427,5 @@ pub fn load<F: Files>(
 {
     let texts = read_texts(alloc, files, names)?;
     let asked = read_text(alloc, files, questions)?;
-    let net = parse_network(alloc, texts.as_slice())?;
-    let questions = parse_questions(alloc, &asked, &net)?;
-    Ok(Loaded { net, questions })
+    parse(alloc, texts.as_slice(), &asked)
 }

@@ -10,6 +10,7 @@ ghost use Rattle.question_lang.specs.declared.question.Question.{Question as Que
 ghost use Rattle.question_lang.specs.Single.{AreReach, IsReach};
 ghost use Rattle.mw_verify.specs.Due as due;
 ghost use Rattle.mw_verify.specs.Due.{Outcome, is_answerable};
+ghost use Rattle.net_model.specs.Network.{runs_no_protocol};
 ghost use Rattle.mw_verify.specs.Loading.{AnswersSo, AreAnswerable, IsLine};
 ghost use Rattle.mw_verify.specs.Running.{AreAnswered, IsDue, OnAnswered, OnCut, PrintsPart, StopsAt, in_order};
 ghost use Rattle.mw_verify.specs.Texts.{usage_text};
@@ -54,6 +55,7 @@ fn answer_line(
 ) -> Result<Line, AllocError>
     requires reach { IsReach (length net.now) question.now }
     requires answerable { is_answerable question.now ≡ true }
+    requires plain { runs_no_protocol net.now ≡ true }
     ensures { IfOk result (λ line. IsLine net.now questions.now number question.now line.broken line.text) }
 {
     let verdict = verdict_of(alloc, net, number, question)?;
@@ -66,6 +68,7 @@ fn answer_line(
 fn put_verdicts<O: Sink>(alloc: Global, net: &Net, questions: &[Question], out: &mut O) -> Status
     requires reach { AreReach (length net.now) questions.now }
     requires answerable { AreAnswerable questions.now }
+    requires plain { runs_no_protocol net.now ≡ true }
     requires few { length questions.now ≤ MOST_QUESTIONS }
     ensures answers { AnswersSo net.now questions.now DEFAULT_CONFLICTS result (O.taken out.old) (O.taken out.new) (Rose (O.faults out.old) (O.faults out.new)) }
     ensures writes { result ≢ Status.WriteFault → O.faults out.new ≡ O.faults out.old }

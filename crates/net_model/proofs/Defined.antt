@@ -1,11 +1,11 @@
--- What a network does not have, since its definition is not written yet.
+-- What a network does not have where no router runs a routing protocol.
 use Rattle.std.proofs.Common.{◌≡◌, ℕ, zero, suc, ◌+◌, Bool, true, false, ◌&&◌, ◌||◌, not, List, [], ◌∷◌, Option, Some, None, refl, ◌∙◌, subst}
 use Rattle.std.specs.Prelude.{filter, fold, is_some, map, option_and_then, slice_get}
 use Rattle.std.specs.List.{filter_map, list_all, list_any}
 use Rattle.ios_ast.specs.declared.file.File.{File}
 use Rattle.mw_text.specs.declared.address.Prefix.{Prefix}
 use Rattle.net_model.specs.declared.interfaces.Addressed.{Addressed}
-use Rattle.net_model.specs.Network.{all_pairs, fit_together, is_defined, is_network, is_small, names_differ, statics_connected}
+use Rattle.net_model.specs.Network.{is_plain, runs_no_protocol}
 use Rattle.net_model.specs.Interfaces.{addressed}
 use Rattle.ios_ast.specs.declared.bgp.Bgp.{Bgp}
 use Rattle.net_model.specs.Sessions.{ends_of, peerings, peerings_routers, runs_bgp, sessions}
@@ -23,14 +23,14 @@ both_none true b h = cc
 both_none false true h = cc
 both_none false false h = (refl, refl)
 
--- a file that asks for what can be computed runs no protocol
-parts : (file : File) → is_defined file ≡ true → (is_some file.ospf ≡ false) × (is_some file.bgp ≡ false)
+-- a file that is plain runs no protocol
+parts : (file : File) → is_plain file ≡ true → (is_some file.ospf ≡ false) × (is_some file.bgp ≡ false)
 parts file defined = both_none (is_some file.ospf) (is_some file.bgp) defined
 
-pub no_bgp : (files : List File) → list_all is_defined files ≡ true → list_any runs_bgp files ≡ false
+pub no_bgp : (files : List File) → runs_no_protocol files ≡ true → list_any runs_bgp files ≡ false
 no_bgp [] all = refl
 no_bgp (file ∷ rest) all =
-    let both = two (is_defined file) (list_all is_defined rest) all in
+    let both = two (is_plain file) (list_all is_plain rest) all in
     rw ((parts file both.0).1, no_bgp rest both.1) refl
   where
     two : (a b : Bool) → (a && b) ≡ true → (a ≡ true) × (b ≡ true)
@@ -54,82 +54,48 @@ peerings_routers-none all router (file ∷ rest) none =
     none_runs None h = refl
     none_runs (Some x) h = cc
 
-peerings-none : (files : List File) → list_all is_defined files ≡ true → peerings files ≡ []
+peerings-none : (files : List File) → runs_no_protocol files ≡ true → peerings files ≡ []
 unfolding peerings
 peerings-none files all = peerings_routers-none (addressed files) 0 files (no_bgp files all)
 
--- a network runs no BGP, so it has no ends of sessions
-pub no_ends : (files : List File) → list_all is_defined files ≡ true → ends_of files ≡ []
+-- without BGP there are no ends of sessions
+pub no_ends : (files : List File) → runs_no_protocol files ≡ true → ends_of files ≡ []
 unfolding ends_of sessions
 no_ends files all = rw (peerings-none files all) refl
-
--- without BGP a link is where two routers meet
-is_link-joined : (files : List File) → list_all is_defined files ≡ true → (p : Prefix) →
-    list_any (is_joined_by (addressed files) p) (addressed files) ≡ is_link (addressed files) (peerings files) p
-is_link-joined files all p = rw (peerings-none files all) (or_false _)
-  where
-    or_false : (b : Bool) → b ≡ (b || false)
-    or_false true = refl
-    or_false false = refl
-
-filter_same : (test other : Prefix → Bool) → ((p : Prefix) → test p ≡ other p) → (ps : List Prefix) →
-    filter test ps ≡ filter other ps
-filter_same test other same [] = refl
-filter_same test other same (p ∷ ps) = rw (same p, filter_same test other same ps) refl
-
--- the links of a network without BGP
-pub links_without_bgp : (files : List File) (all : List Addressed) (links : List Prefix) → all ≡ addressed files →
-    list_all is_defined files ≡ true →
-    links ≡ filter (λ p. list_any (is_joined_by all p) all) (fold put_in_order [] (map (λ x. x.subnet) all)) →
-    links ≡ links_of files
-links_without_bgp files all links same defined made =
-    let P : List Addressed → Type 0 = λ xs. links ≡ filter (λ p. list_any (is_joined_by xs p) xs) (fold put_in_order [] (map (λ x. x.subnet) xs)) in
-    subst P same made ∙ filter_same (λ p. list_any (is_joined_by (addressed files) p) (addressed files)) (is_link (addressed files) (peerings files)) (is_link-joined files defined)
-    (fold put_in_order [] (map (λ x. x.subnet) (addressed files)))
 
 two : (a b : Bool) → (a && b) ≡ true → (a ≡ true) × (b ≡ true)
 two true true h = (refl, refl)
 two true false h = cc
 two false b h = cc
 
--- all files of a network ask for what is defined
-pub all_defined : (files : List File) → is_network files ≡ true → list_all is_defined files ≡ true
-all_defined files network =
-    let tests : Bool = list_all statics_connected files && list_all is_defined files in
-    let fits : Bool = all_pairs fit_together (addressed files) && tests in
-    let named : Bool = all_pairs names_differ files && fits in
-    (two (list_all statics_connected files) (list_all is_defined files)
-    (two (all_pairs fit_together (addressed files)) tests
-    (two (all_pairs names_differ files) fits (two (is_small files) named network).1).1).1).1
-
 none_here : {A : Type 0} (o : Option A) → is_some o ≡ false → o ≡ None
 none_here None h = refl
 none_here (Some x) h = cc
 
--- a file of a network asks for what is defined
-pub defined_at : (files : List File) → list_all is_defined files ≡ true → (router : ℕ) (file : File) →
-    slice_get files router ≡ Some file → is_defined file ≡ true
+-- a file of such a network
+pub defined_at : (files : List File) → runs_no_protocol files ≡ true → (router : ℕ) (file : File) →
+    slice_get files router ≡ Some file → is_plain file ≡ true
 defined_at [] all router file found = cc
 defined_at (x ∷ xs) all zero file found =
     let same : x ≡ file = cc in
-    let P : File → Type 0 = λ f. is_defined f ≡ true in subst P same (two (is_defined x) (list_all is_defined xs) all).0
+    let P : File → Type 0 = λ f. is_plain f ≡ true in subst P same (two (is_plain x) (list_all is_plain xs) all).0
 defined_at (x ∷ xs) all (suc router) file found =
-    defined_at xs (two (is_defined x) (list_all is_defined xs) all).1 router file found
+    defined_at xs (two (is_plain x) (list_all is_plain xs) all).1 router file found
 
--- a router of a network runs neither OSPF nor BGP
-pub no_protocol : (files : List File) → is_network files ≡ true → (router : ℕ) (file : File) →
+-- such a router runs neither OSPF nor BGP
+pub no_protocol : (files : List File) → runs_no_protocol files ≡ true → (router : ℕ) (file : File) →
     slice_get files router ≡ Some file → (file.ospf ≡ None) × (file.bgp ≡ None)
 no_protocol files network router file found =
-    let here = parts file (defined_at files (all_defined files network) router file found) in
+    let here = parts file (defined_at files network router file found) in
     (none_here file.ospf here.0, none_here file.bgp here.1)
 
--- ---- no router of a network runs OSPF
+-- ---- no router runs OSPF
 
 none_of_all : {A B : Type 0} (h : A → Option B) → ((x : A) → h x ≡ None) → (xs : List A) → filter_map h xs ≡ []
 none_of_all h none [] = refl
 none_of_all h none (x ∷ xs) = rw (none x, none_of_all h none xs) refl
 
-no_ospf_at : (files : List File) → is_network files ≡ true → (x : Addressed) → ospf_at files x ≡ None
+no_ospf_at : (files : List File) → runs_no_protocol files ≡ true → (x : Addressed) → ospf_at files x ≡ None
 no_ospf_at files network x = by_file (slice_get files x.id.router) (λ file is. (no_protocol files network x.id.router file is).0)
   where
     by_file : (found : Option File) → ((file : File) → found ≡ Some file → file.ospf ≡ None) →
@@ -137,23 +103,23 @@ no_ospf_at files network x = by_file (slice_get files x.id.router) (λ file is. 
     by_file None none = refl
     by_file (Some file) none = rw (none file refl) refl
 
-no_ospf_interfaces : (files : List File) → is_network files ≡ true → ospf_interfaces files ≡ []
+no_ospf_interfaces : (files : List File) → runs_no_protocol files ≡ true → ospf_interfaces files ≡ []
 unfolding ospf_interfaces
 no_ospf_interfaces files network = none_of_all (ospf_at files) (no_ospf_at files network) (addressed files)
 
 -- it has no adjacency that is up
-pub no_up_adjacencies : (files : List File) (failures : Failures) (router : ℕ) → is_network files ≡ true →
+pub no_up_adjacencies : (files : List File) (failures : Failures) (router : ℕ) → runs_no_protocol files ≡ true →
     up_adjacencies files failures router ≡ []
 unfolding up_adjacencies adjacencies
 no_up_adjacencies files failures router network = rw (no_ospf_interfaces files network) refl
 
 -- so it sends over none
 pub no_sent_by_ospf : (files : List File) (failures : Failures) (tables : Tables) (router : ℕ) (p : Prefix) (held : OspfRec) →
-    is_network files ≡ true → sent_by_ospf files failures tables router p held ≡ []
+    runs_no_protocol files ≡ true → sent_by_ospf files failures tables router p held ≡ []
 unfolding sent_by_ospf
 no_sent_by_ospf files failures tables router p held network = rw (no_up_adjacencies files failures router network) refl
 
-pub no_sent_towards : (files : List File) (failures : Failures) (router : ℕ) (a : Addr) → is_network files ≡ true →
+pub no_sent_towards : (files : List File) (failures : Failures) (router : ℕ) (a : Addr) → runs_no_protocol files ≡ true →
     sent_towards files failures router a ≡ []
 unfolding sent_towards advertised
 no_sent_towards files failures router a network = rw (no_ospf_interfaces files network) refl

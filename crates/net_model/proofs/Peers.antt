@@ -12,7 +12,8 @@ use Rattle.ios_ast.specs.declared.file.TheConstants.{MOST_NEIGHBOURS}
 use Rattle.net_model.specs.declared.interfaces.Addressed.{Addressed}
 use Rattle.net_model.specs.declared.sessions.Peering.{Peering}
 use Rattle.net_model.specs.Interfaces.{addressed}
-use Rattle.net_model.specs.Sessions.{has_few_neighbours, has_session, peering, peerings, peerings_from, peerings_of, peerings_routers, sessions, speaks_from}
+use Rattle.net_model.specs.Limits.{has_few_interfaces, has_few_neighbours, has_cost_in_range, keeps_limits}
+use Rattle.net_model.specs.Sessions.{has_session, peering, peerings, peerings_from, peerings_of, peerings_routers, sessions, speaks_from}
 
 at_most_one : (f : Addressed → Peering) (o : Option Addressed) → length (option_map_or (λ source. f source ∷ []) o []) ≤ 1
 at_most_one f None = omega arith
@@ -39,15 +40,17 @@ few_of all router file = by_process file.bgp
     by_process (Some bgp) few =
         omega (arith, leb-true _ _ few, few_from (filter (λ x. x.id.router == router) all) router file bgp.asn 0 bgp.neighbours)
 
-few_routers : (all : List Addressed) (router : ℕ) (files : List File) → list_all has_few_neighbours files ≡ true →
+few_routers : (all : List Addressed) (router : ℕ) (files : List File) → list_all keeps_limits files ≡ true →
     length (peerings_routers all router files) ≤ 64 * length files
 few_routers all router [] few = omega arith
 few_routers all router (file ∷ rest) few =
-    let both = two (has_few_neighbours file) (list_all has_few_neighbours rest) few in
+    let both = two (keeps_limits file) (list_all keeps_limits rest) few in
+    let costs : Bool = list_all has_cost_in_range file.interfaces in
+    let here = two (has_few_neighbours file) costs (two (has_few_interfaces file) (has_few_neighbours file && costs) both.0).1 in
     omega (
       arith,
       length-append (peerings_of all router file) (peerings_routers all (router + 1) rest),
-      few_of all router file both.0,
+      few_of all router file here.0,
       few_routers all (router + 1) rest both.1,
     )
   where
@@ -61,7 +64,7 @@ filter-le p xs = omega (arith, length-filter p xs, count_by-le-length p xs)
 
 -- so a position among the sessions fits
 pub few_sessions : (files : List File) (standing : List Peering) → standing ≡ sessions files → length files ≤ 64 →
-    list_all has_few_neighbours files ≡ true → length standing ≤ 4294967295
+    list_all keeps_limits files ≡ true → length standing ≤ 4294967295
 unfolding sessions peerings
 few_sessions files standing same small few =
     let all = peerings_routers (addressed files) 0 files in

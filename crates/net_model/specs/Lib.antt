@@ -1,5 +1,7 @@
 pub mod Interfaces
 pub mod Sessions
+pub mod Connected
+pub mod Limits
 pub mod Network
 pub mod World
 pub mod Ospf

@@ -28,11 +28,12 @@ use Rattle.net_model.specs.declared.refusals.NetCause.TheVariants.{Undefined, Sa
 use Rattle.net_model.specs.declared.refusals.NetRefused.{NetRefused}
 use Rattle.net_model.specs.declared.refusals.TheConstants.{MOST_FILES}
 use Rattle.net_model.specs.declared.tracking.Said.{Said}
-use Rattle.net_model.specs.declared.tracking.TheConstants.{MOST_COMMUNITIES, MOST_NUMBERS}
+use Rattle.net_model.specs.declared.tracking.TheConstants.{MOST_COMMUNITIES}
+use Rattle.route_record.specs.declared.tracked.TheConstants.{MOST_TRACKED}
 use Rattle.net_model.specs.declared.undefined.Kind.{Kind}
 use Rattle.net_model.specs.declared.undefined.Kind.TheVariants.{Interface, AccessList, PrefixList, CommunityList, PathList, Map}
 use Rattle.net_model.specs.Interfaces.{is_loopback}
-use Rattle.net_model.specs.Network.{is_connected, overlap, reaches}
+use Rattle.net_model.specs.Connected.{is_connected, overlap, reaches}
 use Rattle.net_model.specs.Tracked.{ordered, said_communities, said_numbers, tracked_communities, tracked_numbers}
 
 -- the earlier of two lines, where there are any
@@ -293,7 +294,7 @@ abbrev pub limit_line : List File → File → Option ℕ
 limit_line before file =
     earlier (earlier (router_line before file)
     (too_many_line MOST_COMMUNITIES (tracked_communities before) (said_communities file)))
-    (too_many_line MOST_NUMBERS (tracked_numbers before) (said_numbers file))
+    (too_many_line MOST_TRACKED (tracked_numbers before) (said_numbers file))
 
 -- ---- the first refusal
 

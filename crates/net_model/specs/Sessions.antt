@@ -1,12 +1,11 @@
 -- Ends of BGP sessions (RFC 4271, section 8; Cisco IOS, `neighbor remote-as` and `neighbor update-source`).
-use Rattle.std.specs.Prelude.{ℕ, ◌+◌, ◌==◌, ◌&&◌, ◌||◌, Bool, true, false, not, List, [], ◌∷◌, ◌++◌, filter, is_some, length, map, nat_le, position, slice_get, Option, option_and_then, unwrap_or, if◌then◌else◌}
+use Rattle.std.specs.Prelude.{ℕ, ◌+◌, ◌==◌, ◌&&◌, ◌||◌, Bool, true, false, not, List, [], ◌∷◌, ◌++◌, filter, is_some, length, map, position, slice_get, Option, option_and_then, unwrap_or, if◌then◌else◌}
 use Rattle.std.specs.List.{find, list_any}
 use Rattle.std.specs.Option.{option_map_or}
 use Rattle.mw_text.specs.Address.{covers, same_prefix}
 use Rattle.mw_text.specs.Text.{same_text}
 use Rattle.ios_ast.specs.declared.bgp.Neighbour.{Neighbour}
 use Rattle.ios_ast.specs.declared.file.File.{File}
-use Rattle.ios_ast.specs.declared.file.TheConstants.{MOST_NEIGHBOURS}
 use Rattle.net_model.specs.declared.interfaces.Addressed.{Addressed}
 use Rattle.net_model.specs.declared.sessions.Far.{Far}
 use Rattle.net_model.specs.declared.sessions.Far.TheVariants.{Outside, Inside}
@@ -51,10 +50,6 @@ peerings_from own router file asn at (neighbour ∷ rest) =
 abbrev pub peerings_of : List Addressed → ℕ → File → List Peering
 peerings_of all router file =
     option_map_or (λ bgp. peerings_from (filter (λ x. x.id.router == router) all) router file bgp.asn 0 bgp.neighbours) file.bgp []
-
--- the router has not too many neighbour lines
-abbrev pub has_few_neighbours : File → Bool
-has_few_neighbours file = option_map_or (λ bgp. nat_le (length bgp.neighbours) MOST_NEIGHBOURS) file.bgp true
 
 -- those of the routers from that number on
 abbrev pub peerings_routers : List Addressed → ℕ → List File → List Peering

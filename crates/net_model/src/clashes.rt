@@ -10,7 +10,7 @@ ghost use Rattle.net_model.specs.Refusals as refusals;
 
 use crate::interfaces::is_loopback_name;
 use crate::lines::{earlier, line_if};
-use crate::network::prefixes_overlap;
+use crate::connected::prefixes_overlap;
 use ios_ast::{File, IfAddr, Iface};
 use mw_text::{Addr, prefix_of, same_bytes};
 

@@ -2,8 +2,10 @@
 
 ghost use Rattle.std.specs.Prelude.{◌≡◌, ◌≤◌, ◌++◌, IfOk, true, OnOk, length};
 ghost use Rattle.net_model.specs.Interfaces.{is_loopback, addressed_iface, addressed_from, addressed};
-ghost use Rattle.net_model.specs.Network.{is_small};
+ghost use Rattle.std.specs.List.{list_all};
+ghost use Rattle.net_model.specs.Limits.{keeps_limits};
 
+use crate::refusals::MOST_FILES;
 use ios_ast::{File, IfAddr, Iface, MOST_INTERFACES};
 use mw_text::{Addr, List, Prefix, prefix_of};
 use std::alloc::{AllocError, Global};
@@ -68,7 +70,8 @@ fn add_router(
 
 /// All interfaces of the files that have an address, in the order of the files.
 pub fn addressed_of(alloc: Global, files: &[File]) -> Result<List<Addressed>, AllocError>
-    requires { is_small files.now ≡ true }
+    requires few { length files.now ≤ MOST_FILES }
+    requires limits { list_all keeps_limits files.now ≡ true }
     ensures { IfOk result (λ all. all ≡ addressed files.now) }
 {
     let mut all = List::new(alloc);

@@ -3,9 +3,11 @@
 
 pub mod adjacencies;
 pub mod clashes;
+pub mod connected;
 pub mod connections;
 pub mod interfaces;
 pub mod laws;
+pub mod limits;
 pub mod lines;
 pub mod links;
 pub mod network;
@@ -20,7 +22,8 @@ pub mod undefined;
 
 pub use adjacencies::Adjacency;
 pub use interfaces::{Addressed, IfaceId};
-pub use network::{MOST_ROUTERS, Net};
+pub use limits::keep_limits;
+pub use network::Net;
 pub use ospf::OspfInterface;
 pub use refusals::{MOST_FILES, NetCause, NetRefused, refuse};
 pub use sessions::{Far, Peering, SessionEnd};

@@ -1,32 +1,52 @@
-//! The network of a list of files, where they form one.
+//! The network of a list of files.
 
-ghost use Rattle.std.specs.Prelude.{◌≡◌, ◌≤◌, nat_le, IfOk, MatchOption, IfSome, ◌<◌, IsTrue, position, true, false, length, ◌&&◌};
-ghost use Rattle.std.specs.List.{list_all, list_any};
+ghost use Rattle.std.specs.Prelude.{All, ◌≡◌, ◌≢◌, ◌≤◌, ◌<◌, IfOk, IfErr, IfSome, None, Some, position, true, length};
+ghost use Rattle.std.specs.List.{list_all};
 ghost use Rattle.mw_text.specs.Text.{same_text};
-ghost use Rattle.net_model.specs.Network.{names_differ, all_pairs, overlap, fit_together, reaches, is_connected, statics_connected, is_small, is_network, is_defined};
-ghost use Rattle.net_model.specs.Interfaces.{addressed};
-ghost use Rattle.net_model.specs.Kept.{IsKept};
-ghost use Rattle.net_model.specs.Sessions.{ends_of};
-ghost use Rattle.net_model.specs.World.{links_of};
+ghost use Rattle.net_model.specs.Exports.{router_id};
+ghost use Rattle.net_model.specs.Interfaces as interfaces;
+ghost use Rattle.net_model.specs.Kept.{IsKept, ids_from};
+ghost use Rattle.net_model.specs.Limits.{keeps_limits};
+ghost use Rattle.net_model.specs.Network.{IsNetwork};
+ghost use Rattle.net_model.specs.Ospf as ospf;
+ghost use Rattle.net_model.specs.Refusals.{first_refusal};
+ghost use Rattle.net_model.specs.Sessions as sessions;
+ghost use Rattle.net_model.specs.Tracked as values;
+ghost use Rattle.net_model.specs.World as world;
 
-use crate::interfaces::{Addressed, addressed_of};
-use crate::links::link_prefixes;
-use crate::sessions::SessionEnd;
-use ios_ast::{File, Iface, MOST_INTERFACES, StaticRoute, Via};
-use mw_text::{Addr, List, Prefix, contains, prefix_of, same_bytes};
+use crate::adjacencies::{Adjacency, adjacencies};
+use crate::interfaces::{Addressed, IfaceId, addressed_of};
+use crate::links::links_of;
+use crate::ospf::{OspfInterface, advertised, ospf_cost, ospf_interfaces};
+use crate::refusals::{MOST_FILES, NetCause, NetRefused, refuse};
+use crate::router_ids::router_id;
+use crate::sessions::{SessionEnd, ends_of, peerings};
+use crate::states::{is_up_at, owner, subnet_of};
+use crate::tracking::tracked_of;
+use ios_ast::File;
+use mw_text::{Addr, List, Prefix, same_bytes};
+use route_record::{Failures, Tracked};
 use std::alloc::{AllocError, Global};
 use std::marker::Model;
-
-/// How many routers a network has at most.
-pub const MOST_ROUTERS: usize = 32;
 
 /// A network. Contracts see the list of its files; all else that a network has follows from these.
 #[derive(Drop)]
 pub struct Net {
     routers: List<File>,
+    parts: Parts,
+}
+
+// What a network keeps beside its files.
+#[derive(Drop)]
+struct Parts {
     addresses: List<Addressed>,
     links: List<Prefix>,
     ends: List<SessionEnd>,
+    running: List<OspfInterface>,
+    adjacencies: List<Adjacency>,
+    advertised: List<Prefix>,
+    tracked: Tracked,
+    ids: List<Addr>,
 }
 
 impl Model for Net {
@@ -38,135 +58,7 @@ impl Model for Net {
 
     ghost view = { λ net. net.routers };
 
-    ghost invariant = { λ net. IsKept net.routers net.addresses net.links net.ends };
-}
-
-fn few_interfaces(files: &[File]) -> bool
-    ensures { result ≡ list_all (λ file. nat_le (length file.interfaces) MOST_INTERFACES) files.now }
-{
-    files
-        .iter()
-        .all(|file| file.interfaces.items.len() <= MOST_INTERFACES)
-}
-
-/// Whether there are not too many routers, nor interfaces of one router.
-pub fn few_enough(files: &[File]) -> bool
-    ensures { result ≡ is_small files.now }
-{
-    files.len() <= MOST_ROUTERS && few_interfaces(files)
-}
-
-fn differs_from_all(a: &File, rest: &[File]) -> bool
-    ensures { result ≡ list_all (names_differ a.now) rest.now }
-{
-    rest.iter().all(|b| !same_bytes(a.hostname.as_slice(), b.hostname.as_slice()))
-}
-
-fn all_names_differ(files: &[File]) -> bool
-    ensures { result ≡ all_pairs names_differ files.now }
-{
-    for (at, file) in files.iter().enumerate() {
-        let (_, rest) = files.split_at(at + 1);
-        if !differs_from_all(file, rest) {
-            return false;
-        }
-    }
-    true
-}
-
-/// Whether one of two prefixes contains the other.
-pub fn prefixes_overlap(p: &Prefix, q: &Prefix) -> bool
-    ensures { result ≡ overlap p.now q.now }
-{
-    contains(p, q.addr) || contains(q, p.addr)
-}
-
-fn two_fit(a: &Addressed, b: &Addressed) -> bool
-    ensures { result ≡ fit_together a.now b.now }
-{
-    let shared = a.subnet == b.subnet && a.id.router != b.id.router && !(a.loopback || b.loopback);
-    a.addr != b.addr && (!prefixes_overlap(&a.subnet, &b.subnet) || shared)
-}
-
-fn fits_all(a: &Addressed, rest: &[Addressed]) -> bool
-    ensures { result ≡ list_all (fit_together a.now) rest.now }
-{
-    rest.iter().all(|b| two_fit(a, b))
-}
-
-fn all_fit(addresses: &[Addressed]) -> bool
-    ensures { result ≡ all_pairs fit_together addresses.now }
-{
-    for (at, address) in addresses.iter().enumerate() {
-        let (_, rest) = addresses.split_at(at + 1);
-        if !fits_all(address, rest) {
-            return false;
-        }
-    }
-    true
-}
-
-fn is_on_subnet(iface: &Iface, a: Addr) -> bool
-    ensures { result ≡ reaches a iface.now }
-{
-    match &iface.address {
-        None => false,
-        Some(own) => contains(&prefix_of(own.addr, own.len), a),
-    }
-}
-
-/// Whether the address is on the subnet of an interface.
-pub fn some_reaches(interfaces: &[Iface], a: Addr) -> bool
-    ensures { result ≡ list_any (reaches a) interfaces.now }
-{
-    interfaces.iter().any(|iface| is_on_subnet(iface, a))
-}
-
-/// Whether the address is on the subnet of an interface of that name.
-pub fn named_reaches(interfaces: &[Iface], name: &[u8], a: Addr) -> bool
-    ensures { result ≡ list_any (λ iface. same_text iface.name name.now && reaches a iface) interfaces.now }
-{
-    interfaces.iter().any(|iface| same_bytes(iface.name.as_slice(), name) && is_on_subnet(iface, a))
-}
-
-/// Whether the next hop of a static route is on a subnet of its router, that of the interface which it names.
-pub fn route_is_connected(interfaces: &[Iface], route: &StaticRoute) -> bool
-    ensures { result ≡ is_connected interfaces.now route.now }
-{
-    match &route.via {
-        Via::Null0 => true,
-        Via::Next(a) => some_reaches(interfaces, *a),
-        Via::Out(named, a) => named_reaches(interfaces, named.name.as_slice(), *a),
-    }
-}
-
-fn routes_are_connected(file: &File) -> bool
-    ensures { result ≡ statics_connected file.now }
-{
-    let interfaces = file.interfaces.as_slice();
-    file.statics
-        .items
-        .iter()
-        .all(|route| route_is_connected(interfaces, route))
-}
-
-fn all_routes_connected(files: &[File]) -> bool
-    ensures { result ≡ list_all statics_connected files.now }
-{
-    files.iter().all(|file| routes_are_connected(file))
-}
-
-// Whether all that the file asks for can be computed.
-fn asks_for_defined(file: &File) -> bool
-    ensures { result ≡ is_defined file.now }
-{
-    file.ospf.is_none() && file.bgp.is_none()
-}
-
-fn all_defined(files: &[File]) -> bool
-    ensures { result ≡ list_all is_defined files.now }
-{
-    files.iter().all(|file| asks_for_defined(file))
+    ghost invariant = { λ net. IsKept net.routers net.parts };
 }
 
 fn place_of(files: &[File], name: &[u8]) -> Option<usize>
@@ -178,92 +70,196 @@ fn place_of(files: &[File], name: &[u8]) -> Option<usize>
         .position(|file| same_bytes(file.hostname.as_slice(), name))
 }
 
-// What a network keeps beside its files.
-#[derive(Drop)]
-struct Parts {
-    addresses: List<Addressed>,
-    links: List<Prefix>,
-    ends: List<SessionEnd>,
+fn all_links(
+    alloc: Global,
+    files: &[File],
+    addresses: &[Addressed],
+) -> Result<List<Prefix>, AllocError>
+    requires addresses { addresses.now ≡ interfaces.addressed files.now }
+    requires few { length files.now ≤ MOST_FILES }
+    requires limits { list_all keeps_limits files.now ≡ true }
+    ensures { IfOk result (λ links. links ≡ world.links_of files.now) }
+{
+    let peers = peerings(alloc, files, addresses)?;
+    let items = links_of(alloc, files, addresses, peers.as_slice())?;
+    Ok(List { items })
 }
 
-#[tactic(auto, using(crate::proofs::Defined::no_ends))]
-fn no_sessions(alloc: Global, files: &[File]) -> List<SessionEnd>
-    requires { list_all is_defined files.now ≡ true }
-    ensures { result ≡ ends_of files.now }
+fn all_ids(
+    alloc: Global,
+    files: &[File],
+    addresses: &[Addressed],
+) -> Result<List<Addr>, AllocError>
+    requires addresses { addresses.now ≡ interfaces.addressed files.now }
+    requires few { length files.now ≤ MOST_FILES }
+    ensures { IfOk result (λ ids. ids ≡ ids_from files.now 0 files.now) }
+{
+    let mut ids = List::new(alloc);
+    for (router, _) in files.iter().enumerate() {
+        ids.items
+            .push(router_id(alloc, files, addresses, router as u32)?)?;
+    }
+    Ok(ids)
+}
+
+#[tactic(auto, using(crate::proofs::Ids::id_at, crate::proofs::Ids::as_many))]
+fn id_at(files: &[File], ids: &[Addr], router: u32) -> Addr
+    requires ids { ids.now ≡ ids_from files.now 0 files.now }
+    requires within { router < length files.now }
+    ensures { result ≡ router_id files.now router }
 {
     let _routers = files.len();
-    List::new(alloc)
+    ids[router as usize]
 }
 
-// What a network of these files keeps. None where they are none.
-fn parts_of(alloc: Global, files: &[File]) -> Result<Option<Parts>, AllocError>
-    ensures { IfOk result (λ found. MatchOption found (is_network files.now ≡ false)
-        (λ parts. IsKept files.now parts.addresses parts.links parts.ends)) }
+// What a network of these files keeps.
+fn parts_of(alloc: Global, files: &[File]) -> Result<Parts, AllocError>
+    requires network { IsNetwork files.now }
+    requires few { length files.now ≤ MOST_FILES }
+    ensures { IfOk result (IsKept files.now) }
 {
-    if !few_enough(files) {
-        return Ok(None);
-    }
     let addresses = addressed_of(alloc, files)?;
-    if !(all_names_differ(files) && all_fit(addresses.as_slice()) && all_routes_connected(files)) {
-        return Ok(None);
-    }
-    if !all_defined(files) {
-        return Ok(None);
-    }
-    let links = link_prefixes(alloc, files, addresses.as_slice())?;
-    Ok(Some(Parts {
+    let links = all_links(alloc, files, addresses.as_slice())?;
+    let ends = ends_of(alloc, files, addresses.as_slice())?;
+    let running = ospf_interfaces(alloc, files, addresses.as_slice())?;
+    let adjacencies = adjacencies(alloc, files, running.as_slice())?;
+    let advertised = advertised(alloc, files, running.as_slice())?;
+    let tracked = tracked_of(alloc, files, addresses.as_slice())?;
+    let ids = all_ids(alloc, files, addresses.as_slice())?;
+    Ok(Parts {
         addresses,
         links,
-        ends: no_sessions(alloc, files),
-    }))
+        ends,
+        running,
+        adjacencies,
+        advertised,
+        tracked,
+        ids,
+    })
 }
 
 impl Net {
-    /// The network of these files. None exactly where they are none: two hostnames or two addresses are the same, two
-    /// subnets clash, a static route has a next hop that is on no subnet of its router, the routers are too many, or a
-    /// file asks for what cannot be computed yet: OSPF or BGP.
-    pub fn of(alloc: Global, files: List<File>) -> Result<Option<Net>, AllocError>
-        ensures { IfOk result (λ found. MatchOption found (is_network files ≡ false) (λ net. (net ≡ files) × (is_network files ≡ true))) }
+    /// The network of these files, each of one router; or why they form none, by the first rule that they break, with its
+    /// file and line. Each file keeps the limits of a file and the range of OSPF costs, as every file that was read does.
+    #[tactic(auto, using(crate::proofs::Few::few_files))]
+    pub fn build(alloc: Global, files: List<File>) -> Result<Net, NetRefused>
+        requires limits { list_all keeps_limits files ≡ true }
+        ensures ok { IfOk result (λ net. (net ≡ files) × (first_refusal files ≡ None)) }
+        ensures refused { IfErr result (λ why. why.cause ≢ NetCause.Memory → first_refusal files ≡ Some why) }
     {
-        match parts_of(alloc, files.as_slice())? {
-            None => Ok(None),
-            Some(parts) => Ok(Some(Net {
-                routers: files,
-                addresses: parts.addresses,
-                links: parts.links,
-                ends: parts.ends,
-            })),
+        if let Some(why) = refuse(alloc, files.as_slice())? {
+            return Err(why);
         }
+        let parts = parts_of(alloc, files.as_slice())?;
+        Ok(Net {
+            routers: files,
+            parts,
+        })
     }
 
     /// The routers, in the order of the files.
     pub fn routers(&self) -> &[File]
         ensures all { result.now ≡ self.now }
-        ensures few { length self.now ≤ MOST_ROUTERS }
-        ensures network { is_network self.now ≡ true }
+        ensures few { length self.now ≤ MOST_FILES }
+        ensures limits { list_all keeps_limits self.now ≡ true }
+        ensures unrefused { first_refusal self.now ≡ None }
     {
         self.routers.as_slice()
     }
 
     /// The interfaces that have an address, in the order of the files.
     pub fn addresses(&self) -> &[Addressed]
-        ensures { result.now ≡ addressed self.now }
+        ensures { result.now ≡ interfaces.addressed self.now }
     {
-        self.addresses.as_slice()
+        self.parts.addresses.as_slice()
     }
 
     /// The prefixes of the links, ascending: a link is named by its place here.
     pub fn link_prefixes(&self) -> &[Prefix]
-        ensures { result.now ≡ links_of self.now }
+        ensures { result.now ≡ world.links_of self.now }
     {
-        self.links.as_slice()
+        self.parts.links.as_slice()
     }
 
     /// The ends of all BGP sessions, by router and then by neighbour line.
     pub fn ends(&self) -> &[SessionEnd]
-        ensures { result.now ≡ ends_of self.now }
+        ensures { result.now ≡ sessions.ends_of self.now }
     {
-        self.ends.as_slice()
+        self.parts.ends.as_slice()
+    }
+
+    /// The interfaces that run OSPF, shut down or not, in the order of the files.
+    #[tactic(auto, using(crate::proofs::Costs::interface_costs))]
+    pub fn ospf_interfaces(&self) -> &[OspfInterface]
+        ensures value { result.now ≡ ospf.ospf_interfaces self.now }
+        ensures costs { All (λ x. (0 < x.cost) × (x.cost ≤ 65535)) (ospf.ospf_interfaces self.now) }
+    {
+        self.parts.running.as_slice()
+    }
+
+    /// All OSPF adjacencies while no link fails, by `from` and then by `to`.
+    #[tactic(auto, using(crate::proofs::Costs::adjacency_costs))]
+    pub fn adjacencies(&self) -> &[Adjacency]
+        ensures value { result.now ≡ ospf.adjacencies self.now }
+        ensures costs { All (λ a. (0 < a.cost) × (a.cost ≤ 65535)) (ospf.adjacencies self.now) }
+    {
+        self.parts.adjacencies.as_slice()
+    }
+
+    /// Every prefix that some interface advertises by OSPF, ascending, each once.
+    pub fn advertised(&self) -> &[Prefix]
+        ensures { result.now ≡ ospf.advertised self.now }
+    {
+        self.parts.advertised.as_slice()
+    }
+
+    /// The communities, AS numbers and cluster identifiers that the files name.
+    pub fn tracked(&self) -> &Tracked
+        ensures { result.now ≡ values.tracked_of self.now }
+    {
+        &self.parts.tracked
+    }
+
+    /// The BGP identifier of a router (RFC 4271, section 4.2).
+    pub fn bgp_id(&self, router: u32) -> Addr
+        requires within { router < length self.now }
+        ensures { result ≡ router_id self.now router }
+    {
+        id_at(self.routers(), self.parts.ids.as_slice(), router)
+    }
+
+    /// The interface that has the address, shut down or not. None exactly where there is none.
+    pub fn owner(&self, a: Addr) -> Option<IfaceId>
+        ensures { result ≡ interfaces.owner self.now a }
+    {
+        owner(self.routers(), self.addresses(), a)
+    }
+
+    /// The subnet of an interface, shut down or not, that contains the address. None exactly where there is none.
+    pub fn subnet_of(&self, a: Addr) -> Option<Prefix>
+        ensures { result ≡ interfaces.subnet_of self.now a }
+    {
+        subnet_of(self.routers(), self.addresses(), a)
+    }
+
+    /// Whether the interface has an address, is not shut down, and its subnet is no failed link.
+    pub fn is_up(&self, failures: &Failures, i: IfaceId) -> bool
+        ensures { result ≡ ospf.is_up_at self.now failures.now i }
+    {
+        is_up_at(
+            self.routers(),
+            self.addresses(),
+            self.link_prefixes(),
+            failures,
+            i,
+        )
+    }
+
+    /// The OSPF output cost of an interface. None exactly where it does not run OSPF.
+    pub fn ospf_cost(&self, i: IfaceId) -> Option<u32>
+        ensures { result ≡ ospf.ospf_cost self.now i }
+    {
+        ospf_cost(self.routers(), self.ospf_interfaces(), i)
     }
 
     /// The router of that name. None exactly where there is none.

@@ -46,6 +46,20 @@ pub struct NetRefused {
     pub cause: NetCause,
 }
 
+impl From<AllocError> for NetRefused {
+    ghost use Rattle.net_model.specs.declared.refusals.NetCause.TheVariants.{Memory};
+
+    ghost from_gives = { λ _ refused. refused.cause ≡ Memory };
+
+    fn from(_error: AllocError) -> NetRefused {
+        NetRefused {
+            file: 0,
+            line: 0,
+            cause: NetCause::Memory,
+        }
+    }
+}
+
 // The first line of a file, which stands after some of the files, that breaks the rule.
 fn broken_line(
     alloc: Global,

@@ -5,6 +5,7 @@ ghost use Rattle.std.specs.List.{find, list_all, list_any};
 ghost use Rattle.std.specs.Option.{option_map_or};
 ghost use Rattle.mw_text.specs.Text.{same_text};
 ghost use Rattle.net_model.specs.Interfaces.{addressed};
+ghost use Rattle.net_model.specs.Limits.{keeps_limits};
 ghost use Rattle.net_model.specs.Sessions as sessions;
 
 use crate::interfaces::{Addressed, IfaceId};
@@ -125,7 +126,7 @@ fn add_router(
     router: u32,
     file: &File,
 ) -> Result<(), AllocError>
-    requires few { sessions.has_few_neighbours file.now ≡ true }
+    requires limits { keeps_limits file.now ≡ true }
     ensures { OnOk result (out.new ≡ out.old ++ sessions.peerings_of addresses.now router file.now) }
 {
     match &file.bgp {
@@ -137,22 +138,6 @@ fn add_router(
     }
 }
 
-fn has_few_neighbours(file: &File) -> bool
-    ensures { result ≡ sessions.has_few_neighbours file.now }
-{
-    match &file.bgp {
-        None => true,
-        Some(bgp) => bgp.neighbours.as_slice().len() <= MOST_NEIGHBOURS,
-    }
-}
-
-/// Whether no router has too many neighbour lines.
-pub fn few_neighbours(files: &[File]) -> bool
-    ensures { result ≡ list_all sessions.has_few_neighbours files.now }
-{
-    files.iter().all(|file| has_few_neighbours(file))
-}
-
 /// All neighbour lines that have an interface to speak from, by router and then by line.
 #[tactic(auto, unfolding(crate::specs::Sessions::peerings))]
 pub fn peerings(
@@ -162,7 +147,7 @@ pub fn peerings(
 ) -> Result<List<Peering>, AllocError>
     requires addresses { addresses.now ≡ addressed files.now }
     requires few { length files.now ≤ MOST_FILES }
-    requires few_neighbours { list_all sessions.has_few_neighbours files.now ≡ true }
+    requires limits { list_all keeps_limits files.now ≡ true }
     ensures { IfOk result (λ all. all ≡ sessions.peerings files.now) }
 {
     let mut all = List::new(alloc);
@@ -306,7 +291,7 @@ pub fn ends_of(
 ) -> Result<List<SessionEnd>, AllocError>
     requires addresses { addresses.now ≡ addressed files.now }
     requires few { length files.now ≤ MOST_FILES }
-    requires few_neighbours { list_all sessions.has_few_neighbours files.now ≡ true }
+    requires limits { list_all keeps_limits files.now ≡ true }
     ensures { IfOk result (λ all. all ≡ sessions.ends_of files.now) }
 {
     let peers = peerings(alloc, files, addresses)?;

@@ -19,7 +19,7 @@ use Rattle.route_record.specs.declared.Tables.{Tables}
 use Rattle.net_model.specs.declared.interfaces.Addressed.{Addressed}
 use Rattle.net_model.specs.Interfaces.{addressed}
 use Rattle.net_model.proofs.Defined.{no_protocol}
-use Rattle.net_model.specs.Network.{is_network}
+use Rattle.net_model.specs.Network.{runs_no_protocol}
 use Rattle.net_model.specs.Decisions.{DecidedByBgp}
 use Rattle.net_model.specs.Entries.{bgp_entry, entry_with, ospf_entry, own_is_as_good, table_entry}
 use Rattle.net_model.specs.OspfRoutes.{held_by_ospf}
@@ -64,7 +64,7 @@ plain_entry files router file p slot ospf bgp =
     ap₂ (λ b o. least_distance (plain ++ b ++ o)) none own ∙ ap least_distance (append-nil (plain ++ []) ∙ append-nil plain)
 
 -- slots that are those of their places are a stable routing
-pub stable-from_places : (files : List File) (d : Addr) (slots : List Slot) (environment : Environment) → is_network files ≡ true →
+pub stable-from_places : (files : List File) (d : Addr) (slots : List Slot) (environment : Environment) → runs_no_protocol files ≡ true →
     length slots ≡ LENGTHS * length files →
     ((k : ℕ) (slot : Slot) → slice_get slots k ≡ Some slot → IsSlotAt files d k slot) →
     Stable files d no_failures environment (record { slots = slots })
@@ -89,7 +89,7 @@ stable-from_places files d slots environment network size each = record {
 }
 
 -- a slot of a stable routing is determined by its three equations
-pub slot-of_stable : (files : List File) (d : Addr) (environment : Environment) (tables : Tables) → is_network files ≡ true →
+pub slot-of_stable : (files : List File) (d : Addr) (environment : Environment) (tables : Tables) → runs_no_protocol files ≡ true →
     Stable files d no_failures environment tables →
     (k : ℕ) (slot : Slot) → slice_get tables.slots k ≡ Some slot → IsSlotAt files d k slot
 slot-of_stable files d environment tables network stable k slot is_slot file is_file =
@@ -110,7 +110,7 @@ slot-of_stable files d environment tables network stable k slot is_slot file is_
     (holds.rib ∙ plain_entry files (k / LENGTHS) file p slot ospf bgp)
 
 -- no other routing is stable
-pub stable-only : (files : List File) (d : Addr) (slots : List Slot) (environment : Environment) (other : Tables) → is_network files ≡ true →
+pub stable-only : (files : List File) (d : Addr) (slots : List Slot) (environment : Environment) (other : Tables) → runs_no_protocol files ≡ true →
     length slots ≡ LENGTHS * length files →
     ((k : ℕ) (slot : Slot) → slice_get slots k ≡ Some slot → IsSlotAt files d k slot) →
     Stable files d no_failures environment other → other ≡ record { slots = slots }

@@ -1,8 +1,9 @@
 //! The tables of a network of connected and static routes, no link of which has failed.
 
-ghost use Rattle.std.specs.Prelude.{◌≡◌, IfOk};
+ghost use Rattle.std.specs.Prelude.{◌≡◌, IfOk, true};
 ghost use Rattle.route_record.specs.declared.Environment.{Environment};
 ghost use Rattle.route_record.specs.declared.Tables.{Tables as TablesOf};
+ghost use Rattle.net_model.specs.Network.{runs_no_protocol};
 ghost use Rattle.net_model.specs.World.{no_failures};
 ghost use Rattle.net_model.specs.Routing.{candidates, closer, least_distance};
 ghost use Rattle.net_model.specs.Stable.{Stable};
@@ -72,9 +73,10 @@ fn slot_of(
     })
 }
 
-/// The one stable routing of the network for the destination `d` where no link has failed. In a network of today no
-/// router runs OSPF or BGP.
+/// The one stable routing for the destination `d` of a network in which no router runs OSPF or BGP, while no link has
+/// failed.
 pub fn tables_of(alloc: Global, net: &Net, d: Addr) -> Result<Tables, AllocError>
+    requires plain { runs_no_protocol net.now ≡ true }
     ensures stable { IfOk result (λ tables. (environment : Environment) → Stable net.now d no_failures environment tables) }
     ensures only { IfOk result (λ tables. (environment : Environment) (other : TablesOf) →
         Stable net.now d no_failures environment other → other ≡ tables) }

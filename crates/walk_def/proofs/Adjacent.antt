@@ -11,14 +11,14 @@ use Rattle.route_record.specs.declared.Slot.{Slot}
 use Rattle.route_record.specs.declared.World.{World}
 use Rattle.net_model.specs.declared.interfaces.Addressed.{Addressed}
 use Rattle.net_model.proofs.Defined.{no_sent_by_ospf, no_sent_towards}
-use Rattle.net_model.specs.Network.{is_network}
+use Rattle.net_model.specs.Network.{runs_no_protocol}
 use Rattle.question_lang.specs.declared.walk.Hop.{Hop}
 use Rattle.question_lang.specs.Hops.{bgp_hops, ospf_hops, send_over, send_adjacent}
 use Rattle.net_model.specs.Sending.{sent_by_ospf, sent_towards}
 use Rattle.std.specs.Prelude.{map}
 
 -- an OSPF entry sends nowhere
-pub ospf_hops_none : (files : List File) (world : World) (router : ℕ) (p : Prefix) (slot : Slot) → is_network files ≡ true →
+pub ospf_hops_none : (files : List File) (world : World) (router : ℕ) (p : Prefix) (slot : Slot) → runs_no_protocol files ≡ true →
     ospf_hops files world router p slot ≡ []
 ospf_hops_none files world router p slot network = by_held slot.ospf where
   by_held : (held : Option OspfRec) →
@@ -27,7 +27,7 @@ ospf_hops_none files world router p slot network = by_held slot.ospf where
   by_held (Some held) = rw (no_sent_by_ospf files world.failures world.tables router p held network) refl
 
 -- a BGP entry sends to a next hop on a subnet of the router alone
-pub bgp_hops_over : (files : List File) (world : World) (up own : List Addressed) (router : ℕ) (slot : Slot) → is_network files ≡ true →
+pub bgp_hops_over : (files : List File) (world : World) (up own : List Addressed) (router : ℕ) (slot : Slot) → runs_no_protocol files ≡ true →
     bgp_hops files world up own router slot
     ≡ option_map_or (λ held. cond (list_any (λ x. covers x.subnet held.next_hop) own)
     (send_over files world.packet up own held.next_hop) []) slot.bgp []

@@ -27,7 +27,7 @@ use Rattle.net_model.specs.declared.interfaces.Addressed.{Addressed}
 use Rattle.net_model.specs.declared.interfaces.IfaceId.{IfaceId}
 use Rattle.net_model.specs.Interfaces.{addressed, addressed_from, addressed_routers, addressed_iface}
 use Rattle.walk_def.proofs.Adjacent.{bgp_hops_over, ospf_hops_none}
-use Rattle.net_model.specs.Network.{is_network}
+use Rattle.net_model.specs.Network.{runs_no_protocol}
 use Rattle.net_model.specs.Routing.{static_routes, up_interfaces}
 use Rattle.net_model.specs.World.{is_up}
 use Rattle.question_lang.specs.declared.walk.End.{End}
@@ -156,12 +156,12 @@ connected_inside bound files packet up own p all = by_out (find (λ x. same_pref
   by_out (Some out) = one_inside bound _ (out_inside bound files packet up out.id p packet.dst End.Delivered all refl)
 
 -- no hop goes over an adjacency
-ospf_inside : (bound : ℕ) (files : List File) (world : World) (router : ℕ) (p : Prefix) (slot : Slot) → is_network files ≡ true →
+ospf_inside : (bound : ℕ) (files : List File) (world : World) (router : ℕ) (p : Prefix) (slot : Slot) → runs_no_protocol files ≡ true →
     list_all (is_inside bound) (ospf_hops files world router p slot) ≡ true
 ospf_inside bound files world router p slot network = rw (ospf_hops_none files world router p slot network) refl
 
 bgp_inside : (bound : ℕ) (files : List File) (world : World) (up own : List Addressed) (router : ℕ) (slot : Slot) →
-    list_all (of_router_below bound) up ≡ true → is_network files ≡ true →
+    list_all (of_router_below bound) up ≡ true → runs_no_protocol files ≡ true →
     list_all (is_inside bound) (bgp_hops files world up own router slot) ≡ true
 bgp_inside bound files world up own router slot all network =
     rw (bgp_hops_over files world up own router slot network) (by_held slot.bgp)
@@ -176,7 +176,7 @@ bgp_inside bound files world up own router slot all network =
     by_held (Some held) = by_next (list_any (λ x. covers x.subnet held.next_hop) own) held.next_hop
 
 entry_inside : (bound : ℕ) (files : List File) (world : World) (up own : List Addressed) (router : ℕ) (file : File) (len : ℕ) (slot : Slot) (entry : RibEntry) →
-    list_all (of_router_below bound) up ≡ true → is_network files ≡ true →
+    list_all (of_router_below bound) up ≡ true → runs_no_protocol files ≡ true →
     list_all (is_inside bound) (entry_hops files world up own router file (len, slot, entry)) ≡ true
 entry_inside bound files world up own router file len slot entry all network = by_source entry.source where
   by_source : (source : RibSource) →
@@ -190,7 +190,7 @@ entry_inside bound files world up own router file len slot entry all network = b
   by_source Ibgp = bgp_inside bound files world up own router slot all network
 
 over_inside_all : (bound : ℕ) (files : List File) (world : World) (up own : List Addressed) (router : ℕ) (file : File) →
-    list_all (of_router_below bound) up ≡ true → is_network files ≡ true →
+    list_all (of_router_below bound) up ≡ true → runs_no_protocol files ≡ true →
     list_all (is_inside bound) (hops_over files world up own router file) ≡ true
 over_inside_all bound files world up own router file all network =
     by_own (list_any (λ x. eqb x.addr.0 world.packet.dst.0) own) (longest_below world.tables router LENGTHS)
@@ -206,7 +206,7 @@ over_inside_all bound files world up own router file all network =
     by_own false o = by_longest o
 
 -- the next hops of a router of a network
-pub next_hops_inside : (files : List File) → is_network files ≡ true → (world : World) (router : ℕ) →
+pub next_hops_inside : (files : List File) → runs_no_protocol files ≡ true → (world : World) (router : ℕ) →
     list_all (is_inside (length files)) (next_hops files world router) ≡ true
 next_hops_inside files network world router = by_file (slice_get files router) refl where
   below : list_all (of_router_below (length files)) (all_up files world.failures) ≡ true

@@ -4,7 +4,7 @@ ghost use Rattle.std.specs.Prelude.{◌≡◌, ◌==◌, ◌&&◌, ◌++◌, ◌
 ghost use Rattle.std.specs.List.{find, flat_map, list_any};
 ghost use Rattle.std.specs.Option.{option_copied, option_map_or};
 ghost use Rattle.mw_text.specs.Address.{covers, same_prefix};
-ghost use Rattle.net_model.specs.Network.{is_network};
+ghost use Rattle.net_model.specs.Network.{runs_no_protocol};
 ghost use Rattle.net_model.specs.Routing.{static_routes};
 ghost use Rattle.question_lang.specs.Hops as hops;
 
@@ -167,7 +167,7 @@ fn bgp_hops_of(
     router: u32,
     slot: &Slot,
 ) -> Result<List<Hop>, AllocError>
-    requires { is_network net.now ≡ true }
+    requires { runs_no_protocol net.now ≡ true }
     ensures { IfOk result (λ all. all ≡ hops.bgp_hops net.now world.now up.now own.now router slot.now) }
 {
     let _place = router;
@@ -190,7 +190,7 @@ fn ospf_hops_of(
     p: &Prefix,
     slot: &Slot,
 ) -> List<Hop>
-    requires { is_network net.now ≡ true }
+    requires { runs_no_protocol net.now ≡ true }
     ensures { result ≡ hops.ospf_hops net.now world.now router p.now slot.now }
 {
     let _places = (net.routers().len(), world.packet.dst, router, p.len);
@@ -211,7 +211,7 @@ fn entry_hops_of(
     file: &File,
     found: &Longest<'_>,
 ) -> Result<List<Hop>, AllocError>
-    requires { is_network net.now ≡ true }
+    requires { runs_no_protocol net.now ≡ true }
     ensures { IfOk result (λ all. all ≡ hops.entry_hops net.now world.now up.now own.now router file.now
         (found.now.0, found.now.1.now, found.now.2)) }
 {
@@ -286,7 +286,7 @@ fn hops_of(
     router: u32,
     file: &File,
 ) -> Result<List<Hop>, AllocError>
-    requires { is_network net.now ≡ true }
+    requires { runs_no_protocol net.now ≡ true }
     ensures { IfOk result (λ all. all ≡ hops.hops_over net.now world.now up.now own.now router file.now) }
 {
     if is_own(own, world.packet.dst) {
@@ -301,7 +301,6 @@ fn hops_of(
 // The file of a router.
 fn file_of(net: &Net, router: u32) -> Option<&File>
     ensures value { option_copied result ≡ slice_get net.entry.now router }
-    ensures network { is_network net.entry.now ≡ true }
 {
     net.routers().get(router as usize)
 }
@@ -313,6 +312,7 @@ pub fn list_hops(
     world: &World,
     router: u32,
 ) -> Result<List<Hop>, AllocError>
+    requires { runs_no_protocol net.now ≡ true }
     ensures { IfOk result (λ all. all ≡ hops.next_hops net.now world.now router) }
 {
     let up = all_up(alloc, net, &world.failures)?;

@@ -26,7 +26,7 @@ returns-in-Some c =
     let with_links : List ℕ → Failures = λ links. record { links = links } in (
       true_from c.args.net.now c.args.number c.args.question.now c.single_packet-packet.result c.in_ok-tables.tables c.in-Some.walk kind
           (record { links = c.new.result }) (record { ids = c.new-in-Some.result; announced = c.new-in-Some-2.result })
-          c.routers.ensures.network c.ends_of-start.ensures.kind c.single_packet-packet.ensures.inside (ap with_links c.new.ensures)
+          c.requires.plain c.ends_of-start.ensures.kind c.single_packet-packet.ensures.inside (ap with_links c.new.ensures)
           c.new-in-Some.ensures c.new-in-Some-2.ensures c.in_ok-tables.ensures.stable (subst P c.in-Some.is c.in_ok-breaking_walk.ensures.some),
       tt,
     )

@@ -21,10 +21,10 @@ loop-place-preserved c =
 
 pub returns-clause-stable : goal.returns-clause-stable
 returns-clause-stable c environment =
-    stable-from_places c.args.net.now c.args.d c.loop-place.slots-inside.items.items environment c.routers-routers.ensures.network
+    stable-from_places c.args.net.now c.args.d c.loop-place.slots-inside.items.items environment c.requires.plain
     (omega (arith, c.loop-place.invariant.0, ap length c.routers-routers.ensures.all)) c.loop-place.invariant.1
 
 pub returns-clause-only : goal.returns-clause-only
 returns-clause-only c environment other =
-    stable-only c.args.net.now c.args.d c.loop-place.slots-inside.items.items environment other c.routers-routers.ensures.network
+    stable-only c.args.net.now c.args.d c.loop-place.slots-inside.items.items environment other c.requires.plain
     (omega (arith, c.loop-place.invariant.0, ap length c.routers-routers.ensures.all)) c.loop-place.invariant.1
