@@ -10,6 +10,7 @@ ghost use Rattle.net_model.specs.Limits.{keeps_limits};
 ghost use Rattle.net_model.specs.Network.{IsNetwork};
 ghost use Rattle.net_model.specs.Ospf as ospf;
 ghost use Rattle.net_model.specs.Refusals.{first_refusal};
+ghost use Rattle.net_model.specs.Routing as routing;
 ghost use Rattle.net_model.specs.Sessions as sessions;
 ghost use Rattle.net_model.specs.Tracked as values;
 ghost use Rattle.net_model.specs.World as world;
@@ -21,7 +22,7 @@ use crate::ospf::{OspfInterface, advertised, ospf_cost, ospf_interfaces};
 use crate::refusals::{MOST_FILES, NetCause, NetRefused, refuse};
 use crate::router_ids::router_id;
 use crate::sessions::{SessionEnd, ends_of, peerings};
-use crate::states::{is_up_at, owner, subnet_of};
+use crate::states::{is_direct_over, is_reached_over, is_up, is_up_at, owner, subnet_of};
 use crate::tracking::tracked_of;
 use ios_ast::File;
 use mw_text::{Addr, List, Prefix, same_bytes};
@@ -252,6 +253,41 @@ impl Net {
             self.link_prefixes(),
             failures,
             i,
+        )
+    }
+
+    /// Whether the interface is not shut down and its subnet is no failed link.
+    pub fn is_up_with(&self, failures: &Failures, x: &Addressed) -> bool
+        ensures { result ≡ world.is_up self.now failures.now x.now }
+    {
+        is_up(self.routers(), self.link_prefixes(), failures, x)
+    }
+
+    /// Whether an interface of the router that is up has the address on its subnet.
+    pub fn is_reached(&self, failures: &Failures, router: u32, a: Addr) -> bool
+        ensures { result ≡ routing.is_reached (routing.up_interfaces self.now failures.now router) a }
+    {
+        is_reached_over(
+            self.routers(),
+            self.addresses(),
+            self.link_prefixes(),
+            failures,
+            router,
+            a,
+        )
+    }
+
+    /// Whether an interface of the router that is up has that subnet.
+    pub fn is_direct(&self, failures: &Failures, router: u32, p: &Prefix) -> bool
+        ensures { result ≡ routing.is_direct (routing.up_interfaces self.now failures.now router) p.now }
+    {
+        is_direct_over(
+            self.routers(),
+            self.addresses(),
+            self.link_prefixes(),
+            failures,
+            router,
+            p,
         )
     }
 

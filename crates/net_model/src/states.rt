@@ -6,6 +6,7 @@ ghost use Rattle.std.specs.Option.{option_map_or};
 ghost use Rattle.mw_text.specs.Address.{covers, same_prefix};
 ghost use Rattle.net_model.specs.Interfaces as interfaces;
 ghost use Rattle.net_model.specs.Ospf as ospf;
+ghost use Rattle.net_model.specs.Routing as routing;
 ghost use Rattle.net_model.specs.World as world;
 
 use crate::interfaces::{Addressed, IfaceId};
@@ -70,7 +71,8 @@ fn is_failed(files: &[File], links: &[Prefix], failures: &Failures, p: &Prefix) 
         .any(|at| is_link_at(links, *at, p))
 }
 
-fn is_up(files: &[File], links: &[Prefix], failures: &Failures, x: &Addressed) -> bool
+/// Whether the interface is not shut down and its subnet is no failed link.
+pub fn is_up(files: &[File], links: &[Prefix], failures: &Failures, x: &Addressed) -> bool
     requires links { links.now ≡ world.links_of files.now }
     ensures { result ≡ world.is_up files.now failures.now x.now }
 {
@@ -91,6 +93,61 @@ pub fn is_up_at(
 {
     for x in addresses {
         if x.id.router == i.router && x.id.at == i.at && is_up(files, links, failures, x) {
+            return true;
+        }
+    }
+    false
+}
+
+fn is_up_on(
+    files: &[File],
+    links: &[Prefix],
+    failures: &Failures,
+    router: u32,
+    x: &Addressed,
+) -> bool
+    requires links { links.now ≡ world.links_of files.now }
+    ensures { result ≡ ((x.now.id.router == router) && world.is_up files.now failures.now x.now) }
+{
+    x.id.router == router && is_up(files, links, failures, x)
+}
+
+/// Whether an interface of the router that is up has the address on its subnet.
+pub fn is_reached_over(
+    files: &[File],
+    addresses: &[Addressed],
+    links: &[Prefix],
+    failures: &Failures,
+    router: u32,
+    a: Addr,
+) -> bool
+    requires addresses { addresses.now ≡ interfaces.addressed files.now }
+    requires links { links.now ≡ world.links_of files.now }
+    ensures { result ≡ routing.is_reached (routing.up_interfaces files.now failures.now router) a }
+{
+    for x in addresses {
+        if is_up_on(files, links, failures, router, x) && contains(&x.subnet, a) {
+            return true;
+        }
+    }
+    false
+}
+
+/// Whether an interface of the router that is up has that subnet.
+pub fn is_direct_over(
+    files: &[File],
+    addresses: &[Addressed],
+    links: &[Prefix],
+    failures: &Failures,
+    router: u32,
+    p: &Prefix,
+) -> bool
+    requires addresses { addresses.now ≡ interfaces.addressed files.now }
+    requires links { links.now ≡ world.links_of files.now }
+    ensures { result ≡ routing.is_direct (routing.up_interfaces files.now failures.now router) p.now }
+{
+    for x in addresses {
+        if is_up_on(files, links, failures, router, x) && x.subnet == *p {
             return true;
         }
     }
