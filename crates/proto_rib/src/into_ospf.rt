@@ -46,25 +46,38 @@ fn is_from(source: Source, entry: RibSource) -> bool
     }
 }
 
-// What the route map of a line sees of a route that is no BGP route.
-fn plain_route(alloc: Global, line: &Redist, metric: u32) -> MapRec
-    ensures { attributes_of result ≡ origins.plain_route line.now metric }
+// What the route map of a line sees: a route with that path and these communities, of no weight and no preference.
+fn seen_route(
+    alloc: Global,
+    line: &Redist,
+    metric: u32,
+    path: List<u32>,
+    communities: List<u32>,
+) -> MapRec
+    ensures { attributes_of result ≡ record (origins.plain_route line.now metric) { path = path; communities = communities } }
 {
     MapRec {
         bgp: BgpRec {
             from: Learnt::Local,
             weight: 0,
             local_pref: 0,
-            path: List::new(alloc),
+            path,
             origin: Origin::Incomplete,
             med: line.metric.unwrap_or(metric),
-            communities: List::new(alloc),
+            communities,
             next_hop: Addr(0),
             originator: None,
             clusters: List::new(alloc),
         },
         type1: line.type1,
     }
+}
+
+// What it sees of a route that is no BGP route.
+fn plain_route(alloc: Global, line: &Redist) -> MapRec
+    ensures { attributes_of result ≡ origins.plain_route line.now 20 }
+{
+    seen_route(alloc, line, 20, List::new(alloc), List::new(alloc))
 }
 
 // What it sees of a BGP route: its path and communities besides.
@@ -74,15 +87,7 @@ fn bgp_route(alloc: Global, line: &Redist, held: &BgpRec) -> Result<MapRec, Allo
 {
     let path = copy_list(alloc, &held.path)?;
     let communities = copy_list(alloc, &held.communities)?;
-    let plain = plain_route(alloc, line, 1);
-    Ok(MapRec {
-        bgp: BgpRec {
-            path,
-            communities,
-            ..plain.bgp
-        },
-        type1: plain.type1,
-    })
+    Ok(seen_route(alloc, line, 1, path, communities))
 }
 
 fn held_route(
@@ -107,8 +112,8 @@ fn redistributed_route(
     ensures { IfOk result (λ made. option_map attributes_of made ≡ origins.redistributed_route line.now slot.now) }
 {
     match line.source {
-        Source::Connected => Ok(Some(plain_route(alloc, line, 20))),
-        Source::Static => Ok(Some(plain_route(alloc, line, 20))),
+        Source::Connected => Ok(Some(plain_route(alloc, line))),
+        Source::Static => Ok(Some(plain_route(alloc, line))),
         Source::Bgp(_) => held_route(alloc, line, &slot.bgp),
         Source::Ospf(_) => Ok(None),
     }

@@ -2,8 +2,10 @@
 #![tactic(auto)]
 
 mod into_ospf;
+mod local;
 mod prefixes;
 pub mod tables;
 
 pub use into_ospf::redistribute;
+pub use local::originate;
 pub use tables::tables_of;
