@@ -16,7 +16,8 @@ use net_model::{Addressed, Net};
 use route_record::{LENGTHS, RibEntry, RibSource, Slot, Tables};
 use std::alloc::{AllocError, Global};
 
-fn closer_of(best: Option<RibEntry>, entry: RibEntry) -> Option<RibEntry>
+/// Of two entries the later one only where its distance is less.
+pub fn closer_of(best: Option<RibEntry>, entry: RibEntry) -> Option<RibEntry>
     ensures { result ≡ closer best entry }
 {
     match best {
