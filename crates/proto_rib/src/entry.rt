@@ -90,17 +90,22 @@ fn neighbour_has(net: &Net, end: &SessionEnd, a: Addr) -> bool
     }
 }
 
+fn end_towards(net: &Net, router: u32, a: Addr) -> Option<SessionEnd>
+    ensures { result ≡ exports.end_towards net.now router a }
+{
+    net.ends()
+        .iter()
+        .copied()
+        .find(|end| is_towards(net, router, a, end))
+}
+
 // The end over which a route was learnt.
 fn learnt_over(net: &Net, router: u32, from: Learnt) -> Option<SessionEnd>
     ensures { result ≡ exports.learnt_over net.now router from }
 {
     match from {
         Learnt::Local => None,
-        Learnt::Peer(a) => net
-            .ends()
-            .iter()
-            .copied()
-            .find(|end| is_towards(net, router, a, end)),
+        Learnt::Peer(a) => end_towards(net, router, a),
     }
 }
 
