@@ -5,6 +5,7 @@ pub mod adjacencies;
 pub mod clashes;
 pub mod connected;
 pub mod connections;
+pub mod ends;
 pub mod interfaces;
 pub mod laws;
 pub mod limits;

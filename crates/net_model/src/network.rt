@@ -3,6 +3,7 @@
 ghost use Rattle.std.specs.Prelude.{All, ◌≡◌, ◌≢◌, ◌≤◌, ◌<◌, IfOk, IfErr, IfSome, None, Some, position, true, length};
 ghost use Rattle.std.specs.List.{list_all};
 ghost use Rattle.mw_text.specs.Text.{same_text};
+ghost use Rattle.net_model.specs.Exports as exports;
 ghost use Rattle.net_model.specs.Exports.{router_id};
 ghost use Rattle.net_model.specs.Interfaces as interfaces;
 ghost use Rattle.net_model.specs.Kept.{IsKept, ids_from};
@@ -16,6 +17,7 @@ ghost use Rattle.net_model.specs.Tracked as values;
 ghost use Rattle.net_model.specs.World as world;
 
 use crate::adjacencies::{Adjacency, adjacencies};
+use crate::ends::learnt_over;
 use crate::interfaces::{Addressed, IfaceId, addressed_of};
 use crate::links::links_of;
 use crate::ospf::{OspfInterface, advertised, ospf_cost, ospf_interfaces};
@@ -26,7 +28,7 @@ use crate::states::{is_direct_over, is_reached_over, is_up, is_up_at, owner, sub
 use crate::tracking::tracked_of;
 use ios_ast::File;
 use mw_text::{Addr, List, Prefix, same_bytes};
-use route_record::{Failures, Tracked};
+use route_record::{Failures, Learnt, Tracked};
 use std::alloc::{AllocError, Global};
 use std::marker::Model;
 
@@ -187,6 +189,14 @@ impl Net {
         ensures { result.now ≡ sessions.ends_of self.now }
     {
         self.parts.ends.as_slice()
+    }
+
+    /// The end over which a router learnt a route. None for a local route, and where no session of the router has that
+    /// neighbour.
+    pub fn learnt_over(&self, router: u32, from: Learnt) -> Option<SessionEnd>
+        ensures { result ≡ exports.learnt_over self.now router from }
+    {
+        learnt_over(self.routers(), self.ends(), router, from)
     }
 
     /// The interfaces that run OSPF, shut down or not, in the order of the files.

@@ -139,7 +139,8 @@ pub fn ospf_interfaces(
     Ok(all)
 }
 
-fn advertisement(x: &OspfInterface) -> Prefix
+/// What an interface advertises: its subnet, and a loopback its address.
+pub fn advertisement(x: &OspfInterface) -> Prefix
     ensures { result ≡ ospf.advertisement x.now }
 {
     if x.at.loopback {

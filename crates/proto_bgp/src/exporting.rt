@@ -12,12 +12,13 @@ ghost use Rattle.policy_eval.specs.Attributes as policy;
 ghost use Rattle.proto_bgp.specs.Sending.{Speaks};
 
 use crate::policies::{passes_paths, passes_prefixes, through_map, with_front};
-use crate::routers::{carries, file_of, is_reflector, neighbour_of};
+use crate::routers::{carries, is_reflector};
 use crate::speaker::{
     Speaker, internal_next_hop, reflected_clusters, reflected_originator, speaker_of,
 };
 use ios_ast::{Bgp, File, MapEntry, Neighbour, Policies, SetAct, Use};
 use mw_text::{Addr, List, Prefix};
+use net_model::ends::{file_of, neighbour_of};
 use net_model::{Net, SessionEnd};
 use policy_eval::{copy_list, copy_route, deciding_entry, map_named, map_rec};
 use route_record::{BgpMsg, BgpRec, MapRec};

@@ -7,9 +7,10 @@ ghost use Rattle.net_model.specs.Mapping as mapping;
 ghost use Rattle.net_model.specs.Sessions.{ends_of};
 
 use crate::policies::{passes_paths, passes_prefixes, through_map};
-use crate::routers::{carries, file_of, has_id, is_reflector, neighbour_of};
+use crate::routers::{carries, has_id, is_reflector};
 use ios_ast::{Bgp, File, Neighbour, Policies};
 use mw_text::{Addr, Prefix};
+use net_model::ends::{file_of, neighbour_of};
 use net_model::router_ids::router_id;
 use net_model::{Net, SessionEnd};
 use policy_eval::copy_list;

@@ -9,9 +9,9 @@ ghost use Rattle.net_model.specs.Sessions as sessions;
 ghost use Rattle.proto_bgp.specs.Sending.{Speaks};
 
 use crate::policies::with_front;
-use crate::routers::neighbour_of;
 use ios_ast::{File, Neighbour};
 use mw_text::{Addr, List};
+use net_model::ends::learnt_over;
 use net_model::router_ids::router_id;
 use net_model::{Addressed, Far, IfaceId, Net, SessionEnd};
 use policy_eval::copy_list;
@@ -97,43 +97,6 @@ pub fn reflected_clusters(
                 copy_list(alloc, &held.clusters)
             }
         }
-    }
-}
-
-fn is_at(files: &[File], end: &SessionEnd, a: Addr) -> bool
-    ensures { result ≡ option_map_or (λ neighbour. neighbour.addr.0 == a.0) (sessions.neighbour_of files.now end.now) false }
-{
-    match neighbour_of(files, end) {
-        None => false,
-        Some(neighbour) => neighbour.addr.0 == a.0,
-    }
-}
-
-fn is_towards(files: &[File], router: u32, a: Addr, end: &SessionEnd) -> bool
-    ensures { result ≡ ((end.now.router == router)
-        && option_map_or (λ neighbour. neighbour.addr.0 == a.0) (sessions.neighbour_of files.now end.now) false) }
-{
-    end.router == router && is_at(files, end, a)
-}
-
-/// The end of the router whose neighbour has that address.
-fn end_towards(files: &[File], ends: &[SessionEnd], router: u32, a: Addr) -> Option<SessionEnd>
-    requires ends { ends.now ≡ sessions.ends_of files.now }
-    ensures { result ≡ exports.end_towards files.now router a }
-{
-    ends.iter()
-        .copied()
-        .find(|end| is_towards(files, router, a, end))
-}
-
-/// The end over which a route was learnt.
-fn learnt_over(files: &[File], ends: &[SessionEnd], router: u32, from: Learnt) -> Option<SessionEnd>
-    requires ends { ends.now ≡ sessions.ends_of files.now }
-    ensures { result ≡ exports.learnt_over files.now router from }
-{
-    match from {
-        Learnt::Local => None,
-        Learnt::Peer(a) => end_towards(files, ends, router, a),
     }
 }
 

@@ -9,26 +9,17 @@ ghost use Rattle.proto_ospf.specs.Origins as specs;
 ghost use Rattle.proto_ospf.specs.Rounds.{everywhere, interior_distances, receiver};
 
 use crate::rounds::{MOST_COST, Receiver, distances_after, lower, of_router};
-use crate::states::{is_up, receivers};
-use mw_text::{List, Prefix, prefix_of};
+use crate::states::receivers;
+use mw_text::{List, Prefix};
+use net_model::ospf::advertisement;
 use net_model::{Net, OspfInterface};
 use route_record::Failures;
 use std::alloc::{AllocError, Global};
 
-fn advertisement(x: &OspfInterface) -> Prefix
-    ensures { result ≡ ospf.advertisement x.now }
-{
-    if x.at.loopback {
-        prefix_of(x.at.addr, 32)
-    } else {
-        x.at.subnet
-    }
-}
-
 fn is_origin(net: &Net, failures: &Failures, p: &Prefix, x: &OspfInterface) -> bool
     ensures { result ≡ (same_prefix (ospf.advertisement x.now) p.now && is_up_in net.now failures.now x.now.at) }
 {
-    advertisement(x) == *p && is_up(net, failures, &x.at)
+    advertisement(x) == *p && net.is_up_with(failures, &x.at)
 }
 
 fn originates(net: &Net, failures: &Failures, router: u32, p: &Prefix, x: &OspfInterface) -> bool

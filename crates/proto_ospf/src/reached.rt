@@ -1,19 +1,17 @@
 //! The interior distances to all that OSPF advertises, and the resolution of next hops (RFC 4271, section 5.1.3).
 
-ghost use Rattle.std.specs.Prelude.{◌≡◌, ◌==◌, ◌&&◌, IfOk};
-ghost use Rattle.std.specs.List.{find, list_any};
+ghost use Rattle.std.specs.Prelude.{◌≡◌, IfOk};
+ghost use Rattle.std.specs.List.{find};
 ghost use Rattle.mw_text.specs.Address.{covers};
 ghost use Rattle.net_model.specs.Resolution.{resolved};
-ghost use Rattle.net_model.specs.Routing.{up_interfaces};
-ghost use Rattle.net_model.specs.World as world;
 ghost use Rattle.proto_ospf.specs.Reached.{all_reached, to_first};
 ghost use Rattle.proto_ospf.specs.Reached as specs;
 
 use crate::distances::{distances_over, igp_distance};
 use crate::rounds::of_router;
-use crate::states::{is_up, receivers};
+use crate::states::receivers;
 use mw_text::{Addr, List, Prefix, contains};
-use net_model::{Addressed, Net};
+use net_model::Net;
 use route_record::Failures;
 use std::alloc::{AllocError, Global};
 
@@ -41,24 +39,6 @@ pub fn all_distances(
     Ok(all)
 }
 
-fn is_direct_over(net: &Net, failures: &Failures, router: u32, x: &Addressed) -> bool
-    ensures { result ≡ ((x.now.id.router == router) && world.is_up net.now failures.now x.now) }
-{
-    x.id.router == router && is_up(net, failures, x)
-}
-
-/// Whether an interface of the router that is up has the address on its subnet.
-pub fn is_on_own_subnet(net: &Net, failures: &Failures, router: u32, a: Addr) -> bool
-    ensures { result ≡ list_any (λ x. covers x.subnet a) (up_interfaces net.now failures.now router) }
-{
-    for x in net.addresses() {
-        if is_direct_over(net, failures, router, x) && contains(&x.subnet, a) {
-            return true;
-        }
-    }
-    false
-}
-
 fn to_first(all: &[Reached], router: u32, a: Addr) -> Option<u32>
     ensures { result ≡ specs.to_first all.now router a }
 {
@@ -83,7 +63,7 @@ pub fn resolve_over(
     requires all { all.now ≡ all_reached net.now failures.now }
     ensures { result ≡ resolved net.now failures.now router a }
 {
-    if is_on_own_subnet(net, failures, router, a) {
+    if net.is_reached(failures, router, a) {
         return Some(0);
     }
     to_first(all, router, a)
@@ -108,7 +88,7 @@ pub fn resolve(
 ) -> Result<Option<u32>, AllocError>
     ensures { IfOk result (λ cost. cost ≡ resolved net.now failures.now router a) }
 {
-    if is_on_own_subnet(net, failures, router, a) {
+    if net.is_reached(failures, router, a) {
         return Ok(Some(0));
     }
     match first_over(net.advertised(), a) {

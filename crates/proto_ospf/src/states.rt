@@ -1,44 +1,14 @@
 //! Which interfaces and adjacencies are up while some links have failed.
 
-ghost use Rattle.std.specs.Prelude.{◌≡◌, ◌==◌, ◌&&◌, false, filter, slice_get, IfOk};
-ghost use Rattle.std.specs.Option.{option_map_or};
-ghost use Rattle.mw_text.specs.Address.{same_prefix};
+ghost use Rattle.std.specs.Prelude.{◌≡◌, ◌==◌, ◌&&◌, filter, IfOk};
 ghost use Rattle.net_model.specs.Ospf as ospf;
-ghost use Rattle.net_model.specs.World as world;
 ghost use Rattle.proto_ospf.specs.Rounds.{everywhere, receiver};
 
 use crate::rounds::Receiver;
-use mw_text::{List, Prefix};
-use net_model::{Addressed, Adjacency, Net};
+use mw_text::List;
+use net_model::{Adjacency, Net};
 use route_record::Failures;
 use std::alloc::{AllocError, Global};
-
-fn is_link_at(links: &[Prefix], at: u32, p: &Prefix) -> bool
-    ensures { result ≡ option_map_or (same_prefix p.now) (slice_get links.now at) false }
-{
-    match links.get(at as usize) {
-        None => false,
-        Some(link) => *p == *link,
-    }
-}
-
-fn is_failed(net: &Net, failures: &Failures, p: &Prefix) -> bool
-    ensures { result ≡ world.is_failed net.now failures.now p.now }
-{
-    let links = net.link_prefixes();
-    failures
-        .links
-        .as_slice()
-        .iter()
-        .any(|at| is_link_at(links, *at, p))
-}
-
-/// Whether an interface is up: not shut down, and its subnet no failed link.
-pub fn is_up(net: &Net, failures: &Failures, x: &Addressed) -> bool
-    ensures { result ≡ world.is_up net.now failures.now x.now }
-{
-    !x.shutdown && !is_failed(net, failures, &x.subnet)
-}
 
 fn is_up_over(net: &Net, failures: &Failures, router: u32, a: &Adjacency) -> bool
     ensures { result ≡ ((a.now.from.router == router)

@@ -1,18 +1,17 @@
 //! The entry of a router's table for one prefix, from all sources (RFC 1812, section 5.2.4).
 
-ghost use Rattle.std.specs.Prelude.{◌≡◌, ◌==◌, ◌&&◌, ◌∷◌, [], None, false, fold, map, option_and_then, option_map, if◌then◌else◌};
-ghost use Rattle.std.specs.Option.{option_map_or, option_to_list};
+ghost use Rattle.std.specs.Prelude.{◌≡◌, ◌∷◌, [], None, fold, map, option_and_then, option_map, if◌then◌else◌};
+ghost use Rattle.std.specs.Option.{option_to_list};
 ghost use Rattle.net_model.specs.Entries as entries;
 ghost use Rattle.net_model.specs.Exports as exports;
 ghost use Rattle.net_model.specs.Routing as routing;
-ghost use Rattle.net_model.specs.Sessions as sessions;
 ghost use Rattle.proto_rib.specs.Taken.{entry_at};
 
 use crate::tables::closer_of;
 use ios_ast::{File, StaticRoute, Via};
-use mw_text::{Addr, Prefix};
-use net_model::{Net, SessionEnd};
-use route_record::{BgpRec, Failures, Learnt, RibEntry, RibSource, Slot};
+use mw_text::Prefix;
+use net_model::Net;
+use route_record::{BgpRec, Failures, RibEntry, RibSource, Slot};
 
 // Whether a static route counts: it goes to Null0 or its next hop is on the subnet of an interface that is up, and its
 // distance is not 255.
@@ -67,48 +66,6 @@ fn best_static(
     best
 }
 
-fn is_towards(net: &Net, router: u32, a: Addr, end: &SessionEnd) -> bool
-    ensures { result ≡ ((end.now.router == router)
-        && option_map_or (λ neighbour. neighbour.addr.0 == a.0) (sessions.neighbour_of net.now end.now) false) }
-{
-    end.router == router && neighbour_has(net, end, a)
-}
-
-fn neighbour_has(net: &Net, end: &SessionEnd, a: Addr) -> bool
-    ensures { result ≡ option_map_or (λ neighbour. neighbour.addr.0 == a.0) (sessions.neighbour_of net.now end.now) false }
-{
-    let process = match net.routers().get(end.router as usize) {
-        None => None,
-        Some(file) => file.bgp.as_ref(),
-    };
-    match process {
-        None => false,
-        Some(bgp) => match bgp.neighbours.items.get(end.neighbour as usize) {
-            None => false,
-            Some(neighbour) => neighbour.addr == a,
-        },
-    }
-}
-
-fn end_towards(net: &Net, router: u32, a: Addr) -> Option<SessionEnd>
-    ensures { result ≡ exports.end_towards net.now router a }
-{
-    net.ends()
-        .iter()
-        .copied()
-        .find(|end| is_towards(net, router, a, end))
-}
-
-// The end over which a route was learnt.
-fn learnt_over(net: &Net, router: u32, from: Learnt) -> Option<SessionEnd>
-    ensures { result ≡ exports.learnt_over net.now router from }
-{
-    match from {
-        Learnt::Local => None,
-        Learnt::Peer(a) => end_towards(net, router, a),
-    }
-}
-
 // The candidate of a held BGP route that was learnt.
 fn bgp_entry(net: &Net, router: u32, held: &Option<BgpRec>) -> Option<RibEntry>
     ensures { result ≡ option_and_then (λ h. option_map (λ end.
@@ -116,7 +73,7 @@ fn bgp_entry(net: &Net, router: u32, held: &Option<BgpRec>) -> Option<RibEntry>
         (exports.learnt_over net.now router h.from)) held.now }
 {
     let rec = held.as_ref()?;
-    let end = learnt_over(net, router, rec.from)?;
+    let end = net.learnt_over(router, rec.from)?;
     if end.internal {
         Some(RibEntry {
             source: RibSource::Ibgp,

@@ -1,9 +1,10 @@
-//! Routing tables: the entry of a router for a prefix, and all tables of a network that runs no routing protocol.
+//! Routing tables: what a router takes from its own table into OSPF and BGP, the entry for a prefix from all sources, and
+//! the tables of a network that runs no routing protocol.
 #![tactic(auto)]
 
-mod entry;
-mod into_ospf;
-mod local;
+pub mod entry;
+pub mod into_ospf;
+pub mod local;
 mod prefixes;
 pub mod tables;
 

@@ -1,0 +1,75 @@
+//! What lies at the ends of BGP sessions: the neighbour line of an end, and the end over which a route was learnt.
+
+ghost use Rattle.std.specs.Prelude.{◌≡◌, ◌==◌, ◌&&◌, false, option_and_then, slice_get};
+ghost use Rattle.std.specs.Option.{option_copied, option_map_or};
+ghost use Rattle.net_model.specs.Exports as exports;
+ghost use Rattle.net_model.specs.Sessions as sessions;
+
+use crate::sessions::SessionEnd;
+use ios_ast::{Bgp, File, Neighbour};
+use mw_text::Addr;
+use route_record::Learnt;
+
+/// The file of a router.
+pub fn file_of(files: &[File], router: u32) -> Option<&File>
+    ensures { option_copied result ≡ slice_get files.now router }
+{
+    files.get(router as usize)
+}
+
+/// The BGP process of a router, if it runs one.
+pub fn process_of(files: &[File], router: u32) -> Option<&Bgp>
+    ensures { option_copied result ≡ option_and_then (λ file. file.bgp) (slice_get files.now router) }
+{
+    match file_of(files, router) {
+        None => None,
+        Some(file) => file.bgp.as_ref(),
+    }
+}
+
+/// The neighbour line of an end.
+pub fn neighbour_of<'a>(files: &'a [File], end: &SessionEnd) -> Option<&'a Neighbour>
+    ensures { option_copied result ≡ sessions.neighbour_of files.now end.now }
+{
+    match process_of(files, end.router) {
+        None => None,
+        Some(process) => process.neighbours.items.get(end.neighbour as usize),
+    }
+}
+
+fn is_at(files: &[File], end: &SessionEnd, a: Addr) -> bool
+    ensures { result ≡ option_map_or (λ neighbour. neighbour.addr.0 == a.0) (sessions.neighbour_of files.now end.now) false }
+{
+    match neighbour_of(files, end) {
+        None => false,
+        Some(neighbour) => neighbour.addr.0 == a.0,
+    }
+}
+
+fn is_towards(files: &[File], router: u32, a: Addr, end: &SessionEnd) -> bool
+    ensures { result ≡ ((end.now.router == router)
+        && option_map_or (λ neighbour. neighbour.addr.0 == a.0) (sessions.neighbour_of files.now end.now) false) }
+{
+    end.router == router && is_at(files, end, a)
+}
+
+/// The end of the router whose neighbour has that address.
+pub fn end_towards(files: &[File], ends: &[SessionEnd], router: u32, a: Addr) -> Option<SessionEnd>
+    requires ends { ends.now ≡ sessions.ends_of files.now }
+    ensures { result ≡ exports.end_towards files.now router a }
+{
+    ends.iter()
+        .copied()
+        .find(|end| is_towards(files, router, a, end))
+}
+
+/// The end over which a route was learnt.
+pub fn learnt_over(files: &[File], ends: &[SessionEnd], router: u32, from: Learnt) -> Option<SessionEnd>
+    requires ends { ends.now ≡ sessions.ends_of files.now }
+    ensures { result ≡ exports.learnt_over files.now router from }
+{
+    match from {
+        Learnt::Local => None,
+        Learnt::Peer(a) => end_towards(files, ends, router, a),
+    }
+}
