@@ -126,7 +126,11 @@ fn one_entry(alloc: Global, entry: usize) -> Result<Tables, AllocError> {
         slots.items.push(Slot {
             ospf: None,
             bgp: None,
-            rib: if place == entry { Some(connected) } else { None },
+            rib: if place == entry {
+                Some(connected)
+            } else {
+                None
+            },
         })?;
     }
     Ok(Tables { slots })

@@ -94,7 +94,11 @@ pub fn show_refusal(rt: &(impl Print + AllocGlobal), name: &str, files: &[File])
 }
 
 /// Prints why the files form no network, or the network.
-pub fn show_files(rt: &(impl Print + AllocGlobal), name: &str, files: List<File>) -> io::Result<()> {
+pub fn show_files(
+    rt: &(impl Print + AllocGlobal),
+    name: &str,
+    files: List<File>,
+) -> io::Result<()> {
     if !keep_limits(files.as_slice()) {
         return println!(rt; "{name}: too many");
     }

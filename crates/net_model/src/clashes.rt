@@ -8,9 +8,9 @@ ghost use Rattle.mw_text.specs.Text.{same_text};
 ghost use Rattle.net_model.specs.Interfaces.{is_loopback};
 ghost use Rattle.net_model.specs.Refusals as refusals;
 
+use crate::connected::prefixes_overlap;
 use crate::interfaces::is_loopback_name;
 use crate::lines::{earlier, line_if};
-use crate::connected::prefixes_overlap;
 use ios_ast::{File, IfAddr, Iface};
 use mw_text::{Addr, prefix_of, same_bytes};
 

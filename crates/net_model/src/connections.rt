@@ -5,8 +5,8 @@ ghost use Rattle.std.specs.List.{filter_map, list_any};
 ghost use Rattle.net_model.specs.Refusals as refusals;
 
 use crate::clashes::some_has;
-use crate::lines::{earlier, line_if};
 use crate::connected::{named_reaches, route_is_connected, some_reaches};
+use crate::lines::{earlier, line_if};
 use ios_ast::{Bgp, File, Iface, Neighbour, Ospf, OspfNet, StaticRoute, Use};
 use mw_text::Addr;
 

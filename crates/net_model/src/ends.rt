@@ -64,7 +64,12 @@ pub fn end_towards(files: &[File], ends: &[SessionEnd], router: u32, a: Addr) ->
 }
 
 /// The end over which a route was learnt.
-pub fn learnt_over(files: &[File], ends: &[SessionEnd], router: u32, from: Learnt) -> Option<SessionEnd>
+pub fn learnt_over(
+    files: &[File],
+    ends: &[SessionEnd],
+    router: u32,
+    from: Learnt,
+) -> Option<SessionEnd>
     requires ends { ends.now ≡ sessions.ends_of files.now }
     ensures { result ≡ exports.learnt_over files.now router from }
 {

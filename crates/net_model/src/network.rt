@@ -88,11 +88,7 @@ fn all_links(
     Ok(List { items })
 }
 
-fn all_ids(
-    alloc: Global,
-    files: &[File],
-    addresses: &[Addressed],
-) -> Result<List<Addr>, AllocError>
+fn all_ids(alloc: Global, files: &[File], addresses: &[Addressed]) -> Result<List<Addr>, AllocError>
     requires addresses { addresses.now ≡ interfaces.addressed files.now }
     requires few { length files.now ≤ MOST_FILES }
     ensures { IfOk result (λ ids. ids ≡ ids_from files.now 0 files.now) }

@@ -14,7 +14,9 @@ use ios_ast::{DefaultOrigin, File, Ospf, Redist, Source};
 use mw_text::{Addr, List, Prefix};
 use net_model::Net;
 use policy_eval::{copy_list, record_through_map};
-use route_record::{BgpRec, Learnt, MapRec, Origin, OspfKind, OspfRec, RibEntry, RibSource, Side, Slot};
+use route_record::{
+    BgpRec, Learnt, MapRec, Origin, OspfKind, OspfRec, RibEntry, RibSource, Side, Slot,
+};
 use std::alloc::{AllocError, Global};
 
 fn external_record(type1: bool, metric: u32) -> OspfRec
@@ -249,12 +251,7 @@ fn of_process(
     Ok(made)
 }
 
-fn of_file(
-    alloc: Global,
-    file: &File,
-    p: &Prefix,
-    slot: &Slot,
-) -> Result<List<OspfRec>, AllocError>
+fn of_file(alloc: Global, file: &File, p: &Prefix, slot: &Slot) -> Result<List<OspfRec>, AllocError>
     ensures { IfOk result (λ made. made
         ≡ option_map_or (λ process. origins.redistributed file.now process p.now slot.now) file.now.ospf []) }
 {

@@ -122,7 +122,9 @@ fn is_ospf_on(x: &OspfInterface, router: u32, p: &Prefix) -> bool
 fn is_ospf_subnet(net: &Net, router: u32, p: &Prefix) -> bool
     ensures { result ≡ origins.is_ospf_subnet net.now router p.now }
 {
-    net.ospf_interfaces().iter().any(|x| is_ospf_on(x, router, p))
+    net.ospf_interfaces()
+        .iter()
+        .any(|x| is_ospf_on(x, router, p))
 }
 
 fn takes_kind(line: &Redist, kind: OspfKind) -> bool
