@@ -1,6 +1,7 @@
 //! Walks of a packet: the next hops of each router, and a walk that breaks a question, if there is one.
 #![tactic(auto)]
 
+mod adjacent;
 mod filters;
 pub mod hops;
 pub mod once;
