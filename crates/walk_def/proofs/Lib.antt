@@ -9,3 +9,4 @@ pub mod Worlds
 pub mod Below
 pub mod FarRouters
 pub mod EachOnce
+pub mod Going

@@ -1,2 +1,3 @@
 pub mod Sending
 pub mod Safety
+pub mod Going

@@ -8,7 +8,9 @@ pub mod once;
 mod open;
 pub mod safety;
 pub mod verdict;
+pub mod walking;
 
 pub use once::next_hops;
 pub use route_record::World;
 pub use verdict::breaking_walk;
+pub use walking::is_walk;

@@ -20,7 +20,8 @@ fn is_same(a: &Hop, b: &Hop) -> bool
     *a == *b
 }
 
-fn stands_in(all: &[Hop], hop: &Hop) -> bool
+/// Whether the hop stands in the list.
+pub fn stands_in(all: &[Hop], hop: &Hop) -> bool
     ensures yes { result ≡ true → Contains all.now hop.now }
     ensures no { result ≡ false → Contains all.now hop.now → ⊥ }
 {
