@@ -10,3 +10,4 @@ pub mod Below
 pub mod FarRouters
 pub mod EachOnce
 pub mod Going
+pub mod Arrivals

@@ -2,6 +2,7 @@
 #![tactic(auto)]
 
 mod adjacent;
+mod arriving;
 mod filters;
 pub mod hops;
 pub mod once;

@@ -16,8 +16,8 @@ use question_lang::{End, Hop, Start, Walk};
 use route_record::World;
 use std::alloc::{AllocError, Global};
 
-// The next hops of each router.
-fn all_hops(alloc: Global, net: &Net, world: &World) -> Result<List<List<Hop>>, AllocError>
+/// The next hops of each router.
+pub fn all_hops(alloc: Global, net: &Net, world: &World) -> Result<List<List<Hop>>, AllocError>
     ensures len { IfOk result (λ hops. length hops ≡ length net.now) }
     ensures few { IfOk result (λ hops. length hops < 2 ^ 32) }
     ensures sent { IfOk result (λ hops. AreSent net.now world.now hops) }
