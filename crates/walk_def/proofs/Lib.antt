@@ -11,3 +11,4 @@ pub mod FarRouters
 pub mod EachOnce
 pub mod Going
 pub mod Arrivals
+pub mod Lasts

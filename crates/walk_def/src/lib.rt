@@ -3,6 +3,7 @@
 
 mod adjacent;
 mod arriving;
+pub mod breaking;
 mod filters;
 pub mod hops;
 pub mod once;
@@ -11,6 +12,7 @@ pub mod safety;
 pub mod verdict;
 pub mod walking;
 
+pub use breaking::breaks;
 pub use once::next_hops;
 pub use route_record::World;
 pub use verdict::breaking_walk;

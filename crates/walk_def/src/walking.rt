@@ -85,7 +85,8 @@ fn leads_to(
     Ok(leads_in(own.as_slice(), to))
 }
 
-fn is_among(before: &[Start], router: u32) -> bool
+/// Whether a standing is at the router.
+pub fn is_among(before: &[Start], router: u32) -> bool
     ensures { result ≡ list_any (λ s. s.router == router) before.now }
 {
     before.iter().any(|s| s.router == router)
