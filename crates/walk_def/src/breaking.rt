@@ -1,6 +1,6 @@
 //! Whether a walk breaks a question.
 
-ghost use Rattle.std.specs.Prelude.{◌≡◌, ◌≢◌, ◌<◌, ◌==◌, All, List as ListOf, Some, true, false, IfOk, length};
+ghost use Rattle.std.specs.Prelude.{◌≡◌, ◌≢◌, ◌+◌, ◌⊎◌, All, List as ListOf, Some, true, false, IfOk, length};
 ghost use Rattle.std.specs.Option.{option_copied};
 ghost use Rattle.question_lang.specs.declared.question.Kind.{Kind};
 ghost use Rattle.question_lang.specs.Breaking as breaking;
@@ -120,36 +120,42 @@ fn breaks_waypoint(
     walk: &Walk,
 ) -> bool
     ensures yes { result ≡ true → breaking.BreaksBy net.now world.now (Kind.Waypoint start.now target.now via) walk.now }
-    ensures no { result ≡ false → breaking.BreaksBy net.now world.now (Kind.Waypoint start.now target.now via) walk.now → ⊥ }
+    ensures no { result ≡ false →
+        breaking.BreaksBy net.now world.now (Kind.Waypoint start.now target.now via) walk.now → ⊥ }
 {
     begins_at(start, walk) && ends_at(net, world, target, walk) && avoids(walk.hops.as_slice(), via)
 }
 
-// It comes back to where it stood.
-fn breaks_no_loop(net: &Net, world: &World, start: &Start, walk: &Walk) -> bool
-    ensures yes { result ≡ true → breaking.BreaksBy net.now world.now (Kind.NoLoop start.now) walk.now }
-    ensures no { result ≡ false → breaking.BreaksBy net.now world.now (Kind.NoLoop start.now) walk.now → ⊥ }
+// Whether the walk begins there and comes back to where it stood.
+fn is_loop_from(start: &Start, walk: &Walk) -> bool
+    ensures yes { result ≡ true → breaking.BeginsAt start.now walk.now × (walk.now.end ≡ End.Loop) }
+    ensures no { result ≡ false → breaking.BeginsAt start.now walk.now × (walk.now.end ≡ End.Loop) → ⊥ }
 {
-    let _places = (net.routers().len(), world.packet.dst);
     begins_at(start, walk) && is_same_end(&walk.end, &End::Loop)
 }
 
-// It ends without a route or at Null0.
-fn breaks_no_black_hole(net: &Net, world: &World, start: &Start, walk: &Walk) -> bool
-    ensures yes { result ≡ true → breaking.BreaksBy net.now world.now (Kind.NoBlackHole start.now) walk.now }
-    ensures no { result ≡ false → breaking.BreaksBy net.now world.now (Kind.NoBlackHole start.now) walk.now → ⊥ }
+// Without a route or at Null0.
+fn is_black_hole(end: &End) -> bool
+    ensures yes { result ≡ true → (end.now ≡ End.NoRoute) ⊎ (end.now ≡ End.Discarded) }
+    ensures no { result ≡ false → (end.now ≡ End.NoRoute) ⊎ (end.now ≡ End.Discarded) → ⊥ }
 {
-    let _places = (net.routers().len(), world.packet.dst);
-    begins_at(start, walk)
-        && (is_same_end(&walk.end, &End::NoRoute) || is_same_end(&walk.end, &End::Discarded))
+    is_same_end(end, &End::NoRoute) || is_same_end(end, &End::Discarded)
 }
 
-// It has one hop more than allowed.
-fn breaks_within(net: &Net, world: &World, most: u32, start: &Start, walk: &Walk) -> bool
-    ensures yes { result ≡ true → breaking.BreaksBy net.now world.now (Kind.Within most start.now) walk.now }
-    ensures no { result ≡ false → breaking.BreaksBy net.now world.now (Kind.Within most start.now) walk.now → ⊥ }
+fn is_lost_from(start: &Start, walk: &Walk) -> bool
+    ensures yes { result ≡ true → breaking.BeginsAt start.now walk.now
+        × ((walk.now.end ≡ End.NoRoute) ⊎ (walk.now.end ≡ End.Discarded)) }
+    ensures no { result ≡ false → breaking.BeginsAt start.now walk.now
+        × ((walk.now.end ≡ End.NoRoute) ⊎ (walk.now.end ≡ End.Discarded)) → ⊥ }
 {
-    let _places = (net.routers().len(), world.packet.dst);
+    begins_at(start, walk) && is_black_hole(&walk.end)
+}
+
+// Whether the walk begins there and has one hop more than allowed, and so two standings more than that number.
+fn is_longer_from(most: u32, start: &Start, walk: &Walk) -> bool
+    ensures yes { result ≡ true → breaking.BeginsAt start.now walk.now × (length walk.now.hops ≡ most + 2) }
+    ensures no { result ≡ false → breaking.BeginsAt start.now walk.now × (length walk.now.hops ≡ most + 2) → ⊥ }
+{
     begins_at(start, walk) && walk.hops.as_slice().len() as u64 == u64::from(most) + 2
 }
 
@@ -219,9 +225,9 @@ fn breaks_by(
         Kind::Waypoint(start, target, via) => {
             Ok(breaks_waypoint(net, world, start, target, *via, walk))
         }
-        Kind::NoLoop(start) => Ok(breaks_no_loop(net, world, start, walk)),
-        Kind::NoBlackHole(start) => Ok(breaks_no_black_hole(net, world, start, walk)),
-        Kind::Within(most, start) => Ok(breaks_within(net, world, *most, start, walk)),
+        Kind::NoLoop(start) => Ok(is_loop_from(start, walk)),
+        Kind::NoBlackHole(start) => Ok(is_lost_from(start, walk)),
+        Kind::Within(most, start) => Ok(is_longer_from(*most, start, walk)),
         Kind::Alike(a, b, target) => breaks_alike(alloc, net, world, *a, *b, target, walk),
         Kind::NoStable => Ok(true),
     }
@@ -259,8 +265,10 @@ pub fn breaks(
     world: &World,
     walk: Option<&Walk>,
 ) -> Result<bool, AllocError>
-    ensures yes { IfOk result (λ yes. yes ≡ true → breaking.Breaks net.now world.now question.now.kind (option_copied walk.entry)) }
-    ensures no { IfOk result (λ yes. yes ≡ false → breaking.Breaks net.now world.now question.now.kind (option_copied walk.entry) → ⊥) }
+    ensures yes { IfOk result (λ yes. yes ≡ true →
+        breaking.Breaks net.now world.now question.now.kind (option_copied walk.entry)) }
+    ensures no { IfOk result (λ yes. yes ≡ false →
+        breaking.Breaks net.now world.now question.now.kind (option_copied walk.entry) → ⊥) }
 {
     match walk {
         None => Ok(asks_no_stable(&question.kind)),

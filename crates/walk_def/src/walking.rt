@@ -3,7 +3,7 @@
 ghost use Rattle.std.specs.Prelude.{◌≡◌, ◌<◌, ◌==◌, ℕ, List as ListOf, true, false, IfOk, [], length};
 ghost use Rattle.std.specs.List.{list_any};
 ghost use Rattle.proto_ospf.specs.Reached.{all_reached};
-ghost use Rattle.question_lang.specs.Hops.{next_hops, permits_in as may_come_in};
+ghost use Rattle.question_lang.specs.Hops.{next_hops};
 ghost use Rattle.question_lang.specs.Walks as walks;
 ghost use Rattle.walk_def.specs.Going.{LeadsIn};
 
@@ -116,7 +116,8 @@ fn may_end(
 ) -> Result<bool, AllocError>
     requires all { all.now ≡ all_reached net.now world.now.failures }
     ensures yes { IfOk result (λ may. may ≡ true → walks.MayEnd (next_hops net.now world.now) before.now now.now end.now) }
-    ensures no { IfOk result (λ may. may ≡ false → walks.MayEnd (next_hops net.now world.now) before.now now.now end.now → ⊥) }
+    ensures no { IfOk result (λ may. may ≡ false →
+        walks.MayEnd (next_hops net.now world.now) before.now now.now end.now → ⊥) }
 {
     let own = list_hops(alloc, net, world, all, now.router)?;
     Ok(may_end_by(own.as_slice(), before, now, end))
