@@ -3,7 +3,6 @@ use Rattle.std.proofs.Common.{◌≡◌, ℕ, true, List, length, sym, subst}
 use Rattle.std.specs.List.{list_all}
 use Rattle.ios_ast.specs.declared.file.File.{File}
 use Rattle.route_record.specs.declared.World.{World}
-use Rattle.net_model.specs.Network.{runs_no_protocol}
 use Rattle.question_lang.specs.declared.walk.Hop.{Hop}
 use Rattle.question_lang.specs.Hops.{next_hops}
 use Rattle.walk_def.proofs.Inside.{next_hops_inside}
@@ -13,9 +12,9 @@ use Rattle.walk_def.specs.Safety.{is_inside}
 abbrev pub IsSent : List File → World → ℕ → List Hop → Type 0
 IsSent files world router hops = (hops ≡ next_hops files world router) × (list_all (is_inside (length files)) hops ≡ true)
 
-pub sent_here : (files : List File) → runs_no_protocol files ≡ true → (world : World) (router n : ℕ) (hops : List Hop) →
+pub sent_here : (files : List File) (world : World) (router n : ℕ) (hops : List Hop) →
     hops ≡ next_hops files world router → n ≡ router → IsSent files world n hops
-sent_here files network world router n hops made place =
+sent_here files world router n hops made place =
     let P : ℕ → Type 0 = λ r. IsSent files world r hops in
     let Q : List Hop → Type 0 = λ hs. list_all (is_inside (length files)) hs ≡ true in
-    subst P (sym place) (made, subst Q (sym made) (next_hops_inside files network world router))
+    subst P (sym place) (made, subst Q (sym made) (next_hops_inside files world router))

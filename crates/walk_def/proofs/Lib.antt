@@ -6,5 +6,9 @@ pub mod Following
 pub mod Known
 pub mod AllHops
 pub mod Worlds
-pub mod Adjacent
+pub mod Below
+pub mod FarRouters
 pub mod EachOnce
+pub mod Going
+pub mod Arrivals
+pub mod Lasts

@@ -28,7 +28,7 @@ no_start Loop start h = cc
 no_start Open start h = cc
 
 -- its standings begin there, and go on over the next hops
-begun : (files : List File) (world : World) (hops : List Start) (end : End) (start : ℕ) → IsWalkOver files world hops end →
+pub begun : (files : List File) (world : World) (hops : List Start) (end : End) (start : ℕ) → IsWalkOver files world hops end →
     start_of hops end ≡ Some (at_router start) →
     GoesOn (next_hops files world) [] hops end × ((rest : List Start) × (hops ≡ at_router start ∷ rest))
 begun files world [] end start walk begins = absurd (no_start end start begins)

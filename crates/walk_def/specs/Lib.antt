@@ -1,2 +1,4 @@
 pub mod Sending
 pub mod Safety
+pub mod Going
+pub mod Arriving

@@ -45,8 +45,9 @@ fn permits(file: &File, packet: &Packet, list: &Option<Use>) -> bool
     }
 }
 
+/// Whether the in list of the interface permits the packet.
 #[tactic(auto, unfolding(question_lang::specs::Hops::permits_in))]
-fn permits_in(net: &Net, packet: &Packet, i: IfaceId) -> bool
+pub fn permits_in(net: &Net, packet: &Packet, i: IfaceId) -> bool
     ensures { result ≡ hops.permits_in net.now packet.now i }
 {
     match net.routers().get(i.router as usize) {

@@ -1,19 +1,22 @@
 //! The next hops of a router.
 
-ghost use Rattle.std.specs.Prelude.{◌≡◌, ◌==◌, ◌&&◌, ◌++◌, ◌∷◌, [], true, filter, IfOk, OnOk, option_map, slice_get};
+ghost use Rattle.std.specs.Prelude.{◌≡◌, ◌==◌, ◌&&◌, ◌++◌, ◌∷◌, [], filter, map, IfOk, OnOk, if◌then◌else◌, option_map, slice_get};
 ghost use Rattle.std.specs.List.{find, flat_map, list_any};
 ghost use Rattle.std.specs.Option.{option_copied, option_map_or};
 ghost use Rattle.mw_text.specs.Address.{covers, same_prefix};
-ghost use Rattle.net_model.specs.Network.{runs_no_protocol};
 ghost use Rattle.net_model.specs.Routing.{static_routes};
+ghost use Rattle.net_model.specs.Sending.{sent_towards};
+ghost use Rattle.proto_ospf.specs.Reached.{all_reached};
 ghost use Rattle.question_lang.specs.Hops as hops;
 
+use crate::adjacent::{held_hops_of, hops_towards};
 use crate::filters::{arrive, depart};
 use crate::open::{all_up, own_up};
 use ios_ast::{File, StaticRoute, Via};
 use mw_text::{Addr, List, Prefix, contains, prefix_of};
 use net_model::routing::route_counts;
 use net_model::{Addressed, IfaceId, Net};
+use proto_ospf::Reached;
 use question_lang::{End, Hop};
 use route_record::{LENGTHS, Packet, RibEntry, RibSource, Slot, Tables, World};
 use std::alloc::{AllocError, Global};
@@ -155,33 +158,66 @@ fn some_subnet_has(own: &[Addressed], a: Addr) -> bool
     own.iter().any(|x| contains(&x.subnet, a))
 }
 
-// The hops of a BGP entry: to the next hop, where that is on a subnet of the router. In a network of today no adjacency
-// leads to another.
-#[tactic(auto, using(crate::proofs::Adjacent::bgp_hops_over))]
+// The hops over the interface of the router whose subnet has the address.
+fn hops_out(
+    alloc: Global,
+    net: &Net,
+    packet: &Packet,
+    up: &[Addressed],
+    own: &[Addressed],
+    a: Addr,
+) -> Result<List<Hop>, AllocError>
+    ensures { IfOk result (λ all. all ≡ hops.send_over net.now packet.now up.now own.now a) }
+{
+    let mut out = List::new(alloc);
+    push_over(&mut out, net, packet, up, own, a)?;
+    Ok(out)
+}
+
+// The hops of a BGP route that is held: to the next hop, where that is on a subnet of the router, else over the
+// adjacencies that lead to it.
+fn next_hops_of(
+    alloc: Global,
+    net: &Net,
+    world: &World,
+    all: &[Reached],
+    up: &[Addressed],
+    own: &[Addressed],
+    router: u32,
+    a: Addr,
+) -> Result<List<Hop>, AllocError>
+    requires all { all.now ≡ all_reached net.now world.now.failures }
+    ensures { IfOk result (λ to. to ≡ if list_any (λ x. covers x.subnet a) own.now
+        then hops.send_over net.now world.now.packet up.now own.now a
+        else map (hops.send_adjacent net.now world.now.packet) (sent_towards net.now world.now.failures router a)) }
+{
+    if some_subnet_has(own, a) {
+        return hops_out(alloc, net, &world.packet, up, own, a);
+    }
+    hops_towards(alloc, net, world, all, router, a)
+}
+
+// The hops of a BGP entry.
 fn bgp_hops_of(
     alloc: Global,
     net: &Net,
     world: &World,
+    all: &[Reached],
     up: &[Addressed],
     own: &[Addressed],
     router: u32,
     slot: &Slot,
 ) -> Result<List<Hop>, AllocError>
-    requires { runs_no_protocol net.now ≡ true }
-    ensures { IfOk result (λ all. all ≡ hops.bgp_hops net.now world.now up.now own.now router slot.now) }
+    requires all { all.now ≡ all_reached net.now world.now.failures }
+    ensures { IfOk result (λ to. to ≡ hops.bgp_hops net.now world.now up.now own.now router slot.now) }
 {
-    let _place = router;
-    let mut out = List::new(alloc);
-    if let Some(held) = &slot.bgp {
-        if some_subnet_has(own, held.next_hop) {
-            push_over(&mut out, net, &world.packet, up, own, held.next_hop)?;
-        }
+    match &slot.bgp {
+        None => Ok(List::new(alloc)),
+        Some(held) => next_hops_of(alloc, net, world, all, up, own, router, held.next_hop),
     }
-    Ok(out)
 }
 
-// The hops of an OSPF entry: none, since a network of today has no adjacency.
-#[tactic(auto, using(crate::proofs::Adjacent::ospf_hops_none))]
+// The hops of an OSPF entry.
 fn ospf_hops_of(
     alloc: Global,
     net: &Net,
@@ -189,13 +225,13 @@ fn ospf_hops_of(
     router: u32,
     p: &Prefix,
     slot: &Slot,
-) -> List<Hop>
-    requires { runs_no_protocol net.now ≡ true }
-    ensures { result ≡ hops.ospf_hops net.now world.now router p.now slot.now }
+) -> Result<List<Hop>, AllocError>
+    ensures { IfOk result (λ to. to ≡ hops.ospf_hops net.now world.now router p.now slot.now) }
 {
-    let _places = (net.routers().len(), world.packet.dst, router, p.len);
-    let _held = slot.ospf.is_some();
-    List::new(alloc)
+    match &slot.ospf {
+        None => Ok(List::new(alloc)),
+        Some(held) => held_hops_of(alloc, net, world, router, p, held),
+    }
 }
 
 // The longest prefix with an entry: its length, its slot and that entry.
@@ -205,14 +241,15 @@ fn entry_hops_of(
     alloc: Global,
     net: &Net,
     world: &World,
+    all: &[Reached],
     up: &[Addressed],
     own: &[Addressed],
     router: u32,
     file: &File,
     found: &Longest<'_>,
 ) -> Result<List<Hop>, AllocError>
-    requires { runs_no_protocol net.now ≡ true }
-    ensures { IfOk result (λ all. all ≡ hops.entry_hops net.now world.now up.now own.now router file.now
+    requires all { all.now ≡ all_reached net.now world.now.failures }
+    ensures { IfOk result (λ to. to ≡ hops.entry_hops net.now world.now up.now own.now router file.now
         (found.now.0, found.now.1.now, found.now.2)) }
 {
     let (len, slot, entry) = found;
@@ -230,9 +267,9 @@ fn entry_hops_of(
             &p,
             entry.distance,
         ),
-        RibSource::Ebgp => bgp_hops_of(alloc, net, world, up, own, router, slot),
-        RibSource::Ospf => Ok(ospf_hops_of(alloc, net, world, router, &p, slot)),
-        RibSource::Ibgp => bgp_hops_of(alloc, net, world, up, own, router, slot),
+        RibSource::Ebgp => bgp_hops_of(alloc, net, world, all, up, own, router, slot),
+        RibSource::Ospf => ospf_hops_of(alloc, net, world, router, &p, slot),
+        RibSource::Ibgp => bgp_hops_of(alloc, net, world, all, up, own, router, slot),
     }
 }
 
@@ -281,20 +318,21 @@ fn hops_of(
     alloc: Global,
     net: &Net,
     world: &World,
+    all: &[Reached],
     up: &[Addressed],
     own: &[Addressed],
     router: u32,
     file: &File,
 ) -> Result<List<Hop>, AllocError>
-    requires { runs_no_protocol net.now ≡ true }
-    ensures { IfOk result (λ all. all ≡ hops.hops_over net.now world.now up.now own.now router file.now) }
+    requires all { all.now ≡ all_reached net.now world.now.failures }
+    ensures { IfOk result (λ to. to ≡ hops.hops_over net.now world.now up.now own.now router file.now) }
 {
     if is_own(own, world.packet.dst) {
         return one_hop(alloc, End::Delivered);
     }
     match longest_of(&world.tables, router) {
         None => one_hop(alloc, End::NoRoute),
-        Some(found) => entry_hops_of(alloc, net, world, up, own, router, file, &found),
+        Some(found) => entry_hops_of(alloc, net, world, all, up, own, router, file, &found),
     }
 }
 
@@ -305,28 +343,31 @@ fn file_of(net: &Net, router: u32) -> Option<&File>
     net.routers().get(router as usize)
 }
 
-/// The next hops of a router, as a list.
+/// The next hops of a router, as a list, over the interior distances to all that OSPF advertises. Of many routers these are
+/// the same.
 pub fn list_hops(
     alloc: Global,
     net: &Net,
     world: &World,
+    all: &[Reached],
     router: u32,
 ) -> Result<List<Hop>, AllocError>
-    requires { runs_no_protocol net.now ≡ true }
-    ensures { IfOk result (λ all. all ≡ hops.next_hops net.now world.now router) }
+    requires all { all.now ≡ all_reached net.now world.now.failures }
+    ensures { IfOk result (λ to. to ≡ hops.next_hops net.now world.now router) }
 {
     let up = all_up(alloc, net, &world.failures)?;
     let own = own_up(alloc, net, &world.failures, router)?;
     match file_of(net, router) {
         None => Ok(List::new(alloc)),
-        Some(file) => Ok(hops_of(
+        Some(file) => hops_of(
             alloc,
             net,
             world,
+            all,
             up.as_slice(),
             own.as_slice(),
             router,
             file,
-        )?),
+        ),
     }
 }

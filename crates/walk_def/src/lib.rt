@@ -1,13 +1,19 @@
 //! Walks of a packet: the next hops of each router, and a walk that breaks a question, if there is one.
 #![tactic(auto)]
 
+mod adjacent;
+mod arriving;
+pub mod breaking;
 mod filters;
 pub mod hops;
 pub mod once;
 mod open;
 pub mod safety;
 pub mod verdict;
+pub mod walking;
 
+pub use breaking::breaks;
 pub use once::next_hops;
 pub use route_record::World;
 pub use verdict::breaking_walk;
+pub use walking::is_walk;

@@ -1,6 +1,5 @@
 //! The set of the next hops of a router.
 
-ghost use Rattle.net_model.specs.Network.{runs_no_protocol};
 ghost use Rattle.std.specs.Prelude.{◌≡◌, ◌≢◌, ◌++◌, ◌∷◌, [], List as ListOf, Contains, IfOk, OnOk, true, false};
 ghost use Rattle.question_lang.specs.declared.walk.Hop.{Hop as HopOf};
 ghost use Rattle.question_lang.specs.Hops as hops;
@@ -9,6 +8,7 @@ ghost use Rattle.walk_def.specs.Sending.{AreOnce};
 use crate::hops::list_hops;
 use mw_text::List;
 use net_model::Net;
+use proto_ospf::all_distances;
 use question_lang::Hop;
 use route_record::World;
 use std::alloc::{AllocError, Global};
@@ -20,7 +20,8 @@ fn is_same(a: &Hop, b: &Hop) -> bool
     *a == *b
 }
 
-fn stands_in(all: &[Hop], hop: &Hop) -> bool
+/// Whether the hop stands in the list.
+pub fn stands_in(all: &[Hop], hop: &Hop) -> bool
     ensures yes { result ≡ true → Contains all.now hop.now }
     ensures no { result ≡ false → Contains all.now hop.now → ⊥ }
 {
@@ -56,17 +57,16 @@ fn each_once(alloc: Global, all: &[Hop]) -> Result<List<Hop>, AllocError>
     Ok(out)
 }
 
-/// The next hops of a router in a network that runs no routing protocol: the set that the definition gives, each member
-/// once.
+/// The next hops of a router: the set that the definition gives, each member once.
 pub fn next_hops(
     alloc: Global,
     net: &Net,
     world: &World,
     router: u32,
 ) -> Result<List<Hop>, AllocError>
-    requires { runs_no_protocol net.now ≡ true }
     ensures { IfOk result (λ all. AreOnce all (hops.next_hops net.now world.now router)) }
 {
-    let all = list_hops(alloc, net, world, router)?;
+    let distances = all_distances(alloc, net, &world.failures)?;
+    let all = list_hops(alloc, net, world, distances.as_slice(), router)?;
     each_once(alloc, all.as_slice())
 }

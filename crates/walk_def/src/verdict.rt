@@ -1,7 +1,6 @@
 //! A walk that breaks that a router is reached, if there is one.
 
 ghost use Rattle.std.specs.Prelude.{◌≡◌, ◌<◌, ◌^◌, ℕ, List as ListOf, Option, Some, None, true, false, IfOk, IfSome, length, slice_get};
-ghost use Rattle.net_model.specs.Network.{runs_no_protocol};
 ghost use Rattle.question_lang.specs.declared.walk.Hop.{Hop as HopOf};
 ghost use Rattle.question_lang.specs.declared.walk.Walk.{Walk as WalkOf};
 ghost use Rattle.question_lang.specs.Breaking.{Breaks, reach_question};
@@ -12,21 +11,22 @@ use crate::hops::list_hops;
 use crate::safety::{first_harmful, is_known, no_marks, safe_routers};
 use mw_text::List;
 use net_model::Net;
+use proto_ospf::all_distances;
 use question_lang::{End, Hop, Start, Walk};
 use route_record::World;
 use std::alloc::{AllocError, Global};
 
-// The next hops of each router.
-fn all_hops(alloc: Global, net: &Net, world: &World) -> Result<List<List<Hop>>, AllocError>
-    requires { runs_no_protocol net.now ≡ true }
+/// The next hops of each router.
+pub fn all_hops(alloc: Global, net: &Net, world: &World) -> Result<List<List<Hop>>, AllocError>
     ensures len { IfOk result (λ hops. length hops ≡ length net.now) }
     ensures few { IfOk result (λ hops. length hops < 2 ^ 32) }
     ensures sent { IfOk result (λ hops. AreSent net.now world.now hops) }
     ensures inside { IfOk result (λ hops. safety.StayInside hops) }
 {
+    let distances = all_distances(alloc, net, &world.failures)?;
     let mut hops = List::new(alloc);
     for at in 0..net.routers().len() {
-        hops.items.push(list_hops(alloc, net, world, at as u32)?)?;
+        hops.items.push(list_hops(alloc, net, world, distances.as_slice(), at as u32)?)?;
     }
     Ok(hops)
 }
@@ -83,8 +83,8 @@ fn follow(
     })
 }
 
-/// A walk of the world's packet from the router `start` that ends, and not delivered at the router `target`, in a
-/// network that runs no routing protocol. None exactly where there is no such walk.
+/// A walk of the world's packet from the router `start` that ends, and not delivered at the router `target`. None exactly
+/// where there is no such walk.
 pub fn breaking_walk(
     alloc: Global,
     net: &Net,
@@ -93,7 +93,6 @@ pub fn breaking_walk(
     target: u32,
 ) -> Result<Option<Walk>, AllocError>
     requires within { start < length net.now }
-    requires plain { runs_no_protocol net.now ≡ true }
     ensures none { IfOk result (λ found. found ≡ None → (walk : Option WalkOf) →
         Breaks net.now world.now (reach_question start target) walk → ⊥) }
     ensures some { IfOk result (λ found. IfSome found (λ walk. Breaks net.now world.now (reach_question start target) (Some walk))) }

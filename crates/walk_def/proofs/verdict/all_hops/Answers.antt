@@ -9,7 +9,7 @@ loop-at-preserved c =
     let files = c.args.net.now in
     let before = c.loop-at.hops-inside.items.items in
     let here : IsSent files c.args.world.now (length before) c.in_ok-list_hops.field-0 =
-    sent_here files c.requires c.args.world.now c.loop-at.at (length before) c.in_ok-list_hops.field-0
+    sent_here files c.args.world.now c.loop-at.at (length before) c.in_ok-list_hops.field-0
     c.in_ok-list_hops.ensures c.loop-at.invariant.0 in (
       search rules,
       λ k hops found. each_place-push (IsSent files c.args.world.now) before c.in_ok-list_hops.field-0 c.loop-at.invariant.1 here k hops

@@ -1,0 +1,10 @@
+use Rattle.std.proofs.Common.{◌≡◌, ◌<◌, ℕ, List, Some, length, true, false}
+use Rattle.std.specs.Prelude.{slice_get}
+use Rattle.question_lang.specs.declared.walk.Hop.{Hop}
+use Rattle.question_lang.specs.Hops.{next_hops}
+use Rattle.walk_def.proofs.Arrivals.{AreLandingSoFar}
+use Rattle.walk_def.proofs.arriving.landing.Given as goal
+
+-- the marks of the routers so far
+abbrev pub invariant-loop-at : goal.invariant-loop-at
+invariant-loop-at l = (length l.marks.items ≡ l.at) × AreLandingSoFar l.net l.world l.target l.hops l.marks.items
