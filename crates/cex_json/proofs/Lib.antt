@@ -1,1 +1,3 @@
 pub mod Plain
+pub mod Filling
+pub mod Utf8

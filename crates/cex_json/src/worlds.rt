@@ -52,8 +52,8 @@ pub fn failure_values(alloc: Global, net: &Net, failed: &[u32]) -> Result<Vec<Va
     Ok(values)
 }
 
-// The neighbour line of an end.
-fn neighbour_of<'a>(files: &'a [File], end: &SessionEnd) -> Option<&'a Neighbour>
+/// The neighbour line of an end.
+pub fn neighbour_of<'a>(files: &'a [File], end: &SessionEnd) -> Option<&'a Neighbour>
     ensures { option_copied result ≡ sessions.neighbour_of files.now end.now }
 {
     match files.get(end.router as usize) {
@@ -89,13 +89,15 @@ fn peer_value(
     json!(in alloc; {"address": address, "id": id, "router": router})
 }
 
-fn is_outside(end: &SessionEnd) -> bool
+/// Whether an external peer lies at the far side.
+pub fn is_outside(end: &SessionEnd) -> bool
     ensures { result ≡ sessions.is_outside end.now.far }
 {
     matches!(end.far, Far::Outside)
 }
 
-fn external_ends(alloc: Global, net: &Net) -> Result<Vec<SessionEnd>, AllocError>
+/// The ends towards external peers.
+pub fn external_ends(alloc: Global, net: &Net) -> Result<Vec<SessionEnd>, AllocError>
     ensures { IfOk result (λ ends. ends.items ≡ sessions.external_ends net.now) }
 {
     net.ends()
