@@ -74,6 +74,15 @@ fn peer_string(alloc: Global, files: &[File], end: &SessionEnd) -> Result<String
     }
 }
 
+fn peer_asn(files: &[File], end: &SessionEnd) -> u32
+    ensures { result ≡ worlds.peer_asn files.now end.now }
+{
+    match neighbour_of(files, end) {
+        None => 0,
+        Some(neighbour) => neighbour.asn,
+    }
+}
+
 #[tactic(auto, unfolding(crate::specs::Worlds::peer_data))]
 fn peer_value(
     alloc: Global,
@@ -86,7 +95,8 @@ fn peer_value(
     let address = peer_string(alloc, files, end)?;
     let id = addr_value(alloc, id)?;
     let router = text_value(alloc, router_name(files, end.router as usize))?;
-    json!(in alloc; {"address": address, "id": id, "router": router})
+    let asn = peer_asn(files, end);
+    json!(in alloc; {"address": address, "asn": asn, "id": id, "router": router})
 }
 
 /// Whether an external peer lies at the far side.
