@@ -1,3 +1,6 @@
 pub mod Plain
 pub mod Filling
 pub mod Utf8
+pub mod Inversion
+pub mod Fitting
+pub mod Sizes

@@ -31,12 +31,15 @@ limits questions d = record { failures = option_map (λ q. q.failures) asked; pa
   asked : Option Question
   asked = option_and_then (slice_get questions) (asked_place questions d)
 
+abbrev pub format_in : Data → Option ℕ
+format_in d = passing (λ n. (n == 1) || (n == 2)) (number_in 2 (get (codes "format") d))
+
 -- what surrounds a routing: announcements, failed links, the packet and the identifiers of external peers
 unfoldable pub surroundings_in : List File → Limits → Data → Result Surroundings CexRefused
 surroundings_in files limits d = do
   announced ← announcements_in files d
   links ← failures_in files limits.failures d
-  format ← required [] (codes "format") (passing (λ n. (n == 1) || (n == 2)) (number_in 2 (get (codes "format") d)))
+  format ← required [] (codes "format") (format_in d)
   packet ← packet_in limits.packets d
   ids ← ids_in files format d
   Ok (record { announced = announced; links = links; packet = packet; ids = ids })

@@ -1,13 +1,12 @@
 //! A counterexample, as it is read.
 
-ghost use Rattle.std.specs.Prelude.{◌≡◌, ◌≢◌, ◌≤◌, ◌==◌, ◌||◌, [], Some, None, Ok, Err, IfOk, IfErr, codes, option_and_then, option_map, position, slice_get};
+ghost use Rattle.std.specs.Prelude.{◌≡◌, ◌≢◌, ◌<◌, ◌*◌, length, Some, None, Ok, Err, IfOk, IfErr, option_map, position, slice_get};
 ghost use Rattle.std.specs.Option.{option_copied};
 ghost use Rattle.mw_text.specs.Text.{same_text};
+ghost use Rattle.net_model.specs.World.{IsFailureSet};
 ghost use Rattle.serde_json.specs.View.{view};
-ghost use Rattle.serde_json.specs.Find.{get};
 ghost use Rattle.serde_json.specs.Read.{read};
-ghost use Rattle.cex_json.specs.Fields as fields;
-ghost use Rattle.cex_json.specs.Fields.{Reads, passing};
+ghost use Rattle.cex_json.specs.Fields.{Reads};
 ghost use Rattle.cex_json.specs.Reading as reading;
 
 use crate::counterexample::Counterexample;
@@ -20,7 +19,7 @@ use crate::surroundings::{failures_in, packet_in};
 use mw_text::{Addr, List, same_bytes};
 use net_model::Net;
 use question_lang::{PacketSet, Question, Walk};
-use route_record::{Announcement, Environment, Failures, Packet, Tables};
+use route_record::{Announcement, Environment, Failures, LENGTHS, Packet, Tables};
 use serde_json::Value;
 use std::alloc::Global;
 
@@ -86,7 +85,7 @@ fn limits_in(questions: &[Question], text: &Value) -> Limits
 }
 
 fn format_in(text: &Value) -> Option<u32>
-    ensures { result ≡ passing (λ n. (n == 1) || (n == 2)) (fields.number_in 2 (get (codes "format") (view text.now))) }
+    ensures { result ≡ reading.format_in (view text.now) }
 {
     match number_in(text, "format", 2) {
         None => None,
@@ -213,6 +212,7 @@ fn value_of(alloc: Global, bytes: &[u8]) -> Result<Value, CexRefused>
 ///
 /// `NotJson` exactly where the text is no JSON (RFC 8259). `Field` at the first field that is missing, of a wrong type, out
 /// of range, out of order, or names nothing of the network or the questions.
+#[tactic(auto, using(crate::proofs::Fitting::cex_failures, crate::proofs::Sizes::cex_slots, crate::proofs::Sizes::cex_question))]
 pub fn read_cex(
     alloc: Global,
     net: &Net,
@@ -222,7 +222,14 @@ pub fn read_cex(
     ensures ok { IfOk result (λ cex. reading.reading net.now questions.now bytes.now ≡ Ok cex) }
     ensures refused { IfErr result (λ refused. refused ≢ CexRefused.Memory →
         reading.reading net.now questions.now bytes.now ≡ Err refused) }
+
+    // The question is one of the list, the failed links are at most its number, and each router has a slot for each length.
+    ensures question { IfOk result (λ cex. cex.question < length questions.now) }
+    ensures failures { IfOk result (λ cex. (question : Question) → slice_get questions.now cex.question ≡ Some question →
+        IsFailureSet net.now question.failures cex.failures) }
+    ensures slots { IfOk result (λ cex. length cex.tables.slots ≡ LENGTHS * length net.now) }
 {
     let text = value_of(alloc, bytes)?;
-    cex_in(alloc, net, questions, &text)
+    let cex = cex_in(alloc, net, questions, &text)?;
+    Ok(cex)
 }
