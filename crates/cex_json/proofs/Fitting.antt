@@ -1,9 +1,9 @@
 -- What is read meets the format.
-use Rattle.std.proofs.Common.{◌≡◌, ℕ, suc, ◌-◌, ◌<◌, List, [], ◌∷◌, ◌++◌, length, Bool, true, ◌&&◌, nat_lt, nat_le, Option, Some, option_map, option_and_then, Ok, refl, sym, ap, ◌∙◌, subst, arith}
+use Rattle.std.proofs.Common.{◌≡◌, ℕ, suc, ◌-◌, ◌<◌, List, [], ◌∷◌, ◌++◌, length, Bool, true, nat_lt, nat_le, Option, Some, option_map, option_and_then, Ok, refl, sym, ap, ◌∙◌, subst, arith}
 use Rattle.std.specs.Prelude.{All, position, slice_get, codes}
 use Rattle.std.specs.List.{list_all}
 use Rattle.std.specs.Option.{option_map_or}
-use Rattle.std.proofs.lemmas.Bool.{and_parts, leb-true, ltb-true, lt-ltb}
+use Rattle.std.proofs.lemmas.Bool.{and_from, and_parts, leb-true, ltb-true, lt-ltb}
 use Rattle.std.proofs.lemmas.List.Elements.{All-append, All-cons}
 use Rattle.std.proofs.lemmas.List.Quantifiers.{position-Some}
 use Rattle.mw_text.specs.declared.address.Prefix.{Prefix}
@@ -33,33 +33,30 @@ last-cons a b rest =
     let m : length (b ∷ rest) - 1 ≡ length rest = omega arith in
     ap (slice_get (a ∷ b ∷ rest)) n ∙ sym (ap (slice_get (b ∷ rest)) m)
 
-both : (x y : Bool) → x ≡ true → y ≡ true → (x && y) ≡ true
-both x y one other = rw (one, other) refl
-
 -- all numbers that ascend are below one above the last
 all_below : (xs : List ℕ) (n : ℕ) → ascends xs ≡ true → is_above xs n ≡ true → list_all (λ x. nat_lt x n) xs ≡ true
 all_below [] n up above = refl
-all_below (a ∷ []) n up above = both (nat_lt a n) true above refl
+all_below (a ∷ []) n up above = and_from (nat_lt a n) true above refl
 all_below (a ∷ b ∷ rest) n up above =
     let parts = and_parts (list_all (nat_lt a) (b ∷ rest)) (ascends (b ∷ rest)) up in
     let deeper : is_above (b ∷ rest) n ≡ true = ap (λ o. option_map_or (λ last. nat_lt last n) o true) (sym (last-cons a b rest)) ∙ above in
     let others = all_below (b ∷ rest) n parts.1 deeper in
     let next = (and_parts (nat_lt a b) (list_all (nat_lt a) rest) parts.0).0 in
     let here = (and_parts (nat_lt b n) (list_all (λ x. nat_lt x n) rest) others).0 in
-    both (nat_lt a n) (list_all (λ x. nat_lt x n) (b ∷ rest)) (below-trans a b n next here) others
+    and_from (nat_lt a n) (list_all (λ x. nat_lt x n) (b ∷ rest)) (below-trans a b n next here) others
 
 all_one : (p : ℕ → Bool) (xs : List ℕ) (n : ℕ) → list_all p xs ≡ true → p n ≡ true → list_all p (xs ++ n ∷ []) ≡ true
-all_one p [] n holds one = both (p n) true one refl
+all_one p [] n holds one = and_from (p n) true one refl
 all_one p (x ∷ xs) n holds one =
     let parts = and_parts (p x) (list_all p xs) holds in
-    both (p x) (list_all p (xs ++ n ∷ [])) parts.0 (all_one p xs n parts.1 one)
+    and_from (p x) (list_all p (xs ++ n ∷ [])) parts.0 (all_one p xs n parts.1 one)
 
 ascends_below : (xs : List ℕ) (n : ℕ) → ascends xs ≡ true → list_all (λ x. nat_lt x n) xs ≡ true → ascends (xs ++ n ∷ []) ≡ true
 ascends_below [] n up below = refl
 ascends_below (a ∷ rest) n up below =
     let parts = and_parts (list_all (nat_lt a) rest) (ascends rest) up in
     let under = and_parts (nat_lt a n) (list_all (λ x. nat_lt x n) rest) below in
-    both (list_all (nat_lt a) (rest ++ n ∷ [])) (ascends (rest ++ n ∷ [])) (all_one (nat_lt a) rest n parts.0 under.0)
+    and_from (list_all (nat_lt a) (rest ++ n ∷ [])) (ascends (rest ++ n ∷ [])) (all_one (nat_lt a) rest n parts.0 under.0)
     (ascends_below rest n parts.1 under.1)
 
 -- numbers that ascend, and one above the last

@@ -4,3 +4,4 @@ pub mod Utf8
 pub mod Inversion
 pub mod Fitting
 pub mod Sizes
+pub mod InSet

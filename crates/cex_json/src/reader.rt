@@ -4,6 +4,7 @@ ghost use Rattle.std.specs.Prelude.{◌≡◌, ◌≢◌, ◌<◌, ◌*◌, leng
 ghost use Rattle.std.specs.Option.{option_copied};
 ghost use Rattle.mw_text.specs.Text.{same_text};
 ghost use Rattle.net_model.specs.World.{IsFailureSet};
+ghost use Rattle.question_lang.specs.Packets.{IsInSet};
 ghost use Rattle.serde_json.specs.View.{view};
 ghost use Rattle.serde_json.specs.Read.{read};
 ghost use Rattle.cex_json.specs.Fields.{Reads};
@@ -223,8 +224,11 @@ pub fn read_cex(
     ensures refused { IfErr result (λ refused. refused ≢ CexRefused.Memory →
         reading.reading net.now questions.now bytes.now ≡ Err refused) }
 
-    // The question is one of the list, the failed links are at most its number, and each router has a slot for each length.
+    // The question is one of the list, the packet is in its set and the failed links are at most its number; each router
+    // has a slot for each length.
     ensures question { IfOk result (λ cex. cex.question < length questions.now) }
+    ensures packet { IfOk result (λ cex. (question : Question) → slice_get questions.now cex.question ≡ Some question →
+        IsInSet question.packets cex.packet) }
     ensures failures { IfOk result (λ cex. (question : Question) → slice_get questions.now cex.question ≡ Some question →
         IsFailureSet net.now question.failures cex.failures) }
     ensures slots { IfOk result (λ cex. length cex.tables.slots ≡ LENGTHS * length net.now) }
