@@ -2,3 +2,8 @@ pub mod Json
 pub mod Parts
 pub mod Worlds
 pub mod Text
+pub mod Fields
+pub mod Entries
+pub mod Surroundings
+pub mod Standings
+pub mod Reading

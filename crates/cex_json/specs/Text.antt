@@ -20,7 +20,7 @@ abbrev pub world_fields : List File → Counterexample → List (List ℕ × Opt
 world_fields files cex =
     (codes "announcements", Some (announcements_data files cex.env.announced))
     ∷ (codes "failures", Some (failures_data files cex.failures.links))
-    ∷ (codes "format", Some (number_of 1))
+    ∷ (codes "format", Some (number_of 2))
     ∷ (codes "packet", Some (packet_data cex.packet))
     ∷ (codes "peers", Some (peers_data files cex.env.ids))
     ∷ []

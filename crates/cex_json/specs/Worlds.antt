@@ -27,10 +27,15 @@ link_data links at = string (link_text links at)
 abbrev pub peer_text : List File → SessionEnd → List ℕ
 peer_text files end = option_map_or (λ neighbour. addr_text neighbour.addr) (neighbour_of files end) []
 
+-- the AS number of the neighbour of an end; 0 without a neighbour line
+abbrev pub peer_asn : List File → SessionEnd → ℕ
+peer_asn files end = option_map_or (λ neighbour. neighbour.asn) (neighbour_of files end) 0
+
 -- an external peer, with the identifier that it has
 unfoldable pub peer_data : List File → SessionEnd → Addr → Data
 peer_data files end id = object_of (
     (codes "address", Some (string (peer_text files end)))
+    ∷ (codes "asn", Some (number_of (peer_asn files end)))
     ∷ (codes "id", Some (addr_data id))
     ∷ (codes "router", Some (text_of (router_name files end.router)))
     ∷ [])

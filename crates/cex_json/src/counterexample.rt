@@ -72,7 +72,7 @@ fn surroundings_of(
         Value::Array(announcements),
     )?;
     put(&mut fields, alloc, "failures", Value::Array(failures))?;
-    put(&mut fields, alloc, "format", Value::from(1u8))?;
+    put(&mut fields, alloc, "format", Value::from(2u8))?;
     put(&mut fields, alloc, "packet", packet)?;
     put(&mut fields, alloc, "peers", Value::Array(peers))?;
     Ok(fields)

@@ -2,10 +2,20 @@
 #![tactic(auto)]
 
 pub mod counterexample;
+mod entries;
+mod fields;
 mod parts;
+pub mod reader;
+pub mod refused;
 mod routes;
+mod senders;
+mod slots;
+mod standings;
+mod surroundings;
 mod tables;
 mod walks;
 mod worlds;
 
 pub use counterexample::{Counterexample, write_cex, write_tables};
+pub use reader::read_cex;
+pub use refused::CexRefused;

@@ -52,8 +52,8 @@ pub fn failure_values(alloc: Global, net: &Net, failed: &[u32]) -> Result<Vec<Va
     Ok(values)
 }
 
-// The neighbour line of an end.
-fn neighbour_of<'a>(files: &'a [File], end: &SessionEnd) -> Option<&'a Neighbour>
+/// The neighbour line of an end.
+pub fn neighbour_of<'a>(files: &'a [File], end: &SessionEnd) -> Option<&'a Neighbour>
     ensures { option_copied result ≡ sessions.neighbour_of files.now end.now }
 {
     match files.get(end.router as usize) {
@@ -74,6 +74,15 @@ fn peer_string(alloc: Global, files: &[File], end: &SessionEnd) -> Result<String
     }
 }
 
+fn peer_asn(files: &[File], end: &SessionEnd) -> u32
+    ensures { result ≡ worlds.peer_asn files.now end.now }
+{
+    match neighbour_of(files, end) {
+        None => 0,
+        Some(neighbour) => neighbour.asn,
+    }
+}
+
 #[tactic(auto, unfolding(crate::specs::Worlds::peer_data))]
 fn peer_value(
     alloc: Global,
@@ -86,16 +95,19 @@ fn peer_value(
     let address = peer_string(alloc, files, end)?;
     let id = addr_value(alloc, id)?;
     let router = text_value(alloc, router_name(files, end.router as usize))?;
-    json!(in alloc; {"address": address, "id": id, "router": router})
+    let asn = peer_asn(files, end);
+    json!(in alloc; {"address": address, "asn": asn, "id": id, "router": router})
 }
 
-fn is_outside(end: &SessionEnd) -> bool
+/// Whether an external peer lies at the far side.
+pub fn is_outside(end: &SessionEnd) -> bool
     ensures { result ≡ sessions.is_outside end.now.far }
 {
     matches!(end.far, Far::Outside)
 }
 
-fn external_ends(alloc: Global, net: &Net) -> Result<Vec<SessionEnd>, AllocError>
+/// The ends towards external peers.
+pub fn external_ends(alloc: Global, net: &Net) -> Result<Vec<SessionEnd>, AllocError>
     ensures { IfOk result (λ ends. ends.items ≡ sessions.external_ends net.now) }
 {
     net.ends()

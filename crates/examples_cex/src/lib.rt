@@ -1,5 +1,0 @@
-//! Tests of the text of a counterexample.
-#![tactic(auto)]
-
-#[cfg(test)]
-mod written;
