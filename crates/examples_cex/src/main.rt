@@ -8,7 +8,7 @@ use cex_json::{CexRefused, Counterexample, read_cex, write_cex};
 use ios_ast::File;
 use ios_reader::read_file;
 use mw_text::{Addr, List, list_of, prefix_of};
-use net_model::Net;
+use net_model::{Net, keep_limits};
 use question_lang::{Kind, PacketSet, Question, Start, Target};
 use std::alloc::{AllocError, Global};
 use std::io;
@@ -39,7 +39,10 @@ fn two_routers(alloc: Global) -> Result<Option<Net>, AllocError> {
     let mut files: List<File> = List::new(alloc);
     add_file(alloc, &mut files, FIRST)?;
     add_file(alloc, &mut files, SECOND)?;
-    Net::of(alloc, files)
+    if !keep_limits(files.as_slice()) {
+        return Ok(None);
+    }
+    Ok(Net::build(alloc, files).ok())
 }
 
 fn question(alloc: Global, name: &[u8], kind: Kind, failures: u32) -> Result<Question, AllocError> {

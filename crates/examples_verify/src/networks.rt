@@ -37,7 +37,7 @@ fn missing_static_route_breaks(rt: HostRuntime) -> Result<(), Fail> {
         &[],
     )?;
     let wanted =
-        "broken q1\n{\"announcements\":[],\"failures\":[],\"format\":1,\"packet\":{\"dport\":0,\"dst\":\"10.2.0.1\",\"proto\":1,\"sport\":0,\"src\":\"10.0.0.1\"},\"peers\":[],\"question\":\"q1\",\"tables\":[{\"len\":32,\"rib\":{\"distance\":0,\"source\":\"connected\"},\"router\":\"N2\"}],\"walk\":{\"end\":\"noroute\",\"hops\":[{\"router\":\"N1\"}]}}\n";
+        "broken q1\n{\"announcements\":[],\"failures\":[],\"format\":2,\"packet\":{\"dport\":0,\"dst\":\"10.2.0.1\",\"proto\":1,\"sport\":0,\"src\":\"10.0.0.1\"},\"peers\":[],\"question\":\"q1\",\"tables\":[{\"len\":32,\"rib\":{\"distance\":0,\"source\":\"connected\"},\"router\":\"N2\"}],\"walk\":{\"end\":\"noroute\",\"hops\":[{\"router\":\"N1\"}]}}\n";
     assert_eq!(rt; ran.text.as_slice(), wanted.as_bytes());
     assert_eq!(rt; ran.status, Status::Bad);
     Ok(())
@@ -79,7 +79,7 @@ fn chain_of_five_routers(rt: HostRuntime) -> Result<(), Fail> {
     )?;
     // The first destination is C5's loopback. The second is no router's: C4 sends it to C5, which has no route.
     let wanted =
-        "holds near\nbroken far\n{\"announcements\":[],\"failures\":[],\"format\":1,\"packet\":{\"dport\":80,\"dst\":\"10.9.0.6\",\"proto\":6,\"sport\":1024,\"src\":\"10.1.2.1\"},\"peers\":[],\"question\":\"far\",\"tables\":[{\"len\":16,\"rib\":{\"distance\":1,\"source\":\"static\"},\"router\":\"C1\"},{\"len\":16,\"rib\":{\"distance\":1,\"source\":\"static\"},\"router\":\"C2\"},{\"len\":16,\"rib\":{\"distance\":1,\"source\":\"static\"},\"router\":\"C3\"},{\"len\":16,\"rib\":{\"distance\":1,\"source\":\"static\"},\"router\":\"C4\"}],\"walk\":{\"end\":\"noroute\",\"hops\":[{\"router\":\"C2\"},{\"in\":\"Ethernet0\",\"router\":\"C3\"},{\"in\":\"Ethernet0\",\"router\":\"C4\"},{\"in\":\"Ethernet0\",\"router\":\"C5\"}]}}\n";
+        "holds near\nbroken far\n{\"announcements\":[],\"failures\":[],\"format\":2,\"packet\":{\"dport\":80,\"dst\":\"10.9.0.6\",\"proto\":6,\"sport\":1024,\"src\":\"10.1.2.1\"},\"peers\":[],\"question\":\"far\",\"tables\":[{\"len\":16,\"rib\":{\"distance\":1,\"source\":\"static\"},\"router\":\"C1\"},{\"len\":16,\"rib\":{\"distance\":1,\"source\":\"static\"},\"router\":\"C2\"},{\"len\":16,\"rib\":{\"distance\":1,\"source\":\"static\"},\"router\":\"C3\"},{\"len\":16,\"rib\":{\"distance\":1,\"source\":\"static\"},\"router\":\"C4\"}],\"walk\":{\"end\":\"noroute\",\"hops\":[{\"router\":\"C2\"},{\"in\":\"Ethernet0\",\"router\":\"C3\"},{\"in\":\"Ethernet0\",\"router\":\"C4\"},{\"in\":\"Ethernet0\",\"router\":\"C5\"}]}}\n";
     assert_eq!(rt; ran.text.as_slice(), wanted.as_bytes());
     assert_eq!(rt; ran.status, Status::Bad);
     Ok(())
@@ -106,7 +106,7 @@ fn loop_of_three_routers_breaks(rt: HostRuntime) -> Result<(), Fail> {
     ];
     let ran = run_over(rt.alloc(), &files, &["verify", "q", "l1", "l2", "l3"], &[])?;
     let wanted =
-        "broken round\n{\"announcements\":[],\"failures\":[],\"format\":1,\"packet\":{\"dport\":0,\"dst\":\"10.9.1.1\",\"proto\":1,\"sport\":0,\"src\":\"10.0.12.1\"},\"peers\":[],\"question\":\"round\",\"tables\":[{\"len\":16,\"rib\":{\"distance\":1,\"source\":\"static\"},\"router\":\"L1\"},{\"len\":16,\"rib\":{\"distance\":1,\"source\":\"static\"},\"router\":\"L2\"},{\"len\":16,\"rib\":{\"distance\":1,\"source\":\"static\"},\"router\":\"L3\"}],\"walk\":{\"end\":\"loop\",\"hops\":[{\"router\":\"L1\"},{\"in\":\"Ethernet0\",\"router\":\"L2\"},{\"in\":\"Ethernet1\",\"router\":\"L3\"},{\"in\":\"Ethernet1\",\"router\":\"L1\"}]}}\n";
+        "broken round\n{\"announcements\":[],\"failures\":[],\"format\":2,\"packet\":{\"dport\":0,\"dst\":\"10.9.1.1\",\"proto\":1,\"sport\":0,\"src\":\"10.0.12.1\"},\"peers\":[],\"question\":\"round\",\"tables\":[{\"len\":16,\"rib\":{\"distance\":1,\"source\":\"static\"},\"router\":\"L1\"},{\"len\":16,\"rib\":{\"distance\":1,\"source\":\"static\"},\"router\":\"L2\"},{\"len\":16,\"rib\":{\"distance\":1,\"source\":\"static\"},\"router\":\"L3\"}],\"walk\":{\"end\":\"loop\",\"hops\":[{\"router\":\"L1\"},{\"in\":\"Ethernet0\",\"router\":\"L2\"},{\"in\":\"Ethernet1\",\"router\":\"L3\"},{\"in\":\"Ethernet1\",\"router\":\"L1\"}]}}\n";
     assert_eq!(rt; ran.text.as_slice(), wanted.as_bytes());
     assert_eq!(rt; ran.status, Status::Bad);
     Ok(())
@@ -130,7 +130,7 @@ fn one_of_two_equal_routes_leads_nowhere(rt: HostRuntime) -> Result<(), Fail> {
         &[],
     )?;
     let wanted =
-        "broken q1\n{\"announcements\":[],\"failures\":[],\"format\":1,\"packet\":{\"dport\":0,\"dst\":\"10.2.0.1\",\"proto\":1,\"sport\":0,\"src\":\"10.0.0.1\"},\"peers\":[],\"question\":\"q1\",\"tables\":[{\"len\":32,\"rib\":{\"distance\":1,\"source\":\"static\"},\"router\":\"N1\"},{\"len\":32,\"rib\":{\"distance\":0,\"source\":\"connected\"},\"router\":\"N2\"}],\"walk\":{\"end\":\"left 10.0.0.3\",\"hops\":[{\"router\":\"N1\"}]}}\n";
+        "broken q1\n{\"announcements\":[],\"failures\":[],\"format\":2,\"packet\":{\"dport\":0,\"dst\":\"10.2.0.1\",\"proto\":1,\"sport\":0,\"src\":\"10.0.0.1\"},\"peers\":[],\"question\":\"q1\",\"tables\":[{\"len\":32,\"rib\":{\"distance\":1,\"source\":\"static\"},\"router\":\"N1\"},{\"len\":32,\"rib\":{\"distance\":0,\"source\":\"connected\"},\"router\":\"N2\"}],\"walk\":{\"end\":\"left 10.0.0.3\",\"hops\":[{\"router\":\"N1\"}]}}\n";
     assert_eq!(rt; ran.text.as_slice(), wanted.as_bytes());
     assert_eq!(rt; ran.status, Status::Bad);
     Ok(())
@@ -151,7 +151,7 @@ fn null_route_discards(rt: HostRuntime) -> Result<(), Fail> {
         &[],
     )?;
     let wanted =
-        "broken q1\n{\"announcements\":[],\"failures\":[],\"format\":1,\"packet\":{\"dport\":0,\"dst\":\"10.2.0.1\",\"proto\":1,\"sport\":0,\"src\":\"10.0.0.1\"},\"peers\":[],\"question\":\"q1\",\"tables\":[{\"len\":16,\"rib\":{\"distance\":1,\"source\":\"static\"},\"router\":\"N1\"},{\"len\":32,\"rib\":{\"distance\":0,\"source\":\"connected\"},\"router\":\"N2\"}],\"walk\":{\"end\":\"discarded\",\"hops\":[{\"router\":\"N1\"}]}}\n";
+        "broken q1\n{\"announcements\":[],\"failures\":[],\"format\":2,\"packet\":{\"dport\":0,\"dst\":\"10.2.0.1\",\"proto\":1,\"sport\":0,\"src\":\"10.0.0.1\"},\"peers\":[],\"question\":\"q1\",\"tables\":[{\"len\":16,\"rib\":{\"distance\":1,\"source\":\"static\"},\"router\":\"N1\"},{\"len\":32,\"rib\":{\"distance\":0,\"source\":\"connected\"},\"router\":\"N2\"}],\"walk\":{\"end\":\"discarded\",\"hops\":[{\"router\":\"N1\"}]}}\n";
     assert_eq!(rt; ran.text.as_slice(), wanted.as_bytes());
     assert_eq!(rt; ran.status, Status::Bad);
     Ok(())
@@ -204,7 +204,7 @@ fn access_list_denies_web_packets(rt: HostRuntime) -> Result<(), Fail> {
         &[],
     )?;
     let wanted =
-        "holds q1\nbroken q2\n{\"announcements\":[],\"failures\":[],\"format\":1,\"packet\":{\"dport\":80,\"dst\":\"10.2.0.1\",\"proto\":6,\"sport\":1234,\"src\":\"10.0.0.1\"},\"peers\":[],\"question\":\"q2\",\"tables\":[{\"len\":32,\"rib\":{\"distance\":1,\"source\":\"static\"},\"router\":\"N1\"},{\"len\":32,\"rib\":{\"distance\":0,\"source\":\"connected\"},\"router\":\"N2\"}],\"walk\":{\"end\":\"deniedin N2 GigabitEthernet0/0\",\"hops\":[{\"router\":\"N1\"}]}}\n";
+        "holds q1\nbroken q2\n{\"announcements\":[],\"failures\":[],\"format\":2,\"packet\":{\"dport\":80,\"dst\":\"10.2.0.1\",\"proto\":6,\"sport\":1234,\"src\":\"10.0.0.1\"},\"peers\":[],\"question\":\"q2\",\"tables\":[{\"len\":32,\"rib\":{\"distance\":1,\"source\":\"static\"},\"router\":\"N1\"},{\"len\":32,\"rib\":{\"distance\":0,\"source\":\"connected\"},\"router\":\"N2\"}],\"walk\":{\"end\":\"deniedin N2 GigabitEthernet0/0\",\"hops\":[{\"router\":\"N1\"}]}}\n";
     assert_eq!(rt; ran.text.as_slice(), wanted.as_bytes());
     assert_eq!(rt; ran.status, Status::Bad);
     Ok(())
