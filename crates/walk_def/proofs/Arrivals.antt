@@ -1,5 +1,5 @@
 -- From which routers a walk ends at a target.
-use Rattle.std.proofs.Common.{◌≡◌, ℕ, zero, suc, ◌<◌, Bool, true, false, not, List, [], ◌∷◌, ◌++◌, length, set, Option, Some, None, refl, sym, ap, subst, arith, ◌∙◌}
+use Rattle.std.proofs.Common.{◌≡◌, ℕ, zero, suc, ◌<◌, Bool, true, false, List, [], ◌∷◌, ◌++◌, length, set, Option, Some, None, refl, sym, ap, subst, arith, ◌∙◌}
 use Rattle.std.specs.Prelude.{Contains, slice_get, unwrap_or}
 use Rattle.std.specs.List.{list_any}
 use Rattle.std.specs.Option.{option_map_or}
@@ -207,12 +207,3 @@ no_arrival files world target all landing marks start long sent landed kept shut
     unled marks own i (k, within, is) none true marked =
         let some = list_any-from_Any (leads_to_known marks) own (k, To i, within, is, marked) in cc
     unled marks own i has none false unmarked = unmarked
-
--- what a negation says
-pub unset : (b : Bool) → not b ≡ true → b ≡ false
-unset true h = cc
-unset false h = refl
-
-pub is_set : (b : Bool) → not b ≡ false → b ≡ true
-is_set true h = refl
-is_set false h = cc

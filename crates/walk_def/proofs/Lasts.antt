@@ -6,7 +6,7 @@ use Rattle.std.specs.Prelude.{All}
 use Rattle.std.specs.List.{AllByRecursion, list_any}
 use Rattle.std.proofs.lemmas.List.Elements.{All-contains, All-from_recursion}
 use Rattle.std.proofs.lemmas.List.Folds.{Any-from_list_any}
-use Rattle.std.proofs.lemmas.Bool.{eqb-true}
+use Rattle.std.proofs.lemmas.Bool.{eqb-true, or_parts}
 use Rattle.question_lang.specs.declared.question.Start.{Start}
 use Rattle.walk_def.proofs.Members.{last-same}
 use Rattle.walk_def.specs.Arriving.{LastIn}
@@ -29,6 +29,7 @@ pub last_in : (P : ℕ → Type 0) (standings : List Start) (last : Start) → 0
     last ≡ get_or standings (length standings - 1) last → P last.router → LastIn P standings
 last_in P standings last some is holds = (take (length standings - 1) standings, last, read_last standings last some is, holds)
 
+-- what does not hold of it
 pub not_last : (P : ℕ → Type 0) (standings : List Start) (last : Start) → 0 < length standings →
     last ≡ get_or standings (length standings - 1) last → (P last.router → ⊥) → LastIn P standings → ⊥
 not_last P standings last some is without (front, other, same, holds) =
@@ -36,22 +37,19 @@ not_last P standings last some is without (front, other, same, holds) =
     last-same front (take (length standings - 1) standings) other last (sym same ∙ read_last standings last some is) in
     without (subst (λ s. P s.router) is_last holds)
 
--- no standing is at the router
 avoided : (via : ℕ) (standings : List Start) → list_any (λ s. eqb s.router via) standings ≡ false →
     AllByRecursion (λ s. s.router ≢ via) standings
 avoided via [] none = tt
 avoided via (s ∷ rest) none =
-    let parts = neither (eqb s.router via) (list_any (λ x. eqb x.router via) rest) none in
+    let parts = or_parts (eqb s.router via) (list_any (λ x. eqb x.router via) rest) none in
     (λ same. let here = eq-eqb s.router via same in let none_here = parts.0 in cc, avoided via rest parts.1)
-  where
-    neither : (a b : Bool) → (a || b) ≡ false → (a ≡ false) × (b ≡ false)
-    neither true b h = cc
-    neither false b h = (refl, h)
 
+-- no standing is at the router
 pub all_avoid : (via : ℕ) (standings : List Start) → list_any (λ s. eqb s.router via) standings ≡ false →
     All (λ s. s.router ≢ via) standings
 all_avoid via standings none = All-from_recursion _ standings (avoided via standings none)
 
+-- one is
 pub not_avoiding : (via : ℕ) (standings : List Start) → list_any (λ s. eqb s.router via) standings ≡ true →
     All (λ s. s.router ≢ via) standings → ⊥
 not_avoiding via standings some all =

@@ -1,4 +1,5 @@
-//! Walks of a packet: the next hops of each router, and a walk that breaks a question, if there is one.
+//! Walks of a packet: the next hops of each router, whether a list of standings is a walk and breaks a question, and a walk
+//! that breaks that a router is reached. The one error of its calls is want of memory.
 #![tactic(auto)]
 
 mod adjacent;
