@@ -1,0 +1,4 @@
+//! Whether tables are a stable routing of a network.
+#![tactic(auto)]
+
+mod ospf;
