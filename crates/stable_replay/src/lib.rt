@@ -1,5 +1,6 @@
 //! Whether tables are a stable routing of a network.
 #![tactic(auto)]
 
+mod arriving;
 mod entry;
 mod ospf;
