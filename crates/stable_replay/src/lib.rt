@@ -3,4 +3,5 @@
 
 mod arriving;
 mod entry;
+mod learnt;
 mod ospf;
