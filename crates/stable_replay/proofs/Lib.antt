@@ -1,1 +1,2 @@
+pub mod BgpParts
 pub mod OspfParts

@@ -104,3 +104,66 @@ fn resolved_candidate(
         peer_id,
     }))
 }
+
+// What was learnt over the session of the end at that place, as a candidate.
+fn learnt_candidate(
+    alloc: Global,
+    net: &Net,
+    failures: &Failures,
+    env: &Environment,
+    tables: &Tables,
+    all: &[Reached],
+    up: &[bool],
+    p: &Prefix,
+    at: u32,
+    end: &SessionEnd,
+) -> Result<Option<Candidate>, AllocError>
+    requires all { all.now ≡ all_reached net.now failures.now }
+    requires up { up.now ≡ map (session_up net.now failures.now) (sessions.ends_of net.now) }
+    requires is { slice_get (sessions.ends_of net.now) at ≡ Some end.now }
+    requires within { at < length (sessions.ends_of net.now) }
+    ensures { IfOk result (λ made. option_map seen made
+        ≡ decisions.learnt_candidate net.now failures.now env.now tables.now p.now (at, end.now)) }
+{
+    if !is_up(net, failures, up, at, end) {
+        return Ok(None);
+    }
+    match arrived(alloc, net, env, tables, p, at, end)? {
+        None => Ok(None),
+        Some(rec) => resolved_candidate(alloc, net, failures, env, all, at, end, rec),
+    }
+}
+
+/// Puts at the end what the router has learnt for the prefix, by session: `all` are the interior distances, `up` the
+/// states of all sessions.
+pub fn add_learnt(
+    alloc: Global,
+    out: &mut List<Candidate>,
+    net: &Net,
+    failures: &Failures,
+    env: &Environment,
+    tables: &Tables,
+    all: &[Reached],
+    up: &[bool],
+    router: u32,
+    p: &Prefix,
+) -> Result<(), AllocError>
+    requires all { all.now ≡ all_reached net.now failures.now }
+    requires up { up.now ≡ map (session_up net.now failures.now) (sessions.ends_of net.now) }
+    requires few { length (sessions.ends_of net.now) ≤ 0xffff_ffff }
+    ensures { OnOk result (map seen out.new ≡ map seen out.old
+        ++ filter_map (decisions.learnt_candidate net.now failures.now env.now tables.now p.now)
+        (filter (λ e. e.1.router == router) (decisions.numbered 0 (sessions.ends_of net.now)))) }
+{
+    for (at, end) in net.ends().iter().enumerate() {
+        if end.router == router {
+            let at = at as u32;
+            if let Some(c) =
+                learnt_candidate(alloc, net, failures, env, tables, all, up, p, at, end)?
+            {
+                out.items.push(c)?;
+            }
+        }
+    }
+    Ok(())
+}

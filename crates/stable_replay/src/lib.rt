@@ -2,6 +2,7 @@
 #![tactic(auto)]
 
 mod arriving;
+mod candidates;
 mod entry;
 mod learnt;
 mod ospf;
