@@ -1,2 +1,3 @@
 pub mod BgpParts
 pub mod OspfParts
+pub mod SameRoutes

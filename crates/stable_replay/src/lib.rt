@@ -6,3 +6,4 @@ mod candidates;
 mod entry;
 mod learnt;
 mod ospf;
+mod same;
