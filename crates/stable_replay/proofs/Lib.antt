@@ -1,3 +1,4 @@
 pub mod BgpParts
+pub mod LeftOver
 pub mod OspfParts
 pub mod SameRoutes

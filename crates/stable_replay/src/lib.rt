@@ -3,6 +3,7 @@
 
 mod arriving;
 mod candidates;
+mod decided;
 mod entry;
 mod learnt;
 mod ospf;
