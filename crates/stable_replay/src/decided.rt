@@ -1,6 +1,6 @@
 //! The BGP part of a slot: the route of some candidate that the decision process leaves (RFC 4271, section 9.1.2.2).
 
-ghost use Rattle.std.specs.Prelude.{◌≡◌, ◌≤◌, ◌++◌, false, IfOk, OnOk, None, Some, length, map, slice_get};
+ghost use Rattle.std.specs.Prelude.{◌≡◌, ◌≤◌, [], false, IfOk, None, Some, length, map, slice_get};
 ghost use Rattle.std.specs.Bool.{Decides};
 ghost use Rattle.std.specs.List.{list_any};
 ghost use Rattle.std.specs.Option.{option_map_or};
@@ -91,4 +91,95 @@ fn slots_left(
         }
     }
     Ok(made)
+}
+
+// Tests what is held against what the decision process of the router leaves of these candidates.
+fn test_left(
+    alloc: Global,
+    process: &Bgp,
+    all: &[Candidate],
+    held: &Option<BgpRec>,
+) -> Result<Option<List<Slot>>, AllocError>
+    ensures { IfOk result (parts.IsTested
+        (decisions.IsHeld (map seen all.now)
+        (decisions.survivors process.now.always_compare process.now.compare_routerid (map seen all.now)) held.now)
+        (parts.bgp_slots (decisions.survivors process.now.always_compare process.now.compare_routerid (map seen all.now)))) }
+{
+    let left = survivors(alloc, process.always_compare, process.compare_routerid, all)?;
+    if is_held(all, left.as_slice(), held) {
+        return Ok(None);
+    }
+    Ok(Some(slots_left(alloc, all, left.as_slice())?))
+}
+
+// Tests what is held against the candidates that the process leaves.
+#[tactic(auto, unfolding(net_model::specs::Decisions::DecidedByBgp))]
+fn test_process(
+    alloc: Global,
+    net: &Net,
+    failures: &Failures,
+    env: &Environment,
+    tables: &Tables,
+    all: &[Reached],
+    up: &[bool],
+    router: u32,
+    file: &File,
+    process: &Bgp,
+    p: &Prefix,
+    held: &Option<BgpRec>,
+) -> Result<Option<List<Slot>>, AllocError>
+    requires all { all.now ≡ all_reached net.now failures.now }
+    requires up { up.now ≡ map (session_up net.now failures.now) (ends_of net.now) }
+    requires few { length (ends_of net.now) ≤ 0xffff_ffff }
+    requires file { slice_get net.now router ≡ Some file.now }
+    requires process { file.now.bgp ≡ Some process.now }
+    ensures { IfOk result (parts.IsTested
+        (decisions.DecidedByBgp net.now failures.now env.now tables.now router file.now process.now p.now held.now)
+        (parts.bgp_slots (parts.left_by net.now failures.now env.now tables.now router file.now p.now process.now))) }
+{
+    let made = candidates(
+        alloc, net, failures, env, tables, all, up, router, file, process, p,
+    )?;
+    test_left(alloc, process, made.as_slice(), held)
+}
+
+// What the test answers of a router without BGP.
+fn test_none(alloc: Global, held: &Option<BgpRec>) -> Option<List<Slot>>
+    ensures { parts.IsTested (held.now ≡ None) [] result }
+{
+    match held {
+        None => None,
+        Some(_) => Some(List::new(alloc)),
+    }
+}
+
+/// Tests the BGP part of a slot. None where the route that is held is that of some candidate that the decision process
+/// leaves, or there is none of either; else the routes of all that it leaves, each as often as it comes.
+pub fn test_bgp(
+    alloc: Global,
+    net: &Net,
+    failures: &Failures,
+    env: &Environment,
+    tables: &Tables,
+    all: &[Reached],
+    up: &[bool],
+    router: u32,
+    file: &File,
+    p: &Prefix,
+    held: &Option<BgpRec>,
+) -> Result<Option<List<Slot>>, AllocError>
+    requires all { all.now ≡ all_reached net.now failures.now }
+    requires up { up.now ≡ map (session_up net.now failures.now) (ends_of net.now) }
+    requires few { length (ends_of net.now) ≤ 0xffff_ffff }
+    requires file { slice_get net.now router ≡ Some file.now }
+    ensures { IfOk result (parts.IsTested
+        (stable.IsDecided net.now failures.now env.now tables.now router file.now p.now held.now)
+        (parts.bgp_wanted net.now failures.now env.now tables.now router file.now p.now)) }
+{
+    match &file.bgp {
+        None => Ok(test_none(alloc, held)),
+        Some(process) => test_process(
+            alloc, net, failures, env, tables, all, up, router, file, process, p, held,
+        ),
+    }
 }

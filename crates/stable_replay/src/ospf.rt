@@ -1,6 +1,7 @@
 //! The OSPF part of a slot: the first best of the own origins and the offers (RFC 2328, section 16.4).
 
 ghost use Rattle.std.specs.Prelude.{◌≡◌, ◌==◌, ◌&&◌, ◌++◌, [], IfOk, OnOk, Some, slice_get};
+ghost use Rattle.std.specs.Bool.{Decides};
 ghost use Rattle.std.specs.List.{filter_map};
 ghost use Rattle.std.specs.Option.{option_map_or};
 ghost use Rattle.mw_text.specs.Address.{same_prefix};
@@ -166,4 +167,68 @@ pub fn wanted_ospf(
     }
     let all = all_routes(alloc, net, failures, tables, router, p)?;
     Ok(first_best(all.as_slice()))
+}
+
+fn same_kind(a: OspfKind, b: OspfKind) -> bool
+    ensures { Decides result (a ≡ b) }
+{
+    match (a, b) {
+        (OspfKind::Internal, OspfKind::Internal) => true,
+        (OspfKind::Ext1, OspfKind::Ext1) => true,
+        (OspfKind::Ext2, OspfKind::Ext2) => true,
+        _ => false,
+    }
+}
+
+fn same_record(a: &OspfRec, b: &OspfRec) -> bool
+    ensures { Decides result (a.now ≡ b.now) }
+{
+    same_kind(a.kind, b.kind) && a.metric == b.metric && a.cost == b.cost
+}
+
+fn same_ospf(a: &Option<OspfRec>, b: &Option<OspfRec>) -> bool
+    ensures { Decides result (a.now ≡ b.now) }
+{
+    match (a, b) {
+        (None, None) => true,
+        (Some(a), Some(b)) => same_record(a, b),
+        _ => false,
+    }
+}
+
+fn slots_of(alloc: Global, wanted: Option<OspfRec>) -> Result<List<Slot>, AllocError>
+    ensures { IfOk result (λ made. made ≡ parts.ospf_slots wanted) }
+{
+    let mut made = List::new(alloc);
+    if wanted.is_some() {
+        made.items.push(Slot {
+            ospf: wanted,
+            bgp: None,
+            rib: None,
+        })?;
+    }
+    Ok(made)
+}
+
+/// Tests the OSPF part of a slot. None where it is what the router holds by the tables; else that record, if there is one.
+pub fn test_ospf(
+    alloc: Global,
+    net: &Net,
+    failures: &Failures,
+    tables: &Tables,
+    router: u32,
+    file: &File,
+    p: &Prefix,
+    held: &Option<OspfRec>,
+) -> Result<Option<List<Slot>>, AllocError>
+    requires file { slice_get net.now router ≡ Some file.now }
+    ensures { IfOk result (parts.IsTested
+        (held.now ≡ stable.held_ospf net.now failures.now tables.now router file.now p.now)
+        (parts.ospf_slots (stable.held_ospf net.now failures.now tables.now router file.now p.now))) }
+{
+    let wanted = wanted_ospf(alloc, net, failures, tables, router, file, p)?;
+    if same_ospf(held, &wanted) {
+        return Ok(None);
+    }
+    Ok(Some(slots_of(alloc, wanted)?))
 }
