@@ -3,6 +3,7 @@
 
 mod arriving;
 mod candidates;
+mod checking;
 mod decided;
 mod differs;
 mod entry;
@@ -11,4 +12,5 @@ mod ospf;
 mod same;
 mod slots;
 
+pub use checking::check;
 pub use differs::{Differs, Part, ReplayNo};
