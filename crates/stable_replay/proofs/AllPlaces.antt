@@ -1,5 +1,5 @@
 -- The slots of all routers, by their places.
-use Rattle.std.proofs.Common.{◌≡◌, ◌∙◌, ℕ, ◌+◌, ◌*◌, ◌/◌, ◌%◌, ◌<◌, List, length, Option, Some, inl, inr, refl, ap, arith, sym, subst}
+use Rattle.std.proofs.Common.{◌≡◌, ◌∙◌, ℕ, ◌+◌, ◌*◌, ◌/◌, ◌%◌, ◌<◌, List, length, Some, refl, ap, arith, sym, subst}
 use Rattle.std.specs.Prelude.{slice_get}
 use Rattle.std.proofs.lemmas.Option.{slice_get_within}
 use Rattle.mw_text.specs.declared.address.Addr.{Addr}
@@ -16,7 +16,7 @@ use Rattle.net_model.specs.Stable.{IsStableSlot, Stable}
 use Rattle.stable_replay.specs.declared.differs.Differs.{Differs}
 use Rattle.stable_replay.specs.declared.differs.Part.{Part}
 use Rattle.stable_replay.specs.declared.differs.Part.TheVariants.{Ospf, Bgp, Rib}
-use Rattle.stable_replay.specs.Differences.{IsDifferenceAt, IsEarlier, IsFirstDifference, IsFirstUnlike, IsStableAt, IsUnlike}
+use Rattle.stable_replay.specs.Differences.{IsDifferenceAt, IsFirstDifference, IsFirstUnlike, IsStableAt}
 
 -- a place is a router and a length
 place_router : (router len : ℕ) → len < LENGTHS → (LENGTHS * router + len) / LENGTHS ≡ router

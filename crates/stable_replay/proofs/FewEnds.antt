@@ -1,5 +1,5 @@
 -- A network has few session ends, so the place of one fits.
-use Rattle.std.proofs.Common.{◌≡◌, ◌≤◌, true, List, length, map, refl, arith}
+use Rattle.std.proofs.Common.{◌≡◌, ◌≤◌, true, List, length, refl, arith}
 use Rattle.std.proofs.lemmas.List.{length-map}
 use Rattle.std.specs.List.{list_all}
 use Rattle.ios_ast.specs.declared.file.File.{File}

@@ -36,8 +36,7 @@ any_decides : (rec : BgpRec) (cs : List decisions.Candidate) →
     Decides (list_any (λ c. same_rec c.rec rec) cs) (Any (λ c. c.rec ≡ rec) cs)
 any_decides rec cs =
     let has : decisions.Candidate → Bool = λ c. same_rec c.rec rec in
-    let tells : (c : decisions.Candidate) → Decides (has c) (c.rec ≡ rec) = λ c. same_rec_decides c.rec rec in
-    (
+    let tells : (c : decisions.Candidate) → Decides (has c) (c.rec ≡ rec) = λ c. same_rec_decides c.rec rec in (
       λ h. let found : Any (λ c. has c ≡ true) cs = Any-from_list_any has cs h in
           (found.0, found.1, found.2, found.3, (tells found.1).0 found.4),
       λ found. list_any-from_Any has cs

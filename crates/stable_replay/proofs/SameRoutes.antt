@@ -1,5 +1,5 @@
 -- The test of all fields tells whether two routes are the same.
-use Rattle.std.proofs.Common.{◌≡◌, ℕ, ◌==◌, ◌&&◌, Bool, true, false, List, Option, Some, None, refl, ap, sym, arith, ◌∙◌}
+use Rattle.std.proofs.Common.{◌≡◌, ℕ, ◌==◌, ◌&&◌, List, Option, Some, None, refl, ap}
 use Rattle.std.specs.Prelude.{nat_eq}
 use Rattle.std.specs.Bool.{Decides}
 use Rattle.std.specs.Cmp.Lexicographic.{pointwise}
@@ -85,9 +85,9 @@ same_rec_decides a b =
         (ap (λ x. x.weight) e, (ap (λ x. x.local_pref) e, ap (λ x. x.med) e)),
         (
           (ap (λ x. x.from) e, ap (λ x. x.origin) e),
-          (ap (λ x. x.next_hop) e, ap (λ x. x.originator) e)
-        )
-      )
+          (ap (λ x. x.next_hop) e, ap (λ x. x.originator) e),
+        ),
+      ),
     ))
     (Decides-and (same_lists a b) (same_numbers a b && same_sources a b)
     (Decides-and _ _ (numbers_decide a.path b.path)

@@ -45,10 +45,7 @@ fn is_of(a: &Announcement, at: u32, len: u8) -> bool
 fn announced(env: &Environment, at: u32, len: u8) -> Option<&Announcement>
     ensures { option_copied result ≡ find (λ a. (a.end == at) && (a.len == len)) env.now.announced }
 {
-    env.announced
-        .as_slice()
-        .iter()
-        .find(|a| is_of(a, at, len))
+    env.announced.as_slice().iter().find(|a| is_of(a, at, len))
 }
 
 // The message of an announcement.

@@ -35,11 +35,7 @@ fn local_candidate(own: Addr, rec: BgpRec) -> Candidate
 }
 
 // Those of some local routes.
-fn of_routes(
-    alloc: Global,
-    own: Addr,
-    routes: List<BgpRec>,
-) -> Result<List<Candidate>, AllocError>
+fn of_routes(alloc: Global, own: Addr, routes: List<BgpRec>) -> Result<List<Candidate>, AllocError>
     ensures { IfOk result (λ made. map seen made
         ≡ map (λ rec. record { rec = rec; external = false; cost = 0; peer_id = own }) routes) }
 {
@@ -108,6 +104,8 @@ pub fn candidates(
         ≡ decisions.candidates net.now failures.now env.now tables.now router file.now process.now p.now) }
 {
     let mut made = local_candidates(alloc, net, tables, router, p)?;
-    add_learnt(alloc, &mut made, net, failures, env, tables, all, up, router, p)?;
+    add_learnt(
+        alloc, &mut made, net, failures, env, tables, all, up, router, p,
+    )?;
     Ok(made)
 }

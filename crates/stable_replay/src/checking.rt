@@ -101,7 +101,16 @@ fn first_difference(
     let _routers = net.routers();
     let all = all_distances(alloc, net, failures)?;
     let up = sessions_up(alloc, net, failures, all.as_slice())?;
-    first_over(alloc, net, d, failures, env, tables, all.as_slice(), up.as_slice())
+    first_over(
+        alloc,
+        net,
+        d,
+        failures,
+        env,
+        tables,
+        all.as_slice(),
+        up.as_slice(),
+    )
 }
 
 /// Whether the tables are a stable routing of the network for the destination `d`, while these links have failed and the

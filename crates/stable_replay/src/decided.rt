@@ -63,11 +63,7 @@ fn slot_of(alloc: Global, rec: &BgpRec) -> Result<Slot, AllocError>
 }
 
 // That of the candidate at a place.
-fn slot_left(
-    alloc: Global,
-    candidates: &[Candidate],
-    at: u64,
-) -> Result<Option<Slot>, AllocError>
+fn slot_left(alloc: Global, candidates: &[Candidate], at: u64) -> Result<Option<Slot>, AllocError>
     ensures { IfOk result (λ slot. slot ≡ parts.slot_left candidates.now at) }
 {
     match candidates.get(at as usize) {

@@ -158,9 +158,9 @@ pub fn add_learnt(
     for (at, end) in net.ends().iter().enumerate() {
         if end.router == router {
             let at = at as u32;
-            if let Some(c) =
-                learnt_candidate(alloc, net, failures, env, tables, all, up, p, at, end)?
-            {
+            if let Some(c) = learnt_candidate(
+                alloc, net, failures, env, tables, all, up, p, at, end,
+            )? {
                 out.items.push(c)?;
             }
         }

@@ -1,4 +1,3 @@
-use Rattle.std.proofs.Common.{rules}
 use Rattle.stable_replay.proofs.AllPlaces.{first_refutes}
 use Rattle.stable_replay.proofs.checking.check.Goals as goal
 

@@ -1,7 +1,6 @@
-use Rattle.std.proofs.Common.{ℕ, ◌<◌, ◌≤◌, ◌*◌, Option, length, ap, arith, subst}
+use Rattle.std.proofs.Common.{Option, length, ap, arith, subst}
 use Rattle.std.specs.Prelude.{MatchOption}
 use borrow.Author.Count.{below_more}
-use Rattle.route_record.specs.declared.TheConstants.{LENGTHS}
 use Rattle.stable_replay.specs.declared.differs.Differs.{Differs}
 use Rattle.stable_replay.specs.Differences.{IsDifferenceAt, IsStableAt}
 use Rattle.stable_replay.proofs.AllPlaces.{first_at, stable_everywhere}
