@@ -1,0 +1,6 @@
+pub mod AllPlaces
+pub mod BgpParts
+pub mod FewEnds
+pub mod LeftOver
+pub mod OspfParts
+pub mod SameRoutes

@@ -1,0 +1,140 @@
+//! Whether tables are a stable routing.
+
+ghost use Rattle.std.specs.Prelude.{◌≡◌, ◌≢◌, ◌≤◌, ◌<◌, ◌*◌, IfErr, IfOk, MatchOption, length, map};
+ghost use Rattle.net_model.specs.Resolution.{session_up};
+ghost use Rattle.net_model.specs.Sessions.{ends_of};
+ghost use Rattle.net_model.specs.Stable.{Stable};
+ghost use Rattle.proto_ospf.specs.Reached.{all_reached};
+ghost use Rattle.stable_replay.specs.Differences as differences;
+ghost use Rattle.stable_replay.specs.declared.differs.Differs.{Differs as Difference};
+
+use crate::differs::{Differs, ReplayNo};
+use crate::slots::test_slot;
+use mw_text::{Addr, prefix_of};
+use net_model::Net;
+use proto_ospf::{Reached, all_distances, sessions_up};
+use route_record::{Environment, Failures, LENGTHS, Tables};
+use std::alloc::{AllocError, Global};
+
+// Tests the slot at a place of the tables.
+fn test_place(
+    alloc: Global,
+    net: &Net,
+    d: Addr,
+    failures: &Failures,
+    env: &Environment,
+    tables: &Tables,
+    all: &[Reached],
+    up: &[bool],
+    place: usize,
+) -> Result<Option<Differs>, AllocError>
+    requires all { all.now ≡ all_reached net.now failures.now }
+    requires up { up.now ≡ map (session_up net.now failures.now) (ends_of net.now) }
+    requires few { length (ends_of net.now) ≤ 0xffff_ffff }
+    requires size { length tables.now.slots ≡ LENGTHS * length net.now }
+    requires within { place < LENGTHS * length net.now }
+    ensures { IfOk result (λ found. MatchOption found
+        (differences.IsStableAt net.now d failures.now env.now tables.now place)
+        (differences.IsDifferenceAt net.now d failures.now env.now tables.now place)) }
+{
+    let routers = net.routers();
+    let router = place / LENGTHS;
+    let p = prefix_of(d, (place % LENGTHS) as u8);
+    let slots = tables.slots.as_slice();
+    test_slot(
+        alloc,
+        net,
+        failures,
+        env,
+        tables,
+        all,
+        up,
+        router as u32,
+        &routers[router],
+        &p,
+        &slots[place],
+    )
+}
+
+// The first place that differs, over these distances and states of sessions.
+fn first_over(
+    alloc: Global,
+    net: &Net,
+    d: Addr,
+    failures: &Failures,
+    env: &Environment,
+    tables: &Tables,
+    all: &[Reached],
+    up: &[bool],
+) -> Result<Option<Differs>, AllocError>
+    requires all { all.now ≡ all_reached net.now failures.now }
+    requires up { up.now ≡ map (session_up net.now failures.now) (ends_of net.now) }
+    requires few { length (ends_of net.now) ≤ 0xffff_ffff }
+    requires size { length tables.now.slots ≡ LENGTHS * length net.now }
+    ensures { IfOk result (λ found. MatchOption found
+        (Stable net.now d failures.now env.now tables.now)
+        (differences.IsFirstDifference net.now d failures.now env.now tables.now)) }
+{
+    for place in 0..LENGTHS * net.routers().len() {
+        if let Some(found) = test_place(alloc, net, d, failures, env, tables, all, up, place)? {
+            return Ok(Some(found));
+        }
+    }
+    Ok(None)
+}
+
+// The first place that differs.
+#[tactic(auto, using(crate::proofs::FewEnds::few_ends))]
+fn first_difference(
+    alloc: Global,
+    net: &Net,
+    d: Addr,
+    failures: &Failures,
+    env: &Environment,
+    tables: &Tables,
+) -> Result<Option<Differs>, AllocError>
+    requires size { length tables.now.slots ≡ LENGTHS * length net.now }
+    ensures { IfOk result (λ found. MatchOption found
+        (Stable net.now d failures.now env.now tables.now)
+        (differences.IsFirstDifference net.now d failures.now env.now tables.now)) }
+{
+    let _routers = net.routers();
+    let all = all_distances(alloc, net, failures)?;
+    let up = sessions_up(alloc, net, failures, all.as_slice())?;
+    first_over(
+        alloc,
+        net,
+        d,
+        failures,
+        env,
+        tables,
+        all.as_slice(),
+        up.as_slice(),
+    )
+}
+
+/// Whether the tables are a stable routing of the network for the destination `d`, while these links have failed and the
+/// external peers announce this: Ok exactly where they are. Else the first difference, by router, then by prefix length,
+/// then by part in the order of OSPF, BGP and table entry; or want of memory. The tables have a slot for each router and
+/// each of the 33 prefix lengths.
+pub fn check(
+    alloc: Global,
+    net: &Net,
+    d: Addr,
+    failures: &Failures,
+    env: &Environment,
+    tables: &Tables,
+) -> Result<(), ReplayNo>
+    requires size { length tables.now.slots ≡ LENGTHS * length net.now }
+    ensures ok { IfOk result (λ _. Stable net.now d failures.now env.now tables.now) }
+    ensures differs { IfErr result (λ why. why ≢ ReplayNo.Memory → (differs : Difference)
+        × (why ≡ ReplayNo.Differs differs)
+        × differences.IsFirstDifference net.now d failures.now env.now tables.now differs) }
+    ensures unstable { IfErr result (λ why. why ≢ ReplayNo.Memory → Stable net.now d failures.now env.now tables.now → ⊥) }
+{
+    match first_difference(alloc, net, d, failures, env, tables) {
+        Err(_) => Err(ReplayNo::Memory),
+        Ok(None) => Ok(()),
+        Ok(Some(differs)) => Err(ReplayNo::Differs(differs)),
+    }
+}
