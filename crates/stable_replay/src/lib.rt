@@ -9,8 +9,10 @@ mod differs;
 mod entry;
 mod learnt;
 mod ospf;
+mod replay;
 mod same;
 mod slots;
 
 pub use checking::check;
+pub use replay::replay;
 pub use differs::{Differs, Part, ReplayNo};
