@@ -6,7 +6,6 @@ use Rattle.std.proofs.lemmas.List.Folds.{Any-from_list_any, list_any-from_Any}
 use Rattle.std.specs.Prelude.{Any, Contains}
 use Rattle.std.specs.List.{list_any}
 use Rattle.mw_text.proofs.Lists.{drop-read}
-use Rattle.net_model.specs.declared.interfaces.IfaceId.{IfaceId}
 use Rattle.question_lang.specs.declared.question.Start.{Start}
 use Rattle.question_lang.specs.declared.walk.End.{End}
 use Rattle.question_lang.specs.declared.walk.Hop.{Hop}

@@ -1,16 +1,13 @@
 -- Each next hop leads to a router of the network, or ends there.
-use Rattle.std.proofs.Common.{◌≡◌, ℕ, ◌+◌, ◌<◌, ◌≤◌, Bool, true, false, List, [], ◌∷◌, ◌++◌, length, Option, Some, None, refl, arith, ◌∙◌, cond, eqb}
-use Rattle.std.proofs.lemmas.Bool.{and_from, and_parts, lt-ltb}
+use Rattle.std.proofs.Common.{◌≡◌, ℕ, Bool, true, false, List, [], ◌∷◌, length, Option, Some, None, refl, cond, eqb}
+use Rattle.std.proofs.lemmas.Bool.{and_from, and_parts}
 use Rattle.std.specs.Prelude.{nat_lt, filter, map, option_map, slice_get}
 use Rattle.std.specs.List.{find, flat_map, list_all, list_any}
 use Rattle.std.specs.Option.{option_map_or}
-use Rattle.std.proofs.lemmas.List.Folds.{list_all-append}
 use Rattle.mw_text.specs.declared.address.Addr.{Addr}
 use Rattle.mw_text.specs.declared.address.Prefix.{Prefix}
 use Rattle.mw_text.specs.Address.{covers, prefix_at, same_prefix}
 use Rattle.ios_ast.specs.declared.file.File.{File}
-use Rattle.ios_ast.specs.declared.file.Iface.{Iface}
-use Rattle.ios_ast.specs.declared.file.IfAddr.{IfAddr}
 use Rattle.ios_ast.specs.declared.file.StaticRoute.{StaticRoute}
 use Rattle.ios_ast.specs.declared.file.Via.{Via}
 use Rattle.ios_ast.specs.declared.file.Via.TheVariants.{Null0, Next, Out}
@@ -25,7 +22,7 @@ use Rattle.route_record.specs.declared.TheConstants.{LENGTHS}
 use Rattle.route_record.specs.declared.World.{World}
 use Rattle.net_model.specs.declared.interfaces.Addressed.{Addressed}
 use Rattle.net_model.specs.declared.interfaces.IfaceId.{IfaceId}
-use Rattle.net_model.specs.Interfaces.{addressed, addressed_from, addressed_routers, addressed_iface}
+use Rattle.net_model.specs.Interfaces.{addressed}
 use Rattle.net_model.specs.declared.adjacencies.Adjacency.{Adjacency}
 use Rattle.net_model.specs.Sending.{sent_by_ospf, sent_towards}
 use Rattle.walk_def.proofs.Below.{PassesIfThere, all-append, all-filter, below-all, found_passes, of_router_below}

@@ -1,4 +1,4 @@
-use Rattle.std.proofs.Common.{arith, length, sym, ap, ◌∙◌, ◌≡◌}
+use Rattle.std.proofs.Common.{arith, length, ap, ◌∙◌}
 use Rattle.std.proofs.Math.ListN.{length-set}
 use Rattle.walk_def.proofs.Arrivals.{first_arrive, known_stays, marked_arrives}
 use Rattle.walk_def.proofs.Known.{fewer_known}

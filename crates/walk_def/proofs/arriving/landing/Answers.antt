@@ -1,4 +1,4 @@
-use Rattle.std.proofs.Common.{rules, ◌≡◌, ℕ, Bool, length, sym, ap, subst, arith, ◌∙◌}
+use Rattle.std.proofs.Common.{rules, ℕ, Bool, sym, ap, subst, arith, ◌∙◌}
 use Rattle.std.specs.Prelude.{slice_get}
 use Rattle.mw_text.proofs.Lists.{each_place-push}
 use Rattle.walk_def.proofs.Arrivals.{all_landing}

@@ -1,7 +1,4 @@
-use Rattle.std.proofs.Common.{◌≡◌, ◌<◌, ℕ, List, Some, length, true, false}
-use Rattle.std.specs.Prelude.{slice_get}
-use Rattle.question_lang.specs.declared.walk.Hop.{Hop}
-use Rattle.question_lang.specs.Hops.{next_hops}
+use Rattle.std.proofs.Common.{◌≡◌, length}
 use Rattle.walk_def.proofs.Arrivals.{AreLandingSoFar}
 use Rattle.walk_def.proofs.arriving.landing.Given as goal
 
