@@ -11,6 +11,7 @@ mod learnt;
 mod ospf;
 mod same;
 mod slots;
+mod underlay;
 
 pub use checking::check;
 pub use differs::{Differs, Part, ReplayNo};
