@@ -18,13 +18,6 @@ use Rattle.stable_replay.specs.declared.differs.Part.{Part}
 use Rattle.stable_replay.specs.declared.differs.Part.TheVariants.{Ospf, Bgp, Rib}
 use Rattle.stable_replay.specs.Differences.{IsDifferenceAt, IsFirstDifference, IsFirstUnlike, IsStableAt}
 
--- a place is a router and a length
-place_router : (router len : ℕ) → len < LENGTHS → (LENGTHS * router + len) / LENGTHS ≡ router
-place_router router len in_range = omega arith
-
-place_len : (router len : ℕ) → len < LENGTHS → (LENGTHS * router + len) % LENGTHS ≡ len
-place_len router len in_range = omega arith
-
 -- the slot of a router and a length is stable where that at its place is
 pub stable_there : (files : List File) (d : Addr) (failures : Failures) (environment : Environment) (tables : Tables)
     (router len : ℕ) (file : File) (slot : Slot) → len < LENGTHS →
@@ -33,8 +26,8 @@ pub stable_there : (files : List File) (d : Addr) (failures : Failures) (environ
     IsStableSlot files failures environment tables router file (prefix_at d len) slot
 stable_there files d failures environment tables router len file slot in_range stable in_file there =
     let k : ℕ = LENGTHS * router + len in
-    let is_router : k / LENGTHS ≡ router = place_router router len in_range in
-    let is_len : k % LENGTHS ≡ len = place_len router len in_range in
+    let is_router : k / LENGTHS ≡ router = omega arith in
+    let is_len : k % LENGTHS ≡ len = omega arith in
     let OfRouter : ℕ → Type 0 = λ r. IsStableSlot files failures environment tables r file (prefix_at d len) slot in
     let OfLen : ℕ → Type 0 = λ l. IsStableSlot files failures environment tables (k / LENGTHS) file (prefix_at d l) slot in
     subst OfRouter is_router (subst OfLen is_len

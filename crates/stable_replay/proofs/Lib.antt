@@ -3,4 +3,5 @@ pub mod BgpParts
 pub mod FewEnds
 pub mod LeftOver
 pub mod OspfParts
+pub mod Routers
 pub mod SameRoutes

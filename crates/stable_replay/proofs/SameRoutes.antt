@@ -59,8 +59,30 @@ record AreFields (a b : BgpRec) : Type 0 where
 
 of_fields : (a b : BgpRec) → AreFields a b → a ≡ b
 of_fields a b fields =
-    let of_a : BgpRec = record { from = a.from; weight = a.weight; local_pref = a.local_pref; path = a.path; origin = a.origin; med = a.med; communities = a.communities; next_hop = a.next_hop; originator = a.originator; clusters = a.clusters } in
-    let of_b : BgpRec = record { from = b.from; weight = b.weight; local_pref = b.local_pref; path = b.path; origin = b.origin; med = b.med; communities = b.communities; next_hop = b.next_hop; originator = b.originator; clusters = b.clusters } in
+    let of_a : BgpRec = record {
+      from = a.from;
+      weight = a.weight;
+      local_pref = a.local_pref;
+      path = a.path;
+      origin = a.origin;
+      med = a.med;
+      communities = a.communities;
+      next_hop = a.next_hop;
+      originator = a.originator;
+      clusters = a.clusters;
+    } in
+    let of_b : BgpRec = record {
+      from = b.from;
+      weight = b.weight;
+      local_pref = b.local_pref;
+      path = b.path;
+      origin = b.origin;
+      med = b.med;
+      communities = b.communities;
+      next_hop = b.next_hop;
+      originator = b.originator;
+      clusters = b.clusters;
+    } in
     let same : of_a ≡ of_b = cc in same
 
 pub same_rec_decides : (a b : BgpRec) → Decides (same_rec a b) (a ≡ b)

@@ -4,20 +4,19 @@ ghost use Rattle.std.specs.Prelude.{◌≡◌, ◌≤◌, ◌++◌, [], IfOk, On
 ghost use Rattle.std.specs.Option.{option_map_or};
 ghost use Rattle.net_model.specs.Decisions as decisions;
 ghost use Rattle.net_model.specs.Exports.{router_id};
-ghost use Rattle.net_model.specs.Resolution.{session_up};
 ghost use Rattle.net_model.specs.Sessions as sessions;
 ghost use Rattle.proto_bgp.specs.Steps.{seen};
-ghost use Rattle.proto_ospf.specs.Reached.{all_reached};
 ghost use Rattle.proto_rib.specs.Taken.{local_routes_at};
 ghost use Rattle.route_record.specs.Places.{slot_at};
+ghost use Rattle.stable_replay.specs.Underlays.{IsUnderlay};
 
 use crate::learnt::add_learnt;
+use crate::underlay::Underlay;
 use ios_ast::{Bgp, File};
 use mw_text::{Addr, List, Prefix};
 use net_model::Net;
 use net_model::router_ids::router_id;
 use proto_bgp::Candidate;
-use proto_ospf::Reached;
 use proto_rib::originate;
 use route_record::{BgpRec, Environment, Failures, Tables};
 use std::alloc::{AllocError, Global};
@@ -80,7 +79,7 @@ fn local_candidates(
 }
 
 /// All BGP routes that the router may hold for the prefix, by its own slot and those of its neighbours: its local ones, and
-/// then by session what it has learnt. `all` are the interior distances, `up` the states of all sessions.
+/// then by session what it has learnt.
 #[tactic(auto, using(crate::proofs::BgpParts::local_of), unfolding(net_model::specs::Decisions::candidates))]
 pub fn candidates(
     alloc: Global,
@@ -88,16 +87,13 @@ pub fn candidates(
     failures: &Failures,
     env: &Environment,
     tables: &Tables,
-    all: &[Reached],
-    up: &[bool],
+    underlay: &Underlay,
     router: u32,
     file: &File,
     process: &Bgp,
     p: &Prefix,
 ) -> Result<List<Candidate>, AllocError>
-    requires all { all.now ≡ all_reached net.now failures.now }
-    requires up { up.now ≡ map (session_up net.now failures.now) (sessions.ends_of net.now) }
-    requires few { length (sessions.ends_of net.now) ≤ 0xffff_ffff }
+    requires underlay { IsUnderlay net.now failures.now underlay.now }
     requires file { slice_get net.now router ≡ Some file.now }
     requires process { file.now.bgp ≡ Some process.now }
     ensures { IfOk result (λ made. map seen made
@@ -105,7 +101,7 @@ pub fn candidates(
 {
     let mut made = local_candidates(alloc, net, tables, router, p)?;
     add_learnt(
-        alloc, &mut made, net, failures, env, tables, all, up, router, p,
+        alloc, &mut made, net, failures, env, tables, underlay, router, p,
     )?;
     Ok(made)
 }

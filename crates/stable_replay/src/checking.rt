@@ -1,18 +1,17 @@
 //! Whether tables are a stable routing.
 
 ghost use Rattle.std.specs.Prelude.{◌≡◌, ◌≢◌, ◌≤◌, ◌<◌, ◌*◌, IfErr, IfOk, MatchOption, length, map};
-ghost use Rattle.net_model.specs.Resolution.{session_up};
 ghost use Rattle.net_model.specs.Sessions.{ends_of};
 ghost use Rattle.net_model.specs.Stable.{Stable};
-ghost use Rattle.proto_ospf.specs.Reached.{all_reached};
 ghost use Rattle.stable_replay.specs.Differences as differences;
+ghost use Rattle.stable_replay.specs.Underlays.{IsUnderlay};
 ghost use Rattle.stable_replay.specs.declared.differs.Differs.{Differs as Difference};
 
 use crate::differs::{Differs, ReplayNo};
 use crate::slots::test_slot;
+use crate::underlay::{Underlay, underlay_of};
 use mw_text::{Addr, prefix_of};
 use net_model::Net;
-use proto_ospf::{Reached, all_distances, sessions_up};
 use route_record::{Environment, Failures, LENGTHS, Tables};
 use std::alloc::{AllocError, Global};
 
@@ -24,13 +23,10 @@ fn test_place(
     failures: &Failures,
     env: &Environment,
     tables: &Tables,
-    all: &[Reached],
-    up: &[bool],
+    underlay: &Underlay,
     place: usize,
 ) -> Result<Option<Differs>, AllocError>
-    requires all { all.now ≡ all_reached net.now failures.now }
-    requires up { up.now ≡ map (session_up net.now failures.now) (ends_of net.now) }
-    requires few { length (ends_of net.now) ≤ 0xffff_ffff }
+    requires underlay { IsUnderlay net.now failures.now underlay.now }
     requires size { length tables.now.slots ≡ LENGTHS * length net.now }
     requires within { place < LENGTHS * length net.now }
     ensures { IfOk result (λ found. MatchOption found
@@ -47,8 +43,7 @@ fn test_place(
         failures,
         env,
         tables,
-        all,
-        up,
+        underlay,
         router as u32,
         &routers[router],
         &p,
@@ -56,7 +51,7 @@ fn test_place(
     )
 }
 
-// The first place that differs, over these distances and states of sessions.
+// The first place that differs, over this underlay.
 fn first_over(
     alloc: Global,
     net: &Net,
@@ -64,19 +59,16 @@ fn first_over(
     failures: &Failures,
     env: &Environment,
     tables: &Tables,
-    all: &[Reached],
-    up: &[bool],
+    underlay: &Underlay,
 ) -> Result<Option<Differs>, AllocError>
-    requires all { all.now ≡ all_reached net.now failures.now }
-    requires up { up.now ≡ map (session_up net.now failures.now) (ends_of net.now) }
-    requires few { length (ends_of net.now) ≤ 0xffff_ffff }
+    requires underlay { IsUnderlay net.now failures.now underlay.now }
     requires size { length tables.now.slots ≡ LENGTHS * length net.now }
     ensures { IfOk result (λ found. MatchOption found
         (Stable net.now d failures.now env.now tables.now)
         (differences.IsFirstDifference net.now d failures.now env.now tables.now)) }
 {
     for place in 0..LENGTHS * net.routers().len() {
-        if let Some(found) = test_place(alloc, net, d, failures, env, tables, all, up, place)? {
+        if let Some(found) = test_place(alloc, net, d, failures, env, tables, underlay, place)? {
             return Ok(Some(found));
         }
     }
@@ -84,7 +76,6 @@ fn first_over(
 }
 
 // The first place that differs.
-#[tactic(auto, using(crate::proofs::FewEnds::few_ends))]
 fn first_difference(
     alloc: Global,
     net: &Net,
@@ -98,19 +89,8 @@ fn first_difference(
         (Stable net.now d failures.now env.now tables.now)
         (differences.IsFirstDifference net.now d failures.now env.now tables.now)) }
 {
-    let _routers = net.routers();
-    let all = all_distances(alloc, net, failures)?;
-    let up = sessions_up(alloc, net, failures, all.as_slice())?;
-    first_over(
-        alloc,
-        net,
-        d,
-        failures,
-        env,
-        tables,
-        all.as_slice(),
-        up.as_slice(),
-    )
+    let underlay = underlay_of(alloc, net, failures)?;
+    first_over(alloc, net, d, failures, env, tables, &underlay)
 }
 
 /// Whether the tables are a stable routing of the network for the destination `d`, while these links have failed and the

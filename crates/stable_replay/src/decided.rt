@@ -5,23 +5,22 @@ ghost use Rattle.std.specs.Bool.{Decides};
 ghost use Rattle.std.specs.List.{list_any};
 ghost use Rattle.std.specs.Option.{option_map_or};
 ghost use Rattle.net_model.specs.Decisions as decisions;
-ghost use Rattle.net_model.specs.Resolution.{session_up};
 ghost use Rattle.net_model.specs.Sessions.{ends_of};
 ghost use Rattle.net_model.specs.Stable as stable;
 ghost use Rattle.proto_bgp.specs.Places.{candidate_at, candidates_at};
 ghost use Rattle.proto_bgp.specs.Steps.{seen};
-ghost use Rattle.proto_ospf.specs.Reached.{all_reached};
 ghost use Rattle.stable_replay.specs.Parts as parts;
 ghost use Rattle.stable_replay.specs.Same.{same_rec};
+ghost use Rattle.stable_replay.specs.Underlays.{IsUnderlay};
 
 use crate::candidates::candidates;
 use crate::same::same_route;
+use crate::underlay::Underlay;
 use ios_ast::{Bgp, File};
 use mw_text::{List, Prefix};
 use net_model::Net;
 use policy_eval::copy_route;
 use proto_bgp::{Candidate, survivors};
-use proto_ospf::Reached;
 use route_record::{BgpRec, Environment, Failures, Slot, Tables};
 use std::alloc::{AllocError, Global};
 
@@ -116,17 +115,14 @@ fn test_process(
     failures: &Failures,
     env: &Environment,
     tables: &Tables,
-    all: &[Reached],
-    up: &[bool],
+    underlay: &Underlay,
     router: u32,
     file: &File,
     process: &Bgp,
     p: &Prefix,
     held: &Option<BgpRec>,
 ) -> Result<Option<List<Slot>>, AllocError>
-    requires all { all.now ≡ all_reached net.now failures.now }
-    requires up { up.now ≡ map (session_up net.now failures.now) (ends_of net.now) }
-    requires few { length (ends_of net.now) ≤ 0xffff_ffff }
+    requires underlay { IsUnderlay net.now failures.now underlay.now }
     requires file { slice_get net.now router ≡ Some file.now }
     requires process { file.now.bgp ≡ Some process.now }
     ensures { IfOk result (parts.IsTested
@@ -134,7 +130,7 @@ fn test_process(
         (parts.bgp_slots (parts.left_by net.now failures.now env.now tables.now router file.now p.now process.now))) }
 {
     let made = candidates(
-        alloc, net, failures, env, tables, all, up, router, file, process, p,
+        alloc, net, failures, env, tables, underlay, router, file, process, p,
     )?;
     test_left(alloc, process, made.as_slice(), held)
 }
@@ -157,16 +153,13 @@ pub fn test_bgp(
     failures: &Failures,
     env: &Environment,
     tables: &Tables,
-    all: &[Reached],
-    up: &[bool],
+    underlay: &Underlay,
     router: u32,
     file: &File,
     p: &Prefix,
     held: &Option<BgpRec>,
 ) -> Result<Option<List<Slot>>, AllocError>
-    requires all { all.now ≡ all_reached net.now failures.now }
-    requires up { up.now ≡ map (session_up net.now failures.now) (ends_of net.now) }
-    requires few { length (ends_of net.now) ≤ 0xffff_ffff }
+    requires underlay { IsUnderlay net.now failures.now underlay.now }
     requires file { slice_get net.now router ≡ Some file.now }
     ensures { IfOk result (parts.IsTested
         (stable.IsDecided net.now failures.now env.now tables.now router file.now p.now held.now)
@@ -175,7 +168,7 @@ pub fn test_bgp(
     match &file.bgp {
         None => Ok(test_none(alloc, held)),
         Some(process) => test_process(
-            alloc, net, failures, env, tables, all, up, router, file, process, p, held,
+            alloc, net, failures, env, tables, underlay, router, file, process, p, held,
         ),
     }
 }

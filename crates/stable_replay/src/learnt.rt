@@ -6,15 +6,16 @@ ghost use Rattle.net_model.specs.Decisions as decisions;
 ghost use Rattle.net_model.specs.Resolution.{session_up};
 ghost use Rattle.net_model.specs.Sessions as sessions;
 ghost use Rattle.proto_bgp.specs.Steps.{seen};
-ghost use Rattle.proto_ospf.specs.Reached.{all_reached};
+ghost use Rattle.stable_replay.specs.Underlays.{IsUnderlay};
 ghost use Rattle.stable_replay.specs.Parts as parts;
 
 use crate::arriving::arrived;
+use crate::underlay::Underlay;
 use mw_text::{Addr, List, Prefix};
 use net_model::router_ids::router_id;
 use net_model::{Far, Net, SessionEnd};
 use proto_bgp::Candidate;
-use proto_ospf::{Reached, resolve_over};
+use proto_ospf::resolve_over;
 use route_record::{BgpRec, Environment, Failures, Tables};
 use std::alloc::{AllocError, Global};
 
@@ -67,12 +68,20 @@ fn peer_identifier(
 }
 
 // Whether the session of the end at that place is up.
-fn is_up(net: &Net, failures: &Failures, up: &[bool], at: u32, end: &SessionEnd) -> bool
-    requires up { up.now ≡ map (session_up net.now failures.now) (sessions.ends_of net.now) }
+fn is_up(
+    net: &Net,
+    failures: &Failures,
+    underlay: &Underlay,
+    at: u32,
+    end: &SessionEnd,
+) -> bool
+    requires underlay { IsUnderlay net.now failures.now underlay.now }
     requires is { slice_get (sessions.ends_of net.now) at ≡ Some end.now }
     ensures { result ≡ session_up net.now failures.now end.now }
 {
-    match up.get(at as usize) {
+    let _files = net.routers();
+    let _failed = failures.links.as_slice();
+    match underlay.up.as_slice().get(at as usize) {
         None => false,
         Some(up) => *up,
     }
@@ -84,16 +93,22 @@ fn resolved_candidate(
     net: &Net,
     failures: &Failures,
     env: &Environment,
-    all: &[Reached],
+    underlay: &Underlay,
     at: u32,
     end: &SessionEnd,
     rec: BgpRec,
 ) -> Result<Option<Candidate>, AllocError>
-    requires all { all.now ≡ all_reached net.now failures.now }
+    requires underlay { IsUnderlay net.now failures.now underlay.now }
     requires within { at < length (sessions.ends_of net.now) }
     ensures { IfOk result (λ made. option_map seen made ≡ parts.resolved_as net.now failures.now env.now at end.now rec) }
 {
-    let Some(cost) = resolve_over(net, failures, all, end.router, rec.next_hop) else {
+    let Some(cost) = resolve_over(
+        net,
+        failures,
+        underlay.distances.as_slice(),
+        end.router,
+        rec.next_hop,
+    ) else {
         return Ok(None);
     };
     let peer_id = peer_identifier(alloc, net, env, at, end)?;
@@ -112,30 +127,27 @@ fn learnt_candidate(
     failures: &Failures,
     env: &Environment,
     tables: &Tables,
-    all: &[Reached],
-    up: &[bool],
+    underlay: &Underlay,
     p: &Prefix,
     at: u32,
     end: &SessionEnd,
 ) -> Result<Option<Candidate>, AllocError>
-    requires all { all.now ≡ all_reached net.now failures.now }
-    requires up { up.now ≡ map (session_up net.now failures.now) (sessions.ends_of net.now) }
+    requires underlay { IsUnderlay net.now failures.now underlay.now }
     requires is { slice_get (sessions.ends_of net.now) at ≡ Some end.now }
     requires within { at < length (sessions.ends_of net.now) }
     ensures { IfOk result (λ made. option_map seen made
         ≡ decisions.learnt_candidate net.now failures.now env.now tables.now p.now (at, end.now)) }
 {
-    if !is_up(net, failures, up, at, end) {
+    if !is_up(net, failures, underlay, at, end) {
         return Ok(None);
     }
     match arrived(alloc, net, env, tables, p, at, end)? {
         None => Ok(None),
-        Some(rec) => resolved_candidate(alloc, net, failures, env, all, at, end, rec),
+        Some(rec) => resolved_candidate(alloc, net, failures, env, underlay, at, end, rec),
     }
 }
 
-/// Puts at the end what the router has learnt for the prefix, by session: `all` are the interior distances, `up` the
-/// states of all sessions.
+/// Puts at the end what the router has learnt for the prefix, by session: 
 pub fn add_learnt(
     alloc: Global,
     out: &mut List<Candidate>,
@@ -143,14 +155,11 @@ pub fn add_learnt(
     failures: &Failures,
     env: &Environment,
     tables: &Tables,
-    all: &[Reached],
-    up: &[bool],
+    underlay: &Underlay,
     router: u32,
     p: &Prefix,
 ) -> Result<(), AllocError>
-    requires all { all.now ≡ all_reached net.now failures.now }
-    requires up { up.now ≡ map (session_up net.now failures.now) (sessions.ends_of net.now) }
-    requires few { length (sessions.ends_of net.now) ≤ 0xffff_ffff }
+    requires underlay { IsUnderlay net.now failures.now underlay.now }
     ensures { OnOk result (map seen out.new ≡ map seen out.old
         ++ filter_map (decisions.learnt_candidate net.now failures.now env.now tables.now p.now)
         (filter (λ e. e.1.router == router) (decisions.numbered 0 (sessions.ends_of net.now)))) }
@@ -159,7 +168,7 @@ pub fn add_learnt(
         if end.router == router {
             let at = at as u32;
             if let Some(c) = learnt_candidate(
-                alloc, net, failures, env, tables, all, up, p, at, end,
+                alloc, net, failures, env, tables, underlay, p, at, end,
             )? {
                 out.items.push(c)?;
             }

@@ -12,6 +12,7 @@ mod ospf;
 mod replay;
 mod same;
 mod slots;
+mod underlay;
 
 pub use checking::check;
 pub use replay::replay;

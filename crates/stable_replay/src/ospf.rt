@@ -1,6 +1,6 @@
 //! The OSPF part of a slot: the first best of the own origins and the offers (RFC 2328, section 16.4).
 
-ghost use Rattle.std.specs.Prelude.{◌≡◌, ◌==◌, ◌&&◌, ◌++◌, [], IfOk, OnOk, Some, slice_get};
+ghost use Rattle.std.specs.Prelude.{◌≡◌, ◌==◌, ◌&&◌, ◌++◌, ◌<◌, [], IfOk, OnOk, Some, length, slice_get};
 ghost use Rattle.std.specs.Bool.{Decides};
 ghost use Rattle.std.specs.List.{filter_map};
 ghost use Rattle.std.specs.Option.{option_map_or};
@@ -11,11 +11,13 @@ ghost use Rattle.net_model.specs.Stable as stable;
 ghost use Rattle.net_model.specs.World.{is_up as is_up_in};
 ghost use Rattle.route_record.specs.Places.{slot_at};
 ghost use Rattle.stable_replay.specs.Parts as parts;
+ghost use Rattle.stable_replay.specs.Underlays.{IsUnderlay};
 
+use crate::underlay::{Underlay, adjacencies_of};
 use ios_ast::File;
 use mw_text::{List, Prefix, prefix_of};
 use net_model::{Adjacency, Net, OspfInterface};
-use proto_ospf::{first_best, offer, up_adjacencies};
+use proto_ospf::{first_best, offer};
 use proto_rib::redistribute;
 use route_record::{Failures, OspfKind, OspfRec, Slot, Tables};
 use std::alloc::{AllocError, Global};
@@ -137,14 +139,17 @@ fn all_routes(
     net: &Net,
     failures: &Failures,
     tables: &Tables,
+    underlay: &Underlay,
     router: u32,
     p: &Prefix,
 ) -> Result<List<OspfRec>, AllocError>
+    requires underlay { IsUnderlay net.now failures.now underlay.now }
+    requires within { router < length net.now }
     ensures { IfOk result (λ all. all ≡ parts.routes_at net.now failures.now tables.now router p.now) }
 {
     let mut all = held_origins(alloc, net, failures, tables, router, p)?;
-    let over = up_adjacencies(alloc, net, failures, router)?;
-    add_offers(&mut all, tables, p, over.as_slice())?;
+    let over = adjacencies_of(net, failures, underlay, router);
+    add_offers(&mut all, tables, p, over)?;
     Ok(all)
 }
 
@@ -155,17 +160,19 @@ pub fn wanted_ospf(
     net: &Net,
     failures: &Failures,
     tables: &Tables,
+    underlay: &Underlay,
     router: u32,
     file: &File,
     p: &Prefix,
 ) -> Result<Option<OspfRec>, AllocError>
+    requires underlay { IsUnderlay net.now failures.now underlay.now }
     requires file { slice_get net.now router ≡ Some file.now }
     ensures { IfOk result (λ wanted. wanted ≡ stable.held_ospf net.now failures.now tables.now router file.now p.now) }
 {
     if file.ospf.is_none() {
         return Ok(None);
     }
-    let all = all_routes(alloc, net, failures, tables, router, p)?;
+    let all = all_routes(alloc, net, failures, tables, underlay, router, p)?;
     Ok(first_best(all.as_slice()))
 }
 
@@ -216,17 +223,19 @@ pub fn test_ospf(
     net: &Net,
     failures: &Failures,
     tables: &Tables,
+    underlay: &Underlay,
     router: u32,
     file: &File,
     p: &Prefix,
     held: &Option<OspfRec>,
 ) -> Result<Option<List<Slot>>, AllocError>
+    requires underlay { IsUnderlay net.now failures.now underlay.now }
     requires file { slice_get net.now router ≡ Some file.now }
     ensures { IfOk result (parts.IsTested
         (held.now ≡ stable.held_ospf net.now failures.now tables.now router file.now p.now)
         (parts.ospf_slots (stable.held_ospf net.now failures.now tables.now router file.now p.now))) }
 {
-    let wanted = wanted_ospf(alloc, net, failures, tables, router, file, p)?;
+    let wanted = wanted_ospf(alloc, net, failures, tables, underlay, router, file, p)?;
     if same_ospf(held, &wanted) {
         return Ok(None);
     }

@@ -1,21 +1,20 @@
 //! Whether a slot of the tables is stable.
 
 ghost use Rattle.std.specs.Prelude.{◌≡◌, ◌≤◌, IfOk, Some, length, map, slice_get};
-ghost use Rattle.net_model.specs.Resolution.{session_up};
 ghost use Rattle.net_model.specs.Sessions.{ends_of};
-ghost use Rattle.proto_ospf.specs.Reached.{all_reached};
 ghost use Rattle.stable_replay.specs.Differences.{IsSlotTested};
 ghost use Rattle.stable_replay.specs.Parts as parts;
+ghost use Rattle.stable_replay.specs.Underlays.{IsUnderlay};
 
 use crate::decided::test_bgp;
 use crate::differs::{Differs, Part};
 use crate::entry::test_entry;
 use crate::ospf::test_ospf;
+use crate::underlay::Underlay;
 use ios_ast::File;
 use mw_text::{List, Prefix};
 use net_model::Net;
 use policy_eval::copy_route;
-use proto_ospf::Reached;
 use route_record::{BgpRec, Environment, Failures, OspfRec, RibEntry, Slot, Tables};
 use std::alloc::{AllocError, Global};
 
@@ -65,33 +64,31 @@ fn differs_in(p: &Prefix, router: u32, part: Part, held: Slot, wanted: List<Slot
     }
 }
 
-/// Tests the slot of a router for a prefix: None where it is stable, else the first of its parts that differs. `all` are the
-/// interior distances, `up` the states of all sessions.
+/// Tests the slot of a router for a prefix: None where it is stable, else the first of its parts that differs.
 pub fn test_slot(
     alloc: Global,
     net: &Net,
     failures: &Failures,
     env: &Environment,
     tables: &Tables,
-    all: &[Reached],
-    up: &[bool],
+    underlay: &Underlay,
     router: u32,
     file: &File,
     p: &Prefix,
     slot: &Slot,
 ) -> Result<Option<Differs>, AllocError>
-    requires all { all.now ≡ all_reached net.now failures.now }
-    requires up { up.now ≡ map (session_up net.now failures.now) (ends_of net.now) }
-    requires few { length (ends_of net.now) ≤ 0xffff_ffff }
+    requires underlay { IsUnderlay net.now failures.now underlay.now }
     requires file { slice_get net.now router ≡ Some file.now }
     ensures { IfOk result (IsSlotTested net.now failures.now env.now tables.now router file.now p.now slot.now) }
 {
-    if let Some(wanted) = test_ospf(alloc, net, failures, tables, router, file, p, &slot.ospf)? {
+    if let Some(wanted) = test_ospf(
+        alloc, net, failures, tables, underlay, router, file, p, &slot.ospf,
+    )? {
         let held = ospf_slot(slot.ospf);
         return Ok(Some(differs_in(p, router, Part::Ospf, held, wanted)));
     }
     if let Some(wanted) = test_bgp(
-        alloc, net, failures, env, tables, all, up, router, file, p, &slot.bgp,
+        alloc, net, failures, env, tables, underlay, router, file, p, &slot.bgp,
     )? {
         let held = bgp_slot(alloc, &slot.bgp)?;
         return Ok(Some(differs_in(p, router, Part::Bgp, held, wanted)));
