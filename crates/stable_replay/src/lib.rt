@@ -15,5 +15,5 @@ mod slots;
 mod underlay;
 
 pub use checking::check;
-pub use replay::replay;
 pub use differs::{Differs, Part, ReplayNo};
+pub use replay::replay;

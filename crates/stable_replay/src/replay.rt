@@ -115,7 +115,14 @@ pub fn replay(
     ensures ok { IfOk result (λ _. replayed.IsReplayed net.now question.now cex.now) }
     ensures refused { IfErr result (replayed.IsRefusedSo net.now question.now cex.now) }
 {
-    check(alloc, net, cex.packet.dst, &cex.failures, &cex.env, &cex.tables)?;
+    check(
+        alloc,
+        net,
+        cex.packet.dst,
+        &cex.failures,
+        &cex.env,
+        &cex.tables,
+    )?;
     let world = world_of(alloc, cex)?;
     if !is_walk_if_any(alloc, net, &world, &cex.walk)? {
         return Err(ReplayNo::NotWalk);
