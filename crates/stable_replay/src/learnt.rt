@@ -68,13 +68,7 @@ fn peer_identifier(
 }
 
 // Whether the session of the end at that place is up.
-fn is_up(
-    net: &Net,
-    failures: &Failures,
-    underlay: &Underlay,
-    at: u32,
-    end: &SessionEnd,
-) -> bool
+fn is_up(net: &Net, failures: &Failures, underlay: &Underlay, at: u32, end: &SessionEnd) -> bool
     requires underlay { IsUnderlay net.now failures.now underlay.now }
     requires is { slice_get (sessions.ends_of net.now) at ≡ Some end.now }
     ensures { result ≡ session_up net.now failures.now end.now }
@@ -147,7 +141,7 @@ fn learnt_candidate(
     }
 }
 
-/// Puts at the end what the router has learnt for the prefix, by session: 
+/// Puts at the end what the router has learnt for the prefix, by session:
 pub fn add_learnt(
     alloc: Global,
     out: &mut List<Candidate>,

@@ -20,11 +20,7 @@ pub struct Underlay {
 
 /// That of a network while these links have failed.
 #[tactic(auto, using(crate::proofs::FewEnds::few_ends))]
-pub fn underlay_of(
-    alloc: Global,
-    net: &Net,
-    failures: &Failures,
-) -> Result<Underlay, AllocError>
+pub fn underlay_of(alloc: Global, net: &Net, failures: &Failures) -> Result<Underlay, AllocError>
     ensures { IfOk result (IsUnderlay net.now failures.now) }
 {
     let _routers = net.routers();
