@@ -1,5 +1,5 @@
 -- What stands at a router's place in a list of what each router has.
-use Rattle.std.proofs.Common.{◌≡◌, ℕ, ◌+◌, ◌<◌, List, length, get_or, arith}
+use Rattle.std.proofs.Common.{◌≡◌, ℕ, ◌<◌, List, length, get_or, arith}
 use Rattle.std.proofs.lemmas.List.FromFn.{get_or-map-range_with_len, length-map-range_with_len}
 use Rattle.ios_ast.specs.declared.file.File.{File}
 use Rattle.proto_ospf.specs.Rounds.{everywhere}
