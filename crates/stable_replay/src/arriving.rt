@@ -8,32 +8,13 @@ ghost use Rattle.net_model.specs.Exports as exports;
 ghost use Rattle.net_model.specs.Sessions as sessions;
 ghost use Rattle.route_record.specs.Places.{slot_at};
 
-use ios_ast::{Bgp, File, Neighbour};
 use mw_text::{Addr, List, Prefix};
+use net_model::ends::neighbour_of;
 use net_model::{Far, Net, SessionEnd};
 use policy_eval::copy_list;
 use proto_bgp::{export, import};
 use route_record::{Announcement, BgpMsg, BgpRec, Environment, Tables};
 use std::alloc::{AllocError, Global};
-
-fn process_of(files: &[File], router: u32) -> Option<&Bgp>
-    ensures { option_copied result ≡ option_and_then (λ file. file.bgp) (slice_get files.now router) }
-{
-    match files.get(router as usize) {
-        None => None,
-        Some(file) => file.bgp.as_ref(),
-    }
-}
-
-/// The neighbour line of an end.
-pub fn neighbour_of<'a>(files: &'a [File], end: &SessionEnd) -> Option<&'a Neighbour>
-    ensures { option_copied result ≡ sessions.neighbour_of files.now end.now }
-{
-    match process_of(files, end.router) {
-        None => None,
-        Some(process) => process.neighbours.items.get(end.neighbour as usize),
-    }
-}
 
 fn is_of(a: &Announcement, at: u32, len: u8) -> bool
     ensures { result ≡ ((a.now.end == at) && (a.now.len == len)) }

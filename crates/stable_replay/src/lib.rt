@@ -9,11 +9,11 @@ mod differs;
 mod entry;
 mod learnt;
 mod ospf;
-mod replay;
+mod replaying;
 mod same;
 mod slots;
 mod underlay;
 
 pub use checking::check;
 pub use differs::{Differs, Part, ReplayNo};
-pub use replay::replay;
+pub use replaying::replay;

@@ -15,22 +15,13 @@ ghost use Rattle.stable_replay.specs.Underlays.{IsUnderlay};
 
 use crate::underlay::{Underlay, adjacencies_of};
 use ios_ast::File;
-use mw_text::{List, Prefix, prefix_of};
+use mw_text::{List, Prefix};
+use net_model::ospf::advertisement;
 use net_model::{Adjacency, Net, OspfInterface};
 use proto_ospf::{first_best, offer};
 use proto_rib::redistribute;
 use route_record::{Failures, OspfKind, OspfRec, Slot, Tables};
 use std::alloc::{AllocError, Global};
-
-fn advertisement(x: &OspfInterface) -> Prefix
-    ensures { result ≡ ospf.advertisement x.now }
-{
-    if x.at.loopback {
-        prefix_of(x.at.addr, 32)
-    } else {
-        x.at.subnet
-    }
-}
 
 fn advertises(net: &Net, failures: &Failures, p: &Prefix, x: &OspfInterface) -> bool
     ensures { result ≡ (same_prefix (ospf.advertisement x.now) p.now && is_up_in net.now failures.now x.now.at) }

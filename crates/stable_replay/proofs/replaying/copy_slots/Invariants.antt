@@ -1,5 +1,5 @@
 use Rattle.std.proofs.Common.{◌≡◌, ◌++◌, drop}
-use Rattle.stable_replay.proofs.replay.copy_slots.Given as goal
+use Rattle.stable_replay.proofs.replaying.copy_slots.Given as goal
 
 -- the slots so far, with those that are left, are all
 abbrev pub invariant-loop-slot : goal.invariant-loop-slot
