@@ -46,13 +46,24 @@ fn show_distances(rt: &(impl Print + AllocGlobal), net: &Net) -> io::Result<()> 
     )
 }
 
+fn show_session(
+    rt: &(impl Print + AllocGlobal),
+    net: &Net,
+    links: &[u32],
+    end: u32,
+) -> io::Result<()> {
+    if end as usize >= net.ends().len() {
+        return println!(rt; "no end {end}");
+    }
+    let failures = failed(rt.alloc(), links)?;
+    let up = session_up(rt.alloc(), net, &failures, end)?;
+    println!(rt; "{} failed, end {end}: up {up}", links.len())
+}
+
 fn show_sessions(rt: &(impl Print + AllocGlobal), net: &Net) -> io::Result<()> {
-    let alloc: Global = rt.alloc();
     for links in [[].as_slice(), &[0]] {
-        let failures = failed(alloc, links)?;
-        for end in 0..net.ends().len() {
-            let up = session_up(alloc, net, &failures, end as u32)?;
-            println!(rt; "{} failed, end {end}: up {up}", links.len())?;
+        for end in 0..3 {
+            show_session(rt, net, links, end)?;
         }
     }
     Ok(())
