@@ -1,6 +1,6 @@
 #!/bin/sh
-# Times the proved program on networks of 16, 32 and 64 routers with 64 interfaces each, in a ring, and on 8, 16 and 32 routers with
-# 512 entries of lists and maps each. The network is built whole before the first question is answered. Needs the proved
+# Times the proved program on networks of 16, 32 and 64 routers with 64 interfaces each, in a ring, and on 8, 16 and 32
+# routers with 512 entries of lists each. The network is built whole before the first question is answered. Needs the proved
 # program (.ci/run or ./mw --proved), Python 3 and GNU time.
 set -eu
 top=$(cd -P -- "$(dirname -- "$0")/.." && pwd -P)
