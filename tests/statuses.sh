@@ -44,15 +44,12 @@ run verify questions.txt other.cfg n2.cfg
 ended "4, a file is refused" 4 "refused other.cfg:3 1 UnknownCommand"
 
 set --
-for router in $(seq 33); do
+for router in $(seq 65); do
     printf 'hostname N%s\n' "$router" >"r$router.cfg"
     set -- "$@" "r$router.cfg"
 done
 run verify questions.txt "$@"
-case $(cat printed) in
-'refused r1.cfg:0 '* | 'refused r33.cfg:0 '*) ended "4, 33 configurations" 4 "$(cat printed)" ;;
-*) ended "4, 33 configurations" 4 "refused r1.cfg:0 .." ;;
-esac
+ended "4, 65 configurations" 4 "refused r65.cfg:1 14 NetLimit"
 
 run verify questions.txt n1.cfg absent.cfg
 ended "5, a file that is not there" 5 ""
