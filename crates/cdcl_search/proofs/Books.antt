@@ -1,9 +1,12 @@
 -- Books: one place more, one clause more.
-use Rattle.std.proofs.Common.{◌≡◌, ◌≢◌, ℕ, ◌+◌, ◌<◌, ◌==◌, Bool, true, false, cond, ◌||◌, ◌&&◌, List, [], ◌∷◌, ◌++◌, length, length-append, take, set, Some, None, get_or, slice_get, inl, inr, refl, sym, ap, ap₂, ◌∙◌, arith, nat_lt}
+use Rattle.std.proofs.Common.{◌≡◌, ◌≢◌, ℕ, ◌+◌, ◌<◌, ◌==◌, Bool, true, false, cond, ◌||◌, ◌&&◌, List, [], ◌∷◌, ◌++◌}
+use Rattle.std.proofs.Common.{length, length-append, take, set, Some, None, get_or, slice_get, inl, inr, refl, sym, ap}
+use Rattle.std.proofs.Common.{ap₂, ◌∙◌, arith, nat_lt}
 use Rattle.cnf_blaster.proofs.Properness.{weaker}
 use Rattle.std.specs.List.{list_all, list_any}
 use Rattle.std.specs.Bool.{beq}
-use Rattle.std.proofs.lemmas.Bool.{ltb-true, lt-ltb, cases_Bool, eqb-true, eq-eqb, false≢true, or_left, or_right, and_from}
+use Rattle.std.proofs.lemmas.Bool.{ltb-true, lt-ltb, cases_Bool, eqb-true, eq-eqb, false≢true, or_left, or_right}
+use Rattle.std.proofs.lemmas.Bool.{and_from}
 use Rattle.std.proofs.lemmas.Option.{slice_get_read, get_or_from_slice_get}
 use Rattle.std.proofs.lemmas.List.Folds.{list_any-append}
 use Rattle.std.proofs.lemmas.List.{get_or-set_same, get_or-set_other}
@@ -53,8 +56,10 @@ pub indexed_put : (clauses more : List Clause) (clause : Clause) (pos neg pos' n
     → more ≡ clauses ++ clause ∷ [] → y ≡ pos' → n ≡ neg'
     → length pos' ≡ length pos → length neg' ≡ length neg → is_below (length pos) clause.lits
     ≡ true → IsIndexed clauses pos neg
-    → ((count : ℕ) → length clauses < count → list_all (are_places count) pos ≡ true → list_all (are_places count) pos' ≡ true)
-    → ((count : ℕ) → length clauses < count → list_all (are_places count) neg ≡ true → list_all (are_places count) neg' ≡ true)
+    → ((count : ℕ) → length clauses < count → list_all (are_places count) pos ≡ true
+    → list_all (are_places count) pos' ≡ true)
+    → ((count : ℕ) → length clauses < count → list_all (are_places count) neg ≡ true
+    → list_all (are_places count) neg' ≡ true)
     → IsIndexed more y n
 indexed_put clauses more clause pos neg pos' neg' y n e f g long_yes long_no below sound put_yes put_no =
     let longer : length more ≡ length clauses + 1 = ap length e ∙ length-append clauses (clause ∷ []) in
@@ -105,14 +110,17 @@ pub listed-positive : (pos pos' neg : List (List ℕ)) (lit l : Lit) (place k : 
 listed-positive pos pos' neg lit l place k e put = by l.negated refl
   where
     by : (n : Bool) → l.negated ≡ n
-        → has_place (get_or (cond n neg pos') l.var []) k ≡ (has_place (get_or (cond n neg pos) l.var []) k || (((l.var == lit.var) && beq n lit.negated) && (place == k)))
+        → has_place (get_or (cond n neg pos') l.var []) k
+        ≡ (has_place (get_or (cond n neg pos) l.var []) k
+        || (((l.var == lit.var) && beq n lit.negated) && (place == k)))
     by true h =
         sym (or-false (has_place (get_or neg l.var []) k))
         ∙ ap (λ b. has_place (get_or neg l.var []) k || (b && (place == k)))
         (sym (and-false (l.var == lit.var)) ∙ ap (λ b. (l.var == lit.var) && beq true b) (sym e))
     by false h =
         put l.var k
-        ∙ ap (λ b. has_place (get_or pos l.var []) k || (b && (place == k))) (eqb_sym lit.var l.var ∙ sym (and-true (l.var == lit.var)) ∙ ap (λ b. (l.var == lit.var) && beq false b) (sym e))
+        ∙ ap (λ b. has_place (get_or pos l.var []) k || (b && (place == k))) (eqb_sym lit.var l.var
+        ∙ sym (and-true (l.var == lit.var)) ∙ ap (λ b. (l.var == lit.var) && beq false b) (sym e))
 
 pub listed-negative : (pos neg neg' : List (List ℕ)) (lit l : Lit) (place k : ℕ) → lit.negated ≡ true
     → ((v j : ℕ) → has_place (get_or neg' v []) j ≡ (has_place (get_or neg v []) j || ((lit.var == v) && (place == j))))
@@ -120,14 +128,17 @@ pub listed-negative : (pos neg neg' : List (List ℕ)) (lit l : Lit) (place k : 
 listed-negative pos neg neg' lit l place k e put = by l.negated refl
   where
     by : (n : Bool) → l.negated ≡ n
-        → has_place (get_or (cond n neg' pos) l.var []) k ≡ (has_place (get_or (cond n neg pos) l.var []) k || (((l.var == lit.var) && beq n lit.negated) && (place == k)))
+        → has_place (get_or (cond n neg' pos) l.var []) k
+        ≡ (has_place (get_or (cond n neg pos) l.var []) k
+        || (((l.var == lit.var) && beq n lit.negated) && (place == k)))
     by false h =
         sym (or-false (has_place (get_or pos l.var []) k))
         ∙ ap (λ b. has_place (get_or pos l.var []) k || (b && (place == k)))
         (sym (and-false (l.var == lit.var)) ∙ ap (λ b. (l.var == lit.var) && beq false b) (sym e))
     by true h =
         put l.var k
-        ∙ ap (λ b. has_place (get_or neg l.var []) k || (b && (place == k))) (eqb_sym lit.var l.var ∙ sym (and-true (l.var == lit.var)) ∙ ap (λ b. (l.var == lit.var) && beq true b) (sym e))
+        ∙ ap (λ b. has_place (get_or neg l.var []) k || (b && (place == k))) (eqb_sym lit.var l.var
+        ∙ sym (and-true (l.var == lit.var)) ∙ ap (λ b. (l.var == lit.var) && beq true b) (sym e))
 
 -- one literal more
 pub listed-more : (a b c d e : Bool) → a ≡ (b || (d && e)) → b ≡ (c || false) → a ≡ (c || (d && e))
@@ -135,13 +146,17 @@ listed-more a b c d e h g = h ∙ ap (λ x. x || (d && e)) (g ∙ or-false c)
 
 -- what a clause that is put last is listed for
 pub finds-put : (old new : Shelf) (clause : Clause) → new.clauses ≡ old.clauses ++ clause ∷ []
-    → ((l : Lit) (k : ℕ) → has_place (listed new.positive new.negative l) k ≡ (has_place (listed old.positive old.negative l) k || (has clause.lits l && (length old.clauses == k))))
+    → ((l : Lit) (k : ℕ) → has_place (listed new.positive new.negative l) k
+    ≡ (has_place (listed old.positive old.negative l) k || (has clause.lits l && (length old.clauses == k))))
     → Finds old → Finds new
 unfolding Finds
 finds-put old new clause e put finds place c l there h =
-    each_place-push (λ k (d : Clause). has d.lits l ≡ true → has_place (listed new.positive new.negative l) k ≡ true) old.clauses clause
+    each_place-push (λ k (d : Clause). has d.lits l ≡ true → has_place (listed new.positive new.negative l) k
+    ≡ true) old.clauses clause
     (λ k d found g. put l k ∙ or_left _ _ (finds k d l found g))
-    (λ g. put l (length old.clauses) ∙ or_right (has_place (listed old.positive old.negative l) (length old.clauses)) _ (and_from _ _ g (eq-eqb (length old.clauses) (length old.clauses) refl)))
+    (λ g. put l (length old.clauses)
+    ∙ or_right (has_place (listed old.positive old.negative l) (length old.clauses)) _
+    (and_from _ _ g (eq-eqb (length old.clauses) (length old.clauses) refl)))
     place c (ap (λ cs. slice_get cs place) (sym e) ∙ there) h
 
 pub finds-none : (shelf : Shelf) → shelf.clauses ≡ [] → Finds shelf

@@ -1,10 +1,13 @@
 -- How many additions a log has.
-use Rattle.std.proofs.Common.{◌≡◌, ◌⊎◌, ℕ, suc, ◌+◌, ◌*◌, ◌^◌, ◌<◌, ◌≤◌, ◌||◌, ◌&&◌, ◌==◌, Bool, true, false, not, cond, List, [], ◌∷◌, ◌++◌, length, Option, Some, None, is_some, Result, Ok, Err, IfOk, inl, inr, refl, sym, ap, ap₂, subst, ◌∙◌, add-zero, zero-mul, arith, nat_lt}
+use Rattle.std.proofs.Common.{◌≡◌, ◌⊎◌, ℕ, suc, ◌+◌, ◌*◌, ◌^◌, ◌<◌, ◌≤◌, ◌||◌, ◌&&◌, ◌==◌, Bool, true, false, not}
+use Rattle.std.proofs.Common.{cond, List, [], ◌∷◌, ◌++◌, length, Option, Some, None, is_some, Result, Ok, Err, IfOk}
+use Rattle.std.proofs.Common.{inl, inr, refl, sym, ap, ap₂, subst, ◌∙◌, add-zero, zero-mul, arith, nat_lt}
 use Rattle.std.specs.Option.{option_or}
 use Rattle.std.specs.List.{list_any, list_all, IsDistinct, AllByRecursion}
 use Rattle.std.proofs.Math.Dec.{eqb}
 use Rattle.std.proofs.Math.Nat.{le_of_mul-le-mul_left, mul-le-mul_right}
-use Rattle.std.proofs.lemmas.Bool.{and_parts, cases_Bool, false_from_ne_true, false≢true, or_cases, eqb-true, eq-eqb, or_parts}
+use Rattle.std.proofs.lemmas.Bool.{and_parts, cases_Bool, false_from_ne_true, false≢true, or_cases, eqb-true, eq-eqb}
+use Rattle.std.proofs.lemmas.Bool.{or_parts}
 use Rattle.std.proofs.lemmas.List.Elements.{filter_map-append}
 use Rattle.std.proofs.lemmas.List.Folds.{list_all-append}
 use Rattle.std.proofs.lemmas.Map.Keys.{IsDistinct-cons}
@@ -14,8 +17,11 @@ use Rattle.resolution_check.specs.declared.log.Clause.{Clause}
 use Rattle.resolution_check.specs.declared.log.Entry.{Entry}
 use Rattle.resolution_check.specs.declared.log.Entry.TheVariants.{Input, Add, Delete, End}
 use Rattle.resolution_check.specs.Clauses.{has, is_same, opposite, resolvent, is_below}
-use Rattle.resolution_check.specs.Entries.{clause_by, deletes, clause_given, is_given, is_deleted, clause_held, addition_count, additions_in, inputs, input_of, resolved, KeepsGood, EachAfter, IsGood}
-use Rattle.resolution_check.specs.Earned.{vars_differ, is_deletion, ends_deleting, run_count, IsEarned, IsEarnedAddition, MayDelete, MayFollow}
+use Rattle.resolution_check.specs.Entries.{clause_by, deletes, clause_given, is_given, is_deleted, clause_held}
+use Rattle.resolution_check.specs.Entries.{addition_count, additions_in, inputs, input_of, resolved, KeepsGood}
+use Rattle.resolution_check.specs.Entries.{EachAfter, IsGood}
+use Rattle.resolution_check.specs.Earned.{vars_differ, is_deletion, ends_deleting, run_count, IsEarned}
+use Rattle.resolution_check.specs.Earned.{IsEarnedAddition, MayDelete, MayFollow}
 use Rattle.resolution_check.proofs.Accepted.{count-push}
 use Rattle.resolution_check.proofs.Chains.{resolved_has}
 use Rattle.resolution_check.proofs.Goods.{by_steps, each_push, clause_given-push, any-push, given_from_deleted}
@@ -44,7 +50,9 @@ both_below : (limit : ℕ) (c d s : List Lit) → resolvent c d ≡ Some s → i
     → is_below limit d ≡ true → is_below limit s ≡ true
 both_below limit c d s e first second =
     let found = has-resolvent c d s e in
-    all_from (λ k. nat_lt k.var limit) s (λ l h. elim (either (not (is_same found.0 l)) (has c l) (not (is_same (opposite found.0) l)) (has d l) (sym (found.2 l) ∙ h)) [
+    all_from (λ k. nat_lt k.var limit) s
+    (λ l h. elim (either (not (is_same found.0 l)) (has c l) (not (is_same (opposite found.0) l)) (has d l)
+    (sym (found.2 l) ∙ h)) [
       | inl one ↦ all_at (λ k. nat_lt k.var limit) c first l one
       | inr other ↦ all_at (λ k. nat_lt k.var limit) d second l other
     ])
@@ -156,8 +164,8 @@ record IsCodeOf (limit : ℕ) (es : List Entry) (q : ℕ) : Type 0 where
   once : vars_differ clause.lits ≡ true
   same : code clause.lits limit ≡ q
 
--- the clauses given have variables below the limit only, and the additions since the last deletion have codes, no two of
--- them the same; before each run of deletions there are few additions, and so there are few runs
+-- the clauses given have variables below the limit only, and the additions since the last deletion have codes, no two
+-- of them the same; before each run of deletions there are few additions, and so there are few runs
 record IsCoded (limit : ℕ) (es : List Entry) : Type 0 where
   good : IsGood es
   below : (id : ℕ) (c : Clause) → clause_given es id ≡ Some c → is_below limit c.lits ≡ true
@@ -202,7 +210,14 @@ module _ (limit : ℕ) (es : List Entry) (h : IsCoded limit es) where
 
   code_more : (e : Entry) (q : ℕ) → is_deletion e ≡ false → IsCodeOf limit es q → IsCodeOf limit (es ++ e ∷ []) q
   code_more e q keeps k =
-      record { id = k.id; clause = k.clause; held = held_still es e k.id k.clause keeps k.held; once = k.once; same = k.same }
+      record {
+        id = k.id;
+        clause = k.clause;
+        held = held_still es e k.id k.clause keeps k.held;
+        once = k.once;
+        same =
+            k.same;
+      }
 
   same_runs : (e : Entry) → is_deletion e ≡ false → run_count false (es ++ e ∷ []) ≡ run_count false es
   same_runs e keeps = runs-push false es e ∙ by (is_deletion e) keeps
@@ -250,7 +265,8 @@ module _ (limit : ℕ) (es : List Entry) (h : IsCoded limit es) where
       | inl there ↦
           let k = h.coded own there in
           let outside = earned.smallest k.id k.clause k.held in
-          absurd (false≢true (sym outside ∙ inside_from_code k.clause.lits clause.lits limit k.once (below_held k.id k.clause k.held) k.same))
+          absurd (false≢true (sym outside
+          ∙ inside_from_code k.clause.lits clause.lits limit k.once (below_held k.id k.clause k.held) k.same))
     ]
 
     is_below_too : is_below limit clause.lits ≡ true
@@ -262,7 +278,13 @@ module _ (limit : ℕ) (es : List Entry) (h : IsCoded limit es) where
 
     code_now : (q : ℕ) → list_any (eqb q) (own ∷ h.codes) ≡ true → IsCodeOf limit (es ++ addition ∷ []) q
     code_now q there = elim (or_cases (eqb q own) (list_any (eqb q) h.codes) there) [
-      | inl here ↦ record { id = id; clause = clause; held = held_now es id clause chain h.good earned.good.1.0; once = earned.once; same = sym (eqb-true q own here) }
+      | inl here ↦ record {
+        id = id;
+        clause = clause;
+        held = held_now es id clause chain h.good earned.good.1.0;
+        once = earned.once;
+        same = sym (eqb-true q own here);
+      }
       | inr before ↦ code_more addition q refl (h.coded q before)
     ]
 
@@ -276,7 +298,8 @@ module _ (limit : ℕ) (es : List Entry) (h : IsCoded limit es) where
       codes = own ∷ h.codes;
       distinct = IsDistinct-cons eqb own h.codes (none_same own h.codes new_code) h.distinct;
       coded = code_now;
-      few = rw (count-push es addition, same_runs addition refl) (one_more (addition_count es) (run_count false es) (3 ^ limit) (length h.codes) h.few);
+      few = rw (count-push es addition, same_runs addition refl)
+          (one_more (addition_count es) (run_count false es) (3 ^ limit) (length h.codes) h.few);
       fresh = not_ending addition (length (own ∷ h.codes)) refl;
       apart = same_apart addition refl;
     }
@@ -318,7 +341,8 @@ module _ (limit : ℕ) (es : List Entry) (h : IsCoded limit es) where
         elim may.apart [ inl ends ↦ absurd (false≢true (sym none ∙ ends)) | inr owed ↦ owed ] in
         none_left (run_count false es + 1) (runs_by false none)
         (next_few (run_count false es) (3 ^ limit) (length h.codes) (addition_count es) h.few few_codes)
-        (inr (next_apart (run_count false es) (3 ^ limit) (spread (run_count false es) (3 ^ limit) (length h.codes) (addition_count es) h.few few_codes owed)))
+        (inr (next_apart (run_count false es) (3 ^ limit)
+        (spread (run_count false es) (3 ^ limit) (length h.codes) (addition_count es) h.few few_codes owed)))
       where
         next_few : (runs power count added : ℕ) → added ≤ runs * power + count → count ≤ power
             → added ≤ (runs + 1) * power + 0
@@ -345,12 +369,23 @@ coded_all limit = by_steps Owes (λ es. are_below limit (inputs es) ≡ true →
   where
     start : are_below limit (inputs []) ≡ true → IsCoded limit []
     start small =
-        record { good = tt; below = λ id c there. absurd (cc); codes = []; distinct = tt; coded = λ q there. absurd (false≢true there); few = omega arith; fresh = λ ends. refl; apart = inl refl }
+        record {
+          good = tt;
+          below = λ id c there. absurd (cc);
+          codes = [];
+          distinct = tt;
+          coded = λ q there. absurd
+              (false≢true there);
+          few = omega arith;
+          fresh = λ ends. refl;
+          apart = inl refl;
+        }
 
     step : (es : List Entry) (e : Entry) → Owes es e → (are_below limit (inputs es) ≡ true → IsCoded limit es)
         → are_below limit (inputs (es ++ e ∷ [])) ≡ true → IsCoded limit (es ++ e ∷ [])
     step es e owes before small =
-        let split : are_below limit (inputs (es ++ e ∷ [])) ≡ (are_below limit (inputs es) && are_below limit (inputs (e ∷ []))) =
+        let split : are_below limit (inputs (es ++ e ∷ []))
+        ≡ (are_below limit (inputs es) && are_below limit (inputs (e ∷ []))) =
         ap (are_below limit) (filter_map-append input_of es (e ∷ []))
         ∙ list_all-append (λ c. is_below limit c.lits) (inputs es) (inputs (e ∷ [])) in
         let both = and_parts (are_below limit (inputs es)) (are_below limit (inputs (e ∷ []))) (sym split ∙ small) in
@@ -383,7 +418,8 @@ spaced_bound vars clauses es small log =
     most (run_count false es) (3 ^ vars) (length h.codes) (addition_count es) h.few (few_codes vars es h) h.apart
 
 -- an outcome that comes with the budget as its count comes with no more than a log can have
-pub unknown_within : {E : Type 0} (before now : Option (List ℕ)) (vars : ℕ) (cs : List Clause) (budget : ℕ) (r : Result Outcome E)
+pub unknown_within : {E : Type 0} (before now : Option (List ℕ)) (vars : ℕ) (cs : List Clause) (budget : ℕ)
+    (r : Result Outcome E)
     → list_all (λ c. is_below vars c.lits) cs ≡ true → IfOk r (λ o. IsLogged before now cs budget o)
     → IfOk r (λ o. OnUnknown o (λ added. added ≡ budget))
     → IfOk r (λ o. OnUnknown o (λ added. added ≤ 3 ^ vars * (3 ^ vars + 1)))

@@ -1,5 +1,6 @@
 -- Clauses as numbers: each variable is a digit to base 3.
-use Rattle.std.proofs.Common.{◌≡◌, ℕ, zero, suc, ◌+◌, ◌*◌, ◌^◌, ◌<◌, ◌≤◌, Bool, true, false, not, cond, List, [], ◌∷◌, inl, inr, refl, sym, ap, subst, ◌∙◌, arith, nat_lt}
+use Rattle.std.proofs.Common.{◌≡◌, ℕ, zero, suc, ◌+◌, ◌*◌, ◌^◌, ◌<◌, ◌≤◌, Bool, true, false, not, cond, List, [], ◌∷◌}
+use Rattle.std.proofs.Common.{inl, inr, refl, sym, ap, subst, ◌∙◌, arith, nat_lt}
 use Rattle.std.proofs.lemmas.Bool.{and_parts, cases_Bool, cases_lt, false≢true, or_cases, ltb-true}
 use Rattle.std.proofs.Math.Nat.{pow-succ'}
 use Rattle.resolution_check.specs.declared.log.Lit.{Lit}
@@ -92,7 +93,9 @@ has_too : (c d : List Lit) (v : ℕ) (negated : Bool) → vars_differ c ≡ true
     → has c (record { var = v; negated = negated }) ≡ true → has d (record { var = v; negated = negated }) ≡ true
 has_too c d v false once e h = plain_too _ _ _ _ e h
 has_too c d v true once e h = elim (cases_Bool (has c (record { var = v; negated = false }))) [
-  | inl plain ↦ let same = one_sign c (record { var = v; negated = false }) (record { var = v; negated = true }) once plain h refl in absurd (false≢true (ap (λ (l : Lit). l.negated) same))
+  | inl plain ↦ let same =
+      one_sign c (record { var = v; negated = false }) (record { var = v; negated = true }) once plain h refl in
+      absurd (false≢true (ap (λ (l : Lit). l.negated) same))
   | inr none ↦ negated_too _ _ _ _ e none h
 ]
 

@@ -1,6 +1,8 @@
 -- A learnt clause contains no clause that is held.
 use Rattle.resolution_check.specs.Trails.{is_value}
-use Rattle.std.proofs.Common.{◌≡◌, ◌⊎◌, ℕ, zero, suc, ◌+◌, ◌<◌, ◌≤◌, Bool, true, false, not, List, [], ◌∷◌, ◌++◌, length, take, drop, take-append-drop, slice_get, Option, Some, None, inl, inr, refl, sym, ap, subst, ◌∙◌, arith}
+use Rattle.std.proofs.Common.{◌≡◌, ◌⊎◌, ℕ, zero, suc, ◌+◌, ◌<◌, ◌≤◌, Bool, true, false, not, List, [], ◌∷◌, ◌++◌}
+use Rattle.std.proofs.Common.{length, take, drop, take-append-drop, slice_get, Option, Some, None, inl, inr, refl, sym}
+use Rattle.std.proofs.Common.{ap, subst, ◌∙◌, arith}
 use Rattle.std.specs.Bool.{beq}
 use Rattle.std.proofs.lemmas.Bool.{cases_Bool, cases_lt, false≢true, or_left}
 use Rattle.std.proofs.lemmas.List.{take-take}
@@ -92,7 +94,8 @@ module _ (ss : List Step) (fresh : AreFresh ss) (at : ℕ) where
         let there = n.decision.there in
         let is : holds (take at ss) (opposite s.lit) ≡ true = ap (holds (take at ss)) (sym n.is_negation) ∙ h in
         elim (cases_lt n.at at) [
-          | inl before ↦ not_itself s.lit.negated (ap (λ o. is_value o (not (not s.lit.negated))) (sym (passed n.at s there before)) ∙ is)
+          | inl before ↦ not_itself s.lit.negated
+              (ap (λ o. is_value o (not (not s.lit.negated))) (sym (passed n.at s there before)) ∙ is)
           | inr after ↦
               let reached = last n.at n.decision in
               let e : n.at ≡ at = omega arith in
@@ -140,7 +143,9 @@ smallest clauses ss lits filled full fresh negated place c there = elim (cases_B
       let some : (x : Lit) × (has c.lits x ≡ true) =
       first_of c.lits (places.all_at (λ (k : Clause). not (is_empty k.lits)) clauses place c filled there) in
       let last = last_decision ss (all some.0 some.1).at (all some.0 some.1).decision in
-      absurd (not_settled ss fresh last.at (λ i d. last.last i (slice_get_within ss i d.step d.there) d) c.lits last.decision.step last.decision.there all (full last.at last.decision place c there))
+      absurd (not_settled ss fresh last.at
+      (λ i d. last.last i (slice_get_within ss i d.step d.there) d) c.lits last.decision.step last.decision.there all
+      (full last.at last.decision place c there))
 ]
   where
     first_of : (xs : List Lit) → not (is_empty xs) ≡ true → (x : Lit) × (has xs x ≡ true)

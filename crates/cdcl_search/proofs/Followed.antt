@@ -1,8 +1,11 @@
 -- Steps that are followed back from a false clause.
 use Rattle.resolution_check.specs.Trails.{is_value}
-use Rattle.std.proofs.Common.{◌≡◌, ℕ, ◌+◌, ◌<◌, ◌==◌, Bool, true, false, not, cond, ◌&&◌, ◌||◌, nat_lt, nat_le, List, [], ◌∷◌, ◌++◌, length, take, drop, slice_get, Option, Some, None, is_some, Ok, Err, inl, inr, refl, sym, ap, subst, ◌∙◌, arith, add-one, take-append-drop}
+use Rattle.std.proofs.Common.{◌≡◌, ℕ, ◌+◌, ◌<◌, ◌==◌, Bool, true, false, not, cond, ◌&&◌, ◌||◌, nat_lt, nat_le, List}
+use Rattle.std.proofs.Common.{[], ◌∷◌, ◌++◌, length, take, drop, slice_get, Option, Some, None, is_some, Ok, Err, inl}
+use Rattle.std.proofs.Common.{inr, refl, sym, ap, subst, ◌∙◌, arith, add-one, take-append-drop}
 use Rattle.std.specs.Option.{option_map_or, ok_or}
-use Rattle.std.proofs.lemmas.Bool.{not-true, not_from_false, cases_Bool, eqb-true, eq-eqb, false≢true, true≢false, or_cases, or_left, or_right, and_parts, and_from, or_parts, or_from, lt-ltb, le-leb}
+use Rattle.std.proofs.lemmas.Bool.{not-true, not_from_false, cases_Bool, eqb-true, eq-eqb, false≢true, true≢false}
+use Rattle.std.proofs.lemmas.Bool.{or_cases, or_left, or_right, and_parts, and_from, or_parts, or_from, lt-ltb, le-leb}
 use Rattle.std.specs.Bool.{beq}
 use Rattle.resolution_check.specs.declared.log.Lit.{Lit}
 use Rattle.resolution_check.specs.declared.log.Clause.{Clause}
@@ -103,7 +106,8 @@ gain false x h g = g
 
 -- ---- one step followed back
 
-module _ (ss : List Step) (at : ℕ) (s : Step) (there : slice_get ss at ≡ Some s) (fresh : value_of (take at ss) s.lit.var ≡ None) where
+module _ (ss : List Step) (at : ℕ) (s : Step) (there : slice_get ss at ≡ Some s)
+    (fresh : value_of (take at ss) s.lit.var ≡ None) where
   -- the step's own value
   own_next : value_of (take (at + 1) ss) s.lit.var ≡ Some (not s.lit.negated)
   own_next = ap (λ l. value_of l s.lit.var) (take_at ss at s there) ∙ value_of-last (take at ss) s fresh
@@ -144,7 +148,8 @@ module _ (ss : List Step) (at : ℕ) (s : Step) (there : slice_get ss at ≡ Som
     | inr other ↦ other
   ]
 
-  module _ (clauses : List Clause) (marks marks' : ℕ → Bool) (lits : List Lit) (chain : List ℕ) (f : IsFollowed clauses ss (at + 1) marks lits chain) where
+  module _ (clauses : List Clause) (marks marks' : ℕ → Bool) (lits : List Lit) (chain : List ℕ)
+      (f : IsFollowed clauses ss (at + 1) marks lits chain) where
     -- the literal that is followed stands in the resolvent
     stands : marks s.lit.var ≡ true → has f.clause (opposite s.lit) ≡ true
     stands marked = f.parts (opposite s.lit) ∙ or_right (has lits (opposite s.lit)) _ (and_from _ _ marked own_fails)
@@ -224,7 +229,11 @@ module _ (ss : List Step) (at : ℕ) (s : Step) (there : slice_get ss at ≡ Som
               ∙ vars_differ-push lits p f.once (no_var lits s.lit.var (λ l h. not_behind l (f.behind l h)));
           negated = λ l h. elim (or_cases _ _ (sym (more l) ∙ h)) [
             | inl before ↦ f.negated l before
-            | inr here ↦ record { at = at; decision = record { step = s; there = there; chosen = chosen }; is_negation = last l here }
+            | inr here ↦ record {
+              at = at;
+              decision = record { step = s; there = there; chosen = chosen };
+              is_negation = last l here;
+            }
           ];
         }
 
@@ -269,7 +278,8 @@ module _ (ss : List Step) (at : ℕ) (s : Step) (there : slice_get ss at ≡ Som
           let held : numbered clauses (place + 1) ≡ Some r.clause = ap (numbered clauses) (add-one place) ∙ r.there in
           ap (resolved (numbered clauses)) e
           ∙ resolved-push (numbered clauses) chain (place + 1) f.clause f.resolves
-          ∙ ap (λ o. option_map_or (λ (c : Clause). ok_or (resolvent f.clause c.lits) (NoPivot (length chain))) o (Err (UnknownId (place + 1)))) held
+          ∙ ap (λ o. option_map_or (λ (c : Clause). ok_or (resolvent f.clause c.lits) (NoPivot (length chain))) o
+          (Err (UnknownId (place + 1)))) held
           ∙ ap (λ o. ok_or o (NoPivot (length chain)))
           (resolvent-pivot f.clause r.clause.lits (opposite s.lit) (pivot marked))
 
@@ -284,7 +294,8 @@ module _ (ss : List Step) (at : ℕ) (s : Step) (there : slice_get ss at ≡ Som
             clause = without f.clause p ++ without c (opposite p);
             resolves = resolves_next chain' e marked;
             parts =
-                λ l. same_bool (has (without f.clause p ++ without c (opposite p)) l) (has lits l || (marks' l.var && fails ss l))
+                λ l. same_bool (has (without f.clause p ++ without c (opposite p)) l) (has lits l
+                || (marks' l.var && fails ss l))
                 (λ h. elim (or_cases _ _ (sym (has-resolved f.clause c p l) ∙ h)) [
                   | inl first ↦
                       let both = and_parts _ _ first in
@@ -292,17 +303,24 @@ module _ (ss : List Step) (at : ℕ) (s : Step) (there : slice_get ss at ≡ Som
                         | inl learnt ↦ or_left _ _ learnt
                         | inr pending ↦
                             let parts = and_parts _ _ pending in
-                            or_right (has lits l) _ (and_from _ _ (new l.var ∙ gain _ _ (other_var l (not-true _ both.0) parts.1) (or_right (has_var c l.var) _ parts.0)) parts.1)
+                            or_right (has lits l) _
+                            (and_from _ _ (new l.var
+                            ∙ gain _ _ (other_var l (not-true _ both.0) parts.1)
+                            (or_right (has_var c l.var) _ parts.0)) parts.1)
                       ]
                   | inr second ↦
                       let both = and_parts _ _ second in
                       let unlike : is_same s.lit l ≡ false =
                       ap (λ k. is_same k l) (sym (opposite_twice s.lit)) ∙ not-true _ both.0 in
                       let falls = rest_fails l both.1 unlike in
-                      or_right (has lits l) _ (and_from _ _ (new l.var ∙ gain _ _ (not_own l falls) (or_left _ _ (has_var_from c l both.1))) (front_fails ss at l falls))
+                      or_right (has lits l) _
+                      (and_from _ _ (new l.var ∙ gain _ _ (not_own l falls) (or_left _ _ (has_var_from c l both.1)))
+                      (front_fails ss at l falls))
                 ])
                 (λ h. has-resolved f.clause c p l ∙ elim (or_cases _ _ h) [
-                  | inl learnt ↦ or_left _ _ (and_from _ _ (not_from_false _ (unlike_behind l (f.behind l learnt))) (f.parts l ∙ or_left _ _ learnt))
+                  | inl learnt ↦ or_left _ _
+                      (and_from _ _ (not_from_false _ (unlike_behind l (f.behind l learnt))) (f.parts l
+                      ∙ or_left _ _ learnt))
                   | inr pending ↦
                       let both = and_parts _ _ pending in
                       let lost = lose _ _ (sym (new l.var) ∙ both.0) in
@@ -317,7 +335,9 @@ module _ (ss : List Step) (at : ℕ) (s : Step) (there : slice_get ss at ≡ Som
                             let unlike : is_same (opposite p) l ≡ false = apart (opposite p) l lost.0 in
                             or_right (not (is_same p l) && has f.clause l) _
                             (and_from _ _ (not_from_false _ unlike) (ap (has c) (sym same) ∙ found.1))
-                        | inr before ↦ or_left _ _ (and_from _ _ (not_from_false _ (unlike_other l lost.0)) (f.parts l ∙ or_right (has lits l) _ (and_from _ _ before both.1)))
+                        | inr before ↦ or_left _ _
+                            (and_from _ _ (not_from_false _ (unlike_other l lost.0)) (f.parts l
+                            ∙ or_right (has lits l) _ (and_from _ _ before both.1)))
                       ]
                 ]);
             learnt_false = f.learnt_false;
@@ -344,14 +364,16 @@ unfolding Follows
 forced_at clauses ss at s place follows there e =
     subst (λ o. HasReason clauses (take at ss) s.lit o) e (follows at s there)
 
-pub followed_first : (clauses : List Clause) (ss : List Step) (place : ℕ) (marks : ℕ → Bool) (f : IsFalseAt clauses ss place)
+pub followed_first : (clauses : List Clause) (ss : List Step) (place : ℕ) (marks : ℕ → Bool)
+    (f : IsFalseAt clauses ss place)
     → ((v : ℕ) → marks v ≡ has_var f.clause.lits v) → IsFollowed clauses ss (length ss) marks [] ((place + 1) ∷ [])
 followed_first clauses ss place marks f new =
     let held : numbered clauses (place + 1) ≡ Some f.clause = ap (numbered clauses) (add-one place) ∙ f.there in
     let c = f.clause.lits in
     record {
       clause = c;
-      resolves = ap (λ o. option_map_or (λ (k : Clause). resolved_from (numbered clauses) k.lits 1 []) o (Err (UnknownId (place + 1)))) held;
+      resolves = ap (λ o. option_map_or (λ (k : Clause). resolved_from (numbered clauses) k.lits 1 []) o
+          (Err (UnknownId (place + 1)))) held;
       parts = λ l. same_bool (has c l) (marks l.var && fails ss l)
           (λ h. and_from _ _ (new l.var ∙ has_var_from c l h) (f.false_all l h))
           (λ h.

@@ -1,6 +1,8 @@
 -- How many steps are kept: the decisions passed so far, from the last one on.
 use Rattle.resolution_check.specs.Trails.{HasTwoFree}
-use Rattle.std.proofs.Common.{◌≡◌, ◌⊎◌, ℕ, ◌+◌, ◌-◌, ◌<◌, ◌≤◌, Bool, true, false, not, List, ◌++◌, take, drop, slice_get, take-append-drop, Option, Some, None, is_some, inl, inr, refl, sym, ap, subst, ◌∙◌, arith}
+use Rattle.std.proofs.Common.{◌≡◌, ◌⊎◌, ℕ, ◌+◌, ◌-◌, ◌<◌, ◌≤◌, Bool, true, false, not, List, ◌++◌, take, drop}
+use Rattle.std.proofs.Common.{slice_get, take-append-drop, Option, Some, None, is_some, inl, inr, refl, sym, ap, subst}
+use Rattle.std.proofs.Common.{◌∙◌, arith}
 use Rattle.std.proofs.lemmas.Bool.{cases_Bool, false≢true, true≢false}
 use Rattle.std.proofs.lemmas.List.{take-take}
 use Rattle.resolution_check.specs.declared.log.Lit.{Lit}
@@ -38,7 +40,8 @@ value_of-front ss n m v h none =
     ap (λ l. value_of l v) (take-append-drop n (take m ss)) ∙ none in
     ap (λ l. value_of l v) (sym (take-take n m ss h)) ∙ value_of-none (take n (take m ss)) (drop n (take m ss)) v whole
 
-module _ (ss : List Step) (lits : List Lit) (at : ℕ) (s : Step) (there : slice_get ss at ≡ Some s) (fresh : value_of (take at ss) s.lit.var ≡ None) where
+module _ (ss : List Step) (lits : List Lit) (at : ℕ) (s : Step) (there : slice_get ss at ≡ Some s)
+    (fresh : value_of (take at ss) s.lit.var ≡ None) where
   -- a decision is not at the place of a forced literal
   later : (i : ℕ) → (s.reason ≡ None → ⊥) → at ≤ i → IsDecision ss i → at + 1 ≤ i
   later i forced h d = elim (from_next at i h) [
@@ -54,7 +57,8 @@ module _ (ss : List Step) (lits : List Lit) (at : ℕ) (s : Step) (there : slice
   passed_forced kept last forced p = record {
     least = λ i h g d. p.least i (later i forced h d) g d;
     found = λ i h d. p.found i (later i forced h d) d;
-    free = λ m e. let f = p.free m e in record { inside = f.inside; free = none_before ss at s there fresh m.var f.free; decision = f.decision };
+    free = λ m e. let f = p.free m e in
+        record { inside = f.inside; free = none_before ss at s there fresh m.var f.free; decision = f.decision };
   }
 
   module _ (chosen : s.reason ≡ None) where
@@ -67,14 +71,17 @@ module _ (ss : List Step) (lits : List Lit) (at : ℕ) (s : Step) (there : slice
     passed_other kept last p = record {
       least = λ i h g d. let low : at ≤ i = h in let high : i < at = g in omega arith;
       found = λ i h d. here;
-      free = λ m e. let f = p.free m e in record { inside = f.inside; free = none_before ss at s there fresh m.var f.free; decision = here };
+      free = λ m e. let f = p.free m e in
+          record { inside = f.inside; free = none_before ss at s there fresh m.var f.free; decision = here };
     }
 
   -- the last but one of them
-  module _ (kept : ℕ) (m : Lit) (inside : has lits (opposite s.lit) ≡ true) (p : IsPassed ss lits (at + 1) kept (Some m)) (f : IsFree ss lits (at + 1) kept m) where
+  module _ (kept : ℕ) (m : Lit) (inside : has lits (opposite s.lit) ≡ true)
+      (p : IsPassed ss lits (at + 1) kept (Some m)) (f : IsFree ss lits (at + 1) kept m) where
     unlike : is_same m (opposite s.lit) ≡ false
     unlike = elim (cases_Bool (is_same m (opposite s.lit))) [
-      | inl same ↦ absurd (not_behind ss at s there fresh m f.free (ap (λ (l : Lit). l.var) (same_lit m (opposite s.lit) same)))
+      | inl same ↦ absurd (not_behind ss at s there fresh m f.free
+          (ap (λ (l : Lit). l.var) (same_lit m (opposite s.lit) same)))
       | inr other ↦ other
     ]
 

@@ -1,6 +1,8 @@
 -- Settled clauses: one step more, and decisions.
 use Rattle.resolution_check.specs.Trails.{is_value}
-use Rattle.std.proofs.Common.{◌≡◌, ◌⊎◌, ℕ, zero, suc, ◌+◌, ◌<◌, ◌≤◌, ◌==◌, Bool, true, false, not, List, [], ◌∷◌, ◌++◌, length, length-append, get_or, take, drop, take-append-drop, slice_get, Option, Some, None, is_some, inl, inr, refl, sym, ap, subst, ◌∙◌, arith}
+use Rattle.std.proofs.Common.{◌≡◌, ◌⊎◌, ℕ, zero, suc, ◌+◌, ◌<◌, ◌≤◌, ◌==◌, Bool, true, false, not, List, [], ◌∷◌, ◌++◌}
+use Rattle.std.proofs.Common.{length, length-append, get_or, take, drop, take-append-drop, slice_get, Option, Some}
+use Rattle.std.proofs.Common.{None, is_some, inl, inr, refl, sym, ap, subst, ◌∙◌, arith}
 use Rattle.std.specs.Bool.{beq}
 use Rattle.std.proofs.lemmas.Bool.{not-true, cases_Bool, cases_lt, eqb-true, false≢true, true≢false, or_left, or_cases}
 use Rattle.std.proofs.lemmas.List.Folds.{list_any_at}
@@ -16,7 +18,8 @@ use Rattle.resolution_check.proofs.Literals.{same_refl, has-append}
 use Rattle.cdcl_search.specs.declared.trail.Step.{Step}
 use Rattle.cdcl_search.specs.Trails.{Assigned, value_of, holds, AllFail, IsUnit, HasReason, Follows, Keeps, IsTotal}
 use Rattle.cdcl_search.specs.Books.{Shelf, listed, has_place, Finds}
-use Rattle.cdcl_search.specs.Levels.{IsSettled, AllSettled, IsDecision, AreFull, IsSeen, AllSeen, IsSettledAt, IsSeenSince, Goes, IsNegated}
+use Rattle.cdcl_search.specs.Levels.{IsSettled, AllSettled, IsDecision, AreFull, IsSeen, AllSeen, IsSettledAt}
+use Rattle.cdcl_search.specs.Levels.{IsSeenSince, Goes, IsNegated}
 use Rattle.cdcl_search.proofs.Places.{slice_get-front, slice_get-seam, slice_get-take}
 use Rattle.cdcl_search.proofs.Trails.{value_of-keeps, value_of-last, value_of-other, follows_push, keeps_push}
 
@@ -48,7 +51,8 @@ touched ss s l free here =
     let value : value_of (ss ++ s ∷ []) l.var ≡ Some (not s.lit.negated) =
     ap (value_of (ss ++ s ∷ [])) (sym e) ∙ value_of-last ss s free_s in
     elim (one_sign l.negated s.lit.negated) [
-      | inl same ↦ inl (ap (λ o. is_value o (not l.negated)) value ∙ ap (λ n. beq (not s.lit.negated) (not n)) same ∙ itself s.lit.negated)
+      | inl same ↦ inl (ap (λ o. is_value o (not l.negated)) value ∙ ap (λ n. beq (not s.lit.negated) (not n)) same
+          ∙ itself s.lit.negated)
       | inr other ↦ inr (λ i. record { var = sym e i; negated = other i })
     ]
 
@@ -85,7 +89,14 @@ seen_push ss s head c within (inl settled) = elim (settled_push ss s c settled) 
   | inr hit ↦ inr (record { at = length ss; step = s; there = slice_get-seam ss s []; later = within; hit = hit })
 ]
 seen_push ss s head c within (inr h) =
-    inr (record { at = h.at; step = h.step; there = slice_get-front ss (s ∷ []) h.at h.step h.there; later = h.later; hit = h.hit })
+    inr (record {
+      at = h.at;
+      step = h.step;
+      there = slice_get-front ss (s
+          ∷ []) h.at h.step h.there;
+      later = h.later;
+      hit = h.hit;
+    })
 
 -- what is to be looked at from behind the last step on is settled
 pub seen_end : (ss : List Step) (head : ℕ) (c : List Lit) → length ss ≤ head → IsSeen ss head c → IsSettled ss c
@@ -138,7 +149,8 @@ goes_then clauses old middle new first second = record {
 
 pub goes_push : (clauses : List Clause) (old new : Assigned) (s : Step) → new.steps ≡ old.steps ++ s ∷ []
     → new.vars ≡ old.vars
-    → HasReason clauses old.steps s.lit s.reason → (s.reason ≡ None → AllSettled clauses old.steps) → Goes clauses old new
+    → HasReason clauses old.steps s.lit s.reason → (s.reason ≡ None → AllSettled clauses old.steps)
+    → Goes clauses old new
 goes_push clauses old new s more vars reason settled = record {
   follows = λ f. subst (λ ss. Follows clauses ss) (sym more) (follows_push clauses old.steps s f reason);
   full = λ f. subst (λ ss. AreFull clauses ss) (sym more) (full_push clauses old.steps s settled f);
@@ -170,7 +182,12 @@ pub settled_true : (ss : List Step) (c : List Lit) (i : ℕ) (d : Lit) (b : Bool
     → Some b ≡ value_of ss (get_or c i d).var → not (beq b (get_or c i d).negated) ≡ true → IsSettled ss c
 settled_true ss c i d b within e h =
     let l = get_or c i d in
-    inl (record { lit = l; inside = has_at c i d within; is_true = ap (λ o. is_value o (not l.negated)) (sym e) ∙ flip b l.negated h })
+    inl (record {
+      lit = l;
+      inside = has_at c i d within;
+      is_true = ap (λ o. is_value o (not l.negated)) (sym e)
+          ∙ flip b l.negated h;
+    })
 
 pub settled_two : (ss : List Step) (c : List Lit) (i : ℕ) (d m : Lit) (free : Option Lit) → i < length c
     → None ≡ value_of ss (get_or c i d).var
@@ -211,7 +228,13 @@ pub settled_forced : (clauses : List Clause) (ss now : List Step) (s : Step) (c 
 settled_forced clauses ss now s c place there forced e =
     let value : value_of now s.lit.var ≡ Some (not s.lit.negated) =
     ap (λ l. value_of l s.lit.var) e ∙ value_of-last ss s forced.free in
-    settled_at clauses now c place there (inl (record { lit = s.lit; inside = forced.inside; is_true = ap (λ o. is_value o (not s.lit.negated)) value ∙ itself s.lit.negated }))
+    settled_at clauses now c place there
+    (inl (record {
+      lit = s.lit;
+      inside = forced.inside;
+      is_true = ap (λ o. is_value o (not s.lit.negated)) value
+          ∙ itself s.lit.negated;
+    }))
 
 -- ---- clauses looked at one after another
 
@@ -259,7 +282,8 @@ settled_end clauses ss head past seen place c there = seen_end ss head c.lits pa
 
 pub seen_next : (shelf : Shelf) (old new : Assigned) (at : ℕ) (s : Step) → slice_get old.steps at ≡ Some s
     → Finds shelf → Goes shelf.clauses old new
-    → ((place : ℕ) → has_place (listed shelf.positive shelf.negative (opposite s.lit)) place ≡ true → IsSeenSince shelf.clauses old.steps new.steps place)
+    → ((place : ℕ) → has_place (listed shelf.positive shelf.negative (opposite s.lit)) place ≡ true
+    → IsSeenSince shelf.clauses old.steps new.steps place)
     → AllSeen shelf.clauses old.steps at → AllSeen shelf.clauses new.steps (at + 1)
 unfolding AllSeen Finds
 seen_next shelf old new at s there finds g since seen place c found =
@@ -267,7 +291,8 @@ seen_next shelf old new at s there finds g since seen place c found =
     elim (seen place c found) [
       | inl settled ↦ g.seen (at + 1) c.lits (omega arith) (inl settled)
       | inr h ↦ elim (cases_lt at h.at) [
-        | inl later ↦ g.seen (at + 1) c.lits (omega arith) (inr (record { at = h.at; step = h.step; there = h.there; later = omega arith; hit = h.hit }))
+        | inl later ↦ g.seen (at + 1) c.lits (omega arith)
+            (inr (record { at = h.at; step = h.step; there = h.there; later = omega arith; hit = h.hit }))
         | inr here ↦
             let reached = h.later in
             let e : h.at ≡ at = omega arith in
@@ -300,7 +325,8 @@ pub total_more : (n : ℕ) (old new : List Step) → IsTotal n old → Keeps old
     → IsTotal (n + 1) new
 total_more n old new total keeps here var below = elim (cases_lt var n) [
   | inl less ↦ keeps var (total var less)
-  | inr last ↦ let e : n ≡ var = omega arith in let P : ℕ → Type 0 = λ v. is_some (value_of new v) ≡ true in subst P e here
+  | inr last ↦ let e : n ≡ var = omega arith in let P : ℕ → Type 0 = λ v. is_some (value_of new v) ≡ true in
+      subst P e here
 ]
 
 -- ---- steps taken back to a decision
@@ -317,7 +343,8 @@ pub record IsCutBack (old : List Clause) (clause : Clause) (ss : List Step) (kep
   pub full : AreFull (old ++ clause ∷ []) (take kept ss)
   pub settled : (place : ℕ) → place < length old → IsSettledAt (old ++ clause ∷ []) (take kept ss) place
 
-module _ (old : List Clause) (clause : Clause) (ss : List Step) (kept : ℕ) (full : AreFull old ss) (filled : is_empty clause.lits ≡ false)
+module _ (old : List Clause) (clause : Clause) (ss : List Step) (kept : ℕ) (full : AreFull old ss)
+    (filled : is_empty clause.lits ≡ false)
     (negated : (l : Lit) → has clause.lits l ≡ true → IsNegated ss l)
     (settled : (at : ℕ) → at < kept → IsDecision ss at → IsSettled (take at ss) clause.lits)
     (decision : (at : ℕ) → IsDecision ss at → IsDecision ss kept) where
@@ -326,7 +353,8 @@ module _ (old : List Clause) (clause : Clause) (ss : List Step) (kept : ℕ) (fu
       → slice_get old place ≡ Some c
   held_before place c below there =
       slice_get-get_or old place c below
-      ∙ ap Some (sym (get_or_append_left old (clause ∷ []) c place below) ∙ get_or_from_slice_get (old ++ clause ∷ []) place c c there)
+      ∙ ap Some (sym (get_or_append_left old (clause ∷ []) c place below)
+      ∙ get_or_from_slice_get (old ++ clause ∷ []) place c c there)
 
   kept_is_decision : (xs : List Lit) → is_empty xs ≡ false → ((l : Lit) → has xs l ≡ true → IsNegated ss l)
       → IsDecision ss kept
@@ -341,6 +369,8 @@ module _ (old : List Clause) (clause : Clause) (ss : List Step) (kept : ℕ) (fu
         let same : take at (take kept ss) ≡ take at ss = take-take at kept ss (omega (arith, front.0)) in
         let P : List Step → Type 0 = λ l. IsSettled l c.lits in
         subst P (sym same)
-        (each_place-push (λ i (k : Clause). IsSettled (take at ss) k.lits) old clause (λ i k found. full at front.1 i k found) (settled at front.0 front.1) place c there);
-    settled = λ place below c there. full kept (kept_is_decision clause.lits filled negated) place c (held_before place c below there);
+        (each_place-push (λ i (k : Clause). IsSettled (take at ss) k.lits) old clause
+        (λ i k found. full at front.1 i k found) (settled at front.0 front.1) place c there);
+    settled = λ place below c there. full kept (kept_is_decision clause.lits filled negated) place c
+        (held_before place c below there);
   }

@@ -1,10 +1,14 @@
 -- The log of a search: its entries and their lines.
 use Rattle.resolution_check.proofs.Values.{below_larger}
-use Rattle.std.proofs.Common.{◌≡◌, ℕ, zero, suc, ◌+◌, ◌<◌, ◌≤◌, ◌^◌, ◌==◌, Bool, true, false, cond, ◌||◌, List, [], ◌∷◌, ◌++◌, length, take, drop, slice_get, Option, Some, None, is_some, Result, Ok, Err, IfOk, refl, sym, ap, ap₂, subst, ◌∙◌, arith, inl, inr, add-zero, append_assoc, length-append, take-append-drop}
+use Rattle.std.proofs.Common.{◌≡◌, ℕ, zero, suc, ◌+◌, ◌<◌, ◌≤◌, ◌^◌, ◌==◌, Bool, true, false, cond, ◌||◌, List, []}
+use Rattle.std.proofs.Common.{◌∷◌, ◌++◌, length, take, drop, slice_get, Option, Some, None, is_some, Result, Ok, Err}
+use Rattle.std.proofs.Common.{IfOk, refl, sym, ap, ap₂, subst, ◌∙◌, arith, inl, inr, add-zero, append_assoc}
+use Rattle.std.proofs.Common.{length-append, take-append-drop}
 use Rattle.cnf_blaster.proofs.Properness.{weaker}
 use Rattle.std.specs.Option.{option_or}
 use Rattle.std.specs.List.{list_all, AllByRecursion}
-use Rattle.std.proofs.lemmas.Bool.{and_parts, ltb-true, leb-true, cases_Bool, eqb-true, eq-eqb, false≢true, false_from_ne_true}
+use Rattle.std.proofs.lemmas.Bool.{and_parts, ltb-true, leb-true, cases_Bool, eqb-true, eq-eqb, false≢true}
+use Rattle.std.proofs.lemmas.Bool.{false_from_ne_true}
 use Rattle.std.proofs.lemmas.List.{append-nil, length-take}
 use Rattle.std.proofs.lemmas.Option.{slice_get_within}
 use Rattle.std.proofs.lemmas.Grind.{flat_map-append}
@@ -14,7 +18,9 @@ use Rattle.resolution_check.specs.declared.log.Lit.{Lit}
 use Rattle.resolution_check.specs.declared.log.Clause.{Clause}
 use Rattle.resolution_check.specs.declared.log.Entry.{Entry}
 use Rattle.resolution_check.specs.declared.log.Entry.TheVariants.{Input, Add, Delete, End}
-use Rattle.resolution_check.specs.Entries.{clause_by, deletes, is_end, is_empty, is_refutation, clause_given, is_given, is_deleted, clause_held, has_ended, adds_empty, addition_count, inputs, resolved, KeepsGood, IsGood, IsUnsatisfiable}
+use Rattle.resolution_check.specs.Entries.{clause_by, deletes, is_end, is_empty, is_refutation, clause_given, is_given}
+use Rattle.resolution_check.specs.Entries.{is_deleted, clause_held, has_ended, adds_empty, addition_count, inputs}
+use Rattle.resolution_check.specs.Entries.{resolved, KeepsGood, IsGood, IsUnsatisfiable}
 use Rattle.resolution_check.proofs.Truth.{unsatisfiable}
 use Rattle.resolution_check.specs.Earned.{AllEarned, IsEarned, IsSpaced, MayFollow, IsAscending, GoesUp, IsAbove}
 use Rattle.resolution_check.specs.Clauses.{is_inside, is_below}
@@ -84,18 +90,21 @@ text_next cs at c there =
 
 pub inputs_more : (before middle now : Option (List ℕ)) (cs : List Clause) (at : ℕ) (c : Clause)
     → slice_get cs at ≡ Some c
-    → Takes before middle (log_text (input_entries 1 (take at cs))) → Takes middle now (line_of (Input (at + 1) c)) → Takes before now (log_text (input_entries 1 (take (at + 1) cs)))
+    → Takes before middle (log_text (input_entries 1 (take at cs))) → Takes middle now (line_of (Input (at + 1) c))
+    → Takes before now (log_text (input_entries 1 (take (at + 1) cs)))
 inputs_more before middle now cs at c there first second =
     let P : List ℕ → Type 0 = λ t. Takes before now t in
     subst P (sym (text_next cs at c there)) (takes_more before middle now _ _ first second)
 
 pub inputs_part : (before middle now : Option (List ℕ)) (cs : List Clause) (at : ℕ) (c : Clause)
     → slice_get cs at ≡ Some c
-    → Takes before middle (log_text (input_entries 1 (take at cs))) → TakesPart middle now (line_of (Input (at + 1) c)) → TakesPart before now (log_text (input_entries 1 cs))
+    → Takes before middle (log_text (input_entries 1 (take at cs)))
+    → TakesPart middle now (line_of (Input (at + 1) c)) → TakesPart before now (log_text (input_entries 1 cs))
 inputs_part before middle now cs at c there first second =
     let front = take (at + 1) cs in
     let rest = drop (at + 1) cs in
-    let whole : log_text (input_entries 1 front) ++ log_text (input_entries (1 + length front) rest) ≡ log_text (input_entries 1 cs) =
+    let whole : log_text (input_entries 1 front) ++ log_text (input_entries (1 + length front) rest)
+    ≡ log_text (input_entries 1 cs) =
     sym (text-append (input_entries 1 front) (input_entries (1 + length front) rest))
     ∙ ap log_text (sym (inputs-append 1 front rest))
     ∙ ap (λ ds. log_text (input_entries 1 ds)) (take-append-drop (at + 1) cs) in
@@ -164,7 +173,8 @@ texts_push (d ∷ es) e h k = (h.0, texts_push es e h.1 k)
 -- one entry more, which gives the next number
 pub held_more : (es : List Entry) (e : Entry) (clauses : List Clause) (c : Clause) → IsHeld es clauses
     → KeepsGood es e → IsEarned es e → MayFollow es e → GoesUp es e → HasText e
-    → ((id : ℕ) → clause_by id e ≡ cond (length clauses + 1 == id) (Some c) None) → ((id : ℕ) → deletes id e ≡ false) → is_end e ≡ false
+    → ((id : ℕ) → clause_by id e ≡ cond (length clauses + 1 == id) (Some c) None) → ((id : ℕ) → deletes id e ≡ false)
+    → is_end e ≡ false
     → IsHeld (es ++ e ∷ []) (clauses ++ c ∷ [])
 held_more es e clauses c h good earned may up text gives_it keeps goes_on = record {
   good = each_push KeepsGood es e h.good good;
@@ -229,7 +239,8 @@ held_inputs before (c ∷ cs) es may h =
     let P : List Entry → Type 0 = λ l. IsHeld l (before ++ c ∷ cs) in
     let Q : List Clause → Type 0 =
     λ ds. IsHeld ((es ++ e ∷ []) ++ input_entries (length (before ++ c ∷ []) + 1) cs) ds in
-    subst P (ap (λ k. (es ++ e ∷ []) ++ input_entries k cs) number ∙ append_assoc es (e ∷ []) (input_entries ((length before + 1) + 1) cs))
+    subst P (ap (λ k. (es ++ e ∷ []) ++ input_entries k cs) number
+    ∙ append_assoc es (e ∷ []) (input_entries ((length before + 1) + 1) cs))
     (subst Q (append_assoc before (c ∷ []) cs) rest)
 
 inputs_held : (cs : List Clause) → MayBeInputs 0 cs → IsHeld (input_entries 1 cs) cs
@@ -293,7 +304,8 @@ going_first before now cs may takes =
 -- the clauses of a formula are written as inputs, and held
 pub going_start : (before now : Option (List ℕ)) (vars budget : ℕ) (cs written clauses : List Clause)
     → vars ≤ 2 ^ 63 → length cs + budget ≤ 2 ^ 63 → list_all (λ c. is_below vars c.lits) cs ≡ true
-    → written ≡ cs → clauses ≡ cs → Takes before now (log_text (input_entries 1 written)) → IsGoing before now cs clauses 0
+    → written ≡ cs → clauses ≡ cs → Takes before now (log_text (input_entries 1 written))
+    → IsGoing before now cs clauses 0
 going_start before now vars budget cs written clauses few numbers below same held takes =
     let P : List Clause → Type 0 = λ ds. Takes before now (log_text (input_entries 1 ds)) in
     let may = may_be_inputs vars budget cs few numbers below in
@@ -341,7 +353,8 @@ next_lesson clauses vars steps lits chain number lesson filled full fresh is_nex
   );
 }
 
-module _ (before middle : Option (List ℕ)) (ins clauses : List Clause) (added : ℕ) (g : IsGoing before middle ins clauses added) where
+module _ (before middle : Option (List ℕ)) (ins clauses : List Clause) (added : ℕ)
+    (g : IsGoing before middle ins clauses added) where
   abbrev held : IsHeld g.entries clauses
   held = record {
     good = g.log.good;
@@ -363,7 +376,8 @@ module _ (before middle : Option (List ℕ)) (ins clauses : List Clause) (added 
     text = part_of_all before now (log_text g.entries) (rw e g.text);
   }
 
-  module _ (steps : List Step) (lits : List Lit) (chain : List ℕ) (number : ℕ) (l : IsNextLesson clauses steps lits chain number) where
+  module _ (steps : List Step) (lits : List Lit) (chain : List ℕ) (number : ℕ)
+      (l : IsNextLesson clauses steps lits chain number) where
     abbrev addition : Entry
     addition = Add number (record { lits = lits }) chain
 
@@ -386,7 +400,12 @@ module _ (before middle : Option (List ℕ)) (ins clauses : List Clause) (added 
     is_earned : IsEarned g.entries addition
     is_earned = record {
       good = keeps_good;
-      exact = (l.lesson.clause, resolves, inside-same l.lesson.clause lits l.lesson.same, inside-same lits l.lesson.clause (λ k. sym (l.lesson.same k)));
+      exact = (
+        l.lesson.clause,
+        resolves,
+        inside-same l.lesson.clause lits l.lesson.same,
+        inside-same lits l.lesson.clause (λ k. sym (l.lesson.same k)),
+      );
       once = l.lesson.once;
       smallest = λ other c h. contains_none other c (sym (ap (λ f. f other) holds) ∙ h);
     }
@@ -453,7 +472,8 @@ module _ (before middle : Option (List ℕ)) (ins clauses : List Clause) (added 
       entries = g.entries ++ addition ∷ [];
       log = log_more;
       within = omega (arith, counted);
-      text = subst (λ t. TakesPart before now t) (sym (text-push g.entries addition)) (part_more before middle now _ _ g.text part);
+      text = subst (λ t. TakesPart before now t) (sym (text-push g.entries addition))
+          (part_more before middle now _ _ g.text part);
     }
 
 -- ---- the outcomes

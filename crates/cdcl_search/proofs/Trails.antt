@@ -1,17 +1,20 @@
 -- Trails: one step more, one step less.
-use Rattle.std.proofs.Common.{◌≡◌, ◌≢◌, ℕ, ◌<◌, ◌==◌, Bool, false, not, List, [], ◌∷◌, ◌++◌, length, length-take, take, set, slice_get, Option, Some, None, inl, inr, refl, sym, ap, subst, ◌∙◌, arith}
+use Rattle.std.proofs.Common.{◌≡◌, ◌≢◌, ℕ, ◌<◌, ◌==◌, Bool, false, not, List, [], ◌∷◌, ◌++◌, length, length-take, take}
+use Rattle.std.proofs.Common.{set, slice_get, Option, Some, None, inl, inr, refl, sym, ap, subst, ◌∙◌, arith}
 use Rattle.std.proofs.lemmas.Bool.{cases_Bool, eqb-true, eq-eqb, false≢true}
 use Rattle.std.proofs.lemmas.Option.{slice_get_within}
 use Rattle.std.proofs.lemmas.List.{length-set, take-append-le, take-take}
 use Rattle.std.proofs.Math.Seq.{take-append_seam}
 use Rattle.mw_text.proofs.Lists.{each_place-push}
-use Rattle.cdcl_search.proofs.Places.{slice_get-set_same, slice_get-set_other, slice_get-front, slice_get-seam, slice_get-take}
+use Rattle.cdcl_search.proofs.Places.{slice_get-set_same, slice_get-set_other, slice_get-front, slice_get-seam}
+use Rattle.cdcl_search.proofs.Places.{slice_get-take}
 use Rattle.cdcl_search.specs.declared.trail.Step.{Step}
 use Rattle.resolution_check.specs.declared.log.Lit.{Lit}
 use Rattle.resolution_check.specs.declared.log.Clause.{Clause}
 use Rattle.resolution_check.specs.Trails as trails
 use Rattle.resolution_check.proofs.Values as values
-use Rattle.cdcl_search.specs.Trails.{lits_of, value_of, IsSound, AllFail, IsUnit, IsForcedBy, HasReason, Follows, IsFalseAt, Keeps}
+use Rattle.cdcl_search.specs.Trails.{lits_of, value_of, IsSound, AllFail, IsUnit, IsForcedBy, HasReason, Follows}
+use Rattle.cdcl_search.specs.Trails.{IsFalseAt, Keeps}
 
 -- the literals of more steps
 pub lits_of-append : (ss ts : List Step) → lits_of (ss ++ ts) ≡ lits_of ss ++ lits_of ts
@@ -59,9 +62,11 @@ sound_push ss values s within free sound =
         | inr other ↦ slice_get-set_other values s.lit.var v (Some (not s.lit.negated)) (unlike s.lit.var v other)
             ∙ sound.same v (omega arith) ∙ ap Some (sym (value_of-other ss s v other))
       ];
-      below = each_place-push (λ i t. t.lit.var < length written) ss s (λ i t h. let known = sound.below i t h in omega arith) (omega arith);
+      below = each_place-push (λ i t. t.lit.var < length written) ss s (λ i t h. let known = sound.below i t h in
+          omega arith) (omega arith);
       fresh = each_place-push (λ i t. value_of (take i (ss ++ s ∷ [])) t.lit.var ≡ None) ss s
-          (λ i t h. let w : i < length ss = slice_get_within ss i t h in ap (λ l. value_of l t.lit.var) (take-append-le i ss (s ∷ []) (omega arith)) ∙ sound.fresh i t h)
+          (λ i t h. let w : i < length ss = slice_get_within ss i t h in
+          ap (λ l. value_of l t.lit.var) (take-append-le i ss (s ∷ []) (omega arith)) ∙ sound.fresh i t h)
           (ap (λ l. value_of l s.lit.var) (take-append_seam ss (s ∷ [])) ∙ free);
     }
 
@@ -84,7 +89,8 @@ sound_pop ss values s sound =
       ];
       below = λ i t h. let known = sound.below i t (slice_get-front ss (s ∷ []) i t h) in omega arith;
       fresh =
-          λ i t h. let w : i < length ss = slice_get_within ss i t h in ap (λ l. value_of l t.lit.var) (sym (take-append-le i ss (s ∷ []) (omega arith)))
+          λ i t h. let w : i < length ss = slice_get_within ss i t h in
+          ap (λ l. value_of l t.lit.var) (sym (take-append-le i ss (s ∷ []) (omega arith)))
           ∙ sound.fresh i t (slice_get-front ss (s ∷ []) i t h);
     }
 
@@ -103,7 +109,8 @@ follows_push clauses ss s follows reason =
     let w : i < length ss = slice_get_within ss i t h in
     let P : List Step → Type 0 = λ l. HasReason clauses l t.lit t.reason in
     subst P (sym (take-append-le i ss (s ∷ []) (omega arith))) (follows i t h))
-    (let P : List Step → Type 0 = λ l. HasReason clauses l s.lit s.reason in subst P (sym (take-append_seam ss (s ∷ []))) reason)
+    (let P : List Step → Type 0 = λ l. HasReason clauses l s.lit s.reason in
+    subst P (sym (take-append_seam ss (s ∷ []))) reason)
 
 pub follows_cut : (clauses : List Clause) (ss : List Step) (n : ℕ) → Follows clauses ss → Follows clauses (take n ss)
 unfolding Follows
@@ -117,7 +124,13 @@ reason-more : (clauses : List Clause) (c : Clause) (before : List Step) (l : Lit
     → HasReason clauses before l reason → HasReason (clauses ++ c ∷ []) before l reason
 reason-more clauses c before l None h = tt
 reason-more clauses c before l (Some place) h =
-    record { clause = h.clause; there = slice_get-front clauses (c ∷ []) place h.clause h.there; inside = h.inside; others = h.others }
+    record {
+      clause = h.clause;
+      there = slice_get-front clauses (c
+          ∷ []) place h.clause h.there;
+      inside = h.inside;
+      others = h.others;
+    }
 
 pub follows_more : (clauses : List Clause) (c : Clause) (ss : List Step) → Follows clauses ss
     → Follows (clauses ++ c ∷ []) ss

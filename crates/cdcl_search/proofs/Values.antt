@@ -1,6 +1,7 @@
 -- Literals and clauses by the values of variables.
 use Rattle.resolution_check.specs.Trails.{is_value}
-use Rattle.std.proofs.Common.{◌≡◌, ℕ, zero, suc, ◌<◌, Bool, true, false, not, cond, List, [], ◌∷◌, ◌++◌, slice_get, Option, Some, None, inl, inr, refl, sym, ap, ◌∙◌}
+use Rattle.std.proofs.Common.{◌≡◌, ℕ, zero, suc, ◌<◌, Bool, true, false, not, cond, List, [], ◌∷◌, ◌++◌, slice_get}
+use Rattle.std.proofs.Common.{Option, Some, None, inl, inr, refl, sym, ap, ◌∙◌}
 use Rattle.std.specs.List.{list_any, list_all}
 use Rattle.std.proofs.lemmas.Bool.{false≢true, or_cases, and_parts, and_from, or_left, or_right, ltb-true}
 use Rattle.std.proofs.lemmas.List.Folds.{list_all-append}
@@ -50,7 +51,8 @@ clause_true ss vars values [] given below h = h
 clause_true ss vars values (l ∷ c) given below h =
     let both = and_parts _ _ below in
     elim (or_cases _ _ h) [
-      | inl here ↦ or_left _ _ (value_is (value_of ss l.var) (truth values l.var) l.negated (given l.var (ltb-true l.var vars both.0)) here)
+      | inl here ↦ or_left _ _
+          (value_is (value_of ss l.var) (truth values l.var) l.negated (given l.var (ltb-true l.var vars both.0)) here)
       | inr later ↦ or_right (lit_value (truth values) l) _ (clause_true ss vars values c given both.1 later)
     ]
 

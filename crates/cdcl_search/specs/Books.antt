@@ -1,13 +1,14 @@
 -- The clauses that a search holds, by their places.
-use Rattle.std.specs.Prelude.{◌≡◌, ℕ, ◌==◌, Bool, true, not, nat_lt, if◌then◌else◌, List, [], length, slice_get, slice_index_or, Some}
+use Rattle.std.specs.Prelude.{◌≡◌, ℕ, ◌==◌, Bool, true, not, nat_lt, if◌then◌else◌, List, [], length, slice_get}
+use Rattle.std.specs.Prelude.{slice_index_or, Some}
 use Rattle.std.specs.List.{list_all, list_any}
 use Rattle.resolution_check.specs.declared.log.Lit.{Lit}
 use Rattle.resolution_check.specs.declared.log.Clause.{Clause}
 use Rattle.resolution_check.specs.Clauses.{has, is_below}
 use Rattle.resolution_check.specs.Entries.{is_empty}
 
--- what contracts see of a book: its clauses, how many variables there are, and for each variable the places listed for it
--- and for its negation
+-- what contracts see of a book: its clauses, how many variables there are, and for each variable the places listed for
+-- it and for its negation
 pub record Shelf : Type 0 where
   pub clauses : List Clause
   pub vars : ℕ
@@ -35,7 +36,8 @@ has_place places place = list_any (λ k. k == place) places
 -- each clause is listed for each of its literals
 unfoldable pub Finds : Shelf → Type 0
 Finds shelf =
-    (place : ℕ) (c : Clause) (l : Lit) → slice_get shelf.clauses place ≡ Some c → has c.lits l ≡ true → has_place (listed shelf.positive shelf.negative l) place ≡ true
+    (place : ℕ) (c : Clause) (l : Lit) → slice_get shelf.clauses place ≡ Some c → has c.lits l ≡ true
+    → has_place (listed shelf.positive shelf.negative l) place ≡ true
 
 -- no clause is empty
 abbrev pub are_filled : List Clause → Bool

@@ -35,15 +35,18 @@ pub record IsRefuted (before now : Option (List ℕ)) (inputs : List Clause) (ad
 
 abbrev pub GoesOn : (old new : Option (List ℕ)) → (clauses more : List Clause) → Type 0
 GoesOn old new clauses more =
-    (before : Option (List ℕ)) (ins : List Clause) (added : ℕ) → IsGoing before old ins clauses added → IsGoing before new ins more (added + 1)
+    (before : Option (List ℕ)) (ins : List Clause) (added : ℕ) → IsGoing before old ins clauses added
+    → IsGoing before new ins more (added + 1)
 
 abbrev pub Refutes : (old new : Option (List ℕ)) → (clauses : List Clause) → Type 0
 Refutes old new clauses =
-    (before : Option (List ℕ)) (ins : List Clause) (added : ℕ) → IsGoing before old ins clauses added → IsRefuted before new ins (added + 1)
+    (before : Option (List ℕ)) (ins : List Clause) (added : ℕ) → IsGoing before old ins clauses added
+    → IsRefuted before new ins (added + 1)
 
 abbrev pub Cuts : (old new : Option (List ℕ)) → (clauses : List Clause) → Type 0
 Cuts old new clauses =
-    (before : Option (List ℕ)) (ins : List Clause) (added : ℕ) → IsGoing before old ins clauses added → IsCut before new ins (added + 1)
+    (before : Option (List ℕ)) (ins : List Clause) (added : ℕ) → IsGoing before old ins clauses added
+    → IsCut before new ins (added + 1)
 
 -- One clause more is held and can be found, none is empty. The trail follows from the clauses and was full before each
 -- decision; the clauses held before are settled under it. What satisfies the clauses satisfied those before.

@@ -1,5 +1,6 @@
 -- What a false clause teaches.
-use Rattle.std.specs.Prelude.{◌≡◌, ℕ, zero, suc, Bool, true, ◌&&◌, ◌||◌, nat_lt, nat_le, List, length, take, Option, None, is_some, slice_get, Ok}
+use Rattle.std.specs.Prelude.{◌≡◌, ℕ, zero, suc, Bool, true, ◌&&◌, ◌||◌, nat_lt, nat_le, List, length, take, Option}
+use Rattle.std.specs.Prelude.{None, is_some, slice_get, Ok}
 use Rattle.std.specs.List.{list_all}
 use Rattle.resolution_check.specs.declared.log.Lit.{Lit}
 use Rattle.resolution_check.specs.declared.log.Clause.{Clause}

@@ -65,8 +65,8 @@ pub record IsSearchLog (clauses : List Clause) (es : List Entry) : Type 0 where
   pub ascending : IsAscending es
   pub texts : AllByRecursion HasText es
 
--- which entries show the outcome, where so many additions were allowed: the empty clause is added; or none is empty, and
--- one more was allowed; or there are as many additions as were allowed, and none is empty
+-- which entries show the outcome, where so many additions were allowed: the empty clause is added; or none is empty,
+-- and one more was allowed; or there are as many additions as were allowed, and none is empty
 abbrev pub Shows : ℕ → List Entry → Outcome → Type 0
 Shows budget es Unsat = (adds_empty es ≡ true) × (addition_count es ≤ budget)
 Shows budget es (Sat values) = (adds_empty es ≡ false) × (addition_count es < budget)

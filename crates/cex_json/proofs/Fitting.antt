@@ -1,5 +1,6 @@
 -- What is read meets the format.
-use Rattle.std.proofs.Common.{◌≡◌, ℕ, suc, ◌-◌, ◌<◌, List, [], ◌∷◌, ◌++◌, length, Bool, true, nat_lt, nat_le, Option, Some, option_map, option_and_then, Ok, refl, sym, ap, ◌∙◌, subst, arith}
+use Rattle.std.proofs.Common.{◌≡◌, ℕ, suc, ◌-◌, ◌<◌, List, [], ◌∷◌, ◌++◌, length, Bool, true, nat_lt, nat_le, Option}
+use Rattle.std.proofs.Common.{Some, option_map, option_and_then, Ok, refl, sym, ap, ◌∙◌, subst, arith}
 use Rattle.std.specs.Prelude.{All, position, slice_get, codes}
 use Rattle.std.specs.List.{list_all}
 use Rattle.std.specs.Option.{option_map_or}
@@ -39,7 +40,8 @@ all_below [] n up above = refl
 all_below (a ∷ []) n up above = and_from (nat_lt a n) true above refl
 all_below (a ∷ b ∷ rest) n up above =
     let parts = and_parts (list_all (nat_lt a) (b ∷ rest)) (ascends (b ∷ rest)) up in
-    let deeper : is_above (b ∷ rest) n ≡ true = ap (λ o. option_map_or (λ last. nat_lt last n) o true) (sym (last-cons a b rest)) ∙ above in
+    let deeper : is_above (b ∷ rest) n
+    ≡ true = ap (λ o. option_map_or (λ last. nat_lt last n) o true) (sym (last-cons a b rest)) ∙ above in
     let others = all_below (b ∷ rest) n parts.1 deeper in
     let next = (and_parts (nat_lt a b) (list_all (nat_lt a) rest) parts.0).0 in
     let here = (and_parts (nat_lt b n) (list_all (λ x. nat_lt x n) rest) others).0 in
@@ -51,12 +53,14 @@ all_one p (x ∷ xs) n holds one =
     let parts = and_parts (p x) (list_all p xs) holds in
     and_from (p x) (list_all p (xs ++ n ∷ [])) parts.0 (all_one p xs n parts.1 one)
 
-ascends_below : (xs : List ℕ) (n : ℕ) → ascends xs ≡ true → list_all (λ x. nat_lt x n) xs ≡ true → ascends (xs ++ n ∷ []) ≡ true
+ascends_below : (xs : List ℕ) (n : ℕ) → ascends xs ≡ true → list_all (λ x. nat_lt x n) xs ≡ true
+    → ascends (xs ++ n ∷ []) ≡ true
 ascends_below [] n up below = refl
 ascends_below (a ∷ rest) n up below =
     let parts = and_parts (list_all (nat_lt a) rest) (ascends rest) up in
     let under = and_parts (nat_lt a n) (list_all (λ x. nat_lt x n) rest) below in
-    and_from (list_all (nat_lt a) (rest ++ n ∷ [])) (ascends (rest ++ n ∷ [])) (all_one (nat_lt a) rest n parts.0 under.0)
+    and_from (list_all (nat_lt a) (rest ++ n ∷ [])) (ascends (rest ++ n ∷ []))
+    (all_one (nat_lt a) rest n parts.0 under.0)
     (ascends_below rest n parts.1 under.1)
 
 -- numbers that ascend, and one above the last
@@ -76,10 +80,12 @@ pub record AreLinks (count : ℕ) (links : List ℕ) : Type 0 where
   pub ascending : ascends links ≡ true
   pub of_links : All (λ at. at < count) links
 
-link_kept : (links : List Prefix) (i : ℕ) (so_far : List ℕ) (d : Data) (next : List ℕ) → AreLinks (length links) so_far →
+link_kept : (links : List Prefix) (i : ℕ) (so_far : List ℕ) (d : Data) (next : List ℕ)
+    → AreLinks (length links) so_far →
     link_step links i so_far d ≡ Ok next → AreLinks (length links) next
 link_kept links i so_far d next before same =
-    let one = grown [] (codes "failures") so_far (passing (is_above so_far) (option_and_then (link_named links) (text_in (Some d)))) next same in
+    let one = grown [] (codes "failures") so_far
+    (passing (is_above so_far) (option_and_then (link_named links) (text_in (Some d)))) next same in
     let above = passed (is_above so_far) (option_and_then (link_named links) (text_in (Some d))) one.0 one.1 in
     let named = led (link_named links) (text_in (Some d)) one.0 above.0 in
     let P : ℕ → Type 0 = λ at. at < length links in
@@ -97,13 +103,16 @@ unfolding failures_in
 failures_fit files most d links same =
     let members = bound (members_in [] (codes "failures") d) _ links same in
     let all = bound (in_order (link_step (links_of files)) 0 [] members.0) _ links members.2 in
-    let few = passed (λ xs. option_map_or (nat_le (length xs)) most true) (Some all.0) links (field [] (codes "failures") _ links all.2) in
+    let few = passed (λ xs. option_map_or (nat_le (length xs)) most true) (Some all.0) links
+    (field [] (codes "failures") _ links all.2) in
     let P : List ℕ → Type 0 = AreLinks (length (links_of files)) in
-    let none : AreLinks (length (links_of files)) [] = record { ascending = refl; of_links = λ k x within. absurd (omega arith) } in
+    let none : AreLinks (length (links_of files)) [] =
+    record { ascending = refl; of_links = λ k x within. absurd (omega arith) } in
     let fit = kept P (link_step (links_of files)) (link_kept (links_of files)) 0 [] members.0 all.0 none all.1 in
     (subst P (same_some all.0 links few.0) fit, few.1)
 
-surroundings_links : (files : List File) (limits : Limits) (d : Data) (around : Surroundings) → surroundings_in files limits d ≡ Ok around →
+surroundings_links : (files : List File) (limits : Limits) (d : Data) (around : Surroundings)
+    → surroundings_in files limits d ≡ Ok around →
     failures_in files limits.failures d ≡ Ok around.links
 unfolding surroundings_in
 surroundings_links files limits d around same =
@@ -114,7 +123,8 @@ surroundings_links files limits d around same =
     let ids = bound (ids_in files format.0 d) _ around packet.2 in
     links.1 ∙ ap (λ (s : Surroundings). Ok s.links) (same_ok _ around ids.2)
 
-limit_of : (questions : List Question) (d : Data) (place : ℕ) (question : Question) → asked_place questions d ≡ Some place →
+limit_of : (questions : List Question) (d : Data) (place : ℕ) (question : Question) → asked_place questions d
+    ≡ Some place →
     slice_get questions place ≡ Some question → (limits questions d).failures ≡ Some question.failures
 unfolding limits
 limit_of questions d place question asked there =
@@ -122,7 +132,8 @@ limit_of questions d place question asked there =
     ∙ ap (option_map (λ (q : Question). q.failures)) there
 
 -- the failed links are at most as many as the question allows
-pub cex_failures : (files : List File) (questions : List Question) (d : Data) (cex : Counterexample) (question : Question) →
+pub cex_failures : (files : List File) (questions : List Question) (d : Data) (cex : Counterexample)
+    (question : Question) →
     cex_in files questions d ≡ Ok cex → slice_get questions cex.question ≡ Some question →
     IsFailureSet files question.failures cex.failures
 unfolding cex_in
@@ -133,9 +144,12 @@ cex_failures files questions d cex question same there =
     let walk = bound (walk_for files (slice_get questions place.0) d) _ cex slots.2 in
     let is = same_ok _ cex walk.2 in
     let asked = field [] (codes "question") (asked_place questions d) place.0 place.1 in
-    let here : slice_get questions place.0 ≡ Some question = ap (λ (c : Counterexample). slice_get questions c.question) is ∙ there in
-    let fit = failures_fit files (limits questions d).failures d around.0.links (surroundings_links files (limits questions d) d around.0 around.1) in
-    let most = ap (λ o. option_map_or (nat_le (length around.0.links)) o true) (sym (limit_of questions d place.0 question asked here)) ∙ fit.1 in
+    let here : slice_get questions place.0
+    ≡ Some question = ap (λ (c : Counterexample). slice_get questions c.question) is ∙ there in
+    let fit = failures_fit files (limits questions d).failures d around.0.links
+    (surroundings_links files (limits questions d) d around.0 around.1) in
+    let most = ap (λ o. option_map_or (nat_le (length around.0.links)) o true)
+    (sym (limit_of questions d place.0 question asked here)) ∙ fit.1 in
     let P : Failures → Type 0 = IsFailureSet files question.failures in
     let set : IsFailureSet files question.failures (record { links = around.0.links }) = record {
       ascending = fit.0.ascending;

@@ -1,5 +1,7 @@
 -- A packet that is read is in the set of its question.
-use Rattle.std.proofs.Common.{◌≡◌, ◌≢◌, ℕ, ◌+◌, ◌*◌, ◌<◌, ◌≤◌, ◌^◌, List, [], Bool, true, false, ◌&&◌, ◌||◌, cond, nat_le, Option, Some, None, option_map, option_and_then, Ok, inl, inr, refl, sym, ap, ◌∙◌, subst, arith}
+use Rattle.std.proofs.Common.{◌≡◌, ◌≢◌, ℕ, ◌+◌, ◌*◌, ◌<◌, ◌≤◌, ◌^◌, List, [], Bool, true, false, ◌&&◌, ◌||◌, cond}
+use Rattle.std.proofs.Common.{nat_le, Option, Some, None, option_map, option_and_then, Ok, inl, inr, refl, sym, ap}
+use Rattle.std.proofs.Common.{◌∙◌, subst, arith}
 use Rattle.std.specs.Prelude.{codes, ◌==◌, ◌⊎◌, slice_get}
 use Rattle.std.specs.Option.{option_map_or}
 use Rattle.std.proofs.lemmas.Bool.{and_parts, eqb-true, leb-true, or_cases}
@@ -20,7 +22,8 @@ use Rattle.cex_json.specs.declared.reader.Surroundings.{Surroundings}
 use Rattle.cex_json.specs.Entries.{slots_in}
 use Rattle.cex_json.specs.Fields.{addr_in, number_in, object_in, required, text_in}
 use Rattle.cex_json.specs.Reading.{asked_place, cex_in, format_in, limits, surroundings_in, walk_for}
-use Rattle.cex_json.specs.Surroundings.{addr_under, announcements_in, failures_in, has_ports, ids_in, is_port, packet_at, packet_in, port_in, proto_fits, proto_in}
+use Rattle.cex_json.specs.Surroundings.{addr_under, announcements_in, failures_in, has_ports, ids_in, is_port}
+use Rattle.cex_json.specs.Surroundings.{packet_at, packet_in, port_in, proto_fits, proto_in}
 use Rattle.cex_json.proofs.Inversion.{bound, field, led, no_value, passed, same_ok, same_some}
 
 chosen : (b : Bool) (v n : ℕ) → cond b (Some v) None ≡ Some n → (b ≡ true) × (v ≡ n)
@@ -47,15 +50,18 @@ addr_small word a same =
     let fourth = led _ (octet_of three.0.1) a third.2 in
     let P : Addr → Type 0 = λ x. x.0 < 2 ^ 32 in
     subst P (same_some _ a fourth.2)
-    (addr_sum first.0 second.0 third.0 fourth.0 (octet_small one.0.0 first.0 first.1) (octet_small two.0.0 second.0 second.1)
+    (addr_sum first.0 second.0 third.0 fourth.0 (octet_small one.0.0 first.0 first.1)
+    (octet_small two.0.0 second.0 second.1)
     (octet_small three.0.0 third.0 third.1) (octet_small three.0.1 fourth.0 fourth.1))
 
 number_small : (most : ℕ) (found : Option Data) (n : ℕ) → number_in most found ≡ Some n → n ≤ most
 number_small most found n same =
-    leb-true n most (passed (λ k. nat_le k most) (option_and_then (λ v. option_and_then as_u64 (as_number v)) found) n same).1
+    leb-true n most (passed (λ k. nat_le k most)
+    (option_and_then (λ v. option_and_then as_u64 (as_number v)) found) n same).1
 
 -- an address under the prefix
-under : (p : Prefix) (found : Option Data) (a : Addr) → addr_under (Some p) found ≡ Some a → (covers p a ≡ true) × (a.0 < 2 ^ 32)
+under : (p : Prefix) (found : Option Data) (a : Addr) → addr_under (Some p) found ≡ Some a → (covers p a ≡ true)
+    × (a.0 < 2 ^ 32)
 unfolding addr_under
 under p found a same =
     let one = passed (λ x. covers p x) (addr_in found) a same in
@@ -63,7 +69,8 @@ under p found a same =
     (one.1, addr_small word.0 a word.2)
 
 -- a port of the range
-port_fits : (proto : ℕ) (range : ℕ × ℕ) (found : Option Data) (n : ℕ) → port_in (Some proto) (Some range) found ≡ Some n →
+port_fits : (proto : ℕ) (range : ℕ × ℕ) (found : Option Data) (n : ℕ) → port_in (Some proto) (Some range) found
+    ≡ Some n →
     (n ≤ 65535) × ((range.0 ≤ n) × (n ≤ range.1)) × (proto ≢ 6 → proto ≢ 17 → n ≡ 0)
 unfolding port_in
 port_fits proto range found n same =
@@ -98,20 +105,25 @@ proto_small set d n same =
     )
 
 -- a packet that is read is in the set
-packet_fits : (set : PacketSet) (at : List ℕ) (d : Data) (packet : Packet) → packet_at (Some set) at d ≡ Ok packet → IsInSet set packet
+packet_fits : (set : PacketSet) (at : List ℕ) (d : Data) (packet : Packet) → packet_at (Some set) at d ≡ Ok packet
+    → IsInSet set packet
 unfolding packet_at
 packet_fits set at d packet same =
-    let dport = bound (required at (codes "dport") (port_in (proto_in (Some set) d) (Some set.dport) (get (codes "dport") d))) _ packet same in
+    let dport = bound (required at (codes "dport")
+    (port_in (proto_in (Some set) d) (Some set.dport) (get (codes "dport") d))) _ packet same in
     let dst = bound (required at (codes "dst") (addr_under (Some set.dst) (get (codes "dst") d))) _ packet dport.2 in
     let proto = bound (required at (codes "proto") (proto_in (Some set) d)) _ packet dst.2 in
-    let sport = bound (required at (codes "sport") (port_in (proto_in (Some set) d) (Some set.sport) (get (codes "sport") d))) _ packet proto.2 in
+    let sport = bound (required at (codes "sport")
+    (port_in (proto_in (Some set) d) (Some set.sport) (get (codes "sport") d))) _ packet proto.2 in
     let src = bound (required at (codes "src") (addr_under (Some set.src) (get (codes "src") d))) _ packet sport.2 in
     let known = field at (codes "proto") (proto_in (Some set) d) proto.0 proto.1 in
     let p = proto_small set d proto.0 known in
     let to = port_fits proto.0 set.dport (get (codes "dport") d) dport.0
-    (ap (λ o. port_in o (Some set.dport) (get (codes "dport") d)) (sym known) ∙ field at (codes "dport") _ dport.0 dport.1) in
+    (ap (λ o. port_in o (Some set.dport) (get (codes "dport") d)) (sym known)
+    ∙ field at (codes "dport") _ dport.0 dport.1) in
     let from = port_fits proto.0 set.sport (get (codes "sport") d) sport.0
-    (ap (λ o. port_in o (Some set.sport) (get (codes "sport") d)) (sym known) ∙ field at (codes "sport") _ sport.0 sport.1) in
+    (ap (λ o. port_in o (Some set.sport) (get (codes "sport") d)) (sym known)
+    ∙ field at (codes "sport") _ sport.0 sport.1) in
     let target = under set.dst (get (codes "dst") d) dst.0 (field at (codes "dst") _ dst.0 dst.1) in
     let source = under set.src (get (codes "src") d) src.0 (field at (codes "src") _ src.0 src.1) in
     let held : Packet = record { src = src.0; dst = dst.0; proto = proto.0; sport = sport.0; dport = dport.0 } in
@@ -142,12 +154,14 @@ surroundings_packet files limits set d around same is =
     let format = bound (required [] (codes "format") (format_in d)) _ around links.2 in
     let packet = bound (packet_in limits.packets d) _ around format.2 in
     let ids = bound (ids_in files format.0 d) _ around packet.2 in
-    let part = bound (required [] (codes "packet") (object_in (get (codes "packet") d))) (packet_at limits.packets (codes "packet/")) packet.0 packet.1 in
+    let part = bound (required [] (codes "packet") (object_in (get (codes "packet") d)))
+    (packet_at limits.packets (codes "packet/")) packet.0 packet.1 in
     let read = ap (λ o. packet_at o (codes "packet/") part.0) (sym is) ∙ part.2 in
     let P : Surroundings → Type 0 = λ s. IsInSet set s.packet in
     subst P (same_ok _ around ids.2) (packet_fits set (codes "packet/") part.0 packet.0 read)
 
-set_of : (questions : List Question) (d : Data) (place : ℕ) (question : Question) → asked_place questions d ≡ Some place →
+set_of : (questions : List Question) (d : Data) (place : ℕ) (question : Question) → asked_place questions d
+    ≡ Some place →
     slice_get questions place ≡ Some question → (limits questions d).packets ≡ Some question.packets
 unfolding limits
 set_of questions d place question asked there =
@@ -155,8 +169,10 @@ set_of questions d place question asked there =
     ∙ ap (option_map (λ (q : Question). q.packets)) there
 
 -- the packet is in the set of the question
-pub cex_packet : (files : List File) (questions : List Question) (d : Data) (cex : Counterexample) (question : Question) →
-    cex_in files questions d ≡ Ok cex → slice_get questions cex.question ≡ Some question → IsInSet question.packets cex.packet
+pub cex_packet : (files : List File) (questions : List Question) (d : Data) (cex : Counterexample)
+    (question : Question) →
+    cex_in files questions d ≡ Ok cex → slice_get questions cex.question ≡ Some question
+    → IsInSet question.packets cex.packet
 unfolding cex_in
 cex_packet files questions d cex question same there =
     let around = bound (surroundings_in files (limits questions d) d) _ cex same in
@@ -165,7 +181,9 @@ cex_packet files questions d cex question same there =
     let walk = bound (walk_for files (slice_get questions place.0) d) _ cex slots.2 in
     let is = same_ok _ cex walk.2 in
     let asked = field [] (codes "question") (asked_place questions d) place.0 place.1 in
-    let here : slice_get questions place.0 ≡ Some question = ap (λ (c : Counterexample). slice_get questions c.question) is ∙ there in
+    let here : slice_get questions place.0
+    ≡ Some question = ap (λ (c : Counterexample). slice_get questions c.question) is ∙ there in
     let P : Packet → Type 0 = IsInSet question.packets in
     subst P (ap (λ (c : Counterexample). c.packet) is)
-    (surroundings_packet files (limits questions d) question.packets d around.0 around.1 (set_of questions d place.0 question asked here))
+    (surroundings_packet files (limits questions d) question.packets d around.0 around.1
+    (set_of questions d place.0 question asked here))

@@ -1,5 +1,6 @@
 -- Tables that are read have a slot for each router and length.
-use Rattle.std.proofs.Common.{◌≡◌, ℕ, ◌+◌, ◌-◌, ◌*◌, ◌<◌, ◌≤◌, List, [], ◌∷◌, length, true, nat_le, Option, Some, option_and_then, Ok, sym, ap, ◌∙◌, subst, arith}
+use Rattle.std.proofs.Common.{◌≡◌, ℕ, ◌+◌, ◌-◌, ◌*◌, ◌<◌, ◌≤◌, List, [], ◌∷◌, length, true, nat_le, Option, Some}
+use Rattle.std.proofs.Common.{option_and_then, Ok, sym, ap, ◌∙◌, subst, arith}
 use Rattle.std.specs.Prelude.{codes, decimal, position, replicate, slice_get}
 use Rattle.std.specs.Option.{option_map_or}
 use Rattle.std.proofs.lemmas.Bool.{leb-true}
@@ -14,7 +15,8 @@ use Rattle.question_lang.specs.Asking.{router_named}
 use Rattle.serde_json.specs.Data.{Data}
 use Rattle.serde_json.specs.Find.{as_number, as_u64, get}
 use Rattle.cex_json.specs.declared.counterexample.Counterexample.{Counterexample}
-use Rattle.cex_json.specs.Entries.{bgp_in, empty_slot, entry_path, filled, ospf_in, part_in, rib_in, router_in, slot_at, slot_place, slot_step, slots_in}
+use Rattle.cex_json.specs.Entries.{bgp_in, empty_slot, entry_path, filled, ospf_in, part_in, rib_in, router_in}
+use Rattle.cex_json.specs.Entries.{slot_at, slot_place, slot_step, slots_in}
 use Rattle.cex_json.specs.Fields.{in_order, members_in, number_in, object_in, passing, place_of, required, text_in}
 use Rattle.cex_json.specs.Reading.{asked_place, cex_in, limits, question_named, surroundings_in, walk_for}
 use Rattle.cex_json.proofs.Inversion.{bound, field, kept, led, no_value, passed, same_ok}
@@ -25,16 +27,19 @@ router_within files d router known =
     let named = led (router_named files) (text_in (get (codes "router") d)) router known in
     by_files named.0 files named.2
   where
-    by_files : (name : List ℕ) (all : List File) → position (λ file. same_text file.hostname name) all ≡ Some router → router < length all
+    by_files : (name : List ℕ) (all : List File) → position (λ file. same_text file.hostname name) all ≡ Some router
+        → router < length all
     by_files name [] found = absurd (no_value router found)
     by_files name (file ∷ rest) found =
         (position-Some (λ f. same_text f.hostname name) (file ∷ rest) router file found).0
 
 number_small : (most : ℕ) (found : Option Data) (n : ℕ) → number_in most found ≡ Some n → n ≤ most
 number_small most found n same =
-    leb-true n most (passed (λ k. nat_le k most) (option_and_then (λ v. option_and_then as_u64 (as_number v)) found) n same).1
+    leb-true n most (passed (λ k. nat_le k most)
+    (option_and_then (λ v. option_and_then as_u64 (as_number v)) found) n same).1
 
-filled_length : (so_far : List Slot) (place : ℕ) → length (filled so_far place) ≡ length so_far + (place - length so_far)
+filled_length : (so_far : List Slot) (place : ℕ) → length (filled so_far place) ≡ length so_far
+    + (place - length so_far)
 filled_length so_far place =
     length-append so_far (replicate (place - length so_far) empty_slot)
     ∙ ap (λ n. length so_far + n) (length-replicate (place - length so_far) empty_slot)
@@ -49,14 +54,16 @@ slot_within : (files : List File) (at : List ℕ) (so_far : List Slot) (d : Data
 unfolding slot_at
 slot_within files at so_far d next same =
     let bgp = bound (part_in (bgp_in files (router_in files d)) at (codes "bgp") (get (codes "bgp") d)) _ next same in
-    let len = bound (required at (codes "len") (passing (slot_place so_far (router_in files d)) (number_in 32 (get (codes "len") d)))) _ next bgp.2 in
+    let len = bound (required at (codes "len")
+    (passing (slot_place so_far (router_in files d)) (number_in 32 (get (codes "len") d)))) _ next bgp.2 in
     let ospf = bound (part_in ospf_in at (codes "ospf") (get (codes "ospf") d)) _ next len.2 in
     let rib = bound (part_in rib_in at (codes "rib") (get (codes "rib") d)) _ next ospf.2 in
     let router = bound (required at (codes "router") (router_in files d)) _ next rib.2 in
     let is = same_ok _ next router.2 in
     let known = field at (codes "router") (router_in files d) router.0 router.1 in
     let tested = passed (slot_place so_far (router_in files d)) (number_in 32 (get (codes "len") d)) len.0
-    (field at (codes "len") (passing (slot_place so_far (router_in files d)) (number_in 32 (get (codes "len") d))) len.0 len.1) in
+    (field at (codes "len")
+    (passing (slot_place so_far (router_in files d)) (number_in 32 (get (codes "len") d))) len.0 len.1) in
     let short = number_small 32 (get (codes "len") d) len.0 tested.0 in
     let place = LENGTHS * router.0 + len.0 in
     let free = leb-true (length so_far) place
@@ -70,10 +77,12 @@ slot_within files at so_far d next same =
 step_within : (files : List File) (i : ℕ) (so_far : List Slot) (d : Data) (next : List Slot) →
     length so_far ≤ LENGTHS * length files → slot_step files i so_far d ≡ Ok next → length next ≤ LENGTHS * length files
 step_within files i so_far d next before same =
-    let entry = bound (required (codes "tables/") (decimal i) (object_in (Some d))) (slot_at files (entry_path (codes "tables/") i) so_far) next same in
+    let entry = bound (required (codes "tables/") (decimal i) (object_in (Some d)))
+    (slot_at files (entry_path (codes "tables/") i) so_far) next same in
     slot_within files (entry_path (codes "tables/") i) so_far entry.0 next entry.2
 
-slots_fit : (files : List File) (d : Data) (slots : List Slot) → slots_in files d ≡ Ok slots → length slots ≡ LENGTHS * length files
+slots_fit : (files : List File) (d : Data) (slots : List Slot) → slots_in files d ≡ Ok slots → length slots
+    ≡ LENGTHS * length files
 unfolding slots_in
 slots_fit files d slots same =
     let members = bound (members_in [] (codes "tables") d) _ slots same in
@@ -82,7 +91,8 @@ slots_fit files d slots same =
     let P : List Slot → Type 0 = λ xs. length xs ≤ LENGTHS * length files in
     let within = kept P (slot_step files) (step_within files) 0 [] members.0 all.0 (omega arith) all.1 in
     let size = filled_length all.0 (LENGTHS * length files) in
-    let full : length all.0 + (LENGTHS * length files - length all.0) ≡ LENGTHS * length files = omega (arith, within) in
+    let full : length all.0 + (LENGTHS * length files - length all.0)
+    ≡ LENGTHS * length files = omega (arith, within) in
     sym (ap length is) ∙ size ∙ full
 
 -- the tables that are read
@@ -97,14 +107,16 @@ cex_slots files questions d cex same =
     let is = same_ok _ cex walk.2 in
     sym (ap (λ (c : Counterexample). length c.tables.slots) is) ∙ slots_fit files d slots.0 slots.1
 
-place_within : (questions : List Question) (name : List ℕ) (place : ℕ) → question_named questions name ≡ Some place → place < length questions
+place_within : (questions : List Question) (name : List ℕ) (place : ℕ) → question_named questions name ≡ Some place
+    → place < length questions
 unfolding question_named place_of
 place_within [] name place found = absurd (no_value place found)
 place_within (question ∷ rest) name place found =
     let here = passed (λ k. nat_le k _) (position (λ q. same_text q.name name) (question ∷ rest)) place found in
     (position-Some (λ q. same_text q.name name) (question ∷ rest) place question here.0).0
 
-asked_within : (questions : List Question) (d : Data) (place : ℕ) → asked_place questions d ≡ Some place → place < length questions
+asked_within : (questions : List Question) (d : Data) (place : ℕ) → asked_place questions d ≡ Some place
+    → place < length questions
 unfolding asked_place
 asked_within questions d place asked =
     let named = led (question_named questions) (text_in (get (codes "question") d)) place asked in

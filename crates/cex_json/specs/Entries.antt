@@ -1,5 +1,7 @@
 -- Records, entries of the routing table and slots, as they are read.
-use Rattle.std.specs.Prelude.{ℕ, ◌+◌, ◌*◌, ◌-◌, ◌==◌, ◌&&◌, Bool, true, false, List, [], ◌∷◌, ◌++◌, codes, decimal, length, nat_le, replicate, Option, Some, None, option_and_then, option_map, Result, Ok, if◌then◌else◌}
+use Rattle.std.specs.Prelude.{ℕ, ◌+◌, ◌*◌, ◌-◌, ◌==◌, ◌&&◌, Bool, true, false, List, [], ◌∷◌, ◌++◌, codes, decimal}
+use Rattle.std.specs.Prelude.{length, nat_le, replicate, Option, Some, None, option_and_then, option_map, Result, Ok}
+use Rattle.std.specs.Prelude.{if◌then◌else◌}
 use Rattle.std.specs.List.{list_any}
 use Rattle.std.specs.Option.{option_map_or}
 use Rattle.mw_text.specs.declared.address.Addr.{Addr}
@@ -26,7 +28,8 @@ use Rattle.serde_json.specs.Data.{Data}
 use Rattle.serde_json.specs.Find.{get}
 use Rattle.cex_json.specs.declared.entries.BgpFront.{BgpFront}
 use Rattle.cex_json.specs.declared.refused.CexRefused.{CexRefused}
-use Rattle.cex_json.specs.Fields.{◌>>=◌, absent_or, addr_in, addrs_in, ascending_in, greatest, in_order, members_in, number_in, object_in, passing, path_in, required, text_in}
+use Rattle.cex_json.specs.Fields.{◌>>=◌, absent_or, addr_in, addrs_in, ascending_in, greatest, in_order, members_in}
+use Rattle.cex_json.specs.Fields.{number_in, object_in, passing, path_in, required, text_in}
 
 abbrev pub kind_named : List ℕ → Option OspfKind
 kind_named word =
@@ -118,7 +121,8 @@ bgp_in files router at d = do
   })
 
 -- a part that may be absent, and else is an object; its own fields stand below its path
-abbrev pub part_in : {A : Type 0} → (List ℕ → Data → Result A CexRefused) → List ℕ → List ℕ → Option Data → Result (Option A) CexRefused
+abbrev pub part_in : {A : Type 0} → (List ℕ → Data → Result A CexRefused) → List ℕ → List ℕ → Option Data
+    → Result (Option A) CexRefused
 part_in read at name None = Ok None
 part_in read at name (Some d) =
     required at name (object_in (Some d)) >>= λ o. read (at ++ (name ++ codes "/")) o >>= λ x. Ok (Some x)
@@ -151,7 +155,8 @@ slot_at files at so_far d = do
 
 abbrev pub slot_step : List File → ℕ → List Slot → Data → Result (List Slot) CexRefused
 slot_step files i so_far d =
-    required (codes "tables/") (decimal i) (object_in (Some d)) >>= slot_at files (entry_path (codes "tables/") i) so_far
+    required (codes "tables/") (decimal i) (object_in (Some d)) >>= slot_at files
+    (entry_path (codes "tables/") i) so_far
 
 -- the slots of all routers and lengths; those without an entry are empty
 unfoldable pub slots_in : List File → Data → Result (List Slot) CexRefused

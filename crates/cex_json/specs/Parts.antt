@@ -1,5 +1,6 @@
 -- The JSON values of the parts of a counterexample.
-use Rattle.std.specs.Prelude.{ℕ, ◌+◌, ◌/◌, ◌%◌, ◌^◌, List, [], ◌∷◌, ◌++◌, codes, decimal, is_some, map, Bool, ◌||◌, Option, Some, option_map, slice_get, if◌then◌else◌}
+use Rattle.std.specs.Prelude.{ℕ, ◌+◌, ◌/◌, ◌%◌, ◌^◌, List, [], ◌∷◌, ◌++◌, codes, decimal, is_some, map, Bool, ◌||◌}
+use Rattle.std.specs.Prelude.{Option, Some, option_map, slice_get, if◌then◌else◌}
 use Rattle.std.specs.Option.{option_map_or}
 use Rattle.std.specs.Str.Lossy.{utf8_lossy}
 use Rattle.mw_text.specs.declared.address.Addr.{Addr}
@@ -20,7 +21,8 @@ use Rattle.route_record.specs.declared.Slot.{Slot}
 use Rattle.route_record.specs.declared.TheConstants.{LENGTHS}
 use Rattle.question_lang.specs.declared.question.Start.{Start}
 use Rattle.question_lang.specs.declared.walk.End.{End}
-use Rattle.question_lang.specs.declared.walk.End.TheVariants.{Delivered, Left, NoRoute, Discarded, DeniedIn, DeniedOut, Loop, Open}
+use Rattle.question_lang.specs.declared.walk.End.TheVariants.{Delivered, Left, NoRoute, Discarded, DeniedIn, DeniedOut}
+use Rattle.question_lang.specs.declared.walk.End.TheVariants.{Loop, Open}
 use Rattle.question_lang.specs.declared.walk.Walk.{Walk}
 use Rattle.serde_json.specs.Data.{Data, Members, object, string}
 use Rattle.cex_json.specs.Json.{array_of, members_with, members_with_from, number_of, object_of, text_of}
@@ -32,7 +34,8 @@ octet a below = a.0 / 2 ^ below % 256
 -- an address in dotted decimal (RFC 1123, section 2.1)
 unfoldable pub addr_text : Addr → List ℕ
 addr_text a =
-    decimal (octet a 24) ++ (codes "." ++ (decimal (octet a 16) ++ (codes "." ++ (decimal (octet a 8) ++ (codes "." ++ decimal (octet a 0))))))
+    decimal (octet a 24) ++ (codes "."
+    ++ (decimal (octet a 16) ++ (codes "." ++ (decimal (octet a 8) ++ (codes "." ++ decimal (octet a 0))))))
 
 -- the name of a router; a number that is no router's has the empty name
 abbrev pub router_name : List File → ℕ → List ℕ
@@ -41,7 +44,8 @@ router_name files router = option_map_or (λ file. file.hostname) (slice_get fil
 -- the name of an interface of a router; a place without an interface has the empty name
 abbrev pub iface_name : List File → ℕ → ℕ → List ℕ
 iface_name files router at =
-    option_map_or (λ file. option_map_or (λ iface. iface.name) (slice_get file.interfaces at) []) (slice_get files router) []
+    option_map_or (λ file. option_map_or (λ iface. iface.name) (slice_get file.interfaces at) [])
+    (slice_get files router) []
 
 unfoldable pub packet_data : Packet → Data
 packet_data packet = object_of (
@@ -146,7 +150,8 @@ end_text files (Left a) = codes "left " ++ addr_text a
 end_text files NoRoute = codes "noroute"
 end_text files Discarded = codes "discarded"
 end_text files (DeniedIn i) =
-    codes "deniedin " ++ (utf8_lossy (router_name files i.router) ++ (codes " " ++ utf8_lossy (iface_name files i.router i.at)))
+    codes "deniedin " ++ (utf8_lossy (router_name files i.router)
+    ++ (codes " " ++ utf8_lossy (iface_name files i.router i.at)))
 end_text files DeniedOut = codes "deniedout"
 end_text files Loop = codes "loop"
 end_text files Open = codes "open"

@@ -1,5 +1,6 @@
 -- Which text states which counterexample, and else where its first bad field stands.
-use Rattle.std.specs.Prelude.{ℕ, ◌==◌, ◌||◌, List, [], codes, position, slice_get, Option, Some, None, option_and_then, option_map, Result, Ok, Err, if◌then◌else◌}
+use Rattle.std.specs.Prelude.{ℕ, ◌==◌, ◌||◌, List, [], codes, position, slice_get, Option, Some, None, option_and_then}
+use Rattle.std.specs.Prelude.{option_map, Result, Ok, Err, if◌then◌else◌}
 use Rattle.std.specs.Str.{is_utf8}
 use Rattle.mw_text.specs.Text.{same_text}
 use Rattle.ios_ast.specs.declared.file.File.{File}
@@ -27,7 +28,11 @@ asked_place questions d = option_and_then (question_named questions) (text_in (g
 
 -- what that question limits; where none is named there is no limit
 unfoldable pub limits : List Question → Data → Limits
-limits questions d = record { failures = option_map (λ q. q.failures) asked; packets = option_map (λ q. q.packets) asked } where
+limits questions d = record {
+  failures = option_map (λ q. q.failures) asked;
+  packets = option_map
+      (λ q. q.packets) asked;
+} where
   asked : Option Question
   asked = option_and_then (slice_get questions) (asked_place questions d)
 

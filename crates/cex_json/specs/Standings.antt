@@ -1,5 +1,6 @@
 -- A walk, as it is read.
-use Rattle.std.specs.Prelude.{ℕ, Bool, true, false, List, [], ◌∷◌, ◌++◌, codes, decimal, position, slice_get, Option, Some, None, option_and_then, option_map, Result, Ok, if◌then◌else◌}
+use Rattle.std.specs.Prelude.{ℕ, Bool, true, false, List, [], ◌∷◌, ◌++◌, codes, decimal, position, slice_get, Option}
+use Rattle.std.specs.Prelude.{Some, None, option_and_then, option_map, Result, Ok, if◌then◌else◌}
 use Rattle.std.specs.Option.{option_map_or}
 use Rattle.mw_text.specs.Digits.{addr_of, cut_at}
 use Rattle.mw_text.specs.Text.{same_text}
@@ -8,7 +9,8 @@ use Rattle.question_lang.specs.declared.question.Kind.{Kind}
 use Rattle.question_lang.specs.declared.question.Kind.TheVariants.{NoStable}
 use Rattle.question_lang.specs.declared.question.Start.{Start}
 use Rattle.question_lang.specs.declared.walk.End.{End}
-use Rattle.question_lang.specs.declared.walk.End.TheVariants.{Delivered, Left, NoRoute, Discarded, DeniedIn, DeniedOut, Loop, Open}
+use Rattle.question_lang.specs.declared.walk.End.TheVariants.{Delivered, Left, NoRoute, Discarded, DeniedIn, DeniedOut}
+use Rattle.question_lang.specs.declared.walk.End.TheVariants.{Loop, Open}
 use Rattle.question_lang.specs.declared.walk.Walk.{Walk}
 use Rattle.question_lang.specs.Asking.{router_named}
 use Rattle.serde_json.specs.Data.{Data}

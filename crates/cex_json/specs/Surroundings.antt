@@ -1,5 +1,7 @@
 -- The packet, the failed links, the announcements and the external peers, as they are read.
-use Rattle.std.specs.Prelude.{ℕ, ◌-◌, ◌==◌, ◌&&◌, ◌||◌, Bool, true, false, List, [], ◌∷◌, ◌++◌, codes, length, nat_le, nat_lt, position, slice_get, Option, Some, None, option_and_then, option_map, Result, Ok, if◌then◌else◌}
+use Rattle.std.specs.Prelude.{ℕ, ◌-◌, ◌==◌, ◌&&◌, ◌||◌, Bool, true, false, List, [], ◌∷◌, ◌++◌, codes, length, nat_le}
+use Rattle.std.specs.Prelude.{nat_lt, position, slice_get, Option, Some, None, option_and_then, option_map, Result, Ok}
+use Rattle.std.specs.Prelude.{if◌then◌else◌}
 use Rattle.std.specs.Option.{option_map_or}
 use Rattle.mw_text.specs.declared.address.Addr.{Addr}
 use Rattle.mw_text.specs.declared.address.Prefix.{Prefix}
@@ -16,7 +18,8 @@ use Rattle.serde_json.specs.Data.{Data}
 use Rattle.serde_json.specs.Find.{get}
 use Rattle.cex_json.specs.declared.refused.CexRefused.{CexRefused}
 use Rattle.cex_json.specs.Entries.{entry_path, is_end_of, origin_in, router_in}
-use Rattle.cex_json.specs.Fields.{◌>>=◌, addr_in, ascending_in, greatest, in_order, is_above, members_in, number_in, object_in, passing, path_in, place_of, required, text_in, with_one}
+use Rattle.cex_json.specs.Fields.{◌>>=◌, addr_in, ascending_in, greatest, in_order, is_above, members_in, number_in}
+use Rattle.cex_json.specs.Fields.{object_in, passing, path_in, place_of, required, text_in, with_one}
 
 -- a protocol that has ports: TCP (6) or UDP (17); of an unknown one any
 abbrev pub has_ports : Option ℕ → Bool
@@ -60,7 +63,8 @@ link_named links word = option_and_then (λ p. place_of (position (same_prefix p
 
 abbrev pub link_step : List Prefix → ℕ → List ℕ → Data → Result (List ℕ) CexRefused
 link_step links _ so_far d =
-    with_one [] (codes "failures") so_far (passing (is_above so_far) (option_and_then (link_named links) (text_in (Some d))))
+    with_one [] (codes "failures") so_far
+    (passing (is_above so_far) (option_and_then (link_named links) (text_in (Some d))))
 
 -- failed links, ascending, at most so many where there is a most
 unfoldable pub failures_in : List File → Option ℕ → Data → Result (List ℕ) CexRefused
@@ -94,11 +98,13 @@ asn_of_end files at =
 
 -- a path of at most 255 numbers that begins with that number
 abbrev pub begins_with : Option ℕ → List ℕ → Bool
-begins_with asn path = nat_le (length path) 255 && option_map_or (λ n. option_map_or (λ first. first == n) (slice_get path 0) false) asn false
+begins_with asn path = nat_le (length path) 255
+    && option_map_or (λ n. option_map_or (λ first. first == n) (slice_get path 0) false) asn false
 
 unfoldable pub sent_path : Option ℕ → List ℕ → Data → Result (List ℕ) CexRefused
 sent_path asn at d =
-    path_in at (codes "path") d >>= λ path. required at (codes "path") (if begins_with asn path then Some path else None)
+    path_in at (codes "path") d >>= λ path. required at (codes "path")
+    (if begins_with asn path then Some path else None)
 
 -- an announcement behind those so far
 unfoldable pub announcement_at : List File → List Announcement → List ℕ → Data → Result Announcement CexRefused
@@ -129,7 +135,8 @@ names_end files d end = named (router_in files d) (addr_in (get (codes "address"
 unfoldable pub asn_fits : List File → ℕ → SessionEnd → Data → Bool
 asn_fits files format end d =
     (format == 1)
-    || option_map_or (λ neighbour. option_map_or (λ n. n == neighbour.asn) (number_in greatest (get (codes "asn") d)) false)
+    || option_map_or (λ neighbour. option_map_or (λ n. n == neighbour.asn)
+    (number_in greatest (get (codes "asn") d)) false)
     (neighbour_of files end) false
 
 -- the identifier of the external peer at that place

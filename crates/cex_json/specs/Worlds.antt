@@ -44,7 +44,8 @@ peer_data files end id = object_of (
 abbrev pub peers_from : List File → List Addr → ℕ → List SessionEnd → List Data
 peers_from files ids at [] = []
 peers_from files ids at (end ∷ rest) =
-    option_map_or (λ written. written ∷ []) (option_map (peer_data files end) (slice_get ids at)) [] ++ peers_from files ids (at + 1) rest
+    option_map_or (λ written. written ∷ []) (option_map (peer_data files end) (slice_get ids at)) []
+    ++ peers_from files ids (at + 1) rest
 
 -- the address and the router of the end at that place; a place without an end has the empty texts
 abbrev pub end_address : List File → ℕ → List ℕ

@@ -52,7 +52,8 @@ which codes n =
 
 -- the lists with the clause's watches in front of theirs
 pub record IsJoined (lists more : ℕ → List ℕ) (r : ℕ) (codes : List ℕ) : Type 0 where
-  pub watched : (side : ℕ) → side < 2 → 2 ≤ length codes → more (word codes side) ≡ (r + 2 + side) ∷ lists (word codes side)
+  pub watched : (side : ℕ) → side < 2 → 2 ≤ length codes → more (word codes side) ≡ (r + 2 + side)
+      ∷ lists (word codes side)
   pub others : (n : ℕ) → IsOther codes n → more n ≡ lists n
 
 -- the words of a clause that was there are as they were
@@ -75,7 +76,8 @@ same_of vars len f g refs r id codes first room p s i =
     record {
       size = (let z : s + 0 ≡ s = omega arith in subst (λ (u : ℕ). g u ≡ f u) z (at 0 i (omega arith)));
       number = at 1 i (omega arith);
-      codes = λ k h. (let z : s + (4 + k) ≡ s + 4 + k = omega arith in subst (λ (u : ℕ). g u ≡ f u) z (at (4 + k) i (omega arith)));
+      codes = λ k h. (let z : s + (4 + k) ≡ s + 4 + k = omega arith in
+          subst (λ (u : ℕ). g u ≡ f u) z (at (4 + k) i (omega arith)));
     }
 
 -- ---- where the clauses stand
@@ -88,11 +90,20 @@ laid_more vars len f g refs r id codes old laid longer room p =
     record {
       heads = (let h : 2 * vars ≤ old = laid.heads in omega arith);
       rising = rises_end r refs laid.rising (λ s i. (let b : s + 4 + f s ≤ r = room.behind s i in omega arith));
-      first = λ s i. elim (in_split s r refs i) [ inl k ↦ laid.first s k | inr k ↦ subst (λ (u : ℕ). 2 * vars ≤ u) (sym k) room.first ];
-      even = λ s i. elim (in_split s r refs i) [ inl k ↦ laid.even s k | inr k ↦ subst (λ (u : ℕ). u % 2 ≡ 0) (sym k) room.even ];
+      first = λ s i. elim (in_split s r refs i) [
+        | inl k ↦ laid.first s k
+        | inr k ↦ subst (λ (u : ℕ). 2 * vars ≤ u)
+            (sym k) room.first
+      ];
+      even = λ s i. elim (in_split s r refs i) [
+        | inl k ↦ laid.even s k
+        | inr k ↦ subst (λ (u : ℕ). u % 2 ≡ 0)
+            (sym k) room.even
+      ];
       inside = λ s i. elim (in_split s r refs i) [
         | inl k ↦ (let a : s + 4 + f s ≤ old = laid.inside s k in let e : g s ≡ f s = (same s k).size in omega arith)
-        | inr k ↦ subst (λ (u : ℕ). u + 4 + g u ≤ len) (sym k) (let e : g r ≡ length codes = p.size in let a : r + 4 + length codes ≤ len = room.inside in omega arith)
+        | inr k ↦ subst (λ (u : ℕ). u + 4 + g u ≤ len) (sym k) (let e : g r ≡ length codes = p.size in let a : r + 4
+            + length codes ≤ len = room.inside in omega arith)
       ];
       apart = λ s t i j h. elim (in_split s r refs i) [
         | inl k ↦ (let e : g s ≡ f s = (same s k).size in
@@ -111,7 +122,8 @@ laid_more vars len f g refs r id codes old laid longer room p =
             let a : f (s + 4 + k) < 2 * vars = laid.below s k q (omega arith) in omega arith)
         | inr q ↦ (let h2 : k < g r = subst (λ (u : ℕ). k < g u) q h in let z : g r ≡ length codes = p.size in
             subst (λ (u : ℕ). g (u + 4 + k) < 2 * vars) (sym q)
-            (let e : g (r + 4 + k) ≡ word codes k = p.codes_at k (omega arith) in let a : word codes k < 2 * vars = room.below k (omega arith) in omega arith))
+            (let e : g (r + 4 + k) ≡ word codes k = p.codes_at k (omega arith) in
+            let a : word codes k < 2 * vars = room.below k (omega arith) in omega arith))
       ];
       differ = λ s j k i hj hk e. elim (in_split s r refs i) [
         | inl q ↦ (let z : g s ≡ f s = (same s q).size in
@@ -126,7 +138,8 @@ laid_more vars len f g refs r id codes old laid longer room p =
       numbers = λ s t i j h. elim (in_split s r refs i) [
         | inl k ↦ (let e : g (s + 1) ≡ f (s + 1) = (same s k).number in
             elim (in_split t r refs j) [
-              | inl l ↦ (let a : f (s + 1) < f (t + 1) = laid.numbers s t k l h in let b : g (t + 1) ≡ f (t + 1) = (same t l).number in omega arith)
+              | inl l ↦ (let a : f (s + 1) < f (t + 1) = laid.numbers s t k l h in let b : g (t + 1)
+                  ≡ f (t + 1) = (same t l).number in omega arith)
               | inr l ↦ subst (λ (u : ℕ). g (s + 1) < g (u + 1)) (sym l)
                   (let a : f (s + 1) < id = room.above s k in let b : g (r + 1) ≡ id = p.number in omega arith)
             ])
@@ -165,20 +178,25 @@ link_same : (vars len : ℕ) (f g : ℕ → ℕ) (refs : List ℕ) (r id : ℕ) 
 link_same vars len f g refs r id codes first room p n q w =
     let low : w.side < 2 = w.low in
     let e : w.ref + (2 + w.side) ≡ q = (let at : q ≡ w.ref + 2 + w.side = w.place in omega arith) in
-    subst (λ (u : ℕ). g u ≡ f u) e (frame vars len f g refs r id codes first room p w.ref (2 + w.side) w.held (omega arith))
+    subst (λ (u : ℕ). g u ≡ f u) e
+    (frame vars len f g refs r id codes first room p w.ref (2 + w.side) w.held (omega arith))
 
-pub linked_more : (vars len : ℕ) (f g : ℕ → ℕ) (refs : List ℕ) (r id : ℕ) (codes : List ℕ) (old : ℕ) (lists more : ℕ → List ℕ)
+pub linked_more : (vars len : ℕ) (f g : ℕ → ℕ) (refs : List ℕ) (r id : ℕ) (codes : List ℕ) (old : ℕ) (lists more : ℕ
+    → List ℕ)
     → IsLaid vars old f refs → IsLinked vars f refs lists → IsRoom vars len f refs r id codes → IsPlaced f g r id codes
     → IsJoined lists more r codes → IsLinked vars g (refs ++ r ∷ []) more
 linked_more vars len f g refs r id codes old lists more laid linked room p joined =
     let same = same_of vars len f g refs r id codes laid.first room p in
-    let link = λ (n : ℕ) (h : n < 2 * vars) (j : ℕ) (i : In j (lists n)). link_same vars len f g refs r id codes laid.first room p n j (linked.watch n j h i) in
+    let link = λ (n : ℕ) (h : n < 2 * vars) (j : ℕ)
+    (i : In j (lists n)). link_same vars len f g refs r id codes laid.first room p n j (linked.watch n j h i) in
     let high : 2 * vars ≤ r = room.first in
     record {
       threads = λ n h. elim (which codes n) [
         | inl w ↦
             (let low : w.side < 2 = w.low in let two : 2 ≤ length codes = w.two in
-            let e : more n ≡ (r + 2 + w.side) ∷ lists n = subst (λ (u : ℕ). more u ≡ (r + 2 + w.side) ∷ lists u) (sym w.code) (joined.watched w.side low two) in
+            let e : more n ≡ (r + 2 + w.side)
+            ∷ lists n = subst (λ (u : ℕ). more u ≡ (r + 2 + w.side) ∷ lists u) (sym w.code)
+            (joined.watched w.side low two) in
             let gn : g n ≡ r + 2 + w.side = ap g w.code ∙ p.heads w.side two low in
             let gp : g (r + 2 + w.side) ≡ f n = p.links w.side two low ∙ ap f (sym w.code) in
             subst (λ (xs : List ℕ). Threads g n xs) (sym e)
@@ -189,7 +207,9 @@ linked_more vars len f g refs r id codes old lists more laid linked room p joine
       watch = λ n q h i. elim (which codes n) [
         | inl w ↦
             (let low : w.side < 2 = w.low in let two : 2 ≤ length codes = w.two in
-            let e : more n ≡ (r + 2 + w.side) ∷ lists n = subst (λ (u : ℕ). more u ≡ (r + 2 + w.side) ∷ lists u) (sym w.code) (joined.watched w.side low two) in
+            let e : more n ≡ (r + 2 + w.side)
+            ∷ lists n = subst (λ (u : ℕ). more u ≡ (r + 2 + w.side) ∷ lists u) (sym w.code)
+            (joined.watched w.side low two) in
             let i2 : (q ≡ r + 2 + w.side) ⊎ In q (lists n) = subst (λ (xs : List ℕ). In q xs) e i in
             elim i2 [
               | inl k ↦ record {
@@ -215,7 +235,9 @@ linked_more vars len f g refs r id codes old lists more laid linked room p joine
             subst (λ (u : ℕ). In (s + 2 + side) (more u)) (sym e)
             (elim (which codes n) [
               | inl w ↦
-                  (let e2 : more n ≡ (r + 2 + w.side) ∷ lists n = subst (λ (u : ℕ). more u ≡ (r + 2 + w.side) ∷ lists u) (sym w.code) (joined.watched w.side w.low w.two) in
+                  (let e2 : more n ≡ (r + 2 + w.side)
+                  ∷ lists n = subst (λ (u : ℕ). more u ≡ (r + 2 + w.side) ∷ lists u) (sym w.code)
+                  (joined.watched w.side w.low w.two) in
                   subst (λ (xs : List ℕ). In (s + 2 + side) xs) (sym e2) (inr there))
               | inr o ↦ subst (λ (xs : List ℕ). In (s + 2 + side) xs) (sym (joined.others n o)) there
             ]))
@@ -293,7 +315,8 @@ added vars ws grown new refs r id codes sound same longer room placed =
     let joined = joined_so (places ws) r codes room.differ in
     let s = settle vars new (refs ++ r ∷ []) (more_lists (places ws) r codes)
     (laid_more vars (length new) (word ws) (word new) refs r id codes (length ws) sound.laid longer room p)
-    (linked_more vars (length new) (word ws) (word new) refs r id codes (length ws) (places ws) (more_lists (places ws) r codes) sound.laid sound.linked room p joined) in
+    (linked_more vars (length new) (word ws) (word new) refs r id codes (length ws) (places ws)
+    (more_lists (places ws) r codes) sound.laid sound.linked room p joined) in
     record {
       sound = s.sound;
       adds = record {
@@ -303,7 +326,8 @@ added vars ws grown new refs r id codes sound same longer room placed =
         number = p.number;
         codes_at = p.codes_at;
         kept = same_of vars (length new) (word ws) (word new) refs r id codes sound.laid.first room p;
-        watched = λ side low two. s.places_are (word codes side) (room.below side (omega arith)) ∙ joined.watched side low two;
+        watched = λ side low two. s.places_are (word codes side) (room.below side (omega arith))
+            ∙ joined.watched side low two;
         others = λ n h o. s.places_are n h ∙ joined.others n o;
       };
     }

@@ -1,5 +1,6 @@
 -- The codes of literals.
-use Rattle.std.specs.Prelude.{ℕ, zero, suc, ◌≡◌, ◌≢◌, ◌*◌, ◌/◌, ◌<◌, true, false, not, nat_lt, List, [], ◌∷◌, length, map, refl}
+use Rattle.std.specs.Prelude.{ℕ, zero, suc, ◌≡◌, ◌≢◌, ◌*◌, ◌/◌, ◌<◌, true, false, not, nat_lt, List, [], ◌∷◌, length}
+use Rattle.std.specs.Prelude.{map, refl}
 use Rattle.std.proofs.Common.{sym, ◌∙◌, ap, inl, inr, arith}
 use Rattle.std.proofs.lemmas.Bool.{and_parts, cases_Bool}
 use Rattle.std.proofs.lemmas.Bool.Decides.{nat_tests}
@@ -17,14 +18,16 @@ pub code_low : (vars : ℕ) (l : Lit) → l.var < vars → code_of l < 2 * vars
 code_low vars l h = elim (cases_Bool l.negated) [ inl t ↦ rw t (omega arith) | inr f ↦ rw f (omega arith) ]
 
 var_low : (vars : ℕ) (l : Lit) (c : List Lit) → is_below vars (l ∷ c) ≡ true → l.var < vars
-var_low vars l c h = let t : nat_lt l.var vars ≡ true = (and_parts (nat_lt l.var vars) (is_below vars c) h).0 in grind (arith, nat_tests)
+var_low vars l c h = let t : nat_lt l.var vars ≡ true = (and_parts (nat_lt l.var vars) (is_below vars c) h).0 in
+    grind (arith, nat_tests)
 
 -- the codes of a clause are those of heads
 pub codes_below : (vars : ℕ) (c : List Lit) (k : ℕ) → is_below vars c ≡ true → k < length (map code_of c)
     → word (map code_of c) k < 2 * vars
 codes_below vars [] k h b = absurd (omega arith)
 codes_below vars (l ∷ c) zero h b = code_low vars l (var_low vars l c h)
-codes_below vars (l ∷ c) (suc k) h b = codes_below vars c k (and_parts (nat_lt l.var vars) (is_below vars c) h).1 (omega arith)
+codes_below vars (l ∷ c) (suc k) h b =
+    codes_below vars c k (and_parts (nat_lt l.var vars) (is_below vars c) h).1 (omega arith)
 
 -- a literal of another variable
 other_var : (c : List Lit) (var k : ℕ) → has_var c var ≡ false → k < length (map code_of c)

@@ -9,7 +9,12 @@ use Rattle.clause_arena.specs.Store.{IsSound}
 use Rattle.clause_arena.proofs.Threads.{places_are}
 
 pub word_of_zeros : (n k : ℕ) → word (replicate n 0) k ≡ 0
-word_of_zeros n k = elim (cases_lt k n) [ inl h ↦ get_or-replicate n k 0 0 h | inr h ↦ get_or_past (replicate n 0) k 0 (omega (arith, length-replicate {A = ℕ})) ]
+word_of_zeros n k = elim
+    (cases_lt k n) [
+      | inl h ↦ get_or-replicate n k 0 0 h
+      | inr h ↦ get_or_past (replicate n 0) k 0
+          (omega (arith, length-replicate {A = ℕ}))
+    ]
 
 -- no list has a place where all words are 0
 pub places_of_zeros : (count n : ℕ) → places (replicate count 0) n ≡ []
@@ -30,7 +35,8 @@ sound_zeros vars = record {
     numbers = λ r s i. absurd i;
   };
   linked = record {
-    threads = λ n h. subst (λ (xs : List ℕ). Threads (word (replicate (vars * 2) 0)) n xs) (sym (places_of_zeros (vars * 2) n)) (word_of_zeros (vars * 2) n);
+    threads = λ n h. subst (λ (xs : List ℕ). Threads (word (replicate (vars * 2) 0)) n xs)
+        (sym (places_of_zeros (vars * 2) n)) (word_of_zeros (vars * 2) n);
     watch = λ n p h i. absurd (subst (λ (xs : List ℕ). In p xs) (places_of_zeros (vars * 2) n) i);
     listed = λ r side i. absurd i;
   };

@@ -47,13 +47,15 @@ pub off_link : (vars len : ℕ) (f : ℕ → ℕ) (refs : List ℕ) (lists : ℕ
 off_link vars len f refs lists r side to b laid linked spot s k i h content e =
     let t = turn vars len f refs lists r side to b laid spot in
     elim spot.link [
-      | inl z ↦ (let high : 2 * vars ≤ s = laid.first s i in let low : f (r + 4 + side) < 2 * vars = t.old_low in omega arith)
+      | inl z ↦ (let high : 2 * vars ≤ s = laid.first s i in let low : f (r + 4 + side) < 2 * vars = t.old_low in
+          omega arith)
       | inr j ↦
           (let w = linked.watch (f (r + 4 + side)) b t.old_low j in
           let low : w.side < 2 = w.low in
           let at : b ≡ w.ref + 2 + w.side = w.place in
           let there : s + k ≡ w.ref + (2 + w.side) = omega arith in
-          let same : k ≡ 2 + w.side = (same_word vars len f refs s w.ref k (2 + w.side) laid i w.held h (omega arith) there).1 in
+          let same : k ≡ 2 + w.side =
+          (same_word vars len f refs s w.ref k (2 + w.side) laid i w.held h (omega arith) there).1 in
           elim content [ inl x ↦ omega arith | inr x ↦ omega arith ])
     ]
 
@@ -67,10 +69,12 @@ pub kept_word : (vars len : ℕ) (f g : ℕ → ℕ) (refs : List ℕ) (lists : 
 kept_word vars len f g refs lists r side to b laid linked spot moved s k i h content one other =
     let t = turn vars len f refs lists r side to b laid spot in
     let low : side < 2 = spot.low in let behind : 2 ≤ to = spot.behind in let within : to < f r = spot.within in
-    let at = λ (j : ℕ) (hj : j < 4 + f r) (e : s + k ≡ r + j). same_word vars len f refs s r k j laid i spot.held h hj e in
+    let at = λ (j : ℕ) (hj : j < 4 + f r) (e : s + k ≡ r
+    + j). same_word vars len f refs s r k j laid i spot.held h hj e in
     moved.others (s + k)
     (off_link vars len f refs lists r side to b laid linked spot s k i h content)
-    (λ e. (let z : k ≡ 2 + side = (at (2 + side) (omega arith) (omega arith)).1 in elim content [ inl x ↦ omega arith | inr x ↦ omega arith ]))
+    (λ e. (let z : k ≡ 2 + side = (at (2 + side) (omega arith) (omega arith)).1 in
+    elim content [ inl x ↦ omega arith | inr x ↦ omega arith ]))
     (λ e. (let high : 2 * vars ≤ s = laid.first s i in let lo : f (r + 4 + to) < 2 * vars = t.new_low in omega arith))
     (λ e. (let z = at (4 + side) (omega arith) (omega arith) in one z.0 z.1))
     (λ e. (let z = at (4 + to) (omega arith) (omega arith) in other z.0 z.1))
@@ -107,16 +111,21 @@ coded vars len f g refs lists r side to b laid linked spot moved s k i h =
     let low : side < 2 = spot.low in let behind : 2 ≤ to = spot.behind in let within : to < f r = spot.within in
     let stay = λ (one : s ≡ r → 4 + k ≢ 4 + side) (other : s ≡ r → 4 + k ≢ 4 + to).
     (let z : s + (4 + k) ≡ s + 4 + k = omega arith in
-    subst (λ (u : ℕ). g u ≡ f u) z (kept_word vars len f g refs lists r side to b laid linked spot moved s (4 + k) i (omega arith) (inr (omega arith)) one other)) in
+    subst (λ (u : ℕ). g u ≡ f u) z
+    (kept_word vars len f g refs lists r side to b laid linked spot moved s (4 + k) i (omega arith)
+    (inr (omega arith)) one other)) in
     elim (cases_eq s r) [
       | inl same ↦ subst (λ (u : _). IsCode f g s k (cond u (turned side to k) k)) (sym (eq-eqb s r same))
           (elim (cases_eq k side) [
             | inl x ↦ subst (λ (u : _). IsCode f g s k (cond u to (cond (eqb k to) side k))) (sym (eq-eqb k side x))
-                (subst (λ (u : ℕ). IsCode f g u k to) (sym same) (subst (λ (u : ℕ). IsCode f g r u to) (sym x) (record { word = moved.one; within = within })))
+                (subst (λ (u : ℕ). IsCode f g u k to) (sym same)
+                (subst (λ (u : ℕ). IsCode f g r u to) (sym x) (record { word = moved.one; within = within })))
             | inr nx ↦ subst (λ (u : _). IsCode f g s k (cond u to (cond (eqb k to) side k))) (sym (ne_eqb k side nx))
                 (elim (cases_eq k to) [
                   | inl y ↦ subst (λ (u : _). IsCode f g s k (cond u side k)) (sym (eq-eqb k to y))
-                      (subst (λ (u : ℕ). IsCode f g u k side) (sym same) (subst (λ (u : ℕ). IsCode f g r u side) (sym y) (record { word = moved.other; within = omega arith })))
+                      (subst (λ (u : ℕ). IsCode f g u k side) (sym same)
+                      (subst (λ (u : ℕ). IsCode f g r u side) (sym y)
+                      (record { word = moved.other; within = omega arith })))
                   | inr ny ↦ subst (λ (u : _). IsCode f g s k (cond u side k)) (sym (ne_eqb k to ny))
                       (record { word = stay (λ q e. nx (omega arith)) (λ q e. ny (omega arith)); within = h })
                 ])
@@ -136,9 +145,11 @@ laid_moved vars len f g refs lists r side to b laid linked spot moved =
     let low : side < 2 = spot.low in let behind : 2 ≤ to = spot.behind in
     let size : (s : ℕ) → In s refs → g s ≡ f s = λ s i.
     (let z : s + 0 ≡ s = omega arith in subst (λ (u : ℕ). g u ≡ f u) z
-    (kept_word vars len f g refs lists r side to b laid linked spot moved s 0 i (omega arith) (inl (omega arith)) (λ q e. omega arith) (λ q e. omega arith))) in
+    (kept_word vars len f g refs lists r side to b laid linked spot moved s 0 i (omega arith) (inl (omega arith))
+    (λ q e. omega arith) (λ q e. omega arith))) in
     let number : (s : ℕ) → In s refs → g (s + 1) ≡ f (s + 1) = λ s i.
-    kept_word vars len f g refs lists r side to b laid linked spot moved s 1 i (omega arith) (inl (omega arith)) (λ q e. omega arith) (λ q e. omega arith) in
+    kept_word vars len f g refs lists r side to b laid linked spot moved s 1 i (omega arith) (inl (omega arith))
+    (λ q e. omega arith) (λ q e. omega arith) in
     let code = coded vars len f g refs lists r side to b laid linked spot moved in
     record {
       heads = laid.heads;
@@ -146,15 +157,18 @@ laid_moved vars len f g refs lists r side to b laid linked spot moved =
       first = laid.first;
       even = laid.even;
       inside = λ s i. (let e : g s ≡ f s = size s i in let a : s + 4 + f s ≤ len = laid.inside s i in omega arith);
-      apart = λ s t i j h. (let e : g s ≡ f s = size s i in let a : s + 4 + f s ≤ t = laid.apart s t i j h in omega arith);
+      apart = λ s t i j h. (let e : g s ≡ f s = size s i in let a : s + 4 + f s ≤ t = laid.apart s t i j h in
+          omega arith);
       below = λ s k i h. (let e : g s ≡ f s = size s i in let lk : k < f s = omega arith in
-          let c = code s k i lk in let a : f (s + 4 + source r side to s k) < 2 * vars = laid.below s (source r side to s k) i c.within in
+          let c = code s k i lk in
+          let a : f (s + 4 + source r side to s k) < 2 * vars = laid.below s (source r side to s k) i c.within in
           let w : g (s + 4 + k) ≡ f (s + 4 + source r side to s k) = c.word in omega arith);
       differ = λ s j k i hj hk e.
           (let z : g s ≡ f s = size s i in
           let cj = code s j i (omega arith) in let ck = code s k i (omega arith) in
           let same : source r side to s j ≡ source r side to s k =
-          laid.differ s (source r side to s j) (source r side to s k) i cj.within ck.within (sym cj.word ∙ e ∙ ck.word) in
+          laid.differ s (source r side to s j) (source r side to s k) i cj.within ck.within (sym cj.word ∙ e
+          ∙ ck.word) in
           let ne : side ≢ to = omega arith in
           source_one r side to s j k ne same);
       numbers = λ s t i j h. (let a : f (s + 1) < f (t + 1) = laid.numbers s t i j h in
@@ -179,11 +193,24 @@ watch_kept vars len f g refs lists r side to b laid linked spot moved n q ne w =
     let low : w.side < 2 = w.low in let two : 2 ≤ f w.ref = w.two in let behind : 2 ≤ to = spot.behind in
     let at : q ≡ w.ref + 2 + w.side = w.place in
     let size : g w.ref ≡ f w.ref = (let z : w.ref + 0 ≡ w.ref = omega arith in subst (λ (u : ℕ). g u ≡ f u) z
-    (kept_word vars len f g refs lists r side to b laid linked spot moved w.ref 0 w.held (omega arith) (inl (omega arith)) (λ s e. omega arith) (λ s e. omega arith))) in
-    let code : g (w.ref + 4 + w.side) ≡ f (w.ref + 4 + w.side) = (let z : w.ref + (4 + w.side) ≡ w.ref + 4 + w.side = omega arith in subst (λ (u : ℕ). g u ≡ f u) z
-    (kept_word vars len f g refs lists r side to b laid linked spot moved w.ref (4 + w.side) w.held (omega arith) (inr (omega arith))
+    (kept_word vars len f g refs lists r side to b laid linked spot moved w.ref 0 w.held (omega arith)
+    (inl (omega arith)) (λ s e. omega arith) (λ s e. omega arith))) in
+    let code : g (w.ref + 4 + w.side)
+    ≡ f (w.ref + 4 + w.side) =
+    (let z : w.ref + (4 + w.side) ≡ w.ref + 4 + w.side = omega arith in subst (λ (u : ℕ). g u ≡ f u) z
+    (kept_word vars len f g refs lists r side to b laid linked spot moved w.ref (4 + w.side) w.held (omega arith)
+    (inr (omega arith))
     (λ s e. ne (omega arith)) (λ s e. omega arith))) in
-    record { ref = w.ref; side = w.side; held = w.held; low = w.low; two = omega arith; place = w.place; code = code ∙ w.code }
+    record {
+      ref = w.ref;
+      side = w.side;
+      held = w.held;
+      low = w.low;
+      two = omega arith;
+      place = w.place;
+      code = code
+          ∙ w.code;
+    }
 
 -- the link of a watch leads where it led, but for the two that the move writes
 link_kept : (vars len : ℕ) (f g : ℕ → ℕ) (refs : List ℕ) (lists : ℕ → List ℕ) (r side to b : ℕ) → IsLaid vars len f refs
@@ -197,9 +224,11 @@ link_kept vars len f g refs lists r side to b laid spot moved n q w nb np =
     let high : 2 * vars ≤ w.ref = laid.first w.ref w.held in
     let code : f (r + 4 + to) < 2 * vars = t.new_low in
     let off = λ (j : ℕ) (h : 4 ≤ j) (b : j < 4 + f r) (e : q ≡ r + j).
-    (let z : 2 + w.side ≡ j = (same_word vars len f refs w.ref r (2 + w.side) j laid w.held spot.held (omega arith) b (omega arith)).1 in
+    (let z : 2 + w.side ≡ j =
+    (same_word vars len f refs w.ref r (2 + w.side) j laid w.held spot.held (omega arith) b (omega arith)).1 in
     let no : ⊥ = omega arith in no) in
-    moved.others q nb np (omega arith) (λ e. off (4 + side) (omega arith) (omega arith) (omega arith)) (λ e. off (4 + to) (omega arith) (omega arith) (omega arith))
+    moved.others q nb np (omega arith) (λ e. off (4 + side) (omega arith) (omega arith) (omega arith))
+    (λ e. off (4 + to) (omega arith) (omega arith) (omega arith))
 
 -- a place is in the list of a code other than the old one only if it is none of the two
 apart_from_link : (vars len : ℕ) (f : ℕ → ℕ) (refs : List ℕ) (lists : ℕ → List ℕ) (r side to b : ℕ)
@@ -211,11 +240,13 @@ apart_from_link vars len f refs lists r side to b laid linked spot k q h ne i =
     let n = f (r + 4 + side) in
     let w = linked.watch k q h i in
     let own : IsWatch f refs n (r + 2 + side) = linked.watch n (r + 2 + side) t.old_low
-    (linked.listed r side spot.held (let a : 2 ≤ to = spot.behind in let c : to < f r = spot.within in omega arith) spot.low) in (
+    (linked.listed r side spot.held (let a : 2 ≤ to = spot.behind in let c : to < f r = spot.within in
+    omega arith) spot.low) in (
       λ e. elim spot.link [
         | inl z ↦ (let high : 2 * vars ≤ w.ref = laid.first w.ref w.held in let at : q ≡ w.ref + 2 + w.side = w.place in
             let low : n < 2 * vars = t.old_low in omega arith)
-        | inr j ↦ ne (one_list vars len f refs k n q laid w (subst (λ (u : ℕ). IsWatch f refs n u) (sym e) (linked.watch n b t.old_low j)))
+        | inr j ↦ ne (one_list vars len f refs k n q laid w
+            (subst (λ (u : ℕ). IsWatch f refs n u) (sym e) (linked.watch n b t.old_low j)))
       ],
       λ e. ne (one_list vars len f refs k n q laid w (subst (λ (u : ℕ). IsWatch f refs n u) (sym e) own)),
     )
@@ -230,7 +261,8 @@ size_kept vars len f g refs lists r side to b laid linked spot moved s i =
     let behind : 2 ≤ to = spot.behind in
     let z : s + 0 ≡ s = omega arith in
     subst (λ (u : ℕ). g u ≡ f u) z
-    (kept_word vars len f g refs lists r side to b laid linked spot moved s 0 i (omega arith) (inl (omega arith)) (λ q e. omega arith) (λ q e. omega arith))
+    (kept_word vars len f g refs lists r side to b laid linked spot moved s 0 i (omega arith) (inl (omega arith))
+    (λ q e. omega arith) (λ q e. omega arith))
 
 -- the head of another code is not the link
 off_head : (vars len : ℕ) (f : ℕ → ℕ) (refs : List ℕ) (lists : ℕ → List ℕ) (r side to b : ℕ) → IsLaid vars len f refs
@@ -271,19 +303,23 @@ linked_moved vars len f g refs lists more r side to b laid linked spot moved shi
     λ k h nb nm. moved.others k nb (omega arith) nm (omega arith) (omega arith) in
     record {
       threads = λ k h. elim (cases_eq k n) [
-        | inl e ↦ subst (λ (u : ℕ). Threads g u (more u)) (sym e) (subst (λ (xs : List ℕ). Threads g n xs) (sym shifted.left)
+        | inl e ↦ subst (λ (u : ℕ). Threads g u (more u)) (sym e)
+            (subst (λ (xs : List ℕ). Threads g n xs) (sym shifted.left)
             (threads_cut f g n b (lists n) (linked.threads n n_low) spot.link pos (moved.link ∙ ap f (sym fb))
             (λ j i nb np. elim i [
-              | inl z ↦ subst (λ (u : ℕ). g u ≡ f u) (sym z) (head_same n n_low (λ w. nb (z ∙ w)) (λ w. t.apart (sym w)))
+              | inl z ↦ subst (λ (u : ℕ). g u ≡ f u) (sym z)
+                  (head_same n n_low (λ w. nb (z ∙ w)) (λ w. t.apart (sym w)))
               | inr z ↦ same n j (linked.watch n j n_low z) nb (λ w. np (w ∙ sym fb))
             ])))
         | inr ne ↦ elim (cases_eq k m) [
-          | inl e ↦ subst (λ (u : ℕ). Threads g u (more u)) (sym e) (subst (λ (xs : List ℕ). Threads g m xs) (sym shifted.joined) (
-            moved.head,
-            omega arith,
-            threads_from f g m p (lists m) (linked.threads m m_low) moved.place
-                (λ j i. same m j (linked.watch m j m_low i) (out m j m_low t.apart i).0 (out m j m_low t.apart i).1),
-          ))
+          | inl e ↦ subst (λ (u : ℕ). Threads g u (more u)) (sym e)
+              (subst (λ (xs : List ℕ). Threads g m xs) (sym shifted.joined) (
+                moved.head,
+                omega arith,
+                threads_from f g m p (lists m) (linked.threads m m_low) moved.place
+                    (λ j i. same m j (linked.watch m j m_low i) (out m j m_low t.apart i).0
+                    (out m j m_low t.apart i).1),
+              ))
           | inr nm ↦ subst (λ (xs : List ℕ). Threads g k xs) (sym (shifted.others k ne nm))
               (threads_from f g k k (lists k) (linked.threads k h)
               (head_same k h (λ w. off_head vars len f refs lists r side to b laid linked spot k h ne w) nm)
@@ -293,16 +329,19 @@ linked_moved vars len f g refs lists more r side to b laid linked spot moved shi
       watch = λ k q h i. elim (cases_eq k n) [
         | inl e ↦ (let j : In q (cut b n (lists n)) = subst (λ (xs : List ℕ). In q xs) (ap more e ∙ shifted.left) i in
             let found = cut_in f n b (lists n) q (linked.threads n n_low) spot.link j in
-            subst (λ (u : ℕ). IsWatch g refs u q) (sym e) (keep n q (λ w. found.1 (w ∙ sym fb)) (linked.watch n q n_low found.0)))
+            subst (λ (u : ℕ). IsWatch g refs u q) (sym e)
+            (keep n q (λ w. found.1 (w ∙ sym fb)) (linked.watch n q n_low found.0)))
         | inr ne ↦ elim (cases_eq k m) [
-          | inl e ↦ (let j : (q ≡ p) ⊎ In q (lists m) = subst (λ (xs : List ℕ). In q xs) (ap more e ∙ shifted.joined) i in
+          | inl e ↦ (let j : (q ≡ p)
+              ⊎ In q (lists m) = subst (λ (xs : List ℕ). In q xs) (ap more e ∙ shifted.joined) i in
               subst (λ (u : ℕ). IsWatch g refs u q) (sym e) (elim j [
                 | inl z ↦ record {
                   ref = r;
                   side = side;
                   held = spot.held;
                   low = low;
-                  two = (let z : g r ≡ f r = size_kept vars len f g refs lists r side to b laid linked spot moved r spot.held in omega arith);
+                  two = (let z : g r ≡ f r = size_kept vars len f g refs lists r side to b laid linked spot moved r
+                      spot.held in omega arith);
                   place = z;
                   code = moved.one;
                 }
@@ -316,23 +355,29 @@ linked_moved vars len f g refs lists more r side to b laid linked spot moved shi
           (let z : g s ≡ f s = size_kept vars len f g refs lists r side to b laid linked spot moved s i in
           elim (cases_eq (s + 2 + u) p) [
             | inl e ↦
-                (let same_place = same_word vars len f refs s r (2 + u) (2 + side) laid i spot.held (omega arith) (omega arith) (omega arith) in
+                (let same_place = same_word vars len f refs s r (2 + u) (2 + side) laid i spot.held (omega arith)
+                (omega arith) (omega arith) in
                 let us : u ≡ side = omega (arith, same_place.1) in
                 subst (λ (v : ℕ). In (v + 2 + u) (more (g (v + 4 + u)))) (sym same_place.0)
                 (subst (λ (v : ℕ). In (r + 2 + v) (more (g (r + 4 + v)))) (sym us)
-                (subst (λ (v : ℕ). In p (more v)) (sym moved.one) (subst (λ (xs : List ℕ). In p xs) (sym shifted.joined) (inl refl)))))
+                (subst (λ (v : ℕ). In p (more v)) (sym moved.one)
+                (subst (λ (xs : List ℕ). In p xs) (sym shifted.joined) (inl refl)))))
             | inr np ↦
                 (let k = f (s + 4 + u) in
                 let there : In (s + 2 + u) (lists k) = linked.listed s u i (omega arith) lo in
-                let code : g (s + 4 + u) ≡ k = (let q : s + (4 + u) ≡ s + 4 + u = omega arith in subst (λ (v : ℕ). g v ≡ f v) q
-                (kept_word vars len f g refs lists r side to b laid linked spot moved s (4 + u) i (omega arith) (inr (omega arith))
+                let code : g (s + 4 + u)
+                ≡ k = (let q : s + (4 + u) ≡ s + 4 + u = omega arith in subst (λ (v : ℕ). g v ≡ f v) q
+                (kept_word vars len f g refs lists r side to b laid linked spot moved s (4 + u) i (omega arith)
+                (inr (omega arith))
                 (λ a e. np (omega arith)) (λ a e. omega arith))) in
                 subst (λ (v : ℕ). In (s + 2 + u) (more v)) (sym code)
                 (elim (cases_eq k n) [
                   | inl e ↦ subst (λ (xs : List ℕ). In (s + 2 + u) xs) (sym (ap more e ∙ shifted.left))
-                      (in_cut f n b (lists n) (s + 2 + u) (linked.threads n n_low) spot.link (subst (λ (v : ℕ). In (s + 2 + u) (lists v)) e there) (λ w. np (w ∙ fb)))
+                      (in_cut f n b (lists n) (s + 2 + u) (linked.threads n n_low) spot.link
+                      (subst (λ (v : ℕ). In (s + 2 + u) (lists v)) e there) (λ w. np (w ∙ fb)))
                   | inr ne ↦ elim (cases_eq k m) [
-                    | inl e ↦ subst (λ (xs : List ℕ). In (s + 2 + u) xs) (sym (ap more e ∙ shifted.joined)) (inr (subst (λ (v : ℕ). In (s + 2 + u) (lists v)) e there))
+                    | inl e ↦ subst (λ (xs : List ℕ). In (s + 2 + u) xs) (sym (ap more e ∙ shifted.joined))
+                        (inr (subst (λ (v : ℕ). In (s + 2 + u) (lists v)) e there))
                     | inr nm ↦ subst (λ (xs : List ℕ). In (s + 2 + u) xs) (sym (shifted.others k ne nm)) there
                   ]
                 ]))

@@ -2,7 +2,8 @@
 use Rattle.std.specs.Prelude.{ℕ, ◌≡◌, ◌≢◌, ◌+◌, ◌-◌, ◌<◌, ◌≤◌, List, ◌++◌, length, take, map, replicate, refl}
 use Rattle.std.proofs.Common.{sym, ◌∙◌, subst, inl, inr, arith, get_or}
 use Rattle.std.proofs.lemmas.Bool.{cases_eq, cases_lt}
-use Rattle.std.proofs.lemmas.List.{get_or-set_same, get_or-set_other, get_or-map, get_or_append_left, get_or-append_right, get_or_past, take_all, take-append-le}
+use Rattle.std.proofs.lemmas.List.{get_or-set_same, get_or-set_other, get_or-map, get_or_append_left}
+use Rattle.std.proofs.lemmas.List.{get_or-append_right, get_or_past, take_all, take-append-le}
 use Rattle.clause_arena.specs.Links.{word}
 use Rattle.std.proofs.Math.ListN.{set, length-set}
 use Rattle.resolution_check.specs.declared.log.Lit.{Lit}
@@ -29,8 +30,10 @@ pub placed_two : (f g h i : ℕ → ℕ) (r id : ℕ) (codes : List ℕ) → IsW
 placed_two f g h i r id codes w two low0 low1 apart p q =
     let keep : (j : ℕ) → j ≢ r + 2 → j ≢ r + 3 → j ≢ word codes 0 → j ≢ word codes 1 → i j ≡ g j =
     λ j a b c d. q.others j b d ∙ p.others j a c in
-    let link0 : i (r + 2) ≡ f (word codes 0) = q.others (r + 2) (omega arith) (omega arith) ∙ p.link ∙ w.others (word codes 0) low0 in
-    let link1 : i (r + 3) ≡ f (word codes 1) = q.link ∙ p.others (word codes 1) (omega arith) (omega arith) ∙ w.others (word codes 1) low1 in
+    let link0 : i (r + 2) ≡ f (word codes 0) = q.others (r + 2) (omega arith) (omega arith) ∙ p.link
+    ∙ w.others (word codes 0) low0 in
+    let link1 : i (r + 3) ≡ f (word codes 1) = q.link ∙ p.others (word codes 1) (omega arith) (omega arith)
+    ∙ w.others (word codes 1) low1 in
     let head0 : i (word codes 0) ≡ r + 2 = q.others (word codes 0) (omega arith) (omega arith) ∙ p.head in
     let head1 : i (word codes 1) ≡ r + 3 = q.head in
     record {
@@ -38,16 +41,19 @@ placed_two f g h i r id codes w two low0 low1 apart p q =
       number = keep (r + 1) (omega arith) (omega arith) (omega arith) (omega arith) ∙ w.number;
       codes_at = λ k b. keep (r + 4 + k) (omega arith) (omega arith) (omega arith) (omega arith) ∙ w.codes_at k b;
       links = λ side m low. elim (cases_eq side 0) [
-        | inl z ↦ subst (λ (k : ℕ). i (r + 2 + k) ≡ f (word codes k)) (sym z) (let e : r + 2 ≡ r + 2 + 0 = omega arith in subst (λ (u : ℕ). i u ≡ f (word codes 0)) e link0)
+        | inl z ↦ subst (λ (k : ℕ). i (r + 2 + k) ≡ f (word codes k)) (sym z) (let e : r + 2 ≡ r + 2
+            + 0 = omega arith in subst (λ (u : ℕ). i u ≡ f (word codes 0)) e link0)
         | inr nz ↦ (let one : side ≡ 1 = omega arith in
-            subst (λ (k : ℕ). i (r + 2 + k) ≡ f (word codes k)) (sym one) (let e : r + 3 ≡ r + 2 + 1 = omega arith in subst (λ (u : ℕ). i u ≡ f (word codes 1)) e link1))
+            subst (λ (k : ℕ). i (r + 2 + k) ≡ f (word codes k)) (sym one) (let e : r + 3 ≡ r + 2 + 1 = omega arith in
+            subst (λ (u : ℕ). i u ≡ f (word codes 1)) e link1))
       ];
       heads = λ side m low. elim (cases_eq side 0) [
         | inl z ↦ subst (λ (k : ℕ). i (word codes k) ≡ r + 2 + k) (sym z) (head0 ∙ omega arith)
         | inr nz ↦ (let one : side ≡ 1 = omega arith in
             subst (λ (k : ℕ). i (word codes k) ≡ r + 2 + k) (sym one) (head1 ∙ omega arith))
       ];
-      others = λ j b o. keep j (omega arith) (omega arith) (o 0 (omega arith) two) (o 1 (omega arith) two) ∙ w.others j b;
+      others = λ j b o. keep j (omega arith) (omega arith) (o 0 (omega arith) two) (o 1 (omega arith) two)
+          ∙ w.others j b;
     }
 
 -- words with zeros behind them, as they are read
@@ -55,7 +61,8 @@ pub grown_word : (ws : List ℕ) (n more k : ℕ) → length ws ≤ n → word (
 grown_word ws n more k h =
     rw (take_all n ws h) (elim (cases_lt k (length ws)) [
       | inl l ↦ get_or_append_left ws (replicate more 0) 0 k l
-      | inr l ↦ get_or-append_right ws (replicate more 0) (length ws) k 0 refl l ∙ word_of_zeros more (k - length ws) ∙ sym (get_or_past ws k 0 l)
+      | inr l ↦ get_or-append_right ws (replicate more 0) (length ws) k 0 refl l ∙ word_of_zeros more (k - length ws)
+          ∙ sym (get_or_past ws k 0 l)
     ])
 
 -- ---- the writes
@@ -81,7 +88,8 @@ written_of old ws r id n codes has room size =
     let keep : (j : ℕ) → j ≢ r → j ≢ r + 1 → word (set (set ws r n) (r + 1) id) j ≡ word ws j =
     λ j a b. get_or-set_other (set ws r n) (r + 1) j id 0 b ∙ get_or-set_other ws r j n 0 a in
     record {
-      size = (let ne : r ≢ r + 1 = omega arith in get_or-set_other (set ws r n) (r + 1) r id 0 ne ∙ get_or-set_same ws r n 0 (omega arith) ∙ size);
+      size = (let ne : r ≢ r + 1 = omega arith in get_or-set_other (set ws r n) (r + 1) r id 0 ne
+          ∙ get_or-set_same ws r n 0 (omega arith) ∙ size);
       number = get_or-set_same (set ws r n) (r + 1) id 0 (omega (arith, length-set {A = ℕ}));
       codes_at = λ k h. keep (r + 4 + k) (omega arith) (omega arith) ∙ has.codes_at k h;
       others = λ j h. keep j (omega arith) (omega arith) ∙ has.others j (omega arith);
@@ -92,9 +100,11 @@ pub put_of : (ws : List ℕ) (code place : ℕ) → code < length ws → place <
     → IsPut (word ws) (word (set (set ws place (word ws code)) code place)) code place
 put_of ws code place low room apart = record {
   link = (let ne : place ≢ code = λ (e : place ≡ code). apart (sym e) in
-      get_or-set_other (set ws place (word ws code)) code place place 0 ne ∙ get_or-set_same ws place (word ws code) 0 room);
+      get_or-set_other (set ws place (word ws code)) code place place 0 ne
+      ∙ get_or-set_same ws place (word ws code) 0 room);
   head = get_or-set_same (set ws place (word ws code)) code place 0 (omega (arith, length-set {A = ℕ}));
-  others = λ j a b. get_or-set_other (set ws place (word ws code)) code j place 0 b ∙ get_or-set_other ws place j (word ws code) 0 a;
+  others = λ j a b. get_or-set_other (set ws place (word ws code)) code j place 0 b
+      ∙ get_or-set_other ws place j (word ws code) 0 a;
 }
 
 -- what a slice of a vector leaves of it

@@ -35,7 +35,8 @@ settle vars ws refs lists laid linked =
           watch = λ n p h i. linked.watch n p h (subst (λ (xs : List ℕ). In p xs) (e n h) i);
           listed = λ r side held two low.
               let below : word ws (r + 4 + side) < 2 * vars = laid.below r side held (omega arith) in
-              subst (λ (xs : List ℕ). In (r + 2 + side) xs) (sym (e (word ws (r + 4 + side)) below)) (linked.listed r side held two low);
+              subst (λ (xs : List ℕ). In (r + 2 + side) xs) (sym (e (word ws (r + 4 + side)) below))
+              (linked.listed r side held two low);
         };
       };
       places_are = e;

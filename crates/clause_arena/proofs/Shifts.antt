@@ -26,10 +26,13 @@ relinked_of ws b p m lb lp lm bp bm pm =
     let two = set one p (word one m) in
     let kept : word one m ≡ word ws m = get_or-set_other ws b m (word ws p) 0 (λ (e : m ≡ b). bm (sym e)) in
     record {
-      link = get_or-set_other two m b p 0 bm ∙ get_or-set_other one p b (word one m) 0 bp ∙ get_or-set_same ws b (word ws p) 0 lb;
-      place = get_or-set_other two m p p 0 pm ∙ get_or-set_same one p (word one m) 0 (omega (arith, length-set {A = ℕ})) ∙ kept;
+      link = get_or-set_other two m b p 0 bm ∙ get_or-set_other one p b (word one m) 0 bp
+          ∙ get_or-set_same ws b (word ws p) 0 lb;
+      place = get_or-set_other two m p p 0 pm
+          ∙ get_or-set_same one p (word one m) 0 (omega (arith, length-set {A = ℕ})) ∙ kept;
       head = get_or-set_same two m p 0 (omega (arith, length-set {A = ℕ}));
-      others = λ j nb np nm. get_or-set_other two m j p 0 nm ∙ get_or-set_other one p j (word one m) 0 np ∙ get_or-set_other ws b j (word ws p) 0 nb;
+      others = λ j nb np nm. get_or-set_other two m j p 0 nm ∙ get_or-set_other one p j (word one m) 0 np
+          ∙ get_or-set_other ws b j (word ws p) 0 nb;
     }
 
 pub two_of : (ws : List ℕ) (x m y n : ℕ) → x < length ws → y < length ws → x ≢ y
@@ -63,14 +66,16 @@ spot_of vars ws refs before w to s st e behind within =
     let b = link_of before n in
     let t : Threads (word ws) n (places ws n) = s.linked.threads n (code_below vars ws refs w s st) in
     let pos : 0 < place w = omega arith in
-    let here : (b ≡ n) ⊎ In b (places ws n) = followed (word ws) n b (places ws n) (subst (λ (k : ℕ). 0 < k) (sym e) pos) in
+    let here : (b ≡ n) ⊎ In b (places ws n) =
+    followed (word ws) n b (places ws n) (subst (λ (k : ℕ). 0 < k) (sym e) pos) in
     record {
       held = st.held;
       low = st.low;
       behind = behind;
       within = within;
       link = here;
-      leads = sym (first_threads (word ws) b (after b n (places ws n)) (after_threads (word ws) n b (places ws n) t here)) ∙ e;
+      leads = sym (first_threads (word ws) b (after b n (places ws n))
+          (after_threads (word ws) n b (places ws n) t here)) ∙ e;
     }
 
 pub clear_of : (vars : ℕ) (ws refs : List ℕ) (r side to b : ℕ) → IsSound vars ws refs
@@ -86,19 +91,27 @@ clear_of vars ws refs r side to b s spot =
     let n_low : n < 2 * vars = t.old_low in
     let inside : r + 4 + f r ≤ length ws = s.laid.inside r spot.held in
     let fb : f b ≡ r + 2 + side = spot.leads in
-    let off = λ (k : ℕ) (h : k < 4 + f r) (c : (k < 2) ⊎ (4 ≤ k)). off_link vars (length ws) f refs (places ws) r side to b s.laid s.linked spot r k spot.held h c in
-    let follows : Threads f b (after b n (places ws n)) = after_threads f n b (places ws n) (s.linked.threads n n_low) spot.link in
+    let off = λ (k : ℕ) (h : k < 4 + f r) (c : (k < 2) ⊎ (4 ≤ k)). off_link vars (length ws) f refs
+    (places ws) r side to b s.laid s.linked spot r k spot.held h c in
+    let follows : Threads f b (after b n (places ws n)) =
+    after_threads f n b (places ws n) (s.linked.threads n n_low) spot.link in
     record {
-      link = elim spot.link [ inl z ↦ omega (arith, s.laid.heads) | inr j ↦ within_words vars ws refs n b s.laid (s.linked.watch n b n_low j) ];
+      link = elim spot.link [
+        | inl z ↦ omega (arith, s.laid.heads)
+        | inr j ↦ within_words vars ws refs n b s.laid
+            (s.linked.watch n b n_low j)
+      ];
       place = omega arith;
       head = omega arith;
       one = omega arith;
       other = omega arith;
       link_place = λ e. off_own f b (after b n (places ws n)) follows
-          (subst (λ (u : ℕ). In u (after b n (places ws n))) (fb ∙ sym e) (next_in f b b (after b n (places ws n)) follows (inl refl) (omega arith)));
+          (subst (λ (u : ℕ). In u (after b n (places ws n))) (fb ∙ sym e)
+          (next_in f b b (after b n (places ws n)) follows (inl refl) (omega arith)));
       link_head = λ e. elim spot.link [
         | inl z ↦ t.apart (sym e ∙ z)
-        | inr j ↦ (let w = s.linked.watch n b n_low j in let wl : 2 * vars ≤ w.ref = s.laid.first w.ref w.held in let at : b ≡ w.ref + 2 + w.side = w.place in omega arith)
+        | inr j ↦ (let w = s.linked.watch n b n_low j in let wl : 2 * vars ≤ w.ref = s.laid.first w.ref w.held in
+            let at : b ≡ w.ref + 2 + w.side = w.place in omega arith)
       ];
       place_head = omega arith;
       one_link = λ e. off (4 + side) (omega arith) (inr (omega arith)) (omega arith);
@@ -130,13 +143,15 @@ pub record IsDone (vars : ℕ) (ws new refs : List ℕ) (before : Option Watch) 
   pub below : own (store vars ws refs) w < 2 * vars
   pub link : (link_of before (own (store vars ws refs) w) ≡ own (store vars ws refs) w)
       ⊎ In (link_of before (own (store vars ws refs) w)) (places new (own (store vars ws refs) w))
-  pub fewer : left (store vars new refs) before (own (store vars ws refs) w) < left (store vars ws refs) before (own (store vars ws refs) w)
+  pub fewer : left (store vars new refs) before (own (store vars ws refs) w) < left (store vars ws refs) before
+      (own (store vars ws refs) w)
 
 pub done : (vars : ℕ) (ws new refs : List ℕ) (before : Option Watch) (w : Watch) (to : ℕ) → IsSound vars ws refs
     → Stands (store vars ws refs) (own (store vars ws refs) w) w
     → head (store vars ws refs) before (own (store vars ws refs) w) ≡ place w
     → 2 ≤ to → to < word ws w.clause.0 → length new ≡ length ws
-    → IsMoved (word ws) (word new) (link_of before (own (store vars ws refs) w)) (place w) (word ws (w.clause.0 + 4 + to)) (own (store vars ws refs) w)
+    → IsMoved (word ws) (word new) (link_of before (own (store vars ws refs) w)) (place w)
+    (word ws (w.clause.0 + 4 + to)) (own (store vars ws refs) w)
     (w.clause.0 + 4 + w.side) (w.clause.0 + 4 + to)
     → IsDone vars ws new refs before w to
 done vars ws new refs before w to s st e behind within len moved =
@@ -156,7 +171,8 @@ done vars ws new refs before w to s st e behind within len moved =
     let laid = subst (λ (k : ℕ). IsLaid vars k (word new) refs) (sym len)
     (laid_moved vars (length ws) (word ws) (word new) refs (places ws) r side to b s.laid s.linked spot moved) in
     let x = settle vars new refs more laid
-    (linked_moved vars (length ws) (word ws) (word new) refs (places ws) more r side to b s.laid s.linked spot moved shifted) in
+    (linked_moved vars (length ws) (word ws) (word new) refs
+    (places ws) more r side to b s.laid s.linked spot moved shifted) in
     let left_is : places new n ≡ cut b n (places ws n) = x.places_are n t.old_low ∙ shifted.left in
     record {
       sound = x.sound;
@@ -169,17 +185,21 @@ done vars ws new refs before w to s st e behind within len moved =
         one = moved.one;
         other = moved.other;
         sizes = size_kept vars (length ws) (word ws) (word new) refs (places ws) r side to b s.laid s.linked spot moved;
-        numbers = λ q i. kept_word vars (length ws) (word ws) (word new) refs (places ws) r side to b s.laid s.linked spot moved q 1 i
+        numbers = λ q i. kept_word vars (length ws) (word ws) (word new) refs
+            (places ws) r side to b s.laid s.linked spot moved q 1 i
             (omega arith) (inl (omega arith)) (λ z y. omega arith) (λ z y. omega arith);
-        codes = λ q k i h one other. (let z : q + (4 + k) ≡ q + 4 + k = omega arith in subst (λ (u : ℕ). word new u ≡ word ws u) z
-            (kept_word vars (length ws) (word ws) (word new) refs (places ws) r side to b s.laid s.linked spot moved q (4 + k) i
+        codes = λ q k i h one other. (let z : q + (4 + k) ≡ q + 4 + k = omega arith in
+            subst (λ (u : ℕ). word new u ≡ word ws u) z
+            (kept_word vars (length ws) (word ws) (word new) refs (places ws) r side to b s.laid s.linked spot moved q
+            (4 + k) i
             (omega arith) (inr (omega arith)) (λ z y. one z (omega arith)) (λ z y. other z (omega arith))));
       };
       below = t.old_low;
       link = elim spot.link [
         | inl z ↦ inl z
         | inr j ↦ inr (subst (λ (xs : List ℕ). In b xs) (sym left_is)
-            (in_cut (word ws) n b (places ws n) b (s.linked.threads n t.old_low) spot.link j (λ q. c.link_place (q ∙ fb))))
+            (in_cut (word ws) n b (places ws n) b (s.linked.threads n t.old_low) spot.link j
+            (λ q. c.link_place (q ∙ fb))))
       ];
       fewer = subst (λ (xs : List ℕ). length (after b n xs) < length (after b n (places ws n))) (sym left_is)
           (after_cut (word ws) n b (places ws n) (s.linked.threads n t.old_low) spot.link (omega arith));
@@ -197,7 +217,8 @@ clear_at vars ws refs before w to b p m s st e behind within eb ep em =
     let x = w.clause.0 + 4 + w.side in
     let y = w.clause.0 + 4 + to in
     let n = own (store vars ws refs) w in
-    let c = clear_of vars ws refs w.clause.0 w.side to (link_of before n) s (spot_of vars ws refs before w to s st e behind within) in
+    let c = clear_of vars ws refs w.clause.0 w.side to (link_of before n) s
+    (spot_of vars ws refs before w to s st e behind within) in
     subst (λ (u : ℕ). IsClear (length ws) u p m x y) (sym eb)
     (subst (λ (u : ℕ). IsClear (length ws) (link_of before n) u m x y) (sym ep)
     (subst (λ (u : ℕ). IsClear (length ws) (link_of before n) (place w) u x y) (sym em) c))

@@ -14,7 +14,8 @@ use Rattle.clause_arena.specs.Links.{word, In, Threads, links, places, after, cu
 pub threads_from : (f g : ℕ → ℕ) (at to : ℕ) (xs : List ℕ) → Threads f at xs → g to ≡ f at
     → ((j : ℕ) → In j xs → g j ≡ f j) → Threads g to xs
 threads_from f g at to [] t e same = e ∙ t
-threads_from f g at to (q ∷ qs) t e same = (e ∙ t.0, t.1, threads_from f g q q qs t.2 (same q (inl refl)) (λ j i. same j (inr i)))
+threads_from f g at to (q ∷ qs) t e same =
+    (e ∙ t.0, t.1, threads_from f g q q qs t.2 (same q (inl refl)) (λ j i. same j (inr i)))
 
 -- a place leads to one list alone
 pub threads_one : (f : ℕ → ℕ) (at : ℕ) (xs ys : List ℕ) → Threads f at xs → Threads f at ys → xs ≡ ys
@@ -35,7 +36,8 @@ pub record IsBehind (f : ℕ → ℕ) (p : ℕ) (xs : List ℕ) : Type 0 where
 
 behind : (f : ℕ → ℕ) (at p : ℕ) (xs : List ℕ) → Threads f at xs → In p xs → IsBehind f p xs
 behind f at p [] t i = absurd i
-behind f at p (q ∷ qs) t (inl e) = record { rest = qs; threads = subst (λ (u : ℕ). Threads f u qs) (sym e) t.2; shorter = omega arith }
+behind f at p (q ∷ qs) t (inl e) =
+    record { rest = qs; threads = subst (λ (u : ℕ). Threads f u qs) (sym e) t.2; shorter = omega arith }
 behind f at p (q ∷ qs) t (inr i) =
     let more = behind f q p qs t.2 i in
     record { rest = more.rest; threads = more.threads; shorter = omega (arith, more.shorter) }
@@ -61,7 +63,12 @@ distinct f at (x ∷ xs) t = (apart_from x xs (off_own f x xs t.2), distinct f x
 
 in_from_any : (p : ℕ) (xs : List ℕ) → list_any (eqb p) xs ≡ true → In p xs
 in_from_any p [] h = absurd (cc)
-in_from_any p (x ∷ xs) h = elim (or_cases (eqb p x) (list_any (eqb p) xs) h) [ inl e ↦ inl (eqb-true p x e) | inr e ↦ inr (in_from_any p xs e) ]
+in_from_any p (x ∷ xs) h =
+    elim (or_cases (eqb p x) (list_any (eqb p) xs) h) [
+      | inl e ↦ inl (eqb-true p x e)
+      | inr e ↦ inr
+          (in_from_any p xs e)
+    ]
 
 links_whole : (f : ℕ → ℕ) (n at : ℕ) (xs : List ℕ) → Threads f at xs → length xs ≤ n → links n f at ≡ xs
 links_whole f zero at [] t h = refl
@@ -180,7 +187,8 @@ in_cut f at b (q ∷ qs) j t here i ne =
 
 all_after : (b at : ℕ) (qs : List ℕ) → eqb b at ≡ true → length (after b at qs) ≤ length qs
 all_after b at [] h = omega arith
-all_after b at (s ∷ ss) h = subst (λ (u : _). length (cond u (s ∷ ss) (after b s ss)) ≤ length (s ∷ ss)) (sym h) (omega arith)
+all_after b at (s ∷ ss) h =
+    subst (λ (u : _). length (cond u (s ∷ ss) (after b s ss)) ≤ length (s ∷ ss)) (sym h) (omega arith)
 
 -- fewer follow a place once the next one is taken out
 pub after_cut : (f : ℕ → ℕ) (at b : ℕ) (xs : List ℕ) → Threads f at xs → (b ≡ at) ⊎ In b xs → 0 < f b
@@ -189,9 +197,12 @@ after_cut f at b [] t (inl e) h = let z : f b ≡ 0 = ap f e ∙ t in absurd (om
 after_cut f at b [] t (inr i) h = absurd i
 after_cut f at b (q ∷ qs) t here h =
     elim (cases_Bool (eqb b at)) [
-      | inl at_it ↦ subst (λ (u : _). length (after b at (cond u qs (q ∷ cut b q qs))) < length (cond u (q ∷ qs) (after b q qs))) (sym at_it)
+      | inl at_it ↦ subst (λ (u : _). length (after b at (cond u qs (q ∷ cut b q qs))) < length
+          (cond u (q ∷ qs) (after b q qs))) (sym at_it)
           (let e : length (after b at qs) ≤ length qs = all_after b at qs at_it in omega arith)
-      | inr off_it ↦ subst (λ (u : _). length (after b at (cond u qs (q ∷ cut b q qs))) < length (cond u (q ∷ qs) (after b q qs))) (sym off_it)
-          (subst (λ (u : _). length (cond u (q ∷ cut b q qs) (after b q (cut b q qs))) < length (after b q qs)) (sym off_it)
+      | inr off_it ↦ subst (λ (u : _). length (after b at (cond u qs (q ∷ cut b q qs))) < length
+          (cond u (q ∷ qs) (after b q qs))) (sym off_it)
+          (subst (λ (u : _). length (cond u (q ∷ cut b q qs) (after b q (cut b q qs))) < length (after b q qs))
+          (sym off_it)
           (after_cut f q b qs t.2 (later b at (q ∷ qs) off_it here) h))
     ]

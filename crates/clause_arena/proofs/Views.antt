@@ -1,5 +1,6 @@
 -- The clauses that are held, as a list.
-use Rattle.std.specs.Prelude.{ℕ, ◌≡◌, ◌+◌, ◌-◌, ◌*◌, ◌/◌, ◌%◌, ◌<◌, ◌≤◌, Bool, true, false, List, [], ◌∷◌, ◌++◌, length, map, take, drop, refl}
+use Rattle.std.specs.Prelude.{ℕ, ◌≡◌, ◌+◌, ◌-◌, ◌*◌, ◌/◌, ◌%◌, ◌<◌, ◌≤◌, Bool, true, false, List, [], ◌∷◌, ◌++◌}
+use Rattle.std.specs.Prelude.{length, map, take, drop, refl}
 use Rattle.std.proofs.Common.{sym, ◌∙◌, ap, subst, inl, inr, arith, length-take, length-drop}
 use Rattle.std.proofs.lemmas.List.{get_or-take, get_or-drop, map-append}
 use Rattle.std.proofs.lemmas.Grind.{same_number_lists}
@@ -35,11 +36,13 @@ lit_back var false =
 
 lits_back : (lits : List Lit) → map lit_of (map code_of lits) ≡ lits
 lits_back [] = refl
-lits_back (l ∷ lits) = let a : lit_of (code_of l) ≡ l = lit_back l.var l.negated in let b : map lit_of (map code_of lits) ≡ lits = lits_back lits in cc
+lits_back (l ∷ lits) = let a : lit_of (code_of l) ≡ l = lit_back l.var l.negated in
+    let b : map lit_of (map code_of lits) ≡ lits = lits_back lits in cc
 
 map_same : {X : Type 0} (f g : ℕ → X) (rs : List ℕ) → ((s : ℕ) → In s rs → f s ≡ g s) → map f rs ≡ map g rs
 map_same f g [] each = refl
-map_same f g (r ∷ rs) each = let a : f r ≡ g r = each r (inl refl) in let b : map f rs ≡ map g rs = map_same f g rs (λ s i. each s (inr i)) in cc
+map_same f g (r ∷ rs) each = let a : f r ≡ g r = each r (inl refl) in let b : map f rs
+    ≡ map g rs = map_same f g rs (λ s i. each s (inr i)) in cc
 
 -- an addition appends the clause
 pub clauses_more : (vars : ℕ) (ws refs new more : List ℕ) (r id : ℕ) (lits : List Lit) → IsSound vars ws refs
@@ -49,7 +52,8 @@ pub clauses_more : (vars : ℕ) (ws refs new more : List ℕ) (r id : ℕ) (lits
 clauses_more vars ws refs new more r id lits sound after adds =
     let f : ℕ → (ℕ × List Lit) = λ s. (word ws (s + 1), map lit_of (take (word ws s) (drop (s + 4) ws))) in
     let g : ℕ → (ℕ × List Lit) = λ s. (word new (s + 1), map lit_of (take (word new s) (drop (s + 4) new))) in
-    let held : (s : ℕ) → In s refs → In s more = λ s i. subst (λ (xs : List ℕ). In s xs) (sym adds.refs) (in_front s r refs i) in
+    let held : (s : ℕ) → In s refs
+    → In s more = λ s i. subst (λ (xs : List ℕ). In s xs) (sym adds.refs) (in_front s r refs i) in
     let same : (s : ℕ) → In s refs → g s ≡ f s = λ s i.
     (let k = adds.kept s i in
     let old : s + 4 + word ws s ≤ length ws = sound.laid.inside s i in
@@ -57,15 +61,18 @@ clauses_more vars ws refs new more r id lits sound after adds =
     let size : word new s ≡ word ws s = k.size in
     let number : word new (s + 1) ≡ word ws (s + 1) = k.number in
     let d : length (drop (s + 4) ws) ≡ length ws - (s + 4) = length-drop (s + 4) ws in
-    let l : word new s ≡ length (take (word ws s) (drop (s + 4) ws)) = omega (arith, length-take (word ws s) (drop (s + 4) ws)) in
+    let l : word new s ≡ length (take (word ws s) (drop (s + 4) ws)) =
+    omega (arith, length-take (word ws s) (drop (s + 4) ws)) in
     let codes : take (word new s) (drop (s + 4) new) ≡ take (word ws s) (drop (s + 4) ws) =
     segment new (s + 4) (word new s) (take (word ws s) (drop (s + 4) ws)) now l (λ j h.
     let low : j < word ws s = omega arith in
     k.codes j low ∙ sym (get_or-take (word ws s) (drop (s + 4) ws) j 0 low ∙ get_or-drop (s + 4) ws j 0)) in
-    let whole : map lit_of (take (word new s) (drop (s + 4) new)) ≡ map lit_of (take (word ws s) (drop (s + 4) ws)) = ap (map lit_of) codes in
+    let whole : map lit_of (take (word new s) (drop (s + 4) new))
+    ≡ map lit_of (take (word ws s) (drop (s + 4) ws)) = ap (map lit_of) codes in
     cc) in
     let own : g r ≡ (id, lits) =
-    (let now : r + 4 + word new r ≤ length new = after.laid.inside r (subst (λ (xs : List ℕ). In r xs) (sym adds.refs) (in_end r refs)) in
+    (let now : r + 4 + word new r ≤ length new = after.laid.inside r
+    (subst (λ (xs : List ℕ). In r xs) (sym adds.refs) (in_end r refs)) in
     let size : word new r ≡ length (map code_of lits) = adds.size in
     let number : word new (r + 1) ≡ id = adds.number in
     let codes : take (word new r) (drop (r + 4) new) ≡ map code_of lits =

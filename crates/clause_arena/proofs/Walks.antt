@@ -1,5 +1,6 @@
 -- Walks along the lists of watches.
-use Rattle.std.specs.Prelude.{ℕ, ◌≡◌, ◌+◌, ◌-◌, ◌*◌, ◌%◌, ◌<◌, ◌≤◌, ◌⊎◌, List, [], ◌∷◌, length, Option, Some, None, IfSome, refl}
+use Rattle.std.specs.Prelude.{ℕ, ◌≡◌, ◌+◌, ◌-◌, ◌*◌, ◌%◌, ◌<◌, ◌≤◌, ◌⊎◌, List, [], ◌∷◌, length, Option, Some, None}
+use Rattle.std.specs.Prelude.{IfSome, refl}
 use Rattle.std.proofs.Common.{sym, ◌∙◌, ap, subst, inl, inr, arith, cond}
 use Rattle.std.proofs.lemmas.Bool.{cases_Bool, cases_eq, ne_eqb}
 use Rattle.std.proofs.Math.Dec.{eqb}
@@ -33,7 +34,8 @@ made vars ws refs n p s h i =
         held = subst (λ (r : ℕ). In r refs) ref w.held;
         low = omega arith;
         two = subst (λ (r : ℕ). 2 ≤ word ws r) ref w.two;
-        code = subst (λ (r : ℕ). word ws (r + 4 + p % 2) ≡ n) ref (subst (λ (k : ℕ). word ws (w.ref + 4 + k) ≡ n) side w.code);
+        code = subst (λ (r : ℕ). word ws (r + 4 + p % 2) ≡ n) ref
+            (subst (λ (k : ℕ). word ws (w.ref + 4 + k) ≡ n) side w.code);
         listed = subst (λ (q : ℕ). In q (places ws n)) (sym back) i;
       };
       place = back;
@@ -60,11 +62,13 @@ leads vars ws refs n b s h here =
     let f : first (after b n (places ws n)) ≡ word ws b =
     first_threads (word ws) b (after b n (places ws n)) (after_threads (word ws) n b (places ws n) t here) in
     elim (cases_eq (word ws b) 0) [
-      | inl z ↦ subst (λ (answer : Option Watch). Leads (store vars ws refs) n b answer) (sym (none (word ws b) z)) (record { head = sym (f ∙ z); stands = tt })
+      | inl z ↦ subst (λ (answer : Option Watch). Leads (store vars ws refs) n b answer) (sym (none (word ws b) z))
+          (record { head = sym (f ∙ z); stands = tt })
       | inr nz ↦
           (let i : In (word ws b) (places ws n) = next_in (word ws) n b (places ws n) t here (omega arith) in
           let m = made vars ws refs n (word ws b) s h i in
-          subst (λ (answer : Option Watch). Leads (store vars ws refs) n b answer) (sym (some (word ws b) nz)) (record { head = m.place ∙ sym f; stands = m.stands }))
+          subst (λ (answer : Option Watch). Leads (store vars ws refs) n b answer) (sym (some (word ws b) nz))
+          (record { head = m.place ∙ sym f; stands = m.stands }))
     ]
 
 -- what the word at a link leads to is no place below 2
@@ -110,7 +114,8 @@ fewer a n w before t i e =
     let b = link_of before n in
     let pos : 0 < place w = omega arith in
     let in_it : (b ≡ n) ⊎ In b xs = followed f n b xs (subst (λ (k : ℕ). 0 < k) (sym e) pos) in
-    longer f b (place w) (after b n xs) (after (place w) n xs) (after_threads f n b xs t in_it) e pos (after_threads f n (place w) xs t (inr i))
+    longer f b (place w) (after b n xs) (after (place w) n xs) (after_threads f n b xs t in_it) e pos
+    (after_threads f n (place w) xs t (inr i))
 
 -- ---- a watch that stands in the list of its literal
 
@@ -119,7 +124,8 @@ pub code_below : (vars : ℕ) (ws refs : List ℕ) (w : Watch) → IsSound vars 
     → Stands (store vars ws refs) (own (store vars ws refs) w) w
     → own (store vars ws refs) w < 2 * vars
 code_below vars ws refs w s st =
-    s.laid.below w.clause.0 w.side st.held (let low : w.side < 2 = st.low in let two : 2 ≤ word ws w.clause.0 = st.two in omega arith)
+    s.laid.below w.clause.0 w.side st.held (let low : w.side < 2 = st.low in
+    let two : 2 ≤ word ws w.clause.0 = st.two in omega arith)
 
 -- its link is within the words
 pub place_within : (vars : ℕ) (ws refs : List ℕ) (w : Watch) → IsSound vars ws refs

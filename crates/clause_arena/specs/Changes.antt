@@ -49,8 +49,8 @@ pub record Adds (old new : Store) (r id : ℕ) (codes : List ℕ) : Type 0 where
   pub others : (n : ℕ) → n < 2 * old.vars → ((side : ℕ) → side < 2 → 2 ≤ length codes → n ≢ word codes side)
       → places new.words n ≡ places old.words n
 
--- a watch at place p was taken from behind the link b and put in front of the list of the code m, and the codes at x and y
--- are now m and n
+-- a watch at place p was taken from behind the link b and put in front of the list of the code m, and the codes at x
+-- and y are now m and n
 pub record IsMoved (f g : ℕ → ℕ) (b p m n x y : ℕ) : Type 0 where
   pub link : g b ≡ f p
   pub place : g p ≡ f m

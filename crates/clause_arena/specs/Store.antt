@@ -1,8 +1,8 @@
 -- Where clauses stand in words, and the lists of their watches.
 --
 -- The words begin with a head for each literal's code, which is the place of the first watch of that literal. A clause
--- stands at its reference: its size, its number, two links, and the codes of its literals. A watch stands at the place of
--- its link, which holds the place of the next watch of the same literal; 0 is the end.
+-- stands at its reference: its size, its number, two links, and the codes of its literals. A watch stands at the place
+-- of its link, which holds the place of the next watch of the same literal; 0 is the end.
 use Rattle.std.specs.Prelude.{ℕ, ◌≡◌, ◌+◌, ◌*◌, ◌%◌, ◌<◌, ◌≤◌, List, [], ◌∷◌, ⊤, length}
 use Rattle.clause_arena.specs.Links.{word, In, Threads, places}
 

@@ -36,7 +36,11 @@ has_var-distinct [] x h = h
 has_var-distinct (l ∷ c) x h =
     cond_both (has c l) (distinct c) (l ∷ distinct c) (λ d. has_var d x ≡ true → has_var (l ∷ c) x ≡ true)
     (λ again there. or_right (eqb l.var x) (has_var c x) (has_var-distinct c x there))
-    (λ new there. elim (or_cases (eqb l.var x) (has_var (distinct c) x) there) [ inl here ↦ or_left (eqb l.var x) (has_var c x) here | inr later ↦ or_right (eqb l.var x) (has_var c x) (has_var-distinct c x later) ])
+    (λ new there. elim (or_cases (eqb l.var x) (has_var (distinct c) x) there) [
+      | inl here ↦ or_left (eqb l.var x)
+          (has_var c x) here
+      | inr later ↦ or_right (eqb l.var x) (has_var c x) (has_var-distinct c x later)
+    ])
     h
 
 all-distinct : (p : Lit → Bool) (c : List Lit) → list_all p c ≡ true → list_all p (distinct c) ≡ true
@@ -67,8 +71,16 @@ has_var-cases [] l h = absurd (false≢true h)
 has_var-cases (k ∷ c) l h = elim (or_cases _ _ h) [
   | inl here ↦
       let e = eq-eqb l.var k.var (sym (eqb-true k.var l.var here)) in
-      elim (signs l.negated k.negated) [ inl same ↦ inl (or_left _ _ (and_from _ _ e same)) | inr other ↦ inr (or_left _ _ (and_from _ _ e other)) ]
-  | inr later ↦ elim (has_var-cases c l later) [ inl same ↦ inl (or_right _ _ same) | inr other ↦ inr (or_right _ _ other) ]
+      elim (signs l.negated k.negated) [
+        | inl same ↦ inl (or_left _ _ (and_from _ _ e same))
+        | inr other ↦ inr
+            (or_left _ _ (and_from _ _ e other))
+      ]
+  | inr later ↦ elim (has_var-cases c l later) [
+    | inl same ↦ inl (or_right _ _ same)
+    | inr other ↦ inr
+        (or_right _ _ other)
+  ]
 ]
 
 fewer : (l : Lit) (c d : List Lit) → list_any (λ k. has (l ∷ c) (opposite k)) d ≡ false
@@ -84,7 +96,11 @@ once-distinct (l ∷ c) h =
     let rest : vars_differ (distinct c) ≡ true = once-distinct c (fewer l c c both.1) in
     cond_both (has c l) (distinct c) (l ∷ distinct c) (λ d. vars_differ d ≡ true)
     (λ again. rest)
-    (λ new. and_from _ _ (not_from_false _ (false_from_ne_true _ (λ there. elim (has_var-cases c l (has_var-distinct c l.var there)) [ inl same ↦ both_ways _ new same | inr other ↦ both_ways _ no_other other ]))) rest)
+    (λ new. and_from _ _ (not_from_false _
+    (false_from_ne_true _
+    (λ there. elim (has_var-cases c l
+    (has_var-distinct c l.var there)) [ inl same ↦ both_ways _ new same | inr other ↦ both_ways _ no_other other ])))
+    rest)
 
 -- ---- which variables stand in a clause, from its last literal on
 
@@ -133,7 +149,9 @@ kept-good vars c h =
     let both = and_parts _ _ h in
     cond_both (has_both_signs c) [] (record { lits = distinct c } ∷ []) (all_good vars)
     (λ clash. refl)
-    (λ plain. and_from _ _ (and_from _ _ (and_from _ _ (filled-distinct c both.0) (all-distinct (λ l. nat_lt l.var vars) c both.1)) (once-distinct c plain)) refl)
+    (λ plain. and_from _ _
+    (and_from _ _ (and_from _ _ (filled-distinct c both.0) (all-distinct (λ l. nat_lt l.var vars) c both.1))
+    (once-distinct c plain)) refl)
 
 all_kept-good : (vars : ℕ) (cs : List (List Lit)) → list_all (is_within vars) cs ≡ true → all_good vars (all_kept cs)
 all_kept-good vars [] h = refl
@@ -168,7 +186,8 @@ module _ (vars : ℕ) (test : ℕ → Bool) (var : ℕ → ℕ) (nodes : List No
   last i b o = cond b (node_clauses var i o) []
 
   below-good : (limit : ℕ)
-      → ((i : ℕ) (n : Node) → test i ≡ true → slice_get nodes i ≡ Some n → list_all (is_within vars) (gate_clauses var (var i) n) ≡ true)
+      → ((i : ℕ) (n : Node) → test i ≡ true → slice_get nodes i ≡ Some n
+      → list_all (is_within vars) (gate_clauses var (var i) n) ≡ true)
       → all_good vars (clauses_below test var nodes limit)
   below-good zero each = refl
   below-good (suc limit) each =
@@ -187,7 +206,8 @@ roots-good : (vars : ℕ) (var : ℕ → ℕ) (roots : List NodeId)
 roots-good vars var roots each =
     let lits : NodeId → List Lit = λ r. yes (var r.0) ∷ [] in
     all_kept-good vars (map lits roots)
-    (list_all-map (is_within vars) lits roots ∙ list_all-from (λ r. is_within vars (lits r)) roots (λ k r h. and_from _ _ (each k r h) refl))
+    (list_all-map (is_within vars) lits roots
+    ∙ list_all-from (λ r. is_within vars (lits r)) roots (λ k r h. and_from _ _ (each k r h) refl))
 
 clauses-good : (nodes : List Node) (vars : ℕ) (roots : List NodeId) → IsSound nodes vars → AreBelow (length nodes) roots
     → all_good (length (nodes_of nodes roots)) (clauses_of nodes roots)
@@ -219,7 +239,8 @@ proper-fit cnf all =
       filled = weaker whole (λ k. not (is_empty k.lits)) cnf.clauses (λ k h. (and_parts _ _ (and_parts _ _ h).0).0) all;
       once = weaker whole (λ k. vars_differ k.lits) cnf.clauses (λ k h. (and_parts _ _ h).1) all;
       below =
-          weaker whole (λ k. list_all (λ l. nat_lt l.var cnf.vars) k.lits) cnf.clauses (λ k h. (and_parts _ _ (and_parts _ _ h).0).1) all;
+          weaker whole (λ k. list_all (λ l. nat_lt l.var cnf.vars) k.lits) cnf.clauses
+          (λ k h. (and_parts _ _ (and_parts _ _ h).0).1) all;
     }
 
 fit_from_parts : (vars : ℕ) (cs : List Clause) → list_all (λ (k : Clause). not (is_empty k.lits)) cs ≡ true

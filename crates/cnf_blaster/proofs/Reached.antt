@@ -86,7 +86,10 @@ reached_from-operand first number vars (m ∷ ns) (suc i) j n below s h named =
     let later : ℕ → Bool = reached_from first (number + 1) ns in
     let moved : (k : ℕ) → number + suc k ≡ number + 1 + k = λ k. omega arith in
     elim (or_cases _ _ h) [
-      | inl a ↦ or_left _ _ (reached_from-operand first (number + 1) vars ns i j n (λ k o g. subst (λ l. IsBelow l vars o) (moved k) (below (suc k) o g)) s (subst (λ k. later k ≡ true) (moved i) a) named)
+      | inl a ↦ or_left _ _
+          (reached_from-operand first (number + 1) vars ns i j n
+          (λ k o g. subst (λ l. IsBelow l vars o) (moved k) (below (suc k) o g)) s
+          (subst (λ k. later k ≡ true) (moved i) a) named)
       | inr b ↦
           let here : IsBelow number vars m = subst (λ l. IsBelow l vars m) (add-zero number) (below zero m refl) in
           let itself : names (operands m) (number + suc i) ≡ true =
@@ -123,7 +126,8 @@ module _ (test : ℕ → Bool) where
       → slice_get (members test limit) (variable_of test i) ≡ Some (record { 0 = i })
   members-at zero i h t = absurd (omega arith)
   members-at (suc limit) i h t = elim (cases_lt i limit) [
-    | inl less ↦ slice_get_front (members test limit) (entry limit) (record { 0 = i }) (variable_of test i) (members-at limit i less t)
+    | inl less ↦ slice_get_front (members test limit) (entry limit) (record { 0 = i }) (variable_of test i)
+        (members-at limit i less t)
     | inr same ↦
         let e : i ≡ limit = omega arith in
         let P : ℕ → Type 0 = λ k. slice_get (members test (suc k)) (variable_of test i) ≡ Some (record { 0 = i }) in

@@ -96,13 +96,15 @@ pub clauses_below-else : (test : ℕ → Bool) (var : ℕ → ℕ) (nodes : List
     → clauses_below test var nodes (i + 1) ≡ clauses_below test var nodes i
 clauses_below-else test var nodes i t = rw (add-one i, t) (append-nil _)
 
-pub nodes-then : (test : ℕ → Bool) (var num : ℕ → ℕ) (nodes : List Node) (i : ℕ) (n : Node) (start old new : List Clause)
+pub nodes-then : (test : ℕ → Bool) (var num : ℕ → ℕ) (nodes : List Node) (i : ℕ) (n : Node)
+    (start old new : List Clause)
     → slice_get nodes i ≡ Some n → test i ≡ true → IsOver (length nodes) n →
     ((j : ℕ) → j < length nodes → num j ≡ var j)
     → old ≡ start ++ clauses_below test var nodes i → new ≡ old ++ all_kept (gate_clauses num (num i) n)
     → new ≡ start ++ clauses_below test var nodes (i + 1)
 nodes-then test var num nodes i n start old new h t over same e step =
-    let g : gate_clauses num (num i) n ≡ gate_clauses var (var i) n = ap (λ x. gate_clauses num x n) (same i (slice_get_within nodes i n h))
+    let g : gate_clauses num (num i) n
+    ≡ gate_clauses var (var i) n = ap (λ x. gate_clauses num x n) (same i (slice_get_within nodes i n h))
     ∙ gate_clauses-same num var (var i) (length nodes) n over same in
     step ∙ ap₂ (λ a b. a ++ all_kept b) e g
     ∙ append_assoc start (clauses_below test var nodes i) (all_kept (gate_clauses var (var i) n))

@@ -104,7 +104,9 @@ or-case false false true = refl
 or-case false false false = refl
 
 xor-case : (g a b : Bool)
-    → ((neg g || (a || (b || false))) && ((neg g || (neg a || (neg b || false))) && ((g || (neg a || (b || false))) && ((g || (a || (neg b || false))) && true))))
+    → ((neg g || (a || (b || false)))
+    && ((neg g || (neg a || (neg b || false)))
+    && ((g || (neg a || (b || false))) && ((g || (a || (neg b || false))) && true))))
     ≡ beq g (differ a b)
 xor-case true true true = refl
 xor-case true true false = refl
@@ -116,7 +118,9 @@ xor-case false false true = refl
 xor-case false false false = refl
 
 ite-case : (g c a b : Bool)
-    → ((neg c || (neg a || (g || false))) && ((neg c || (a || (neg g || false))) && ((c || (neg b || (g || false))) && ((c || (b || (neg g || false))) && true))))
+    → ((neg c || (neg a || (g || false)))
+    && ((neg c || (a || (neg g || false)))
+    && ((c || (neg b || (g || false))) && ((c || (b || (neg g || false))) && true))))
     ≡ beq g (cond c a b)
 ite-case true true true b = refl
 ite-case true true false b = refl
@@ -194,7 +198,8 @@ true_under v test nodes roots h =
     let var = variable_of test in
     let both =
     and_parts _ _
-    (sym (list_all-append (λ (k : Clause). clause_value v k.lits) (clauses_below test var nodes (length nodes)) (root_clauses var roots)) ∙ h) in
+    (sym (list_all-append (λ (k : Clause). clause_value v k.lits) (clauses_below test var nodes (length nodes))
+    (root_clauses var roots)) ∙ h) in
     record {
       values = λ i n t s. below-true v test var nodes (length nodes) both.0 i n (slice_get_within nodes i n s) t s;
       roots_true = sym (roots-value v var roots) ∙ both.1;

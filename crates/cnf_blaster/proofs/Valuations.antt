@@ -145,7 +145,8 @@ module _ (s : Store) (roots : List NodeId) (sound : IsSound s.nodes s.vars) (bel
   -- ---- decoding and encoding
 
   decoded-true : (v : ℕ → Bool) (valuation : List Bool) → satisfies v (clauses_of s.nodes roots) ≡ true
-      → ((i k : ℕ) → test i ≡ true → slice_get s.nodes i ≡ Some (Var k) → truth valuation k ≡ v (var i)) → roots_value s.nodes roots valuation ≡ true
+      → ((i k : ℕ) → test i ≡ true → slice_get s.nodes i ≡ Some (Var k) → truth valuation k ≡ v (var i))
+      → roots_value s.nodes roots valuation ≡ true
   decoded-true v valuation h leaf =
       let holds = true_under v test s.nodes roots h in
       let w : Reading = reading_of s.nodes valuation in
@@ -202,7 +203,8 @@ module _ (s : Store) (roots : List NodeId) (sound : IsSound s.nodes s.vars) (bel
   decodes once v h = record {
     some = (decoding v, λ x k id at e. decoding-var v once id.0 k e ∙ ap v (members-place test (size s) x id at));
     all =
-        λ valuation decoded. decoded-true v valuation h (λ i k t e. decoded (var i) k (record { 0 = i }) (node-at i (slice_get_within s.nodes i (Var k) e) t) e);
+        λ valuation decoded. decoded-true v valuation h
+        (λ i k t e. decoded (var i) k (record { 0 = i }) (node-at i (slice_get_within s.nodes i (Var k) e) t) e);
   }
 
   pub equal : StandsOnce s.nodes → IsSatisfiable (clauses_of s.nodes roots) ↔ CanBeTrue s.nodes roots

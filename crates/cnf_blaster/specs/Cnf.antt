@@ -1,5 +1,7 @@
--- The clauses of terms: which nodes have a variable, which clauses say what a node is, and which clauses make roots true.
-use Rattle.std.specs.Prelude.{ℕ, zero, suc, ◌+◌, ◌==◌, Bool, true, false, not, ◌&&◌, ◌||◌, if◌then◌else◌, List, [], ◌∷◌, ◌++◌, length, map, Option, Some, None, slice_get}
+-- The clauses of terms: which nodes have a variable, which clauses say what a node is, and which clauses make roots
+-- true.
+use Rattle.std.specs.Prelude.{ℕ, zero, suc, ◌+◌, ◌==◌, Bool, true, false, not, ◌&&◌, ◌||◌, if◌then◌else◌, List, []}
+use Rattle.std.specs.Prelude.{◌∷◌, ◌++◌, length, map, Option, Some, None, slice_get}
 use Rattle.std.specs.List.{list_any}
 use Rattle.term_store.specs.declared.NodeId.{NodeId}
 use Rattle.term_store.specs.declared.Node.{Node}
@@ -28,7 +30,8 @@ operands (Ite c a b) = c ∷ a ∷ b ∷ []
 -- first has this number. The first can be reached only through those after it, since operands are below their node.
 abbrev pub reached_from : (ℕ → Bool) → ℕ → List Node → ℕ → Bool
 reached_from first number [] i = first i
-reached_from first number (n ∷ ns) i = reached_from first (number + 1) ns i || (reached_from first (number + 1) ns number && names (operands n) i)
+reached_from first number (n ∷ ns) i = reached_from first (number + 1) ns i
+    || (reached_from first (number + 1) ns number && names (operands n) i)
 
 -- whether a root reaches the node of this number through operands
 abbrev pub reached : List Node → List NodeId → ℕ → Bool
@@ -128,7 +131,8 @@ node_clauses var i (Some n) = all_kept (gate_clauses var (var i) n)
 -- the clauses of the nodes below the limit that have a variable, in ascending order of nodes
 abbrev pub clauses_below : (ℕ → Bool) → (ℕ → ℕ) → List Node → ℕ → List Clause
 clauses_below test var nodes zero = []
-clauses_below test var nodes (suc i) = clauses_below test var nodes i ++ (if test i then node_clauses var i (slice_get nodes i) else [])
+clauses_below test var nodes (suc i) = clauses_below test var nodes i
+    ++ (if test i then node_clauses var i (slice_get nodes i) else [])
 
 -- one clause for each root
 abbrev pub root_clauses : (ℕ → ℕ) → List NodeId → List Clause
@@ -136,7 +140,8 @@ root_clauses var roots = all_kept (map (λ r. yes (var r.0) ∷ []) roots)
 
 -- the clauses of nodes and roots, where the test says which nodes have a variable
 abbrev pub clauses_by : (ℕ → Bool) → List Node → List NodeId → List Clause
-clauses_by test nodes roots = clauses_below test (variable_of test) nodes (length nodes) ++ root_clauses (variable_of test) roots
+clauses_by test nodes roots = clauses_below test (variable_of test) nodes (length nodes)
+    ++ root_clauses (variable_of test) roots
 
 -- the clauses of nodes and roots
 abbrev pub clauses_of : List Node → List NodeId → List Clause

@@ -44,6 +44,7 @@ has_value v var g (Xor a b) = beq (v g) (gate (by_variables v var) (Xor a b))
 has_value v var g (Ite c a b) = beq (v g) (gate (by_variables v var) (Ite c a b))
 
 -- each node that has a variable has the value of its kind from the variables of its operands, and each root is true
-pub record IsTrueUnder (v : ℕ → Bool) (test : ℕ → Bool) (var : ℕ → ℕ) (nodes : List Node) (roots : List NodeId) : Type 0 where
+pub record IsTrueUnder (v : ℕ → Bool) (test : ℕ → Bool) (var : ℕ → ℕ) (nodes : List Node)
+    (roots : List NodeId) : Type 0 where
   pub values : (i : ℕ) (n : Node) → test i ≡ true → slice_get nodes i ≡ Some n → has_value v var (var i) n ≡ true
   pub roots_true : list_all (λ r. v (var r.0)) roots ≡ true

@@ -17,7 +17,8 @@ roots_value nodes roots valuation = list_all (λ r. value_of nodes valuation r.0
 -- where a variable of the clauses stands for a variable of the terms, the valuation gives that one the value that the
 -- assignment gives the other
 abbrev pub IsDecoded : List Node → List NodeId → (ℕ → Bool) → List Bool → Type 0
-IsDecoded nodes node_of v valuation = (x k : ℕ) (id : NodeId) → slice_get node_of x ≡ Some id → slice_get nodes id.0 ≡ Some (Var k) → truth valuation k ≡ v x
+IsDecoded nodes node_of v valuation = (x k : ℕ) (id : NodeId) → slice_get node_of x ≡ Some id → slice_get nodes id.0
+    ≡ Some (Var k) → truth valuation k ≡ v x
 
 -- some valuation decodes the assignment, and each that does makes every root true
 pub record DecodesTrue (nodes : List Node) (roots node_of : List NodeId) (v : ℕ → Bool) : Type 0 where

@@ -75,8 +75,10 @@ router name interfaces process bgp = record {
 -- three routers with a link between each two, and a loopback 10.9.0.3 at the third
 abbrev pub triangle : List File
 triangle =
-    router (codes "K1") (interface (codes "Ethernet2") 167775233 30 ∷ interface (codes "Ethernet3") 167775489 30 ∷ []) (Some (ospf [])) None
-    ∷ router (codes "K2") (interface (codes "Ethernet1") 167775234 30 ∷ interface (codes "Ethernet3") 167778049 30 ∷ []) (Some (ospf [])) None
+    router (codes "K1") (interface (codes "Ethernet2") 167775233 30 ∷ interface (codes "Ethernet3") 167775489 30 ∷ [])
+    (Some (ospf [])) None
+    ∷ router (codes "K2") (interface (codes "Ethernet1") 167775234 30 ∷ interface (codes "Ethernet3") 167778049 30
+    ∷ []) (Some (ospf [])) None
     ∷ router (codes "K3") (interface (codes "Ethernet1") 167775490 30 ∷ interface (codes "Ethernet2") 167778050 30
     ∷ interface (codes "Loopback0") 168361987 32 ∷ []) (Some (ospf [])) None ∷ []
 
@@ -120,7 +122,8 @@ edge =
     router (codes "E1") (interface (codes "Ethernet0") 3221225985 30 ∷ interface (codes "Ethernet1") 167772161 30
     ∷ interface (codes "Loopback0") 184483841 32 ∷ []) (Some (ospf []))
     (Some (bgp 65000 (neighbour 3221225986 65001 None ∷ neighbour 184483842 65000 loopback0 ∷ [])))
-    ∷ router (codes "E2") (interface (codes "Ethernet1") 167772162 30 ∷ interface (codes "Loopback0") 184483842 32 ∷ []) (Some (ospf []))
+    ∷ router (codes "E2") (interface (codes "Ethernet1") 167772162 30 ∷ interface (codes "Loopback0") 184483842 32
+    ∷ []) (Some (ospf []))
     (Some (bgp 65000 (neighbour 184483841 65000 loopback0 ∷ []))) ∷ []
 
 -- a message without communities and clusters
@@ -256,10 +259,20 @@ abbrev pub learnt_route : BgpRec
 learnt_route = record (learnt 167772161 (65001 ∷ []) 167772161 None) { local_pref = 100; origin = Incomplete; med = 1 }
 
 abbrev pub slot_of_x : Slot
-slot_of_x = record { ospf = Some (route Ext2 1 1); bgp = Some local_route; rib = Some (record { source = source.Ospf; distance = 110 }) }
+slot_of_x = record {
+  ospf = Some (route Ext2 1 1);
+  bgp = Some local_route;
+  rib = Some
+      (record { source = source.Ospf; distance = 110 });
+}
 
 abbrev pub slot_of_y : Slot
-slot_of_y = record { ospf = Some (route Ext2 1 0); bgp = Some learnt_route; rib = Some (record { source = source.Ebgp; distance = 20 }) }
+slot_of_y = record {
+  ospf = Some (route Ext2 1 0);
+  bgp = Some learnt_route;
+  rib = Some
+      (record { source = source.Ebgp; distance = 20 });
+}
 
 abbrev pub supporting : Tables
 supporting = tables_at_24 slot_of_x slot_of_y

@@ -32,7 +32,8 @@ above_put number n e (x ∷ xs) h above = by (above_put number n e xs h above.1)
     by rest true = (h, above)
     by rest false = (above.0, rest)
 
-ascends_put : {E : Type 0} (number : E → ℕ) (e : E) (xs : List E) → Ascends number xs → Ascends number (put_by number e xs)
+ascends_put : {E : Type 0} (number : E → ℕ) (e : E) (xs : List E) → Ascends number xs
+    → Ascends number (put_by number e xs)
 ascends_put number e [] h = (tt, tt)
 ascends_put number e (x ∷ xs) h = by (ascends_put number e xs h.1) (nat_le (number e) (number x)) refl
   where
@@ -80,30 +81,36 @@ find_put number takes e (x ∷ xs) h =
 
         found : (t : Bool)
             → (if t then Some x else find takes (put_by number e xs))
-            ≡ (if takes e then Some (sooner number e (if t then Some x else find takes xs)) else (if t then Some x else find takes xs))
+            ≡ (if takes e then Some (sooner number e (if t then Some x else find takes xs)) else
+            (if t then Some x else find takes xs))
         found true = picked (takes e)
         found false = rest
 
 -- which entry is the first to take an argument, with one more entry in front
 pub find_more : {E : Type 0} (number : E → ℕ) (takes : E → Bool) (es : List E) (i : ℕ) (d : E) → 0 < i → i ≤ length es
     → find takes (in_order number (drop (i - 1) es))
-    ≡ (if takes (get_or es (i - 1) d) then Some (sooner number (get_or es (i - 1) d) (find takes (in_order number (drop i es)))) else find takes (in_order number (drop i es)))
+    ≡ (if takes (get_or es (i - 1) d) then Some
+    (sooner number (get_or es (i - 1) d) (find takes (in_order number (drop i es)))) else find takes
+    (in_order number (drop i es)))
 find_more number takes es i d above within =
     let next : i - 1 + 1 ≡ i = omega arith in
     let e = get_or es (i - 1) d in
     ap (λ l. find takes (in_order number l)) (drop_more es (i - 1) d (omega arith))
     ∙ find_put number takes e (in_order number (drop (i - 1 + 1) es)) (ascends_order number (drop (i - 1 + 1) es))
     ∙ ap
-    (λ j. if takes e then Some (sooner number e (find takes (in_order number (drop j es)))) else find takes (in_order number (drop j es)))
+    (λ j. if takes e then Some (sooner number e (find takes (in_order number (drop j es)))) else find takes
+    (in_order number (drop j es)))
     next
 
 -- the same of an entry that was read
 pub find_read : {E : Type 0} (number : E → ℕ) (takes : E → Bool) (es : List E) (i : ℕ) (e : E) → 0 < i → i ≤ length es
     → e ≡ get_or es (i - 1) e
     → find takes (in_order number (drop (i - 1) es))
-    ≡ (if takes e then Some (sooner number e (find takes (in_order number (drop i es)))) else find takes (in_order number (drop i es)))
+    ≡ (if takes e then Some (sooner number e (find takes (in_order number (drop i es)))) else find takes
+    (in_order number (drop i es)))
 find_read number takes es i e above within here =
     find_more number takes es i e above within
     ∙ ap
-    (λ x. if takes x then Some (sooner number x (find takes (in_order number (drop i es)))) else find takes (in_order number (drop i es)))
+    (λ x. if takes x then Some (sooner number x (find takes (in_order number (drop i es)))) else find takes
+    (in_order number (drop i es)))
     (sym here)

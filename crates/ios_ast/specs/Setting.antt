@@ -1,7 +1,8 @@
 -- What the set lines of a route map change.
 use Rattle.std.specs.Prelude.{ℕ, Bool, if◌then◌else◌, List, [], ◌++◌, fold}
 use Rattle.ios_ast.specs.declared.policies.SetAct.{SetAct}
-use Rattle.ios_ast.specs.declared.policies.SetAct.TheVariants.{LocalPref, Metric, Weight, NoCommunity, Community, Origin, Prepend, Type1}
+use Rattle.ios_ast.specs.declared.policies.SetAct.TheVariants.{LocalPref, Metric, Weight, NoCommunity, Community}
+use Rattle.ios_ast.specs.declared.policies.SetAct.TheVariants.{Origin, Prepend, Type1}
 use Rattle.ios_ast.specs.Communities.{with_communities}
 
 -- what route maps see of a route and may set. The origin is 0 for IGP, 1 for EGP and 2 for incomplete (RFC 4271,

@@ -62,22 +62,25 @@ first_way (x ∷ rest) from edge h open_ said at =
 -- ---- from a state that closes
 
 -- a word that takes a way
-read-step : (edges : List Edge) (from : ℕ) (said : List Said) (at : ℕ) (word : List ℕ) (rest : List (List ℕ)) (way : Way)
+read-step : (edges : List Edge) (from : ℕ) (said : List Said) (at : ℕ) (word : List ℕ) (rest : List (List ℕ))
+    (way : Way)
     → way_of from said at word edges ≡ Some way
     → read_from edges from said at (word ∷ rest) ≡ read_from edges way.to (said ++ way.said ∷ []) (at + 1) rest
 read-step edges from said at word rest way e =
     ap
-    (λ o. option_map_or (λ (w : Way). read_from edges w.to (said ++ w.said ∷ []) (at + 1) rest) o (Err (BadWord (at + 1)))) e
+    (λ o. option_map_or (λ (w : Way). read_from edges w.to (said ++ w.said ∷ []) (at + 1) rest) o
+    (Err (BadWord (at + 1)))) e
 
 -- some words make a line from there on
 pub completes : (steps : ℕ) (edges : List Edge) (from : ℕ) → closes steps edges from ≡ true
     → (said : List Said) (at : ℕ) → BeginsFrom edges from said at []
 unfolding closes
 completes zero edges from h said at = absurd (false≢true h)
-completes (suc steps) edges from h said at = elim (or_cases (may_end edges from) (option_map_or on_open (first_from from edges) false) h) [
-  | inl plain ↦ ([], said, rw plain refl)
-  | inr on ↦ by (first_from from edges) refl on (λ to c more at'. completes steps edges to c more at')
-]
+completes (suc steps) edges from h said at =
+    elim (or_cases (may_end edges from) (option_map_or on_open (first_from from edges) false) h) [
+      | inl plain ↦ ([], said, rw plain refl)
+      | inr on ↦ by (first_from from edges) refl on (λ to c more at'. completes steps edges to c more at')
+    ]
   where
     on_open : Edge → Bool
     on_open edge = opens edge.1 && closes steps edges edge.3
@@ -92,8 +95,12 @@ completes (suc steps) edges from h said at = elim (or_cases (may_end edges from)
         let open_way : OpenWay edges from edge said at = first_way edges from edge e both.0 said at in
         let rest : BeginsFrom edges open_way.0.to (said ++ open_way.0.said ∷ []) (at + 1) [] =
         later open_way.0.to (subst (λ k. closes steps edges k ≡ true) (sym open_way.2) both.1)
-        (said ++ open_way.0.said ∷ []) (at + 1) in
-        (sample edge.1 ∷ rest.0, rest.1, read-step edges from said at (sample edge.1) rest.0 open_way.0 open_way.1 ∙ rest.2)
+        (said ++ open_way.0.said ∷ []) (at + 1) in (
+          sample edge.1 ∷ rest.0,
+          rest.1,
+          read-step edges from said at (sample edge.1) rest.0 open_way.0 open_way.1
+              ∙ rest.2,
+        )
 
 -- ---- along a line
 
@@ -150,7 +157,8 @@ module _ (edges : List Edge) where
       (λ way to later. bad_from each rest way.to (said ++ way.said ∷ []) (at + 1) n to later)
     where
       by : (o : Option Way) → way_of from said at w edges ≡ o
-          → ((way : Way) → closes 24 edges way.to ≡ true → read_from edges way.to (said ++ way.said ∷ []) (at + 1) rest ≡ Err (BadWord n)
+          → ((way : Way) → closes 24 edges way.to ≡ true
+          → read_from edges way.to (said ++ way.said ∷ []) (at + 1) rest ≡ Err (BadWord n)
           → IsFirstBadFrom edges way.to (said ++ way.said ∷ []) (at + 1) rest n)
           → IsFirstBadFrom edges from said at (w ∷ rest) n
       by None e later =
@@ -174,10 +182,15 @@ module _ (edges : List Edge) where
             good = suc rec.good;
             place = omega arith;
             within = omega arith;
-            before =
-                (rec.before.0, rec.before.1, read-step edges from said at w (take rec.good rest ++ rec.before.0) way e ∙ rec.before.2);
+            before = (
+              rec.before.0,
+              rec.before.1,
+              read-step edges from said at w (take rec.good rest ++ rec.before.0) way e
+                  ∙ rec.before.2,
+            );
             none =
-                λ less b. rec.none (omega arith) (b.0, b.1, sym (read-step edges from said at w (take (suc rec.good) rest ++ b.0) way e) ∙ b.2);
+                λ less b. rec.none (omega arith)
+                (b.0, b.1, sym (read-step edges from said at w (take (suc rec.good) rest ++ b.0) way e) ∙ b.2);
           }
 
 -- where no state is a dead end

@@ -5,8 +5,10 @@ use Rattle.std.proofs.lemmas.Bool.{false≢true, le-leb, eq-eqb}
 use Rattle.ios_policy_reader.specs.declared.said.Said.{Said}
 use Rattle.ios_policy_reader.specs.declared.edges.Takes.{Takes}
 use Rattle.ios_policy_reader.specs.declared.edges.Takes.TheVariants.{End, Key, Named, Any, Range, AnyName}
-use Rattle.ios_policy_reader.specs.declared.edges.Takes.TheVariants.{ListName, RouterName, Interface, AnyAddress, ClassAddress, Mask}
-use Rattle.ios_policy_reader.specs.declared.edges.Takes.TheVariants.{MaskOver, AnyPrefix, AnyCommunity, AnyPort, AnyPattern}
+use Rattle.ios_policy_reader.specs.declared.edges.Takes.TheVariants.{ListName, RouterName, Interface, AnyAddress}
+use Rattle.ios_policy_reader.specs.declared.edges.Takes.TheVariants.{ClassAddress, Mask}
+use Rattle.ios_policy_reader.specs.declared.edges.Takes.TheVariants.{MaskOver, AnyPrefix, AnyCommunity, AnyPort}
+use Rattle.ios_policy_reader.specs.declared.edges.Takes.TheVariants.{AnyPattern}
 use Rattle.ios_policy_reader.specs.declared.edges.Takes.TheVariants.{Once, PortKey, PortFrom, LengthFrom}
 use Rattle.ios_policy_reader.specs.Masks.{length_below}
 use Rattle.ios_policy_reader.specs.Words.{port_of}

@@ -1,17 +1,21 @@
 -- The match and set lines of route maps.
-use Rattle.std.specs.Prelude.{ℕ, ◌-◌, ◌==◌, Bool, false, List, [], ◌∷◌, ◌++◌, length, slice_get, Option, Some, None, option_map, option_and_then, if◌then◌else◌}
+use Rattle.std.specs.Prelude.{ℕ, ◌-◌, ◌==◌, Bool, false, List, [], ◌∷◌, ◌++◌, length, slice_get, Option, Some, None}
+use Rattle.std.specs.Prelude.{option_map, option_and_then, if◌then◌else◌}
 use Rattle.std.specs.Option.{option_or}
 use Rattle.std.specs.List.{list_any}
 use Rattle.ios_ast.specs.declared.policies.Match.{Match}
 use Rattle.ios_ast.specs.declared.policies.Match.TheVariants.{Access, Prefixes, Communities, Paths}
 use Rattle.ios_ast.specs.declared.policies.SetAct.{SetAct}
-use Rattle.ios_ast.specs.declared.policies.SetAct.TheVariants.{LocalPref, Metric, Weight, NoCommunity, Community, Origin, Prepend, Type1}
+use Rattle.ios_ast.specs.declared.policies.SetAct.TheVariants.{LocalPref, Metric, Weight, NoCommunity, Community}
+use Rattle.ios_ast.specs.declared.policies.SetAct.TheVariants.{Origin, Prepend, Type1}
 use Rattle.ios_ast.specs.declared.policies.MapEntry.{MapEntry}
 use Rattle.ios_ast.specs.declared.policies.RouteMap.{RouteMap}
 use Rattle.ios_policy_reader.specs.declared.clauses.MapClause.{MapClause}
 use Rattle.ios_policy_reader.specs.declared.clauses.MapClause.TheVariants.{Matching, Setting}
 use Rattle.ios_policy_reader.specs.declared.heads.Row.{Row}
-use Rattle.ios_policy_reader.specs.declared.heads.Row.TheVariants.{MatchAddress, MatchPrefixList, MatchCommunity, MatchPath, SetPreference, SetMetric, SetWeight, SetCommunity, SetOrigin, SetPrepend, SetMetricType}
+use Rattle.ios_policy_reader.specs.declared.heads.Row.TheVariants.{MatchAddress, MatchPrefixList, MatchCommunity}
+use Rattle.ios_policy_reader.specs.declared.heads.Row.TheVariants.{MatchPath, SetPreference, SetMetric, SetWeight}
+use Rattle.ios_policy_reader.specs.declared.heads.Row.TheVariants.{SetCommunity, SetOrigin, SetPrepend, SetMetricType}
 use Rattle.ios_policy_reader.specs.declared.said.Tag.TheVariants.{Number, Community as CommunityTag}
 use Rattle.ios_policy_reader.specs.declared.said.Said.{Said}
 use Rattle.ios_policy_reader.specs.Said.{number_under, has_said}
@@ -85,4 +89,5 @@ open_entry at maps = option_and_then (λ map. last_of map.entries) (slice_get ma
 -- the maps with the line in that entry
 abbrev pub maps_with : MapClause → ℕ → List RouteMap → List RouteMap
 maps_with clause at maps =
-    changed_at (λ map. record map { entries = changed_at (with_clause clause) (length map.entries - 1) map.entries }) at maps
+    changed_at (λ map. record map { entries = changed_at (with_clause clause) (length map.entries - 1) map.entries })
+    at maps

@@ -1,5 +1,6 @@
 -- The grammar of a line as edges between states: what a word says at an edge, and how a line is read along them.
-use Rattle.std.specs.Prelude.{ℕ, ◌+◌, ◌==◌, ◌&&◌, Bool, true, false, not, min, List, [], ◌∷◌, ◌++◌, drop, Option, Some, None, Result, Ok, Err, option_map, option_and_then, if◌then◌else◌}
+use Rattle.std.specs.Prelude.{ℕ, ◌+◌, ◌==◌, ◌&&◌, Bool, true, false, not, min, List, [], ◌∷◌, ◌++◌, drop, Option, Some}
+use Rattle.std.specs.Prelude.{None, Result, Ok, Err, option_map, option_and_then, if◌then◌else◌}
 use Rattle.std.specs.Option.{option_map_or, option_or}
 use Rattle.std.specs.List.{list_any}
 use Rattle.mw_text.specs.declared.address.Addr.{Addr}
@@ -8,10 +9,14 @@ use Rattle.mw_text.specs.Digits.{addr_of, prefix_of_text}
 use Rattle.ios_policy_reader.specs.declared.cause.Cause.{Cause}
 use Rattle.ios_policy_reader.specs.declared.cause.Cause.TheVariants.{BadWord}
 use Rattle.ios_policy_reader.specs.declared.said.Value.{Value}
-use Rattle.ios_policy_reader.specs.declared.said.Value.TheVariants.{Nothing, Number, Address, Length, Prefix, Pattern, Word}
+use Rattle.ios_policy_reader.specs.declared.said.Value.TheVariants.{Nothing, Number, Address, Length, Prefix, Pattern}
+use Rattle.ios_policy_reader.specs.declared.said.Value.TheVariants.{Word}
 use Rattle.ios_policy_reader.specs.declared.said.Said.{Said}
 use Rattle.ios_policy_reader.specs.declared.edges.Takes.{Takes}
-use Rattle.ios_policy_reader.specs.declared.edges.Takes.TheVariants.{End, Key, Named, Any, Range, AnyName, ListName, RouterName, Interface, AnyAddress, ClassAddress, Mask, MaskOver, AnyPrefix, AnyCommunity, AnyPort, AnyPattern, Once, PortKey, PortFrom, LengthFrom}
+use Rattle.ios_policy_reader.specs.declared.edges.Takes.TheVariants.{End, Key, Named, Any, Range, AnyName, ListName}
+use Rattle.ios_policy_reader.specs.declared.edges.Takes.TheVariants.{RouterName, Interface, AnyAddress, ClassAddress}
+use Rattle.ios_policy_reader.specs.declared.edges.Takes.TheVariants.{Mask, MaskOver, AnyPrefix, AnyCommunity, AnyPort}
+use Rattle.ios_policy_reader.specs.declared.edges.Takes.TheVariants.{AnyPattern, Once, PortKey, PortFrom, LengthFrom}
 use Rattle.ios_policy_reader.specs.declared.edges.Edge.{Edge}
 use Rattle.ios_policy_reader.specs.declared.edges.Way.{Way}
 use Rattle.ios_policy_reader.specs.Masks.{mask_from, prefix_under}

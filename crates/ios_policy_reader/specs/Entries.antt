@@ -9,7 +9,10 @@ use Rattle.ios_ast.specs.declared.policies.Wild.{Wild}
 use Rattle.ios_ast.specs.declared.policies.Ports.{Ports}
 use Rattle.ios_ast.specs.declared.policies.Ports.TheVariants.{Any, Range, Not, Empty}
 use Rattle.ios_policy_reader.specs.declared.said.Tag.{Tag}
-use Rattle.ios_policy_reader.specs.declared.said.Tag.TheVariants.{Action, Sequence, Community, Low, High, Protocol, Source, SourceWild, SourceTest, SourcePort, SourceTop, Target, TargetWild, TargetTest, TargetPort, TargetTop}
+use Rattle.ios_policy_reader.specs.declared.said.Tag.TheVariants.{Action, Sequence, Community, Low, High, Protocol}
+use Rattle.ios_policy_reader.specs.declared.said.Tag.TheVariants.{Source, SourceWild, SourceTest, SourcePort}
+use Rattle.ios_policy_reader.specs.declared.said.Tag.TheVariants.{SourceTop, Target, TargetWild, TargetTest}
+use Rattle.ios_policy_reader.specs.declared.said.Tag.TheVariants.{TargetPort, TargetTop}
 use Rattle.ios_policy_reader.specs.declared.said.Said.{Said}
 use Rattle.ios_policy_reader.specs.Values.{numbers_under}
 use Rattle.ios_policy_reader.specs.Said.{number_under, has_said, address_under, prefix_said, pattern_said}
@@ -58,7 +61,8 @@ ports_by test port top =
 abbrev pub ports_under : Tag → Tag → Tag → List Said → Ports
 ports_under test port top said =
     if has_said test said
-    then ports_by (number_under test said 0) (min (number_under port said 0) 65535) (min (number_under top said 0) 65535)
+    then ports_by (number_under test said 0) (min (number_under port said 0) 65535)
+    (min (number_under top said 0) 65535)
     else Any
 
 -- an entry of a community list

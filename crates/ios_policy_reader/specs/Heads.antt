@@ -1,5 +1,6 @@
 -- Which row a line is of, and the table of each row.
-use Rattle.std.specs.Prelude.{ℕ, ◌+◌, ◌==◌, Bool, true, List, [], ◌∷◌, length, drop, fold, slice_get, nat_lt, Option, Some, None, is_some, Result, Ok, Err, option_map, option_and_then, if◌then◌else◌}
+use Rattle.std.specs.Prelude.{ℕ, ◌+◌, ◌==◌, Bool, true, List, [], ◌∷◌, length, drop, fold, slice_get, nat_lt, Option}
+use Rattle.std.specs.Prelude.{Some, None, is_some, Result, Ok, Err, option_map, option_and_then, if◌then◌else◌}
 use Rattle.std.specs.Option.{option_map_or}
 use Rattle.std.specs.List.{list_any}
 use Rattle.ios_policy_reader.specs.declared.cause.Cause.{Cause}
@@ -7,14 +8,37 @@ use Rattle.ios_policy_reader.specs.declared.cause.Cause.TheVariants.{OutOfPlace,
 use Rattle.ios_policy_reader.specs.declared.edges.Edge.{Edge}
 use Rattle.ios_policy_reader.specs.declared.said.Said.{Said}
 use Rattle.ios_policy_reader.specs.declared.heads.Context.{Context}
-use Rattle.ios_policy_reader.specs.declared.heads.Context.TheVariants.{Top, InInterface, InOspf, InBgp, InMap, InStandard, InExtended}
+use Rattle.ios_policy_reader.specs.declared.heads.Context.TheVariants.{Top, InInterface, InOspf, InBgp, InMap}
+use Rattle.ios_policy_reader.specs.declared.heads.Context.TheVariants.{InStandard, InExtended}
 use Rattle.ios_policy_reader.specs.declared.heads.Row.{Row}
-use Rattle.ios_policy_reader.specs.declared.heads.Row.TheVariants.{Hostname, InterfaceBlock, StaticRoute, OspfBlock, BgpBlock, AccessList, StandardBlock, ExtendedBlock, PrefixList, CommunityList, PathList, MapBlock, Banner, IgnoredBlock, Ignored, Address, NoAddress, Shutdown, NoShutdown, Bandwidth, OspfCost, AccessGroup, RouterId, OspfNetwork, Passive, NoPassive, ReferenceBandwidth, OspfRedistribute, Originate, AlwaysCompareMed, CompareRouterId, DeterministicMed, BgpNetwork, BgpRedistribute, Neighbor, MatchAddress, MatchPrefixList, MatchCommunity, MatchPath, SetPreference, SetMetric, SetWeight, SetCommunity, SetOrigin, SetPrepend, SetMetricType, StandardEntry, ExtendedEntry}
+use Rattle.ios_policy_reader.specs.declared.heads.Row.TheVariants.{Hostname, InterfaceBlock, StaticRoute, OspfBlock}
+use Rattle.ios_policy_reader.specs.declared.heads.Row.TheVariants.{BgpBlock, AccessList, StandardBlock, ExtendedBlock}
+use Rattle.ios_policy_reader.specs.declared.heads.Row.TheVariants.{PrefixList, CommunityList, PathList, MapBlock}
+use Rattle.ios_policy_reader.specs.declared.heads.Row.TheVariants.{Banner, IgnoredBlock, Ignored, Address, NoAddress}
+use Rattle.ios_policy_reader.specs.declared.heads.Row.TheVariants.{Shutdown, NoShutdown, Bandwidth, OspfCost}
+use Rattle.ios_policy_reader.specs.declared.heads.Row.TheVariants.{AccessGroup, RouterId, OspfNetwork, Passive}
+use Rattle.ios_policy_reader.specs.declared.heads.Row.TheVariants.{NoPassive, ReferenceBandwidth, OspfRedistribute}
+use Rattle.ios_policy_reader.specs.declared.heads.Row.TheVariants.{Originate, AlwaysCompareMed, CompareRouterId}
+use Rattle.ios_policy_reader.specs.declared.heads.Row.TheVariants.{DeterministicMed, BgpNetwork, BgpRedistribute}
+use Rattle.ios_policy_reader.specs.declared.heads.Row.TheVariants.{Neighbor, MatchAddress, MatchPrefixList}
+use Rattle.ios_policy_reader.specs.declared.heads.Row.TheVariants.{MatchCommunity, MatchPath, SetPreference, SetMetric}
+use Rattle.ios_policy_reader.specs.declared.heads.Row.TheVariants.{SetWeight, SetCommunity, SetOrigin, SetPrepend}
+use Rattle.ios_policy_reader.specs.declared.heads.Row.TheVariants.{SetMetricType, StandardEntry, ExtendedEntry}
 use Rattle.ios_policy_reader.specs.declared.heads.Head.{Head}
 use Rattle.ios_policy_reader.specs.declared.heads.Found.{Found}
 use Rattle.ios_policy_reader.specs.declared.head_table.TheConstants.{HEADS}
-use Rattle.ios_policy_reader.specs.declared.router_tables.TheConstants.{ACCESS_GROUP, ANYTHING, AS_NUMBER, BANDWIDTH, BANNER, BGP_NETWORK, BGP_REDISTRIBUTE, DEFAULT_ORIGINATE, EXTENDED_LIST, HOSTNAME, INTERFACE, INTERFACE_ADDRESS, NEIGHBOR, NOTHING, OSPF_NETWORK, OSPF_REDISTRIBUTE, PASSIVE, REFERENCE_BANDWIDTH, ROUTE, ROUTER_ID, SMALL_NUMBER, STANDARD_LIST}
-use Rattle.ios_policy_reader.specs.declared.tables.TheConstants.{ACCESS_LIST, AS_PATH_LIST, COMMUNITY_LIST, MATCH_AS_PATH, MATCH_NAMES, PREFIX_LIST, ROUTE_MAP, SET_COMMUNITY, SET_METRIC_TYPE, SET_NUMBER, SET_ORIGIN, SET_PREPEND, SET_WEIGHT, IN_EXTENDED, IN_STANDARD}
+use Rattle.ios_policy_reader.specs.declared.router_tables.TheConstants.{ACCESS_GROUP, ANYTHING, AS_NUMBER, BANDWIDTH}
+use Rattle.ios_policy_reader.specs.declared.router_tables.TheConstants.{BANNER, BGP_NETWORK, BGP_REDISTRIBUTE}
+use Rattle.ios_policy_reader.specs.declared.router_tables.TheConstants.{DEFAULT_ORIGINATE, EXTENDED_LIST, HOSTNAME}
+use Rattle.ios_policy_reader.specs.declared.router_tables.TheConstants.{INTERFACE, INTERFACE_ADDRESS, NEIGHBOR}
+use Rattle.ios_policy_reader.specs.declared.router_tables.TheConstants.{NOTHING, OSPF_NETWORK, OSPF_REDISTRIBUTE}
+use Rattle.ios_policy_reader.specs.declared.router_tables.TheConstants.{PASSIVE, REFERENCE_BANDWIDTH, ROUTE, ROUTER_ID}
+use Rattle.ios_policy_reader.specs.declared.router_tables.TheConstants.{SMALL_NUMBER, STANDARD_LIST}
+use Rattle.ios_policy_reader.specs.declared.tables.TheConstants.{ACCESS_LIST, AS_PATH_LIST, COMMUNITY_LIST}
+use Rattle.ios_policy_reader.specs.declared.tables.TheConstants.{MATCH_AS_PATH, MATCH_NAMES, PREFIX_LIST, ROUTE_MAP}
+use Rattle.ios_policy_reader.specs.declared.tables.TheConstants.{SET_COMMUNITY, SET_METRIC_TYPE, SET_NUMBER}
+use Rattle.ios_policy_reader.specs.declared.tables.TheConstants.{SET_ORIGIN, SET_PREPEND, SET_WEIGHT, IN_EXTENDED}
+use Rattle.ios_policy_reader.specs.declared.tables.TheConstants.{IN_STANDARD}
 use Rattle.ios_policy_reader.specs.Words.{is_key, keyword_of, number_from}
 use Rattle.ios_policy_reader.specs.Edges.{read_from}
 
@@ -65,7 +89,8 @@ entry_in _ = None
 
 abbrev pub numbered_entry : Context → List (List ℕ) → Option Found
 numbered_entry context words =
-    option_and_then (λ word. option_and_then (λ n. entry_in context) (number_from 0 4294967295 word)) (slice_get words 0)
+    option_and_then (λ word. option_and_then (λ n. entry_in context) (number_from 0 4294967295 word))
+    (slice_get words 0)
 
 -- the row with the longest of these heads that fits in the context
 abbrev pub row_among : List Head → Context → List (List ℕ) → Option Found
@@ -152,4 +177,5 @@ tail_of found = words_before found.row found.head
 
 -- what the words of a line of the row say, or which word is bad
 abbrev pub said_in : Found → List (List ℕ) → Result (List Said) Cause
-said_in found words = read_from (edges_of found.row) (state_of found.row) [] (tail_of found) (drop (tail_of found) words)
+said_in found words =
+    read_from (edges_of found.row) (state_of found.row) [] (tail_of found) (drop (tail_of found) words)

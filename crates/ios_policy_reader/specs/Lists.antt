@@ -1,5 +1,6 @@
 -- What the lines of lists and route maps put into the policies of a file.
-use Rattle.std.specs.Prelude.{ℕ, ◌+◌, ◌==◌, ◌&&◌, Bool, true, false, max, min, List, [], ◌∷◌, ◌++◌, length, fold, position, unwrap_or, slice_get, slice_set, slice_index_or, nat_lt}
+use Rattle.std.specs.Prelude.{ℕ, ◌+◌, ◌==◌, ◌&&◌, Bool, true, false, max, min, List, [], ◌∷◌, ◌++◌, length, fold}
+use Rattle.std.specs.Prelude.{position, unwrap_or, slice_get, slice_set, slice_index_or, nat_lt}
 use Rattle.std.specs.Option.{option_map_or}
 use Rattle.std.specs.List.{list_any, find, sum_by}
 use Rattle.mw_text.specs.Text.{same_text}

@@ -1,5 +1,6 @@
 -- AS-path patterns as words: six regular expressions (Cisco IOS command references).
-use Rattle.std.specs.Prelude.{ℕ, ◌-◌, ◌==◌, ◌&&◌, Bool, List, length, take, drop, slice_index, codes, nat_le, Option, Some, None, option_map, if◌then◌else◌}
+use Rattle.std.specs.Prelude.{ℕ, ◌-◌, ◌==◌, ◌&&◌, Bool, List, length, take, drop, slice_index, codes, nat_le, Option}
+use Rattle.std.specs.Prelude.{Some, None, option_map, if◌then◌else◌}
 use Rattle.mw_text.specs.Text.{same_text}
 use Rattle.ios_ast.specs.declared.policies.Pattern.{Pattern}
 use Rattle.ios_ast.specs.declared.policies.Pattern.TheVariants.{Empty, Any, Only, First, Last, Has}

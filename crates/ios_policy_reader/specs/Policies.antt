@@ -1,5 +1,6 @@
 -- How a line reads into the lists and route maps of a file.
-use Rattle.std.specs.Prelude.{ℕ, ◌&&◌, ◌||◌, Bool, true, false, List, slice_get, nat_lt, nat_le, Option, None, Result, Ok, Err, option_map, if◌then◌else◌}
+use Rattle.std.specs.Prelude.{ℕ, ◌&&◌, ◌||◌, Bool, true, false, List, slice_get, nat_lt, nat_le, Option, None, Result}
+use Rattle.std.specs.Prelude.{Ok, Err, option_map, if◌then◌else◌}
 use Rattle.std.specs.Option.{option_map_or}
 use Rattle.mw_text.specs.Text.{same_text}
 use Rattle.mw_text.specs.declared.words.Line.{Line}
@@ -12,7 +13,8 @@ use Rattle.ios_policy_reader.specs.declared.said.Tag.TheVariants.{Action, Number
 use Rattle.ios_policy_reader.specs.declared.heads.Context.{Context}
 use Rattle.ios_policy_reader.specs.declared.heads.Context.TheVariants.{Top, InMap, InStandard, InExtended}
 use Rattle.ios_policy_reader.specs.declared.heads.Row.{Row}
-use Rattle.ios_policy_reader.specs.declared.heads.Row.TheVariants.{AccessList, StandardBlock, ExtendedBlock, PrefixList, CommunityList, PathList, MapBlock}
+use Rattle.ios_policy_reader.specs.declared.heads.Row.TheVariants.{AccessList, StandardBlock, ExtendedBlock}
+use Rattle.ios_policy_reader.specs.declared.heads.Row.TheVariants.{PrefixList, CommunityList, PathList, MapBlock}
 use Rattle.ios_policy_reader.specs.declared.heads.Found.{Found}
 use Rattle.ios_policy_reader.specs.declared.policies.PolicyBlock.{PolicyBlock}
 use Rattle.ios_policy_reader.specs.declared.policies.PolicyBlock.TheVariants.{Outside, Access, Map}
@@ -20,7 +22,9 @@ use Rattle.ios_policy_reader.specs.Heads.{row_of, said_in}
 use Rattle.ios_policy_reader.specs.Said.{number_under, has_said}
 use Rattle.ios_policy_reader.specs.Values.{name_of}
 use Rattle.ios_policy_reader.specs.Entries.{prefix_entry, path_entry, community_entry, map_entry, access_entry}
-use Rattle.ios_policy_reader.specs.Lists.{place_of, has_room, with_prefix_entry, with_community_entry, with_path_entry, with_access_entry, with_map_entry, is_opened, with_opened, with_entry_at, prefix_entries_of, next_number, has_number, map_entries_of, has_map_number}
+use Rattle.ios_policy_reader.specs.Lists.{place_of, has_room, with_prefix_entry, with_community_entry, with_path_entry}
+use Rattle.ios_policy_reader.specs.Lists.{with_access_entry, with_map_entry, is_opened, with_opened, with_entry_at}
+use Rattle.ios_policy_reader.specs.Lists.{prefix_entries_of, next_number, has_number, map_entries_of, has_map_number}
 use Rattle.ios_policy_reader.specs.Clauses.{clause_of, repeats, open_entry, maps_with}
 
 -- ---- what the lines of each row put into the policies
@@ -48,7 +52,8 @@ access_line line said name policies =
 unfoldable pub entry_line : Line → List Said → ℕ → Policies → Result Policies Cause
 entry_line line said at policies =
     if has_said Action said
-    then within_limit policies (record policies { access = with_entry_at at (access_entry line.number said) policies.access })
+    then within_limit policies
+    (record policies { access = with_entry_at at (access_entry line.number said) policies.access })
     else Ok policies
 
 -- `ip access-list`, which opens a list once
@@ -60,7 +65,8 @@ open_line extended name policies =
 -- the number of a prefix-list entry
 abbrev pub sequence_of : List ℕ → List Said → Policies → ℕ
 sequence_of name said policies =
-    if has_said Sequence said then number_under Sequence said 0 else next_number (prefix_entries_of name policies.prefix_lists)
+    if has_said Sequence said then number_under Sequence said 0 else next_number
+    (prefix_entries_of name policies.prefix_lists)
 
 -- an entry of that number in the prefix list of that name
 unfoldable pub numbered_line : Line → List Said → List ℕ → ℕ → Policies → Result Policies Cause
@@ -94,7 +100,8 @@ path_line line said name policies =
 unfoldable pub map_line : Line → List Said → List ℕ → Policies → Result Policies Cause
 map_line line said name policies =
     if has_map_number (number_under Sequence said 0) (map_entries_of name policies.maps) then Err Repeated
-    else within_limit policies (record policies { maps = with_map_entry name (map_entry line.number said) policies.maps })
+    else within_limit policies
+    (record policies { maps = with_map_entry name (map_entry line.number said) policies.maps })
 
 -- a match or set line in the open entry of a map
 unfoldable pub clause_line : MapClause → ℕ → Policies → Result Policies Cause
@@ -150,7 +157,8 @@ top_line StandardBlock line said policies =
 top_line ExtendedBlock line said policies =
     taken_in (access_block (name_of line.words said) policies) (open_line true (name_of line.words said) policies)
 top_line PrefixList line said policies = taken_in Outside (prefix_line line said (name_of line.words said) policies)
-top_line CommunityList line said policies = taken_in Outside (community_line line said (name_of line.words said) policies)
+top_line CommunityList line said policies =
+    taken_in Outside (community_line line said (name_of line.words said) policies)
 top_line PathList line said policies = taken_in Outside (path_line line said (name_of line.words said) policies)
 top_line MapBlock line said policies =
     taken_in (map_block (name_of line.words said) policies) (map_line line said (name_of line.words said) policies)
@@ -196,5 +204,6 @@ context_reading context block line policies = row_reading context block line pol
 unfoldable pub policy_reading : Line → PolicyBlock → Policies → Result Taken Cause
 policy_reading line block policies =
     if line.indented
-    then option_map_or (λ context. context_reading context block line policies) (context_of block policies) (passed block policies)
+    then option_map_or (λ context. context_reading context block line policies) (context_of block policies)
+    (passed block policies)
     else context_reading Top Outside line policies

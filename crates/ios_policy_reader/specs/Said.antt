@@ -6,9 +6,20 @@ use Rattle.mw_text.specs.declared.address.Prefix.{Prefix as WrittenPrefix}
 use Rattle.ios_ast.specs.declared.policies.Pattern.{Pattern as PathPattern}
 use Rattle.ios_ast.specs.declared.policies.Pattern.TheVariants.{Any}
 use Rattle.ios_policy_reader.specs.declared.said.Tag.{Tag}
-use Rattle.ios_policy_reader.specs.declared.said.Tag.TheVariants.{Plain, Action, Name, Number as NumberTag, Sequence, Prefix as PrefixTag, Low, High, Protocol, Source, SourceWild, SourceTest, SourcePort, SourceTop, Target, TargetWild, TargetTest, TargetPort, TargetTop, Community, Address as AddressTag, Length as LengthTag, Wildcard, NextHop, Discard, Leaving, Distance, Direction, Area, Every, Origin, Metric, MetricType, Subnets, Map, Always, Match, Remote, UpdateSource, NextHopSelf, Client, SendCommunity, Weight, Shutdown, PrefixList, FilterList}
+use Rattle.ios_policy_reader.specs.declared.said.Tag.TheVariants.{Plain, Action, Name, Number as NumberTag, Sequence}
+use Rattle.ios_policy_reader.specs.declared.said.Tag.TheVariants.{Prefix as PrefixTag, Low, High, Protocol, Source}
+use Rattle.ios_policy_reader.specs.declared.said.Tag.TheVariants.{SourceWild, SourceTest, SourcePort, SourceTop}
+use Rattle.ios_policy_reader.specs.declared.said.Tag.TheVariants.{Target, TargetWild, TargetTest, TargetPort}
+use Rattle.ios_policy_reader.specs.declared.said.Tag.TheVariants.{TargetTop, Community, Address as AddressTag}
+use Rattle.ios_policy_reader.specs.declared.said.Tag.TheVariants.{Length as LengthTag, Wildcard, NextHop, Discard}
+use Rattle.ios_policy_reader.specs.declared.said.Tag.TheVariants.{Leaving, Distance, Direction, Area, Every, Origin}
+use Rattle.ios_policy_reader.specs.declared.said.Tag.TheVariants.{Metric, MetricType, Subnets, Map, Always, Match}
+use Rattle.ios_policy_reader.specs.declared.said.Tag.TheVariants.{Remote, UpdateSource, NextHopSelf, Client}
+use Rattle.ios_policy_reader.specs.declared.said.Tag.TheVariants.{SendCommunity, Weight, Shutdown, PrefixList}
+use Rattle.ios_policy_reader.specs.declared.said.Tag.TheVariants.{FilterList}
 use Rattle.ios_policy_reader.specs.declared.said.Value.{Value}
-use Rattle.ios_policy_reader.specs.declared.said.Value.TheVariants.{Nothing, Number, Address, Length, Prefix, Pattern, Word}
+use Rattle.ios_policy_reader.specs.declared.said.Value.TheVariants.{Nothing, Number, Address, Length, Prefix, Pattern}
+use Rattle.ios_policy_reader.specs.declared.said.Value.TheVariants.{Word}
 use Rattle.ios_policy_reader.specs.declared.said.Said.{Said}
 
 -- the place of a tag among the tags

@@ -1,5 +1,6 @@
 -- Banners: a text between two delimiters (Cisco IOS command references).
-use Rattle.std.specs.Prelude.{ℕ, ◌==◌, ◌&&◌, ◌||◌, Bool, false, not, List, [], ◌∷◌, length, drop, position, slice_get, slice_index, unwrap_or, if◌then◌else◌}
+use Rattle.std.specs.Prelude.{ℕ, ◌==◌, ◌&&◌, ◌||◌, Bool, false, not, List, [], ◌∷◌, length, drop, position, slice_get}
+use Rattle.std.specs.Prelude.{slice_index, unwrap_or, if◌then◌else◌}
 use Rattle.std.specs.List.{list_any}
 use Rattle.mw_text.specs.declared.words.Line.{Line}
 use Rattle.mw_text.specs.Words.{is_blank}

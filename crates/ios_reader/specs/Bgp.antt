@@ -1,5 +1,6 @@
 -- What lines say of a BGP process (RFC 4271; Cisco IOS command references).
-use Rattle.std.specs.Prelude.{ℕ, ◌+◌, ◌==◌, ◌&&◌, ◌||◌, Bool, false, not, List, [], count_by, nat_lt, None, if◌then◌else◌}
+use Rattle.std.specs.Prelude.{ℕ, ◌+◌, ◌==◌, ◌&&◌, ◌||◌, Bool, false, not, List, [], count_by, nat_lt, None}
+use Rattle.std.specs.Prelude.{if◌then◌else◌}
 use Rattle.std.specs.List.{list_any}
 use Rattle.mw_text.specs.declared.address.Addr.{Addr}
 use Rattle.mw_text.specs.declared.address.Prefix.{Prefix}
@@ -47,7 +48,8 @@ abbrev pub network_of : Line → List Said → BgpNet
 network_of line said =
     record { line = line.number; prefix = network_prefix said; map = map_under said line }
 
--- a word after `match`, by the number of its kind in the tables: 0 internal, 1 and 2 external of that type, 3 `external`
+-- a word after `match`, by the number of its kind in the tables: 0 internal, 1 and 2 external of that type, 3
+-- `external`
 abbrev pub is_match : ℕ → Said → Bool
 is_match kind s = (tag_number s.tag == tag_number Match) && (number_in 4 s.value == kind)
 

@@ -1,5 +1,6 @@
 -- What a line of a BGP block does to the process (Cisco IOS command references).
-use Rattle.std.specs.Prelude.{ℕ, ◌&&◌, Bool, true, false, not, List, [], ◌∷◌, ◌++◌, slice_get, codes, is_some, Some, Result, Ok, Err, if◌then◌else◌}
+use Rattle.std.specs.Prelude.{ℕ, ◌&&◌, Bool, true, false, not, List, [], ◌∷◌, ◌++◌, slice_get, codes, is_some, Some}
+use Rattle.std.specs.Prelude.{Result, Ok, Err, if◌then◌else◌}
 use Rattle.std.specs.Option.{option_map_or}
 use Rattle.mw_text.specs.declared.words.Line.{Line}
 use Rattle.mw_text.specs.Digits.{addr_of}
@@ -8,7 +9,8 @@ use Rattle.ios_ast.specs.declared.bgp.Neighbour.{Neighbour}
 use Rattle.ios_policy_reader.specs.declared.cause.Cause.{Cause}
 use Rattle.ios_policy_reader.specs.declared.cause.Cause.TheVariants.{Repeated}
 use Rattle.ios_policy_reader.specs.declared.heads.Row.{Row}
-use Rattle.ios_policy_reader.specs.declared.heads.Row.TheVariants.{RouterId, AlwaysCompareMed, CompareRouterId, BgpNetwork, BgpRedistribute, Neighbor}
+use Rattle.ios_policy_reader.specs.declared.heads.Row.TheVariants.{RouterId, AlwaysCompareMed, CompareRouterId}
+use Rattle.ios_policy_reader.specs.declared.heads.Row.TheVariants.{BgpNetwork, BgpRedistribute, Neighbor}
 use Rattle.ios_policy_reader.specs.declared.said.Tag.TheVariants.{Address}
 use Rattle.ios_policy_reader.specs.declared.said.Said.{Said}
 use Rattle.ios_policy_reader.specs.Said.{address_under}
@@ -26,7 +28,8 @@ names_remote words = option_map_or (λ word. is_keyword (codes "remote-as") word
 abbrev pub is_unnamed : List (List ℕ) → List Neighbour → Bool
 is_unnamed words neighbours =
     option_map_or
-    (λ word. option_map_or (λ a. not (is_some (place_of a neighbours)) && not (names_remote words)) (addr_of word) false)
+    (λ word. option_map_or (λ a. not (is_some (place_of a neighbours)) && not (names_remote words))
+    (addr_of word) false)
     (slice_get words 1) false
 
 -- a router id is written once

@@ -1,12 +1,14 @@
 -- What a line of an interface block does to the interface (Cisco IOS command references).
-use Rattle.std.specs.Prelude.{ℕ, ◌==◌, Bool, true, false, List, is_some, Option, Some, None, Result, Ok, Err, if◌then◌else◌}
+use Rattle.std.specs.Prelude.{ℕ, ◌==◌, Bool, true, false, List, is_some, Option, Some, None, Result, Ok, Err}
+use Rattle.std.specs.Prelude.{if◌then◌else◌}
 use Rattle.mw_text.specs.declared.words.Line.{Line}
 use Rattle.ios_ast.specs.declared.file.Iface.{Iface}
 use Rattle.ios_ast.specs.declared.file.Use.{Use}
 use Rattle.ios_policy_reader.specs.declared.cause.Cause.{Cause}
 use Rattle.ios_policy_reader.specs.declared.cause.Cause.TheVariants.{Repeated}
 use Rattle.ios_policy_reader.specs.declared.heads.Row.{Row}
-use Rattle.ios_policy_reader.specs.declared.heads.Row.TheVariants.{Address, NoAddress, Shutdown, NoShutdown, Bandwidth, OspfCost, AccessGroup}
+use Rattle.ios_policy_reader.specs.declared.heads.Row.TheVariants.{Address, NoAddress, Shutdown, NoShutdown, Bandwidth}
+use Rattle.ios_policy_reader.specs.declared.heads.Row.TheVariants.{OspfCost, AccessGroup}
 use Rattle.ios_policy_reader.specs.declared.said.Tag.TheVariants.{Number, Name, Direction}
 use Rattle.ios_policy_reader.specs.declared.said.Said.{Said}
 use Rattle.ios_policy_reader.specs.Said.{number_under}

@@ -5,7 +5,8 @@ use Rattle.ios_ast.specs.declared.file.Use.{Use}
 use Rattle.ios_policy_reader.specs.declared.said.Tag.{Tag}
 use Rattle.ios_policy_reader.specs.declared.said.Tag.TheVariants.{Map}
 use Rattle.ios_policy_reader.specs.declared.said.Value.{Value}
-use Rattle.ios_policy_reader.specs.declared.said.Value.TheVariants.{Nothing, Number, Address, Length, Prefix, Pattern, Word}
+use Rattle.ios_policy_reader.specs.declared.said.Value.TheVariants.{Nothing, Number, Address, Length, Prefix, Pattern}
+use Rattle.ios_policy_reader.specs.declared.said.Value.TheVariants.{Word}
 use Rattle.ios_policy_reader.specs.declared.said.Said.{Said}
 use Rattle.ios_policy_reader.specs.Said.{tag_number, has_said}
 

@@ -1,5 +1,6 @@
 -- What a line on a neighbour does to a BGP process (Cisco IOS command references).
-use Rattle.std.specs.Prelude.{ℕ, ◌==◌, true, List, [], ◌∷◌, ◌++◌, length, position, slice_get, slice_set, nat_le, is_some, Option, Some, Result, Ok, Err, if◌then◌else◌}
+use Rattle.std.specs.Prelude.{ℕ, ◌==◌, true, List, [], ◌∷◌, ◌++◌, length, position, slice_get, slice_set, nat_le}
+use Rattle.std.specs.Prelude.{is_some, Option, Some, Result, Ok, Err, if◌then◌else◌}
 use Rattle.std.specs.Option.{option_map_or}
 use Rattle.mw_text.specs.declared.address.Addr.{Addr}
 use Rattle.mw_text.specs.declared.words.Line.{Line}
@@ -8,7 +9,9 @@ use Rattle.ios_ast.specs.declared.file.Use.{Use}
 use Rattle.ios_ast.specs.declared.bgp.Neighbour.{Neighbour}
 use Rattle.ios_policy_reader.specs.declared.cause.Cause.{Cause}
 use Rattle.ios_policy_reader.specs.declared.cause.Cause.TheVariants.{OutOfPlace, Repeated, Limit}
-use Rattle.ios_policy_reader.specs.declared.said.Tag.TheVariants.{Number, Address, Remote, UpdateSource, NextHopSelf, Client, SendCommunity, Weight, Shutdown, PrefixList, Map, FilterList}
+use Rattle.ios_policy_reader.specs.declared.said.Tag.TheVariants.{Number, Address, Remote, UpdateSource, NextHopSelf}
+use Rattle.ios_policy_reader.specs.declared.said.Tag.TheVariants.{Client, SendCommunity, Weight, Shutdown, PrefixList}
+use Rattle.ios_policy_reader.specs.declared.said.Tag.TheVariants.{Map, FilterList}
 use Rattle.ios_policy_reader.specs.declared.said.Said.{Said}
 use Rattle.ios_policy_reader.specs.Said.{number_under, address_under, has_said}
 use Rattle.ios_policy_reader.specs.Values.{name_of}
@@ -40,7 +43,8 @@ with_flag said neighbour =
 -- a use of a prefix list, a route map or a filter list replaces the one of its direction
 abbrev pub with_prefix_list : List Said → Use → Neighbour → Neighbour
 with_prefix_list said used neighbour =
-    if is_inward said then (record neighbour { prefix_in = Some used }) else (record neighbour { prefix_out = Some used })
+    if is_inward said then (record neighbour { prefix_in = Some used }) else
+    (record neighbour { prefix_out = Some used })
 
 abbrev pub with_map : List Said → Use → Neighbour → Neighbour
 with_map said used neighbour =
@@ -48,7 +52,8 @@ with_map said used neighbour =
 
 abbrev pub with_filter : List Said → Use → Neighbour → Neighbour
 with_filter said used neighbour =
-    if is_inward said then (record neighbour { filter_in = Some used }) else (record neighbour { filter_out = Some used })
+    if is_inward said then (record neighbour { filter_in = Some used }) else
+    (record neighbour { filter_out = Some used })
 
 -- a neighbour with what a line says that names a list, a map or an interface
 abbrev pub used_by : List Said → Use → Neighbour → Neighbour
@@ -72,7 +77,8 @@ abbrev pub with_changed : Line → List Said → List Neighbour → Result (List
 with_changed line said neighbours =
     option_map_or
     (λ at. option_map_or
-    (λ neighbour. Ok (slice_set neighbours at (changed_by line said neighbour))) (slice_get neighbours at) (Err OutOfPlace))
+    (λ neighbour. Ok (slice_set neighbours at (changed_by line said neighbour))) (slice_get neighbours at)
+    (Err OutOfPlace))
     (place_of (address_under Address said no_address) neighbours) (Err OutOfPlace)
 
 -- a line on a neighbour

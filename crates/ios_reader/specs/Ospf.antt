@@ -7,7 +7,8 @@ use Rattle.ios_ast.specs.declared.ospf.Redist.{Redist}
 use Rattle.ios_ast.specs.declared.ospf.DefaultOrigin.{DefaultOrigin}
 use Rattle.ios_ast.specs.declared.ospf.Source.{Source}
 use Rattle.ios_ast.specs.declared.ospf.Source.TheVariants.{Connected, Static, Bgp, Ospf as OspfSource}
-use Rattle.ios_policy_reader.specs.declared.said.Tag.TheVariants.{Address, Wildcard, Area, Origin, Number, Metric, MetricType, Subnets, Always}
+use Rattle.ios_policy_reader.specs.declared.said.Tag.TheVariants.{Address, Wildcard, Area, Origin, Number, Metric}
+use Rattle.ios_policy_reader.specs.declared.said.Tag.TheVariants.{MetricType, Subnets, Always}
 use Rattle.ios_policy_reader.specs.declared.said.Said.{Said}
 use Rattle.ios_policy_reader.specs.Said.{number_under, address_under, has_said}
 use Rattle.ios_reader.specs.declared.ospf.TheConstants.{REFERENCE_BANDWIDTH}

@@ -5,7 +5,8 @@ use Rattle.ios_ast.specs.declared.ospf.Ospf.{Ospf}
 use Rattle.ios_policy_reader.specs.declared.cause.Cause.{Cause}
 use Rattle.ios_policy_reader.specs.declared.cause.Cause.TheVariants.{Repeated}
 use Rattle.ios_policy_reader.specs.declared.heads.Row.{Row}
-use Rattle.ios_policy_reader.specs.declared.heads.Row.TheVariants.{RouterId, OspfNetwork, Passive, NoPassive, ReferenceBandwidth, OspfRedistribute, Originate}
+use Rattle.ios_policy_reader.specs.declared.heads.Row.TheVariants.{RouterId, OspfNetwork, Passive, NoPassive}
+use Rattle.ios_policy_reader.specs.declared.heads.Row.TheVariants.{ReferenceBandwidth, OspfRedistribute, Originate}
 use Rattle.ios_policy_reader.specs.declared.said.Tag.TheVariants.{Name, Number, Every}
 use Rattle.ios_policy_reader.specs.declared.said.Said.{Said}
 use Rattle.ios_policy_reader.specs.Said.{number_under, has_said}

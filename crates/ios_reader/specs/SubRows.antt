@@ -10,7 +10,8 @@ use Rattle.ios_ast.specs.declared.file.Iface.{Iface}
 use Rattle.ios_ast.specs.declared.ospf.Ospf.{Ospf}
 use Rattle.ios_ast.specs.declared.bgp.Bgp.{Bgp}
 use Rattle.ios_reader.specs.declared.draft.Block.{Block}
-use Rattle.ios_reader.specs.declared.draft.Block.TheVariants.{Closed, Interface, Ospf as OspfBlock, Bgp as BgpBlock, Ignored}
+use Rattle.ios_reader.specs.declared.draft.Block.TheVariants.{Closed, Interface, Ospf as OspfBlock, Bgp as BgpBlock}
+use Rattle.ios_reader.specs.declared.draft.Block.TheVariants.{Ignored}
 use Rattle.ios_reader.specs.declared.draft.Seen.{Seen}
 use Rattle.ios_reader.specs.declared.draft.Draft.{Draft}
 use Rattle.mw_text.specs.Reading.{following}

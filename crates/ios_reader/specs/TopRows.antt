@@ -1,5 +1,6 @@
 -- What a top line of a router does to the draft (Cisco IOS command references).
-use Rattle.std.specs.Prelude.{ℕ, ◌==◌, false, List, [], ◌∷◌, ◌++◌, length, nat_le, is_some, Some, Result, Ok, Err, if◌then◌else◌}
+use Rattle.std.specs.Prelude.{ℕ, ◌==◌, false, List, [], ◌∷◌, ◌++◌, length, nat_le, is_some, Some, Result, Ok, Err}
+use Rattle.std.specs.Prelude.{if◌then◌else◌}
 use Rattle.std.specs.List.{list_any}
 use Rattle.mw_text.specs.declared.words.Line.{Line}
 use Rattle.mw_text.specs.Text.{same_text}
@@ -8,7 +9,8 @@ use Rattle.ios_ast.specs.declared.file.Iface.{Iface}
 use Rattle.ios_policy_reader.specs.declared.cause.Cause.{Cause}
 use Rattle.ios_policy_reader.specs.declared.cause.Cause.TheVariants.{BadWord, Repeated, Limit}
 use Rattle.ios_policy_reader.specs.declared.heads.Row.{Row}
-use Rattle.ios_policy_reader.specs.declared.heads.Row.TheVariants.{Hostname, InterfaceBlock, StaticRoute, OspfBlock, BgpBlock, Banner, IgnoredBlock}
+use Rattle.ios_policy_reader.specs.declared.heads.Row.TheVariants.{Hostname, InterfaceBlock, StaticRoute, OspfBlock}
+use Rattle.ios_policy_reader.specs.declared.heads.Row.TheVariants.{BgpBlock, Banner, IgnoredBlock}
 use Rattle.ios_policy_reader.specs.declared.said.Tag.TheVariants.{Name, Number}
 use Rattle.ios_policy_reader.specs.declared.said.Said.{Said}
 use Rattle.ios_policy_reader.specs.Said.{number_under}
@@ -40,7 +42,8 @@ in_new_interface iface draft = record draft {
 -- each interface has another name, and there are not too many
 abbrev pub with_interface : Line → List Said → Draft → Result Draft Cause
 with_interface line said draft =
-    if list_any (λ iface. same_text iface.name (name_under Name said line.words)) draft.file.interfaces then Err Repeated
+    if list_any (λ iface. same_text iface.name (name_under Name said line.words)) draft.file.interfaces then Err
+    Repeated
     else if nat_le MOST_INTERFACES (length draft.file.interfaces) then Err Limit
     else Ok (in_new_interface (new_interface line.number (name_under Name said line.words)) draft)
 
@@ -66,7 +69,8 @@ with_bgp line said draft =
       block = Bgp;
     })
 
--- A banner ends on its line, or stays open to the next line with its delimiter. Its third word is bad where it never ends.
+-- A banner ends on its line, or stays open to the next line with its delimiter. Its third word is bad where it never
+-- ends.
 abbrev pub with_banner : Line → List Line → Draft → Result Draft Cause
 with_banner line rest draft =
     if ends_on_line line.raw then Ok draft

@@ -1,5 +1,6 @@
 -- From what a writer of std holds to what a sink has taken.
-use Rattle.std.proofs.Common.{◌≡◌, ℕ, ◌+◌, List, [], length, take, drop, Option, Some, None, sym, ap, ◌∙◌, append-nil, slice_range, arith}
+use Rattle.std.proofs.Common.{◌≡◌, ℕ, ◌+◌, List, [], length, take, drop, Option, Some, None, sym, ap, ◌∙◌, append-nil}
+use Rattle.std.proofs.Common.{slice_range, arith}
 use Rattle.std.proofs.lemmas.Grind.{common_steps}
 use Rattle.std.proofs.Math.Seq.{take-add}
 use Rattle.std.specs.Io.KnownBytes.{Keeps, Appends}
@@ -22,6 +23,7 @@ pub takes_next : (before middle now : Option (List ℕ)) (bytes : List ℕ) (n m
     → Takes middle now (take m (slice_range bytes n (length bytes))) → Takes before now (take (n + m) bytes)
 takes_next before middle now bytes n m first second =
     let rest : slice_range bytes n (length bytes) ≡ drop n bytes = grind (arith, common_steps) in
-    rw (take-add n m bytes) (takes_more before middle now (take n bytes) (take m (drop n bytes)) first (rw rest at second))
+    rw (take-add n m bytes)
+    (takes_more before middle now (take n bytes) (take m (drop n bytes)) first (rw rest at second))
 
 pub ruleset writing = (takes_appended, takes_kept, takes_next, part_by_count, part_of_none)

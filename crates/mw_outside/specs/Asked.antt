@@ -19,7 +19,8 @@ asks_once (Some far) now end most within asks =
     subst P (sym asks) (omega arith)
 
 -- One read after another asks for no more than that.
-pub asks_again : (before middle now : Option ℕ) (most : ℕ) → AsksWithin before middle most → AsksWithin middle now most → AsksWithin before now most
+pub asks_again : (before middle now : Option ℕ) (most : ℕ) → AsksWithin before middle most
+    → AsksWithin middle now most → AsksWithin before now most
 asks_again None middle now most first second = tt
 asks_again (Some far) None now most first second = absurd first
 asks_again (Some far) (Some reach) None most first second = absurd second

@@ -1,5 +1,6 @@
 -- What files hold: a finite map from names to bytes, where it is told.
-use Rattle.std.specs.Prelude.{ℕ, ◌≡◌, List, [], ◌∷◌, length, take, nat_eq, if◌then◌else◌, Option, Some, None, IfSome, IsSomeAnd, map, Contains}
+use Rattle.std.specs.Prelude.{ℕ, ◌≡◌, List, [], ◌∷◌, length, take, nat_eq, if◌then◌else◌, Option, Some, None, IfSome}
+use Rattle.std.specs.Prelude.{IsSomeAnd, map, Contains}
 use Rattle.std.specs.Cmp.Lexicographic.{pointwise}
 
 -- Files as pairs of a name and its bytes. The first pair of a name counts.
@@ -21,7 +22,8 @@ HasAll contents names all = IfSome contents (λ files. map Some all ≡ map (get
 
 -- Where contents are told and the file is there, its bytes begin with these.
 abbrev pub IsFront : Option Contents → List ℕ → List ℕ → Type 0
-IsFront contents name bytes = IfSome contents (λ files. IfSome (get files name) (λ file. take (length bytes) file ≡ bytes))
+IsFront contents name bytes =
+    IfSome contents (λ files. IfSome (get files name) (λ file. take (length bytes) file ≡ bytes))
 
 -- The last failed name is this one, where it is told.
 abbrev pub TellsOnly : List ℕ → Option (List ℕ) → Type 0

@@ -25,4 +25,5 @@ write_faults sink = sink.faults.value
 
 -- a write of so many bytes fails: its number is listed, or there is no room
 abbrev pub Refuses : TestSink → ℕ → Type 0
-Refuses sink count = Contains (failing_writes sink) (next_call (writes_of sink)) ⊎ room_of sink < length (bytes_in sink) + count
+Refuses sink count = Contains (failing_writes sink) (next_call (writes_of sink))
+    ⊎ room_of sink < length (bytes_in sink) + count

@@ -1,5 +1,6 @@
 -- Reading items one after another.
-use Rattle.std.proofs.Common.{◌≡◌, ℕ, ◌+◌, ◌<◌, ◌≤◌, List, [], ◌∷◌, ◌++◌, length, take, drop, take-append-drop, get_or, Result, Ok, Err, refl, ap, sym, ◌∙◌}
+use Rattle.std.proofs.Common.{◌≡◌, ℕ, ◌+◌, ◌<◌, ◌≤◌, List, [], ◌∷◌, ◌++◌, length, take, drop, take-append-drop, get_or}
+use Rattle.std.proofs.Common.{Result, Ok, Err, refl, ap, sym, ◌∙◌}
 use Rattle.std.proofs.lemmas.List.{take_all, take_more}
 use Rattle.mw_text.proofs.Lists.{drop-read}
 use Rattle.mw_text.specs.Reading.{following, in_turn, with_value}
@@ -43,7 +44,8 @@ pub take-read : {A : Type 0} (items : List A) (i : ℕ) (x : A) → i < length i
 take-read items i x within is = take_more items i x within ∙ ap (λ y. take i items ++ y ∷ []) (sym is)
 
 -- one item more is taken
-pub read-one : {S A E : Type 0} (step : S → A → Result S E) (start : S) (items : List A) (i : ℕ) (x : A) (state next : S) →
+pub read-one : {S A E : Type 0} (step : S → A → Result S E) (start : S) (items : List A) (i : ℕ) (x : A)
+    (state next : S) →
     ReadTo step start items i state → i < length items → x ≡ get_or items i x → step state x ≡ Ok next →
     ReadTo step start items (i + 1) next
 read-one step start items i x state next before within is taken =
@@ -55,7 +57,8 @@ read-one step start items i x state next before within is taken =
     ∙ read-none step next
 
 -- one item is refused
-pub read-refused : {S A E : Type 0} (step : S → A → Result S E) (start : S) (items : List A) (i : ℕ) (x : A) (state : S) (why : E) →
+pub read-refused : {S A E : Type 0} (step : S → A → Result S E) (start : S) (items : List A) (i : ℕ) (x : A)
+    (state : S) (why : E) →
     ReadTo step start items i state → i < length items → x ≡ get_or items i x → step state x ≡ Err why →
     in_turn step start items ≡ Err why
 read-refused step start items i x state why before within is refused =
@@ -83,7 +86,8 @@ each-one become items i x values y before within is has =
     (ap (following (λ z. Ok (values ++ z ∷ []))) has)
 
 -- one item has none
-pub each-refused : {A B E : Type 0} (become : A → Result B E) (items : List A) (i : ℕ) (x : A) (values : List B) (why : E) →
+pub each-refused : {A B E : Type 0} (become : A → Result B E) (items : List A) (i : ℕ) (x : A) (values : List B)
+    (why : E) →
     EachTo become items i values → i < length items → x ≡ get_or items i x → become x ≡ Err why →
     in_turn (with_value become) [] items ≡ Err why
 each-refused become items i x values why before within is refused =

@@ -1,5 +1,6 @@
 -- How many words the lines of a text have.
-use Rattle.std.proofs.Common.{◌≡◌, ℕ, zero, suc, ◌+◌, ◌<◌, ◌≤◌, ◌^◌, nat_lt, Bool, true, false, cond, List, [], ◌∷◌, length, take, drop, filter, map, refl, ap, ◌-◌, arith, length-drop}
+use Rattle.std.proofs.Common.{◌≡◌, ℕ, zero, suc, ◌+◌, ◌<◌, ◌≤◌, ◌^◌, nat_lt, Bool, true, false, cond, List, [], ◌∷◌}
+use Rattle.std.proofs.Common.{length, take, drop, filter, map, refl, ap, ◌-◌, arith, length-drop}
 use Rattle.std.proofs.lemmas.Bool.{lt-ltb}
 use Rattle.std.proofs.lemmas.List.{length-take}
 use Rattle.std.proofs.lemmas.List.Elements.{All-cons}
@@ -62,7 +63,12 @@ parts_few p (b ∷ raw) = at_byte (p b) (length raw) b (slice_split p raw) (part
 
 words_few : (raw : List ℕ) → length (words_in raw) + length (words_in raw) ≤ length raw + 1
 words_few raw =
-    omega (arith, full-filter (slice_split is_blank raw), parts_few is_blank raw, open_part-small (slice_split is_blank raw))
+    omega (
+      arith,
+      full-filter (slice_split is_blank raw),
+      parts_few is_blank raw,
+      open_part-small (slice_split is_blank raw),
+    )
 
 take_short : (n most : ℕ) (bs : List ℕ) → length bs ≤ most → length (take n bs) ≤ most
 take_short n most bs h = omega (arith, length-take n bs)
@@ -100,6 +106,11 @@ numbered-few number most (l ∷ lines) h =
     (numbered-few (number + 1) most lines (λ k d within. h (suc k) d (omega (arith, within))))
 
 -- a line of a text of fewer than 2 ^ 32 bytes has fewer words than that, with room for one more
-pub lines_few : (bytes : List ℕ) → length bytes < 2 ^ 32 → All (λ line. length line.words < 2 ^ 32 - 1) (text_lines bytes)
+pub lines_few : (bytes : List ℕ) → length bytes < 2 ^ 32
+    → All (λ line. length line.words < 2 ^ 32 - 1) (text_lines bytes)
 lines_few bytes h = λ k d within.
-    omega (arith, numbered-few 1 (length bytes) (lines_of bytes) (lines_from-short (length bytes) (length bytes) bytes (omega arith)) k d within)
+    omega (
+      arith,
+      numbered-few 1 (length bytes) (lines_of bytes)
+          (lines_from-short (length bytes) (length bytes) bytes (omega arith)) k d within,
+    )

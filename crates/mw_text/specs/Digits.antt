@@ -1,5 +1,7 @@
 -- Numbers, addresses and prefixes as decimal text (the dotted decimal of RFC 1123, section 2.1).
-use Rattle.std.specs.Prelude.{ℕ, ◌+◌, ◌-◌, ◌*◌, ◌==◌, ◌&&◌, ◌||◌, Bool, not, List, length, Option, Some, None, nat_le, nat_lt, take, drop, position, fold, slice_index, option_map, option_and_then, if◌then◌else◌}
+use Rattle.std.specs.Prelude.{ℕ, ◌+◌, ◌-◌, ◌*◌, ◌==◌, ◌&&◌, ◌||◌, Bool, not, List, length, Option, Some, None, nat_le}
+use Rattle.std.specs.Prelude.{nat_lt, take, drop, position, fold, slice_index, option_map, option_and_then}
+use Rattle.std.specs.Prelude.{if◌then◌else◌}
 use Rattle.std.specs.List.{list_all}
 use Rattle.mw_text.specs.Address.{prefix_at}
 use Rattle.mw_text.specs.declared.address.Addr.{Addr}

@@ -1,5 +1,6 @@
 -- One packet from a router to a router, where no link fails: the one stable routing decides.
-use Rattle.std.proofs.Common.{◌≡◌, ℕ, zero, suc, ◌+◌, ◌<◌, ◌≤◌, Bool, true, false, not, cond, inl, inr, ◌&&◌, List, [], ◌∷◌, length, Option, Some, None, refl, ap, sym, subst, arith, ◌∙◌, eqb}
+use Rattle.std.proofs.Common.{◌≡◌, ℕ, zero, suc, ◌+◌, ◌<◌, ◌≤◌, Bool, true, false, not, cond, inl, inr, ◌&&◌, List, []}
+use Rattle.std.proofs.Common.{◌∷◌, length, Option, Some, None, refl, ap, sym, subst, arith, ◌∙◌, eqb}
 use Rattle.std.proofs.lemmas.Bool.{lt-ltb}
 use Rattle.std.proofs.lemmas.Grind.{common_steps}
 use Rattle.mw_text.specs.declared.address.Addr.{Addr}
@@ -35,7 +36,8 @@ second_of true false c h = cc
 second_of false b c h = cc
 
 -- a question that can be answered has one packet, and no link fails in it
-pub answerable_parts : (question : Question) → is_answerable question ≡ true → (question.failures ≡ 0) × (is_single question.packets ≡ true)
+pub answerable_parts : (question : Question) → is_answerable question ≡ true → (question.failures ≡ 0)
+    × (is_single question.packets ≡ true)
 answerable_parts question h =
     let both = second_of (is_reach question.kind) (eqb question.failures 0) (is_single question.packets) h in
     (let e = both.0 in grind (arith, common_steps), both.1)
@@ -44,7 +46,8 @@ past_end : (k n : ℕ) → nat_lt (1 + k) (suc n) ≡ false → nat_lt k n ≡ f
 past_end k n h = grind (arith, nat_tests, common_steps)
 
 -- where all items at the front pass, all pass
-all-front : {A : Type 0} (p : A → Bool) (xs : List A) → nat_lt (prefix_len (λ q. not (not (p q))) xs) (length xs) ≡ false →
+all-front : {A : Type 0} (p : A → Bool) (xs : List A) → nat_lt (prefix_len (λ q. not (not (p q))) xs) (length xs)
+    ≡ false →
     list_all p xs ≡ true
 all-front p [] h = refl
 all-front p (x ∷ xs) h = elim (cases_Bool (p x)) [
@@ -68,46 +71,59 @@ pub all_answerable : (questions : List Question) → position (λ q. not (is_ans
 all_answerable questions none = all_pass is_answerable questions none
 
 -- where no router is found that runs a routing protocol, none does
-pub all_plain : (files : List File) → position (λ file. not (is_plain file)) files ≡ None → runs_no_protocol files ≡ true
+pub all_plain : (files : List File) → position (λ file. not (is_plain file)) files ≡ None → runs_no_protocol files
+    ≡ true
 all_plain files none = all_pass is_plain files none
 
 empty_list : {A : Type 0} (xs : List A) → length xs ≤ 0 → xs ≡ []
 empty_list [] few = refl
 empty_list (x ∷ xs) few = absurd (omega arith)
 
-none_failed : (files : List File) (k : ℕ) (failures : Failures) → k ≡ 0 → IsFailureSet files k failures → failures ≡ no_failures
+none_failed : (files : List File) (k : ℕ) (failures : Failures) → k ≡ 0 → IsFailureSet files k failures → failures
+    ≡ no_failures
 none_failed files k failures zero_links is_set =
     let none : failures.links ≡ [] = empty_list failures.links (omega (arith, is_set.at_most, zero_links)) in
     let with_links : List ℕ → Failures = λ links. record { links = links } in ap with_links none
 
 -- nothing breaks the one stable routing of the one packet, so the question holds
-pub holds_from : (files : List File) (question : Question) (packet : Packet) (tables : Tables) (kind : Kind) (failures : Failures) →
+pub holds_from : (files : List File) (question : Question) (packet : Packet) (tables : Tables) (kind : Kind)
+    (failures : Failures) →
     question.kind ≡ kind → question.failures ≡ 0 → failures ≡ no_failures →
     ((p : Packet) → IsInSet question.packets p → p ≡ packet) →
-    ((environment : Environment) (other : Tables) → Stable files packet.dst no_failures environment other → other ≡ tables) →
-    ((walk : Option Walk) → Breaks files (record { failures = failures; packet = packet; tables = tables }) kind walk → ⊥) →
+    ((environment : Environment) (other : Tables) → Stable files packet.dst no_failures environment other → other
+    ≡ tables) →
+    ((walk : Option Walk) → Breaks files (record { failures = failures; packet = packet; tables = tables }) kind walk
+    → ⊥) →
     IsUnbroken files question
-holds_from files question packet tables kind failures is_kind no_links unfailed one only none world environment walk breaking =
-    let none_down : world.failures ≡ no_failures = none_failed files question.failures world.failures no_links breaking.failures in
+holds_from files question packet tables kind failures is_kind no_links unfailed one only none world environment walk
+    breaking =
+    let none_down : world.failures
+    ≡ no_failures = none_failed files question.failures world.failures no_links breaking.failures in
     let same_packet : world.packet ≡ packet = one world.packet breaking.packet in
     let S : Failures → Type 0 = λ f. Stable files world.packet.dst f environment world.tables in
     let S' = λ (p : Packet). Stable files p.dst no_failures environment world.tables in
-    let same_tables : world.tables ≡ tables = only environment world.tables (subst S' same_packet (subst S none_down breaking.stable)) in
-    let by_failures = λ (f : Failures). let w : World = record { failures = f; packet = world.packet; tables = world.tables } in w in
-    let by_packet = λ (p : Packet). let w : World = record { failures = failures; packet = p; tables = world.tables } in w in
+    let same_tables : world.tables
+    ≡ tables = only environment world.tables (subst S' same_packet (subst S none_down breaking.stable)) in
+    let by_failures = λ (f : Failures). let w : World =
+    record { failures = f; packet = world.packet; tables = world.tables } in w in
+    let by_packet = λ (p : Packet). let w : World =
+    record { failures = failures; packet = p; tables = world.tables } in w in
     let by_tables = λ (t : Tables). let w : World = record { failures = failures; packet = packet; tables = t } in w in
     let same : world ≡ record { failures = failures; packet = packet; tables = tables } =
     ap by_failures (none_down ∙ sym unfailed) ∙ ap by_packet same_packet ∙ ap by_tables same_tables in
     let B : World → Type 0 = λ w. Breaks files w question.kind walk in
-    let K : Kind → Type 0 = λ k. Breaks files (record { failures = failures; packet = packet; tables = tables }) k walk in
+    let K : Kind → Type 0 =
+    λ k. Breaks files (record { failures = failures; packet = packet; tables = tables }) k walk in
     none walk (subst K is_kind (subst B same breaking.breaks))
 
 -- a network has no external peers, so nothing is announced
-nothing_announced : (files : List File) → runs_no_protocol files ≡ true → (environment : Environment) → environment.ids ≡ [] →
+nothing_announced : (files : List File) → runs_no_protocol files ≡ true → (environment : Environment)
+    → environment.ids ≡ [] →
     environment.announced ≡ [] → IsEnvironment files environment
 nothing_announced files network environment ids announced =
     let none : Environment = record { ids = []; announced = [] } in
-    let by_ids = λ (all : List Addr). let e : Environment = record { ids = all; announced = environment.announced } in e in
+    let by_ids = λ (all : List Addr). let e : Environment = record { ids = all; announced = environment.announced } in
+    e in
     let by_announced = λ (all : List Announcement). let e : Environment = record { ids = []; announced = all } in e in
     let same : environment ≡ none = ap by_ids ids ∙ ap by_announced announced in
     let fits : IsEnvironment files none = record {
@@ -119,22 +135,35 @@ nothing_announced files network environment ids announced =
     subst (IsEnvironment files) (sym same) fits
 
 -- what breaks the one stable routing is a true counterexample
-pub true_from : (files : List File) (number : ℕ) (question : Question) (packet : Packet) (tables : Tables) (walk : Walk) (kind : Kind)
+pub true_from : (files : List File) (number : ℕ) (question : Question) (packet : Packet) (tables : Tables)
+    (walk : Walk) (kind : Kind)
     (failures : Failures) (environment : Environment) → runs_no_protocol files ≡ true →
-    question.kind ≡ kind → IsInSet question.packets packet → failures ≡ no_failures → environment.ids ≡ [] → environment.announced ≡ [] →
+    question.kind ≡ kind → IsInSet question.packets packet → failures ≡ no_failures → environment.ids ≡ []
+    → environment.announced ≡ [] →
     ((e : Environment) → Stable files packet.dst no_failures e tables) →
     Breaks files (record { failures = failures; packet = packet; tables = tables }) kind (Some walk) →
     IsTrueCounterexample files number question
-    (record { question = number; packet = packet; failures = failures; env = environment; tables = tables; walk = Some walk })
-true_from files number question packet tables walk kind failures environment network is_kind inside unfailed ids announced stable breaks =
+    (record {
+      question = number;
+      packet = packet;
+      failures = failures;
+      env = environment;
+      tables = tables;
+      walk = Some
+          walk;
+    })
+true_from files number question packet tables walk kind failures environment network is_kind inside unfailed ids
+    announced stable breaks =
     let F : Failures → Type 0 = λ f. IsFailureSet files question.failures f in
     let S : Failures → Type 0 = λ f. Stable files packet.dst f environment tables in
-    let B : Kind → Type 0 = λ k. Breaks files (record { failures = failures; packet = packet; tables = tables }) k (Some walk) in (
+    let B : Kind → Type 0 =
+    λ k. Breaks files (record { failures = failures; packet = packet; tables = tables }) k (Some walk) in (
       refl,
       record {
         packet = inside;
         environment_fits = nothing_announced files network environment ids announced;
-        failures = subst F (sym unfailed) (record { ascending = refl; of_links = λ k d within. absurd (omega arith); at_most = omega arith });
+        failures = subst F (sym unfailed)
+            (record { ascending = refl; of_links = λ k d within. absurd (omega arith); at_most = omega arith });
         stable = subst S (sym unfailed) (stable environment);
         breaks = subst B (sym is_kind) breaks;
       },

@@ -1,5 +1,7 @@
 -- Reading and parsing one after another.
-use Rattle.std.proofs.Common.{◌≡◌, ℕ, zero, suc, ◌+◌, ◌<◌, ◌≤◌, true, false, List, [], ◌∷◌, ◌++◌, length, take, drop, take-append-drop, get_or, Option, Some, None, Result, Ok, Err, refl, ap, sym, arith, ◌∙◌, cond, append_assoc, nat_le, map, subst}
+use Rattle.std.proofs.Common.{◌≡◌, ℕ, zero, suc, ◌+◌, ◌<◌, ◌≤◌, true, false, List, [], ◌∷◌, ◌++◌, length, take, drop}
+use Rattle.std.proofs.Common.{take-append-drop, get_or, Option, Some, None, Result, Ok, Err, refl, ap, sym, arith, ◌∙◌}
+use Rattle.std.proofs.Common.{cond, append_assoc, nat_le, map, subst}
 use Rattle.std.specs.Prelude.{IfSome, IsSomeAnd}
 use Rattle.std.specs.Option.{option_map_or}
 use Rattle.mw_outside.specs.Contents.{Contents, get, Has, TellsOnly}
@@ -23,59 +25,70 @@ le_false a b h = grind arith
 -- the text of what is there
 abbrev text_there : List ℕ → Option (List ℕ) → Result Text Outcome
 text_there name there =
-    option_map_or (λ bytes. cond (nat_le (length bytes) MOST_BYTES) (Ok (record { name = name; bytes = bytes })) (Err (refused (too_long name))))
+    option_map_or (λ bytes. cond (nat_le (length bytes) MOST_BYTES) (Ok (record { name = name; bytes = bytes }))
+    (Err (refused (too_long name))))
     there (Err unread)
 
-there_whole : (name bytes : List ℕ) (there : Option (List ℕ)) → IsSomeAnd there (λ file. file ≡ bytes) → length bytes ≤ MOST_BYTES →
+there_whole : (name bytes : List ℕ) (there : Option (List ℕ)) → IsSomeAnd there (λ file. file ≡ bytes)
+    → length bytes ≤ MOST_BYTES →
     text_there name there ≡ Ok (record { name = name; bytes = bytes })
 there_whole name bytes None whole small = absurd whole
 there_whole name bytes (Some file) whole small =
     ap (λ f. text_there name (Some f)) whole
-    ∙ ap (λ b. cond b (Ok (record { name = name; bytes = bytes })) (Err (refused (too_long name)))) (le_true (length bytes) MOST_BYTES small)
+    ∙ ap (λ b. cond b (Ok (record { name = name; bytes = bytes })) (Err (refused (too_long name))))
+    (le_true (length bytes) MOST_BYTES small)
 
 there_too_long : (name : List ℕ) (there : Option (List ℕ)) → IsSomeAnd there (λ file. MOST_BYTES < length file) →
     text_there name there ≡ Err (refused (too_long name))
 there_too_long name None long = absurd long
 there_too_long name (Some file) long =
-    ap (λ b. cond b (Ok (record { name = name; bytes = file })) (Err (refused (too_long name)))) (le_false (length file) MOST_BYTES long)
+    ap (λ b. cond b (Ok (record { name = name; bytes = file })) (Err (refused (too_long name))))
+    (le_false (length file) MOST_BYTES long)
 
 -- a file that was read whole, where contents are told
-pub text_whole : (told : Option Contents) (name bytes : List ℕ) (text : Text) → Has told name (λ file. file ≡ bytes) → length bytes ≤ MOST_BYTES →
+pub text_whole : (told : Option Contents) (name bytes : List ℕ) (text : Text) → Has told name (λ file. file ≡ bytes)
+    → length bytes ≤ MOST_BYTES →
     text ≡ record { name = name; bytes = bytes } → IfSome told (λ contents. text_of contents name ≡ Ok text)
 text_whole None name bytes text whole small is = tt
 text_whole (Some contents) name bytes text whole small is =
     there_whole name bytes (get contents name) whole small ∙ ap Ok (sym is)
 
 -- a file that was too long
-pub text_too_long : (told : Option Contents) (name line : List ℕ) → Has told name (λ file. MOST_BYTES < length file) → line ≡ too_long name →
+pub text_too_long : (told : Option Contents) (name line : List ℕ) → Has told name (λ file. MOST_BYTES < length file)
+    → line ≡ too_long name →
     IfSome told (λ contents. text_of contents name ≡ Err (refused line))
 text_too_long None name line long is = tt
 text_too_long (Some contents) name line long is =
     there_too_long name (get contents name) long ∙ ap (λ l. Err (refused l)) (sym is)
 
 -- what is said of a stop
-pub on_stop-map : (stop : Stop) (P P' : List ℕ → Type 0) (Q Q' : Type 0) → OnStop stop P Q → ((line : List ℕ) → P line → P' line) → (Q → Q') → OnStop stop P' Q'
+pub on_stop-map : (stop : Stop) (P P' : List ℕ → Type 0) (Q Q' : Type 0) → OnStop stop P Q
+    → ((line : List ℕ) → P line → P' line) → (Q → Q') → OnStop stop P' Q'
 on_stop-map (Refused line) P P' Q Q' said lines faults = lines line said
 on_stop-map ReadFault P P' Q Q' said lines faults = faults said
 on_stop-map Memory P P' Q Q' said lines faults = tt
 
 -- two facts of what is told
-pub if_told : {A : Type 0} (told : Option A) (P Q R : A → Type 0) → IfSome told P → IfSome told Q → ((x : A) → P x → Q x → R x) → IfSome told R
+pub if_told : {A : Type 0} (told : Option A) (P Q R : A → Type 0) → IfSome told P → IfSome told Q
+    → ((x : A) → P x → Q x → R x) → IfSome told R
 if_told None P Q R p q both = tt
 if_told (Some x) P Q R p q both = both x p q
 
-pub if_told_one : {A : Type 0} (told : Option A) (P R : A → Type 0) → IfSome told P → ((x : A) → P x → R x) → IfSome told R
+pub if_told_one : {A : Type 0} (told : Option A) (P R : A → Type 0) → IfSome told P → ((x : A) → P x → R x)
+    → IfSome told R
 if_told_one None P R p one = tt
 if_told_one (Some x) P R p one = one x p
 
 -- an item of a list of images
-pub read-map : {A B : Type 0} (f : A → B) (xs : List A) (i : ℕ) (x : A) → i < length xs → x ≡ get_or xs i x → f x ≡ get_or (map f xs) i (f x)
+pub read-map : {A B : Type 0} (f : A → B) (xs : List A) (i : ℕ) (x : A) → i < length xs → x ≡ get_or xs i x → f x
+    ≡ get_or (map f xs) i (f x)
 read-map f [] i x within is = absurd (omega arith)
 read-map f (y ∷ ys) zero x within is = ap f is
 read-map f (y ∷ ys) (suc i) x within is = read-map f ys i x (omega arith) is
 
 -- a read of one of the files failed, after those before it were read
-pub stops-here : (told : Option Contents) (names : List (List ℕ)) (i : ℕ) (name : List ℕ) (texts : List Text) (last : Option (List ℕ)) →
+pub stops-here : (told : Option Contents) (names : List (List ℕ)) (i : ℕ) (name : List ℕ) (texts : List Text)
+    (last : Option (List ℕ)) →
     i < length names → name ≡ get_or names i name → IfSome told (λ contents. EachTo (text_of contents) names i texts) →
     TellsOnly name last → StopsAt told names last
 stops-here told names i name texts None within is read only = tt
@@ -95,8 +108,10 @@ stops-before told names later (Some other) (front, rest, is, there) =
     (front, rest ++ later ∷ [], ap (λ xs. xs ++ later ∷ []) is ∙ append_assoc front (other ∷ rest) (later ∷ []), there)
 
 -- the last file failed, after all before it were read
-pub stops-last : (told : Option Contents) (names : List (List ℕ)) (name : List ℕ) (texts : List Text) (last : Option (List ℕ)) →
-    IfSome told (λ contents. each (text_of contents) names ≡ Ok texts) → TellsOnly name last → StopsAt told (names ++ name ∷ []) last
+pub stops-last : (told : Option Contents) (names : List (List ℕ)) (name : List ℕ) (texts : List Text)
+    (last : Option (List ℕ)) →
+    IfSome told (λ contents. each (text_of contents) names ≡ Ok texts) → TellsOnly name last
+    → StopsAt told (names ++ name ∷ []) last
 stops-last told names name texts None read only = tt
 stops-last told names name texts (Some other) read only =
     let P : List ℕ → Type 0 = λ n. names ++ name ∷ [] ≡ names ++ n ∷ [] in

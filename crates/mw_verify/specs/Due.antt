@@ -1,5 +1,7 @@
 -- What is due for words over the contents of files: usage, a refusal, or answers to questions over a network.
-use Rattle.std.specs.Prelude.{ℕ, ◌==◌, ◌&&◌, Bool, false, not, List, [], ◌∷◌, length, nat_lt, nat_le, codes, slice_index, slice_get, filter, is_none, position, min, Option, Some, None, option_and_then, option_map, is_some, unwrap_or, Result, Ok, Err, if◌then◌else◌}
+use Rattle.std.specs.Prelude.{ℕ, ◌==◌, ◌&&◌, Bool, false, not, List, [], ◌∷◌, length, nat_lt, nat_le, codes}
+use Rattle.std.specs.Prelude.{slice_index, slice_get, filter, is_none, position, min, Option, Some, None}
+use Rattle.std.specs.Prelude.{option_and_then, option_map, is_some, unwrap_or, Result, Ok, Err, if◌then◌else◌}
 use Rattle.std.specs.List.{list_all, list_any}
 use Rattle.std.specs.Option.{option_map_or}
 use Rattle.mw_text.specs.Reading.{each, following}
@@ -16,7 +18,8 @@ use Rattle.question_lang.specs.declared.question.Question.{Question}
 use Rattle.mw_text.specs.declared.words.Line.{Line}
 use Rattle.mw_text.specs.Words.{is_skipped, text_lines}
 use Rattle.question_lang.specs.declared.question.Kind.{Kind}
-use Rattle.question_lang.specs.declared.question.Kind.TheVariants.{Reach, Isolate, Waypoint, NoLoop, NoBlackHole, Within, Alike, NoStable}
+use Rattle.question_lang.specs.declared.question.Kind.TheVariants.{Reach, Isolate, Waypoint, NoLoop, NoBlackHole}
+use Rattle.question_lang.specs.declared.question.Kind.TheVariants.{Within, Alike, NoStable}
 use Rattle.question_lang.specs.declared.question.Target.TheVariants.{Router, Subnet, Peer}
 use Rattle.question_lang.specs.Asking.{asking, not_built}
 use Rattle.question_lang.specs.Single.{is_single}
@@ -53,7 +56,8 @@ read_as name (Err why) = Err (refused (refusal name why))
 -- the text of a file, of which there are not too many bytes
 abbrev pub text_of : Contents → List ℕ → Result Text Outcome
 text_of contents name =
-    option_map_or (λ bytes. if nat_le (length bytes) MOST_BYTES then Ok (record { name = name; bytes = bytes }) else Err (refused (too_long name)))
+    option_map_or (λ bytes. if nat_le (length bytes) MOST_BYTES then Ok
+    (record { name = name; bytes = bytes }) else Err (refused (too_long name)))
     (get contents name) (Err unread)
 
 -- the file that a text reads as
@@ -97,12 +101,13 @@ unbuilt texts files =
 abbrev pub answered_network : List Text → List File → Result (List File) Outcome
 answered_network texts files = option_map_or (λ line. Err (refused line)) (unbuilt texts files) (Ok files)
 
--- the files of some texts, where they are a network for which `verify` can answer. Files beyond the limits of a file, which
--- no text reads as, are none
+-- the files of some texts, where they are a network for which `verify` can answer. Files beyond the limits of a file,
+-- which no text reads as, are none
 abbrev pub network_of : List Text → List File → Result (List File) Outcome
 network_of texts files =
     if list_all keeps_limits files
-    then option_map_or (λ why. Err (refused (net_refusal texts why))) (first_refusal files) (answered_network texts files)
+    then option_map_or (λ why. Err (refused (net_refusal texts why))) (first_refusal files)
+    (answered_network texts files)
     else Err (refused (no_network (first_name texts)))
 
 -- the network of some texts

@@ -6,7 +6,8 @@ use Rattle.mw_outside.specs.Taken.{Takes, TakesPart}
 use Rattle.ios_ast.specs.declared.file.File.{File}
 use Rattle.question_lang.specs.declared.question.Question.{Question}
 use Rattle.mw_verify.specs.declared.status.Status.{Status}
-use Rattle.mw_verify.specs.declared.status.Status.TheVariants.{Good, Bad, Unknown, Usage, Refused, ReadFault, WriteFault, Memory}
+use Rattle.mw_verify.specs.declared.status.Status.TheVariants.{Good, Bad, Unknown, Usage, Refused, ReadFault}
+use Rattle.mw_verify.specs.declared.status.Status.TheVariants.{WriteFault, Memory}
 use Rattle.mw_verify.specs.declared.text.Text.{Text}
 use Rattle.mw_verify.specs.Due.{Outcome, usage, unread, refused, answering, due, is_verify, text_of}
 use Rattle.mw_verify.specs.Texts.{usage_text}
@@ -71,8 +72,8 @@ in_order _ = []
 abbrev pub AreThere : Contents → List (List ℕ) → Type 0
 AreThere files names = (texts : List Text) × (each (text_of files) names ≡ Ok texts)
 
--- where the last failed name is told, it is one of these names; and where contents are told, every file before it is there
--- and small enough
+-- where the last failed name is told, it is one of these names; and where contents are told, every file before it is
+-- there and small enough
 abbrev pub StopsAt : Option Contents → List (List ℕ) → Option (List ℕ) → Type 0
 StopsAt contents names last_failed =
     IfSome last_failed (λ name. (front : List (List ℕ)) × (rest : List (List ℕ)) × (names ≡ front ++ name ∷ rest)

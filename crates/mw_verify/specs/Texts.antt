@@ -2,11 +2,15 @@
 use Rattle.std.specs.Prelude.{ℕ, ◌++◌, ◌∷◌, [], List, codes}
 use Rattle.std.specs.Fmt.{decimal}
 use Rattle.ios_policy_reader.specs.declared.cause.Cause.{Cause}
-use Rattle.ios_policy_reader.specs.declared.cause.Cause.TheVariants.{UnknownCommand, BadWord, NotBuilt, Repeated, OutOfPlace, Limit, NoHostname, UnknownRouter, UnknownPeer, TooManyQuestions, Undefined, Memory}
+use Rattle.ios_policy_reader.specs.declared.cause.Cause.TheVariants.{UnknownCommand, BadWord, NotBuilt, Repeated}
+use Rattle.ios_policy_reader.specs.declared.cause.Cause.TheVariants.{OutOfPlace, Limit, NoHostname, UnknownRouter}
+use Rattle.ios_policy_reader.specs.declared.cause.Cause.TheVariants.{UnknownPeer, TooManyQuestions, Undefined, Memory}
 use Rattle.ios_policy_reader.specs.declared.cause.Refused.{Refused}
 use Rattle.net_model.specs.declared.refusals.NetCause.{NetCause}
 use Rattle.net_model.specs.declared.refusals.NetCause.TheVariants as net
-use Rattle.net_model.specs.declared.refusals.NetCause.TheVariants.{SameName, SameAddress, SubnetClash, NextHopNotConnected, ExternalInternalPeer, SecondArea, NetLimit}
+use Rattle.net_model.specs.declared.refusals.NetCause.TheVariants.{SameName, SameAddress, SubnetClash}
+use Rattle.net_model.specs.declared.refusals.NetCause.TheVariants.{NextHopNotConnected, ExternalInternalPeer}
+use Rattle.net_model.specs.declared.refusals.NetCause.TheVariants.{SecondArea, NetLimit}
 use Rattle.question_lang.specs.declared.question.Question.{Question}
 
 -- the line feed
@@ -66,4 +70,5 @@ holds_text question = codes "holds " ++ question.name ++ newline
 
 -- unknown NAME after N conflicts
 abbrev pub unknown_text : Question → ℕ → List ℕ
-unknown_text question after = codes "unknown " ++ question.name ++ codes " after " ++ decimal after ++ codes " conflicts" ++ newline
+unknown_text question after = codes "unknown " ++ question.name ++ codes " after " ++ decimal after
+    ++ codes " conflicts" ++ newline

@@ -1,5 +1,6 @@
 -- Verdicts, and when they are right.
-use Rattle.std.specs.Prelude.{◌≡◌, ◌↔◌, ℕ, ◌+◌, ◌<◌, Bool, true, false, List, [], ◌∷◌, ◌++◌, codes, Option, Some, None, if◌then◌else◌}
+use Rattle.std.specs.Prelude.{◌≡◌, ◌↔◌, ℕ, ◌+◌, ◌<◌, Bool, true, false, List, [], ◌∷◌, ◌++◌, codes, Option, Some, None}
+use Rattle.std.specs.Prelude.{if◌then◌else◌}
 use Rattle.std.specs.List.{list_any}
 use Rattle.term_store.specs.declared.Node.{Node}
 use Rattle.term_store.specs.declared.NodeId.{NodeId}
@@ -27,8 +28,8 @@ use Rattle.mw_verify.specs.declared.status.Status.{Status}
 use Rattle.mw_verify.specs.declared.status.Status.TheVariants as status
 use Rattle.mw_verify.specs.Texts.{newline, holds_text, unknown_text}
 
--- a packet of the question's set, an environment and at most so many failed links as the question allows have this stable
--- routing, and it breaks the question, by that walk or without one
+-- a packet of the question's set, an environment and at most so many failed links as the question allows have this
+-- stable routing, and it breaks the question, by that walk or without one
 pub record IsBreaking (files : List File) (question : Question) (world : World) (environment : Environment)
     (walk : Option Walk) : Type 0 where
   pub packet : IsInSet question.packets world.packet
@@ -40,12 +41,14 @@ pub record IsBreaking (files : List File) (question : Question) (world : World) 
 -- nothing breaks the question
 abbrev pub IsUnbroken : List File → Question → Type 0
 IsUnbroken files question =
-    (world : World) (environment : Environment) (walk : Option Walk) → IsBreaking files question world environment walk → ⊥
+    (world : World) (environment : Environment) (walk : Option Walk)
+    → IsBreaking files question world environment walk → ⊥
 
 -- something breaks the question
 abbrev pub IsBreakable : List File → Question → Type 0
 IsBreakable files question =
-    (world : World) × (environment : Environment) × (walk : Option Walk) × IsBreaking files question world environment walk
+    (world : World) × (environment : Environment) × (walk : Option Walk)
+    × IsBreaking files question world environment walk
 
 -- the world of a counterexample
 abbrev pub world_of : Counterexample → World
@@ -75,9 +78,10 @@ ShowsVerdict budget entries (Broken cex) = (adds_empty entries ≡ false) × (ad
 ShowsVerdict budget entries (Unknown after) =
     (after ≡ budget) × (adds_empty entries ≡ false) × (addition_count entries ≡ after)
 
--- the entries are a good log, whose inputs are the clauses of an encoding, that is of terms of which the root can be true
--- exactly where something breaks the question; every addition is earned, and deletions are spaced
-pub record IsSection (files : List File) (question : Question) (budget : ℕ) (verdict : Verdict) (entries : List Entry) : Type 0 where
+-- the entries are a good log, whose inputs are the clauses of an encoding, that is of terms of which the root can be
+-- true exactly where something breaks the question; every addition is earned, and deletions are spaced
+pub record IsSection (files : List File) (question : Question) (budget : ℕ) (verdict : Verdict)
+    (entries : List Entry) : Type 0 where
   pub nodes : List Node
   pub root : NodeId
   pub encodes : CanBeTrue nodes (root ∷ []) ↔ IsBreakable files question

@@ -1,7 +1,9 @@
 -- The costs of a network's OSPF interfaces and adjacencies are in their range.
-use Rattle.std.proofs.Common.{◌≡◌, ℕ, zero, suc, ◌+◌, ◌*◌, ◌/◌, ◌<◌, ◌≤◌, Bool, true, false, ◌&&◌, List, [], ◌∷◌, ◌++◌, Option, Some, None, refl, ap, ◌∙◌, sym, subst, arith}
+use Rattle.std.proofs.Common.{◌≡◌, ℕ, zero, suc, ◌+◌, ◌*◌, ◌/◌, ◌<◌, ◌≤◌, Bool, true, false, ◌&&◌, List, [], ◌∷◌, ◌++◌}
+use Rattle.std.proofs.Common.{Option, Some, None, refl, ap, ◌∙◌, sym, subst, arith}
 use Rattle.std.proofs.lemmas.Bool.{leb-true}
-use Rattle.std.specs.Prelude.{All, filter, map, max, min, nat_le, nat_lt, option_and_then, option_map, slice_get, unwrap_or, if◌then◌else◌}
+use Rattle.std.specs.Prelude.{All, filter, map, max, min, nat_le, nat_lt, option_and_then, option_map, slice_get}
+use Rattle.std.specs.Prelude.{unwrap_or, if◌then◌else◌}
 use Rattle.std.specs.List.{AllByRecursion, cons_option, filter_map, flat_map, list_all}
 use Rattle.std.specs.Option.{option_map_or}
 use Rattle.std.proofs.lemmas.List.Elements.{All-from_recursion}
@@ -13,7 +15,8 @@ use Rattle.net_model.specs.declared.interfaces.Addressed.{Addressed}
 use Rattle.net_model.specs.declared.ospf.OspfInterface.{OspfInterface}
 use Rattle.net_model.specs.Interfaces.{addressed}
 use Rattle.net_model.specs.Limits.{has_cost_in_range, has_few_interfaces, has_few_neighbours, keeps_limits}
-use Rattle.net_model.specs.Ospf.{adjacencies, adjacencies_of, adjacency, are_adjacent, bandwidth_cost, interface_cost, is_matched, ospf_at, ospf_interfaces, running, running_in}
+use Rattle.net_model.specs.Ospf.{adjacencies, adjacencies_of, adjacency, are_adjacent, bandwidth_cost, interface_cost}
+use Rattle.net_model.specs.Ospf.{is_matched, ospf_at, ospf_interfaces, running, running_in}
 
 both : (a b : Bool) → (a && b) ≡ true → (a ≡ true) × (b ≡ true)
 both true true h = (refl, refl)
@@ -23,7 +26,8 @@ both false b h = cc
 abbrev IsCost : ℕ → Type 0
 IsCost cost = (0 < cost) × (cost ≤ 65535)
 
-all_at : {A : Type 0} (p : A → Bool) (xs : List A) (k : ℕ) (x : A) → list_all p xs ≡ true → slice_get xs k ≡ Some x → p x ≡ true
+all_at : {A : Type 0} (p : A → Bool) (xs : List A) (k : ℕ) (x : A) → list_all p xs ≡ true → slice_get xs k ≡ Some x
+    → p x ≡ true
 all_at p [] k x all found = cc
 all_at p (y ∷ ys) zero x all found =
     let same : y ≡ x = cc in
@@ -55,36 +59,44 @@ mapped {B = B} P f each (x ∷ xs) = by_first (f x) (λ y is. each x y is) (mapp
 
 of_running : (files : List File) → list_all keeps_limits files ≡ true → (x : Addressed) (y : OspfInterface) →
     ospf_at files x ≡ Some y → IsCost y.cost
-of_running files limits x y = by_file (slice_get files x.id.router) (λ file found. all_at keeps_limits files x.id.router file limits found)
+of_running files limits x y =
+    by_file (slice_get files x.id.router) (λ file found. all_at keeps_limits files x.id.router file limits found)
   where
     by_iface : (process : Ospf) (interfaces : List Iface) (iface : Option Iface) (y : OspfInterface) →
-        ((i : Iface) → iface ≡ Some i → has_cost_in_range i ≡ true) → option_map (λ i. running process i x) iface ≡ Some y → IsCost y.cost
+        ((i : Iface) → iface ≡ Some i → has_cost_in_range i ≡ true) → option_map (λ i. running process i x) iface
+        ≡ Some y → IsCost y.cost
     by_iface process interfaces None y fits is = cc
     by_iface process interfaces (Some i) y fits is =
         let same : running process i x ≡ y = cc in
         subst (λ r. IsCost r.cost) same (of_interface process i x.loopback (fits i refl))
 
-    by_match : (matched : Bool) (process : Ospf) (file : File) (y : OspfInterface) → list_all has_cost_in_range file.interfaces ≡ true →
-        (if matched then option_map (λ i. running process i x) (slice_get file.interfaces x.id.at) else None) ≡ Some y → IsCost y.cost
+    by_match : (matched : Bool) (process : Ospf) (file : File) (y : OspfInterface)
+        → list_all has_cost_in_range file.interfaces ≡ true →
+        (if matched then option_map (λ i. running process i x) (slice_get file.interfaces x.id.at) else None) ≡ Some y
+        → IsCost y.cost
     by_match false process file y fits is = cc
     by_match true process file y fits is =
         by_iface process file.interfaces (slice_get file.interfaces x.id.at) y
         (λ i found. all_at has_cost_in_range file.interfaces x.id.at i fits found) is
 
-    by_process : (ospf : Option Ospf) (file : File) (y : OspfInterface) → list_all has_cost_in_range file.interfaces ≡ true →
+    by_process : (ospf : Option Ospf) (file : File) (y : OspfInterface) → list_all has_cost_in_range file.interfaces
+        ≡ true →
         option_and_then (λ process. running_in file process x) ospf ≡ Some y → IsCost y.cost
     by_process None file y fits is = cc
     by_process (Some process) file y fits is = by_match (is_matched process x.addr) process file y fits is
 
     by_file : (found : Option File) → ((file : File) → found ≡ Some file → keeps_limits file ≡ true) →
-        option_and_then (λ file. option_and_then (λ process. running_in file process x) file.ospf) found ≡ Some y → IsCost y.cost
+        option_and_then (λ file. option_and_then (λ process. running_in file process x) file.ospf) found ≡ Some y
+        → IsCost y.cost
     by_file None kept is = cc
     by_file (Some file) kept is =
         let costs : Bool = list_all has_cost_in_range file.interfaces in
-        let here = both (has_few_neighbours file) costs (both (has_few_interfaces file) (has_few_neighbours file && costs) (kept file refl)).1 in
+        let here = both (has_few_neighbours file) costs
+        (both (has_few_interfaces file) (has_few_neighbours file && costs) (kept file refl)).1 in
         by_process file.ospf file y here.1 is
 
-in_recursion : (files : List File) → list_all keeps_limits files ≡ true → AllByRecursion (λ x. IsCost x.cost) (ospf_interfaces files)
+in_recursion : (files : List File) → list_all keeps_limits files ≡ true
+    → AllByRecursion (λ x. IsCost x.cost) (ospf_interfaces files)
 unfolding ospf_interfaces
 in_recursion files limits = mapped (λ x. IsCost x.cost) (ospf_at files) (of_running files limits) (addressed files)
 
@@ -93,7 +105,8 @@ pub interface_costs : (files : List File) → list_all keeps_limits files ≡ tr
     All (λ x. (0 < x.cost) × (x.cost ≤ 65535)) (ospf_interfaces files)
 interface_costs files limits = All-from_recursion _ (ospf_interfaces files) (in_recursion files limits)
 
-appended : {A : Type 0} (P : A → Type 0) (xs ys : List A) → AllByRecursion P xs → AllByRecursion P ys → AllByRecursion P (xs ++ ys)
+appended : {A : Type 0} (P : A → Type 0) (xs ys : List A) → AllByRecursion P xs → AllByRecursion P ys
+    → AllByRecursion P (xs ++ ys)
 appended P [] ys front back = back
 appended P (x ∷ xs) ys front back = (front.0, appended P xs ys front.1 back)
 
@@ -114,4 +127,5 @@ pub adjacency_costs : (files : List File) → list_all keeps_limits files ≡ tr
     All (λ a. (0 < a.cost) × (a.cost ≤ 65535)) (adjacencies files)
 unfolding adjacencies
 adjacency_costs files limits =
-    All-from_recursion _ (adjacencies files) (over_all (ospf_interfaces files) (ospf_interfaces files) (in_recursion files limits))
+    All-from_recursion _ (adjacencies files)
+    (over_all (ospf_interfaces files) (ospf_interfaces files) (in_recursion files limits))

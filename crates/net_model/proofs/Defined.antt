@@ -1,5 +1,6 @@
 -- What a network does not have where no router runs a routing protocol.
-use Rattle.std.proofs.Common.{◌≡◌, ℕ, zero, suc, ◌+◌, Bool, true, false, ◌&&◌, ◌||◌, not, List, [], ◌∷◌, Option, Some, None, refl, ◌∙◌, subst}
+use Rattle.std.proofs.Common.{◌≡◌, ℕ, zero, suc, ◌+◌, Bool, true, false, ◌&&◌, ◌||◌, not, List, [], ◌∷◌, Option, Some}
+use Rattle.std.proofs.Common.{None, refl, ◌∙◌, subst}
 use Rattle.std.specs.Prelude.{filter, fold, is_some, map, option_and_then, slice_get}
 use Rattle.std.specs.List.{filter_map, list_all, list_any}
 use Rattle.ios_ast.specs.declared.file.File.{File}
@@ -96,7 +97,8 @@ none_of_all h none [] = refl
 none_of_all h none (x ∷ xs) = rw (none x, none_of_all h none xs) refl
 
 no_ospf_at : (files : List File) → runs_no_protocol files ≡ true → (x : Addressed) → ospf_at files x ≡ None
-no_ospf_at files network x = by_file (slice_get files x.id.router) (λ file is. (no_protocol files network x.id.router file is).0)
+no_ospf_at files network x =
+    by_file (slice_get files x.id.router) (λ file is. (no_protocol files network x.id.router file is).0)
   where
     by_file : (found : Option File) → ((file : File) → found ≡ Some file → file.ospf ≡ None) →
         option_and_then (λ file. option_and_then (λ process. running_in file process x) file.ospf) found ≡ None
@@ -114,12 +116,14 @@ unfolding up_adjacencies adjacencies
 no_up_adjacencies files failures router network = rw (no_ospf_interfaces files network) refl
 
 -- so it sends over none
-pub no_sent_by_ospf : (files : List File) (failures : Failures) (tables : Tables) (router : ℕ) (p : Prefix) (held : OspfRec) →
+pub no_sent_by_ospf : (files : List File) (failures : Failures) (tables : Tables) (router : ℕ) (p : Prefix)
+    (held : OspfRec) →
     runs_no_protocol files ≡ true → sent_by_ospf files failures tables router p held ≡ []
 unfolding sent_by_ospf
 no_sent_by_ospf files failures tables router p held network = rw (no_up_adjacencies files failures router network) refl
 
-pub no_sent_towards : (files : List File) (failures : Failures) (router : ℕ) (a : Addr) → runs_no_protocol files ≡ true →
+pub no_sent_towards : (files : List File) (failures : Failures) (router : ℕ) (a : Addr) → runs_no_protocol files
+    ≡ true →
     sent_towards files failures router a ≡ []
 unfolding sent_towards advertised
 no_sent_towards files failures router a network = rw (no_ospf_interfaces files network) refl

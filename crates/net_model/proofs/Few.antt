@@ -1,5 +1,6 @@
 -- A network has at most as many routers as may be.
-use Rattle.std.proofs.Common.{◌≡◌, ℕ, zero, suc, ◌+◌, ◌<◌, ◌≤◌, Bool, true, false, List, [], ◌∷◌, length, take, Option, Some, None, refl, ap, ◌∙◌, sym, arith}
+use Rattle.std.proofs.Common.{◌≡◌, ℕ, zero, suc, ◌+◌, ◌<◌, ◌≤◌, Bool, true, false, List, [], ◌∷◌, length, take, Option}
+use Rattle.std.proofs.Common.{Some, None, refl, ap, ◌∙◌, sym, arith}
 use Rattle.std.proofs.lemmas.Bool.{leb-false, leb-true}
 use Rattle.std.proofs.lemmas.List.{length-take-le}
 use Rattle.std.specs.Prelude.{nat_le, slice_get}
@@ -10,7 +11,9 @@ use Rattle.net_model.specs.declared.refusals.NetCause.{NetCause}
 use Rattle.net_model.specs.declared.refusals.NetCause.TheVariants.{NetLimit, SecondArea}
 use Rattle.net_model.specs.declared.refusals.NetRefused.{NetRefused}
 use Rattle.net_model.specs.declared.refusals.TheConstants.{MOST_FILES}
-use Rattle.net_model.specs.Refusals.{broken_line, earlier, first_broken, first_from, first_refusal, limit_line, line_if, refused_at, refused_by_addresses, refused_by_uses, router_line, second_area_number}
+use Rattle.net_model.specs.Refusals.{broken_line, earlier, first_broken, first_from, first_refusal, limit_line}
+use Rattle.net_model.specs.Refusals.{line_if, refused_at, refused_by_addresses, refused_by_uses, router_line}
+use Rattle.net_model.specs.Refusals.{second_area_number}
 
 -- what comes after another answer is none where both are
 or_none : {A : Type 0} (a b : Option A) → option_or a b ≡ None → b ≡ None
@@ -34,13 +37,15 @@ first_none cause at (Some n) later none = cc
 
 -- where no file breaks a rule, the file of a number does not
 none_at : (cause : NetCause) (all : List File) (at k : ℕ) (files : List File) (file : File) →
-    first_from cause all at files ≡ None → slice_get files k ≡ Some file → broken_line cause all (take (at + k) all) file ≡ None
+    first_from cause all at files ≡ None → slice_get files k ≡ Some file
+    → broken_line cause all (take (at + k) all) file ≡ None
 none_at cause all at k [] file none found = cc
 none_at cause all at zero (x ∷ rest) file none found =
     let here = first_none cause at (broken_line cause all (take at all) x) (first_from cause all (at + 1) rest) none in
     let same : x ≡ file = cc in
     let place : at + 0 ≡ at = omega arith in
-    ap (λ n. broken_line cause all (take n all) file) place ∙ ap (λ f. broken_line cause all (take at all) f) (sym same) ∙ here.0
+    ap (λ n. broken_line cause all (take n all) file) place
+    ∙ ap (λ f. broken_line cause all (take at all) f) (sym same) ∙ here.0
 none_at cause all at (suc k) (x ∷ rest) file none found =
     let here = first_none cause at (broken_line cause all (take at all) x) (first_from cause all (at + 1) rest) none in
     let place : at + suc k ≡ (at + 1) + k = omega arith in
@@ -66,6 +71,7 @@ few_files files unrefused =
     let before = option_or (refused_by_uses (refused_by_addresses files) files) (second_area_number files) in
     let none : first_from NetLimit files 0 files ≡ None = or_none before (first_broken NetLimit files) unrefused in
     not_longer MOST_FILES files (λ file found.
-    let kept : limit_line (take MOST_FILES files) file ≡ None = none_at NetLimit files 0 MOST_FILES files file none found in
+    let kept : limit_line (take MOST_FILES files) file
+    ≡ None = none_at NetLimit files 0 MOST_FILES files file none found in
     no_line (nat_le MOST_FILES (length (take MOST_FILES files))) file.hostname_line
     (earlier_none _ _ (earlier_none _ _ kept)))

@@ -26,7 +26,8 @@ id_from files router (suc k) (file ∷ rest) other below =
 pub id_at : (files : List File) (ids : List Addr) (router : ℕ) (other : Addr) → ids ≡ ids_from files 0 files →
     router < length files → slice_index_or ids router other ≡ router_id files router
 id_at files ids router other all below =
-    ap (λ xs. slice_index_or xs router other) all ∙ id_from files 0 router files other below ∙ ap (router_id files) from_zero
+    ap (λ xs. slice_index_or xs router other) all ∙ id_from files 0 router files other below
+    ∙ ap (router_id files) from_zero
   where
     from_zero : 0 + router ≡ router
     from_zero = omega arith

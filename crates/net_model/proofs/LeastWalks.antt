@@ -1,5 +1,7 @@
 -- The interior distance is the least sum of all walks, whatever their length.
-use Rattle.std.proofs.Common.{◌≡◌, ℕ, zero, suc, ◌+◌, ◌<◌, ◌≤◌, Bool, true, false, not, ◌&&◌, ◌||◌, eqb, List, [], ◌∷◌, ◌++◌, length, map, filter, Option, Some, None, inl, inr, refl, sym, ap, subst, arith, ◌∙◌, min, slice_get}
+use Rattle.std.proofs.Common.{◌≡◌, ℕ, zero, suc, ◌+◌, ◌<◌, ◌≤◌, Bool, true, false, not, ◌&&◌, ◌||◌, eqb, List, [], ◌∷◌}
+use Rattle.std.proofs.Common.{◌++◌, length, map, filter, Option, Some, None, inl, inr, refl, sym, ap, subst, arith}
+use Rattle.std.proofs.Common.{◌∙◌, min, slice_get}
 use Rattle.std.specs.Prelude.{◌⊎◌, fold, option_map, option_and_then, Contains, cond, if◌then◌else◌}
 use Rattle.std.specs.List.{cons_option, filter_map, flat_map, list_any, IsDistinct, AllByRecursion}
 use Rattle.std.specs.Option.{option_map_or, option_to_list}
@@ -15,10 +17,12 @@ use Rattle.ios_ast.specs.declared.ospf.Ospf.{Ospf}
 use Rattle.route_record.specs.declared.Failures.{Failures}
 use Rattle.net_model.specs.declared.adjacencies.Adjacency.{Adjacency}
 use Rattle.net_model.specs.declared.interfaces.Addressed.{Addressed}
-use Rattle.net_model.specs.Distances.{distance_within, interior_distance, IsInteriorDistance, IsWalkSum, least, own_cost}
+use Rattle.net_model.specs.Distances.{distance_within, interior_distance, IsInteriorDistance, IsWalkSum, least}
+use Rattle.net_model.specs.Distances.{own_cost}
 use Rattle.net_model.specs.Interfaces.{addressed, addressed_from, addressed_iface, addressed_routers}
 use Rattle.net_model.specs.declared.ospf.OspfInterface.{OspfInterface}
-use Rattle.net_model.specs.Ospf.{adjacencies, adjacency, are_adjacent, is_matched, is_up_at, ospf_at, ospf_interfaces, running, up_adjacencies}
+use Rattle.net_model.specs.Ospf.{adjacencies, adjacency, are_adjacent, is_matched, is_up_at, ospf_at, ospf_interfaces}
+use Rattle.net_model.specs.Ospf.{running, up_adjacencies}
 
 -- ---- members of lists
 
@@ -30,7 +34,8 @@ In x (y ∷ ys) = (x ≡ y) ⊎ In x ys
 in-contains : {X : Type 0} (x : X) (xs : List X) → In x xs → Contains xs x
 in-contains x [] here = absurd here
 in-contains x (y ∷ ys) (inl same) = (zero, omega arith, sym same)
-in-contains x (y ∷ ys) (inr later) = let there = in-contains x ys later in (suc there.0, omega (arith, there.1), there.2)
+in-contains x (y ∷ ys) (inr later) = let there = in-contains x ys later in
+    (suc there.0, omega (arith, there.1), there.2)
 
 contains-in : {X : Type 0} (x : X) (xs : List X) → Contains xs x → In x xs
 contains-in x [] (k, within, is) = absurd (omega arith)
@@ -92,7 +97,8 @@ in-map f [] y here = absurd here
 in-map f (x ∷ xs) y (inl same) = (x, inl refl, same)
 in-map f (x ∷ xs) y (inr later) = let found = in-map f xs y later in (found.0, inr found.1, found.2)
 
-in-flat_map : {X Y : Type 0} (f : X → List Y) (xs : List X) (y : Y) → In y (flat_map f xs) → (x : X) × In x xs × In y (f x)
+in-flat_map : {X Y : Type 0} (f : X → List Y) (xs : List X) (y : Y) → In y (flat_map f xs) → (x : X) × In x xs
+    × In y (f x)
 in-flat_map f [] y here = absurd here
 in-flat_map f (x ∷ xs) y here = elim (in-cases y (f x) (flat_map f xs) here) [
   | inl front ↦ (x, inl refl, front)
@@ -186,7 +192,8 @@ within-suc files failures p most router = refl
 
 -- the distance is the sum of some walk
 walk_of : (files : List File) (failures : Failures) (p : Prefix) (most router d : ℕ) →
-    distance_within files failures p most router ≡ Some d → (walk : List Adjacency) × IsWalkSum files failures p router walk d
+    distance_within files failures p most router ≡ Some d → (walk : List Adjacency)
+    × IsWalkSum files failures p router walk d
 walk_of files failures p zero router d is = ([], sym (within-zero files failures p router) ∙ is)
 walk_of files failures p (suc most) router d is =
     by_part (in-cases d (option_to_list (own_cost files failures p router))
@@ -195,7 +202,8 @@ walk_of files failures p (suc most) router d is =
     (λ next far. walk_of files failures p most next far)
   where
     by_far : (a : Adjacency) → In a (up_adjacencies files failures router) → (far : Option ℕ) →
-        distance_within files failures p most a.to.router ≡ far → option_map (λ further. a.cost + further) far ≡ Some d →
+        distance_within files failures p most a.to.router ≡ far → option_map (λ further. a.cost + further) far
+        ≡ Some d →
         ((next further : ℕ) → distance_within files failures p most next ≡ Some further →
         (walk : List Adjacency) × IsWalkSum files failures p next walk further) →
         (walk : List Adjacency) × IsWalkSum files failures p router walk d
@@ -216,7 +224,8 @@ walk_of files failures p (suc most) router d is =
         by_far found.0 found.1 (distance_within files failures p most found.0.to.router) refl found.2 deeper
 
 -- it is at most the sum of each walk with so few adjacencies
-at_most_sum : (files : List File) (failures : Failures) (p : Prefix) (most router : ℕ) (walk : List Adjacency) (sum : ℕ) →
+at_most_sum : (files : List File) (failures : Failures) (p : Prefix) (most router : ℕ) (walk : List Adjacency)
+    (sum : ℕ) →
     length walk ≤ most → IsWalkSum files failures p router walk sum →
     (d : ℕ) × (distance_within files failures p most router ≡ Some d) × (d ≤ sum)
 at_most_sum files failures p zero router [] sum short walks =
@@ -310,21 +319,26 @@ simple files failures p router (a ∷ rest) sum (there, further, walks, is) =
 
 -- ---- the routers of adjacencies are routers of the files
 
-from_interfaces : (router at : ℕ) (interfaces : List Iface) (x : Addressed) → In x (addressed_from router at interfaces) →
+from_interfaces : (router at : ℕ) (interfaces : List Iface) (x : Addressed)
+    → In x (addressed_from router at interfaces) →
     x.id.router ≡ router
 from_interfaces router at [] x here = absurd here
 from_interfaces router at (iface ∷ rest) x here =
-    by_part (in-cases x (option_map_or (λ a. addressed_iface (record { router = router; at = at }) iface a ∷ []) iface.address [])
+    by_part (in-cases x (option_map_or (λ a. addressed_iface (record { router = router; at = at }) iface a
+    ∷ []) iface.address [])
     (addressed_from router (at + 1) rest) here) (λ later. from_interfaces router (at + 1) rest x later)
   where
     by_address : (o : Option IfAddr) →
-        In x (option_map_or (λ a. addressed_iface (record { router = router; at = at }) iface a ∷ []) o []) → x.id.router ≡ router
+        In x (option_map_or (λ a. addressed_iface (record { router = router; at = at }) iface a ∷ []) o [])
+        → x.id.router ≡ router
     by_address None here = absurd here
     by_address (Some a) (inl same) = ap (λ (y : Addressed). y.id.router) same
     by_address (Some a) (inr none) = absurd none
 
-    by_part : In x (option_map_or (λ a. addressed_iface (record { router = router; at = at }) iface a ∷ []) iface.address [])
-        ⊎ In x (addressed_from router (at + 1) rest) → (In x (addressed_from router (at + 1) rest) → x.id.router ≡ router) →
+    by_part : In x (option_map_or (λ a. addressed_iface (record { router = router; at = at }) iface a
+        ∷ []) iface.address [])
+        ⊎ In x (addressed_from router (at + 1) rest)
+        → (In x (addressed_from router (at + 1) rest) → x.id.router ≡ router) →
         x.id.router ≡ router
     by_part (inl now) deeper = by_address iface.address now
     by_part (inr later) deeper = deeper later
@@ -345,16 +359,20 @@ below_files router (file ∷ rest) x here =
 ospf_at-same : (files : List File) (x : Addressed) (o : OspfInterface) → ospf_at files x ≡ Some o → o.at ≡ x
 ospf_at-same files x o is =
     option_and_then_some (λ file. option_and_then (λ process.
-    if is_matched process x.addr then option_map (λ iface. running process iface x) (slice_get file.interfaces x.id.at) else None)
+    if is_matched process x.addr then option_map (λ iface. running process iface x)
+    (slice_get file.interfaces x.id.at) else None)
     file.ospf) (slice_get files x.id.router) o is (λ file found inner.
     option_and_then_some (λ process.
-    if is_matched process x.addr then option_map (λ iface. running process iface x) (slice_get file.interfaces x.id.at) else None)
-    file.ospf o inner (λ process runs made. by_match process (is_matched process x.addr) (slice_get file.interfaces x.id.at) made))
+    if is_matched process x.addr then option_map (λ iface. running process iface x)
+    (slice_get file.interfaces x.id.at) else None)
+    file.ospf o inner (λ process runs made. by_match process (is_matched process x.addr)
+    (slice_get file.interfaces x.id.at) made))
   where
     by_match : (process : Ospf) (b : Bool) (iface : Option Iface) →
         (if b then option_map (λ i. running process i x) iface else None) ≡ Some o → o.at ≡ x
     by_match process true None made = cc
-    by_match process true (Some i) made = let same : running process i x ≡ o = cc in ap (λ (y : OspfInterface). y.at) (sym same)
+    by_match process true (Some i) made = let same : running process i x ≡ o = cc in
+        ap (λ (y : OspfInterface). y.at) (sym same)
     by_match process false iface made = cc
 
 interface_below : (files : List File) (o : OspfInterface) → In o (ospf_interfaces files) → o.at.id.router < length files
@@ -370,18 +388,21 @@ adjacency_below : (files : List File) (a : Adjacency) → In a (adjacencies file
     (a.from.router < length files) × (a.to.router < length files)
 unfolding adjacencies
 adjacency_below files a here =
-    let outer = in-flat_map (λ x. map (adjacency x) (filter (are_adjacent x) (ospf_interfaces files))) (ospf_interfaces files) a here in
+    let outer = in-flat_map (λ x. map (adjacency x) (filter (are_adjacent x) (ospf_interfaces files)))
+    (ospf_interfaces files) a here in
     let inner = in-map (adjacency outer.0) (filter (are_adjacent outer.0) (ospf_interfaces files)) a outer.2 in
     let other = in-filter (are_adjacent outer.0) (ospf_interfaces files) inner.0 inner.1 in
     let P : Adjacency → Type 0 = λ b. (b.from.router < length files) × (b.to.router < length files) in
     subst P (sym inner.2) (interface_below files outer.0 outer.1, interface_below files inner.0 other.0)
 
 -- an adjacency over which a router receives: that router and the far one are routers of the files
-up_below : (files : List File) (failures : Failures) (router : ℕ) (a : Adjacency) → In a (up_adjacencies files failures router) →
+up_below : (files : List File) (failures : Failures) (router : ℕ) (a : Adjacency)
+    → In a (up_adjacencies files failures router) →
     (router < length files) × (a.to.router < length files)
 unfolding up_adjacencies
 up_below files failures router a here =
-    let found = in-filter (λ b. eqb b.from.router router && (is_up_at files failures b.from && is_up_at files failures b.to)) (adjacencies files) a here in
+    let found = in-filter (λ b. eqb b.from.router router
+    && (is_up_at files failures b.from && is_up_at files failures b.to)) (adjacencies files) a here in
     let below = adjacency_below files a found.0 in
     let same = eqb-true a.from.router router (and_parts _ _ found.1).0 in
     let P : ℕ → Type 0 = λ r. r < length files in
@@ -389,7 +410,8 @@ up_below files failures router a here =
 
 -- all routers at which a walk stands are
 stands_below : (files : List File) (failures : Failures) (p : Prefix) (router : ℕ) (walk : List Adjacency) (sum q : ℕ) →
-    IsWalkSum files failures p router walk sum → router < length files → list_any (eqb q) (standings router walk) ≡ true →
+    IsWalkSum files failures p router walk sum → router < length files → list_any (eqb q) (standings router walk)
+    ≡ true →
     q < length files
 stands_below files failures p router [] sum q walks below stands = by_first (eqb q router) refl stands where
   by_first : (b : Bool) → eqb q router ≡ b → (b || false) ≡ true → q < length files

@@ -1,5 +1,6 @@
 -- How many neighbour lines and sessions there are.
-use Rattle.std.proofs.Common.{◌≡◌, ℕ, ◌+◌, ◌*◌, ◌≤◌, Bool, true, false, ◌&&◌, List, [], ◌∷◌, length, length-append, Option, Some, None, refl, ap, arith}
+use Rattle.std.proofs.Common.{◌≡◌, ℕ, ◌+◌, ◌*◌, ◌≤◌, Bool, true, false, ◌&&◌, List, [], ◌∷◌, length, length-append}
+use Rattle.std.proofs.Common.{Option, Some, None, refl, ap, arith}
 use Rattle.std.proofs.lemmas.Bool.{leb-true}
 use Rattle.std.proofs.lemmas.List.Sums.{count_by-le-length, length-filter}
 use Rattle.std.specs.Prelude.{filter, nat_le, ◌==◌, not}
@@ -13,9 +14,11 @@ use Rattle.net_model.specs.declared.interfaces.Addressed.{Addressed}
 use Rattle.net_model.specs.declared.sessions.Peering.{Peering}
 use Rattle.net_model.specs.Interfaces.{addressed}
 use Rattle.net_model.specs.Limits.{has_few_interfaces, has_few_neighbours, has_cost_in_range, keeps_limits}
-use Rattle.net_model.specs.Sessions.{has_session, peering, peerings, peerings_from, peerings_of, peerings_routers, sessions, speaks_from}
+use Rattle.net_model.specs.Sessions.{has_session, peering, peerings, peerings_from, peerings_of, peerings_routers}
+use Rattle.net_model.specs.Sessions.{sessions, speaks_from}
 
-at_most_one : (f : Addressed → Peering) (o : Option Addressed) → length (option_map_or (λ source. f source ∷ []) o []) ≤ 1
+at_most_one : (f : Addressed → Peering) (o : Option Addressed)
+    → length (option_map_or (λ source. f source ∷ []) o []) ≤ 1
 at_most_one f None = omega arith
 at_most_one f (Some source) = omega arith
 
@@ -31,14 +34,21 @@ few_from own router file asn at (n ∷ rest) =
       few_from own router file asn (at + 1) rest,
     )
 
-few_of : (all : List Addressed) (router : ℕ) (file : File) → has_few_neighbours file ≡ true → length (peerings_of all router file) ≤ 64
+few_of : (all : List Addressed) (router : ℕ) (file : File) → has_few_neighbours file ≡ true
+    → length (peerings_of all router file) ≤ 64
 few_of all router file = by_process file.bgp
   where
-    by_process : (o : Option Bgp) → option_map_or (λ bgp. nat_le (length bgp.neighbours) MOST_NEIGHBOURS) o true ≡ true →
-        length (option_map_or (λ bgp. peerings_from (filter (λ x. x.id.router == router) all) router file bgp.asn 0 bgp.neighbours) o []) ≤ 64
+    by_process : (o : Option Bgp) → option_map_or (λ bgp. nat_le (length bgp.neighbours) MOST_NEIGHBOURS) o true
+        ≡ true →
+        length (option_map_or
+        (λ bgp. peerings_from (filter (λ x. x.id.router == router) all) router file bgp.asn 0 bgp.neighbours) o []) ≤ 64
     by_process None few = omega arith
     by_process (Some bgp) few =
-        omega (arith, leb-true _ _ few, few_from (filter (λ x. x.id.router == router) all) router file bgp.asn 0 bgp.neighbours)
+        omega (
+          arith,
+          leb-true _ _ few,
+          few_from (filter (λ x. x.id.router == router) all) router file bgp.asn 0 bgp.neighbours,
+        )
 
 few_routers : (all : List Addressed) (router : ℕ) (files : List File) → list_all keeps_limits files ≡ true →
     length (peerings_routers all router files) ≤ 64 * length files
@@ -46,7 +56,8 @@ few_routers all router [] few = omega arith
 few_routers all router (file ∷ rest) few =
     let both = two (keeps_limits file) (list_all keeps_limits rest) few in
     let costs : Bool = list_all has_cost_in_range file.interfaces in
-    let here = two (has_few_neighbours file) costs (two (has_few_interfaces file) (has_few_neighbours file && costs) both.0).1 in
+    let here = two (has_few_neighbours file) costs
+    (two (has_few_interfaces file) (has_few_neighbours file && costs) both.0).1 in
     omega (
       arith,
       length-append (peerings_of all router file) (peerings_routers all (router + 1) rest),

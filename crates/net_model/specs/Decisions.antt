@@ -1,5 +1,7 @@
 -- The decision process of BGP (RFC 4271, section 9.1.2; Cisco IOS, best path selection).
-use Rattle.std.specs.Prelude.{◌≡◌, ℕ, ◌+◌, ◌==◌, ◌&&◌, ◌||◌, Bool, true, false, not, List, [], ◌∷◌, ◌++◌, Any, filter, fold, length, map, nat_lt, slice_get, take, Option, None, MatchOption, option_and_then, option_map, unwrap_or, if◌then◌else◌}
+use Rattle.std.specs.Prelude.{◌≡◌, ℕ, ◌+◌, ◌==◌, ◌&&◌, ◌||◌, Bool, true, false, not, List, [], ◌∷◌, ◌++◌, Any, filter}
+use Rattle.std.specs.Prelude.{fold, length, map, nat_lt, slice_get, take, Option, None, MatchOption, option_and_then}
+use Rattle.std.specs.Prelude.{option_map, unwrap_or, if◌then◌else◌}
 use Rattle.std.specs.List.{filter_map, find, list_any}
 use Rattle.std.specs.Option.{option_map_or}
 use Rattle.mw_text.specs.declared.address.Addr.{Addr}
@@ -24,8 +26,8 @@ use Rattle.net_model.specs.Origins.{local_routes}
 use Rattle.net_model.specs.Resolution.{resolved, session_up}
 use Rattle.net_model.specs.Sessions.{ends_of, is_outside, neighbour_of}
 
--- a route that may be held: whether it was learnt over an external session, the cost to its next hop, and the identifier
--- of the peer from which it came, which of a local route is the router's own
+-- a route that may be held: whether it was learnt over an external session, the cost to its next hop, and the
+-- identifier of the peer from which it came, which of a local route is the router's own
 pub record Candidate : Type 0 where
   pub rec : BgpRec
   pub external : Bool
@@ -94,8 +96,8 @@ up_to_cost always =
 abbrev pub after_cost : List (Candidate → Candidate → Bool)
 after_cost = by_identifier ∷ by_clusters ∷ by_address ∷ []
 
--- Identifiers are compared where the router says so, or where no external route is left. Else the oldest of these is held,
--- and a routing does not tell which that is.
+-- Identifiers are compared where the router says so, or where no external route is left. Else the oldest of these is
+-- held, and a routing does not tell which that is.
 abbrev pub is_compared : Bool → List Candidate → Bool
 is_compared compare_id left = compare_id || not (list_any (λ c. c.external) left)
 
@@ -134,7 +136,8 @@ abbrev pub peer_identifier : List File → Environment → ℕ → SessionEnd �
 peer_identifier files environment at end = by_far end.far where
   by_far : Far → Addr
   by_far Outside = unwrap_or (slice_get environment.ids (external_count (take at (ends_of files)))) (record { 0 = 0 })
-  by_far (Inside far_at) = option_map_or (λ far. router_id files far.router) (slice_get (ends_of files) far_at) (record { 0 = 0 })
+  by_far (Inside far_at) =
+      option_map_or (λ far. router_id files far.router) (slice_get (ends_of files) far_at) (record { 0 = 0 })
 
 -- a learnt route is a candidate where its session is up, it is imported, and its next hop is resolved
 abbrev pub learnt_candidate : List File → Failures → Environment → Tables → Prefix → ℕ × SessionEnd → Option Candidate
@@ -164,7 +167,8 @@ candidates files failures environment tables router file process p =
 abbrev pub IsHeld : List Candidate → List Candidate → Option BgpRec → Type 0
 IsHeld candidates left held = MatchOption held (candidates ≡ []) (λ rec. Any (λ c. c.rec ≡ rec) left)
 
-unfoldable pub DecidedByBgp : List File → Failures → Environment → Tables → ℕ → File → Bgp → Prefix → Option BgpRec → Type 0
+unfoldable pub DecidedByBgp : List File → Failures → Environment → Tables → ℕ → File → Bgp → Prefix → Option BgpRec
+    → Type 0
 DecidedByBgp files failures environment tables router file process p held =
     let all = candidates files failures environment tables router file process p in
     IsHeld all (survivors process.always_compare process.compare_routerid all) held

@@ -1,5 +1,6 @@
 -- Interior distances (RFC 2328, section 16.1, as sums over adjacencies).
-use Rattle.std.specs.Prelude.{◌≡◌, ℕ, zero, suc, ◌+◌, ◌≤◌, List, [], ◌∷◌, ◌++◌, Contains, fold, length, map, min, Option, Some, None, MatchOption, option_map}
+use Rattle.std.specs.Prelude.{◌≡◌, ℕ, zero, suc, ◌+◌, ◌≤◌, List, [], ◌∷◌, ◌++◌, Contains, fold, length, map, min}
+use Rattle.std.specs.Prelude.{Option, Some, None, MatchOption, option_map}
 use Rattle.std.specs.List.{filter_map}
 use Rattle.std.specs.Option.{option_map_or, option_to_list}
 use Rattle.mw_text.specs.declared.address.Prefix.{Prefix}
@@ -16,8 +17,9 @@ least ns = fold (λ best n. Some (option_map_or (min n) best n)) None ns
 unfoldable pub own_cost : List File → Failures → Prefix → ℕ → Option ℕ
 own_cost files failures p router = least (map (λ x. x.cost) (origin_interfaces files failures router p))
 
--- the sum of a walk from the router over these adjacencies, each of which is up and leads on from the router where the one
--- before it came to, and which ends at a router that originates the prefix: the receivers' costs and that one's own
+-- the sum of a walk from the router over these adjacencies, each of which is up and leads on from the router where the
+-- one before it came to, and which ends at a router that originates the prefix: the receivers' costs and that one's
+-- own
 abbrev pub IsWalkSum : List File → Failures → Prefix → ℕ → List Adjacency → ℕ → Type 0
 IsWalkSum files failures p router [] sum = own_cost files failures p router ≡ Some sum
 IsWalkSum files failures p router (a ∷ rest) sum =
@@ -39,7 +41,7 @@ distance_within files failures p (suc most) router =
     ++ filter_map (λ a. option_map (λ d. a.cost + d) (distance_within files failures p most a.to.router))
     (up_adjacencies files failures router))
 
--- A walk that comes back to a router is longer than one that does not, so the least has fewer adjacencies than there are
--- routers: this is the interior distance
+-- A walk that comes back to a router is longer than one that does not, so the least has fewer adjacencies than there
+-- are routers: this is the interior distance
 unfoldable pub interior_distance : List File → Failures → ℕ → Prefix → Option ℕ
 interior_distance files failures router p = distance_within files failures p (length files) router

@@ -1,6 +1,7 @@
 -- The entry of a router's table for one prefix, from all sources (RFC 1812, section 5.2.4; administrative distances as
 -- Cisco IOS has them).
-use Rattle.std.specs.Prelude.{ℕ, Bool, false, List, ◌++◌, Option, Some, None, option_and_then, option_map, if◌then◌else◌}
+use Rattle.std.specs.Prelude.{ℕ, Bool, false, List, ◌++◌, Option, Some, None, option_and_then, option_map}
+use Rattle.std.specs.Prelude.{if◌then◌else◌}
 use Rattle.std.specs.Option.{option_map_or, option_to_list}
 use Rattle.mw_text.specs.declared.address.Prefix.{Prefix}
 use Rattle.ios_ast.specs.declared.file.File.{File}
@@ -21,7 +22,8 @@ bgp_entry files router slot =
 
 -- a held OSPF record, with distance 110, unless an own origin is as good
 abbrev pub ospf_entry : Bool → Slot → Option RibEntry
-ospf_entry own slot = option_and_then (λ held. if own then None else Some (record { source = Ospf; distance = 110 })) slot.ospf
+ospf_entry own slot =
+    option_and_then (λ held. if own then None else Some (record { source = Ospf; distance = 110 })) slot.ospf
 
 -- the entry of the table, where `own` says that an own origin is as good as the held OSPF record
 unfoldable pub entry_with : List File → Failures → ℕ → File → Prefix → Slot → Bool → Option RibEntry
@@ -31,7 +33,8 @@ entry_with files failures router file p slot own =
 
 -- an own origin is as good as the OSPF record that the slot holds
 abbrev pub own_is_as_good : List File → Failures → ℕ → File → Prefix → Slot → Bool
-own_is_as_good files failures router file p slot = option_map_or (is_own files failures router file p slot) slot.ospf false
+own_is_as_good files failures router file p slot =
+    option_map_or (is_own files failures router file p slot) slot.ospf false
 
 -- the entry for that prefix
 abbrev pub table_entry : List File → Failures → ℕ → File → Prefix → Slot → Option RibEntry

@@ -1,6 +1,8 @@
 -- What a router sends over a BGP session, and what it makes of what it receives (RFC 4271, sections 5 and 9; RFC 4456;
 -- RFC 1997).
-use Rattle.std.specs.Prelude.{ℕ, ◌==◌, ◌&&◌, ◌||◌, Bool, true, false, not, List, [], ◌∷◌, filter, fold, length, map, max, nat_le, slice_get, Option, Some, None, option_and_then, option_map, unwrap_or, if◌then◌else◌}
+use Rattle.std.specs.Prelude.{ℕ, ◌==◌, ◌&&◌, ◌||◌, Bool, true, false, not, List, [], ◌∷◌, filter, fold, length, map}
+use Rattle.std.specs.Prelude.{max, nat_le, slice_get, Option, Some, None, option_and_then, option_map, unwrap_or}
+use Rattle.std.specs.Prelude.{if◌then◌else◌}
 use Rattle.std.specs.List.{find, list_any}
 use Rattle.std.specs.Option.{option_map_or}
 use Rattle.mw_text.specs.declared.address.Addr.{Addr}
@@ -11,7 +13,8 @@ use Rattle.ios_ast.specs.declared.file.File.{File}
 use Rattle.ios_ast.specs.declared.file.Use.{Use}
 use Rattle.ios_ast.specs.declared.policies.Policies.{Policies}
 use Rattle.ios_ast.specs.declared.policies.SetAct.{SetAct}
-use Rattle.ios_ast.specs.declared.policies.SetAct.TheVariants.{LocalPref, Metric, Weight, NoCommunity, Community, Origin, Prepend, Type1}
+use Rattle.ios_ast.specs.declared.policies.SetAct.TheVariants.{LocalPref, Metric, Weight, NoCommunity, Community}
+use Rattle.ios_ast.specs.declared.policies.SetAct.TheVariants.{Origin, Prepend, Type1}
 use Rattle.ios_ast.specs.Deciding.{carries}
 use Rattle.ios_ast.specs.Maps.{deciding}
 use Rattle.ios_ast.specs.Matching.{named_answer}
@@ -61,7 +64,8 @@ is_reflector process = list_any (λ neighbour. neighbour.client) process.neighbo
 -- the end of the router whose neighbour has that address
 abbrev pub end_towards : List File → ℕ → Addr → Option SessionEnd
 end_towards files router a =
-    find (λ end. (end.router == router) && option_map_or (λ neighbour. neighbour.addr.0 == a.0) (neighbour_of files end) false) (ends_of files)
+    find (λ end. (end.router == router)
+    && option_map_or (λ neighbour. neighbour.addr.0 == a.0) (neighbour_of files end) false) (ends_of files)
 
 -- the end over which a route was learnt
 abbrev pub learnt_over : List File → ℕ → Learnt → Option SessionEnd
@@ -75,11 +79,13 @@ is_client files end = option_map_or (λ neighbour. neighbour.client) (neighbour_
 
 abbrev pub passes_prefixes : Policies → Option Use → Prefix → Bool
 passes_prefixes policies used p =
-    option_map_or (λ named. named_answer (λ l. l.name) (λ l. prefix_permitted l.entries p) policies.prefix_lists named.name) used true
+    option_map_or (λ named. named_answer (λ l. l.name)
+    (λ l. prefix_permitted l.entries p) policies.prefix_lists named.name) used true
 
 abbrev pub passes_paths : Policies → Option Use → List ℕ → Bool
 passes_paths policies used path =
-    option_map_or (λ named. named_answer (λ l. l.name) (λ l. path_permitted l.entries path) policies.as_paths named.name) used true
+    option_map_or (λ named. named_answer (λ l. l.name)
+    (λ l. path_permitted l.entries path) policies.as_paths named.name) used true
 
 -- ---- export
 
@@ -94,8 +100,8 @@ no_advertise = 4294967042
 abbrev pub may_reflect : List File → Bgp → SessionEnd → SessionEnd → Bool
 may_reflect files process from to = is_reflector process && (is_client files from || is_client files to)
 
--- the route may go over the session: no community forbids it, it did not come over this session, and from internal peer to
--- internal peer it may be reflected
+-- the route may go over the session: no community forbids it, it did not come over this session, and from internal
+-- peer to internal peer it may be reflected
 abbrev pub may_go : List File → Bgp → SessionEnd → BgpRec → Bool
 may_go files process end held =
     not (carries held.communities no_advertise)
@@ -117,14 +123,15 @@ is_metric (Type1 type1) = false
 
 abbrev pub sets_metric : Policies → Option Use → Prefix → Attributes → Bool
 sets_metric policies used p r =
-    option_map_or (λ named. option_map_or (λ e. list_any is_metric e.sets) (deciding policies p r (entries_named policies named)) false)
+    option_map_or (λ named. option_map_or (λ e. list_any is_metric e.sets)
+    (deciding policies p r (entries_named policies named)) false)
     used false
 
 abbrev pub sent_communities : Neighbour → List ℕ → List ℕ
 sent_communities neighbour communities = if neighbour.send_community then communities else []
 
--- over an external session: the own AS in front of the path, the own address as next hop, and a metric where the path was
--- empty before or the map set one
+-- over an external session: the own AS in front of the path, the own address as next hop, and a metric where the path
+-- was empty before or the map set one
 abbrev pub external_message : Bgp → Neighbour → Addr → Bool → BgpRec → Attributes → BgpMsg
 external_message process neighbour own keeps_med held r = record {
   local_pref = None;
@@ -149,15 +156,18 @@ learnt_id files end = by_far end.far where
   by_far Outside = None
   by_far (Inside at) = option_map (λ far. router_id files far.router) (slice_get (ends_of files) at)
 
--- a route that is reflected gets an originator, where it has none, and the own cluster identifier in front of its clusters
+-- a route that is reflected gets an originator, where it has none, and the own cluster identifier in front of its
+-- clusters
 abbrev pub reflected_originator : List File → BgpRec → Option SessionEnd → Option Addr
 reflected_originator files held from =
-    option_map_or (λ end. if end.internal then Some (unwrap_or held.originator (unwrap_or (learnt_id files end) (record { 0 = 0 }))) else held.originator)
+    option_map_or (λ end. if end.internal then Some
+    (unwrap_or held.originator (unwrap_or (learnt_id files end) (record { 0 = 0 }))) else held.originator)
     from held.originator
 
 abbrev pub reflected_clusters : List File → ℕ → BgpRec → Option SessionEnd → List Addr
 reflected_clusters files router held from =
-    option_map_or (λ end. if end.internal then router_id files router ∷ held.clusters else held.clusters) from held.clusters
+    option_map_or (λ end. if end.internal then router_id files router
+    ∷ held.clusters else held.clusters) from held.clusters
 
 -- over an internal session path, local preference and metric stay as the map leaves them
 abbrev pub internal_message : List File → ℕ → Neighbour → Addr → BgpRec → Attributes → BgpMsg
@@ -182,7 +192,8 @@ own_address files end =
 abbrev pub sent : List File → File → Bgp → Neighbour → SessionEnd → Prefix → BgpRec → Option BgpMsg
 sent files file process neighbour end p held =
     if may_go files process end held
-    && (passes_prefixes file.policies neighbour.prefix_out p && passes_paths file.policies neighbour.filter_out held.path)
+    && (passes_prefixes file.policies neighbour.prefix_out p
+    && passes_paths file.policies neighbour.filter_out held.path)
     then option_map message (through_map file.policies neighbour.map_out p (not end.internal) (attributes_of held))
     else None
   where
@@ -217,8 +228,8 @@ announced_message peer a = record {
 abbrev pub most_numbers : ℕ
 most_numbers = 255
 
--- the router takes the message: no loop by its AS, by its identifier or by its cluster (RFC 4456, section 8), and no path
--- that is too long
+-- the router takes the message: no loop by its AS, by its identifier or by its cluster (RFC 4456, section 8), and no
+-- path that is too long
 abbrev pub is_acceptable : List File → ℕ → Bgp → BgpMsg → Bool
 is_acceptable files router process message =
     (not (carries message.path process.asn) && nat_le (length message.path) most_numbers)
@@ -248,7 +259,8 @@ if_short rec = if nat_le (length rec.path) most_numbers then Some rec else None
 abbrev pub taken_in : List File → File → Bgp → Neighbour → SessionEnd → Prefix → BgpMsg → Option BgpRec
 taken_in files file process neighbour end p message =
     if is_acceptable files end.router process message
-    && (passes_prefixes file.policies neighbour.prefix_in p && passes_paths file.policies neighbour.filter_in message.path)
+    && (passes_prefixes file.policies neighbour.prefix_in p
+    && passes_paths file.policies neighbour.filter_in message.path)
     then option_and_then (λ r. if_short (with_attributes (received neighbour end message) r))
     (through_map file.policies neighbour.map_in p (not end.internal) (attributes_of (received neighbour end message)))
     else None
@@ -257,4 +269,5 @@ taken_in files file process neighbour end p message =
 unfoldable pub imported : List File → SessionEnd → Prefix → BgpMsg → Option BgpRec
 imported files end p message =
     option_and_then (λ file. option_and_then (λ process. option_and_then (λ neighbour.
-    taken_in files file process neighbour end p message) (neighbour_of files end)) file.bgp) (slice_get files end.router)
+    taken_in files file process neighbour end p message) (neighbour_of files end)) file.bgp)
+    (slice_get files end.router)

@@ -17,7 +17,8 @@ abbrev pub ids_from : List File → ℕ → List File → List Addr
 ids_from files router [] = []
 ids_from files router (file ∷ rest) = router_id files router ∷ ids_from files (router + 1) rest
 
--- the files are a network, and these are its interfaces, links, ends of sessions, adjacencies, and the values that it names
+-- the files are a network, and these are its interfaces, links, ends of sessions, adjacencies, and the values that it
+-- names
 pub record IsKept (files : List File) (parts : Parts) : Type 0 where
   pub network : IsNetwork files
   pub few : length files ≤ MOST_FILES

@@ -1,6 +1,8 @@
--- What a router originates from its own routing table: redistribution into OSPF, the default route, and local BGP routes
--- (RFC 2328, section 12.4.4; RFC 4271, section 9.4; Cisco IOS, `redistribute`, `default-information originate`, `network`).
-use Rattle.std.specs.Prelude.{ℕ, ◌==◌, ◌&&◌, ◌||◌, ◌*◌, ◌^◌, Bool, true, false, not, List, [], ◌++◌, nat_lt, Option, Some, None, option_and_then, option_map, unwrap_or, if◌then◌else◌}
+-- What a router originates from its own routing table: redistribution into OSPF, the default route, and local BGP
+-- routes (RFC 2328, section 12.4.4; RFC 4271, section 9.4; Cisco IOS, `redistribute`, `default-information originate`,
+-- `network`).
+use Rattle.std.specs.Prelude.{ℕ, ◌==◌, ◌&&◌, ◌||◌, ◌*◌, ◌^◌, Bool, true, false, not, List, [], ◌++◌, nat_lt, Option}
+use Rattle.std.specs.Prelude.{Some, None, option_and_then, option_map, unwrap_or, if◌then◌else◌}
 use Rattle.std.specs.List.{filter_map, list_any}
 use Rattle.std.specs.Option.{option_map_or, option_to_list}
 use Rattle.mw_text.specs.declared.address.Prefix.{Prefix}
@@ -94,8 +96,8 @@ abbrev pub is_ospf_entry : RibSource → Bool
 is_ospf_entry Ospf = true
 is_ospf_entry _ = false
 
--- `default-information originate` gives the default route; without `always` only where the router has an entry for it that
--- is not OSPF's own
+-- `default-information originate` gives the default route; without `always` only where the router has an entry for it
+-- that is not OSPF's own
 abbrev pub originated_default : Prefix → Slot → DefaultOrigin → Option OspfRec
 originated_default p slot line =
     if is_default p && (line.always || option_map_or (λ entry. not (is_ospf_entry entry.source)) slot.rib false)
@@ -163,8 +165,8 @@ abbrev pub is_ospf_subnet : List File → ℕ → Prefix → Bool
 is_ospf_subnet files router p =
     list_any (λ x. (x.at.id.router == router) && same_prefix x.at.subnet p) (ospf_interfaces files)
 
--- the metric with which a `redistribute` line of BGP takes the entry of a slot. Among OSPF routes a connected subnet that
--- runs OSPF counts as internal with metric 0
+-- the metric with which a `redistribute` line of BGP takes the entry of a slot. Among OSPF routes a connected subnet
+-- that runs OSPF counts as internal with metric 0
 abbrev pub taken_metric : List File → ℕ → Prefix → Slot → Redist → RibSource → Option ℕ
 taken_metric files router p slot line entry = by_source line.source entry where
   by_source : Source → RibSource → Option ℕ

@@ -1,6 +1,7 @@
--- Interfaces that run OSPF, what they advertise, and adjacencies (RFC 2328, sections 9 and 10; Cisco IOS, `network area`,
--- `passive-interface`, `auto-cost` and `ip ospf cost`).
-use Rattle.std.specs.Prelude.{ℕ, ◌*◌, ◌/◌, ◌==◌, ◌&&◌, ◌||◌, Bool, not, List, [], max, min, filter, fold, map, slice_get, Option, None, option_and_then, option_map, unwrap_or, if◌then◌else◌}
+-- Interfaces that run OSPF, what they advertise, and adjacencies (RFC 2328, sections 9 and 10; Cisco IOS, `network
+-- area`, `passive-interface`, `auto-cost` and `ip ospf cost`).
+use Rattle.std.specs.Prelude.{ℕ, ◌*◌, ◌/◌, ◌==◌, ◌&&◌, ◌||◌, Bool, not, List, [], max, min, filter, fold, map}
+use Rattle.std.specs.Prelude.{slice_get, Option, None, option_and_then, option_map, unwrap_or, if◌then◌else◌}
 use Rattle.std.specs.List.{filter_map, find, flat_map, list_any}
 use Rattle.mw_text.specs.declared.address.Addr.{Addr}
 use Rattle.mw_text.specs.declared.address.Prefix.{Prefix}
@@ -51,12 +52,14 @@ running process iface x = record {
 
 abbrev pub running_in : File → Ospf → Addressed → Option OspfInterface
 running_in file process x =
-    if is_matched process x.addr then option_map (λ iface. running process iface x) (slice_get file.interfaces x.id.at) else None
+    if is_matched process x.addr then option_map (λ iface. running process iface x)
+    (slice_get file.interfaces x.id.at) else None
 
 -- the interface as its router's process runs it
 abbrev pub ospf_at : List File → Addressed → Option OspfInterface
 ospf_at files x =
-    option_and_then (λ file. option_and_then (λ process. running_in file process x) file.ospf) (slice_get files x.id.router)
+    option_and_then (λ file. option_and_then (λ process. running_in file process x) file.ospf)
+    (slice_get files x.id.router)
 
 -- all interfaces that run OSPF, shut down or not, in the order of the files
 unfoldable pub ospf_interfaces : List File → List OspfInterface
@@ -104,9 +107,11 @@ is_up_at files failures i =
 -- the adjacencies over which a router receives: both interfaces are up
 unfoldable pub up_adjacencies : List File → Failures → ℕ → List Adjacency
 up_adjacencies files failures router =
-    filter (λ a. (a.from.router == router) && (is_up_at files failures a.from && is_up_at files failures a.to)) (adjacencies files)
+    filter (λ a. (a.from.router == router) && (is_up_at files failures a.from && is_up_at files failures a.to))
+    (adjacencies files)
 
 -- the interfaces of a router by which it originates the prefix: they advertise it and are up
 abbrev pub origin_interfaces : List File → Failures → ℕ → Prefix → List OspfInterface
 origin_interfaces files failures router p =
-    filter (λ x. (x.at.id.router == router) && (same_prefix (advertisement x) p && is_up files failures x.at)) (ospf_interfaces files)
+    filter (λ x. (x.at.id.router == router) && (same_prefix (advertisement x) p && is_up files failures x.at))
+    (ospf_interfaces files)

@@ -1,5 +1,6 @@
 -- The OSPF route that a router holds (RFC 2328, section 16.4).
-use Rattle.std.specs.Prelude.{ℕ, ◌+◌, ◌==◌, ◌&&◌, ◌||◌, ◌^◌, Bool, true, false, not, List, [], ◌++◌, fold, map, nat_lt, Option, Some, None, option_and_then, if◌then◌else◌}
+use Rattle.std.specs.Prelude.{ℕ, ◌+◌, ◌==◌, ◌&&◌, ◌||◌, ◌^◌, Bool, true, false, not, List, [], ◌++◌, fold, map, nat_lt}
+use Rattle.std.specs.Prelude.{Option, Some, None, option_and_then, if◌then◌else◌}
 use Rattle.std.specs.List.{filter_map, list_any}
 use Rattle.std.specs.Option.{option_map_or}
 use Rattle.mw_text.specs.declared.address.Prefix.{Prefix}
@@ -71,4 +72,5 @@ held_by_ospf files failures tables router file process p =
 -- an own origin is as good as the held record
 abbrev pub is_own : List File → Failures → ℕ → File → Prefix → Slot → OspfRec → Bool
 is_own files failures router file p slot held =
-    option_map_or (λ process. list_any (λ o. is_as_good o held) (own_origins files failures router file process p slot)) file.ospf false
+    option_map_or (λ process. list_any (λ o. is_as_good o held)
+    (own_origins files failures router file process p slot)) file.ospf false

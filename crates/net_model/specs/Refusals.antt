@@ -1,5 +1,7 @@
 -- Which files form no network: the rules that they keep, and the first line that breaks one.
-use Rattle.std.specs.Prelude.{ℕ, ◌+◌, ◌==◌, ◌&&◌, ◌||◌, Bool, true, false, not, nat_lt, nat_le, List, [], ◌∷◌, length, take, map, filter, fold, min, slice_get, Option, Some, None, option_and_then, option_map, if◌then◌else◌}
+use Rattle.std.specs.Prelude.{ℕ, ◌+◌, ◌==◌, ◌&&◌, ◌||◌, Bool, true, false, not, nat_lt, nat_le, List, [], ◌∷◌, length}
+use Rattle.std.specs.Prelude.{take, map, filter, fold, min, slice_get, Option, Some, None, option_and_then, option_map}
+use Rattle.std.specs.Prelude.{if◌then◌else◌}
 use Rattle.std.specs.List.{filter_map, list_any}
 use Rattle.std.specs.Option.{option_map_or, option_or}
 use Rattle.mw_text.specs.declared.address.Addr.{Addr}
@@ -24,14 +26,17 @@ use Rattle.ios_ast.specs.declared.policies.Match.{Match}
 use Rattle.ios_ast.specs.declared.policies.Match.TheVariants.{Access, Prefixes, Communities, Paths}
 use Rattle.ios_ast.specs.declared.policies.RouteMap.{RouteMap}
 use Rattle.net_model.specs.declared.refusals.NetCause.{NetCause}
-use Rattle.net_model.specs.declared.refusals.NetCause.TheVariants.{Undefined, SameName, SameAddress, SubnetClash, NextHopNotConnected, ExternalInternalPeer, SecondArea, NetLimit, Memory}
+use Rattle.net_model.specs.declared.refusals.NetCause.TheVariants.{Undefined, SameName, SameAddress, SubnetClash}
+use Rattle.net_model.specs.declared.refusals.NetCause.TheVariants.{NextHopNotConnected, ExternalInternalPeer}
+use Rattle.net_model.specs.declared.refusals.NetCause.TheVariants.{SecondArea, NetLimit, Memory}
 use Rattle.net_model.specs.declared.refusals.NetRefused.{NetRefused}
 use Rattle.net_model.specs.declared.refusals.TheConstants.{MOST_FILES}
 use Rattle.net_model.specs.declared.tracking.Said.{Said}
 use Rattle.net_model.specs.declared.tracking.TheConstants.{MOST_COMMUNITIES}
 use Rattle.route_record.specs.declared.tracked.TheConstants.{MOST_TRACKED}
 use Rattle.net_model.specs.declared.undefined.Kind.{Kind}
-use Rattle.net_model.specs.declared.undefined.Kind.TheVariants.{Interface, AccessList, PrefixList, CommunityList, PathList, Map}
+use Rattle.net_model.specs.declared.undefined.Kind.TheVariants.{Interface, AccessList, PrefixList, CommunityList}
+use Rattle.net_model.specs.declared.undefined.Kind.TheVariants.{PathList, Map}
 use Rattle.net_model.specs.Interfaces.{is_loopback}
 use Rattle.net_model.specs.Connected.{is_connected, overlap, reaches}
 use Rattle.net_model.specs.Tracked.{ordered, said_communities, said_numbers, tracked_communities, tracked_numbers}
@@ -65,12 +70,14 @@ some_has a files = list_any (λ file. list_any (has_address a) file.interfaces) 
 
 -- the interface has the same address, by an earlier line
 abbrev pub has_above : IfAddr → Iface → Bool
-has_above own iface = option_map_or (λ other. nat_lt other.line own.line && (other.addr.0 == own.addr.0)) iface.address false
+has_above own iface =
+    option_map_or (λ other. nat_lt other.line own.line && (other.addr.0 == own.addr.0)) iface.address false
 
 -- the `ip address` line of an address that an interface of an earlier file has, or of an earlier line of this one
 abbrev pub taken_line : List File → File → Iface → Option ℕ
 taken_line before file iface =
-    option_and_then (λ own. line_if (some_has own.addr before || list_any (has_above own) file.interfaces) own.line) iface.address
+    option_and_then (λ own. line_if (some_has own.addr before || list_any (has_above own) file.interfaces) own.line)
+    iface.address
 
 abbrev pub same_address_line : List File → File → Option ℕ
 same_address_line before file = least (taken_line before file) file.interfaces
@@ -84,17 +91,20 @@ are_on_one a b = same_prefix (prefix_at a.addr a.len) (prefix_at b.addr b.len)
 -- the subnet overlaps that of an interface of another router, unless they are one subnet and neither is a loopback's
 abbrev pub clashes_abroad : IfAddr → Bool → Iface → Bool
 clashes_abroad own loopback iface =
-    option_map_or (λ other. addresses_overlap own other && not (are_on_one own other && not (loopback || is_loopback iface.name)))
+    option_map_or (λ other. addresses_overlap own other
+    && not (are_on_one own other && not (loopback || is_loopback iface.name)))
     iface.address false
 
 -- it overlaps that of an interface of the same router, by an earlier line
 abbrev pub clashes_above : IfAddr → Iface → Bool
-clashes_above own iface = option_map_or (λ other. nat_lt other.line own.line && addresses_overlap own other) iface.address false
+clashes_above own iface =
+    option_map_or (λ other. nat_lt other.line own.line && addresses_overlap own other) iface.address false
 
 -- the subnet clashes with that of an interface of an earlier file, or of an earlier line of this one
 abbrev pub clashes : List File → File → IfAddr → Bool → Bool
 clashes before file own loopback =
-    list_any (λ f. list_any (clashes_abroad own loopback) f.interfaces) before || list_any (clashes_above own) file.interfaces
+    list_any (λ f. list_any (clashes_abroad own loopback) f.interfaces) before
+    || list_any (clashes_above own) file.interfaces
 
 -- the `ip address` line of such a subnet
 abbrev pub clash_line : List File → File → Iface → Option ℕ
@@ -114,8 +124,10 @@ has_entries entries = nat_lt 0 (length entries)
 abbrev pub is_known : File → Kind → List ℕ → Bool
 is_known file Interface name = list_any (λ iface. same_text iface.name name) file.interfaces
 is_known file AccessList name = list_any (λ l. same_text l.name name && has_entries l.entries) file.policies.access
-is_known file PrefixList name = list_any (λ l. same_text l.name name && has_entries l.entries) file.policies.prefix_lists
-is_known file CommunityList name = list_any (λ l. same_text l.name name && has_entries l.entries) file.policies.communities
+is_known file PrefixList name =
+    list_any (λ l. same_text l.name name && has_entries l.entries) file.policies.prefix_lists
+is_known file CommunityList name =
+    list_any (λ l. same_text l.name name && has_entries l.entries) file.policies.communities
 is_known file PathList name = list_any (λ l. same_text l.name name && has_entries l.entries) file.policies.as_paths
 is_known file Map name = list_any (λ l. same_text l.name name && has_entries l.entries) file.policies.maps
 
@@ -180,7 +192,8 @@ undefined_in_ospf file = option_and_then (undefined_in_process file) file.ospf
 -- the prefix lists and AS-path lists of a neighbour
 abbrev pub undefined_in_lists : File → Neighbour → Option ℕ
 undefined_in_lists file neighbour =
-    earlier (earlier (undefined_option file PrefixList neighbour.prefix_in) (undefined_option file PrefixList neighbour.prefix_out))
+    earlier (earlier (undefined_option file PrefixList neighbour.prefix_in)
+    (undefined_option file PrefixList neighbour.prefix_out))
     (earlier (undefined_option file PathList neighbour.filter_in) (undefined_option file PathList neighbour.filter_out))
 
 -- its `update-source` interface, its lists and its maps
@@ -238,7 +251,8 @@ unconnected_line file = least (unconnected_route file.interfaces) file.statics
 -- the address is on the subnet of one of the interfaces, of that which is named where one is
 abbrev pub reached_over : List Iface → Option Use → Addr → Bool
 reached_over interfaces None a = list_any (reaches a) interfaces
-reached_over interfaces (Some named) a = list_any (λ iface. same_text iface.name named.name && reaches a iface) interfaces
+reached_over interfaces (Some named) a =
+    list_any (λ iface. same_text iface.name named.name && reaches a iface) interfaces
 
 -- an external peer, shut down or not: no interface of the files has its address, which is on the subnet from which the
 -- router speaks to it
@@ -273,7 +287,8 @@ abbrev pub second_area_of : ℕ → Ospf → Option ℕ
 second_area_of area process = least (second_area area) process.networks
 
 abbrev pub second_area_line : List File → File → Option ℕ
-second_area_line files file = option_and_then (λ area. option_and_then (second_area_of area) file.ospf) (first_area files)
+second_area_line files file =
+    option_and_then (λ area. option_and_then (second_area_of area) file.ospf) (first_area files)
 
 -- ---- limits of a network
 
@@ -354,9 +369,11 @@ refused_by_addresses files = option_or (option_or (same_name files) (same_addres
 
 abbrev pub refused_by_uses : Option NetRefused → List File → Option NetRefused
 refused_by_uses found files =
-    option_or (option_or (option_or found (undefined files)) (next_hop_not_connected files)) (external_internal_peer files)
+    option_or (option_or (option_or found (undefined files)) (next_hop_not_connected files))
+    (external_internal_peer files)
 
 -- why the files form no network: by the first of the rules that they break
 unfoldable pub first_refusal : List File → Option NetRefused
 first_refusal files =
-    option_or (option_or (refused_by_uses (refused_by_addresses files) files) (second_area_number files)) (net_limit files)
+    option_or (option_or (refused_by_uses (refused_by_addresses files) files) (second_area_number files))
+    (net_limit files)

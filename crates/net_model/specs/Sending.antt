@@ -29,7 +29,8 @@ sent_by_ospf files failures tables router p held =
 -- an adjacency lies on a least walk to the prefix
 abbrev pub is_on_least_walk : List File → Failures → ℕ → Prefix → Adjacency → Bool
 is_on_least_walk files failures router p a =
-    option_map_or (λ d. option_map_or (λ further. d == a.cost + further) (interior_distance files failures a.to.router p) false)
+    option_map_or (λ d. option_map_or (λ further. d == a.cost + further)
+    (interior_distance files failures a.to.router p) false)
     (interior_distance files failures router p) false
 
 -- towards an address that no subnet of the router has, it sends over each adjacency on a least walk to the advertised

@@ -1,5 +1,6 @@
 -- Ends of BGP sessions (RFC 4271, section 8; Cisco IOS, `neighbor remote-as` and `neighbor update-source`).
-use Rattle.std.specs.Prelude.{ℕ, ◌+◌, ◌==◌, ◌&&◌, ◌||◌, Bool, true, false, not, List, [], ◌∷◌, ◌++◌, filter, is_some, length, map, position, slice_get, Option, option_and_then, unwrap_or, if◌then◌else◌}
+use Rattle.std.specs.Prelude.{ℕ, ◌+◌, ◌==◌, ◌&&◌, ◌||◌, Bool, true, false, not, List, [], ◌∷◌, ◌++◌, filter, is_some}
+use Rattle.std.specs.Prelude.{length, map, position, slice_get, Option, option_and_then, unwrap_or, if◌then◌else◌}
 use Rattle.std.specs.List.{find, list_any}
 use Rattle.std.specs.Option.{option_map_or}
 use Rattle.mw_text.specs.Address.{covers, same_prefix}
@@ -21,8 +22,8 @@ runs_bgp file = is_some file.bgp
 abbrev pub has_name : File → Addressed → List ℕ → Bool
 has_name file x name = option_map_or (λ iface. same_text iface.name name) (slice_get file.interfaces x.id.at) false
 
--- a router speaks to a neighbour from the interface that `update-source` names, and without that line from the one whose
--- subnet has the neighbour's address
+-- a router speaks to a neighbour from the interface that `update-source` names, and without that line from the one
+-- whose subnet has the neighbour's address
 abbrev pub speaks_from : File → Neighbour → Addressed → Bool
 speaks_from file neighbour x =
     option_map_or (λ named. has_name file x named.name) neighbour.source (covers x.subnet neighbour.addr)
@@ -49,7 +50,8 @@ peerings_from own router file asn at (neighbour ∷ rest) =
 -- those of one router
 abbrev pub peerings_of : List Addressed → ℕ → File → List Peering
 peerings_of all router file =
-    option_map_or (λ bgp. peerings_from (filter (λ x. x.id.router == router) all) router file bgp.asn 0 bgp.neighbours) file.bgp []
+    option_map_or (λ bgp. peerings_from
+    (filter (λ x. x.id.router == router) all) router file bgp.asn 0 bgp.neighbours) file.bgp []
 
 -- those of the routers from that number on
 abbrev pub peerings_routers : List Addressed → ℕ → List File → List Peering

@@ -1,5 +1,6 @@
 -- The stable routings of a network for one destination.
-use Rattle.std.specs.Prelude.{◌≡◌, ℕ, ◌*◌, ◌<◌, List, length, Option, Some, None, MatchOption, option_and_then, slice_get}
+use Rattle.std.specs.Prelude.{◌≡◌, ℕ, ◌*◌, ◌<◌, List, length, Option, Some, None, MatchOption, option_and_then}
+use Rattle.std.specs.Prelude.{slice_get}
 use Rattle.mw_text.specs.declared.address.Addr.{Addr}
 use Rattle.mw_text.specs.declared.address.Prefix.{Prefix}
 use Rattle.mw_text.specs.Address.{prefix_at}
@@ -24,7 +25,8 @@ held_ospf files failures tables router file p =
 -- the BGP record is what the decision process leaves: none where the router runs no BGP
 abbrev pub IsDecided : List File → Failures → Environment → Tables → ℕ → File → Prefix → Option BgpRec → Type 0
 IsDecided files failures environment tables router file p held =
-    MatchOption file.bgp (held ≡ None) (λ process. DecidedByBgp files failures environment tables router file process p held)
+    MatchOption file.bgp (held ≡ None)
+    (λ process. DecidedByBgp files failures environment tables router file process p held)
 
 -- the three equations of a slot: its OSPF part, its BGP part and its table entry, each computed from the tables
 pub record IsStableSlot (files : List File) (failures : Failures) (environment : Environment) (tables : Tables)

@@ -1,5 +1,6 @@
 -- Links and their failures, and what the external peers of a network send.
-use Rattle.std.specs.Prelude.{◌≡◌, ℕ, ◌==◌, ◌&&◌, ◌||◌, ◌<◌, ◌≤◌, Bool, not, List, [], ◌∷◌, length, filter, map, nat_lt, fold, IsTrue, Some, slice_get, All, AllPairs, IfSome, ◌^◌, ◌⊎◌, if◌then◌else◌}
+use Rattle.std.specs.Prelude.{◌≡◌, ℕ, ◌==◌, ◌&&◌, ◌||◌, ◌<◌, ◌≤◌, Bool, not, List, [], ◌∷◌, length, filter, map}
+use Rattle.std.specs.Prelude.{nat_lt, fold, IsTrue, Some, slice_get, All, AllPairs, IfSome, ◌^◌, ◌⊎◌, if◌then◌else◌}
 use Rattle.std.specs.List.{list_any, list_all}
 use Rattle.std.specs.Option.{option_map_or}
 use Rattle.mw_text.specs.declared.address.Prefix.{Prefix}
@@ -43,7 +44,8 @@ is_link all peers p = list_any (is_joined_by all p) all || list_any (is_peered_b
 -- the links of a network: the subnets of no loopback on which at least two routers have an interface that is not shut
 -- down, or on which an external peer lies, in ascending order
 abbrev pub links_of : List File → List Prefix
-links_of files = filter (is_link (addressed files) (peerings files)) (fold put_in_order [] (map (λ x. x.subnet) (addressed files)))
+links_of files = filter (is_link (addressed files) (peerings files))
+    (fold put_in_order [] (map (λ x. x.subnet) (addressed files)))
 
 -- numbers that ascend
 abbrev pub ascends : List ℕ → Bool

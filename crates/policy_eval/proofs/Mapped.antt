@@ -16,7 +16,8 @@ code_back Igp = refl
 code_back Egp = refl
 code_back Incomplete = refl
 
-made_rest : (rec : BgpRec) (made : MapRec) → KeepsRest (as_map_rec rec) made → with_attributes rec (attributes_of made) ≡ made.bgp
+made_rest : (rec : BgpRec) (made : MapRec) → KeepsRest (as_map_rec rec) made
+    → with_attributes rec (attributes_of made) ≡ made.bgp
 made_rest rec made keeps =
     let from : rec.from ≡ made.bgp.from = sym keeps.from in
     let next_hop : rec.next_hop ≡ made.bgp.next_hop = sym keeps.next_hop in

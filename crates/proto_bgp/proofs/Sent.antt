@@ -1,5 +1,6 @@
 -- What a router sends of a route that its outgoing map leaves.
-use Rattle.std.proofs.Common.{◌≡◌, ◌∙◌, ◌==◌, ◌&&◌, ◌||◌, Bool, true, false, not, length, if◌then◌else◌, List, refl, sym, ap, Option, Some, None}
+use Rattle.std.proofs.Common.{◌≡◌, ◌∙◌, ◌==◌, ◌&&◌, ◌||◌, Bool, true, false, not, length, if◌then◌else◌, List, refl}
+use Rattle.std.proofs.Common.{sym, ap, Option, Some, None}
 use Rattle.std.specs.List.{slice_get}
 use Rattle.std.specs.Option.{option_and_then, option_map}
 use Rattle.ios_ast.specs.Setting.{Attributes}
@@ -41,7 +42,8 @@ same_message : (files : List File) (file : File) (process : Bgp) (neighbour : Ne
 same_message files file process neighbour end own p held r = rw (code_back (origin_of_code r.origin)) refl
 
 -- the router at the end has this file, process and neighbour, the route may go, and the map makes this of it
-pub record IsSentBy (files : List File) (file : File) (process : Bgp) (neighbour : Neighbour) (end : SessionEnd) (p : Prefix)
+pub record IsSentBy (files : List File) (file : File) (process : Bgp) (neighbour : Neighbour) (end : SessionEnd)
+    (p : Prefix)
     (held made : BgpRec) : Type 0 where
   pub in_file : slice_get files end.router ≡ Some file
   pub runs : file.bgp ≡ Some process
@@ -57,7 +59,8 @@ sent_law : (files : List File) (file : File) (process : Bgp) (neighbour : Neighb
     (held made : BgpRec) (msg : BgpMsg) → exports.may_go files process end held ≡ true →
     (exports.passes_prefixes file.policies neighbour.prefix_out p
     && exports.passes_paths file.policies neighbour.filter_out held.path) ≡ true →
-    Some made ≡ option_map (with_attributes held) (through_map file.policies neighbour.map_out p (not end.internal) (attributes_of held)) →
+    Some made ≡ option_map (with_attributes held)
+    (through_map file.policies neighbour.map_out p (not end.internal) (attributes_of held)) →
     msg ≡ message_over files file process neighbour end (exports.own_address files end) p held (attributes_of made) →
     Some msg ≡ exports.sent files file process neighbour end p held
 sent_law files file process neighbour end p held made msg may pass left is =
@@ -80,7 +83,8 @@ exported_law files file process neighbour end p held made msg by is =
     sent_law files file process neighbour end p held made msg by.may by.pass by.left is
     ∙ sym (ap (option_and_then (λ f. option_and_then (λ b. option_and_then (λ n.
     exports.sent files f b n end p held) (neighbour_of files end)) f.bgp)) by.in_file
-    ∙ ap (option_and_then (λ b. option_and_then (λ n. exports.sent files file b n end p held) (neighbour_of files end))) by.runs
+    ∙ ap (option_and_then
+    (λ b. option_and_then (λ n. exports.sent files file b n end p held) (neighbour_of files end))) by.runs
     ∙ ap (option_and_then (λ n. exports.sent files file process n end p held)) by.has)
 
 -- over an internal session

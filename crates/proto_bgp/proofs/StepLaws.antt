@@ -1,5 +1,6 @@
 -- Steps over places do what steps over the candidates at these do.
-use Rattle.std.proofs.Common.{◌≡◌, ◌∙◌, ℕ, Bool, true, false, not, ◌||◌, ◌+◌, ◌<◌, List, [], ◌∷◌, ◌++◌, length, take, get_or, arith, inl, inr, map, fold, refl, sym, ap, if◌then◌else◌, Option, Some, None}
+use Rattle.std.proofs.Common.{◌≡◌, ◌∙◌, ℕ, Bool, true, false, not, ◌||◌, ◌+◌, ◌<◌, List, [], ◌∷◌, ◌++◌, length, take}
+use Rattle.std.proofs.Common.{get_or, arith, inl, inr, map, fold, refl, sym, ap, if◌then◌else◌, Option, Some, None}
 use Rattle.std.specs.List.{filter, filter_map, list_any, slice_get}
 use Rattle.std.specs.Option.{option_map_or}
 use Rattle.std.proofs.lemmas.List.{map-append, take_more}
@@ -25,7 +26,8 @@ pub any_found : {X Y : Type 0} (f : X → Option Y) (q : Y → Bool) (xs : List 
 any_found f q [] = refl
 any_found f q (x ∷ xs) = any_one f q x xs (f x) refl (any_found f q xs)
 
-kept_one : {X Y : Type 0} (f : X → Option Y) (p : X → Bool) (q : Y → Bool) (x : X) (xs : List X) (o : Option Y) (b : Bool) →
+kept_one : {X Y : Type 0} (f : X → Option Y) (p : X → Bool) (q : Y → Bool) (x : X) (xs : List X) (o : Option Y)
+    (b : Bool) →
     f x ≡ o → p x ≡ b → ((y : Y) → f x ≡ Some y → p x ≡ q y) →
     filter_map f (filter p xs) ≡ filter q (filter_map f xs) →
     filter_map f (filter p (x ∷ xs)) ≡ filter q (filter_map f (x ∷ xs))
@@ -74,7 +76,8 @@ places_stay always candidates count left (step ∷ steps) are =
       ascending = AllPairs-filter (λ a b. a < b) p left are.ascending;
     })
 
-found_at : (candidates : List Candidate) (at : ℕ) (c : Candidate) → at < length candidates → slice_get candidates at ≡ Some c →
+found_at : (candidates : List Candidate) (at : ℕ) (c : Candidate) → at < length candidates → slice_get candidates at
+    ≡ Some c →
     get_or candidates at c ≡ c → (places : List ℕ) → candidates_at candidates places ≡ map seen (take at candidates) →
     candidates_at candidates (places ++ at ∷ []) ≡ map seen (take (at + 1) candidates)
 found_at candidates at c within is same places every =
@@ -101,7 +104,8 @@ are_more places at are = record {
   ascending = all_pairs_push (λ a b. a < b) places at are.ascending (λ k d h. are.within k d h);
 }
 
-to_cost : (always : Bool) (candidates : List Candidate) (all left : List ℕ) → candidates_at candidates all ≡ map seen candidates →
+to_cost : (always : Bool) (candidates : List Candidate) (all left : List ℕ) → candidates_at candidates all
+    ≡ map seen candidates →
     left ≡ fold (places_left always candidates) all steps_to_cost →
     candidates_at candidates left ≡ fold decisions.step (map seen candidates) (decisions.up_to_cost always)
 to_cost always candidates all left every is =

@@ -18,7 +18,8 @@ candidates_at candidates places = filter_map (candidate_at candidates) places
 -- whether the candidate at the second place removes that at the first
 abbrev pub removes_at : List Candidate → (decisions.Candidate → decisions.Candidate → Bool) → ℕ → ℕ → Bool
 removes_at candidates removes at other =
-    option_map_or (λ c. option_map_or (removes c) (candidate_at candidates other) false) (candidate_at candidates at) false
+    option_map_or (λ c. option_map_or (removes c) (candidate_at candidates other) false)
+    (candidate_at candidates at) false
 
 -- the places that a step leaves
 abbrev pub places_left : Bool → List Candidate → List ℕ → Step → List ℕ

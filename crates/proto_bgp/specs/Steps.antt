@@ -1,10 +1,12 @@
 -- The steps of the decision process by their names.
 use Rattle.std.specs.Prelude.{Bool, List, [], ◌∷◌}
 use Rattle.net_model.specs.Decisions as decisions
-use Rattle.net_model.specs.Decisions.{by_weight, by_preference, by_origination, by_path, by_origin, by_med, by_session, by_cost, by_identifier, by_clusters, by_address}
+use Rattle.net_model.specs.Decisions.{by_weight, by_preference, by_origination, by_path, by_origin, by_med, by_session}
+use Rattle.net_model.specs.Decisions.{by_cost, by_identifier, by_clusters, by_address}
 use Rattle.proto_bgp.specs.declared.decision.Candidate.{Candidate}
 use Rattle.proto_bgp.specs.declared.steps.Step.{Step}
-use Rattle.proto_bgp.specs.declared.steps.Step.TheVariants.{Weight, Preference, Origination, PathLength, Origin, Med, Session, Cost, Identifier, Clusters, Address}
+use Rattle.proto_bgp.specs.declared.steps.Step.TheVariants.{Weight, Preference, Origination, PathLength, Origin, Med}
+use Rattle.proto_bgp.specs.declared.steps.Step.TheVariants.{Session, Cost, Identifier, Clusters, Address}
 
 -- a candidate as the decision process sees it
 abbrev pub seen : Candidate → decisions.Candidate

@@ -1,5 +1,6 @@
 -- Distances stay small: each round adds at most one cost.
-use Rattle.std.proofs.Common.{◌≡◌, ℕ, zero, suc, ◌+◌, ◌*◌, ◌<◌, ◌≤◌, List, length, [], ◌∷◌, Option, Some, None, arith, refl}
+use Rattle.std.proofs.Common.{◌≡◌, ℕ, zero, suc, ◌+◌, ◌*◌, ◌<◌, ◌≤◌, List, length, [], ◌∷◌, Option, Some, None, arith}
+use Rattle.std.proofs.Common.{refl}
 use Rattle.std.specs.Prelude.{All, IfSome, fold, map, option_map}
 use Rattle.std.specs.List.{cons_option, filter_map, range_with_len}
 use Rattle.std.proofs.lemmas.List.Elements.{All-cons, All-filter, All-head, All-map, All-nil, All-tail, All-weaker}
@@ -47,7 +48,8 @@ router_below most (o ∷ rest) (suc router) all = router_below most rest router 
 
 over_below : (most : ℕ) (before : List (Option ℕ)) (a : Adjacency) → AtMost most before → a.cost ≤ 65535 →
     Below (65535 + most) (over before a)
-over_below most before a all cheap = by_distance (of_router before a.to.router) (router_below most before a.to.router all)
+over_below most before a all cheap =
+    by_distance (of_router before a.to.router) (router_below most before a.to.router all)
   where
     by_distance : (o : Option ℕ) → Below most o → Below (65535 + most) (option_map (λ d. a.cost + d) o)
     by_distance None below = tt
@@ -81,10 +83,12 @@ rounds_below own receivers (suc k) start cheap =
     (λ x. Below (65535 + 65535 * (k + 1)) (nearest own (rounds own receivers k) x))
     (λ x is. nearest_below (65535 * (k + 1)) own (rounds own receivers k) x start deeper is) receivers cheap) in
     All-weaker (Below (65535 + 65535 * (k + 1))) (Below (65535 * (suc k + 1)))
-    (λ o is. weaker (65535 + 65535 * (k + 1)) (65535 * (suc k + 1)) o (omega arith) is) (rounds own receivers (suc k)) now
+    (λ o is. weaker (65535 + 65535 * (k + 1)) (65535 * (suc k + 1)) o (omega arith) is)
+    (rounds own receivers (suc k)) now
 
 -- so in a network's rounds all have 31 bits
-pub rounds_small : (own : List (Option ℕ)) (receivers : List Receiver) (k : ℕ) → AtMost 65535 own → AreCheap receivers → k ≤ 64 →
+pub rounds_small : (own : List (Option ℕ)) (receivers : List Receiver) (k : ℕ) → AtMost 65535 own → AreCheap receivers
+    → k ≤ 64 →
     AtMost 0x7fff_ffff (rounds own receivers k)
 rounds_small own receivers k start cheap few =
     let all = rounds_below own receivers k start cheap in
@@ -97,17 +101,20 @@ rounds_small own receivers k start cheap few =
 abbrev IsCost : ℕ → Type 0
 IsCost cost = (0 < cost) × (cost ≤ 65535)
 
-own_below : (files : List File) (failures : Failures) (p : Prefix) (router : ℕ) → All (λ x. IsCost x.cost) (ospf_interfaces files) →
+own_below : (files : List File) (failures : Failures) (p : Prefix) (router : ℕ)
+    → All (λ x. IsCost x.cost) (ospf_interfaces files) →
     Below 65535 (own_cost files failures p router)
 unfolding own_cost
 own_below files failures p router costs =
     fold_below 65535 None (map (λ x. x.cost) (origin_interfaces files failures router p)) tt
     (All-map (λ n. n ≤ 65535) (λ (x : OspfInterface). x.cost) (origin_interfaces files failures router p)
     (All-filter _ (λ (x : OspfInterface). x.cost ≤ 65535) (ospf_interfaces files)
-    (All-weaker (λ (x : OspfInterface). IsCost x.cost) (λ (x : OspfInterface). x.cost ≤ 65535) (λ x is. is.1) (ospf_interfaces files) costs)))
+    (All-weaker (λ (x : OspfInterface). IsCost x.cost) (λ (x : OspfInterface). x.cost ≤ 65535) (λ x is. is.1)
+    (ospf_interfaces files) costs)))
 
 -- the own costs of all routers
-pub own_costs_below : (files : List File) (failures : Failures) (p : Prefix) → All (λ x. IsCost x.cost) (ospf_interfaces files) →
+pub own_costs_below : (files : List File) (failures : Failures) (p : Prefix)
+    → All (λ x. IsCost x.cost) (ospf_interfaces files) →
     AtMost 65535 (everywhere files (own_cost files failures p))
 own_costs_below files failures p costs =
     All-map (Below 65535) (own_cost files failures p) (range_with_len 0 (length files))
@@ -118,7 +125,8 @@ receiver_cheap : (files : List File) (failures : Failures) (router : ℕ) → Al
 unfolding up_adjacencies
 receiver_cheap files failures router costs =
     All-filter _ (λ (a : Adjacency). a.cost ≤ 65535) (adjacencies files)
-    (All-weaker (λ (a : Adjacency). IsCost a.cost) (λ (a : Adjacency). a.cost ≤ 65535) (λ a is. is.1) (adjacencies files) costs)
+    (All-weaker (λ (a : Adjacency). IsCost a.cost) (λ (a : Adjacency). a.cost ≤ 65535) (λ a is. is.1)
+    (adjacencies files) costs)
 
 -- the adjacencies of all routers
 pub receivers_cheap : (files : List File) (failures : Failures) → All (λ a. IsCost a.cost) (adjacencies files) →

@@ -1,5 +1,6 @@
 -- The rounds have the distances of the definition, at every router.
-use Rattle.std.proofs.Common.{◌≡◌, ℕ, zero, suc, ◌+◌, ◌<◌, ◌≤◌, Bool, true, false, ◌&&◌, eqb, List, [], ◌∷◌, ◌++◌, length, map, filter, Option, Some, None, inl, inr, refl, sym, ap, arith, ◌∙◌}
+use Rattle.std.proofs.Common.{◌≡◌, ℕ, zero, suc, ◌+◌, ◌<◌, ◌≤◌, Bool, true, false, ◌&&◌, eqb, List, [], ◌∷◌, ◌++◌}
+use Rattle.std.proofs.Common.{length, map, filter, Option, Some, None, inl, inr, refl, sym, ap, arith, ◌∙◌}
 use Rattle.std.specs.Prelude.{All, fold, option_map, option_and_then, slice_get, if◌then◌else◌}
 use Rattle.std.specs.List.{filter_map, flat_map, range_with_len}
 use Rattle.std.specs.Option.{option_map_or, option_to_list}
@@ -21,7 +22,8 @@ use Rattle.net_model.specs.Distances.{distance_within, interior_distance, least,
 use Rattle.net_model.specs.Interfaces.{addressed, addressed_from, addressed_iface, addressed_routers}
 use Rattle.net_model.specs.World.{is_up}
 use Rattle.mw_text.specs.Address.{same_prefix}
-use Rattle.net_model.specs.Ospf.{adjacencies, adjacencies_of, adjacency, advertisement, are_adjacent, is_matched, is_up_at, ospf_at, ospf_interfaces, running, up_adjacencies}
+use Rattle.net_model.specs.Ospf.{adjacencies, adjacencies_of, adjacency, advertisement, are_adjacent, is_matched}
+use Rattle.net_model.specs.Ospf.{is_up_at, ospf_at, ospf_interfaces, running, up_adjacencies}
 use Rattle.proto_ospf.specs.Rounds.{everywhere, interior_distances, lower, nearest, of_router, over, receiver, rounds}
 use Rattle.proto_ospf.proofs.Bounds.{all_filter_map}
 
@@ -31,7 +33,8 @@ all_flat_map : {X Y : Type 0} (P : X → Type 0) (Q : Y → Type 0) (f : X → L
     ((x : X) → P x → All Q (f x)) → All P xs → All Q (flat_map f xs)
 all_flat_map P Q f [] gives all = All-nil Q
 all_flat_map P Q f (x ∷ xs) gives all =
-    All-append Q (f x) (flat_map f xs) (gives x (All-head P x xs all)) (all_flat_map P Q f xs gives (All-tail P x xs all))
+    All-append Q (f x) (flat_map f xs) (gives x (All-head P x xs all))
+    (all_flat_map P Q f xs gives (All-tail P x xs all))
 
 filter_none : {X : Type 0} (test : X → Bool) (xs : List X) → All (λ x. test x ≡ false) xs → filter test xs ≡ []
 filter_none test [] none = refl
@@ -43,13 +46,15 @@ map_agree : {X Y : Type 0} (f g : X → Y) (xs : List X) → ((x : X) → f x �
 map_agree f g [] same = refl
 map_agree f g (x ∷ xs) same = rw (same x, map_agree f g xs same) refl
 
-filter_map_agree : {X Y : Type 0} (f g : X → Option Y) (xs : List X) → ((x : X) → f x ≡ g x) → filter_map f xs ≡ filter_map g xs
+filter_map_agree : {X Y : Type 0} (f g : X → Option Y) (xs : List X) → ((x : X) → f x ≡ g x) → filter_map f xs
+    ≡ filter_map g xs
 filter_map_agree f g [] same = refl
 filter_map_agree f g (x ∷ xs) same = rw (same x, filter_map_agree f g xs same) refl
 
 -- ---- interfaces and adjacencies are of routers of the files
 
-of_this : (router at : ℕ) (interfaces : List Iface) → All (λ x. x.id.router ≡ router) (addressed_from router at interfaces)
+of_this : (router at : ℕ) (interfaces : List Iface)
+    → All (λ x. x.id.router ≡ router) (addressed_from router at interfaces)
 of_this router at [] = All-nil (λ x. x.id.router ≡ router)
 of_this router at (iface ∷ rest) =
     All-append (λ x. x.id.router ≡ router)
@@ -75,22 +80,27 @@ of_these router (file ∷ rest) =
 same_place : (files : List File) (x : Addressed) (o : OspfInterface) → ospf_at files x ≡ Some o → o.at ≡ x
 same_place files x o is =
     option_and_then_some (λ file. option_and_then (λ process.
-    if is_matched process x.addr then option_map (λ iface. running process iface x) (slice_get file.interfaces x.id.at) else None)
+    if is_matched process x.addr then option_map (λ iface. running process iface x)
+    (slice_get file.interfaces x.id.at) else None)
     file.ospf) (slice_get files x.id.router) o is (λ file found inner.
     option_and_then_some (λ process.
-    if is_matched process x.addr then option_map (λ iface. running process iface x) (slice_get file.interfaces x.id.at) else None)
-    file.ospf o inner (λ process runs made. by_match process (is_matched process x.addr) (slice_get file.interfaces x.id.at) made))
+    if is_matched process x.addr then option_map (λ iface. running process iface x)
+    (slice_get file.interfaces x.id.at) else None)
+    file.ospf o inner (λ process runs made. by_match process (is_matched process x.addr)
+    (slice_get file.interfaces x.id.at) made))
   where
     by_match : (process : Ospf) (b : Bool) (iface : Option Iface) →
         (if b then option_map (λ i. running process i x) iface else None) ≡ Some o → o.at ≡ x
     by_match process true None made = cc
-    by_match process true (Some i) made = let same : running process i x ≡ o = cc in ap (λ (y : OspfInterface). y.at) (sym same)
+    by_match process true (Some i) made = let same : running process i x ≡ o = cc in
+        ap (λ (y : OspfInterface). y.at) (sym same)
     by_match process false iface made = cc
 
 interfaces_within : (files : List File) → All (λ o. o.at.id.router < length files) (ospf_interfaces files)
 unfolding ospf_interfaces
 interfaces_within files =
-    all_filter_map (λ x. x.id.router < 0 + length files) (λ o. o.at.id.router < length files) (ospf_at files) (addressed files)
+    all_filter_map (λ x. x.id.router < 0 + length files) (λ o. o.at.id.router < length files) (ospf_at files)
+    (addressed files)
     (λ x o below is.
     let same = same_place files x o is in
     let there : o.at.id.router ≡ x.id.router = ap (λ (y : Addressed). y.id.router) same in
@@ -102,7 +112,8 @@ unfolding adjacencies
 adjacencies_within files =
     all_flat_map (λ o. o.at.id.router < length files) (λ a. a.from.router < length files)
     (λ o. adjacencies_of o (ospf_interfaces files)) (ospf_interfaces files)
-    (λ o below. All-map (λ a. a.from.router < length files) (adjacency o) (filter (are_adjacent o) (ospf_interfaces files))
+    (λ o below. All-map (λ a. a.from.router < length files) (adjacency o)
+    (filter (are_adjacent o) (ospf_interfaces files))
     (λ k d within. below))
     (interfaces_within files)
 
@@ -112,7 +123,8 @@ other : (a n router : ℕ) (b : Bool) → a < n → n ≤ router → (eqb a rout
 other a n router b below past = let differs : eqb a router ≡ false = grind arith in rw differs refl
 
 -- a test of the router, and of more, takes no member
-none_there : {X : Type 0} (router_of : X → ℕ) (more : X → Bool) (n router : ℕ) (xs : List X) → All (λ x. router_of x < n) xs →
+none_there : {X : Type 0} (router_of : X → ℕ) (more : X → Bool) (n router : ℕ) (xs : List X)
+    → All (λ x. router_of x < n) xs →
     n ≤ router → filter (λ x. eqb (router_of x) router && more x) xs ≡ []
 none_there router_of more n router xs all past =
     filter_none (λ x. eqb (router_of x) router && more x) xs
@@ -156,7 +168,8 @@ no_distance files failures p zero router past =
     within_none files failures p router ∙ no_own_cost files failures p router past
 no_distance files failures p (suc most) router past =
     within_more files failures p most router
-    ∙ ap (λ o. least (option_to_list o ++ filter_map (further files failures p most) (up_adjacencies files failures router)))
+    ∙ ap (λ o. least (option_to_list o
+    ++ filter_map (further files failures p most) (up_adjacencies files failures router)))
     (no_own_cost files failures p router past)
     ∙ ap (λ xs. least (filter_map (further files failures p most) xs)) (no_adjacency files failures router past)
 
@@ -181,13 +194,17 @@ one_more : (files : List File) (failures : Failures) (p : Prefix) (most router :
     (receiver files failures router) ≡ distance_within files failures p (suc most) router
 one_more files failures p most router =
     let own = looked_up files (own_cost files failures p) router (no_own_cost files failures p router) in
-    let before = filter_map_agree (over (everywhere files (distance_within files failures p most))) (further files failures p most)
+    let before = filter_map_agree (over (everywhere files (distance_within files failures p most)))
+    (further files failures p most)
     (up_adjacencies files failures router)
     (λ a. ap (option_map (λ d. a.cost + d)) (looked_up files (distance_within files failures p most) a.to.router
     (no_distance files failures p most a.to.router))) in
-    ap (λ o. fold lower o (filter_map (over (everywhere files (distance_within files failures p most))) (up_adjacencies files failures router))) own
+    ap (λ o. fold lower o
+    (filter_map (over (everywhere files (distance_within files failures p most)))
+    (up_adjacencies files failures router))) own
     ∙ ap (fold lower (own_cost files failures p router)) before
-    ∙ least_from (own_cost files failures p router) (filter_map (further files failures p most) (up_adjacencies files failures router))
+    ∙ least_from (own_cost files failures p router)
+    (filter_map (further files failures p most) (up_adjacencies files failures router))
     ∙ sym (within_more files failures p most router)
 
 -- after so many rounds the distance of each router is that of walks with at most so many adjacencies
@@ -198,9 +215,11 @@ rounds_within files failures p zero =
     map_agree (own_cost files failures p) (distance_within files failures p zero) (range_with_len 0 (length files))
     (λ router. sym (within_none files failures p router))
 rounds_within files failures p (suc most) =
-    ap (λ before. map (nearest (everywhere files (own_cost files failures p)) before) (everywhere files (receiver files failures)))
+    ap (λ before. map (nearest (everywhere files (own_cost files failures p)) before)
+    (everywhere files (receiver files failures)))
     (rounds_within files failures p most)
-    ∙ map-map (nearest (everywhere files (own_cost files failures p)) (everywhere files (distance_within files failures p most)))
+    ∙ map-map (nearest (everywhere files (own_cost files failures p))
+    (everywhere files (distance_within files failures p most)))
     (receiver files failures) (range_with_len 0 (length files))
     ∙ map_agree _ (distance_within files failures p (suc most)) (range_with_len 0 (length files))
     (λ router. one_more files failures p most router)

@@ -1,5 +1,6 @@
 -- A round that changes nothing is the last that changes anything.
-use Rattle.std.proofs.Common.{◌≡◌, ℕ, zero, suc, ◌≤◌, Bool, eqb, List, Option, Some, None, map, inl, inr, arith, refl, sym, ap, subst, ◌∙◌}
+use Rattle.std.proofs.Common.{◌≡◌, ℕ, zero, suc, ◌≤◌, Bool, eqb, List, Option, Some, None, map, inl, inr, arith, refl}
+use Rattle.std.proofs.Common.{sym, ap, subst, ◌∙◌}
 use Rattle.std.specs.Bool.{Decides}
 use Rattle.std.specs.Cmp.Lexicographic.{pointwise}
 use Rattle.std.specs.Option.{option_eq}
@@ -11,7 +12,8 @@ use Rattle.proto_ospf.specs.declared.rounds.Receiver.{Receiver}
 use Rattle.proto_ospf.specs.Rounds.{nearest, rounds}
 
 pub rounds_stay : (own : List (Option ℕ)) (receivers : List Receiver) (before : List (Option ℕ)) (k most : ℕ) →
-    before ≡ rounds own receivers k → map (nearest own before) receivers ≡ before → k ≤ most → rounds own receivers most ≡ before
+    before ≡ rounds own receivers k → map (nearest own before) receivers ≡ before → k ≤ most
+    → rounds own receivers most ≡ before
 rounds_stay own receivers before k zero is fixed within =
     let same : k ≡ 0 = omega (arith, within) in
     let P : ℕ → Type 0 = λ n. rounds own receivers n ≡ before in subst P same (sym is)

@@ -21,7 +21,8 @@ step_is : (files : List File) (failures : Failures) (router : ℕ) (p : Prefix) 
     is_step (interior_distances files failures p) router a ≡ is_on_least_walk files failures router p a
 step_is files failures router p a =
     ap (λ o. option_map_or (λ d. option_map_or (λ further. eqb d (a.cost + further))
-    (of_router (interior_distances files failures p) a.to.router) false) o false) (sym (interior_there files failures p router))
+    (of_router (interior_distances files failures p) a.to.router) false) o false)
+    (sym (interior_there files failures p router))
     ∙ ap (λ o. option_map_or (λ d. option_map_or (λ further. eqb d (a.cost + further)) o false)
     (interior_distance files failures router p) false) (sym (interior_there files failures p a.to.router))
 
@@ -35,11 +36,13 @@ steps_of files failures router a up (p ∷ ps) = by_first (covers p a) refl (ste
       steps (map (reached files failures) (p ∷ ps)) up router a
       ≡ option_map_or (λ q. filter (is_on_least_walk files failures router q) up) (find (λ q. covers q a) (p ∷ ps)) []
   by_first true is rest =
-      rw is (filter_agree (is_step (interior_distances files failures p) router) (is_on_least_walk files failures router p)
+      rw is (filter_agree (is_step (interior_distances files failures p) router)
+      (is_on_least_walk files failures router p)
       (λ b. step_is files failures router p b) up)
   by_first false is rest = rw is rest
 
 pub steps_are : (files : List File) (failures : Failures) (router : ℕ) (a : Addr) (up : List Adjacency) →
     steps (all_reached files failures) up router a
-    ≡ option_map_or (λ p. filter (is_on_least_walk files failures router p) up) (find (λ p. covers p a) (advertised files)) []
+    ≡ option_map_or (λ p. filter (is_on_least_walk files failures router p) up)
+    (find (λ p. covers p a) (advertised files)) []
 steps_are files failures router a up = steps_of files failures router a up (advertised files)

@@ -11,7 +11,8 @@ use Rattle.net_model.specs.World.{is_up}
 
 -- those that advertise it and are up
 abbrev pub origins : List File → Failures → Prefix → List OspfInterface
-origins files failures p = filter (λ x. same_prefix (advertisement x) p && is_up files failures x.at) (ospf_interfaces files)
+origins files failures p =
+    filter (λ x. same_prefix (advertisement x) p && is_up files failures x.at) (ospf_interfaces files)
 
 -- the least cost of those of the router
 abbrev pub least_cost : List OspfInterface → ℕ → Option ℕ

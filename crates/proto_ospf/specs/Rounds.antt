@@ -1,5 +1,6 @@
 -- The interior distances of all routers to one prefix, in rounds: each round allows one adjacency more.
-use Rattle.std.specs.Prelude.{ℕ, zero, suc, ◌+◌, ◌≤◌, All, IfSome, List, fold, length, map, min, slice_get, Option, Some, option_and_then, option_map}
+use Rattle.std.specs.Prelude.{ℕ, zero, suc, ◌+◌, ◌≤◌, All, IfSome, List, fold, length, map, min, slice_get, Option}
+use Rattle.std.specs.Prelude.{Some, option_and_then, option_map}
 use Rattle.std.specs.List.{filter_map, range_with_len}
 use Rattle.std.specs.Option.{option_map_or}
 use Rattle.mw_text.specs.declared.address.Prefix.{Prefix}

@@ -1,5 +1,6 @@
 -- The slots of all routers, by their places.
-use Rattle.std.proofs.Common.{◌≡◌, ℕ, true, ◌+◌, ◌*◌, ◌/◌, ◌%◌, ◌<◌, List, [], ◌++◌, length, Option, Some, None, refl, ap, ap₂, arith, sym, ◌∙◌, subst, get_or}
+use Rattle.std.proofs.Common.{◌≡◌, ℕ, true, ◌+◌, ◌*◌, ◌/◌, ◌%◌, ◌<◌, List, [], ◌++◌, length, Option, Some, None, refl}
+use Rattle.std.proofs.Common.{ap, ap₂, arith, sym, ◌∙◌, subst, get_or}
 use Rattle.std.specs.Prelude.{MatchOption, option_and_then, slice_get}
 use Rattle.std.proofs.lemmas.List.{append-nil}
 use Rattle.std.proofs.lemmas.Option.{slice_get_within, get_or_from_slice_get}
@@ -54,17 +55,22 @@ slot_for files d k router len slot place rest found =
     subst P place (subst Q rest found)
 
 -- the entry of a slot without OSPF and BGP parts is that of the connected and static routes
-plain_entry : (files : List File) (router : ℕ) (file : File) (p : Prefix) (slot : Slot) → slot.ospf ≡ None → slot.bgp ≡ None →
-    table_entry files no_failures router file p slot ≡ least_distance (candidates (open_interfaces (addressed files) router) file.statics p)
+plain_entry : (files : List File) (router : ℕ) (file : File) (p : Prefix) (slot : Slot) → slot.ospf ≡ None → slot.bgp
+    ≡ None →
+    table_entry files no_failures router file p slot
+    ≡ least_distance (candidates (open_interfaces (addressed files) router) file.statics p)
 unfolding entry_with
 plain_entry files router file p slot ospf bgp =
     let plain : List RibEntry = candidates (open_interfaces (addressed files) router) file.statics p in
     let none : option_to_list (bgp_entry files router slot) ≡ [] = rw bgp refl in
-    let own : option_to_list (ospf_entry (own_is_as_good files no_failures router file p slot) slot) ≡ [] = rw ospf refl in
-    ap₂ (λ b o. least_distance (plain ++ b ++ o)) none own ∙ ap least_distance (append-nil (plain ++ []) ∙ append-nil plain)
+    let own : option_to_list (ospf_entry (own_is_as_good files no_failures router file p slot) slot)
+    ≡ [] = rw ospf refl in
+    ap₂ (λ b o. least_distance (plain ++ b ++ o)) none own
+    ∙ ap least_distance (append-nil (plain ++ []) ∙ append-nil plain)
 
 -- slots that are those of their places are a stable routing
-pub stable-from_places : (files : List File) (d : Addr) (slots : List Slot) (environment : Environment) → runs_no_protocol files ≡ true →
+pub stable-from_places : (files : List File) (d : Addr) (slots : List Slot) (environment : Environment)
+    → runs_no_protocol files ≡ true →
     length slots ≡ LENGTHS * length files →
     ((k : ℕ) (slot : Slot) → slice_get slots k ≡ Some slot → IsSlotAt files d k slot) →
     Stable files d no_failures environment (record { slots = slots })
@@ -77,19 +83,24 @@ stable-from_places files d slots environment network size each = record {
       (each k slot is_slot) file is_file in
       let none = no_protocol files network router file is_file in
       let Held : Option Ospf → Type 0 = λ o.
-      slot.ospf ≡ option_and_then (λ process. held_by_ospf files no_failures (record { slots = slots }) router file process (prefix_at d len)) o in
+      slot.ospf ≡ option_and_then
+      (λ process. held_by_ospf files no_failures (record { slots = slots }) router file process (prefix_at d len)) o in
       let Decided : Option Bgp → Type 0 = λ o.
-      MatchOption o (slot.bgp ≡ None) (λ process. DecidedByBgp files no_failures environment (record { slots = slots }) router file process (prefix_at d len) slot.bgp) in
+      MatchOption o (slot.bgp ≡ None)
+      (λ process. DecidedByBgp files no_failures environment (record { slots = slots }) router file process
+      (prefix_at d len) slot.bgp) in
       record {
         ospf = subst Held (sym none.0) (ap (λ s. s.ospf) found);
         bgp = subst Decided (sym none.1) (ap (λ s. s.bgp) found);
         rib = ap (λ s. s.rib) found
-            ∙ sym (plain_entry files router file (prefix_at d len) slot (ap (λ s. s.ospf) found) (ap (λ s. s.bgp) found));
+            ∙ sym (plain_entry files router file (prefix_at d len) slot (ap (λ s. s.ospf) found)
+            (ap (λ s. s.bgp) found));
       };
 }
 
 -- a slot of a stable routing is determined by its three equations
-pub slot-of_stable : (files : List File) (d : Addr) (environment : Environment) (tables : Tables) → runs_no_protocol files ≡ true →
+pub slot-of_stable : (files : List File) (d : Addr) (environment : Environment) (tables : Tables)
+    → runs_no_protocol files ≡ true →
     Stable files d no_failures environment tables →
     (k : ℕ) (slot : Slot) → slice_get tables.slots k ≡ Some slot → IsSlotAt files d k slot
 slot-of_stable files d environment tables network stable k slot is_slot file is_file =
@@ -103,14 +114,16 @@ slot-of_stable files d environment tables network stable k slot is_slot file is_
     let Held : Option Ospf → Type 0 = λ o.
     slot.ospf ≡ option_and_then (λ process. held_by_ospf files no_failures tables (k / LENGTHS) file process p) o in
     let Decided : Option Bgp → Type 0 = λ o.
-    MatchOption o (slot.bgp ≡ None) (λ process. DecidedByBgp files no_failures environment tables (k / LENGTHS) file process p slot.bgp) in
+    MatchOption o (slot.bgp ≡ None)
+    (λ process. DecidedByBgp files no_failures environment tables (k / LENGTHS) file process p slot.bgp) in
     let ospf : slot.ospf ≡ None = subst Held none.0 holds.ospf in
     let bgp : slot.bgp ≡ None = subst Decided none.1 holds.bgp in
     slot_by_parts slot (slot_over (addressed files) (k / LENGTHS) file p) ospf bgp
     (holds.rib ∙ plain_entry files (k / LENGTHS) file p slot ospf bgp)
 
 -- no other routing is stable
-pub stable-only : (files : List File) (d : Addr) (slots : List Slot) (environment : Environment) (other : Tables) → runs_no_protocol files ≡ true →
+pub stable-only : (files : List File) (d : Addr) (slots : List Slot) (environment : Environment) (other : Tables)
+    → runs_no_protocol files ≡ true →
     length slots ≡ LENGTHS * length files →
     ((k : ℕ) (slot : Slot) → slice_get slots k ≡ Some slot → IsSlotAt files d k slot) →
     Stable files d no_failures environment other → other ≡ record { slots = slots }
@@ -124,13 +137,15 @@ stable-only files d slots environment other network size each stable =
     let with_slots : List Slot → Tables = λ s. record { slots = s } in ap with_slots same
 
 -- the slot that was made from what stands at a place is the slot of that place
-pub slot_here : (files routers : List File) (d : Addr) (all : List Addressed) (k n : ℕ) (read : File) (p : Prefix) (slot : Slot) →
+pub slot_here : (files routers : List File) (d : Addr) (all : List Addressed) (k n : ℕ) (read : File) (p : Prefix)
+    (slot : Slot) →
     routers ≡ files → all ≡ addressed files → read ≡ get_or routers (k / LENGTHS) read → p ≡ prefix_at d (k % LENGTHS) →
     slot ≡ slot_over all (k / LENGTHS) read p → n ≡ k → IsSlotAt files d n slot
 slot_here files routers d all k n read p slot same_files same_all is_read is_p made same_place =
     let P : ℕ → Type 0 = λ place. IsSlotAt files d place slot in
     subst P (sym same_place) (λ file is_file.
-    let is_it : slice_get routers (k / LENGTHS) ≡ Some file = ap (λ fs. slice_get fs (k / LENGTHS)) same_files ∙ is_file in
+    let is_it : slice_get routers (k / LENGTHS) ≡ Some file = ap (λ fs. slice_get fs (k / LENGTHS)) same_files
+    ∙ is_file in
     let same_read : read ≡ file = is_read ∙ get_or_from_slice_get routers (k / LENGTHS) file read is_it in
     made
     ∙ ap (λ xs. slot_over xs (k / LENGTHS) read p) same_all

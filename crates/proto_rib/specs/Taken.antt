@@ -20,7 +20,8 @@ local_routes_at files router p slot =
 -- what its OSPF process takes, none where it runs no OSPF
 abbrev pub redistributed_at : List File → ℕ → Prefix → Slot → List OspfRec
 redistributed_at files router p slot =
-    option_map_or (λ file. option_map_or (λ process. redistributed file process p slot) file.ospf []) (slice_get files router) []
+    option_map_or (λ file. option_map_or (λ process. redistributed file process p slot) file.ospf [])
+    (slice_get files router) []
 
 -- the entry of the router at that place
 abbrev pub entry_at : List File → Failures → ℕ → Prefix → Slot → Bool → Option RibEntry

@@ -21,4 +21,5 @@ last_two false b c d h = cc
 pub both_ports : (set : PacketSet) (proto : ℕ) → set.proto ≡ Some proto → is_single set ≡ true →
     (has_one_port proto set.sport ≡ true) × (has_one_port proto set.dport ≡ true)
 both_ports set proto is single =
-    last_two (set.src.len == 32) (set.dst.len == 32) (has_one_port proto set.sport) (has_one_port proto set.dport) (rw is at single)
+    last_two (set.src.len == 32) (set.dst.len == 32) (has_one_port proto set.sport) (has_one_port proto set.dport)
+    (rw is at single)

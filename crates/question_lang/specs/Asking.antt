@@ -1,5 +1,6 @@
 -- Which text reads as which questions.
-use Rattle.std.specs.Prelude.{ℕ, ◌&&◌, Bool, List, [], ◌∷◌, ◌++◌, length, nat_lt, nat_le, codes, position, Option, Some, None, option_and_then, option_map, Result, Ok, Err, if◌then◌else◌}
+use Rattle.std.specs.Prelude.{ℕ, ◌&&◌, Bool, List, [], ◌∷◌, ◌++◌, length, nat_lt, nat_le, codes, position, Option}
+use Rattle.std.specs.Prelude.{Some, None, option_and_then, option_map, Result, Ok, Err, if◌then◌else◌}
 use Rattle.std.specs.List.{list_all, list_any}
 use Rattle.std.specs.Option.{option_map_or}
 use Rattle.mw_text.specs.declared.address.Prefix.{Prefix}
@@ -55,7 +56,8 @@ ports_of word =
     (range_of (number_of 65535 word) (number_of 65535 word))
 
 -- a set of packets
-abbrev pub set_of : Option (Option ℕ) → Option Prefix → Option (ℕ × ℕ) → Option Prefix → Option (ℕ × ℕ) → Option PacketSet
+abbrev pub set_of : Option (Option ℕ) → Option Prefix → Option (ℕ × ℕ) → Option Prefix → Option (ℕ × ℕ)
+    → Option PacketSet
 set_of (Some proto) (Some src) (Some sport) (Some dst) (Some dport) =
     Some (record { proto = proto; src = src; sport = sport; dst = dst; dport = dport })
 set_of _ _ _ _ _ = None
@@ -71,7 +73,8 @@ question_of name _ _ _ _ = None
 unfoldable pub are_keywords : List ℕ → List ℕ → List ℕ → List ℕ → List ℕ → List ℕ → Bool
 are_keywords reach from to router packets failures =
     is_keyword (codes "reach") reach && (is_keyword (codes "from") from && (is_keyword (codes "to") to
-    && (is_keyword (codes "router") router && (is_keyword (codes "packets") packets && is_keyword (codes "failures") failures))))
+    && (is_keyword (codes "router") router
+    && (is_keyword (codes "packets") packets && is_keyword (codes "failures") failures))))
 
 -- the words of a set
 unfoldable pub set_in : List ℕ → List ℕ → List ℕ → List ℕ → List ℕ → Option PacketSet
@@ -85,7 +88,8 @@ question_in files name start target set failures =
 
 -- NAME reach from R to router R packets PROTO SRC SPORTS DST DPORTS failures K
 abbrev pub asked : List File → List (List ℕ) → Option Question
-asked files (name ∷ reach ∷ from ∷ start ∷ to ∷ router ∷ target ∷ packets ∷ proto ∷ src ∷ sport ∷ dst ∷ dport ∷ failures ∷ most ∷ []) =
+asked files (name ∷ reach ∷ from ∷ start ∷ to ∷ router ∷ target ∷ packets ∷ proto ∷ src ∷ sport ∷ dst ∷ dport
+    ∷ failures ∷ most ∷ []) =
     if are_keywords reach from to router packets failures
     then question_in files name start target (set_in proto src sport dst dport) most else None
 asked files _ = None

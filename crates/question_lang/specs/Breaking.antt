@@ -6,12 +6,14 @@ use Rattle.ios_ast.specs.declared.file.File.{File}
 use Rattle.route_record.specs.declared.World.{World}
 use Rattle.net_model.specs.Routing.{up_interfaces, is_direct}
 use Rattle.question_lang.specs.declared.question.Kind.{Kind}
-use Rattle.question_lang.specs.declared.question.Kind.TheVariants.{Reach, Isolate, Waypoint, NoLoop, NoBlackHole, Within, Alike, NoStable}
+use Rattle.question_lang.specs.declared.question.Kind.TheVariants.{Reach, Isolate, Waypoint, NoLoop, NoBlackHole}
+use Rattle.question_lang.specs.declared.question.Kind.TheVariants.{Within, Alike, NoStable}
 use Rattle.question_lang.specs.declared.question.Start.{Start}
 use Rattle.question_lang.specs.declared.question.Target.{Target}
 use Rattle.question_lang.specs.declared.question.Target.TheVariants.{Router, Subnet, Peer}
 use Rattle.question_lang.specs.declared.walk.End.{End}
-use Rattle.question_lang.specs.declared.walk.End.TheVariants.{Delivered, Left, NoRoute, Discarded, DeniedIn, DeniedOut, Loop, Open}
+use Rattle.question_lang.specs.declared.walk.End.TheVariants.{Delivered, Left, NoRoute, Discarded, DeniedIn, DeniedOut}
+use Rattle.question_lang.specs.declared.walk.End.TheVariants.{Loop, Open}
 use Rattle.question_lang.specs.declared.walk.Walk.{Walk}
 use Rattle.question_lang.specs.Walks.{IsWalk}
 
@@ -43,8 +45,8 @@ abbrev pub IsOnSubnet : List File → World → Prefix → ℕ → Type 0
 IsOnSubnet files world p router =
     IsTrue (is_direct (up_interfaces files world.failures router) p) × IsTrue (covers p world.packet.dst)
 
--- the walk ends at the target: delivered at that router, or on that subnet, or out of the network at that router to that
--- address
+-- the walk ends at the target: delivered at that router, or on that subnet, or out of the network at that router to
+-- that address
 abbrev pub EndsAt : List File → World → Target → Walk → Type 0
 EndsAt files world (Router router) walk = (walk.end ≡ Delivered) × LastStands (λ r. r ≡ router) walk
 EndsAt files world (Subnet p) walk = (walk.end ≡ Delivered) × LastStands (IsOnSubnet files world p) walk
@@ -66,7 +68,8 @@ reach_question start target = Reach (at_router start) (Router target)
 -- what a walk has to be, to break a question
 abbrev pub BreaksBy : List File → World → Kind → Walk → Type 0
 -- it ends, and not at the target; a loop is an end
-BreaksBy files world (Reach start target) walk = BeginsAt start walk × (walk.end ≢ Open) × (EndsAt files world target walk → ⊥)
+BreaksBy files world (Reach start target) walk = BeginsAt start walk × (walk.end ≢ Open)
+    × (EndsAt files world target walk → ⊥)
 -- it ends at the target
 BreaksBy files world (Isolate start target) walk = BeginsAt start walk × EndsAt files world target walk
 -- it ends at the target and does not stand at the waypoint

@@ -1,5 +1,6 @@
 -- What a router does with a packet (RFC 1812, section 5.2.4).
-use Rattle.std.specs.Prelude.{ℕ, zero, suc, ◌==◌, ◌&&◌, Bool, true, List, [], ◌∷◌, filter, map, slice_get, Option, Some, None, option_and_then, option_map, if◌then◌else◌}
+use Rattle.std.specs.Prelude.{ℕ, zero, suc, ◌==◌, ◌&&◌, Bool, true, List, [], ◌∷◌, filter, map, slice_get, Option}
+use Rattle.std.specs.Prelude.{Some, None, option_and_then, option_map, if◌then◌else◌}
 use Rattle.std.specs.List.{find, flat_map, list_any}
 use Rattle.std.specs.Option.{option_map_or}
 use Rattle.mw_text.specs.declared.address.Addr.{Addr}
@@ -39,7 +40,8 @@ permits file packet list = option_map_or (λ named. permitted_by_list file named
 -- what the list of an interface says of a packet, where there is such an interface
 abbrev pub permits_by : (Iface → Option Use) → List File → Packet → IfaceId → Bool
 permits_by list files packet i =
-    option_map_or (λ file. option_map_or (λ iface. permits file packet (list iface)) (slice_get file.interfaces i.at) true)
+    option_map_or (λ file. option_map_or (λ iface. permits file packet (list iface))
+    (slice_get file.interfaces i.at) true)
     (slice_get files i.router) true
 
 -- the in list of the interface permits the packet, and so the out list
@@ -94,7 +96,8 @@ connected_hops files packet up own p =
 abbrev pub send_adjacent : List File → Packet → Adjacency → Hop
 send_adjacent files packet a = depart files packet a.from (arrive files packet a.to)
 
--- an OSPF entry sends over the adjacencies that offer the record which the router holds, and nowhere where it holds none
+-- an OSPF entry sends over the adjacencies that offer the record which the router holds, and nowhere where it holds
+-- none
 abbrev pub ospf_hops : List File → World → ℕ → Prefix → Slot → List Hop
 ospf_hops files world router p slot =
     option_map_or (λ held.
@@ -115,14 +118,16 @@ entry_hops files world up own router file (len, slot, entry) = by_source entry.s
   by_source Connected = connected_hops files world.packet up own (prefix_at world.packet.dst len)
   by_source Static =
       flat_map (static_hops files world.packet up own)
-      (filter (λ route. route.distance == entry.distance) (static_routes own file.statics (prefix_at world.packet.dst len)))
+      (filter (λ route. route.distance == entry.distance)
+      (static_routes own file.statics (prefix_at world.packet.dst len)))
   by_source Ebgp = bgp_hops files world up own router slot
   by_source Ospf = ospf_hops files world router (prefix_at world.packet.dst len) slot
   by_source Ibgp = bgp_hops files world up own router slot
 
 -- the slot of a router for a prefix length, where it has an entry
 abbrev pub entry_at : Tables → ℕ → ℕ → Option (Slot × RibEntry)
-entry_at tables router len = option_and_then (λ slot. option_map (λ entry. (slot, entry)) slot.rib) (slot_at tables router len)
+entry_at tables router len =
+    option_and_then (λ slot. option_map (λ entry. (slot, entry)) slot.rib) (slot_at tables router len)
 
 -- the entry of the longest prefix that is shorter than the bound
 unfoldable pub longest_below : Tables → ℕ → ℕ → Option (ℕ × Slot × RibEntry)
@@ -135,10 +140,12 @@ longest_below tables router (suc len) =
 abbrev pub hops_over : List File → World → List Addressed → List Addressed → ℕ → File → List Hop
 hops_over files world up own router file =
     if list_any (λ x. x.addr.0 == world.packet.dst.0) own then Ends Delivered ∷ []
-    else option_map_or (entry_hops files world up own router file) (longest_below world.tables router LENGTHS) (Ends NoRoute ∷ [])
+    else option_map_or (entry_hops files world up own router file) (longest_below world.tables router LENGTHS)
+    (Ends NoRoute ∷ [])
 
 -- the next hops of a router: the set of those that this list has. A number that is no router's has none
 abbrev pub next_hops : List File → World → ℕ → List Hop
 next_hops files world router =
-    option_map_or (hops_over files world (all_up files world.failures) (up_interfaces files world.failures router) router)
+    option_map_or (hops_over files world (all_up files world.failures)
+    (up_interfaces files world.failures router) router)
     (slice_get files router) []

@@ -1,5 +1,6 @@
 -- Questions that are read today, and sets of exactly one packet.
-use Rattle.std.specs.Prelude.{◌≡◌, ℕ, ◌==◌, ◌&&◌, ◌||◌, ◌<◌, Bool, false, List, Option, Some, None, slice_get, if◌then◌else◌}
+use Rattle.std.specs.Prelude.{◌≡◌, ℕ, ◌==◌, ◌&&◌, ◌||◌, ◌<◌, Bool, false, List, Option, Some, None, slice_get}
+use Rattle.std.specs.Prelude.{if◌then◌else◌}
 use Rattle.question_lang.specs.declared.question.PacketSet.{PacketSet}
 use Rattle.question_lang.specs.declared.question.Question.{Question}
 use Rattle.question_lang.specs.Breaking.{reach_question}
@@ -18,8 +19,10 @@ is_single set = of_protocol set.proto where
 
 -- whether packets from a router of so many reach a router
 abbrev pub IsReach : ℕ → Question → Type 0
-IsReach routers question = (start : ℕ) × (target : ℕ) × (question.kind ≡ reach_question start target) × (start < routers)
+IsReach routers question = (start : ℕ) × (target : ℕ) × (question.kind ≡ reach_question start target)
+    × (start < routers)
 
 -- each question is one of these
 abbrev pub AreReach : ℕ → List Question → Type 0
-AreReach routers questions = (k : ℕ) (question : Question) → slice_get questions k ≡ Some question → IsReach routers question
+AreReach routers questions = (k : ℕ) (question : Question) → slice_get questions k ≡ Some question
+    → IsReach routers question

@@ -1,5 +1,6 @@
 -- Walks of a packet.
-use Rattle.std.specs.Prelude.{◌≡◌, ℕ, ◌==◌, ◌&&◌, Bool, true, false, List, [], ◌∷◌, ◌++◌, Any, Contains, IsTrue, Some, MatchOption}
+use Rattle.std.specs.Prelude.{◌≡◌, ℕ, ◌==◌, ◌&&◌, Bool, true, false, List, [], ◌∷◌, ◌++◌, Any, Contains, IsTrue, Some}
+use Rattle.std.specs.Prelude.{MatchOption}
 use Rattle.std.specs.List.{list_any}
 use Rattle.ios_ast.specs.declared.file.File.{File}
 use Rattle.route_record.specs.declared.Failures.{Failures}
@@ -9,7 +10,8 @@ use Rattle.net_model.specs.Interfaces.{addressed}
 use Rattle.net_model.specs.World.{is_up}
 use Rattle.question_lang.specs.declared.question.Start.{Start}
 use Rattle.question_lang.specs.declared.walk.End.{End}
-use Rattle.question_lang.specs.declared.walk.End.TheVariants.{Delivered, Left, NoRoute, Discarded, DeniedIn, DeniedOut, Loop, Open}
+use Rattle.question_lang.specs.declared.walk.End.TheVariants.{Delivered, Left, NoRoute, Discarded, DeniedIn, DeniedOut}
+use Rattle.question_lang.specs.declared.walk.End.TheVariants.{Loop, Open}
 use Rattle.question_lang.specs.declared.walk.Hop.{Hop}
 use Rattle.question_lang.specs.declared.walk.Hop.TheVariants.{To, Ends}
 use Rattle.question_lang.specs.declared.walk.Walk.{Walk}
@@ -17,7 +19,8 @@ use Rattle.question_lang.specs.Hops.{next_hops, permits_in}
 
 -- a hop of the first router leads in at the interface of the second
 abbrev pub LeadsTo : (ℕ → List Hop) → Start → Start → Type 0
-LeadsTo hops from to = (at : ℕ) × (to.iface ≡ Some at) × Contains (hops from.router) (To (record { router = to.router; at = at }))
+LeadsTo hops from to = (at : ℕ) × (to.iface ≡ Some at)
+    × Contains (hops from.router) (To (record { router = to.router; at = at }))
 
 -- a walk that stood before and stands now may end so: at an end of its router, in a loop where it stood at that router
 -- before, or open
@@ -65,7 +68,8 @@ IsDeniedAtOnce files world Open = ⊥
 -- a walk of the packet of a world, over these standings
 abbrev pub IsWalkOver : List File → World → List Start → End → Type 0
 IsWalkOver files world [] end = IsDeniedAtOnce files world end
-IsWalkOver files world (start ∷ rest) end = MayBegin files world start × GoesOn (next_hops files world) [] (start ∷ rest) end
+IsWalkOver files world (start ∷ rest) end = MayBegin files world start
+    × GoesOn (next_hops files world) [] (start ∷ rest) end
 
 abbrev pub IsWalk : List File → World → Walk → Type 0
 IsWalk files world walk = IsWalkOver files world walk.hops walk.end

@@ -1,5 +1,6 @@
 -- A checker that has read a list, and one entry more.
-use Rattle.std.proofs.Common.{◌≡◌, ◌⊎◌, inl, inr, refl, sym, ◌∙◌, ap, ap₂, ℕ, ◌+◌, ◌==◌, Bool, true, false, ◌||◌, cond, List, [], ◌∷◌, ◌++◌, Option, Some, None, Result, Ok, Err, OnOk, IfErr, is_some, arith}
+use Rattle.std.proofs.Common.{◌≡◌, ◌⊎◌, inl, inr, refl, sym, ◌∙◌, ap, ap₂, ℕ, ◌+◌, ◌==◌, Bool, true, false, ◌||◌, cond}
+use Rattle.std.proofs.Common.{List, [], ◌∷◌, ◌++◌, Option, Some, None, Result, Ok, Err, OnOk, IfErr, is_some, arith}
 use Rattle.std.specs.Option.{option_or}
 use Rattle.std.proofs.lemmas.Bool.{false_from_ne_true, true≢false, false≢true, eqb-true}
 use Rattle.std.proofs.lemmas.Grind.{common_steps}
@@ -8,9 +9,12 @@ use Rattle.resolution_check.specs.declared.log.Entry.{Entry}
 use Rattle.resolution_check.specs.declared.log.Entry.TheVariants.{Input, Add, Delete, End}
 use Rattle.resolution_check.specs.declared.log.Bad.{Bad}
 use Rattle.resolution_check.specs.declared.log.Bad.TheVariants.{Memory, AfterEnd}
-use Rattle.resolution_check.specs.Entries.{gives, clause_by, deletes, is_end, is_refutation, additions_in, clause_given, is_given, is_deleted, clause_held, addition_count, entry_fault, fault_of, IsSound, KeepsGood, IsGood}
+use Rattle.resolution_check.specs.Entries.{gives, clause_by, deletes, is_end, is_refutation, additions_in}
+use Rattle.resolution_check.specs.Entries.{clause_given, is_given, is_deleted, clause_held, addition_count}
+use Rattle.resolution_check.specs.Entries.{entry_fault, fault_of, IsSound, KeepsGood, IsGood}
 use Rattle.resolution_check.specs.Known.{Known, HasRead, given_on, held_on, fault_in, IsJudged, held_by, Advances}
-use Rattle.resolution_check.proofs.Goods.{kept_from_free, free_from_kept, each_push, clause_given-push, any-push, given_from_deleted}
+use Rattle.resolution_check.proofs.Goods.{kept_from_free, free_from_kept, each_push, clause_given-push, any-push}
+use Rattle.resolution_check.proofs.Goods.{given_from_deleted}
 
 -- ---- the checker's cause is the list's
 

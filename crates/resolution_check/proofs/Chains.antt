@@ -1,5 +1,6 @@
 -- Steps of a chain.
-use Rattle.std.proofs.Common.{◌≡◌, inl, inr, refl, sym, ◌∙◌, ap, subst, length, add-zero, arith, ℕ, ◌+◌, not, ◌&&◌, ◌||◌, List, [], ◌∷◌, ◌++◌, Option, Some, None, Result, Ok, Err}
+use Rattle.std.proofs.Common.{◌≡◌, inl, inr, refl, sym, ◌∙◌, ap, subst, length, add-zero, arith, ℕ, ◌+◌, not, ◌&&◌}
+use Rattle.std.proofs.Common.{◌||◌, List, [], ◌∷◌, ◌++◌, Option, Some, None, Result, Ok, Err}
 use Rattle.std.specs.Option.{option_map_or, ok_or}
 use Rattle.resolution_check.specs.declared.log.Lit.{Lit}
 use Rattle.resolution_check.specs.declared.log.Clause.{Clause}
@@ -107,10 +108,13 @@ from_push held r at [] id =
     then_ok (resolved_next held r at id) ∙ ap (λ n. resolved_next held r n id) (sym (add-zero at))
 from_push held r at (first ∷ ids) id =
     let place : at + 1 + length ids ≡ at + length (first ∷ ids) = omega arith in
-    let later : (λ s. resolved_from held s (at + 1) (ids ++ id ∷ [])) ≡ (λ s. and_then (resolved_from held s (at + 1) ids) (λ t. resolved_next held t (at + length (first ∷ ids)) id)) =
-    λ i s. (from_push held s (at + 1) ids id ∙ ap (λ n. and_then (resolved_from held s (at + 1) ids) (λ t. resolved_next held t n id)) place) i in
+    let later : (λ s. resolved_from held s (at + 1) (ids ++ id ∷ []))
+    ≡ (λ s. and_then (resolved_from held s (at + 1) ids) (λ t. resolved_next held t (at + length (first ∷ ids)) id)) =
+    λ i s. (from_push held s (at + 1) ids id
+    ∙ ap (λ n. and_then (resolved_from held s (at + 1) ids) (λ t. resolved_next held t n id)) place) i in
     ap (and_then (resolved_next held r at first)) later
-    ∙ sym (then_then (resolved_next held r at first) (λ s. resolved_from held s (at + 1) ids) (λ t. resolved_next held t (at + length (first ∷ ids)) id))
+    ∙ sym (then_then (resolved_next held r at first) (λ s. resolved_from held s (at + 1) ids)
+    (λ t. resolved_next held t (at + length (first ∷ ids)) id))
 
 -- one number more resolves the last resolvent with its clause
 pub resolved-push : (held : ℕ → Option Clause) (chain : List ℕ) (id : ℕ) (r : List Lit) → resolved held chain ≡ Ok r

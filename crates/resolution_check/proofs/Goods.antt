@@ -1,5 +1,6 @@
 -- Good lists: when an entry keeps a list good, and what holds of every good list.
-use Rattle.std.proofs.Common.{◌≡◌, inl, inr, refl, sym, ◌∙◌, ap, subst, ℕ, Bool, true, false, ◌||◌, cond, List, [], ◌∷◌, ◌++◌, append_assoc, Option, Some, None, Result, Ok, Err, IsSome, is_some}
+use Rattle.std.proofs.Common.{◌≡◌, inl, inr, refl, sym, ◌∙◌, ap, subst, ℕ, Bool, true, false, ◌||◌, cond, List, []}
+use Rattle.std.proofs.Common.{◌∷◌, ◌++◌, append_assoc, Option, Some, None, Result, Ok, Err, IsSome, is_some}
 use Rattle.std.specs.Option.{option_or}
 use Rattle.std.specs.List.{list_any}
 use Rattle.std.proofs.lemmas.Bool.{cases_Bool, false≢true, or_cases, eqb-true}
@@ -13,7 +14,9 @@ use Rattle.resolution_check.specs.declared.log.Entry.TheVariants.{Input, Add, De
 use Rattle.resolution_check.specs.declared.log.Bad.{Bad}
 use Rattle.resolution_check.specs.declared.log.Bad.TheVariants.{UnknownId, UsedId, AfterEnd}
 use Rattle.resolution_check.specs.Clauses.{is_inside}
-use Rattle.resolution_check.specs.Entries.{clause_by, deletes, clause_given, is_given, is_deleted, clause_held, has_ended, resolved, cover_fault, entry_fault, fault_of, IsSound, KeepsGood, EachAfter, IsGood}
+use Rattle.resolution_check.specs.Entries.{clause_by, deletes, clause_given, is_given, is_deleted, clause_held}
+use Rattle.resolution_check.specs.Entries.{has_ended, resolved, cover_fault, entry_fault, fault_of, IsSound, KeepsGood}
+use Rattle.resolution_check.specs.Entries.{EachAfter, IsGood}
 
 -- ---- no fault exactly where the list stays good
 
@@ -78,8 +81,11 @@ module _ (R : List Entry → Entry → Type 0) where
   push_after : (before es : List Entry) (e : Entry) → EachAfter R before es → R (before ++ es) e
       → EachAfter R before (es ++ e ∷ [])
   push_after before [] e h k = (subst (λ front. R front e) (append-nil before) k, tt)
-  push_after before (d ∷ es) e h k =
-      (h.0, push_after (before ++ d ∷ []) es e h.1 (subst (λ front. R front e) (sym (append_assoc before (d ∷ []) es)) k))
+  push_after before (d ∷ es) e h k = (
+    h.0,
+    push_after (before ++ d ∷ []) es e h.1
+        (subst (λ front. R front e) (sym (append_assoc before (d ∷ []) es)) k),
+  )
 
   -- one entry more
   pub each_push : (es : List Entry) (e : Entry) → EachAfter R [] es → R es e → EachAfter R [] (es ++ e ∷ [])

@@ -1,5 +1,7 @@
 -- Lists of words and lines: an entry is read back from its text, and from no other.
-use Rattle.std.proofs.Common.{◌≡◌, ◌⊎◌, inl, inr, refl, sym, ◌∙◌, ap, ap₂, subst, ℕ, ◌+◌, ◌<◌, ◌≤◌, get_or, nat_lt, Bool, true, false, cond, List, [], ◌∷◌, ◌++◌, map, Option, Some, None, Result, Ok, Err, IfOk, arith, codes}
+use Rattle.std.proofs.Common.{◌≡◌, ◌⊎◌, inl, inr, refl, sym, ◌∙◌, ap, ap₂, subst, ℕ, ◌+◌, ◌<◌, ◌≤◌, get_or, nat_lt}
+use Rattle.std.proofs.Common.{Bool, true, false, cond, List, [], ◌∷◌, ◌++◌, map, Option, Some, None, Result, Ok, Err}
+use Rattle.std.proofs.Common.{IfOk, arith, codes}
 use Rattle.std.specs.Bool.{nat_le}
 use Rattle.std.specs.Option.{option_map, option_and_then}
 use Rattle.std.specs.List.{list_all, AllByRecursion, join_with_byte}
@@ -17,8 +19,10 @@ use Rattle.resolution_check.specs.declared.log.Entry.TheVariants.{Input, Add, De
 use Rattle.resolution_check.specs.declared.log.LineRefused.{LineRefused}
 use Rattle.resolution_check.specs.declared.log.LineRefused.TheVariants.{Memory}
 use Rattle.resolution_check.specs.Text.{lit_text, zero_text, entry_words, text_of, IsNumber, IsSmall, HasText}
-use Rattle.resolution_check.specs.Words.{words_in, number_in, lit_in, list_in, finished, input_in, addition_in, entry_with, entry_in, ReadsAs}
-use Rattle.resolution_check.proofs.Texts.{IsPlain, words_in-join, number_in-Some, number_in-decimal, lit_in-text, lit_in-Some, own}
+use Rattle.resolution_check.specs.Words.{words_in, number_in, lit_in, list_in, finished, input_in, addition_in}
+use Rattle.resolution_check.specs.Words.{entry_with, entry_in, ReadsAs}
+use Rattle.resolution_check.proofs.Texts.{IsPlain, words_in-join, number_in-Some, number_in-decimal, lit_in-text}
+use Rattle.resolution_check.proofs.Texts.{lit_in-Some, own}
 
 -- ---- lists that a word `0` ends
 
@@ -36,8 +40,10 @@ module _ {A : Type 0} (read : List ℕ → Option A) (write : A → List ℕ) (P
       rw (apart x h.0, back x h.0, more) refl
 
   -- what follows a word
-  after_word : (x : A) (words : List (List ℕ)) (xs : List A) (rest : List (List ℕ)) (o : Option (List A × List (List ℕ)))
-      → ((ys : List A) (r : List (List ℕ)) → o ≡ Some (ys, r) → (words ≡ map write ys ++ zero_text ∷ r) × AllByRecursion P ys)
+  after_word : (x : A) (words : List (List ℕ)) (xs : List A) (rest : List (List ℕ))
+      (o : Option (List A × List (List ℕ)))
+      → ((ys : List A) (r : List (List ℕ)) → o ≡ Some (ys, r) → (words ≡ map write ys ++ zero_text ∷ r)
+      × AllByRecursion P ys)
       → P x → option_map {U = Found} (λ found. (x ∷ found.0, found.1)) o ≡ Some (xs, rest)
       → (write x ∷ words ≡ map write xs ++ zero_text ∷ rest) × AllByRecursion P xs
   after_word x words xs rest None later p h = absurd (cc)
@@ -54,8 +60,11 @@ module _ {A : Type 0} (read : List ℕ → Option A) (write : A → List ℕ) (P
 
   at_word : ((w : List ℕ) (x : A) → read w ≡ Some x → (w ≡ write x) × P x)
       → (word : List ℕ) (words : List (List ℕ)) (xs : List A) (rest : List (List ℕ))
-      → ((ys : List A) (r : List (List ℕ)) → list_in read words ≡ Some (ys, r) → (words ≡ map write ys ++ zero_text ∷ r) × AllByRecursion P ys)
-      → (o : Option A) → read word ≡ o → option_and_then {U = Found} (λ x. option_map {U = Found} (λ found. (x ∷ found.0, found.1)) (list_in read words)) o ≡ Some (xs, rest)
+      → ((ys : List A) (r : List (List ℕ)) → list_in read words ≡ Some (ys, r)
+      → (words ≡ map write ys ++ zero_text ∷ r) × AllByRecursion P ys)
+      → (o : Option A) → read word ≡ o
+      → option_and_then {U = Found}
+      (λ x. option_map {U = Found} (λ found. (x ∷ found.0, found.1)) (list_in read words)) o ≡ Some (xs, rest)
       → (word ∷ words ≡ map write xs ++ zero_text ∷ rest) × AllByRecursion P xs
   at_word sound word words xs rest later None e h = absurd (cc)
   at_word sound word words xs rest later (Some x) e h =
@@ -65,8 +74,13 @@ module _ {A : Type 0} (read : List ℕ → Option A) (write : A → List ℕ) (P
 
   at_zero : ((w : List ℕ) (x : A) → read w ≡ Some x → (w ≡ write x) × P x)
       → (word : List ℕ) (words : List (List ℕ)) (xs : List A) (rest : List (List ℕ))
-      → ((ys : List A) (r : List (List ℕ)) → list_in read words ≡ Some (ys, r) → (words ≡ map write ys ++ zero_text ∷ r) × AllByRecursion P ys)
-      → (b : Bool) → same_text word zero_text ≡ b → cond {A = Option Found} b (Some ([], words)) (option_and_then {U = Found} (λ x. option_map {U = Found} (λ found. (x ∷ found.0, found.1)) (list_in read words)) (read word)) ≡ Some (xs, rest)
+      → ((ys : List A) (r : List (List ℕ)) → list_in read words ≡ Some (ys, r)
+      → (words ≡ map write ys ++ zero_text ∷ r) × AllByRecursion P ys)
+      → (b : Bool) → same_text word zero_text ≡ b
+      → cond {A = Option Found} b (Some ([], words))
+      (option_and_then {U = Found}
+      (λ x. option_map {U = Found} (λ found. (x ∷ found.0, found.1)) (list_in read words)) (read word))
+      ≡ Some (xs, rest)
       → (word ∷ words ≡ map write xs ++ zero_text ∷ rest) × AllByRecursion P xs
   at_zero sound word words xs rest later true e h =
       let nothing : Found = ([], words) in
@@ -115,7 +129,11 @@ numbers_in-text ns rest h = list_in-text number_in decimal IsNumber number_in-de
 entry_in-words : (e : Entry) → HasText e → entry_in (entry_words e) ≡ Some e
 entry_in-words (Input id clause) h = rw (number_in-decimal id h.0, lits_in-text clause.lits [] h.1) refl
 entry_in-words (Add id clause chain) h =
-    rw (number_in-decimal id h.0, lits_in-text clause.lits (map decimal chain ++ zero_text ∷ []) h.1, numbers_in-text chain [] h.2) refl
+    rw (
+      number_in-decimal id h.0,
+      lits_in-text clause.lits (map decimal chain ++ zero_text ∷ []) h.1,
+      numbers_in-text chain [] h.2,
+    ) refl
 entry_in-words (Delete id) h = rw (number_in-decimal id h) refl
 entry_in-words End h = refl
 
@@ -142,8 +160,11 @@ input_from kind number id words e k n h (Some lits) r f =
     let clause : Clause = record { lits = lits.0 } in
     let read = list_in-Some lit_in lit_text IsSmall lit_in-Some words lits.0 lits.1 r in
     let end = nothing_left lits.1 (Input id clause) e f in
-    subst (λ d. (kind ∷ number ∷ words ≡ entry_words d) × HasText d) end.1
-    (same_words kind number (codes "i") id words (map lit_text lits.0 ++ zero_text ∷ []) k n (read.0 ∙ ap (λ rest. map lit_text lits.0 ++ zero_text ∷ rest) end.0), (h, read.1))
+    subst (λ d. (kind ∷ number ∷ words ≡ entry_words d) × HasText d) end.1 (
+      same_words kind number (codes "i") id words (map lit_text lits.0 ++ zero_text ∷ []) k n (read.0
+          ∙ ap (λ rest. map lit_text lits.0 ++ zero_text ∷ rest) end.0),
+      (h, read.1),
+    )
 
 chain_from : (kind number : List ℕ) (id : ℕ) (words : List (List ℕ)) (e : Entry) → kind ≡ codes "a"
     → number ≡ decimal id → IsNumber id → (lits : List Lit) (left : List (List ℕ))
@@ -160,13 +181,15 @@ chain_from kind number id words e k n h lits left p (Some ids) r f =
     subst (λ d. (kind ∷ number ∷ words ≡ entry_words d) × HasText d) end.1 (
       same_words kind number (codes "a") id words
           (map lit_text lits ++ zero_text ∷ (map decimal ids.0 ++ zero_text ∷ [])) k n
-          (p.0 ∙ ap (λ rest. map lit_text lits ++ zero_text ∷ rest) (read.0 ∙ ap (λ rest. map decimal ids.0 ++ zero_text ∷ rest) end.0)),
+          (p.0 ∙ ap (λ rest. map lit_text lits ++ zero_text ∷ rest) (read.0
+          ∙ ap (λ rest. map decimal ids.0 ++ zero_text ∷ rest) end.0)),
       (h, p.1, read.1),
     )
 
 addition_from : (kind number : List ℕ) (id : ℕ) (words : List (List ℕ)) (e : Entry) → kind ≡ codes "a"
     → number ≡ decimal id → IsNumber id → (o : Option (List Lit × List (List ℕ))) → list_in lit_in words ≡ o
-    → option_and_then (λ lits. option_and_then (λ ids. finished ids.1 (Add id (record { lits = lits.0 }) ids.0)) (list_in number_in lits.1)) o ≡ Some e → IsRead (kind ∷ number ∷ words) e
+    → option_and_then (λ lits. option_and_then (λ ids. finished ids.1 (Add id (record { lits = lits.0 }) ids.0))
+    (list_in number_in lits.1)) o ≡ Some e → IsRead (kind ∷ number ∷ words) e
 addition_from kind number id words e k n h None r f = absurd (cc)
 addition_from kind number id words e k n h (Some lits) r f =
     chain_from kind number id words e k n h lits.0 lits.1
@@ -248,8 +271,13 @@ pub words_plain : (e : Entry) → HasText e → AllByRecursion IsPlain (entry_wo
 words_plain (Input id clause) h =
     (refl, (number_plain id h.0, all_plain lit_text IsSmall lit_plain clause.lits [] h.1 tt))
 words_plain (Add id clause chain) h =
-    let numbers = all_plain decimal IsNumber number_plain chain [] h.2 tt in
-    (refl, (number_plain id h.0, all_plain lit_text IsSmall lit_plain clause.lits (map decimal chain ++ zero_text ∷ []) h.1 numbers))
+    let numbers = all_plain decimal IsNumber number_plain chain [] h.2 tt in (
+      refl,
+      (
+        number_plain id h.0,
+        all_plain lit_text IsSmall lit_plain clause.lits (map decimal chain ++ zero_text ∷ []) h.1 numbers,
+      ),
+    )
 words_plain (Delete id) h = (refl, (number_plain id h, tt))
 words_plain End h = (refl, tt)
 

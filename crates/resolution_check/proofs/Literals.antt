@@ -1,8 +1,10 @@
 -- Lemmas on literals and on clauses as sets.
-use Rattle.std.proofs.Common.{◌≡◌, inl, inr, refl, sym, ◌∙◌, ap, ap₂, nat_eq, Bool, true, false, not, ◌&&◌, ◌||◌, List, [], ◌∷◌, ◌++◌, map, Option, Some, None}
+use Rattle.std.proofs.Common.{◌≡◌, inl, inr, refl, sym, ◌∙◌, ap, ap₂, nat_eq, Bool, true, false, not, ◌&&◌, ◌||◌, List}
+use Rattle.std.proofs.Common.{[], ◌∷◌, ◌++◌, map, Option, Some, None}
 use Rattle.std.specs.List.{filter, list_all}
 use Rattle.std.specs.Bool.{beq}
-use Rattle.std.proofs.lemmas.Bool.{cases_Bool, and_parts, eqb-true, eq-eqb, cond_both, false≢true, or_right, or_left, or_cases, and_from, and_left}
+use Rattle.std.proofs.lemmas.Bool.{cases_Bool, and_parts, eqb-true, eq-eqb, cond_both, false≢true, or_right, or_left}
+use Rattle.std.proofs.lemmas.Bool.{or_cases, and_from, and_left}
 use Rattle.std.proofs.Math.Bool.{not-not}
 use Rattle.std.proofs.lemmas.List.Folds.{list_any-append}
 use Rattle.resolution_check.specs.declared.log.Lit.{Lit}
@@ -65,7 +67,8 @@ has-filter p (x ∷ xs) l =
       | inr other ↦ rw other (has-filter p xs l)
     ])
     (λ not_p. elim (cases_Bool (is_same l x)) [
-      | inl here ↦ (has-filter p xs l ∙ and_left _ _ (alike p l x here ∙ not_p)) ∙ sym (and_left _ _ (alike p l x here ∙ not_p))
+      | inl here ↦ (has-filter p xs l ∙ and_left _ _ (alike p l x here ∙ not_p))
+          ∙ sym (and_left _ _ (alike p l x here ∙ not_p))
       | inr other ↦ rw other (has-filter p xs l)
     ])
 

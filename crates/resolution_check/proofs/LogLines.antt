@@ -1,5 +1,6 @@
 -- The lines of a log: they are cut at the line feeds, and fix the entries.
-use Rattle.std.proofs.Common.{◌≡◌, refl, sym, ◌∙◌, ap, ap₂, ℕ, ◌<◌, nat_lt, true, false, List, [], ◌∷◌, ◌++◌, map, get_or, append_assoc, arith}
+use Rattle.std.proofs.Common.{◌≡◌, refl, sym, ◌∙◌, ap, ap₂, ℕ, ◌<◌, nat_lt, true, false, List, [], ◌∷◌, ◌++◌, map}
+use Rattle.std.proofs.Common.{get_or, append_assoc, arith}
 use Rattle.std.specs.List.{list_all, All, AllByRecursion, slice_split, join_with_byte}
 use Rattle.std.proofs.lemmas.Bool.{and_parts, and_from, ltb-true, lt-ltb, ne_eqb}
 use Rattle.std.proofs.lemmas.List.{append_cancel_right}

@@ -1,17 +1,21 @@
 -- Marks against clauses: the pivots, and the literals of the resolvent.
-use Rattle.std.proofs.Common.{◌≡◌, ◌↔◌, refl, sym, ◌∙◌, ap, ap₂, inl, inr, take-append-drop, ℕ, ◌<◌, Bool, true, false, not, ◌&&◌, ◌||◌, arith, List, [], ◌∷◌, ◌++◌, map, take, drop, get_or, length, Option, Some, None, MatchOption, IsTrue}
+use Rattle.std.proofs.Common.{◌≡◌, ◌↔◌, refl, sym, ◌∙◌, ap, ap₂, inl, inr, take-append-drop, ℕ, ◌<◌, Bool, true, false}
+use Rattle.std.proofs.Common.{not, ◌&&◌, ◌||◌, arith, List, [], ◌∷◌, ◌++◌, map, take, drop, get_or, length, Option}
+use Rattle.std.proofs.Common.{Some, None, MatchOption, IsTrue}
 use Rattle.std.specs.List.{filter, list_any}
 use Rattle.std.proofs.Math.Bool.{and_comm, or_comm}
 use Rattle.std.specs.Ordering.{nat_cmp}
 use Rattle.std.specs.BTreeMap.{is_at}
 use Rattle.std.proofs.lemmas.Grind.{common_steps}
-use Rattle.std.proofs.lemmas.Bool.{cases_Bool, and_parts, and_from, true≢false, false≢true, or_left, false_from_ne_true, cond_both}
+use Rattle.std.proofs.lemmas.Bool.{cases_Bool, and_parts, and_from, true≢false, false≢true, or_left}
+use Rattle.std.proofs.lemmas.Bool.{false_from_ne_true, cond_both}
 use Rattle.std.proofs.lemmas.List.Folds.{list_any_at}
 use Rattle.resolution_check.specs.declared.log.Lit.{Lit}
 use Rattle.resolution_check.specs.declared.marks.Marks.{Marks}
 use Rattle.resolution_check.specs.Clauses.{opposite, is_same, has, is_inside, clashing, the_one, without}
 use Rattle.resolution_check.specs.Marked.{marked, Shows}
-use Rattle.resolution_check.proofs.Literals.{IsOne, the_one-at, the_one-Some, the_one-same, has-filter, has-append, has-opposites, same_lit, same_refl, all_at, all_from, opposite_twice}
+use Rattle.resolution_check.proofs.Literals.{IsOne, the_one-at, the_one-Some, the_one-same, has-filter, has-append}
+use Rattle.resolution_check.proofs.Literals.{has-opposites, same_lit, same_refl, all_at, all_from, opposite_twice}
 
 -- the negations of the clause's literals that are marked
 abbrev pub met : Marks → List Lit → List Lit
@@ -39,7 +43,8 @@ not_one : (xs : List Lit) (p q : Lit) → has xs p ≡ true → has xs q ≡ tru
 not_one xs p q h k apart None e = refl
 not_one xs p q h k apart (Some l) e =
     let one = the_one-Some xs l e in
-    absurd (false≢true (sym apart ∙ ap₂ is_same (sym (same_lit l p (one.only p h))) (sym (same_lit l q (one.only q k))) ∙ same_refl l))
+    absurd (false≢true (sym apart
+    ∙ ap₂ is_same (sym (same_lit l p (one.only p h))) (sym (same_lit l q (one.only q k))) ∙ same_refl l))
 
 -- two literals that are not the same are not one
 pub two_found : (xs : List Lit) (p q : Lit) → has xs p ≡ true → has xs q ≡ true → is_same p q ≡ false
@@ -51,14 +56,17 @@ pub met-later : (m : Marks) (d : List Lit) (i : ℕ) (l : Lit) → has (met m (t
 met-later m d i l h =
     let both = and_parts _ _ (sym (has-met m (take i d) l) ∙ h) in
     has-met m d l
-    ∙ and_from _ _ both.0 (ap (λ c. has c (opposite l)) (sym (take-append-drop i d)) ∙ has-append (take i d) (drop i d) (opposite l) ∙ or_left _ _ both.1)
+    ∙ and_from _ _ both.0 (ap (λ c. has c (opposite l)) (sym (take-append-drop i d))
+    ∙ has-append (take i d) (drop i d) (opposite l) ∙ or_left _ _ both.1)
 
 -- a literal that is met
 pub met-at : (m : Marks) (d : List Lit) (i : ℕ) (none k : Lit) → i < length d → k ≡ opposite (get_or d i none)
     → marked m k ≡ true → has (met m d) k ≡ true
 met-at m d i none k h e is_marked =
     has-met m d k
-    ∙ and_from _ _ is_marked (list_any_at (is_same (opposite k)) d i none h (ap (λ l. is_same (opposite l) (get_or d i none)) e ∙ ap (λ l. is_same l (get_or d i none)) (opposite_twice (get_or d i none)) ∙ same_refl (get_or d i none)))
+    ∙ and_from _ _ is_marked
+    (list_any_at (is_same (opposite k)) d i none h (ap (λ l. is_same (opposite l) (get_or d i none)) e
+    ∙ ap (λ l. is_same l (get_or d i none)) (opposite_twice (get_or d i none)) ∙ same_refl (get_or d i none)))
 
 -- after the pivot is unmarked and the other clause marked, the resolvent is shown
 pub resolvent_shown : (old new : Marks) (r d : List Lit) (p : Lit) → Shows old r
@@ -87,8 +95,10 @@ none_marked m p n l =
 
 -- where no literal is marked no variable is
 pub no_variables : (m : Marks) → ((l : Lit) → marked m l ≡ false) → (m.positive.keys ≡ []) × (m.negative.keys ≡ [])
-no_variables m h =
-    (no_number m.positive.keys (λ v. h (record { var = v; negated = false })), no_number m.negative.keys (λ v. h (record { var = v; negated = true })))
+no_variables m h = (
+  no_number m.positive.keys (λ v. h (record { var = v; negated = false })),
+  no_number m.negative.keys (λ v. h (record { var = v; negated = true })),
+)
 
 -- nothing is left of r without d exactly where r is inside d
 pub covered : (r d : List Lit) (m : Marks) (b : Bool) → ((l : Lit) → marked m l ≡ (not (has d l) && has r l))
@@ -96,7 +106,9 @@ pub covered : (r d : List Lit) (m : Marks) (b : Bool) → ((l : Lit) → marked 
 covered r d m b left empty =
     elim (cases_Bool (is_inside r d)) [
       | inl inside ↦ empty.1 (λ l. left l ∙ gone (has d l) (has r l) (all_at (has d) r inside l)) ∙ sym inside
-      | inr outside ↦ false_from_ne_true b (λ e. false≢true (sym outside ∙ all_from (has d) r (λ l there. kept (has d l) (has r l) there (sym (left l) ∙ empty.0 e l))))
+      | inr outside ↦ false_from_ne_true b
+          (λ e. false≢true (sym outside
+          ∙ all_from (has d) r (λ l there. kept (has d l) (has r l) there (sym (left l) ∙ empty.0 e l))))
           ∙ sym outside
     ]
   where

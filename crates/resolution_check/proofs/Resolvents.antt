@@ -3,8 +3,10 @@ use Rattle.std.proofs.Common.{◌≡◌, refl, sym, ◌∙◌, ap, ap₂, true, 
 use Rattle.std.specs.Option.{option_map}
 use Rattle.std.proofs.lemmas.Bool.{and_parts, and_from}
 use Rattle.resolution_check.specs.declared.log.Lit.{Lit}
-use Rattle.resolution_check.specs.Clauses.{opposite, is_same, has, is_inside, clashing, the_one, without, resolvent, IsPivot, IsSameSet}
-use Rattle.resolution_check.proofs.Literals.{the_one-at, the_one-Some, has-filter, has-append, same_lit, same_refl, all_from}
+use Rattle.resolution_check.specs.Clauses.{opposite, is_same, has, is_inside, clashing, the_one, without, resolvent}
+use Rattle.resolution_check.specs.Clauses.{IsPivot, IsSameSet}
+use Rattle.resolution_check.proofs.Literals.{the_one-at, the_one-Some, has-filter, has-append, same_lit, same_refl}
+use Rattle.resolution_check.proofs.Literals.{all_from}
 
 -- two clauses with a pivot have a resolvent
 pub resolvent-pivot : (c d : List Lit) (p : Lit) → IsPivot c d p
@@ -15,7 +17,8 @@ resolvent-pivot c d p h =
     let one : the_one (clashing c d) ≡ Some p = the_one-at (clashing c d) p (record {
       there = there;
       only =
-          λ l k. let both = and_parts (has d (opposite l)) (has c l) (sym (has-filter (λ m. has d (opposite m)) c l) ∙ k) in ap (is_same p) (h.only l both.1 both.0)
+          λ l k. let both = and_parts (has d (opposite l)) (has c l) (sym (has-filter (λ m. has d (opposite m)) c l)
+          ∙ k) in ap (is_same p) (h.only l both.1 both.0)
           ∙ same_refl p;
     }) in
     ap (option_map (λ l. without c l ++ without d (opposite l))) one
@@ -38,7 +41,8 @@ pivot_from c d s h = by_one (the_one (clashing c d)) refl h
           record {
             first = both.1;
             second = both.0;
-            only = λ l m n. sym (same_lit p l (one.only l (has-filter (λ k. has d (opposite k)) c l ∙ and_from (has d (opposite l)) (has c l) n m)));
+            only = λ l m n. sym (same_lit p l
+                (one.only l (has-filter (λ k. has d (opposite k)) c l ∙ and_from (has d (opposite l)) (has c l) n m)));
           },
           parts,
         )

@@ -1,12 +1,16 @@
 -- Words, numbers and literals: what is read is what was written.
-use Rattle.std.proofs.Common.{◌≡◌, ◌≢◌, refl, sym, ◌∙◌, ap, ap₂, subst, lit<, slice_index, ℕ, ◌+◌, ◌-◌, ◌*◌, ◌^◌, ◌<◌, ◌≤◌, nat_lt, ◌==◌, Bool, true, false, not, ◌&&◌, cond, List, [], ◌∷◌, length, get_or, take, drop, position, Option, Some, None, arith, rules}
+use Rattle.std.proofs.Common.{◌≡◌, ◌≢◌, refl, sym, ◌∙◌, ap, ap₂, subst, lit<, slice_index, ℕ, ◌+◌, ◌-◌, ◌*◌, ◌^◌, ◌<◌}
+use Rattle.std.proofs.Common.{◌≤◌, nat_lt, ◌==◌, Bool, true, false, not, ◌&&◌, cond, List, [], ◌∷◌, length, get_or}
+use Rattle.std.proofs.Common.{take, drop, position, Option, Some, None, arith, rules}
 use Rattle.std.specs.Bool.{nat_le}
 use Rattle.std.specs.Option.{option_map}
 use Rattle.std.specs.List.{list_all, fold, All, AllByRecursion, position_or_len, onto_first, join_with_byte}
 use Rattle.std.specs.Fmt.{decimal}
 use Rattle.std.proofs.Math.Nat.{pow-le-pow_right}
-use Rattle.std.proofs.lemmas.Bool.{and_parts, and_from, ltb-true, ltb-false, lt-ltb, leb-true, le-leb, eqb-true, eqb-false, ne_eqb, not-true}
-use Rattle.std.proofs.lemmas.Fmt.{decimal_digit, decimal_nonempty, first_decimal, length-decimal-le, digits_decimal, digits_value-decimal, decimal-digits_value}
+use Rattle.std.proofs.lemmas.Bool.{and_parts, and_from, ltb-true, ltb-false, lt-ltb, leb-true, le-leb, eqb-true}
+use Rattle.std.proofs.lemmas.Bool.{eqb-false, ne_eqb, not-true}
+use Rattle.std.proofs.lemmas.Fmt.{decimal_digit, decimal_nonempty, first_decimal, length-decimal-le, digits_decimal}
+use Rattle.std.proofs.lemmas.Fmt.{digits_value-decimal, decimal-digits_value}
 use Rattle.std.proofs.lemmas.Option.{cond_some}
 use Rattle.std.proofs.lemmas.List.Sums.{fails_before_first, AllPass-from_list_all}
 use Rattle.std.proofs.lemmas.List.Splits.{slice_split_first, slice_split_none, slice_split_at}
@@ -21,7 +25,9 @@ use Rattle.resolution_check.specs.Words.{is_space, words_in, number_in, lit_with
 -- a text without a space is one word
 pub cut_none : (text : List ℕ) → position is_space text ≡ None → words_in text ≡ text ∷ []
 cut_none text h =
-    slice_split_none is_space text (λ k d below. fails_before_first is_space text k d (far (nat_lt (position_or_len is_space text) (length text)) refl h k below))
+    slice_split_none is_space text
+    (λ k d below. fails_before_first is_space text k d
+    (far (nat_lt (position_or_len is_space text) (length text)) refl h k below))
   where
     far : (b : Bool) → nat_lt (position_or_len is_space text) (length text) ≡ b
         → cond b (Some (position_or_len is_space text)) None ≡ None → (k : ℕ) → k < length text
@@ -112,8 +118,13 @@ number_in-Some word n h =
     let most : value_of word ≤ 2 ^ 63 = leb-true (value_of word) (2 ^ 63) limits.1 in
     let written : decimal (value_of word) ≡ word =
     decimal-digits_value own word digits.1 (ltb-true 0 (length word) size.0) (λ e. absurd (first e)) (omega arith) in
-    let same : word ≡ decimal n = sym written ∙ ap decimal read.1 in
-    (same, (positive n (λ e. first (ap (λ w. slice_index w 0) (same ∙ ap decimal e ∙ decimal_digit 0 (omega arith)))), subst (λ m. m ≤ 2 ^ 63) read.1 most))
+    let same : word ≡ decimal n = sym written ∙ ap decimal read.1 in (
+      same,
+      (
+        positive n (λ e. first (ap (λ w. slice_index w 0) (same ∙ ap decimal e ∙ decimal_digit 0 (omega arith)))),
+        subst (λ m. m ≤ 2 ^ 63) read.1 most,
+      ),
+    )
   where
     positive : (m : ℕ) → (m ≡ 0 → ⊥) → 0 < m
     positive m h = omega arith
@@ -127,7 +138,10 @@ number_in-decimal n h =
     let short : length (decimal n) ≤ 19 = length-decimal-le 19 n (omega arith) (omega arith) small in
     let first : 48 < get_or (decimal n) 0 0 = first_decimal n h.0 small in
     let numeral : is_numeral 19 (decimal n) ≡ true =
-    and_from (nat_lt 0 (length (decimal n))) (nat_le (length (decimal n)) 19 && list_all is_digit (decimal n)) (lt-ltb 0 (length (decimal n)) (decimal_nonempty n small)) (and_from (nat_le (length (decimal n)) 19) (list_all is_digit (decimal n)) (le-leb (length (decimal n)) 19 short) (digits_decimal own n small)) in
+    and_from (nat_lt 0 (length (decimal n))) (nat_le (length (decimal n)) 19 && list_all is_digit (decimal n))
+    (lt-ltb 0 (length (decimal n)) (decimal_nonempty n small))
+    (and_from (nat_le (length (decimal n)) 19) (list_all is_digit (decimal n)) (le-leb (length (decimal n)) 19 short)
+    (digits_decimal own n small)) in
     let leads : (slice_index (decimal n) 0 == 48) ≡ false = ne_eqb (slice_index (decimal n) 0) 48 (omega arith) in
     let limits : bounded (decimal n) ≡ true =
     and_from (not (slice_index (decimal n) 0 == 48)) (nat_le (value_of (decimal n)) (2 ^ 63)) (ap not leads)
@@ -147,7 +161,8 @@ starts n h (b ∷ word) e =
     let first : 48 < get_or (decimal n) 0 0 = first_decimal n h.0 (omega arith) in
     let here : get_or (decimal n) 0 0 ≡ b = ap (λ w. get_or w 0 0) e in
     let no_minus : (b == 45) ≡ false = ne_eqb b 45 (omega arith) in
-    ap (λ t. cond t (option_map (lit_with true) (number_in word)) (option_map (lit_with false) (number_in (b ∷ word)))) no_minus
+    ap (λ t. cond t (option_map (lit_with true) (number_in word))
+    (option_map (lit_with false) (number_in (b ∷ word)))) no_minus
 
 -- a literal is read from its text
 pub lit_in-text : (l : Lit) → IsSmall l → lit_in (lit_text l) ≡ Some l

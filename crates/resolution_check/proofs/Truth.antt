@@ -1,8 +1,10 @@
 -- What follows from clauses that are true under an assignment is true under it.
-use Rattle.std.proofs.Common.{◌≡◌, inl, inr, refl, sym, ◌∙◌, ap, subst, ℕ, ◌==◌, Bool, true, false, not, ◌&&◌, cond, List, [], ◌∷◌, ◌++◌, Option, Some, None, Ok}
+use Rattle.std.proofs.Common.{◌≡◌, inl, inr, refl, sym, ◌∙◌, ap, subst, ℕ, ◌==◌, Bool, true, false, not, ◌&&◌, cond}
+use Rattle.std.proofs.Common.{List, [], ◌∷◌, ◌++◌, Option, Some, None, Ok}
 use Rattle.std.specs.Option.{option_or, option_map}
 use Rattle.std.specs.List.{cons_option}
-use Rattle.std.proofs.lemmas.Bool.{cases_Bool, and_parts, false≢true, or_left, or_right, or_cases, cond_both, not-false, false_from_ne_true, or_from}
+use Rattle.std.proofs.lemmas.Bool.{cases_Bool, and_parts, false≢true, or_left, or_right, or_cases, cond_both}
+use Rattle.std.proofs.lemmas.Bool.{not-false, false_from_ne_true, or_from}
 use Rattle.std.proofs.lemmas.List.Folds.{list_any-append}
 use Rattle.std.proofs.Math.Bool.{and-true, and_assoc}
 use Rattle.resolution_check.specs.declared.log.Lit.{Lit}
@@ -10,7 +12,9 @@ use Rattle.resolution_check.specs.declared.log.Clause.{Clause}
 use Rattle.resolution_check.specs.declared.log.Entry.{Entry}
 use Rattle.resolution_check.specs.declared.log.Entry.TheVariants.{Input, Add, Delete, End}
 use Rattle.resolution_check.specs.Clauses.{opposite, is_same, has, is_inside, clashing, the_one, without, resolvent}
-use Rattle.resolution_check.specs.Entries.{lit_value, clause_value, satisfies, resolved, clause_by, clause_given, clause_held, is_deleted, input_of, inputs, is_empty, is_refutation, adds_empty, IsSound, KeepsGood, IsGood, IsUnsatisfiable}
+use Rattle.resolution_check.specs.Entries.{lit_value, clause_value, satisfies, resolved, clause_by, clause_given}
+use Rattle.resolution_check.specs.Entries.{clause_held, is_deleted, input_of, inputs, is_empty, is_refutation}
+use Rattle.resolution_check.specs.Entries.{adds_empty, IsSound, KeepsGood, IsGood, IsUnsatisfiable}
 use Rattle.resolution_check.proofs.Literals.{alike}
 use Rattle.resolution_check.proofs.Values.{any_from}
 use Rattle.resolution_check.proofs.Chains.{resolved_has}
@@ -146,7 +150,8 @@ follows_more v es e kept earlier t =
     let both = and_parts _ _ (sym (satisfies-push v es e) ∙ t) in
     let before = earlier both.0 in
     record {
-      given = λ id c k. either (clause_given es id) (clause_by id e) c (before.given id c) (entry_true v es e before kept.1 both.1 id c) (sym (clause_given-push es e id) ∙ k);
+      given = λ id c k. either (clause_given es id) (clause_by id e) c (before.given id c)
+          (entry_true v es e before kept.1 both.1 id c) (sym (clause_given-push es e id) ∙ k);
       no_empty = any-push is_refutation es e ∙ or_from _ _ before.no_empty (no_refutation v es e before kept.1);
     }
   where
@@ -158,4 +163,6 @@ follows_more v es e kept earlier t =
 -- a good list that adds the empty clause has inputs that no assignment satisfies
 pub unsatisfiable : (es : List Entry) → IsGood es → adds_empty es ≡ true → IsUnsatisfiable (inputs es)
 unsatisfiable es good adds v =
-    false_from_ne_true _ (λ t. false≢true (sym (by_steps KeepsGood (Follows v) (λ s. record { given = λ id c e. absurd (cc); no_empty = refl }) (follows_more v) es good t).no_empty ∙ adds))
+    false_from_ne_true _ (λ t. false≢true
+    (sym (by_steps KeepsGood (Follows v) (λ s. record { given = λ id c e. absurd (cc); no_empty = refl })
+    (follows_more v) es good t).no_empty ∙ adds))

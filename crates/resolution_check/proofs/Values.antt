@@ -1,8 +1,10 @@
 -- Values under a trail: longer and shorter trails, and clauses that are false or true under them.
-use Rattle.std.proofs.Common.{◌≡◌, ℕ, ◌<◌, ◌≤◌, ◌==◌, Bool, true, false, not, cond, List, [], ◌∷◌, ◌++◌, Option, Some, None, is_some, inl, inr, refl, sym, ap, subst, ◌∙◌, arith}
+use Rattle.std.proofs.Common.{◌≡◌, ℕ, ◌<◌, ◌≤◌, ◌==◌, Bool, true, false, not, cond, List, [], ◌∷◌, ◌++◌, Option, Some}
+use Rattle.std.proofs.Common.{None, is_some, inl, inr, refl, sym, ap, subst, ◌∙◌, arith}
 use Rattle.std.specs.Option.{option_or}
 use Rattle.std.specs.List.{list_any}
-use Rattle.std.proofs.lemmas.Bool.{eq-eqb, false≢true, true≢false, or_cases, or_left, or_right, and_parts, and_from, ltb-true, lt-ltb}
+use Rattle.std.proofs.lemmas.Bool.{eq-eqb, false≢true, true≢false, or_cases, or_left, or_right, and_parts, and_from}
+use Rattle.std.proofs.lemmas.Bool.{ltb-true, lt-ltb}
 use Rattle.resolution_check.specs.declared.log.Lit.{Lit}
 use Rattle.resolution_check.specs.Clauses.{has, opposite, is_below}
 use Rattle.resolution_check.specs.Trails.{value_of, is_value, holds, fails, Keeps, IsTotal, IsSettled}
@@ -15,7 +17,8 @@ pub value_of-append : (ls ms : List Lit) (v : ℕ) → value_of (ls ++ ms) v ≡
 value_of-append [] ms v = refl
 value_of-append (l ∷ ls) ms v =
     let here = Some (not l.negated) in
-    elim (l.var == v) as (λ b. cond b here (value_of (ls ++ ms) v) ≡ option_or (cond b here (value_of ls v)) (value_of ms v)) [
+    elim (l.var == v) as (λ b. cond b here (value_of (ls ++ ms) v)
+    ≡ option_or (cond b here (value_of ls v)) (value_of ms v)) [
       | true ↦ refl
       | false ↦ value_of-append ls ms v
     ]
@@ -107,7 +110,8 @@ any_from p (k ∷ c) l h t =
 pub below_at : (limit : ℕ) (c : List Lit) (l : Lit) → is_below limit c ≡ true → has c l ≡ true → l.var < limit
 below_at limit [] l below h = absurd (false≢true h)
 below_at limit (k ∷ c) l below h = elim (or_cases _ _ h) [
-  | inl here ↦ subst (λ (m : Lit). m.var < limit) (sym (same_lit l k here)) (ltb-true k.var limit (and_parts _ _ below).0)
+  | inl here ↦ subst (λ (m : Lit). m.var < limit) (sym (same_lit l k here))
+      (ltb-true k.var limit (and_parts _ _ below).0)
   | inr later ↦ below_at limit c l (and_parts _ _ below).1 later
 ]
 

@@ -29,7 +29,8 @@ regroup_more old a b xs z ys = simp append_assoc
 
 -- an input's words behind each other are its text
 pub input_written : (old : List ℕ) (id : ℕ) (clause : Clause)
-    → (((old ++ codes "i") ++ after_space (decimal id)) ++ flat_map after_space (map lit_text clause.lits)) ++ after_space zero_text ≡ old ++ text_of (Input id clause)
+    → (((old ++ codes "i") ++ after_space (decimal id)) ++ flat_map after_space (map lit_text clause.lits))
+    ++ after_space zero_text ≡ old ++ text_of (Input id clause)
 input_written old id clause =
     let lits = map lit_text clause.lits in
     let text =
@@ -40,7 +41,8 @@ input_written old id clause =
 
 -- an addition's words behind each other are its text
 pub addition_written : (old : List ℕ) (id : ℕ) (clause : Clause) (chain : List ℕ) →
-    (((((old ++ codes "a") ++ after_space (decimal id)) ++ flat_map after_space (map lit_text clause.lits)) ++ after_space zero_text) ++ flat_map after_space (map decimal chain)) ++ after_space zero_text
+    (((((old ++ codes "a") ++ after_space (decimal id)) ++ flat_map after_space (map lit_text clause.lits))
+    ++ after_space zero_text) ++ flat_map after_space (map decimal chain)) ++ after_space zero_text
     ≡ old ++ text_of (Add id clause chain)
 addition_written old id clause chain =
     let lits = map lit_text clause.lits in

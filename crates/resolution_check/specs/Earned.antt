@@ -1,13 +1,15 @@
 -- Which additions a solver may log, and when it may delete: every addition is earned, numbers go
 -- upwards, and the list is spaced.
-use Rattle.std.specs.Prelude.{ℕ, ◌≡◌, ◌≢◌, ◌⊎◌, ◌+◌, ◌*◌, ◌<◌, ◌≤◌, Bool, true, false, not, ◌&&◌, ◌==◌, if◌then◌else◌, ⊤, List, [], ◌∷◌, Some, Ok}
+use Rattle.std.specs.Prelude.{ℕ, ◌≡◌, ◌≢◌, ◌⊎◌, ◌+◌, ◌*◌, ◌<◌, ◌≤◌, Bool, true, false, not, ◌&&◌, ◌==◌, if◌then◌else◌}
+use Rattle.std.specs.Prelude.{⊤, List, [], ◌∷◌, Some, Ok}
 use Rattle.std.specs.List.{list_any}
 use Rattle.resolution_check.specs.declared.log.Lit.{Lit}
 use Rattle.resolution_check.specs.declared.log.Clause.{Clause}
 use Rattle.resolution_check.specs.declared.log.Entry.{Entry}
 use Rattle.resolution_check.specs.declared.log.Entry.TheVariants.{Input, Add, Delete, End}
 use Rattle.resolution_check.specs.Clauses.{has, is_inside}
-use Rattle.resolution_check.specs.Entries.{clause_given, is_given, clause_held, resolved, addition_count, KeepsGood, EachAfter}
+use Rattle.resolution_check.specs.Entries.{clause_given, is_given, clause_held, resolved, addition_count, KeepsGood}
+use Rattle.resolution_check.specs.Entries.{EachAfter}
 
 -- ---- earned additions
 
@@ -23,7 +25,8 @@ vars_differ (l ∷ c) = not (has_var c l.var) && vars_differ c
 -- variable stands twice in it, and it contains no clause that is then held
 pub record IsEarnedAddition (es : List Entry) (id : ℕ) (clause : Clause) (chain : List ℕ) : Type 0 where
   pub good : KeepsGood es (Add id clause chain)
-  pub exact : (r : List Lit) × (resolved (clause_held es) chain ≡ Ok r) × (is_inside r clause.lits ≡ true) × (is_inside clause.lits r ≡ true)
+  pub exact : (r : List Lit) × (resolved (clause_held es) chain ≡ Ok r) × (is_inside r clause.lits ≡ true)
+      × (is_inside clause.lits r ≡ true)
   pub once : vars_differ clause.lits ≡ true
   pub smallest : (other : ℕ) (c : Clause) → clause_held es other ≡ Some c → is_inside c.lits clause.lits ≡ false
 
@@ -88,7 +91,8 @@ lit_count (l ∷ c) = (if has c l then 0 else 1) + lit_count c
 pub record MayDelete (es : List Entry) (id : ℕ) : Type 0 where
   pub no_input : list_any (gives_input id) es ≡ false
   pub long : (c : Clause) → clause_given es id ≡ Some c → (lit_count c.lits ≢ 1) × (lit_count c.lits ≢ 2)
-  pub apart : (ends_deleting false es ≡ true) ⊎ (1000 * (run_count false es + 1) * (run_count false es + 2) ≤ addition_count es)
+  pub apart : (ends_deleting false es ≡ true)
+      ⊎ (1000 * (run_count false es + 1) * (run_count false es + 2) ≤ addition_count es)
 
 abbrev pub MayFollow : List Entry → Entry → Type 0
 MayFollow es (Input id clause) = ⊤

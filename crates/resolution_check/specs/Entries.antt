@@ -1,6 +1,7 @@
 -- Lists of entries: which numbers are given, which clauses are held, what a chain resolves to, and
 -- which lists are good.
-use Rattle.std.specs.Prelude.{ℕ, ◌≡◌, ◌+◌, Bool, true, false, ◌==◌, if◌then◌else◌, ⊤, List, [], ◌∷◌, ◌++◌, Option, Some, None, Result, Ok, Err, IsSome, is_some, sum_by, filter_map}
+use Rattle.std.specs.Prelude.{ℕ, ◌≡◌, ◌+◌, Bool, true, false, ◌==◌, if◌then◌else◌, ⊤, List, [], ◌∷◌, ◌++◌, Option}
+use Rattle.std.specs.Prelude.{Some, None, Result, Ok, Err, IsSome, is_some, sum_by, filter_map}
 use Rattle.std.specs.Option.{option_or, option_map_or, ok_or}
 use Rattle.std.specs.List.{list_any, list_all}
 use Rattle.resolution_check.specs.declared.log.Lit.{Lit}

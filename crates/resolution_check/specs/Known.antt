@@ -1,5 +1,6 @@
 -- What a checker knows of the entries that it has accepted.
-use Rattle.std.specs.Prelude.{ℕ, ◌≡◌, ◌+◌, ◌⊎◌, Bool, ◌||◌, ◌&&◌, ◌==◌, nat_lt, nat_le, if◌then◌else◌, List, length, Option, Some, None, is_some, Result, Ok, Err}
+use Rattle.std.specs.Prelude.{ℕ, ◌≡◌, ◌+◌, ◌⊎◌, Bool, ◌||◌, ◌&&◌, ◌==◌, nat_lt, nat_le, if◌then◌else◌, List, length}
+use Rattle.std.specs.Prelude.{Option, Some, None, is_some, Result, Ok, Err}
 use Rattle.std.specs.Option.{option_flatten}
 use Rattle.std.specs.Map.{lookup}
 use Rattle.std.specs.Ordering.{nat_cmp}
@@ -9,7 +10,8 @@ use Rattle.resolution_check.specs.declared.log.Entry.{Entry}
 use Rattle.resolution_check.specs.declared.log.Entry.TheVariants.{Input, Add, Delete, End}
 use Rattle.resolution_check.specs.declared.log.Bad.{Bad}
 use Rattle.resolution_check.specs.declared.log.Bad.TheVariants.{AfterEnd, Memory}
-use Rattle.resolution_check.specs.Entries.{is_given, gives, clause_held, has_ended, adds_empty, addition_count, IsGood, entry_fault, is_end, is_refutation, additions_in}
+use Rattle.resolution_check.specs.Entries.{is_given, gives, clause_held, has_ended, adds_empty, addition_count, IsGood}
+use Rattle.resolution_check.specs.Entries.{entry_fault, is_end, is_refutation, additions_in}
 
 -- The numbers from 1 up to `through` were given, and the front has those of their clauses that are held.
 -- The other numbers given are the keys of `loose`, with their clauses while those are held.

@@ -1,5 +1,6 @@
 -- What a list of words reads as.
-use Rattle.std.specs.Prelude.{ℕ, ◌≡◌, ◌⊎◌, ◌-◌, ◌^◌, ◌==◌, ◌&&◌, not, nat_le, if◌then◌else◌, List, [], ◌∷◌, slice_index, Option, Some, None, Result, Ok, Err, option_map, codes, Bool, true, false}
+use Rattle.std.specs.Prelude.{ℕ, ◌≡◌, ◌⊎◌, ◌-◌, ◌^◌, ◌==◌, ◌&&◌, not, nat_le, if◌then◌else◌, List, [], ◌∷◌}
+use Rattle.std.specs.Prelude.{slice_index, Option, Some, None, Result, Ok, Err, option_map, codes, Bool, true, false}
 use Rattle.std.specs.Borrow.{Bor}
 use Rattle.std.specs.List.{slice_split}
 use Rattle.std.specs.Option.{option_and_then, option_map_or}
@@ -55,7 +56,8 @@ input_in id words =
 
 abbrev pub addition_in : ℕ → List (List ℕ) → Option Entry
 addition_in id words =
-    option_and_then (λ lits. option_and_then (λ ids. finished ids.1 (Add id (record { lits = lits.0 }) ids.0)) (list_in number_in lits.1)) (list_in lit_in words)
+    option_and_then (λ lits. option_and_then (λ ids. finished ids.1 (Add id (record { lits = lits.0 }) ids.0))
+    (list_in number_in lits.1)) (list_in lit_in words)
 
 -- by the first word, after the number
 abbrev pub entry_with : List ℕ → ℕ → List (List ℕ) → Option Entry

@@ -29,12 +29,14 @@ stable_there files d failures environment tables router len file slot in_range s
     let is_router : k / LENGTHS ≡ router = omega arith in
     let is_len : k % LENGTHS ≡ len = omega arith in
     let OfRouter : ℕ → Type 0 = λ r. IsStableSlot files failures environment tables r file (prefix_at d len) slot in
-    let OfLen : ℕ → Type 0 = λ l. IsStableSlot files failures environment tables (k / LENGTHS) file (prefix_at d l) slot in
+    let OfLen : ℕ → Type 0 =
+    λ l. IsStableSlot files failures environment tables (k / LENGTHS) file (prefix_at d l) slot in
     subst OfRouter is_router (subst OfLen is_len
     (stable file slot (ap (λ r. slice_get files r) is_router ∙ in_file) there))
 
 -- where all slots are stable the tables are
-pub stable_everywhere : (files : List File) (d : Addr) (failures : Failures) (environment : Environment) (tables : Tables) →
+pub stable_everywhere : (files : List File) (d : Addr) (failures : Failures) (environment : Environment)
+    (tables : Tables) →
     length tables.slots ≡ LENGTHS * length files →
     ((k : ℕ) → k < LENGTHS * length files → IsStableAt files d failures environment tables k) →
     Stable files d failures environment tables
@@ -76,9 +78,12 @@ slot_refutes : (files : List File) (failures : Failures) (environment : Environm
     (router : ℕ) (file : File) (p : Prefix) (slot : Slot) (differs : Differs) (part : Part) → differs.part ≡ part →
     IsFirstUnlike files failures environment tables router file p slot differs →
     IsStableSlot files failures environment tables router file p slot → ⊥
-slot_refutes files failures environment tables router file p slot differs Ospf is unlike holds = (rw is at unlike).refuted holds.ospf
-slot_refutes files failures environment tables router file p slot differs Bgp is unlike holds = (rw is at unlike).1.refuted holds.bgp
-slot_refutes files failures environment tables router file p slot differs Rib is unlike holds = (rw is at unlike).2.refuted holds.rib
+slot_refutes files failures environment tables router file p slot differs Ospf is unlike holds =
+    (rw is at unlike).refuted holds.ospf
+slot_refutes files failures environment tables router file p slot differs Bgp is unlike holds =
+    (rw is at unlike).1.refuted holds.bgp
+slot_refutes files failures environment tables router file p slot differs Rib is unlike holds =
+    (rw is at unlike).2.refuted holds.rib
 
 -- tables with a difference are not stable
 pub first_refutes : (files : List File) (d : Addr) (failures : Failures) (environment : Environment) (tables : Tables)
@@ -87,5 +92,6 @@ pub first_refutes : (files : List File) (d : Addr) (failures : Failures) (enviro
 first_refutes files d failures environment tables differs first stable =
     let file : File = first.unlike.0 in
     let slot : Slot = first.unlike.1 in
-    slot_refutes files failures environment tables differs.router file (prefix_at d differs.len) slot differs differs.part refl
+    slot_refutes files failures environment tables differs.router file
+    (prefix_at d differs.len) slot differs differs.part refl
     first.unlike.4 (stable.equations differs.router differs.len file slot first.unlike.2 first.len first.unlike.3)

@@ -12,6 +12,7 @@ use Rattle.proto_rib.specs.Taken.{local_routes_at}
 -- by its slot, if it has one
 pub local_of : (files : List File) (router : ℕ) (file : File) (process : Bgp) (p : Prefix) (held : Option Slot) →
     slice_get files router ≡ Some file → file.bgp ≡ Some process →
-    option_map_or (local_routes_at files router p) held [] ≡ option_map_or (local_routes files router file process p) held []
+    option_map_or (local_routes_at files router p) held []
+    ≡ option_map_or (local_routes files router file process p) held []
 local_of files router file process p None in_file runs = refl
 local_of files router file process p (Some slot) in_file runs = rw in_file (rw runs refl)

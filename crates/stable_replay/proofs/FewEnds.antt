@@ -8,7 +8,8 @@ use Rattle.net_model.specs.Limits.{keeps_limits}
 use Rattle.net_model.specs.Sessions.{end_of, ends_of, sessions}
 use Rattle.net_model.proofs.Peers.{few_sessions}
 
-pub few_ends : (files : List File) → length files ≤ 64 → list_all keeps_limits files ≡ true → length (ends_of files) ≤ 4294967295
+pub few_ends : (files : List File) → length files ≤ 64 → list_all keeps_limits files ≡ true
+    → length (ends_of files) ≤ 4294967295
 unfolding ends_of
 few_ends files small few =
     omega (

@@ -49,4 +49,5 @@ pub held_decides : (candidates : List Candidate) (left : List ℕ) (rec : BgpRec
     Decides found (Any (λ c. c.rec ≡ rec) (candidates_at candidates left))
 held_decides candidates left rec found is =
     Decides-at found (list_any (λ c. same_rec c.rec rec) (candidates_at candidates left))
-    (is ∙ any_found (candidate_at candidates) (λ c. same_rec c.rec rec) left) (any_decides rec (candidates_at candidates left))
+    (is ∙ any_found (candidate_at candidates) (λ c. same_rec c.rec rec) left)
+    (any_decides rec (candidates_at candidates left))

@@ -15,14 +15,16 @@ use Rattle.net_model.specs.Ospf.{up_adjacencies}
 use Rattle.stable_replay.specs.Parts.{origins_at, routes_at}
 
 -- by the slot of the router
-pub origins_of : (files : List File) (failures : Failures) (router : ℕ) (file : File) (process : Ospf) (p : Prefix) (slot : Slot) →
+pub origins_of : (files : List File) (failures : Failures) (router : ℕ) (file : File) (process : Ospf) (p : Prefix)
+    (slot : Slot) →
     slice_get files router ≡ Some file → file.ospf ≡ Some process →
     own_origins files failures router file process p slot ≡ origins_at files failures router p slot
 unfolding own_origins
 origins_of files failures router file process p slot in_file runs = rw in_file (rw runs refl)
 
 -- the routes among which the process chooses
-pub routes_of : (files : List File) (failures : Failures) (tables : Tables) (router : ℕ) (file : File) (process : Ospf) (p : Prefix) →
+pub routes_of : (files : List File) (failures : Failures) (tables : Tables) (router : ℕ) (file : File)
+    (process : Ospf) (p : Prefix) →
     slice_get files router ≡ Some file → file.ospf ≡ Some process →
     held_by_ospf files failures tables router file process p ≡ first_best (routes_at files failures tables router p)
 unfolding held_by_ospf

@@ -41,7 +41,8 @@ IsFirstUnlike files failures environment tables router file p slot differs = by_
       (rib_slot slot.rib) (rib_slots (table_entry files failures router file p slot)) differs
 
 -- what the test of a slot answers: nothing where it is stable, else the first difference there
-abbrev pub IsSlotTested : List File → Failures → Environment → Tables → ℕ → File → Prefix → Slot → Option Differs → Type 0
+abbrev pub IsSlotTested : List File → Failures → Environment → Tables → ℕ → File → Prefix → Slot → Option Differs
+    → Type 0
 IsSlotTested files failures environment tables router file p slot found =
     MatchOption found (IsStableSlot files failures environment tables router file p slot) (λ differs.
     (differs.router ≡ router) × (differs.len ≡ p.len)
@@ -50,7 +51,8 @@ IsSlotTested files failures environment tables router file p slot found =
 -- the slot at a place of the tables is stable
 abbrev pub IsStableAt : List File → Addr → Failures → Environment → Tables → ℕ → Type 0
 IsStableAt files destination failures environment tables place =
-    (file : File) (slot : Slot) → slice_get files (place / LENGTHS) ≡ Some file → slice_get tables.slots place ≡ Some slot →
+    (file : File) (slot : Slot) → slice_get files (place / LENGTHS) ≡ Some file → slice_get tables.slots place
+    ≡ Some slot →
     IsStableSlot files failures environment tables (place / LENGTHS) file (prefix_at destination (place % LENGTHS)) slot
 
 -- the slot at a place differs
@@ -67,8 +69,8 @@ pub record IsDifferenceAt (files : List File) (destination : Addr) (failures : F
 abbrev pub IsEarlier : ℕ → ℕ → Differs → Type 0
 IsEarlier router len differs = (router < differs.router) ⊎ ((router ≡ differs.router) × (len < differs.len))
 
--- The first place where tables are not a stable routing, by router, then by length, then by part: the slot there has that
--- difference, and all slots before it are stable
+-- The first place where tables are not a stable routing, by router, then by length, then by part: the slot there has
+-- that difference, and all slots before it are stable
 pub record IsFirstDifference (files : List File) (destination : Addr) (failures : Failures) (environment : Environment)
     (tables : Tables) (differs : Differs) : Type 0 where
   pub len : differs.len < LENGTHS

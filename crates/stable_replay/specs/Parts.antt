@@ -30,7 +30,8 @@ internal_origins files failures router p =
 
 -- the own origins of the router at that place
 abbrev pub origins_at : List File → Failures → ℕ → Prefix → Slot → List OspfRec
-origins_at files failures router p slot = internal_origins files failures router p ++ redistributed_at files router p slot
+origins_at files failures router p slot = internal_origins files failures router p
+    ++ redistributed_at files router p slot
 
 -- all routes among which the OSPF process of the router at that place chooses
 abbrev pub routes_at : List File → Failures → Tables → ℕ → Prefix → List OspfRec

@@ -25,8 +25,8 @@ IsStable files cex = Stable files cex.packet.dst cex.failures cex.env cex.tables
 abbrev pub IsReplayed : List File → Question → Counterexample → Type 0
 IsReplayed files question cex = IsStable files cex × Breaks files (world_of cex) question.kind cex.walk
 
--- what each refusal says: where the tables differ first; a stable routing whose walk is none; one whose walk is one, where there
--- is a walk, and breaks nothing
+-- what each refusal says: where the tables differ first; a stable routing whose walk is none; one whose walk is one,
+-- where there is a walk, and breaks nothing
 abbrev pub IsRefusedSo : List File → Question → Counterexample → ReplayNo → Type 0
 IsRefusedSo files question cex (no.Differs differs) =
     IsFirstDifference files cex.packet.dst cex.failures cex.env cex.tables differs

@@ -3,10 +3,12 @@ use Rattle.std.proofs.Common.{◌≡◌, ◌&&◌, Bool, true, false, if◌then�
 use Rattle.std.specs.Option.{option_and_then}
 use Rattle.sym_policy.specs.Shapes.{Preferences, PathShape, RouteShape}
 
-pub chosen_parts : (b : Bool) (x y : RouteShape) (preferences : Preferences) (path : PathShape) (marks : List Bool) (type1 : Bool)
+pub chosen_parts : (b : Bool) (x y : RouteShape) (preferences : Preferences) (path : PathShape) (marks : List Bool)
+    (type1 : Bool)
     → preferences ≡ (if b then x.preferences else y.preferences) → path ≡ (if b then x.path else y.path)
     → marks ≡ (if b then x.communities else y.communities) → type1 ≡ (if b then x.type1 else y.type1)
-    → ◌≡◌ {A = RouteShape} (record { preferences = preferences; path = path; communities = marks; type1 = type1 }) (if b then x else y)
+    → ◌≡◌ {A = RouteShape} (record { preferences = preferences; path = path; communities = marks; type1 = type1 })
+    (if b then x else y)
 chosen_parts true x y preferences path marks type1 p q r s =
     λ i. record { preferences = p i; path = q i; communities = r i; type1 = s i }
 chosen_parts false x y preferences path marks type1 p q r s =

@@ -1,5 +1,6 @@
 -- What entries make of a shape, one entry after another.
-use Rattle.std.proofs.Common.{◌≡◌, ℕ, ◌+◌, ◌-◌, ◌<◌, ◌≤◌, Bool, true, false, if◌then◌else◌, List, ◌∷◌, Option, Some, drop, get_or, length, refl, sym, ap, ◌∙◌, arith}
+use Rattle.std.proofs.Common.{◌≡◌, ℕ, ◌+◌, ◌-◌, ◌<◌, ◌≤◌, Bool, true, false, if◌then◌else◌, List, ◌∷◌, Option, Some}
+use Rattle.std.proofs.Common.{drop, get_or, length, refl, sym, ap, ◌∙◌, arith}
 use Rattle.std.proofs.lemmas.List.{drop_more}
 use Rattle.std.specs.Borrow.{Bor}
 use Rattle.std.specs.List.{find}
@@ -20,18 +21,22 @@ decided_first policies tracked p external s e es = by (shape_route_taken policie
   where
     by : (b : Bool)
         → (if b then shape_made tracked external s e else shape_decided policies tracked p external s es)
-        ≡ option_and_then (shape_made tracked external s) (if b then Some e else find (shape_route_taken policies tracked p s) es)
+        ≡ option_and_then (shape_made tracked external s)
+        (if b then Some e else find (shape_route_taken policies tracked p s) es)
     by true = refl
     by false = refl
 
 -- one entry more in front, by reference
 pub decided_more : (policies : Policies) (tracked : Tracked) (p : Prefix) (external : Bool) (s : RouteShape)
     (refs : List (Bor MapEntry)) (i : ℕ) (r : Bor MapEntry) → 0 < i → i ≤ length refs → r ≡ get_or refs (i - 1) r
-    → shape_after policies tracked p external s r.now (shape_decided policies tracked p external s (entries_of (drop i refs)))
+    → shape_after policies tracked p external s r.now
+    (shape_decided policies tracked p external s (entries_of (drop i refs)))
     ≡ shape_decided policies tracked p external s (entries_of (drop (i - 1) refs))
 decided_more policies tracked p external s refs i r above within here =
     let next : i - 1 + 1 ≡ i = omega arith in
     decided_first policies tracked p external s r.now (entries_of (drop i refs))
     ∙ ap (λ x. shape_decided policies tracked p external s (x.now ∷ entries_of (drop i refs))) here
-    ∙ ap (λ j. shape_decided policies tracked p external s ((get_or refs (i - 1) r).now ∷ entries_of (drop j refs))) (sym next)
-    ∙ sym (ap (λ l. shape_decided policies tracked p external s (entries_of l)) (drop_more refs (i - 1) r (omega arith)))
+    ∙ ap (λ j. shape_decided policies tracked p external s ((get_or refs (i - 1) r).now ∷ entries_of (drop j refs)))
+    (sym next)
+    ∙ sym (ap (λ l. shape_decided policies tracked p external s (entries_of l))
+    (drop_more refs (i - 1) r (omega arith)))

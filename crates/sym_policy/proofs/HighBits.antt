@@ -35,4 +35,5 @@ taken_prefix e d len inside low high small =
     let inside' : nat_le e.prefix.len len ≡ true = le-leb e.prefix.len len inside in
     let low' : nat_le e.low len ≡ true = le-leb e.low len low in
     let high' : nat_le len e.high ≡ true = le-leb len e.high high in
-    rw (inside', low', high') (and-true (covers e.prefix (prefix_at d len).addr) ∙ covers_prefix e.prefix d len inside small)
+    rw (inside', low', high') (and-true (covers e.prefix (prefix_at d len).addr)
+    ∙ covers_prefix e.prefix d len inside small)

@@ -16,7 +16,8 @@ pub marked_at : (w : Reading) (tracked : List ℕ) (marks : List NodeId) (i : �
     → i < length tracked → i < length marks
     → (at w (get_or marks i d) ≡ at w (get_or marks i d))
     × (marked (drop i tracked) (bits w (drop i marks)) x
-    ≡ (if get_or tracked i 0 == x then at w (get_or marks i d) else marked (drop (i + 1) tracked) (bits w (drop (i + 1) marks)) x))
+    ≡ (if get_or tracked i 0
+    == x then at w (get_or marks i d) else marked (drop (i + 1) tracked) (bits w (drop (i + 1) marks)) x))
 marked_at w tracked marks i d x in_tracked in_marks = (
   refl,
   ap (λ ts. marked ts (bits w (drop i marks)) x) (drop_more tracked i 0 in_tracked)
@@ -31,7 +32,8 @@ marked_next w tracked marks i x in_tracked in_marks other =
     let d : NodeId = record { 0 = 0 } in
     let apart : (get_or tracked i 0 == x) ≡ false = unequal (get_or tracked i 0) x other in
     (marked_at w tracked marks i d x in_tracked in_marks).1
-    ∙ ap (λ b. if b then at w (get_or marks i d) else marked (drop (i + 1) tracked) (bits w (drop (i + 1) marks)) x) apart
+    ∙ ap (λ b. if b then at w (get_or marks i d) else marked (drop (i + 1) tracked) (bits w (drop (i + 1) marks)) x)
+    apart
   where
     unequal : (a b : ℕ) → (a ≡ b → ⊥) → (a == b) ≡ false
     unequal a b h = grind (arith, nat_tests)
@@ -39,7 +41,8 @@ marked_next w tracked marks i x in_tracked in_marks other =
 -- past the last mark
 pub marked_end : (w : Reading) (tracked : List ℕ) (marks : List NodeId) (i x : ℕ) → length marks ≤ i
     → marked (drop i tracked) (bits w (drop i marks)) x ≡ false
-marked_end w tracked marks i x h = ap (λ ms. marked (drop i tracked) (bits w ms) x) (drop_all i marks h) ∙ none (drop i tracked)
+marked_end w tracked marks i x h = ap (λ ms. marked (drop i tracked) (bits w ms) x) (drop_all i marks h)
+    ∙ none (drop i tracked)
   where
     none : (ts : List ℕ) → marked ts [] x ≡ false
     none [] = refl
@@ -57,7 +60,8 @@ pub with_at : (w : Reading) (tracked values : List ℕ) (beside : Bool) (marks :
 with_at w tracked values beside marks i d in_tracked in_marks = (
   refl,
   ap (λ ts. marks_with ts values beside (bits w (drop i marks))) (drop_more tracked i 0 in_tracked)
-      ∙ ap (λ ms. marks_with (get_or tracked i 0 ∷ drop (i + 1) tracked) values beside (bits w ms)) (drop_more marks i d in_marks),
+      ∙ ap (λ ms. marks_with (get_or tracked i 0 ∷ drop (i + 1) tracked) values beside (bits w ms))
+      (drop_more marks i d in_marks),
 )
 
 -- a row with one more mark, before the rest

@@ -6,7 +6,8 @@ use Rattle.route_record.specs.declared.tracked.Tracked.{Tracked}
 use Rattle.sym_policy.specs.Shapes.{RouteShape, set_shape, set_shapes}
 
 -- one line of those that are left
-pub set_shapes_more : (tracked : Tracked) (external : Bool) (s : RouteShape) (lines : List SetAct) (i : ℕ) (line : SetAct)
+pub set_shapes_more : (tracked : Tracked) (external : Bool) (s : RouteShape) (lines : List SetAct) (i : ℕ)
+    (line : SetAct)
     → i < length lines → line ≡ get_or lines i line
     → set_shapes tracked external (set_shape tracked external s line) (drop (i + 1) lines)
     ≡ set_shapes tracked external s (drop i lines)

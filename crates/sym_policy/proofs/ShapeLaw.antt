@@ -1,5 +1,6 @@
 -- A route map over shapes makes of a route's shape the shape of what the map makes of the route.
-use Rattle.std.proofs.Common.{◌≡◌, ℕ, ◌+◌, ◌-◌, ◌%◌, ◌^◌, ◌==◌, ◌<◌, ◌≤◌, nat_lt, ◌&&◌, ◌||◌, Bool, true, false, if◌then◌else◌}
+use Rattle.std.proofs.Common.{◌≡◌, ℕ, ◌+◌, ◌-◌, ◌%◌, ◌^◌, ◌==◌, ◌<◌, ◌≤◌, nat_lt, ◌&&◌, ◌||◌, Bool, true, false}
+use Rattle.std.proofs.Common.{if◌then◌else◌}
 use Rattle.std.proofs.Common.{List, [], ◌∷◌, ◌++◌, Option, Some, None, length, map, get_or, refl, sym, ap, ◌∙◌, arith}
 use Rattle.std.specs.List.{find, list_any, list_all}
 use Rattle.std.specs.Option.{option_and_then, option_map, option_map_or, IfSome}
@@ -19,7 +20,8 @@ use Rattle.ios_ast.specs.declared.policies.Pattern.{Pattern}
 use Rattle.ios_ast.specs.declared.policies.Pattern.TheVariants.{Empty, Any, Only, First, Last, Has}
 use Rattle.ios_ast.specs.declared.policies.Policies.{Policies}
 use Rattle.ios_ast.specs.declared.policies.SetAct.{SetAct}
-use Rattle.ios_ast.specs.declared.policies.SetAct.TheVariants.{LocalPref, Metric, Weight, NoCommunity, Community, Origin, Prepend, Type1}
+use Rattle.ios_ast.specs.declared.policies.SetAct.TheVariants.{LocalPref, Metric, Weight, NoCommunity, Community}
+use Rattle.ios_ast.specs.declared.policies.SetAct.TheVariants.{Origin, Prepend, Type1}
 use Rattle.ios_ast.specs.Deciding.{in_order, carries}
 use Rattle.ios_ast.specs.Communities.{with_community, with_communities, communities_taken, communities_permitted}
 use Rattle.ios_ast.specs.Maps.{route_taken, deciding, mapped}
@@ -33,7 +35,8 @@ use Rattle.sym_policy.specs.Shapes.{shape_route_taken, marks_with, shape_prepend
 use Rattle.sym_policy.specs.Shapes.{shape_mapped, pattern_tracked, values_tracked, path_tracked, all_tracked}
 
 -- the marks of a tracked value say what the test does
-marked-map : (f : ℕ → Bool) (tracked : List ℕ) (x : ℕ) → carries tracked x ≡ true → marked tracked (map f tracked) x ≡ f x
+marked-map : (f : ℕ → Bool) (tracked : List ℕ) (x : ℕ) → carries tracked x ≡ true → marked tracked (map f tracked) x
+    ≡ f x
 marked-map f [] x h = grind (arith)
 marked-map f (t ∷ ts) x h = by (t == x) refl (marked-map f ts x)
   where
@@ -66,10 +69,12 @@ found_same : {X : Type 0} (good f g p : X → Bool) → ((x : X) → good x ≡ 
     → list_all good xs ≡ true → option_map_or f (find p xs) false ≡ option_map_or g (find p xs) false
 found_same good f g p same [] h = refl
 found_same good f g p same (x ∷ xs) h =
-    let parts = and_parts (good x) (list_all good xs) h in by (p x) (found_same good f g p same xs parts.1) (same x parts.0)
+    let parts = and_parts (good x) (list_all good xs) h in
+    by (p x) (found_same good f g p same xs parts.1) (same x parts.0)
   where
     by : (b : Bool) → option_map_or f (find p xs) false ≡ option_map_or g (find p xs) false → f x ≡ g x
-        → option_map_or f (if b then Some x else find p xs) false ≡ option_map_or g (if b then Some x else find p xs) false
+        → option_map_or f (if b then Some x else find p xs) false
+        ≡ option_map_or g (if b then Some x else find p xs) false
     by true rest here = here
     by false rest here = rest
 
@@ -85,7 +90,8 @@ community_entries : (tracked : List ℕ) (held : List ℕ) (es : List CommunityE
     → marks_permitted tracked (map (carries held) tracked) es ≡ communities_permitted es held
 community_entries tracked held es h =
     ap (λ o. option_map_or (λ e. e.permit) o false)
-    (find_same (values_tracked tracked) (marks_taken tracked (map (carries held) tracked)) (λ e. communities_taken e held)
+    (find_same (values_tracked tracked) (marks_taken tracked (map (carries held) tracked))
+    (λ e. communities_taken e held)
     (community_entry tracked held) es h)
 
 pattern_shape : (tracked : List ℕ) (path : List ℕ) (p : Pattern) → pattern_tracked tracked p ≡ true
@@ -101,13 +107,15 @@ path_entries : (tracked : List ℕ) (path : List ℕ) (es : List AsPathEntry) �
     → shape_permitted tracked (path_shape tracked path) es ≡ path_permitted es path
 path_entries tracked path es h =
     ap (λ o. option_map_or (λ e. e.permit) o false)
-    (find_same (path_tracked tracked) (shape_taken tracked (path_shape tracked path)) (λ e. pattern_matches e.pattern path)
+    (find_same (path_tracked tracked) (shape_taken tracked (path_shape tracked path))
+    (λ e. pattern_matches e.pattern path)
     (λ e good. pattern_shape tracked path e.pattern good) es h)
 
 -- a list that a line names
 list_shape : (policies : Policies) (tracked : Tracked) (p : Prefix) (path held : List ℕ)
     → all_tracked tracked policies ≡ true → (line : Match) (named : Use)
-    → shape_list_permits policies tracked p (path_shape tracked.numbers path) (map (carries held) tracked.communities) line named
+    → shape_list_permits policies tracked p (path_shape tracked.numbers path)
+    (map (carries held) tracked.communities) line named
     ≡ list_permits policies p path held line named
 list_shape policies tracked p path held h (Access names) named = refl
 list_shape policies tracked p path held h (Prefixes names) named = refl
@@ -124,7 +132,8 @@ one_test f g same = λ i x. same x i
 
 line_shape : (policies : Policies) (tracked : Tracked) (p : Prefix) (path held : List ℕ)
     → all_tracked tracked policies ≡ true → (line : Match)
-    → shape_line_holds policies tracked p (path_shape tracked.numbers path) (map (carries held) tracked.communities) line
+    → shape_line_holds policies tracked p (path_shape tracked.numbers path)
+    (map (carries held) tracked.communities) line
     ≡ line_holds policies p path held line
 line_shape policies tracked p path held h line =
     ap (λ test. list_any test (names_of line)) (one_test _ _ (list_shape policies tracked p path held h line))
@@ -184,7 +193,8 @@ communities_shape : (tracked held values : List ℕ) (additive : Bool)
 communities_shape tracked held values additive =
     marks_with-map (carries held) (carries (communities_set held values additive)) tracked values additive (by additive)
   where
-    by : (beside : Bool) (x : ℕ) → carries (communities_set held values beside) x ≡ (carries values x || (beside && carries held x))
+    by : (beside : Bool) (x : ℕ) → carries (communities_set held values beside) x
+        ≡ (carries values x || (beside && carries held x))
     by true x = carries-with_communities held values x
     by false x = carries-with_communities [] values x
 
@@ -203,7 +213,8 @@ last-append numbers (x ∷ path) =
     let some : (length (x ∷ path) == 0) ≡ false = grind (arith, nat_tests) in
     ap (λ b. if b then last_of numbers else last_of (x ∷ path)) some
     ∙ sym
-    (get_or-append_right numbers (x ∷ path) (length numbers) (length (numbers ++ x ∷ path) - 1) 0 refl (omega (arith, long))
+    (get_or-append_right numbers (x ∷ path) (length numbers) (length (numbers ++ x ∷ path) - 1) 0 refl
+    (omega (arith, long))
     ∙ ap (λ k. get_or (x ∷ path) k 0) place)
 
 path_prepended : (tracked numbers path : List ℕ) → length (numbers ++ path) < 2 ^ 32
@@ -242,7 +253,8 @@ set_one_shape tracked false r (Prepend numbers) small = refl
 set_one_shape tracked external r (Type1 type1) small = refl
 
 -- set lines never shorten a path
-set_one_longer : (external : Bool) (r : Attributes) (line : SetAct) → length r.path ≤ length (set_one external r line).path
+set_one_longer : (external : Bool) (r : Attributes) (line : SetAct)
+    → length r.path ≤ length (set_one external r line).path
 set_one_longer external r (LocalPref n) = omega arith
 set_one_longer external r (Metric n) = omega arith
 set_one_longer external r (Weight n) = omega arith
@@ -277,7 +289,8 @@ pub shape_mapped-route_shape : (policies : Policies) (entries : List MapEntry) (
     → shape_mapped policies entries tracked p external (route_shape tracked r)
     ≡ option_map (route_shape tracked) (mapped policies entries p external r)
 shape_mapped-route_shape policies entries tracked p external r h small =
-    ap (λ test. option_and_then (shape_made tracked external (route_shape tracked r)) (find test (in_order (λ e. e.seq) entries)))
+    ap (λ test. option_and_then (shape_made tracked external (route_shape tracked r))
+    (find test (in_order (λ e. e.seq) entries)))
     (one_test _ _ (taken_shape policies tracked p r h))
     ∙ by (deciding policies p r entries) small
   where

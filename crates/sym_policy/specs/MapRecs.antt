@@ -34,9 +34,11 @@ map_rec_at w rec = if at w rec.bgp.valid then Some (attributes_at w rec) else No
 abbrev pub seen_end : SymMapRec → ℕ
 seen_end rec =
     max
-    (max (max (ids_end rec.bgp.weight.nodes) (ids_end rec.bgp.local_pref.nodes)) (max (ids_end rec.bgp.med.nodes) (ids_end rec.bgp.origin.nodes)))
+    (max (max (ids_end rec.bgp.weight.nodes) (ids_end rec.bgp.local_pref.nodes))
+    (max (ids_end rec.bgp.med.nodes) (ids_end rec.bgp.origin.nodes)))
     (max
-    (max (max (ids_end rec.bgp.len.nodes) (ids_end rec.bgp.first.nodes)) (max (ids_end rec.bgp.last.nodes) (ids_end rec.bgp.numbers.nodes)))
+    (max (max (ids_end rec.bgp.len.nodes) (ids_end rec.bgp.first.nodes))
+    (max (ids_end rec.bgp.last.nodes) (ids_end rec.bgp.numbers.nodes)))
     (max (ids_end rec.bgp.communities.nodes) (rec.type1.0 + 1)))
 
 -- and of all other nodes, but that of its validity

@@ -15,7 +15,8 @@ use Rattle.ios_ast.specs.declared.policies.Pattern.{Pattern}
 use Rattle.ios_ast.specs.declared.policies.Pattern.TheVariants.{Empty, Any, Only, First, Last, Has}
 use Rattle.ios_ast.specs.declared.policies.Policies.{Policies}
 use Rattle.ios_ast.specs.declared.policies.SetAct.{SetAct}
-use Rattle.ios_ast.specs.declared.policies.SetAct.TheVariants.{LocalPref, Metric, Weight, NoCommunity, Community, Origin, Prepend, Type1}
+use Rattle.ios_ast.specs.declared.policies.SetAct.TheVariants.{LocalPref, Metric, Weight, NoCommunity, Community}
+use Rattle.ios_ast.specs.declared.policies.SetAct.TheVariants.{Origin, Prepend, Type1}
 use Rattle.ios_ast.specs.Deciding.{first_permits, in_order, carries}
 use Rattle.ios_ast.specs.Matching.{named_answer, access_named, prefixes_named, names_of, lines_hold}
 use Rattle.ios_ast.specs.Paths.{first_of, last_of}
@@ -110,7 +111,8 @@ shape_line_holds policies tracked p path marks line =
     list_any (shape_list_permits policies tracked p path marks line) (names_of line)
 
 abbrev pub shape_route_taken : Policies → Tracked → Prefix → RouteShape → MapEntry → Bool
-shape_route_taken policies tracked p s e = lines_hold (shape_line_holds policies tracked p s.path s.communities) e.matches
+shape_route_taken policies tracked p s e =
+    lines_hold (shape_line_holds policies tracked p s.path s.communities) e.matches
 
 -- the marks of the tracked values where these values are put in, alone or beside those that were there
 abbrev pub marks_with : List ℕ → List ℕ → Bool → List Bool → List Bool
@@ -165,7 +167,8 @@ abbrev pub shape_made : Tracked → Bool → RouteShape → MapEntry → Option 
 shape_made tracked external s e = if e.permit then Some (set_shapes tracked external s e.sets) else None
 
 -- what an entry makes of a route that it takes, and else what those behind it made
-abbrev pub shape_after : Policies → Tracked → Prefix → Bool → RouteShape → MapEntry → Option RouteShape → Option RouteShape
+abbrev pub shape_after : Policies → Tracked → Prefix → Bool → RouteShape → MapEntry → Option RouteShape
+    → Option RouteShape
 shape_after policies tracked p external s e behind =
     if shape_route_taken policies tracked p s e then shape_made tracked external s e else behind
 

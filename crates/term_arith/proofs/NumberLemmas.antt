@@ -157,7 +157,8 @@ ids_end_drop [] (suc i) = omega arith
 ids_end_drop (id ∷ ids) (suc i) = let rest = ids_end_drop ids i in omega arith
 
 -- for a loop over nodes, in `using`: the usual steps on lists, and those on ends, bits and numbers
-pub ruleset node_steps = (common_steps, ids_end_at, ids_end_push, ids_end_take, ids_end_drop, bits_push, bits_take, number_drop, length_bits)
+pub ruleset node_steps =
+    (common_steps, ids_end_at, ids_end_push, ids_end_take, ids_end_drop, bits_push, bits_take, number_drop, length_bits)
 
 -- one more variable
 pub variables_more : (w : Reading) (first count : ℕ)

@@ -14,5 +14,6 @@ pub values_of-take : (s : Store) (valuation : List Bool) (i : ℕ) (n : Node) �
 values_of-take s valuation i n stands =
     let there = Stands-slice_get s i n stands in
     ap (λ l. values_of l valuation)
-    (take_more s.nodes i n (slice_get_within s.nodes i n there) ∙ ap (λ m. take i s.nodes ++ m ∷ []) (get_or_from_slice_get s.nodes i n n there))
+    (take_more s.nodes i n (slice_get_within s.nodes i n there)
+    ∙ ap (λ m. take i s.nodes ++ m ∷ []) (get_or_from_slice_get s.nodes i n n there))
     ∙ values_after-append valuation (take i s.nodes) (n ∷ []) []

@@ -33,8 +33,14 @@ pub push_cases : {X : Type 0} (xs : List X) (x y : X) (i : ℕ) → slice_get (x
 push_cases xs x y i h =
     let within : i < length xs + 1 = subst (λ n. i < n) (length-push xs x) (slice_get_within (xs ++ x ∷ []) i y h) in
     ⊎_elim
-    (λ below. inl (slice_get-get_or xs i y below ∙ ap Some (sym (get_or_append_left xs (x ∷ []) y i below) ∙ get_or_from_slice_get (xs ++ x ∷ []) i y y h)))
-    (λ last. let e : i ≡ length xs = omega arith in inr (e, sym (get_or_from_slice_get (xs ++ x ∷ []) i y y h) ∙ ap (λ k. get_or (xs ++ x ∷ []) k y) e ∙ get_or-append_seam xs x [] y))
+    (λ below. inl (slice_get-get_or xs i y below
+    ∙ ap Some (sym (get_or_append_left xs (x ∷ []) y i below) ∙ get_or_from_slice_get (xs ++ x ∷ []) i y y h)))
+    (λ last. let e : i ≡ length xs = omega arith in
+    inr (
+      e,
+      sym (get_or_from_slice_get (xs ++ x ∷ []) i y y h) ∙ ap (λ k. get_or (xs ++ x ∷ []) k y) e
+          ∙ get_or-append_seam xs x [] y,
+    ))
     (cases_lt i (length xs))
 
 -- numbers that are below a limit are below a larger one
@@ -68,7 +74,10 @@ IsBelow-at nodes vars i d sound h = sound.below i (get_or nodes i d) (slice_get-
 pub Puts-next_var : (nodes : List Node) (vars : ℕ) (new : List Node) → IsSound nodes vars → Puts nodes (Var vars) new
     → new ≡ nodes ++ Var vars ∷ []
 Puts-next_var nodes vars new sound puts = ⊎_elim
-    (λ known. let there = known.0 in let below : vars < vars = sound.below there.0 (Var vars) (slice_get-get_or nodes there.0 (Var vars) there.1 ∙ ap Some there.2) in absurd (omega arith))
+    (λ known. let there = known.0 in
+    let below : vars < vars =
+    sound.below there.0 (Var vars) (slice_get-get_or nodes there.0 (Var vars) there.1 ∙ ap Some there.2) in
+    absurd (omega arith))
     (λ last. last.1)
     puts
 

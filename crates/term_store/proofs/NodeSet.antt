@@ -34,8 +34,11 @@ module _ {K : Type 0} (eq : K → K → Bool) (same : (x y : K) → eq x y ≡ t
           → (Contains old n × (new ≡ old)) ⊎ ((Contains old n → ⊥) × (new ≡ old ++ n ∷ []))
       by true f = inl (Contains-from_any same n old f, e ∙ ap (λ c. if c then old else old ++ n ∷ []) f)
       by false f =
-          inr
-          (λ h. true≢false (sym (list_any-from_Contains equivalence n old h) ∙ f), e ∙ ap (λ c. if c then old else old ++ n ∷ []) f)
+          inr (
+            λ h. true≢false (sym (list_any-from_Contains equivalence n old h) ∙ f),
+            e
+                ∙ ap (λ c. if c then old else old ++ n ∷ []) f,
+          )
 
   -- a key stands at one index only
   pub one_index : (ks : List K) → IsDistinct eq ks → (i j : ℕ) (n : K) → slice_get ks i ≡ Some n
@@ -43,7 +46,9 @@ module _ {K : Type 0} (eq : K → K → Bool) (same : (x y : K) → eq x y ≡ t
   one_index ks distinct i j n at_i at_j =
       let not_before : (i j : ℕ) → slice_get ks i ≡ Some n → slice_get ks j ≡ Some n → i < j → ⊥ =
       λ i j at_i at_j h. true≢false
-      (sym (itself n) ∙ ap (λ x. eq x n) (sym (get_or_from_slice_get ks i n n at_i)) ∙ ap (λ x. eq (get_or ks i n) x) (sym (get_or_from_slice_get ks j n n at_j)) ∙ apart_from_distinct eq ks i j n distinct h (slice_get_within ks j n at_j)) in
+      (sym (itself n) ∙ ap (λ x. eq x n) (sym (get_or_from_slice_get ks i n n at_i))
+      ∙ ap (λ x. eq (get_or ks i n) x) (sym (get_or_from_slice_get ks j n n at_j))
+      ∙ apart_from_distinct eq ks i j n distinct h (slice_get_within ks j n at_j)) in
       let first = not_before i j at_i at_j in
       let second = not_before j i at_j at_i in
       omega arith

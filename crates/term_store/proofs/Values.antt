@@ -94,7 +94,8 @@ module _ (valuation : List Bool) where
       (λ j k g. ap (λ l. w.node l) (sym (moved j)) ∙ reads (suc j) k g)
       (λ j g. ⊎_elim
       (λ before. so_far j before ∙ sym (get_or_append_left values (b ∷ []) false j before))
-      (λ after. let e : j ≡ length values = omega (arith, longer) in ap (λ k. w.node k) e ∙ value ∙ sym (get_or-append_seam values b [] false) ∙ ap (λ k. get_or (values ++ b ∷ []) k false) (sym e))
+      (λ after. let e : j ≡ length values = omega (arith, longer) in ap (λ k. w.node k) e ∙ value
+      ∙ sym (get_or-append_seam values b [] false) ∙ ap (λ k. get_or (values ++ b ∷ []) k false) (sym e))
       (cases_lt j (length values)))
       i (omega (arith, longer))
 

@@ -10,7 +10,8 @@ use Rattle.walk_def.specs.Safety.{is_inside}
 
 -- the hops of the router, which stay inside
 abbrev pub IsSent : List File → World → ℕ → List Hop → Type 0
-IsSent files world router hops = (hops ≡ next_hops files world router) × (list_all (is_inside (length files)) hops ≡ true)
+IsSent files world router hops = (hops ≡ next_hops files world router)
+    × (list_all (is_inside (length files)) hops ≡ true)
 
 pub sent_here : (files : List File) (world : World) (router n : ℕ) (hops : List Hop) →
     hops ≡ next_hops files world router → n ≡ router → IsSent files world n hops

@@ -1,5 +1,6 @@
 -- Each interface of a network is of one of its routers.
-use Rattle.std.proofs.Common.{◌≡◌, ℕ, ◌+◌, ◌<◌, ◌≤◌, Bool, true, false, List, [], ◌∷◌, ◌++◌, length, Option, Some, None, refl, arith, ◌∙◌, cond}
+use Rattle.std.proofs.Common.{◌≡◌, ℕ, ◌+◌, ◌<◌, ◌≤◌, Bool, true, false, List, [], ◌∷◌, ◌++◌, length, Option, Some}
+use Rattle.std.proofs.Common.{None, refl, arith, ◌∙◌, cond}
 use Rattle.std.proofs.lemmas.Bool.{and_from, and_parts, lt-ltb}
 use Rattle.std.specs.Prelude.{nat_lt, filter}
 use Rattle.std.specs.List.{find, list_all}
@@ -18,15 +19,18 @@ of_router_below bound x = nat_lt x.id.router bound
 -- lists that pass, one after the other
 pub all-append : {A : Type 0} (test : A → Bool) (xs ys : List A) → list_all test xs ≡ true → list_all test ys ≡ true →
     list_all test (xs ++ ys) ≡ true
-all-append test xs ys front back = list_all-append test xs ys ∙ and_from (list_all test xs) (list_all test ys) front back
+all-append test xs ys front back = list_all-append test xs ys
+    ∙ and_from (list_all test xs) (list_all test ys) front back
 
-one_kept : {A : Type 0} (test : A → Bool) (k : Bool) (x : A) (rest : List A) → test x ≡ true → list_all test rest ≡ true →
+one_kept : {A : Type 0} (test : A → Bool) (k : Bool) (x : A) (rest : List A) → test x ≡ true → list_all test rest
+    ≡ true →
     list_all test (cond k (x ∷ rest) rest) ≡ true
 one_kept test true x rest first others = and_from (test x) (list_all test rest) first others
 one_kept test false x rest first others = others
 
 -- what is kept of items that pass passes
-pub all-filter : {A : Type 0} (test keep : A → Bool) (xs : List A) → list_all test xs ≡ true → list_all test (filter keep xs) ≡ true
+pub all-filter : {A : Type 0} (test keep : A → Bool) (xs : List A) → list_all test xs ≡ true
+    → list_all test (filter keep xs) ≡ true
 all-filter test keep [] h = refl
 all-filter test keep (x ∷ xs) h =
     one_kept test (keep x) x (filter keep xs) (and_parts (test x) (list_all test xs) h).0
@@ -43,14 +47,16 @@ one_found test true x o first others = first
 one_found test false x o first others = others
 
 -- what is found among items that pass passes
-pub found_passes : {A : Type 0} (test wanted : A → Bool) (xs : List A) → list_all test xs ≡ true → PassesIfThere test (find wanted xs)
+pub found_passes : {A : Type 0} (test wanted : A → Bool) (xs : List A) → list_all test xs ≡ true
+    → PassesIfThere test (find wanted xs)
 found_passes test wanted [] h = tt
 found_passes test wanted (x ∷ xs) h =
     one_found test (wanted x) x (find wanted xs) (and_parts (test x) (list_all test xs) h).0
     (found_passes test wanted xs (and_parts (test x) (list_all test xs) h).1)
 
 one_address : (bound router at : ℕ) (iface : Iface) (a : Option IfAddr) → router < bound →
-    list_all (of_router_below bound) (option_map_or (λ x. addressed_iface (record { router = router; at = at }) iface x ∷ []) a []) ≡ true
+    list_all (of_router_below bound)
+    (option_map_or (λ x. addressed_iface (record { router = router; at = at }) iface x ∷ []) a []) ≡ true
 one_address bound router at iface None h = refl
 one_address bound router at iface (Some x) h = and_from (nat_lt router bound) true (lt-ltb router bound h) refl
 

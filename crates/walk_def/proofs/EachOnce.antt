@@ -1,5 +1,6 @@
 -- Lists in which each item stands once.
-use Rattle.std.proofs.Common.{◌≡◌, ◌≢◌, ℕ, ◌+◌, ◌<◌, List, [], ◌∷◌, ◌++◌, length, get_or, ap, arith, ◌∙◌, sym, subst, ◌⊎◌, inl, inr, length-append}
+use Rattle.std.proofs.Common.{◌≡◌, ◌≢◌, ℕ, ◌+◌, ◌<◌, List, [], ◌∷◌, ◌++◌, length, get_or, ap, arith, ◌∙◌, sym, subst}
+use Rattle.std.proofs.Common.{◌⊎◌, inl, inr, length-append}
 use Rattle.std.specs.Prelude.{AllPairs, Contains}
 use Rattle.std.proofs.lemmas.List.Elements.{Contains-append_left, Contains-get_or, Contains-push, Contains-push_cases}
 use Rattle.std.proofs.Math.ListN.{get_or-append}
@@ -9,7 +10,11 @@ use Rattle.walk_def.specs.Sending.{AreOnce}
 
 pub once_none : (out : List Hop) → out ≡ [] → AreOnce out []
 once_none out none = let P : List Hop → Type 0 = λ xs. AreOnce xs [] in
-    subst P (sym none) (record { members = record { to = λ x has. has; from = λ x has. has }; once = λ i j d less within. absurd (omega arith) })
+    subst P (sym none) (record {
+      members = record { to = λ x has. has; from = λ x has. has };
+      once = λ i j d less
+          within. absurd (omega arith);
+    })
 
 -- an item that stands there already
 pub once_known : (out front : List Hop) (x : Hop) → AreOnce out front → Contains out x → AreOnce out (front ++ x ∷ [])
@@ -24,7 +29,8 @@ once_known out front x so_far here = record {
   by_cases y (inl has) = so_far.members.from y has
   by_cases y (inr same) = let P : Hop → Type 0 = λ z. Contains out z in subst P same here
 
-pairs-push : (out : List Hop) (x : Hop) → AllPairs (λ a b. a ≢ b) out → (Contains out x → ⊥) → AllPairs (λ a b. a ≢ b) (out ++ x ∷ [])
+pairs-push : (out : List Hop) (x : Hop) → AllPairs (λ a b. a ≢ b) out → (Contains out x → ⊥)
+    → AllPairs (λ a b. a ≢ b) (out ++ x ∷ [])
 pairs-push out x pairs new i j d less within same =
     let long : length (out ++ x ∷ []) ≡ length out + 1 = length-append out (x ∷ []) in
     let before : i < length out = omega (arith, long) in
@@ -38,12 +44,14 @@ pairs-push out x pairs new i j d less within same =
     by_place first (inl earlier) =
         pairs i j d less earlier (sym first ∙ same ∙ get_or-append out (x ∷ []) d j earlier)
     by_place first (inr last) =
-        let here : get_or (out ++ x ∷ []) j d ≡ x = ap (λ n. get_or (out ++ x ∷ []) n d) last ∙ get_or-append_seam out x [] d in
+        let here : get_or (out ++ x ∷ []) j d ≡ x = ap (λ n. get_or (out ++ x ∷ []) n d) last
+        ∙ get_or-append_seam out x [] d in
         let P : Hop → Type 0 = λ y. Contains out y in
         new (subst P (sym first ∙ same ∙ here) (Contains-get_or out i d (omega (arith, last))))
 
 -- an item that is new
-pub once_new : (out front : List Hop) (x : Hop) → AreOnce out front → (Contains out x → ⊥) → AreOnce (out ++ x ∷ []) (front ++ x ∷ [])
+pub once_new : (out front : List Hop) (x : Hop) → AreOnce out front → (Contains out x → ⊥)
+    → AreOnce (out ++ x ∷ []) (front ++ x ∷ [])
 once_new out front x so_far new = record {
   members = record {
     to = λ y has. there y (Contains-push_cases out x y has);

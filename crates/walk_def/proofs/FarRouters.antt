@@ -17,7 +17,8 @@ use Rattle.net_model.specs.declared.adjacencies.Adjacency.{Adjacency}
 use Rattle.net_model.specs.declared.interfaces.Addressed.{Addressed}
 use Rattle.net_model.specs.declared.ospf.OspfInterface.{OspfInterface}
 use Rattle.net_model.specs.Interfaces.{addressed}
-use Rattle.net_model.specs.Ospf.{adjacencies, adjacencies_of, adjacency, advertised, are_adjacent, is_matched, ospf_at, ospf_interfaces, running, running_in, up_adjacencies}
+use Rattle.net_model.specs.Ospf.{adjacencies, adjacencies_of, adjacency, advertised, are_adjacent, is_matched, ospf_at}
+use Rattle.net_model.specs.Ospf.{ospf_interfaces, running, running_in, up_adjacencies}
 use Rattle.net_model.specs.OspfRoutes.{offer_over}
 use Rattle.net_model.specs.Sending.{is_on_least_walk, same_record, sent_by_ospf, sent_towards}
 use Rattle.walk_def.proofs.Below.{PassesIfThere, all-append, all-filter, below-all, of_router_below}
@@ -30,7 +31,8 @@ runs_below bound x = of_router_below bound x.at
 abbrev pub leads_below : ℕ → Adjacency → Bool
 leads_below bound a = nat_lt a.to.router bound
 
-one_mapped : {B : Type 0} (test : B → Bool) (o : Option B) (rest : List B) → PassesIfThere test o → list_all test rest ≡ true →
+one_mapped : {B : Type 0} (test : B → Bool) (o : Option B) (rest : List B) → PassesIfThere test o → list_all test rest
+    ≡ true →
     list_all test (cons_option o rest) ≡ true
 one_mapped test None rest first others = others
 one_mapped test (Some y) rest first others = and_from (test y) (list_all test rest) first others
@@ -46,7 +48,8 @@ all-filter_map test wanted h each (x ∷ xs) all =
 running_below : (bound : ℕ) (files : List File) (x : Addressed) → of_router_below bound x ≡ true →
     PassesIfThere (runs_below bound) (ospf_at files x)
 running_below bound files x below = by_file (slice_get files x.id.router) where
-  by_iface : (process : Ospf) (iface : Option Iface) → PassesIfThere (runs_below bound) (option_map (λ i. running process i x) iface)
+  by_iface : (process : Ospf) (iface : Option Iface)
+      → PassesIfThere (runs_below bound) (option_map (λ i. running process i x) iface)
   by_iface process None = tt
   by_iface process (Some i) = below
 
@@ -55,7 +58,8 @@ running_below bound files x below = by_file (slice_get files x.id.router) where
   by_match false process file = tt
   by_match true process file = by_iface process (slice_get file.interfaces x.id.at)
 
-  by_process : (ospf : Option Ospf) (file : File) → PassesIfThere (runs_below bound) (option_and_then (λ process. running_in file process x) ospf)
+  by_process : (ospf : Option Ospf) (file : File)
+      → PassesIfThere (runs_below bound) (option_and_then (λ process. running_in file process x) ospf)
   by_process None file = tt
   by_process (Some process) file = by_match (is_matched process x.addr) process file
 
@@ -67,7 +71,8 @@ running_below bound files x below = by_file (slice_get files x.id.router) where
 interfaces_below : (files : List File) → list_all (runs_below (length files)) (ospf_interfaces files) ≡ true
 unfolding ospf_interfaces
 interfaces_below files =
-    all-filter_map (of_router_below (length files)) (runs_below (length files)) (ospf_at files) (running_below (length files) files)
+    all-filter_map (of_router_below (length files)) (runs_below (length files)) (ospf_at files)
+    (running_below (length files) files)
     (addressed files) (below-all files)
 
 from_one : (bound : ℕ) (a : OspfInterface) (others : List OspfInterface) → list_all (runs_below bound) others ≡ true →
@@ -75,7 +80,8 @@ from_one : (bound : ℕ) (a : OspfInterface) (others : List OspfInterface) → l
 from_one bound a [] all = refl
 from_one bound a (b ∷ rest) all =
     let parts = and_parts (runs_below bound b) (list_all (runs_below bound) rest) all in
-    and_from (runs_below bound b) (list_all (leads_below bound) (map (adjacency a) rest)) parts.0 (from_one bound a rest parts.1)
+    and_from (runs_below bound b) (list_all (leads_below bound) (map (adjacency a) rest)) parts.0
+    (from_one bound a rest parts.1)
 
 from_all : (bound : ℕ) (others from : List OspfInterface) → list_all (runs_below bound) others ≡ true →
     list_all (leads_below bound) (flat_map (λ a. adjacencies_of a others) from) ≡ true
@@ -96,7 +102,8 @@ unfolding up_adjacencies
 up_below files failures router = all-filter (leads_below (length files)) _ (adjacencies files) (adjacencies_below files)
 
 -- so do those over which a router sends
-pub sent_below : (files : List File) (failures : Failures) (tables : Tables) (router : ℕ) (p : Prefix) (held : OspfRec) →
+pub sent_below : (files : List File) (failures : Failures) (tables : Tables) (router : ℕ) (p : Prefix)
+    (held : OspfRec) →
     list_all (leads_below (length files)) (sent_by_ospf files failures tables router p held) ≡ true
 unfolding sent_by_ospf
 sent_below files failures tables router p held =
@@ -108,8 +115,10 @@ pub towards_below : (files : List File) (failures : Failures) (router : ℕ) (a 
 unfolding sent_towards
 towards_below files failures router a = by_prefix (find (λ p. covers p a) (advertised files)) where
   by_prefix : (o : Option Prefix) → list_all (leads_below (length files))
-      (option_map_or (λ p. filter (is_on_least_walk files failures router p) (up_adjacencies files failures router)) o []) ≡ true
+      (option_map_or (λ p. filter (is_on_least_walk files failures router p) (up_adjacencies files failures router))
+      o []) ≡ true
   by_prefix None = refl
   by_prefix (Some p) =
-      all-filter (leads_below (length files)) (is_on_least_walk files failures router p) (up_adjacencies files failures router)
+      all-filter (leads_below (length files)) (is_on_least_walk files failures router p)
+      (up_adjacencies files failures router)
       (up_below files failures router)

@@ -1,5 +1,6 @@
 -- Which routers are known to be safe, or were seen, as a list of Booleans.
-use Rattle.std.proofs.Common.{◌≡◌, ℕ, zero, suc, ◌<◌, Bool, true, false, List, [], ◌∷◌, ◌++◌, length, get_or, set, Some, None, refl, ap, arith, ◌∙◌, sym, cond}
+use Rattle.std.proofs.Common.{◌≡◌, ℕ, zero, suc, ◌<◌, Bool, true, false, List, [], ◌∷◌, ◌++◌, length, get_or, set}
+use Rattle.std.proofs.Common.{Some, None, refl, ap, arith, ◌∙◌, sym, cond}
 use Rattle.std.specs.Prelude.{sum_by, replicate, slice_get, unwrap_or, Any}
 use Rattle.std.proofs.lemmas.Option.{slice_get_read}
 use Rattle.std.proofs.lemmas.List.Quantifiers.{Any-push}
@@ -27,7 +28,8 @@ length-replicate (suc n) = ap suc (length-replicate n)
 pub unmarked-length : (marks : List Bool) (n : ℕ) → marks ≡ replicate n false → length marks ≡ n
 unmarked-length marks n none = ap length none ∙ length-replicate n
 
-pub unmarked : (P : Type 0) (marks : List Bool) (n router : ℕ) → marks ≡ replicate n false → known marks router ≡ true → P
+pub unmarked : (P : Type 0) (marks : List Bool) (n router : ℕ) → marks ≡ replicate n false → known marks router ≡ true
+    → P
 unmarked P marks n router none marked =
     let not_known = known-replicate n router in
     let is_known : known (replicate n false) router ≡ true = ap (λ xs. known xs router) (sym none) ∙ marked in cc
@@ -62,7 +64,8 @@ fewer_known xs read at same within unknown =
     fewer xs at false within (sym (known-read xs at within (ap (λ ys. known ys at) (sym same) ∙ unknown))) refl
 
 -- what was read of a mark
-pub known-from_read : (xs : List Bool) (at : ℕ) (x : Bool) → at < length xs → x ≡ get_or xs at x → x ≡ true → known xs at ≡ true
+pub known-from_read : (xs : List Bool) (at : ℕ) (x : Bool) → at < length xs → x ≡ get_or xs at x → x ≡ true
+    → known xs at ≡ true
 known-from_read xs at x within is marked =
     ap (λ o. unwrap_or o false) (slice_get_read xs (length xs) at x refl within is) ∙ marked
 

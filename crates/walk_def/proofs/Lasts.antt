@@ -1,5 +1,6 @@
 -- The last of some standings, and routers that none is at.
-use Rattle.std.proofs.Common.{◌≡◌, ◌≢◌, ℕ, ◌+◌, ◌-◌, ◌<◌, true, false, List, [], ◌∷◌, ◌++◌, length, get_or, take, sym, ap, subst, arith, ◌∙◌, eqb, eq-eqb}
+use Rattle.std.proofs.Common.{◌≡◌, ◌≢◌, ℕ, ◌+◌, ◌-◌, ◌<◌, true, false, List, [], ◌∷◌, ◌++◌, length, get_or, take, sym}
+use Rattle.std.proofs.Common.{ap, subst, arith, ◌∙◌, eqb, eq-eqb}
 use Rattle.std.proofs.lemmas.List.{take_more}
 use Rattle.std.proofs.Math.Seq.{take-length}
 use Rattle.std.specs.Prelude.{All}
@@ -16,18 +17,22 @@ pub no_last : (P : ℕ → Type 0) (standings : List Start) → standings ≡ []
 no_last P standings none ([], last, same, holds) = cc
 no_last P standings none (x ∷ front, last, same, holds) = cc
 
-read_last : (standings : List Start) (last : Start) → 0 < length standings → last ≡ get_or standings (length standings - 1) last →
+read_last : (standings : List Start) (last : Start) → 0 < length standings → last
+    ≡ get_or standings (length standings - 1) last →
     standings ≡ take (length standings - 1) standings ++ last ∷ []
 read_last standings last some is =
     let at = length standings - 1 in
-    let more : take (at + 1) standings ≡ take at standings ++ get_or standings at last ∷ [] = take_more standings at last (omega (arith, some)) in
+    let more : take (at + 1) standings ≡ take at standings ++ get_or standings at last
+    ∷ [] = take_more standings at last (omega (arith, some)) in
     let all : at + 1 ≡ length standings = omega (arith, some) in
-    sym (take-length standings) ∙ ap (λ n. take n standings) (sym all) ∙ more ∙ ap (λ x. take at standings ++ x ∷ []) (sym is)
+    sym (take-length standings) ∙ ap (λ n. take n standings) (sym all) ∙ more
+    ∙ ap (λ x. take at standings ++ x ∷ []) (sym is)
 
 -- what holds of the last one that was read
 pub last_in : (P : ℕ → Type 0) (standings : List Start) (last : Start) → 0 < length standings →
     last ≡ get_or standings (length standings - 1) last → P last.router → LastIn P standings
-last_in P standings last some is holds = (take (length standings - 1) standings, last, read_last standings last some is, holds)
+last_in P standings last some is holds =
+    (take (length standings - 1) standings, last, read_last standings last some is, holds)
 
 -- what does not hold of it
 pub not_last : (P : ℕ → Type 0) (standings : List Start) (last : Start) → 0 < length standings →

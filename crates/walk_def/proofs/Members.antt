@@ -1,10 +1,12 @@
 -- Items of a list, and the first that passes a test.
-use Rattle.std.proofs.Common.{◌≡◌, zero, suc, Bool, true, false, ◌&&◌, not, List, [], ◌∷◌, ◌++◌, Option, Some, None, refl, ap, arith, ◌∙◌, sym, cond}
+use Rattle.std.proofs.Common.{◌≡◌, zero, suc, Bool, true, false, ◌&&◌, not, List, [], ◌∷◌, ◌++◌, Option, Some, None}
+use Rattle.std.proofs.Common.{refl, ap, arith, ◌∙◌, sym, cond}
 use Rattle.std.specs.Prelude.{Contains}
 use Rattle.std.specs.List.{find, list_all}
 
 -- a test that each item passes is passed by an item
-pub test-of_item : {A : Type 0} (test : A → Bool) (xs : List A) (x : A) → list_all test xs ≡ true → Contains xs x → test x ≡ true
+pub test-of_item : {A : Type 0} (test : A → Bool) (xs : List A) (x : A) → list_all test xs ≡ true → Contains xs x
+    → test x ≡ true
 test-of_item test [] x all (k, within, is) = absurd (omega arith)
 test-of_item test (y ∷ ys) x all (zero, within, is) = ap test (sym is) ∙ head (test y) (list_all test ys) all where
   head : (a b : Bool) → (a && b) ≡ true → a ≡ true
@@ -22,7 +24,8 @@ one_more : {A : Type 0} (b : Bool) (x : A) (o : Option A) (rest : Bool) → (o �
 one_more true x o rest others h = others h
 one_more false x o rest others h = cc
 
-pub all-none_found : {A : Type 0} (test : A → Bool) (xs : List A) → find (λ x. not (test x)) xs ≡ None → list_all test xs ≡ true
+pub all-none_found : {A : Type 0} (test : A → Bool) (xs : List A) → find (λ x. not (test x)) xs ≡ None
+    → list_all test xs ≡ true
 all-none_found test [] none = refl
 all-none_found test (x ∷ xs) none =
     one_more (test x) x (find (λ y. not (test y)) xs) (list_all test xs) (all-none_found test xs) none
@@ -36,7 +39,8 @@ found_here wanted true y x ys is later h =
 found_here wanted false y x ys is later h =
     let found = later h in ((suc found.0.0, omega (arith, found.0.1), found.0.2), found.1)
 
-pub found-item : {A : Type 0} (wanted : A → Bool) (xs : List A) (x : A) → find wanted xs ≡ Some x → Contains xs x × (wanted x ≡ true)
+pub found-item : {A : Type 0} (wanted : A → Bool) (xs : List A) (x : A) → find wanted xs ≡ Some x → Contains xs x
+    × (wanted x ≡ true)
 found-item wanted [] x found = cc
 found-item wanted (y ∷ ys) x found = found_here wanted (wanted y) y x ys refl (found-item wanted ys x) found
 

@@ -1,5 +1,6 @@
 -- From a safe router every walk that ends is delivered at the target.
-use Rattle.std.proofs.Common.{◌≡◌, ◌≢◌, ℕ, Bool, true, ◌&&◌, List, [], ◌∷◌, ◌++◌, length, Some, None, refl, ap, arith, ◌∙◌, sym, subst, ◌==◌}
+use Rattle.std.proofs.Common.{◌≡◌, ◌≢◌, ℕ, Bool, true, ◌&&◌, List, [], ◌∷◌, ◌++◌, length, Some, None, refl, ap, arith}
+use Rattle.std.proofs.Common.{◌∙◌, sym, subst, ◌==◌}
 use Rattle.std.specs.Prelude.{Contains, slice_get}
 use Rattle.std.specs.List.{list_all}
 use Rattle.std.proofs.lemmas.Option.{slice_get_read}
@@ -7,7 +8,8 @@ use Rattle.mw_text.proofs.Lists.{each_place-push}
 use Rattle.net_model.specs.declared.interfaces.IfaceId.{IfaceId}
 use Rattle.question_lang.specs.declared.question.Start.{Start}
 use Rattle.question_lang.specs.declared.walk.End.{End}
-use Rattle.question_lang.specs.declared.walk.End.TheVariants.{Delivered, Left, NoRoute, Discarded, DeniedIn, DeniedOut, Loop, Open}
+use Rattle.question_lang.specs.declared.walk.End.TheVariants.{Delivered, Left, NoRoute, Discarded, DeniedIn, DeniedOut}
+use Rattle.question_lang.specs.declared.walk.End.TheVariants.{Loop, Open}
 use Rattle.question_lang.specs.declared.walk.Hop.{Hop}
 use Rattle.question_lang.specs.declared.walk.Hop.TheVariants.{To, Ends}
 use Rattle.question_lang.specs.declared.walk.Walk.{Walk}
@@ -30,13 +32,15 @@ leads-on hops from (i ∷ []) to k led hop =
 leads-on hops from (i ∷ j ∷ rest) to k led hop = (led.0, leads-on hops i.router (j ∷ rest) to k led.1 hop)
 
 -- no hops lead from a safe router back to it
-no_return : (hops : ℕ → List Hop) (target router : ℕ) → Safe hops target router → (is : List IfaceId) → Leads hops router is router → ⊥
+no_return : (hops : ℕ → List Hop) (target router : ℕ) → Safe hops target router → (is : List IfaceId)
+    → Leads hops router is router → ⊥
 no_return hops target router (by_hops _ ends tos) [] led = led
 no_return hops target router (by_hops _ ends tos) (i ∷ []) led =
     let P : ℕ → Type 0 = λ r. Contains (hops r) (To i) in
     no_return hops target i.router (tos i led.0) (i ∷ []) (subst P (sym led.1) led.0, refl)
 no_return hops target router (by_hops _ ends tos) (i ∷ j ∷ rest) led =
-    no_return hops target i.router (tos i led.0) ((j ∷ rest) ++ i ∷ []) (leads-on hops i.router (j ∷ rest) router i led.1 led.0)
+    no_return hops target i.router (tos i led.0) ((j ∷ rest) ++ i ∷ [])
+    (leads-on hops i.router (j ∷ rest) router i led.1 led.0)
 
 -- from each earlier standing hops lead to the router
 abbrev pub AllLead : (ℕ → List Hop) → List Start → ℕ → Type 0
@@ -46,7 +50,8 @@ AllLead hops before router = (k : ℕ) (stood : Start) → slice_get before k �
 -- the walk from a standing on is delivered at the target
 abbrev pub ArrivesAt : ℕ → List Start → End → Type 0
 ArrivesAt target standings end =
-    (end ≡ Delivered) × ((front : List Start) × (last : Start) × (standings ≡ front ++ last ∷ []) × (last.router ≡ target))
+    (end ≡ Delivered) × ((front : List Start) × (last : Start) × (standings ≡ front ++ last ∷ [])
+    × (last.router ≡ target))
 
 safe-end : (hops : ℕ → List Hop) (target : ℕ) (before : List Start) (now : Start) (end : End) →
     Safe hops target now.router → AllLead hops before now.router → MayEnd hops before now end → end ≢ Open →
@@ -74,7 +79,8 @@ safe-goes hops target before now (then ∷ rest) end (by_hops _ ends tos) led go
     let hop : Contains (hops now.router) (To i) = goes.0.2 in
     let P : ℕ → Start → Type 0 = λ _ stood. (is : List IfaceId) × Leads hops stood.router is then.router in
     let earlier : AllLead hops before then.router =
-    λ k stood found. let back = led k stood found in (back.0 ++ i ∷ [], leads-on hops stood.router back.0 now.router i back.1 hop) in
+    λ k stood found. let back = led k stood found in
+    (back.0 ++ i ∷ [], leads-on hops stood.router back.0 now.router i back.1 hop) in
     let arrived = safe-goes hops target (before ++ now ∷ []) then rest end (tos i hop)
     (each_place-push P before now earlier (i ∷ [], (hop, refl))) goes.1 closed in
     (arrived.0, (now ∷ arrived.1.0, arrived.1.1, ap (λ xs. now ∷ xs) arrived.1.2, arrived.1.3))
@@ -85,7 +91,8 @@ pub safe-arrives : (hops : ℕ → List Hop) (start : Start) (target : ℕ) (wal
 safe-arrives hops start target walk safe (goes, (begins, closed, missed)) =
     let rest = begins.0 in
     let Q : List Start → Type 0 = λ hs. GoesOn hops [] hs walk.end in
-    let arrived = safe-goes hops target [] start rest walk.end safe (λ k stood found. absurd cc) (subst Q begins.1 goes) closed in
+    let arrived = safe-goes hops target [] start rest walk.end safe (λ k stood found. absurd cc)
+    (subst Q begins.1 goes) closed in
     missed (arrived.0, (arrived.1.0, arrived.1.1, begins.1 ∙ arrived.1.2, arrived.1.3))
 
 -- a router all of whose hops are harmless is safe where those known to be safe are
@@ -93,7 +100,8 @@ pub safe-harmless : (hops : ℕ → List Hop) (target : ℕ) (safe : List Bool) 
     ((r : ℕ) → known safe r ≡ true → Safe hops target r) → first_harmful safe target router (hops router) ≡ None →
     Safe hops target router
 safe-harmless hops target safe router sound none =
-    let all : list_all (is_harmless safe target router) (hops router) ≡ true = all-none_found (is_harmless safe target router) (hops router) none in
+    let all : list_all (is_harmless safe target router) (hops router)
+    ≡ true = all-none_found (is_harmless safe target router) (hops router) none in
     by_hops router
     (λ end item. delivered end (test-of_item (is_harmless safe target router) (hops router) (Ends end) all item))
     (λ i item. sound i.router (test-of_item (is_harmless safe target router) (hops router) (To i) all item))

@@ -5,7 +5,8 @@ use Rattle.ios_ast.specs.declared.file.File.{File}
 use Rattle.route_record.specs.declared.World.{World}
 use Rattle.question_lang.specs.declared.question.Start.{Start}
 use Rattle.question_lang.specs.declared.walk.End.{End}
-use Rattle.question_lang.specs.declared.walk.End.TheVariants.{Delivered, Left, NoRoute, Discarded, DeniedIn, DeniedOut, Loop, Open}
+use Rattle.question_lang.specs.declared.walk.End.TheVariants.{Delivered, Left, NoRoute, Discarded, DeniedIn, DeniedOut}
+use Rattle.question_lang.specs.declared.walk.End.TheVariants.{Loop, Open}
 use Rattle.question_lang.specs.declared.walk.Walk.{Walk}
 use Rattle.question_lang.specs.Hops.{next_hops}
 use Rattle.question_lang.specs.Walks.{GoesOn, IsWalkOver}
@@ -28,7 +29,8 @@ no_start Loop start h = cc
 no_start Open start h = cc
 
 -- its standings begin there, and go on over the next hops
-pub begun : (files : List File) (world : World) (hops : List Start) (end : End) (start : ℕ) → IsWalkOver files world hops end →
+pub begun : (files : List File) (world : World) (hops : List Start) (end : End) (start : ℕ)
+    → IsWalkOver files world hops end →
     start_of hops end ≡ Some (at_router start) →
     GoesOn (next_hops files world) [] hops end × ((rest : List Start) × (hops ≡ at_router start ∷ rest))
 begun files world [] end start walk begins = absurd (no_start end start begins)
@@ -44,8 +46,10 @@ to_wrong files world start target (Some walk) breaks =
     (walk, (from.0, (from.1, breaks.1.1, breaks.1.2)))
 
 pub from_wrong : (files : List File) (world : World) (start target : ℕ) (walk : Walk) →
-    GoesWrong (next_hops files world) (at_router start) target walk → Breaks files world (reach_question start target) (Some walk)
+    GoesWrong (next_hops files world) (at_router start) target walk
+    → Breaks files world (reach_question start target) (Some walk)
 from_wrong files world start target walk (goes, (begins, closed, missed)) =
-    let W : List Start → Type 0 = λ hs. GoesOn (next_hops files world) [] hs walk.end → IsWalkOver files world hs walk.end in
+    let W : List Start → Type 0 = λ hs. GoesOn (next_hops files world) [] hs walk.end
+    → IsWalkOver files world hs walk.end in
     let B : List Start → Type 0 = λ hs. start_of hs walk.end ≡ Some (at_router start) in
     (subst W (sym begins.1) (λ on. (tt, on)) goes, (subst B (sym begins.1) refl, closed, missed))

@@ -42,7 +42,8 @@ IsLandingMark files world target hops router mark =
     × (mark ≡ false → (own : List Hop) → slice_get hops router ≡ Some own → Lands files world target router own → ⊥)
 
 -- so do those of all
-pub record AreLanding (files : List File) (world : World) (target : Target) (hops : List (List Hop)) (marks : List Bool) : Type 0 where
+pub record AreLanding (files : List File) (world : World) (target : Target) (hops : List (List Hop))
+    (marks : List Bool) : Type 0 where
   pub sound : (router : ℕ) → known marks router ≡ true → Lands files world target router (next_hops files world router)
   pub whole : (router : ℕ) (own : List Hop) → slice_get hops router ≡ Some own → known marks router ≡ false →
       Lands files world target router own → ⊥
@@ -55,7 +56,8 @@ leads_to_known marks (Ends end) = false
 -- hops lead from the router to one of those that are marked
 pub data Arrives (hops : ℕ → List Hop) (landing : List Bool) : ℕ → Type 0 where
   lands : (router : ℕ) → known landing router ≡ true → Arrives hops landing router
-  goes : (router : ℕ) (i : IfaceId) → Contains (hops router) (To i) → Arrives hops landing i.router → Arrives hops landing router
+  goes : (router : ℕ) (i : IfaceId) → Contains (hops router) (To i) → Arrives hops landing i.router
+      → Arrives hops landing router
 
 -- from each marked router hops lead to one of the first marks
 abbrev pub AreArriving : List (List Hop) → List Bool → List Bool → Type 0

@@ -1,5 +1,6 @@
 -- Routers from which every walk ends at the target.
-use Rattle.std.specs.Prelude.{◌≡◌, ◌≢◌, ◌∷◌, [], ℕ, ◌==◌, ◌&&◌, Bool, true, false, not, List, [], length, Contains, Option, Some, IsSome, slice_get, unwrap_or, nat_lt}
+use Rattle.std.specs.Prelude.{◌≡◌, ◌≢◌, ◌∷◌, [], ℕ, ◌==◌, ◌&&◌, Bool, true, false, not, List, [], length, Contains}
+use Rattle.std.specs.Prelude.{Option, Some, IsSome, slice_get, unwrap_or, nat_lt}
 use Rattle.std.specs.List.{find, list_all}
 use Rattle.net_model.specs.declared.interfaces.IfaceId.{IfaceId}
 use Rattle.question_lang.specs.declared.question.Start.{Start}
@@ -7,7 +8,8 @@ use Rattle.question_lang.specs.declared.walk.Walk.{Walk}
 use Rattle.question_lang.specs.Walks.{GoesOn}
 use Rattle.question_lang.specs.Breaking.{LastStands}
 use Rattle.question_lang.specs.declared.walk.End.{End}
-use Rattle.question_lang.specs.declared.walk.End.TheVariants.{Delivered, Left, NoRoute, Discarded, DeniedIn, DeniedOut, Loop, Open}
+use Rattle.question_lang.specs.declared.walk.End.TheVariants.{Delivered, Left, NoRoute, Discarded, DeniedIn, DeniedOut}
+use Rattle.question_lang.specs.declared.walk.End.TheVariants.{Loop, Open}
 use Rattle.question_lang.specs.declared.walk.Hop.{Hop}
 use Rattle.question_lang.specs.declared.walk.Hop.TheVariants.{To, Ends}
 
@@ -62,7 +64,8 @@ first_harmful safe target router own = find (λ hop. not (is_harmless safe targe
 
 -- each hop in the list leads to a router of the list, or ends
 abbrev pub StayInside : List (List Hop) → Type 0
-StayInside all = (router : ℕ) (own : List Hop) → slice_get all router ≡ Some own → list_all (is_inside (length all)) own ≡ true
+StayInside all = (router : ℕ) (own : List Hop) → slice_get all router ≡ Some own
+    → list_all (is_inside (length all)) own ≡ true
 
 -- each router that is not known to be safe has a hop that is not harmless
 abbrev pub IsClosed : List (List Hop) → ℕ → List Bool → Type 0
@@ -71,7 +74,8 @@ IsClosed all target safe = (router : ℕ) (own : List Hop) → slice_get all rou
 
 -- a router that is known to be safe is safe
 abbrev pub AreSafe : List (List Hop) → ℕ → List Bool → Type 0
-AreSafe all target safe = (hops : ℕ → List Hop) → Lists hops all → (router : ℕ) → known safe router ≡ true → Safe hops target router
+AreSafe all target safe = (hops : ℕ → List Hop) → Lists hops all → (router : ℕ) → known safe router ≡ true
+    → Safe hops target router
 
 -- a walk from the start over these hops that ends, and not delivered at the target
 abbrev pub GoesWrong : (ℕ → List Hop) → Start → ℕ → Walk → Type 0

@@ -8,7 +8,8 @@ use Rattle.question_lang.specs.Hops.{next_hops}
 -- the list has the next hops of each router at its place
 abbrev pub AreSent : List File → World → List (List Hop) → Type 0
 AreSent files world hops =
-    (router : ℕ) (of_router : List Hop) → slice_get hops router ≡ Some of_router → of_router ≡ next_hops files world router
+    (router : ℕ) (of_router : List Hop) → slice_get hops router ≡ Some of_router → of_router
+    ≡ next_hops files world router
 
 -- the two lists have the same members
 pub record SameMembers (xs ys : List Hop) : Type 0 where

@@ -24,17 +24,21 @@ from_three (Err e) P Q R S step p q t = tt
 
 pub returns-clause-clauses : goal.returns-clause-clauses
 returns-clause-clauses c =
-    let e : marked c.as_slice.result.now ≡ reached c.args.terms.now.nodes c.args.roots.now = ap marked c.as_slice.ensures
+    let e : marked c.as_slice.result.now
+    ≡ reached c.args.terms.now.nodes c.args.roots.now = ap marked c.as_slice.ensures
     ∙ c.in_ok-marks.ensures.marks in
     subst
-    (λ t. IfOk c.clauses_from.result (λ cnf. cnf.clauses ≡ clauses_by t c.args.terms.now.nodes c.args.roots.now)) e c.clauses_from.ensures.clauses
+    (λ t. IfOk c.clauses_from.result (λ cnf. cnf.clauses ≡ clauses_by t c.args.terms.now.nodes c.args.roots.now)) e
+    c.clauses_from.ensures.clauses
 
 pub returns-clause-nodes : goal.returns-clause-nodes
 returns-clause-nodes c =
-    let e : marked c.as_slice.result.now ≡ reached c.args.terms.now.nodes c.args.roots.now = ap marked c.as_slice.ensures
+    let e : marked c.as_slice.result.now
+    ≡ reached c.args.terms.now.nodes c.args.roots.now = ap marked c.as_slice.ensures
     ∙ c.in_ok-marks.ensures.marks in
     subst
-    (λ t. IfOk c.clauses_from.result (λ cnf. cnf.node_of ≡ members t (size c.args.terms.now))) e c.clauses_from.ensures.nodes
+    (λ t. IfOk c.clauses_from.result (λ cnf. cnf.node_of ≡ members t (size c.args.terms.now))) e
+    c.clauses_from.ensures.nodes
 
 pub returns-clause-proper : goal.returns-clause-proper
 returns-clause-proper c =
@@ -42,7 +46,8 @@ returns-clause-proper c =
     let roots = c.args.roots.now in
     from_three c.clauses_from.result (λ cnf. cnf.clauses ≡ clauses_of nodes roots)
     (λ cnf. cnf.node_of ≡ nodes_of nodes roots) (λ cnf. cnf.vars ≡ length cnf.node_of) (λ cnf. IsProper cnf)
-    (λ cnf clauses node_of vars. proper nodes c.args.terms.now.vars roots cnf c.stands_in_order.ensures.sound c.requires clauses (vars ∙ ap length node_of))
+    (λ cnf clauses node_of vars. proper nodes c.args.terms.now.vars roots cnf c.stands_in_order.ensures.sound
+    c.requires clauses (vars ∙ ap length node_of))
     (returns-clause-clauses c) (returns-clause-nodes c) c.clauses_from.ensures.vars
 
 pub returns-clause-decodes : goal.returns-clause-decodes
@@ -52,7 +57,8 @@ returns-clause-decodes c =
     from_two c.clauses_from.result (λ cnf. cnf.clauses ≡ clauses_of nodes roots)
     (λ cnf. cnf.node_of ≡ nodes_of nodes roots)
     (λ cnf. (v : ℕ → Bool) → satisfies v cnf.clauses ≡ true → DecodesTrue nodes roots cnf.node_of v)
-    (λ cnf clauses node_of. rw (clauses, node_of) (decodes c.args.terms.now roots c.stands_in_order.ensures.sound c.requires c.stands_in_order.ensures.once))
+    (λ cnf clauses node_of. rw (clauses, node_of)
+    (decodes c.args.terms.now roots c.stands_in_order.ensures.sound c.requires c.stands_in_order.ensures.once))
     (returns-clause-clauses c) (returns-clause-nodes c)
 
 pub returns-clause-encodes : goal.returns-clause-encodes
@@ -61,8 +67,10 @@ returns-clause-encodes c =
     let roots = c.args.roots.now in
     from_two c.clauses_from.result (λ cnf. cnf.clauses ≡ clauses_of nodes roots)
     (λ cnf. cnf.node_of ≡ nodes_of nodes roots)
-    (λ cnf. (valuation : List Bool) → roots_value nodes roots valuation ≡ true → satisfies (encoded nodes cnf.node_of valuation) cnf.clauses ≡ true)
-    (λ cnf clauses node_of. rw (clauses, node_of) (encodes c.args.terms.now roots c.stands_in_order.ensures.sound c.requires))
+    (λ cnf. (valuation : List Bool) → roots_value nodes roots valuation ≡ true
+    → satisfies (encoded nodes cnf.node_of valuation) cnf.clauses ≡ true)
+    (λ cnf clauses node_of. rw (clauses, node_of)
+    (encodes c.args.terms.now roots c.stands_in_order.ensures.sound c.requires))
     (returns-clause-clauses c) (returns-clause-nodes c)
 
 pub returns-clause-equal : goal.returns-clause-equal
@@ -71,5 +79,6 @@ returns-clause-equal c =
     let roots = c.args.roots.now in
     IfOk-weaker c.clauses_from.result (λ cnf. cnf.clauses ≡ clauses_of nodes roots)
     (λ cnf. IsSatisfiable cnf.clauses ↔ CanBeTrue nodes roots)
-    (λ cnf clauses. rw clauses (equal c.args.terms.now roots c.stands_in_order.ensures.sound c.requires c.stands_in_order.ensures.once))
+    (λ cnf clauses. rw clauses
+    (equal c.args.terms.now roots c.stands_in_order.ensures.sound c.requires c.stands_in_order.ensures.once))
     (returns-clause-clauses c)

@@ -1,6 +1,7 @@
 use Rattle.std.proofs.Common.{◌≡◌, ◌-◌, true, sym, ap, ◌∙◌}
 use Rattle.resolution_check.specs.Clauses.{opposite, has}
-use Rattle.cdcl_search.proofs.Kept.{passed_down, none_is, some_is, passed_forced, passed_other, settled_kept, found_kept}
+use Rattle.cdcl_search.proofs.Kept.{passed_down, none_is, some_is, passed_forced, passed_other, settled_kept}
+use Rattle.cdcl_search.proofs.Kept.{found_kept}
 use Rattle.cdcl_search.proofs.learning.kept_steps.Goals as goal
 
 pub returns-then-is_some-clause-settled : goal.returns-then-is_some-clause-settled
@@ -24,7 +25,8 @@ loop-at-preserved-else-has_literal c =
     let lits = c.args.lits.now in
     let p = passed_down steps lits c.loop-at.at c.loop-at.kept c.loop-at.last c.loop-at-test.true c.loop-at.invariant in
     passed_other steps lits (c.loop-at.at - 1) c.step-step.result c.step-step.ensures.there c.step-step.ensures.fresh
-    (none_is c.step-step.result.reason c.is_none.result c.is_none.ensures c.if-is_none.true) c.loop-at.kept c.loop-at.last p
+    (none_is c.step-step.result.reason c.is_none.result c.is_none.ensures c.if-is_none.true) c.loop-at.kept
+    c.loop-at.last p
 
 pub loop-at-preserved : goal.loop-at-preserved
 loop-at-preserved c =

@@ -20,7 +20,8 @@ returns-clause-lesson c =
     let started : IsFollowed clauses steps (length steps) marks c.in_ok-lesson.lesson.lits c.in_ok-lesson.lesson.chain =
     subst (λ ids. IsFollowed clauses steps (length steps) marks c.in_ok-lesson.lesson.lits ids)
     (sym c.in_ok-lesson.ensures.chain)
-    (subst (λ lits. IsFollowed clauses steps (length steps) marks lits first) (sym c.in_ok-lesson.ensures.lits) (followed_first clauses steps c.args.conflict marks f new)) in
+    (subst (λ lits. IsFollowed clauses steps (length steps) marks lits first) (sym c.in_ok-lesson.ensures.lits)
+    (followed_first clauses steps c.args.conflict marks f new)) in
     let numbers : are_numbers (length clauses) c.in_ok-lesson.lesson.chain ≡ true =
     numbers_push (length clauses) c.args.conflict [] c.in_ok-lesson.lesson.chain
     (slice_get_within clauses c.args.conflict f.clause f.there) c.in_ok-lesson.ensures.chain refl in

@@ -6,11 +6,13 @@ use Rattle.cdcl_search.proofs.propagation.visit_each.Goals as goal
 
 pub returns-in_err-visit-clause-goes : goal.returns-in_err-visit-clause-goes
 returns-in_err-visit-clause-goes c =
-    goes_then c.args.book.now.clauses c.args.trail.now c.loop-place.trail c.visit.new.trail c.loop-place.invariant.goes c.visit.ensures.goes
+    goes_then c.args.book.now.clauses c.args.trail.now c.loop-place.trail c.visit.new.trail
+    c.loop-place.invariant.goes c.visit.ensures.goes
 
 pub returns-then-branch-clause-goes : goal.returns-then-branch-clause-goes
 returns-then-branch-clause-goes c =
-    goes_then c.args.book.now.clauses c.args.trail.now c.loop-place.trail c.visit.new.trail c.loop-place.invariant.goes c.visit.ensures.goes
+    goes_then c.args.book.now.clauses c.args.trail.now c.loop-place.trail c.visit.new.trail
+    c.loop-place.invariant.goes c.visit.ensures.goes
 
 pub loop-place-preserved : goal.loop-place-preserved
 loop-place-preserved c =
@@ -22,7 +24,8 @@ loop-place-preserved c =
     record {
       goes = goes_then clauses old middle new c.loop-place.invariant.goes c.visit.ensures.goes;
       seen = each_more P c.args.places.now c.loop-place.place-index
-          (λ place i below found. since_goes clauses old.steps middle new place (c.loop-place.invariant.seen place i below found) c.loop-place.invariant.goes.longer c.visit.ensures.goes)
+          (λ place i below found. since_goes clauses old.steps middle new place
+          (c.loop-place.invariant.seen place i below found) c.loop-place.invariant.goes.longer c.visit.ensures.goes)
           (since_settled clauses old.steps new.steps _ (c.in_ok-visit.ensures.settled c.if-branch.false));
     }
 

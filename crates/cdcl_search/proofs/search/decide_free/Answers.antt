@@ -9,19 +9,24 @@ use Rattle.cdcl_search.proofs.search.decide_free.Goals as goal
 
 pub returns-in_err-push-clause-goes : goal.returns-in_err-push-clause-goes
 returns-in_err-push-clause-goes c =
-    goes_same c.args.book.now.clauses c.args.trail.now c.push.new.self c.in_err-push.ensures.unchanged c.push.ensures.vars
+    goes_same c.args.book.now.clauses c.args.trail.now c.push.new.self c.in_err-push.ensures.unchanged
+    c.push.ensures.vars
 
 pub propagate-requires-clause-seen : goal.propagate-requires-clause-seen
 propagate-requires-clause-seen c =
     let step : Step = record { lit = record { var = c.args.var; negated = true }; reason = None } in
-    subst (AllSeen c.args.book.now.clauses c.push.new.self.steps) (sym c.len-from.ensures.len) (seen_since c.args.book.now.clauses c.args.trail.now.steps c.push.new.self.steps step c.in_ok-push.ensures.ok c.requires.settled)
+    subst (AllSeen c.args.book.now.clauses c.push.new.self.steps) (sym c.len-from.ensures.len)
+    (seen_since c.args.book.now.clauses c.args.trail.now.steps c.push.new.self.steps step c.in_ok-push.ensures.ok
+    c.requires.settled)
 
 pub returns-clause-goes : goal.returns-clause-goes
 returns-clause-goes c =
     let step : Step = record { lit = record { var = c.args.var; negated = true }; reason = None } in
     let pushed : Goes c.args.book.now.clauses c.args.trail.now c.push.new.self =
-    goes_push c.args.book.now.clauses c.args.trail.now c.push.new.self step c.in_ok-push.ensures.ok c.push.ensures.vars tt (λ chosen. c.requires.settled) in
-    goes_then c.args.book.now.clauses c.args.trail.now c.push.new.self c.propagate.new.trail pushed c.propagate.ensures.goes
+    goes_push c.args.book.now.clauses c.args.trail.now c.push.new.self step c.in_ok-push.ensures.ok
+    c.push.ensures.vars tt (λ chosen. c.requires.settled) in
+    goes_then c.args.book.now.clauses c.args.trail.now c.push.new.self c.propagate.new.trail pushed
+    c.propagate.ensures.goes
 
 pub returns-clause-value : goal.returns-clause-value
 returns-clause-value c =

@@ -11,7 +11,8 @@ add-requires c =
     slice_get_read c.args.clauses.now _ c.loop-clause.clause-index c.clause-item.result
     (search rules) c.loop-clause-test.true c.clause-item.is in
     let known : is_below c.args.vars c.clause-item.result.lits ≡ true =
-    all_at (λ (k : Clause). is_below c.args.vars k.lits) c.args.clauses.now c.loop-clause.clause-index c.clause-item.result c.requires there in
+    all_at (λ (k : Clause). is_below c.args.vars k.lits) c.args.clauses.now c.loop-clause.clause-index
+    c.clause-item.result c.requires there in
     ap₂ (λ v (k : Clause). is_below v k.lits) c.loop-clause.invariant.vars c.in_ok-copy_of.ensures ∙ known
 
 pub loop-clause-preserved : goal.loop-clause-preserved

@@ -13,15 +13,21 @@ use Rattle.cdcl_search.proofs.solving.search.Goals as goal
 pub returns-in_err-conflict-clause-cut : goal.returns-in_err-conflict-clause-cut
 returns-in_err-conflict-clause-cut g c =
     let now = g.L.Sink.taken c.loop.log in
-    let cuts : (before : Option (List ℕ)) (ins : List Clause) → IsGoing before (g.L.Sink.taken c.args.log.now) ins c.args.book.now.clauses 0 → IsCut before now ins c.args.budget =
-    λ before ins going. cut_here before now ins c.loop.book.clauses c.loop.counter (c.loop.invariant.going before ins going) c.args.budget (omega arith) now refl in
+    let cuts : (before : Option (List ℕ)) (ins : List Clause)
+    → IsGoing before (g.L.Sink.taken c.args.log.now) ins c.args.book.now.clauses 0
+    → IsCut before now ins c.args.budget =
+    λ before ins going. cut_here before now ins c.loop.book.clauses c.loop.counter
+    (c.loop.invariant.going before ins going) c.args.budget (omega arith) now refl in
     on_err _ cuts
 
 pub returns-in_err-values-clause-cut : goal.returns-in_err-values-clause-cut
 returns-in_err-values-clause-cut g c =
     let now = g.L.Sink.taken c.loop.log in
-    let cuts : (before : Option (List ℕ)) (ins : List Clause) → IsGoing before (g.L.Sink.taken c.args.log.now) ins c.args.book.now.clauses 0 → IsCut before now ins c.args.budget =
-    λ before ins going. cut_here before now ins c.loop.book.clauses c.loop.counter (c.loop.invariant.going before ins going) c.args.budget (omega arith) now refl in
+    let cuts : (before : Option (List ℕ)) (ins : List Clause)
+    → IsGoing before (g.L.Sink.taken c.args.log.now) ins c.args.book.now.clauses 0
+    → IsCut before now ins c.args.budget =
+    λ before ins going. cut_here before now ins c.loop.book.clauses c.loop.counter
+    (c.loop.invariant.going before ins going) c.args.budget (omega arith) now refl in
     on_err _ cuts
 
 pub returns-in_default-clause-logged : goal.returns-in_default-clause-logged
@@ -47,14 +53,18 @@ pub returns-in_err-take_lesson-clause-cut : goal.returns-in_err-take_lesson-clau
 returns-in_err-take_lesson-clause-cut g c =
     let middle = g.L.Sink.taken c.loop.log in
     let now = g.L.Sink.taken c.take_lesson.new.log in
-    let cuts : (before : Option (List ℕ)) (ins : List Clause) → IsGoing before (g.L.Sink.taken c.args.log.now) ins c.args.book.now.clauses 0 → IsCut before now ins c.args.budget =
+    let cuts : (before : Option (List ℕ)) (ins : List Clause)
+    → IsGoing before (g.L.Sink.taken c.args.log.now) ins c.args.book.now.clauses 0
+    → IsCut before now ins c.args.budget =
     λ before ins going. cut_within before now ins (c.loop.counter + 1) c.args.budget (omega arith)
     (c.in_err-take_lesson.ensures.cut before ins c.loop.counter (c.loop.invariant.going before ins going)) in
     on_err _ cuts
 
 pub returns-then-branch-clause-logged : goal.returns-then-branch-clause-logged
 returns-then-branch-clause-logged g c = λ before ins going.
-    logged_unsat before (g.L.Sink.taken c.take_lesson.new.log) ins (c.loop.counter + 1) c.args.budget (omega arith) (c.in_ok-take_lesson.ensures.refuted c.if-branch.true before ins c.loop.counter (c.loop.invariant.going before ins going))
+    logged_unsat before (g.L.Sink.taken c.take_lesson.new.log) ins (c.loop.counter + 1) c.args.budget (omega arith)
+    (c.in_ok-take_lesson.ensures.refuted c.if-branch.true before ins c.loop.counter
+    (c.loop.invariant.going before ins going))
 
 pub returns-clause-logged : goal.returns-clause-logged
 returns-clause-logged g c = λ before ins going.

@@ -22,19 +22,22 @@ write_inputs-requires-clause-small g c =
 pub returns-in_err-write_inputs-clause-cut : goal.returns-in_err-write_inputs-clause-cut
 returns-in_err-write_inputs-clause-cut g c =
     let cnf = c.args.cnf.now in
-    on_err _ (cut_first _ _ cnf.vars c.args.budget cnf.clauses _ c.requires.vars c.requires.numbers c.requires.proper.below
+    on_err _ (cut_first _ _ cnf.vars c.args.budget cnf.clauses _ c.requires.vars c.requires.numbers
+    c.requires.proper.below
     c.as_slice.ensures c.write_inputs.ensures.part)
 
 pub returns-in_err-book-clause-cut : goal.returns-in_err-book-clause-cut
 returns-in_err-book-clause-cut g c =
     let cnf = c.args.cnf.now in
-    on_err _ (cut_first _ _ cnf.vars c.args.budget cnf.clauses _ c.requires.vars c.requires.numbers c.requires.proper.below
+    on_err _ (cut_first _ _ cnf.vars c.args.budget cnf.clauses _ c.requires.vars c.requires.numbers
+    c.requires.proper.below
     c.as_slice.ensures (part_of_all _ _ _ c.in_ok-write_inputs.ensures.takes))
 
 pub returns-in_err-trail-clause-cut : goal.returns-in_err-trail-clause-cut
 returns-in_err-trail-clause-cut g c =
     let cnf = c.args.cnf.now in
-    on_err _ (cut_first _ _ cnf.vars c.args.budget cnf.clauses _ c.requires.vars c.requires.numbers c.requires.proper.below
+    on_err _ (cut_first _ _ cnf.vars c.args.budget cnf.clauses _ c.requires.vars c.requires.numbers
+    c.requires.proper.below
     c.as_slice.ensures (part_of_all _ _ _ c.in_ok-write_inputs.ensures.takes))
 
 pub search-requires-clause-follows : goal.search-requires-clause-follows
@@ -48,7 +51,8 @@ returns-clause-logged g c =
     let middle = g.L.Sink.taken c.write_inputs.new.log in
     let cnf = c.args.cnf.now in
     let going : IsGoing before middle cnf.clauses c.in_ok-book.book.clauses 0 =
-    going_start before middle cnf.vars c.args.budget cnf.clauses _ _ c.requires.vars c.requires.numbers c.requires.proper.below
+    going_start before middle cnf.vars c.args.budget cnf.clauses _ _ c.requires.vars c.requires.numbers
+    c.requires.proper.below
     c.as_slice.ensures (c.in_ok-book.ensures.clauses ∙ c.as_slice-2.ensures) c.in_ok-write_inputs.ensures.takes in
     ok_then c.search.result c.search.ensures.logged (λ o logs. logs before cnf.clauses going)
 
@@ -67,7 +71,8 @@ returns-clause-cut g c =
     let middle = g.L.Sink.taken c.write_inputs.new.log in
     let cnf = c.args.cnf.now in
     let going : IsGoing before middle cnf.clauses c.in_ok-book.book.clauses 0 =
-    going_start before middle cnf.vars c.args.budget cnf.clauses _ _ c.requires.vars c.requires.numbers c.requires.proper.below
+    going_start before middle cnf.vars c.args.budget cnf.clauses _ _ c.requires.vars c.requires.numbers
+    c.requires.proper.below
     c.as_slice.ensures (c.in_ok-book.ensures.clauses ∙ c.as_slice-2.ensures) c.in_ok-write_inputs.ensures.takes in
     err_then c.search.result c.search.ensures.cut (λ cuts. cuts before cnf.clauses going)
 

@@ -1,4 +1,5 @@
-use Rattle.std.proofs.Common.{◌≡◌, ◌+◌, ◌∷◌, [], ◌++◌, ◌∙◌, true, false, not, List, length, length-append, take, ap, sym, subst, arith}
+use Rattle.std.proofs.Common.{◌≡◌, ◌+◌, ◌∷◌, [], ◌++◌, ◌∙◌, true, false, not, List, length, length-append, take, ap}
+use Rattle.std.proofs.Common.{sym, subst, arith}
 use Rattle.cdcl_search.specs.Books.{are_filled}
 use Rattle.mw_outside.specs.Taken.{part_of_all}
 use Rattle.resolution_check.specs.declared.log.Lit.{Lit}
@@ -41,7 +42,8 @@ returns-in_err-clause-clause-cut g c =
     c.requires.filled c.requires.full c.steps_are_fresh.ensures (ap (λ n. n + 1) c.len.ensures.len)
     (omega arith) c.requires.room c.in_ok-lesson.ensures.below in
     let cuts : Cuts middle now old =
-    λ before ins added going. cut_more before middle ins old added going steps lits chain number next now c.write_lesson.ensures.part in
+    λ before ins added going. cut_more before middle ins old added going steps lits chain number next now
+    c.write_lesson.ensures.part in
     on_err _ cuts
 
 pub returns-then-has_none-clause-refuted : goal.returns-then-has_none-clause-refuted
@@ -59,7 +61,8 @@ returns-then-has_none-clause-refuted g c =
     let none : is_empty lits ≡ true =
     ap is_empty (sym c.in_ok-clause.ensures.clause) ∙ ap is_empty (sym c.as_slice-2.ensures) ∙ sym c.has_none.ensures
     ∙ c.if-has_none.true in
-    λ done before ins added going. refuted_more before middle ins old added going steps lits chain number next now none c.in_ok-clause.ensures.takes
+    λ done before ins added going. refuted_more before middle ins old added going steps lits chain number next now
+    none c.in_ok-clause.ensures.takes
 
 pub returns-in_err-add-clause-cut : goal.returns-in_err-add-clause-cut
 returns-in_err-add-clause-cut g c =
@@ -91,7 +94,8 @@ returns-clause-next g c =
     let next : IsCutBack old clause steps c.kept_steps-kept.result =
     cut_back old clause steps c.kept_steps-kept.result c.requires.full full
     (λ l h. c.in_ok-lesson.ensures.lesson.negated l (ap (λ ls. has ls l) (sym c.in_ok-clause.ensures.clause) ∙ h))
-    (λ at below d. subst (IsSettled (take at steps)) (c.as_slice.ensures ∙ sym c.in_ok-clause.ensures.clause) (c.kept_steps-kept.ensures.settled at below d))
+    (λ at below d. subst (IsSettled (take at steps)) (c.as_slice.ensures ∙ sym c.in_ok-clause.ensures.clause)
+    (c.kept_steps-kept.ensures.settled at below d))
     c.kept_steps-kept.ensures.decision in
     λ done. record {
       longer = ap length more ∙ length-append old (clause ∷ []);
@@ -100,9 +104,13 @@ returns-clause-next g c =
       filled = ap are_filled more
           ∙ all_push (λ (k : Clause). not (is_empty k.lits)) old clause c.requires.filled (ap not full);
       trail_vars = c.cut.ensures.vars ∙ sym c.requires.vars ∙ sym c.add.ensures.vars;
-      follows = subst (λ cs. Follows cs c.cut.new.self.steps) (sym more) (follows_more old clause c.cut.new.self.steps kept);
-      full = subst (λ cs. AreFull cs c.cut.new.self.steps) (sym more) (subst (AreFull (old ++ clause ∷ [])) (sym c.cut.ensures.steps) next.full);
-      settled = λ place below. subst (λ cs. IsSettledAt cs c.cut.new.self.steps place) (sym more) (subst (λ ss. IsSettledAt (old ++ clause ∷ []) ss place) (sym c.cut.ensures.steps) (next.settled place below));
+      follows = subst (λ cs. Follows cs c.cut.new.self.steps) (sym more)
+          (follows_more old clause c.cut.new.self.steps kept);
+      full = subst (λ cs. AreFull cs c.cut.new.self.steps) (sym more)
+          (subst (AreFull (old ++ clause ∷ [])) (sym c.cut.ensures.steps) next.full);
+      settled = λ place below. subst (λ cs. IsSettledAt cs c.cut.new.self.steps place) (sym more)
+          (subst (λ ss. IsSettledAt (old ++ clause ∷ []) ss place) (sym c.cut.ensures.steps)
+          (next.settled place below));
       weaker = λ v h. satisfies_front v old clause (ap (satisfies v) (sym more) ∙ h);
     }
 

@@ -6,5 +6,6 @@ use Rattle.cex_json.proofs.fields.take_addrs.Given as goal
 -- what is read of the members that are left, behind those so far, is read of all
 abbrev pub invariant-loop-member : goal.invariant-loop-member
 invariant-loop-member l =
-    in_order (addr_step l.at l.name) l.member-index l.addresses-inside.items.items (items_view (drop l.member-index l.members))
+    in_order (addr_step l.at l.name) l.member-index l.addresses-inside.items.items
+    (items_view (drop l.member-index l.members))
     ≡ in_order (addr_step l.at l.name) 0 [] (items_view l.members)

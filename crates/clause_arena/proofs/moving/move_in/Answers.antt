@@ -12,23 +12,29 @@ pub link_in-link-requires : goal.link_in-link-requires
 link_in-link-requires c =
     let a = c.args in
     let n = own (store a.vars a.words.now a.refs.now) a.w in
-    let k = clear_at a.vars a.words.now a.refs.now a.before a.w a.to (link_of a.before n) _ _ c.requires.sound c.requires.stands c.requires.before c.requires.behind c.requires.within refl refl refl in
+    let k = clear_at a.vars a.words.now a.refs.now a.before a.w a.to
+    (link_of a.before n) _ _ c.requires.sound c.requires.stands c.requires.before c.requires.behind c.requires.within
+    refl refl refl in
     let l : link_of a.before n < length a.words.now = k.link in
     subst (λ (u : ℕ). link_of a.before u < 18446744073709551616) (sym c.code_in-old.ensures.value) (omega arith)
 
 pub turn-requires : goal.turn-requires
 turn-requires c =
     let a = c.args in
-    clear_at a.vars a.words.now a.refs.now a.before a.w a.to c.link_in-link.result c.place_of.result c.code_in-new.result
+    clear_at a.vars a.words.now a.refs.now a.before a.w a.to c.link_in-link.result c.place_of.result
+    c.code_in-new.result
     c.requires.sound c.requires.stands c.requires.before c.requires.behind c.requires.within
-    (c.link_in-link.ensures ∙ ap (link_of a.before) c.code_in-old.ensures.value) c.place_of.ensures c.code_in-new.ensures.value
+    (c.link_in-link.ensures
+    ∙ ap (link_of a.before) c.code_in-old.ensures.value) c.place_of.ensures c.code_in-new.ensures.value
 
 pub read-requires : goal.read-requires
 read-requires c =
     let a = c.args in
-    let k = clear_at a.vars a.words.now a.refs.now a.before a.w a.to c.link_in-link.result c.place_of.result c.code_in-new.result
+    let k = clear_at a.vars a.words.now a.refs.now a.before a.w a.to c.link_in-link.result c.place_of.result
+    c.code_in-new.result
     c.requires.sound c.requires.stands c.requires.before c.requires.behind c.requires.within
-    (c.link_in-link.ensures ∙ ap (link_of a.before) c.code_in-old.ensures.value) c.place_of.ensures c.code_in-new.ensures.value in
+    (c.link_in-link.ensures
+    ∙ ap (link_of a.before) c.code_in-old.ensures.value) c.place_of.ensures c.code_in-new.ensures.value in
     let l : c.link_in-link.result < length a.words.now = k.link in
     let e : length c.turn.new.words ≡ length a.words.now = c.turn.auto.words in
     omega arith
@@ -39,8 +45,10 @@ watch_of-requires c =
     let n = own (store a.vars a.words.now a.refs.now) a.w in
     let b = link_of a.before n in
     let eb : c.link_in-link.result ≡ b = c.link_in-link.ensures ∙ ap (link_of a.before) c.code_in-old.ensures.value in
-    let d = done_at a.vars a.words.now c.turn.new.words a.refs.now a.before a.w a.to c.link_in-link.result c.place_of.result c.code_in-new.result
-    c.code_in-old.result c.requires.sound c.requires.stands c.requires.before c.requires.behind c.requires.within c.turn.auto.words
+    let d = done_at a.vars a.words.now c.turn.new.words a.refs.now a.before a.w a.to c.link_in-link.result
+    c.place_of.result c.code_in-new.result
+    c.code_in-old.result c.requires.sound c.requires.stands c.requires.before c.requires.behind c.requires.within
+    c.turn.auto.words
     eb c.place_of.ensures c.code_in-new.ensures.value c.code_in-old.ensures.value c.turn.ensures in
     subst (λ (u : ℕ). (u ≡ 0) ⊎ (3 < u + 2)) (sym (c.read.ensures ∙ ap (word c.turn.new.words) eb))
     (low_or_high a.vars c.turn.new.words a.refs.now n b d.sound d.below d.link)
@@ -51,8 +59,10 @@ returns-clause-sound c =
     let n = own (store a.vars a.words.now a.refs.now) a.w in
     let b = link_of a.before n in
     let eb : c.link_in-link.result ≡ b = c.link_in-link.ensures ∙ ap (link_of a.before) c.code_in-old.ensures.value in
-    let d = done_at a.vars a.words.now c.turn.new.words a.refs.now a.before a.w a.to c.link_in-link.result c.place_of.result c.code_in-new.result
-    c.code_in-old.result c.requires.sound c.requires.stands c.requires.before c.requires.behind c.requires.within c.turn.auto.words
+    let d = done_at a.vars a.words.now c.turn.new.words a.refs.now a.before a.w a.to c.link_in-link.result
+    c.place_of.result c.code_in-new.result
+    c.code_in-old.result c.requires.sound c.requires.stands c.requires.before c.requires.behind c.requires.within
+    c.turn.auto.words
     eb c.place_of.ensures c.code_in-new.ensures.value c.code_in-old.ensures.value c.turn.ensures in
     d.sound
 
@@ -62,8 +72,10 @@ returns-clause-moves c =
     let n = own (store a.vars a.words.now a.refs.now) a.w in
     let b = link_of a.before n in
     let eb : c.link_in-link.result ≡ b = c.link_in-link.ensures ∙ ap (link_of a.before) c.code_in-old.ensures.value in
-    let d = done_at a.vars a.words.now c.turn.new.words a.refs.now a.before a.w a.to c.link_in-link.result c.place_of.result c.code_in-new.result
-    c.code_in-old.result c.requires.sound c.requires.stands c.requires.before c.requires.behind c.requires.within c.turn.auto.words
+    let d = done_at a.vars a.words.now c.turn.new.words a.refs.now a.before a.w a.to c.link_in-link.result
+    c.place_of.result c.code_in-new.result
+    c.code_in-old.result c.requires.sound c.requires.stands c.requires.before c.requires.behind c.requires.within
+    c.turn.auto.words
     eb c.place_of.ensures c.code_in-new.ensures.value c.code_in-old.ensures.value c.turn.ensures in
     d.moves
 
@@ -73,8 +85,10 @@ returns-clause-head c =
     let n = own (store a.vars a.words.now a.refs.now) a.w in
     let b = link_of a.before n in
     let eb : c.link_in-link.result ≡ b = c.link_in-link.ensures ∙ ap (link_of a.before) c.code_in-old.ensures.value in
-    let d = done_at a.vars a.words.now c.turn.new.words a.refs.now a.before a.w a.to c.link_in-link.result c.place_of.result c.code_in-new.result
-    c.code_in-old.result c.requires.sound c.requires.stands c.requires.before c.requires.behind c.requires.within c.turn.auto.words
+    let d = done_at a.vars a.words.now c.turn.new.words a.refs.now a.before a.w a.to c.link_in-link.result
+    c.place_of.result c.code_in-new.result
+    c.code_in-old.result c.requires.sound c.requires.stands c.requires.before c.requires.behind c.requires.within
+    c.turn.auto.words
     eb c.place_of.ensures c.code_in-new.ensures.value c.code_in-old.ensures.value c.turn.ensures in
     let l = leads a.vars c.turn.new.words a.refs.now n b d.sound d.below d.link in
     ap place_or (c.watch_of.ensures ∙ ap watch_at (c.read.ensures ∙ ap (word c.turn.new.words) eb)) ∙ l.head
@@ -85,8 +99,10 @@ returns-clause-stands c =
     let n = own (store a.vars a.words.now a.refs.now) a.w in
     let b = link_of a.before n in
     let eb : c.link_in-link.result ≡ b = c.link_in-link.ensures ∙ ap (link_of a.before) c.code_in-old.ensures.value in
-    let d = done_at a.vars a.words.now c.turn.new.words a.refs.now a.before a.w a.to c.link_in-link.result c.place_of.result c.code_in-new.result
-    c.code_in-old.result c.requires.sound c.requires.stands c.requires.before c.requires.behind c.requires.within c.turn.auto.words
+    let d = done_at a.vars a.words.now c.turn.new.words a.refs.now a.before a.w a.to c.link_in-link.result
+    c.place_of.result c.code_in-new.result
+    c.code_in-old.result c.requires.sound c.requires.stands c.requires.before c.requires.behind c.requires.within
+    c.turn.auto.words
     eb c.place_of.ensures c.code_in-new.ensures.value c.code_in-old.ensures.value c.turn.ensures in
     let l = leads a.vars c.turn.new.words a.refs.now n b d.sound d.below d.link in
     subst (λ (w : Option Watch). IfSome w (Stands (store a.vars c.turn.new.words a.refs.now) n))
@@ -98,7 +114,9 @@ returns-clause-fewer c =
     let n = own (store a.vars a.words.now a.refs.now) a.w in
     let b = link_of a.before n in
     let eb : c.link_in-link.result ≡ b = c.link_in-link.ensures ∙ ap (link_of a.before) c.code_in-old.ensures.value in
-    let d = done_at a.vars a.words.now c.turn.new.words a.refs.now a.before a.w a.to c.link_in-link.result c.place_of.result c.code_in-new.result
-    c.code_in-old.result c.requires.sound c.requires.stands c.requires.before c.requires.behind c.requires.within c.turn.auto.words
+    let d = done_at a.vars a.words.now c.turn.new.words a.refs.now a.before a.w a.to c.link_in-link.result
+    c.place_of.result c.code_in-new.result
+    c.code_in-old.result c.requires.sound c.requires.stands c.requires.before c.requires.behind c.requires.within
+    c.turn.auto.words
     eb c.place_of.ensures c.code_in-new.ensures.value c.code_in-old.ensures.value c.turn.ensures in
     d.fewer

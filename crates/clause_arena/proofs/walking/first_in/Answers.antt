@@ -9,7 +9,8 @@ use Rattle.clause_arena.proofs.walking.first_in.Goals as goal
 pub watch_of-requires : goal.watch_of-requires
 watch_of-requires c =
     let a = c.args in
-    rw c.read.ensures (low_or_high a.vars a.words.now a.refs.now a.code a.code c.requires.sound c.requires.below (inl refl))
+    rw c.read.ensures (low_or_high a.vars a.words.now a.refs.now a.code a.code c.requires.sound c.requires.below
+    (inl refl))
 
 pub returns-clause-head : goal.returns-clause-head
 returns-clause-head c =

@@ -21,7 +21,8 @@ pub watch_of-requires : goal.watch_of-requires
 watch_of-requires c =
     let a = c.args in
     let s = store a.vars a.words.now a.refs.now in
-    rw (c.read.ensures, c.place_of.ensures) (low_or_high a.vars a.words.now a.refs.now (own s a.w) (place a.w) c.requires.sound
+    rw (c.read.ensures, c.place_of.ensures)
+    (low_or_high a.vars a.words.now a.refs.now (own s a.w) (place a.w) c.requires.sound
     (code_below a.vars a.words.now a.refs.now a.w c.requires.sound c.requires.stands) (inr c.requires.stands.listed))
 
 pub returns-clause-head : goal.returns-clause-head
@@ -46,4 +47,5 @@ returns-clause-fewer c =
     let a = c.args in
     let s = store a.vars a.words.now a.refs.now in
     λ before e. fewer s (own s a.w) a.w before
-    (c.requires.sound.linked.threads (own s a.w) (code_below a.vars a.words.now a.refs.now a.w c.requires.sound c.requires.stands)) c.requires.stands.listed e
+    (c.requires.sound.linked.threads (own s a.w)
+    (code_below a.vars a.words.now a.refs.now a.w c.requires.sound c.requires.stands)) c.requires.stands.listed e

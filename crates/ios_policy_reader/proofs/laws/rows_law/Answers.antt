@@ -1,6 +1,18 @@
 use Rattle.std.proofs.Common.{◌≡◌, true, refl, drop}
 use Rattle.ios_policy_reader.specs.declared.heads.Row.{Row}
-use Rattle.ios_policy_reader.specs.declared.heads.Row.TheVariants.{Hostname, InterfaceBlock, StaticRoute, OspfBlock, BgpBlock, AccessList, StandardBlock, ExtendedBlock, PrefixList, CommunityList, PathList, MapBlock, Banner, IgnoredBlock, Ignored, Address, NoAddress, Shutdown, NoShutdown, Bandwidth, OspfCost, AccessGroup, RouterId, OspfNetwork, Passive, NoPassive, ReferenceBandwidth, OspfRedistribute, Originate, AlwaysCompareMed, CompareRouterId, DeterministicMed, BgpNetwork, BgpRedistribute, Neighbor, MatchAddress, MatchPrefixList, MatchCommunity, MatchPath, SetPreference, SetMetric, SetWeight, SetCommunity, SetOrigin, SetPrepend, SetMetricType, StandardEntry, ExtendedEntry}
+use Rattle.ios_policy_reader.specs.declared.heads.Row.TheVariants.{Hostname, InterfaceBlock, StaticRoute, OspfBlock}
+use Rattle.ios_policy_reader.specs.declared.heads.Row.TheVariants.{BgpBlock, AccessList, StandardBlock, ExtendedBlock}
+use Rattle.ios_policy_reader.specs.declared.heads.Row.TheVariants.{PrefixList, CommunityList, PathList, MapBlock}
+use Rattle.ios_policy_reader.specs.declared.heads.Row.TheVariants.{Banner, IgnoredBlock, Ignored, Address, NoAddress}
+use Rattle.ios_policy_reader.specs.declared.heads.Row.TheVariants.{Shutdown, NoShutdown, Bandwidth, OspfCost}
+use Rattle.ios_policy_reader.specs.declared.heads.Row.TheVariants.{AccessGroup, RouterId, OspfNetwork, Passive}
+use Rattle.ios_policy_reader.specs.declared.heads.Row.TheVariants.{NoPassive, ReferenceBandwidth, OspfRedistribute}
+use Rattle.ios_policy_reader.specs.declared.heads.Row.TheVariants.{Originate, AlwaysCompareMed, CompareRouterId}
+use Rattle.ios_policy_reader.specs.declared.heads.Row.TheVariants.{DeterministicMed, BgpNetwork, BgpRedistribute}
+use Rattle.ios_policy_reader.specs.declared.heads.Row.TheVariants.{Neighbor, MatchAddress, MatchPrefixList}
+use Rattle.ios_policy_reader.specs.declared.heads.Row.TheVariants.{MatchCommunity, MatchPath, SetPreference, SetMetric}
+use Rattle.ios_policy_reader.specs.declared.heads.Row.TheVariants.{SetWeight, SetCommunity, SetOrigin, SetPrepend}
+use Rattle.ios_policy_reader.specs.declared.heads.Row.TheVariants.{SetMetricType, StandardEntry, ExtendedEntry}
 use Rattle.ios_policy_reader.specs.Masks.{length_below}
 use Rattle.ios_policy_reader.specs.Words.{port_of}
 use Rattle.ios_policy_reader.specs.Edges.{said_by, said_back}

@@ -5,4 +5,5 @@ use Rattle.mw_outside.proofs.writers.write_whole.Given as goal
 -- so many bytes of the piece are taken
 abbrev pub invariant-loop : goal.invariant-loop
 invariant-loop g l =
-    (l.count ≤ length l.bytes) × Takes (g.W.Write.contents l.initial.writer) (g.W.Write.contents l.writer) (take l.count l.bytes)
+    (l.count ≤ length l.bytes)
+    × Takes (g.W.Write.contents l.initial.writer) (g.W.Write.contents l.writer) (take l.count l.bytes)

@@ -14,14 +14,16 @@ loop-text-init c = read-none (with_value file_of) [] ∙ ap Ok (sym (c.files.vie
 pub parse_file-requires : goal.parse_file-requires
 parse_file-requires c =
     c.requires c.loop-text.text-index c.text-item.result
-    (slice_get_read c.args.texts.now (length c.args.texts.now) c.loop-text.text-index c.text-item.result refl c.loop-text-test.true c.text-item.is)
+    (slice_get_read c.args.texts.now
+    (length c.args.texts.now) c.loop-text.text-index c.text-item.result refl c.loop-text-test.true c.text-item.is)
 
 pub returns-in_err-file-clause-stop : goal.returns-in_err-file-clause-stop
 returns-in_err-file-clause-stop c =
     let p = err_from_is_err_and c.from_residual.result c.from_residual.ensures.1 in
     rw (p.1, p.2)
     (on_stop-map c.in_err-file.field-0.0 _ _ _ _ c.in_err-file.ensures.stop
-    (λ line said. each-refused file_of c.args.texts.now c.loop-text.text-index c.text-item.result c.loop-text.files-inside.items.items
+    (λ line said. each-refused file_of c.args.texts.now c.loop-text.text-index c.text-item.result
+    c.loop-text.files-inside.items.items
     (refused line) c.loop-text.invariant c.loop-text-test.true c.text-item.is said)
     (λ never. never))
 
@@ -29,10 +31,12 @@ pub loop-text-preserved : goal.loop-text-preserved
 loop-text-preserved c =
     let P : List File → Type 0 = λ fs. EachTo file_of c.args.texts.now (c.loop-text.text-index + 1) fs in
     subst P (sym c.in_ok-push.ensures.items)
-    (each-one file_of c.args.texts.now c.loop-text.text-index c.text-item.result c.loop-text.files-inside.items.items c.in_ok-file.file
+    (each-one file_of c.args.texts.now c.loop-text.text-index c.text-item.result c.loop-text.files-inside.items.items
+    c.in_ok-file.file
     c.loop-text.invariant c.loop-text-test.true c.text-item.is c.in_ok-file.ensures.ok)
 
 pub returns-clause-ok : goal.returns-clause-ok
 returns-clause-ok c =
-    read-done (with_value file_of) [] c.args.texts.now c.loop-text.text-index c.loop-text.files-inside.items.items c.loop-text.invariant
+    read-done (with_value file_of) [] c.args.texts.now c.loop-text.text-index c.loop-text.files-inside.items.items
+    c.loop-text.invariant
     c.loop-text-test.false

@@ -1,4 +1,5 @@
-use Rattle.std.proofs.Common.{◌≡◌, ◌∙◌, List, [], refl, ℕ, map, Option, Err, Ok, subst, sym, ap, arith, length, get_or, ◌+◌, ◌<◌, ◌≤◌}
+use Rattle.std.proofs.Common.{◌≡◌, ◌∙◌, List, [], refl, ℕ, map, Option, Err, Ok, subst, sym, ap, arith, length, get_or}
+use Rattle.std.proofs.Common.{◌+◌, ◌<◌, ◌≤◌}
 use Rattle.std.proofs.lemmas.List.{length-map}
 use Rattle.std.specs.Prelude.{IfSome, slice_get, string_bytes}
 use Rattle.mw_outside.specs.Contents.{Contents, TellsOnly}
@@ -21,7 +22,8 @@ loop-name-init g c =
       refl,
       refl,
       refl,
-      all_told (g.F.Files.contents c.args.files.now) _ (λ contents. read-none (with_value (text_of contents)) [] ∙ ap Ok (sym empty)),
+      all_told (g.F.Files.contents c.args.files.now) _ (λ contents. read-none (with_value (text_of contents)) []
+          ∙ ap Ok (sym empty)),
       subst S (sym empty) (λ k text found. absurd cc),
     )
 
@@ -35,19 +37,23 @@ returns-in_err-text-clause-stop g c =
     let so_far : List Text = c.loop-name.texts-inside.items.items in
     let test = c.loop-name-test.true in
     let within : i < length names = omega (arith, test, length-map c.args.names.now string_bytes) in
-    let is_name : name ≡ get_or names i name = read-map string_bytes c.args.names.now i c.name-item.result test c.name-item.is in
+    let is_name : name ≡ get_or names i name =
+    read-map string_bytes c.args.names.now i c.name-item.result test c.name-item.is in
     rw (p.1, p.2)
     (on_stop-map c.in_err-text.field-0.0 _ _ _ _ c.in_err-text.ensures.stop
     (λ line said.
-    let T : Option Contents → Type 0 = λ o. IfSome o (λ contents. text_of contents c.as_str.result.now ≡ Err (refused line)) in
+    let T : Option Contents
+    → Type 0 = λ o. IfSome o (λ contents. text_of contents c.as_str.result.now ≡ Err (refused line)) in
     let U : List ℕ → Type 0 = λ n. IfSome told (λ contents. text_of contents n ≡ Err (refused line)) in
     if_told told _ _ _ c.loop-name.invariant.3 (subst U c.as_str.ensures.value (subst T c.loop-name.invariant.0 said))
-    (λ contents before stopped. each-refused (text_of contents) names i name so_far (refused line) before within is_name stopped))
+    (λ contents before stopped. each-refused (text_of contents) names i name so_far
+    (refused line) before within is_name stopped))
     (λ said.
     let R : ℕ → Type 0 = λ before. Rose before (g.F.Files.faults c.read_text.new.files) in
     let N : List ℕ → Type 0 = λ n. TellsOnly n (g.F.Files.last_failed c.read_text.new.files) in (
       subst R c.loop-name.invariant.1 said.0,
-      stops-here told names i name so_far (g.F.Files.last_failed c.read_text.new.files) within is_name c.loop-name.invariant.3
+      stops-here told names i name so_far
+          (g.F.Files.last_failed c.read_text.new.files) within is_name c.loop-name.invariant.3
           (subst N c.as_str.ensures.value said.1),
     )))
 
@@ -60,8 +66,10 @@ loop-name-preserved g c =
     let test = c.loop-name-test.true in
     let within : i < length names = omega (arith, test, length-map c.args.names.now string_bytes) in
     let before = c.loop-name.texts-inside.items.items in
-    let is_name : name ≡ get_or names i name = read-map string_bytes c.args.names.now i c.name-item.result test c.name-item.is in
-    let T : Option Contents → Type 0 = λ o. IfSome o (λ contents. text_of contents c.as_str.result.now ≡ Ok c.in_ok-text.text) in
+    let is_name : name ≡ get_or names i name =
+    read-map string_bytes c.args.names.now i c.name-item.result test c.name-item.is in
+    let T : Option Contents
+    → Type 0 = λ o. IfSome o (λ contents. text_of contents c.as_str.result.now ≡ Ok c.in_ok-text.text) in
     let U : List ℕ → Type 0 = λ n. IfSome told (λ contents. text_of contents n ≡ Ok c.in_ok-text.text) in
     let P : List Text → Type 0 = λ texts. IfSome told (λ contents. EachTo (text_of contents) names (i + 1) texts) in
     let items = c.in_ok-push.ensures.items in (
@@ -69,9 +77,13 @@ loop-name-preserved g c =
       c.in_ok-text.ensures.quiet ∙ c.loop-name.invariant.1,
       c.in_ok-text.ensures.name_stays ∙ c.loop-name.invariant.2,
       subst P (sym items)
-          (if_told told _ _ _ c.loop-name.invariant.3 (subst U c.as_str.ensures.value (subst T c.loop-name.invariant.0 c.in_ok-text.ensures.ok))
-          (λ contents so read. each-one (text_of contents) names i name before c.in_ok-text.text so within is_name read)),
-      λ k text found. each_place-push (λ _ t. length t.bytes ≤ MOST_BYTES) before c.in_ok-text.text c.loop-name.invariant.4 c.in_ok-text.ensures.small k text
+          (if_told told _ _ _ c.loop-name.invariant.3
+          (subst U c.as_str.ensures.value (subst T c.loop-name.invariant.0 c.in_ok-text.ensures.ok))
+          (λ contents so read. each-one
+          (text_of contents) names i name before c.in_ok-text.text so within is_name read)),
+      λ k text found. each_place-push
+          (λ _ t. length t.bytes ≤ MOST_BYTES) before c.in_ok-text.text c.loop-name.invariant.4
+          c.in_ok-text.ensures.small k text
           (sym (ap (λ xs. slice_get xs k) items) ∙ found),
     )
 
@@ -79,5 +91,6 @@ pub returns-clause-ok : goal.returns-clause-ok
 returns-clause-ok g c =
     let names : List (List ℕ) = map string_bytes c.args.names.now in
     if_told_one (g.F.Files.contents c.args.files.now) _ _ c.loop-name.invariant.3
-    (λ contents so. read-done (with_value (text_of contents)) [] names c.loop-name.name-index c.loop-name.texts-inside.items.items so
+    (λ contents so. read-done
+    (with_value (text_of contents)) [] names c.loop-name.name-index c.loop-name.texts-inside.items.items so
     (omega (arith, c.loop-name-test.false, length-map c.args.names.now string_bytes)))

@@ -19,13 +19,18 @@ returns-in-Ok-load-clause-answered g c =
     let outcome : Outcome = answering c.in-Ok-load.loaded.net c.in-Ok-load.loaded.questions DEFAULT_CONFLICTS in
     let long = c.is_verify.ensures.long c.if-not-is_verify.false in
     let is_due : IsDue told words outcome =
-    is_due_of string_bytes c.args.words.now c.index-words-1.result told outcome (Ok outcome) c.as_str.result.now c.split_at.result.1.now
-    c.is_verify.result c.is_verify.ensures.value c.if-not-is_verify.false (omega (arith, long)) c.index-words-1.is refl c.as_str.ensures.value
+    is_due_of string_bytes c.args.words.now c.index-words-1.result told outcome
+    (Ok outcome) c.as_str.result.now c.split_at.result.1.now
+    c.is_verify.result c.is_verify.ensures.value c.if-not-is_verify.false
+    (omega (arith, long)) c.index-words-1.is refl c.as_str.ensures.value
     c.split_at.ensures.back c.in-Ok-load.ensures.ok in
     let Q : List Question → Type 0 = λ qs. AnswersSo c.in-Ok-load.loaded.net qs DEFAULT_CONFLICTS c.put_verdicts.result
-    (g.O.Sink.taken c.args.out.now) (g.O.Sink.taken c.put_verdicts.new.out) (Rose (g.O.Sink.faults c.args.out.now) (g.O.Sink.faults c.put_verdicts.new.out)) in
-    answered_from c.in-Ok-load.loaded.net c.in-Ok-load.loaded.questions DEFAULT_CONFLICTS c.put_verdicts.result told words
-    (g.O.Sink.taken c.args.out.now) (g.O.Sink.taken c.put_verdicts.new.out) (g.L.Sink.taken c.args.log.now) (g.L.Sink.taken c.args.log.now)
+    (g.O.Sink.taken c.args.out.now) (g.O.Sink.taken c.put_verdicts.new.out)
+    (Rose (g.O.Sink.faults c.args.out.now) (g.O.Sink.faults c.put_verdicts.new.out)) in
+    answered_from c.in-Ok-load.loaded.net c.in-Ok-load.loaded.questions DEFAULT_CONFLICTS c.put_verdicts.result told
+    words
+    (g.O.Sink.taken c.args.out.now) (g.O.Sink.taken c.put_verdicts.new.out) (g.L.Sink.taken c.args.log.now)
+    (g.L.Sink.taken c.args.log.now)
     _ is_due refl (subst Q c.as_slice.ensures c.put_verdicts.ensures.answers)
 
 pub returns-in-Ok-load-clause-cut : goal.returns-in-Ok-load-clause-cut
@@ -35,13 +40,17 @@ returns-in-Ok-load-clause-cut g c =
     let outcome : Outcome = answering c.in-Ok-load.loaded.net c.in-Ok-load.loaded.questions DEFAULT_CONFLICTS in
     let long = c.is_verify.ensures.long c.if-not-is_verify.false in
     let is_due : IsDue told words outcome =
-    is_due_of string_bytes c.args.words.now c.index-words-1.result told outcome (Ok outcome) c.as_str.result.now c.split_at.result.1.now
-    c.is_verify.result c.is_verify.ensures.value c.if-not-is_verify.false (omega (arith, long)) c.index-words-1.is refl c.as_str.ensures.value
+    is_due_of string_bytes c.args.words.now c.index-words-1.result told outcome
+    (Ok outcome) c.as_str.result.now c.split_at.result.1.now
+    c.is_verify.result c.is_verify.ensures.value c.if-not-is_verify.false
+    (omega (arith, long)) c.index-words-1.is refl c.as_str.ensures.value
     c.split_at.ensures.back c.in-Ok-load.ensures.ok in
     let Q : List Question → Type 0 = λ qs. AnswersSo c.in-Ok-load.loaded.net qs DEFAULT_CONFLICTS c.put_verdicts.result
-    (g.O.Sink.taken c.args.out.now) (g.O.Sink.taken c.put_verdicts.new.out) (Rose (g.O.Sink.faults c.args.out.now) (g.O.Sink.faults c.put_verdicts.new.out)) in
+    (g.O.Sink.taken c.args.out.now) (g.O.Sink.taken c.put_verdicts.new.out)
+    (Rose (g.O.Sink.faults c.args.out.now) (g.O.Sink.faults c.put_verdicts.new.out)) in
     cut_from c.in-Ok-load.loaded.net c.in-Ok-load.loaded.questions DEFAULT_CONFLICTS c.put_verdicts.result told words
-    (g.O.Sink.taken c.args.out.now) (g.O.Sink.taken c.put_verdicts.new.out) _ is_due (subst Q c.as_slice.ensures c.put_verdicts.ensures.answers)
+    (g.O.Sink.taken c.args.out.now) (g.O.Sink.taken c.put_verdicts.new.out) _ is_due
+    (subst Q c.as_slice.ensures c.put_verdicts.ensures.answers)
 
 pub returns-in-Err-Refused-clause-cut : goal.returns-in-Err-Refused-clause-cut
 returns-in-Err-Refused-clause-cut g c =
@@ -50,18 +59,26 @@ returns-in-Err-Refused-clause-cut g c =
     let names : List (List ℕ) = map string_bytes c.split_at.result.1.now in
     let line : List ℕ = c.in-Err-Refused.line in
     let long = c.is_verify.ensures.long c.if-not-is_verify.false in
-    let P : Stop → Type 0 = λ stop. OnStop stop (λ l. IfSome told (λ contents. files_due contents c.as_str.result.now names ≡ Err (refused l)))
+    let P : Stop → Type 0 =
+    λ stop. OnStop stop (λ l. IfSome told (λ contents. files_due contents c.as_str.result.now names ≡ Err (refused l)))
     (Rose (g.F.Files.faults c.args.files.now) (g.F.Files.faults c.load.new.files)
     × StopsAt told (names ++ c.as_str.result.now ∷ []) (g.F.Files.last_failed c.load.new.files)) in
     let said = subst P c.in-Err-Refused.field-0-is c.in-Err-Refused.ensures.stop in
     let is_due : IsDue told words (refused line) =
-    is_due_of string_bytes c.args.words.now c.index-words-1.result told (refused line) (Err (refused line)) c.as_str.result.now c.split_at.result.1.now
-    c.is_verify.result c.is_verify.ensures.value c.if-not-is_verify.false (omega (arith, long)) c.index-words-1.is refl c.as_str.ensures.value
+    is_due_of string_bytes c.args.words.now c.index-words-1.result told (refused line)
+    (Err (refused line)) c.as_str.result.now c.split_at.result.1.now
+    c.is_verify.result c.is_verify.ensures.value c.if-not-is_verify.false
+    (omega (arith, long)) c.index-words-1.is refl c.as_str.ensures.value
     c.split_at.ensures.back said in
-    let T : List ℕ → Type 0 = λ l. TakesPart (g.O.Sink.taken c.args.out.now) (g.O.Sink.taken c.write-in-Err-Refused.new.self) l in
-    (refused line, is_due, (line, refl, subst T (c.as_slice-in-Err-Refused.ensures ∙ c.in-Err-Refused.line-is) c.in-Err-write.ensures.part))
+    let T : List ℕ → Type 0 =
+    λ l. TakesPart (g.O.Sink.taken c.args.out.now) (g.O.Sink.taken c.write-in-Err-Refused.new.self) l in (
+      refused line,
+      is_due,
+      (line, refl, subst T (c.as_slice-in-Err-Refused.ensures ∙ c.in-Err-Refused.line-is) c.in-Err-write.ensures.part),
+    )
 
 pub returns-clause-cut : goal.returns-clause-cut
 returns-clause-cut g c =
-    cut_nothing (g.F.Files.contents c.args.files.now) (map string_bytes c.args.words.now) (g.O.Sink.taken c.args.out.now)
+    cut_nothing (g.F.Files.contents c.args.files.now) (map string_bytes c.args.words.now)
+    (g.O.Sink.taken c.args.out.now)
     (sym c.is_verify.ensures.value ∙ c.if-not-is_verify.false)

@@ -6,4 +6,5 @@ use Rattle.net_model.proofs.adjacencies.adjacencies.Given as goal
 -- those so far, with those of the interfaces that are left, are all
 abbrev pub invariant-loop-a : goal.invariant-loop-a
 invariant-loop-a l =
-    l.all ++ flat_map (λ a. adjacencies_of a l.running) (drop l.a-index l.running) ≡ flat_map (λ a. adjacencies_of a l.running) l.running
+    l.all ++ flat_map (λ a. adjacencies_of a l.running) (drop l.a-index l.running)
+    ≡ flat_map (λ a. adjacencies_of a l.running) l.running

@@ -6,4 +6,5 @@ use Rattle.net_model.proofs.ospf.ospf_interfaces.Given as goal
 -- those so far, with those of the interfaces that are left, are all
 abbrev pub invariant-loop-x : goal.invariant-loop-x
 invariant-loop-x l =
-    l.all-inside.items.items ++ filter_map (ospf_at l.files) (drop l.x-index l.addresses) ≡ filter_map (ospf_at l.files) l.addresses
+    l.all-inside.items.items ++ filter_map (ospf_at l.files) (drop l.x-index l.addresses)
+    ≡ filter_map (ospf_at l.files) l.addresses

@@ -8,5 +8,7 @@ use Rattle.net_model.proofs.states.is_reached_over.Given as goal
 -- the interfaces that are left decide
 abbrev pub invariant-loop-x : goal.invariant-loop-x
 invariant-loop-x l =
-    list_any (λ x. covers x.subnet l.a) (filter (λ x. (x.id.router == l.router) && is_up l.files l.failures x) l.addresses)
-    ≡ list_any (λ x. covers x.subnet l.a) (filter (λ x. (x.id.router == l.router) && is_up l.files l.failures x) (drop l.x-index l.addresses))
+    list_any (λ x. covers x.subnet l.a)
+    (filter (λ x. (x.id.router == l.router) && is_up l.files l.failures x) l.addresses)
+    ≡ list_any (λ x. covers x.subnet l.a)
+    (filter (λ x. (x.id.router == l.router) && is_up l.files l.failures x) (drop l.x-index l.addresses))

@@ -8,4 +8,5 @@ use Rattle.net_model.proofs.states.is_up_at.Given as goal
 abbrev pub invariant-loop-x : goal.invariant-loop-x
 invariant-loop-x l =
     list_any (λ x. ((x.id.router == l.i.router) && (x.id.at == l.i.at)) && is_up l.files l.failures x) l.addresses
-    ≡ list_any (λ x. ((x.id.router == l.i.router) && (x.id.at == l.i.at)) && is_up l.files l.failures x) (drop l.x-index l.addresses)
+    ≡ list_any (λ x. ((x.id.router == l.i.router) && (x.id.at == l.i.at)) && is_up l.files l.failures x)
+    (drop l.x-index l.addresses)

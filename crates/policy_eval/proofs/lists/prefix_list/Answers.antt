@@ -7,4 +7,5 @@ pub loop-i-preserved : goal.loop-i-preserved
 loop-i-preserved c =
     c.decider-found.ensures
     ∙ rw (c.takes_prefix-takes.ensures, c.loop-i.invariant)
-    (sym (find_more (λ e. e.seq) (λ e. prefix_taken e c.args.p.now) c.as_slice-entries.result.now c.loop-i.i _ (omega arith) (omega arith)))
+    (sym (find_more (λ e. e.seq) (λ e. prefix_taken e c.args.p.now) c.as_slice-entries.result.now c.loop-i.i _
+    (omega arith) (omega arith)))

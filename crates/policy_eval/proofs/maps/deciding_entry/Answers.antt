@@ -8,4 +8,6 @@ pub loop-i-preserved : goal.loop-i-preserved
 loop-i-preserved c =
     c.decider-found.ensures
     ∙ rw (c.takes_route-takes.ensures, c.loop-i.invariant)
-    (sym (find_read (λ e. e.seq) (route_taken c.args.policies.now c.args.p.now (attributes_of c.args.rec.now)) c.as_slice-entries.result.now c.loop-i.i _ (omega arith) (omega arith) c.index-entries-i.is))
+    (sym (find_read (λ e. e.seq)
+    (route_taken c.args.policies.now c.args.p.now (attributes_of c.args.rec.now)) c.as_slice-entries.result.now
+    c.loop-i.i _ (omega arith) (omega arith) c.index-entries-i.is))

@@ -6,7 +6,8 @@ use Rattle.proto_bgp.proofs.decision.survivors.Goals as goal
 
 pub returns-then-not-is_compared-clause-survive : goal.returns-then-not-is_compared-clause-survive
 returns-then-not-is_compared-clause-survive c =
-    early_law c.args.always_compare c.args.compare_id c.args.candidates.now c.in_ok-all.all.items c.in_ok-left.left.items
+    early_law c.args.always_compare c.args.compare_id c.args.candidates.now c.in_ok-all.all.items
+    c.in_ok-left.left.items
     c.in_ok-all.ensures.every c.in_ok-left.ensures (cc)
 
 pub returns-then-not-is_compared-clause-places : goal.returns-then-not-is_compared-clause-places

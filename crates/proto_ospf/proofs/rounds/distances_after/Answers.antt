@@ -8,5 +8,7 @@ pub returns-then-are_same : goal.returns-then-are_same
 returns-then-are_same c =
     let same = c.are_same.ensures.0 c.if-are_same.true in
     let after = c.in_ok-after.ensures in
-    let fixed : map (nearest c.args.own.now c.loop.before) c.args.receivers.now ≡ c.loop.before = grind (arith, same, after) in
-    sym (rounds_stay c.args.own.now c.args.receivers.now c.loop.before c.loop.counter c.args.most c.loop.invariant fixed (omega arith))
+    let fixed : map (nearest c.args.own.now c.loop.before) c.args.receivers.now
+    ≡ c.loop.before = grind (arith, same, after) in
+    sym (rounds_stay c.args.own.now c.args.receivers.now c.loop.before c.loop.counter c.args.most c.loop.invariant
+    fixed (omega arith))

@@ -7,5 +7,7 @@ use Rattle.proto_ospf.proofs.states.up_adjacencies.Given as goal
 abbrev pub invariant-loop-a : goal.invariant-loop-a
 invariant-loop-a l =
     l.up-inside.items.items
-    ++ filter (λ a. (a.from.router == l.router) && (is_up_at l.net l.failures a.from && is_up_at l.net l.failures a.to)) (drop l.a-index (adjacencies l.net))
-    ≡ filter (λ a. (a.from.router == l.router) && (is_up_at l.net l.failures a.from && is_up_at l.net l.failures a.to)) (adjacencies l.net)
+    ++ filter (λ a. (a.from.router == l.router)
+    && (is_up_at l.net l.failures a.from && is_up_at l.net l.failures a.to)) (drop l.a-index (adjacencies l.net))
+    ≡ filter (λ a. (a.from.router == l.router)
+    && (is_up_at l.net l.failures a.from && is_up_at l.net l.failures a.to)) (adjacencies l.net)

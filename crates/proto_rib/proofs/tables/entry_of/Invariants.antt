@@ -7,5 +7,6 @@ use Rattle.proto_rib.proofs.tables.entry_of.Given as goal
 -- the best candidate so far, and the static routes that are left
 abbrev pub invariant-loop-route : goal.invariant-loop-route
 invariant-loop-route l =
-    fold closer l.best (map (λ route. record { source = Static; distance = route.distance }) (static_routes l.up (drop l.route-index l.statics) l.p))
+    fold closer l.best (map (λ route. record { source = Static; distance = route.distance })
+    (static_routes l.up (drop l.route-index l.statics) l.p))
     ≡ least_distance (candidates l.up l.statics l.p)

@@ -11,11 +11,14 @@ loop-place-preserved c =
     let before = c.loop-place.slots-inside.items.items in
     let items = c.in_ok-push.ensures.items in
     let here : IsSlotAt files c.args.d (length before) c.in_ok-slot.slot =
-    slot_here files c.routers-routers.result.now c.args.d c.addresses.result.now c.loop-place.place (length before) c.index-routers-router.result
-    c.prefix_of-p.result c.in_ok-slot.slot c.routers-routers.ensures.all c.addresses.ensures c.index-routers-router.is c.prefix_of-p.ensures
+    slot_here files c.routers-routers.result.now c.args.d c.addresses.result.now c.loop-place.place
+    (length before) c.index-routers-router.result
+    c.prefix_of-p.result c.in_ok-slot.slot c.routers-routers.ensures.all c.addresses.ensures c.index-routers-router.is
+    c.prefix_of-p.ensures
     c.in_ok-slot.ensures c.loop-place.invariant.0 in (
       search rules,
-      λ k slot found. each_place-push (IsSlotAt files c.args.d) before c.in_ok-slot.slot c.loop-place.invariant.1 here k slot
+      λ k slot found. each_place-push
+          (IsSlotAt files c.args.d) before c.in_ok-slot.slot c.loop-place.invariant.1 here k slot
           (sym (ap (λ xs. slice_get xs k) items) ∙ found),
     )
 

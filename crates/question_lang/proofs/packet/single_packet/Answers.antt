@@ -7,7 +7,15 @@ use Rattle.question_lang.proofs.packet.single_packet.Goals as goal
 pub returns-clause-inside : goal.returns-clause-inside
 returns-clause-inside c =
     let set = c.args.set.now in
-    let packet : Packet = record { src = set.src.addr; dst = set.dst.addr; proto = c.in-Some.proto; sport = set.sport.0; dport = set.dport.0 } in
+    let packet : Packet =
+    record {
+      src = set.src.addr;
+      dst = set.dst.addr;
+      proto = c.in-Some.proto;
+      sport = set.sport.0;
+      dport =
+          set.dport.0;
+    } in
     let ranges : IsPacket packet = subst IsPacket c.packet_of.ensures.fields c.packet_of.ensures.ranges in
     let ports = both_ports set c.in-Some.proto c.in-Some.is c.requires in
     let source = one_port c.in-Some.proto set.sport ports.0 in

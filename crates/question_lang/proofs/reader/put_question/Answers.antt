@@ -7,4 +7,5 @@ use Rattle.question_lang.proofs.reader.put_question.Goals as goal
 pub returns-clause-reach : goal.returns-clause-reach
 returns-clause-reach c routers reach one k question found =
     each_place-push (λ _ q. IsReach routers q) c.args.questions c.args.question reach one k question
-    (sym (ap (λ xs. slice_get xs k) (c.in_ok-push.ensures.items ∙ ap (λ xs. xs ++ c.args.question ∷ []) c.questions.view_is)) ∙ found)
+    (sym (ap (λ xs. slice_get xs k) (c.in_ok-push.ensures.items
+    ∙ ap (λ xs. xs ++ c.args.question ∷ []) c.questions.view_is)) ∙ found)

@@ -5,7 +5,8 @@ use Rattle.question_lang.specs.Asking.{next_asked}
 use Rattle.question_lang.proofs.reader.read_all.Goals as goal
 
 pub loop-line-init : goal.loop-line-init
-loop-line-init c = rw c.new-questions.ensures (read-none (next_asked c.args.net.now) [], λ k question found. absurd cc, omega arith)
+loop-line-init c = rw c.new-questions.ensures
+    (read-none (next_asked c.args.net.now) [], λ k question found. absurd cc, omega arith)
 
 pub returns-in_err-questions-clause-refused : goal.returns-in_err-questions-clause-refused
 returns-in_err-questions-clause-refused c =

@@ -13,7 +13,9 @@ returns-then-ne c = λ r shows.
     let one = rw c.in-Some.is at c.loop-lit.invariant in
     two_found (met m d) pivot c.opposite-met.result
     (met-later m d c.loop-lit.lit-index pivot one.there)
-    (met-at m d c.loop-lit.lit-index (record { var = 0; negated = false }) c.opposite-met.result c.loop-lit-test.true c.opposite-met.ensures (sym c.if-has.ensures))
+    (met-at m d c.loop-lit.lit-index
+    (record { var = 0; negated = false }) c.opposite-met.result c.loop-lit-test.true c.opposite-met.ensures
+    (sym c.if-has.ensures))
     (not-true _ (sym c.if-ne.ensures))
     ∙ the_one-met m r d shows
 

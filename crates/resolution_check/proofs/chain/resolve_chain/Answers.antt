@@ -10,8 +10,10 @@ pub loop-i-init : goal.loop-i-init
 loop-i-init c =
     let lits = c.in-Some-find.clause.now.lits in (
       lits,
-      (λ l. c.in_ok-mark_all.ensures l ∙ ap (λ b. has c.as_slice.result.now l || b) (c.new-marks.ensures l) ∙ or-false _ ∙ ap (λ d. has d l) c.as_slice.ensures),
-      begins (held_on c.args.shelf.now) c.in-Some.first.now c.in-Some-find.clause.now c.in-Some.others.now c.args.chain.now c.in-Some.ensures.cases.0 (sym c.in-Some-find.ensures),
+      (λ l. c.in_ok-mark_all.ensures l ∙ ap (λ b. has c.as_slice.result.now l || b) (c.new-marks.ensures l)
+          ∙ or-false _ ∙ ap (λ d. has d l) c.as_slice.ensures),
+      begins (held_on c.args.shelf.now) c.in-Some.first.now c.in-Some-find.clause.now c.in-Some.others.now
+          c.args.chain.now c.in-Some.ensures.cases.0 (sym c.in-Some-find.ensures),
     )
 
 pub loop-i-preserved : goal.loop-i-preserved

@@ -9,7 +9,8 @@ pub returns : goal.returns
 returns c = λ r shows.
     let lits = c.in-Some.clause.now.lits in
     let pivot = c.in-Some-find_pivot.pivot in
-    next_shown (held_on c.args.shelf.now) c.args.marks.now c.mark_without.new.marks r c.args.at c.args.id c.in-Some.clause.now pivot
+    next_shown (held_on c.args.shelf.now) c.args.marks.now c.mark_without.new.marks r c.args.at c.args.id
+    c.in-Some.clause.now pivot
     (sym c.in-Some.ensures)
     (c.in-Some-find_pivot.ensures r shows ∙ ap (λ d. the_one (clashing r d)) c.as_slice-lits.ensures)
     shows

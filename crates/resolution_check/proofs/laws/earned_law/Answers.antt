@@ -5,4 +5,5 @@ use Rattle.resolution_check.proofs.laws.earned_law.Goals as goal
 
 pub returns : goal.returns
 returns c =
-    λ es id clause chain earned other held is_held same. false≢true (sym (earned.smallest other held is_held) ∙ inside-same held.lits clause.lits same)
+    λ es id clause chain earned other held is_held same. false≢true (sym (earned.smallest other held is_held)
+    ∙ inside-same held.lits clause.lits same)

@@ -5,4 +5,8 @@ use Rattle.resolution_check.proofs.reading.finish.Goals as goal
 
 pub returns-in-Some : goal.returns-in-Some
 returns-in-Some c =
-    inr (refl, ap (λ r. finished (words_left r) c.args.entry) c.in-Some.is ∙ not_finished c.in-Some.field-0.now c.args.entry)
+    inr (
+      refl,
+      ap (λ r. finished (words_left r) c.args.entry) c.in-Some.is
+          ∙ not_finished c.in-Some.field-0.now c.args.entry,
+    )

@@ -16,7 +16,8 @@ returns-in_ok-write_number-in-Input c =
     ∙ ap (λ s. s ++ after_space (decimal id)) c.in_ok-push_str-in-Input.ensures.bytes in
     on_ok_weaker c.write_lits.result (λ e. e
     ∙ ap (λ s. (s ++ flat_map after_space (map lit_text c.as_slice.result.now)) ++ after_space zero_text) head
-    ∙ ap (λ d. (((old ++ codes "i") ++ after_space (decimal id)) ++ flat_map after_space (map lit_text d)) ++ after_space zero_text) c.as_slice.ensures
+    ∙ ap (λ d. (((old ++ codes "i") ++ after_space (decimal id)) ++ flat_map after_space (map lit_text d))
+    ++ after_space zero_text) c.as_slice.ensures
     ∙ input_written old id c.in-Input.clause
     ∙ ap (λ d. old ++ text_of d) (sym c.in-Input.is)) c.write_lits.ensures
 
@@ -29,9 +30,12 @@ returns-in_ok-write_lits-in-Add c =
     ∙ ap (λ s. s ++ after_space (decimal id)) c.in_ok-push_str-in-Add.ensures.bytes in
     let lits = c.in_ok-write_lits-in-Add.ensures
     ∙ ap (λ s. (s ++ flat_map after_space (map lit_text c.as_slice-in-Add.result.now)) ++ after_space zero_text) head
-    ∙ ap (λ d. (((old ++ codes "a") ++ after_space (decimal id)) ++ flat_map after_space (map lit_text d)) ++ after_space zero_text) c.as_slice-in-Add.ensures in
+    ∙ ap (λ d. (((old ++ codes "a") ++ after_space (decimal id)) ++ flat_map after_space (map lit_text d))
+    ++ after_space zero_text) c.as_slice-in-Add.ensures in
     on_ok_weaker c.write_chain.result (λ e. e
     ∙ ap (λ s. (s ++ flat_map after_space (map decimal c.as_slice-in-Add-2.result.now)) ++ after_space zero_text) lits
-    ∙ ap (λ d. (((((old ++ codes "a") ++ after_space (decimal id)) ++ flat_map after_space (map lit_text c.in-Add.clause.lits)) ++ after_space zero_text) ++ flat_map after_space (map decimal d)) ++ after_space zero_text) c.as_slice-in-Add-2.ensures
+    ∙ ap (λ d. (((((old ++ codes "a") ++ after_space (decimal id))
+    ++ flat_map after_space (map lit_text c.in-Add.clause.lits)) ++ after_space zero_text)
+    ++ flat_map after_space (map decimal d)) ++ after_space zero_text) c.as_slice-in-Add-2.ensures
     ∙ addition_written old id c.in-Add.clause c.in-Add.chain
     ∙ ap (λ d. old ++ text_of d) (sym c.in-Add.is)) c.write_chain.ensures

@@ -12,4 +12,5 @@ loop-i-preserved g c =
     c.with_mark-set.ensures
     ∙ ap (λ n. (if c.contains-there.result then 1 else 0) + 2 * n) c.loop-i.invariant
     ∙ rw c.contains-there.ensures.value
-    (sym (marked_more (λ x. list_any (λ y. g.T.PartialEq.eq y x) c.args.held.now) c.args.tracked.now c.loop-i.i c.index-tracked-i.result (omega arith) (omega arith) c.index-tracked-i.is))
+    (sym (marked_more (λ x. list_any (λ y. g.T.PartialEq.eq y x) c.args.held.now) c.args.tracked.now c.loop-i.i
+    c.index-tracked-i.result (omega arith) (omega arith) c.index-tracked-i.is))

@@ -12,7 +12,8 @@ returns-in-Some c =
     let Tested : Option Differs → Type 0 = λ found. MatchOption found
     (IsStableAt c.args.net.now c.args.d c.args.failures.now c.args.env.now c.args.tables.now c.loop-place.place)
     (IsDifferenceAt c.args.net.now c.args.d c.args.failures.now c.args.env.now c.args.tables.now c.loop-place.place) in
-    first_at c.args.net.now c.args.d c.args.failures.now c.args.env.now c.args.tables.now c.loop-place.place c.in-Some.found
+    first_at c.args.net.now c.args.d c.args.failures.now c.args.env.now c.args.tables.now c.loop-place.place
+    c.in-Some.found
     (subst Tested c.in-Some.is c.in_ok-found.ensures) c.loop-place.invariant
 
 pub loop-place-preserved : goal.loop-place-preserved

@@ -11,6 +11,7 @@ use Rattle.stable_replay.proofs.decided.is_held.Goals as goal
 pub returns-in-Some : goal.returns-in-Some
 returns-in-Some c =
     let Told : Option BgpRec → Type 0 = λ held.
-    Decides c.some_has.result (decisions.IsHeld (map seen c.args.candidates.now) (candidates_at c.args.candidates.now c.args.left.now) held) in
+    Decides c.some_has.result
+    (decisions.IsHeld (map seen c.args.candidates.now) (candidates_at c.args.candidates.now c.args.left.now) held) in
     subst Told (sym c.in-Some.is)
     (held_decides c.args.candidates.now c.args.left.now c.in-Some.rec c.some_has.result c.some_has.ensures)

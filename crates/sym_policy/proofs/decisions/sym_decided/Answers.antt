@@ -21,8 +21,10 @@ loop-i-preserved c =
           let p = prefix_of w c.args.dst.now c.args.len in
           let route = route_at w c.args.route.now in
           step.value w reads
-          ∙ ap (shape_after policies tracked p external route entry.now) (c.loop-i.invariant.value w (step.builds.reads w reads))
-          ∙ decided_more policies tracked p external route c.args.entries.now c.loop-i.i entry (omega arith) (omega arith) c.index-entries-i.is;
+          ∙ ap (shape_after policies tracked p external route entry.now)
+          (c.loop-i.invariant.value w (step.builds.reads w reads))
+          ∙ decided_more policies tracked p external route c.args.entries.now c.loop-i.i entry (omega arith)
+          (omega arith) c.index-entries-i.is;
     }
 
 pub returns-clause-value : goal.returns-clause-value
@@ -30,5 +32,6 @@ returns-clause-value c = λ w reads.
     let none : c.loop-i.i ≡ 0 = omega arith in
     c.loop-i.invariant.value w reads
     ∙ ap
-    (λ j. shape_decided c.args.policies.now c.args.tracked.now (prefix_of w c.args.dst.now c.args.len) c.args.external (route_at w c.args.route.now) (entries_of (drop j c.args.entries.now)))
+    (λ j. shape_decided c.args.policies.now c.args.tracked.now (prefix_of w c.args.dst.now c.args.len) c.args.external
+    (route_at w c.args.route.now) (entries_of (drop j c.args.entries.now)))
     none

@@ -14,5 +14,6 @@ invariant-loop-i l = record {
   rows : HasRows l.tracked l.rest.route;
   value : (w : Reading) → Reads w l.terms
       → made_at w l.rest
-      ≡ shape_decided l.policies l.tracked (prefix_of w l.dst l.len) l.external (route_at w l.route) (entries_of (drop l.i l.entries));
+      ≡ shape_decided l.policies l.tracked (prefix_of w l.dst l.len) l.external (route_at w l.route)
+      (entries_of (drop l.i l.entries));
 }

@@ -14,11 +14,14 @@ loop-line-preserved c =
       rows = search rules;
       value = λ w reads.
           ap (λ s. set_shapes c.args.tracked.now c.args.external s left) (step.value w reads)
-          ∙ set_shapes_more c.args.tracked.now c.args.external (route_at w c.loop-line.made) c.args.lines.now c.loop-line.line-index c.line-item.result (omega arith) c.line-item.is
+          ∙ set_shapes_more c.args.tracked.now c.args.external
+          (route_at w c.loop-line.made) c.args.lines.now c.loop-line.line-index c.line-item.result
+          (omega arith) c.line-item.is
           ∙ c.loop-line.invariant.value w (step.builds.reads w reads);
     }
 
 pub returns-clause-value : goal.returns-clause-value
 returns-clause-value c = λ w reads.
-    set_shapes_end c.args.tracked.now c.args.external (route_at w c.loop-line.made) c.args.lines.now c.loop-line.line-index (omega arith)
+    set_shapes_end c.args.tracked.now c.args.external
+    (route_at w c.loop-line.made) c.args.lines.now c.loop-line.line-index (omega arith)
     ∙ c.loop-line.invariant.value w reads

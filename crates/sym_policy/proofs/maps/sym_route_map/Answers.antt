@@ -14,7 +14,8 @@ pub returns-clause-value : goal.returns-clause-value
 returns-clause-value c = λ w reads.
     let before = c.in_ok-left.ensures.builds.reads w reads in
     let rec = c.args.rec.now in
-    let map = shape_mapped c.args.policies.now c.args.map.now.entries c.args.tracked.now (prefix_of w c.args.dst.now c.args.len) in
+    let map = shape_mapped c.args.policies.now c.args.map.now.entries c.args.tracked.now
+    (prefix_of w c.args.dst.now c.args.len) in
     c.in_ok-left.ensures.value w reads
     ∙ ap (λ m. if at w rec.bgp.valid then m else None)
     (c.in_ok-made.ensures.value w before
@@ -24,6 +25,8 @@ returns-clause-value c = λ w reads.
 
 pub returns-clause-stands : goal.returns-clause-stands
 returns-clause-stands c = λ w reads r tracked stands short.
-    let map = shape_mapped c.args.policies.now c.args.map.now.entries c.args.tracked.now (prefix_of w c.args.dst.now c.args.len) (at_external c.args.side) in
+    let map = shape_mapped c.args.policies.now c.args.map.now.entries c.args.tracked.now
+    (prefix_of w c.args.dst.now c.args.len) (at_external c.args.side) in
     returns-clause-value c w reads ∙ ap (option_and_then map) stands
-    ∙ shape_mapped-route_shape c.args.policies.now c.args.map.now.entries c.args.tracked.now (prefix_of w c.args.dst.now c.args.len) (at_external c.args.side) r tracked short
+    ∙ shape_mapped-route_shape c.args.policies.now c.args.map.now.entries c.args.tracked.now
+    (prefix_of w c.args.dst.now c.args.len) (at_external c.args.side) r tracked short

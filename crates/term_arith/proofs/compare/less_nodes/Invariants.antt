@@ -9,5 +9,6 @@ invariant-loop-i l = record {
   builds : Builds l.fn.terms l.terms;
   within : l.below.0 < size l.terms;
   value : (w : Reading) → Reads w l.terms
-      → nat_lt (number w (drop l.i l.a)) (number w (drop l.i l.b) + bit (at w l.below)) ≡ nat_lt (number w l.a) (number w l.b);
+      → nat_lt (number w (drop l.i l.a)) (number w (drop l.i l.b) + bit (at w l.below))
+      ≡ nat_lt (number w l.a) (number w l.b);
 }

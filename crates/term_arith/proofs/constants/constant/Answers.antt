@@ -12,7 +12,9 @@ loop-i-preserved c =
       within = grind (arith, common_steps, ids_end_push);
       width = grind (arith, common_steps);
       value =
-          λ w reads. rw c.in_ok-put.ensures (constant_step w c.loop-i.nodes _ c.loop-i.rest _ (node.value w reads) (old.value w (node.builds.reads w reads)));
+          λ w reads. rw c.in_ok-put.ensures
+          (constant_step w c.loop-i.nodes _ c.loop-i.rest _ (node.value w reads)
+          (old.value w (node.builds.reads w reads)));
     }
 
 pub returns-clause-value : goal.returns-clause-value

@@ -30,7 +30,9 @@ loop-node-preserved c =
       value = λ w reads.
           let before = row.builds.reads w reads in
           row.value w reads
-          ∙ rw c.as_slice.ensures (count_step w _ c.loop-node.row c.loop-node.node-index _ _ _ (omega arith) (old.yes_value w before) (old.value w before));
+          ∙ rw c.as_slice.ensures
+          (count_step w _ c.loop-node.row c.loop-node.node-index _ _ _ (omega arith) (old.yes_value w before)
+          (old.value w before));
     }
 
 pub returns-clause-value : goal.returns-clause-value
@@ -39,4 +41,5 @@ returns-clause-value c = λ w reads.
     let old = c.loop-node.invariant in
     few.value w reads
     ∙ rw c.as_slice-2.ensures
-    (count_done w _ c.loop-node.row c.loop-node.node-index _ _ (omega arith) old.width (old.value w (few.builds.reads w reads)))
+    (count_done w _ c.loop-node.row c.loop-node.node-index _ _ (omega arith) old.width
+    (old.value w (few.builds.reads w reads)))

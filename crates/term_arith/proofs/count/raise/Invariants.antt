@@ -11,5 +11,6 @@ invariant-loop-i l = record {
   last_within : l.last.0 < size l.terms;
   width : length l.out ≡ l.i;
   value : (w : Reading) → Reads w l.terms
-      → bits w l.out ++ raised (at w l.last) (at w l.node) (bits w (drop l.i l.row)) ≡ raised (at w l.fn.before) (at w l.node) (bits w l.row);
+      → bits w l.out ++ raised (at w l.last) (at w l.node) (bits w (drop l.i l.row))
+      ≡ raised (at w l.fn.before) (at w l.node) (bits w l.row);
 }

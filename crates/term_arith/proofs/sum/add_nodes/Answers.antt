@@ -13,10 +13,13 @@ loop-i-preserved c =
       carry_within = search rules;
       width = grind (arith, common_steps);
       value =
-          λ w reads. rw c.in_ok-put.ensures (add_step w _ _ c.loop-i.out c.loop-i.i _ _ _ _ _ (omega arith) (omega arith) (sum.value w reads) (old.value w (sum.builds.reads w reads)));
+          λ w reads. rw c.in_ok-put.ensures
+          (add_step w _ _ c.loop-i.out c.loop-i.i _ _ _ _ _ (omega arith) (omega arith) (sum.value w reads)
+          (old.value w (sum.builds.reads w reads)));
     }
 
 pub returns-clause-value : goal.returns-clause-value
 returns-clause-value c =
     λ w reads. rw c.in_ok-put-2.ensures
-    (add_done w c.args.a.now c.args.b.now c.loop-i.out c.loop-i.i _ _ (omega arith) (omega arith) (c.loop-i.invariant.value w reads))
+    (add_done w c.args.a.now c.args.b.now c.loop-i.out c.loop-i.i _ _ (omega arith) (omega arith)
+    (c.loop-i.invariant.value w reads))

@@ -12,5 +12,6 @@ invariant-loop-i l = record {
   carry_within : l.carry.0 < size l.terms;
   width : length l.out ≡ l.i;
   value : (w : Reading) → Reads w l.terms
-      → onto (bits w l.out) (bit (at w l.carry) + number w (drop l.i l.a) + number w (drop l.i l.b)) ≡ number w l.a + number w l.b;
+      → onto (bits w l.out) (bit (at w l.carry) + number w (drop l.i l.a) + number w (drop l.i l.b)) ≡ number w l.a
+      + number w l.b;
 }

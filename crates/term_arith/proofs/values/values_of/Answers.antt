@@ -11,8 +11,14 @@ value_of_node-value-requires c =
 pub loop-number-preserved : goal.loop-number-preserved
 loop-number-preserved c = record {
   found =
-      rw
-      (c.in_ok-push.ensures.items, c.found.view_is, c.value_of_node-value.ensures, c.as_slice.ensures, c.loop-number.invariant.found)
-      (sym (values_of-take c.args.terms.now c.args.values.now c.loop-number.number c.get-node.result c.get-node.ensures.node));
+      rw (
+        c.in_ok-push.ensures.items,
+        c.found.view_is,
+        c.value_of_node-value.ensures,
+        c.as_slice.ensures,
+        c.loop-number.invariant.found,
+      )
+      (sym (values_of-take c.args.terms.now c.args.values.now c.loop-number.number c.get-node.result
+      c.get-node.ensures.node));
   width = grind (arith, common_steps);
 }

@@ -15,7 +15,8 @@ pub rounds-preserved : goal.rounds-preserved
 rounds-preserved c =
     let found = c.in-Some.ensures.found in (
       simp length-set c.rounds.invariant.0,
-      marked_arrives c.args.hops.now c.args.landing.now c.rounds.marks.items c.as_slice.result.now c.in-Some.router c.as_slice.ensures.value
+      marked_arrives c.args.hops.now c.args.landing.now c.rounds.marks.items c.as_slice.result.now c.in-Some.router
+          c.as_slice.ensures.value
           found.0 found.2 c.rounds.invariant.1,
       λ router marked. known_stays c.rounds.marks.items c.in-Some.router router (c.rounds.invariant.2 router marked),
     )

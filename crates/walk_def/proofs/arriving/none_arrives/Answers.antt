@@ -16,10 +16,13 @@ returns-clause-yes c none =
     let K : List Bool → Type 0 = λ first. (router : ℕ) → known first router ≡ true → known marks router ≡ true in
     let S : List (List Hop) → Type 0 = λ all. AreShut all marks in
     let unmarked : known marks c.args.start ≡ false =
-    ap (λ xs. known xs c.args.start) (sym c.as_slice-4.ensures.value) ∙ sym c.is_known.ensures ∙ not-true c.is_known.result none in
-    no_arrival files world target c.in_ok-hops.hops c.in_ok-landing.landing.items marks c.args.start c.in_ok-hops.ensures.len
+    ap (λ xs. known xs c.args.start) (sym c.as_slice-4.ensures.value) ∙ sym c.is_known.ensures
+    ∙ not-true c.is_known.result none in
+    no_arrival files world target c.in_ok-hops.hops c.in_ok-landing.landing.items marks c.args.start
+    c.in_ok-hops.ensures.len
     c.in_ok-hops.ensures.sent (subst L c.as_slice.ensures c.in_ok-landing.ensures.landing)
-    (subst K c.as_slice-3.ensures.value c.arriving_from-marks.ensures.kept) (subst S c.as_slice-2.ensures c.arriving_from-marks.ensures.shut)
+    (subst K c.as_slice-3.ensures.value c.arriving_from-marks.ensures.kept)
+    (subst S c.as_slice-2.ensures c.arriving_from-marks.ensures.shut)
     unmarked
 
 pub returns-clause-no : goal.returns-clause-no
@@ -32,7 +35,8 @@ returns-clause-no c some =
     let A : List (List Hop) → Type 0 = λ all. AreArriving all c.as_slice-3.result.now marks in
     let B : List Bool → Type 0 = λ first. AreArriving c.in_ok-hops.hops first marks in
     let marked : known marks c.args.start ≡ true =
-    ap (λ xs. known xs c.args.start) (sym c.as_slice-4.ensures.value) ∙ sym c.is_known.ensures ∙ not-false c.is_known.result some in
+    ap (λ xs. known xs c.args.start) (sym c.as_slice-4.ensures.value) ∙ sym c.is_known.ensures
+    ∙ not-false c.is_known.result some in
     some_arrives files world target c.in_ok-hops.hops c.in_ok-landing.landing.items marks c.args.start
     c.in_ok-hops.ensures.sent (subst L c.as_slice.ensures c.in_ok-landing.ensures.landing)
     (subst B c.as_slice-3.ensures.value (subst A c.as_slice-2.ensures c.arriving_from-marks.ensures.sound))

@@ -14,7 +14,8 @@ pub rounds-preserved : goal.rounds-preserved
 rounds-preserved c =
     let found = c.in-Some.ensures.found in (
       simp length-set c.rounds.invariant.0,
-      marked_safe c.args.hops.now c.args.target c.in-Some.router c.rounds.safe.items c.as_slice.result.now c.as_slice.ensures.value
+      marked_safe c.args.hops.now c.args.target c.in-Some.router c.rounds.safe.items c.as_slice.result.now
+          c.as_slice.ensures.value
           found.0 found.2 c.rounds.invariant.1,
     )
 
@@ -22,5 +23,6 @@ pub rounds-init : goal.rounds-init
 rounds-init c =
     let none = c.in_ok-safe.ensures in (
       unmarked-length c.in_ok-safe.safe.items (length c.args.hops.now) none,
-      λ hops lists router marked. unmarked (Safe hops c.args.target router) c.in_ok-safe.safe.items (length c.args.hops.now) router none marked,
+      λ hops lists router marked. unmarked (Safe hops c.args.target router) c.in_ok-safe.safe.items
+          (length c.args.hops.now) router none marked,
     )

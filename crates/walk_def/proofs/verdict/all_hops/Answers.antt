@@ -12,6 +12,7 @@ loop-at-preserved c =
     sent_here files c.args.world.now c.loop-at.at (length before) c.in_ok-list_hops.field-0
     c.in_ok-list_hops.ensures c.loop-at.invariant.0 in (
       search rules,
-      λ k hops found. each_place-push (IsSent files c.args.world.now) before c.in_ok-list_hops.field-0 c.loop-at.invariant.1 here k hops
+      λ k hops found. each_place-push
+          (IsSent files c.args.world.now) before c.in_ok-list_hops.field-0 c.loop-at.invariant.1 here k hops
           (sym (ap (λ xs. slice_get xs k) c.in_ok-push.ensures.items) ∙ found),
     )

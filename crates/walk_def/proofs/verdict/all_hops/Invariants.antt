@@ -8,4 +8,5 @@ use Rattle.walk_def.proofs.verdict.all_hops.Given as goal
 abbrev pub invariant-loop-at : goal.invariant-loop-at
 invariant-loop-at l =
     (length l.hops-inside.items.items ≡ l.at) ×
-    ((router : ℕ) (own : List Hop) → slice_get l.hops-inside.items.items router ≡ Some own → IsSent l.net l.world router own)
+    ((router : ℕ) (own : List Hop) → slice_get l.hops-inside.items.items router ≡ Some own
+    → IsSent l.net l.world router own)

@@ -7,4 +7,5 @@ pub invariant_of-self-2 : goal.invariant_of-self-2
 invariant_of-self-2 c =
     subst (λ ss. IsSound ss (set c.self.inside.values.items c.args.step.lit.var (Some (not c.args.step.lit.negated))))
     (sym c.in_ok-push.ensures.items)
-    (sound_push c.self.inside.steps.items c.self.inside.values.items c.args.step (search rules) (search rules) c.self.invariant)
+    (sound_push c.self.inside.steps.items c.self.inside.values.items c.args.step (search rules)
+    (search rules) c.self.invariant)

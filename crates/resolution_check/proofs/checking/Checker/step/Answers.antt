@@ -12,4 +12,5 @@ returns-clause-refused c = refused c.args.self.now c.args.entry c.accept.result 
 
 pub returns-clause-exact : goal.returns-clause-exact
 returns-clause-exact c =
-    λ es h good. only_memory c.args.self.now es c.args.entry c.accept.result h (each_last KeepsGood es c.args.entry good) c.accept.ensures.judged
+    λ es h good. only_memory c.args.self.now es c.args.entry c.accept.result h
+    (each_last KeepsGood es c.args.entry good) c.accept.ensures.judged

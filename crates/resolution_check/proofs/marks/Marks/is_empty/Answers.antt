@@ -6,7 +6,8 @@ use Rattle.resolution_check.proofs.marks.Marks.is_empty.Goals as goal
 
 pub returns-then-is_empty : goal.returns-then-is_empty
 returns-then-is_empty c = (
-  (λ e. none_marked c.args.self.now (nil_from_length _ (c.if-is_empty.ensures.0 refl)) (nil_from_length _ (c.is_empty-then-is_empty.ensures.0 e))),
+  (λ e. none_marked c.args.self.now (nil_from_length _ (c.if-is_empty.ensures.0 refl))
+      (nil_from_length _ (c.is_empty-then-is_empty.ensures.0 e))),
   (λ h. c.is_empty-then-is_empty.ensures.1 (ap length (no_variables c.args.self.now h).1)),
 )
 
