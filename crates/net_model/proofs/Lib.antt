@@ -1,4 +1,6 @@
 pub mod Order
+pub mod Ascending
+pub mod FewLinks
 pub mod Defined
 pub mod LeastWalks
 pub mod Peers

@@ -1,6 +1,6 @@
 -- Ends of BGP sessions (RFC 4271, section 8; Cisco IOS, `neighbor remote-as` and `neighbor update-source`).
 use Rattle.std.specs.Prelude.{ℕ, ◌+◌, ◌==◌, ◌&&◌, ◌||◌, Bool, true, false, not, List, [], ◌∷◌, ◌++◌, filter, is_some}
-use Rattle.std.specs.Prelude.{length, map, position, slice_get, Option, option_and_then, unwrap_or, if◌then◌else◌}
+use Rattle.std.specs.Prelude.{map, position, slice_get, Option, option_and_then, unwrap_or, if◌then◌else◌}
 use Rattle.std.specs.List.{find, list_any}
 use Rattle.std.specs.Option.{option_map_or}
 use Rattle.mw_text.specs.Address.{covers, same_prefix}
