@@ -1,3 +1,4 @@
+pub mod Limits
 pub mod Deciding
 pub mod Prefixes
 pub mod Communities

@@ -1,3 +1,4 @@
 pub mod Leasts
 pub mod MaskLengths
 pub mod Openings
+pub mod KeptEntries

@@ -8,7 +8,7 @@ use Rattle.ios_policy_reader.specs.declared.edges.Takes.TheVariants.{End, Key, N
 use Rattle.ios_policy_reader.specs.declared.edges.Takes.TheVariants.{ListName, RouterName, Interface, AnyAddress}
 use Rattle.ios_policy_reader.specs.declared.edges.Takes.TheVariants.{ClassAddress, Mask}
 use Rattle.ios_policy_reader.specs.declared.edges.Takes.TheVariants.{MaskOver, AnyPrefix, AnyCommunity, AnyPort}
-use Rattle.ios_policy_reader.specs.declared.edges.Takes.TheVariants.{AnyPattern}
+use Rattle.ios_policy_reader.specs.declared.edges.Takes.TheVariants.{AnyPattern, AnyPorts}
 use Rattle.ios_policy_reader.specs.declared.edges.Takes.TheVariants.{Once, PortKey, PortFrom, LengthFrom}
 use Rattle.ios_policy_reader.specs.Masks.{length_below}
 use Rattle.ios_policy_reader.specs.Words.{port_of}
@@ -42,6 +42,7 @@ open_says MaskOver said at h = rw (eq-eqb _ _ (whole (address_said said).0)) ref
 open_says AnyPrefix said at h = refl
 open_says AnyCommunity said at h = refl
 open_says AnyPort said at h = h
+open_says AnyPorts said at h = h
 open_says AnyPattern said at h = refl
 open_says (Once key tag) said at h = absurd (false≢true h)
 open_says (PortKey key n) said at h = absurd (false≢true h)

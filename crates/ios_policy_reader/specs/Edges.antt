@@ -10,19 +10,20 @@ use Rattle.ios_policy_reader.specs.declared.cause.Cause.{Cause}
 use Rattle.ios_policy_reader.specs.declared.cause.Cause.TheVariants.{BadWord}
 use Rattle.ios_policy_reader.specs.declared.said.Value.{Value}
 use Rattle.ios_policy_reader.specs.declared.said.Value.TheVariants.{Nothing, Number, Address, Length, Prefix, Pattern}
-use Rattle.ios_policy_reader.specs.declared.said.Value.TheVariants.{Word}
+use Rattle.ios_policy_reader.specs.declared.said.Value.TheVariants.{Ports, Word}
 use Rattle.ios_policy_reader.specs.declared.said.Said.{Said}
 use Rattle.ios_policy_reader.specs.declared.edges.Takes.{Takes}
 use Rattle.ios_policy_reader.specs.declared.edges.Takes.TheVariants.{End, Key, Named, Any, Range, AnyName, ListName}
 use Rattle.ios_policy_reader.specs.declared.edges.Takes.TheVariants.{RouterName, Interface, AnyAddress, ClassAddress}
 use Rattle.ios_policy_reader.specs.declared.edges.Takes.TheVariants.{Mask, MaskOver, AnyPrefix, AnyCommunity, AnyPort}
-use Rattle.ios_policy_reader.specs.declared.edges.Takes.TheVariants.{AnyPattern, Once, PortKey, PortFrom, LengthFrom}
+use Rattle.ios_policy_reader.specs.declared.edges.Takes.TheVariants.{AnyPorts, AnyPattern, Once, PortKey, PortFrom}
+use Rattle.ios_policy_reader.specs.declared.edges.Takes.TheVariants.{LengthFrom}
 use Rattle.ios_policy_reader.specs.declared.edges.Edge.{Edge}
 use Rattle.ios_policy_reader.specs.declared.edges.Way.{Way}
 use Rattle.ios_policy_reader.specs.Masks.{mask_from, prefix_under}
 use Rattle.ios_policy_reader.specs.Names.{is_name, is_list_name, is_hostname, is_interface}
 use Rattle.ios_policy_reader.specs.Patterns.{pattern_of}
-use Rattle.ios_policy_reader.specs.Words.{is_key, number_from, community_of, port_of, port_from}
+use Rattle.ios_policy_reader.specs.Words.{is_key, number_from, community_of, port_of, port_from, ports_of}
 use Rattle.ios_policy_reader.specs.Said.{number_under, least_length, has_ports, address_said, is_classful, has_said}
 
 -- ---- one word
@@ -66,6 +67,7 @@ said_by (Mask least) said at word = option_map (λ n. Length n) (mask_from least
 said_by AnyPrefix said at word = option_map (λ p. Prefix p) (prefix_of_text word)
 said_by AnyCommunity said at word = option_map (λ n. Number n) (community_of word)
 said_by AnyPort said at word = option_map (λ n. Number n) (port_of word)
+said_by AnyPorts said at word = option_map (λ p. Ports p.0 p.1) (ports_of word)
 said_by AnyPattern said at word = option_map (λ p. Pattern p) (pattern_of word)
 said_by MaskOver said at word = said_back MaskOver said word
 said_by (Once key tag) said at word = said_back (Once key tag) said word

@@ -8,7 +8,8 @@ use Rattle.ios_policy_reader.specs.declared.edges.Takes.{Takes}
 use Rattle.ios_policy_reader.specs.declared.edges.Takes.TheVariants.{End, Key, Named, Range, AnyName, ListName}
 use Rattle.ios_policy_reader.specs.declared.edges.Takes.TheVariants.{RouterName, Interface, AnyAddress, ClassAddress}
 use Rattle.ios_policy_reader.specs.declared.edges.Takes.TheVariants.{Mask, MaskOver, AnyPrefix, AnyCommunity, AnyPort}
-use Rattle.ios_policy_reader.specs.declared.edges.Takes.TheVariants.{AnyPattern, Once, PortKey, PortFrom, LengthFrom}
+use Rattle.ios_policy_reader.specs.declared.edges.Takes.TheVariants.{AnyPorts, AnyPattern, Once, PortKey, PortFrom}
+use Rattle.ios_policy_reader.specs.declared.edges.Takes.TheVariants.{LengthFrom}
 use Rattle.ios_policy_reader.specs.declared.edges.Edge.{Edge}
 use Rattle.ios_policy_reader.specs.Words.{keyword_of}
 use Rattle.ios_policy_reader.specs.Edges.{said_by, may_end, read_from}
@@ -59,6 +60,7 @@ sample MaskOver = codes "255.255.255.255"
 sample AnyPrefix = codes "0.0.0.0/0"
 sample AnyCommunity = codes "0"
 sample AnyPort = codes "0"
+sample AnyPorts = codes "any"
 sample AnyPattern = codes "^$"
 sample (PortFrom tag) = codes "65535"
 sample LengthFrom = codes "32"

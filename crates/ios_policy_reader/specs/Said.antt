@@ -16,10 +16,11 @@ use Rattle.ios_policy_reader.specs.declared.said.Tag.TheVariants.{Leaving, Dista
 use Rattle.ios_policy_reader.specs.declared.said.Tag.TheVariants.{Metric, MetricType, Subnets, Map, Always, Match}
 use Rattle.ios_policy_reader.specs.declared.said.Tag.TheVariants.{Remote, UpdateSource, NextHopSelf, Client}
 use Rattle.ios_policy_reader.specs.declared.said.Tag.TheVariants.{SendCommunity, Weight, Shutdown, PrefixList}
-use Rattle.ios_policy_reader.specs.declared.said.Tag.TheVariants.{FilterList}
+use Rattle.ios_policy_reader.specs.declared.said.Tag.TheVariants.{FilterList, Start, Entering, Router, Subnet, Peer}
+use Rattle.ios_policy_reader.specs.declared.said.Tag.TheVariants.{Waypoint, OtherStart, Hops, Failures}
 use Rattle.ios_policy_reader.specs.declared.said.Value.{Value}
 use Rattle.ios_policy_reader.specs.declared.said.Value.TheVariants.{Nothing, Number, Address, Length, Prefix, Pattern}
-use Rattle.ios_policy_reader.specs.declared.said.Value.TheVariants.{Word}
+use Rattle.ios_policy_reader.specs.declared.said.Value.TheVariants.{Ports, Word}
 use Rattle.ios_policy_reader.specs.declared.said.Said.{Said}
 
 -- the place of a tag among the tags
@@ -70,6 +71,15 @@ tag_number Weight = 42
 tag_number Shutdown = 43
 tag_number PrefixList = 44
 tag_number FilterList = 45
+tag_number Start = 46
+tag_number Entering = 47
+tag_number Router = 48
+tag_number Subnet = 49
+tag_number Peer = 50
+tag_number Waypoint = 51
+tag_number OtherStart = 52
+tag_number Hops = 53
+tag_number Failures = 54
 
 abbrev pub number_in : ℕ → Value → ℕ
 number_in otherwise Nothing = otherwise
@@ -78,6 +88,7 @@ number_in otherwise (Address a) = otherwise
 number_in otherwise (Length n) = otherwise
 number_in otherwise (Prefix p) = otherwise
 number_in otherwise (Pattern p) = otherwise
+number_in otherwise (Ports low high) = otherwise
 number_in otherwise (Word at) = otherwise
 
 abbrev pub number_more : Tag → ℕ → Said → ℕ
@@ -94,6 +105,7 @@ length_in otherwise (Address a) = otherwise
 length_in otherwise (Length n) = otherwise
 length_in otherwise (Prefix p) = p.len
 length_in otherwise (Pattern p) = otherwise
+length_in otherwise (Ports low high) = otherwise
 length_in otherwise (Word at) = otherwise
 
 abbrev pub length_more : ℕ → Said → ℕ
@@ -118,6 +130,7 @@ address_in otherwise (Address a) = a
 address_in otherwise (Length n) = otherwise
 address_in otherwise (Prefix p) = otherwise
 address_in otherwise (Pattern p) = otherwise
+address_in otherwise (Ports low high) = otherwise
 address_in otherwise (Word at) = otherwise
 
 abbrev pub address_more : Addr → Said → Addr
@@ -141,6 +154,7 @@ prefix_in otherwise (Address a) = otherwise
 prefix_in otherwise (Length n) = otherwise
 prefix_in otherwise (Prefix p) = p
 prefix_in otherwise (Pattern p) = otherwise
+prefix_in otherwise (Ports low high) = otherwise
 prefix_in otherwise (Word at) = otherwise
 
 abbrev pub prefix_more : WrittenPrefix → Said → WrittenPrefix
@@ -157,6 +171,7 @@ pattern_in otherwise (Address a) = otherwise
 pattern_in otherwise (Length n) = otherwise
 pattern_in otherwise (Prefix p) = otherwise
 pattern_in otherwise (Pattern p) = p
+pattern_in otherwise (Ports low high) = otherwise
 pattern_in otherwise (Word at) = otherwise
 
 abbrev pub pattern_more : PathPattern → Said → PathPattern

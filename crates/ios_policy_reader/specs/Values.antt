@@ -8,7 +8,7 @@ use Rattle.ios_policy_reader.specs.declared.said.Tag.{Tag}
 use Rattle.ios_policy_reader.specs.declared.said.Tag.TheVariants.{Name, Number as NumberTag}
 use Rattle.ios_policy_reader.specs.declared.said.Value.{Value}
 use Rattle.ios_policy_reader.specs.declared.said.Value.TheVariants.{Nothing, Number, Address, Length, Prefix, Pattern}
-use Rattle.ios_policy_reader.specs.declared.said.Value.TheVariants.{Word}
+use Rattle.ios_policy_reader.specs.declared.said.Value.TheVariants.{Ports, Word}
 use Rattle.ios_policy_reader.specs.declared.said.Said.{Said}
 use Rattle.ios_policy_reader.specs.Said.{tag_number, number_in}
 
@@ -26,6 +26,7 @@ name_in words (Address a) = []
 name_in words (Length n) = []
 name_in words (Prefix p) = []
 name_in words (Pattern p) = []
+name_in words (Ports low high) = []
 name_in words (Word at) = word_at words at
 
 -- a word that names a list

@@ -1,6 +1,6 @@
 -- Keywords and numbers in configuration lines (Cisco IOS command references).
 use Rattle.std.specs.Prelude.{ℕ, ◌+◌, ◌*◌, ◌==◌, Bool, List, [], ◌∷◌, length, map, take, position, unwrap_or, nat_le}
-use Rattle.std.specs.Prelude.{Option, Some, None, option_and_then, if◌then◌else◌}
+use Rattle.std.specs.Prelude.{Option, Some, None, codes, option_map, option_and_then, if◌then◌else◌}
 use Rattle.std.specs.Option.{option_map_or, option_or}
 use Rattle.std.specs.Char.{to_ascii_lowercase}
 use Rattle.ios_policy_reader.specs.declared.words.PortName.{PortName}
@@ -47,3 +47,16 @@ port_of word = option_or (port_among word PORT_NAMES) (number_from 0 65535 word)
 -- a port that is not below another one
 abbrev pub port_from : ℕ → List ℕ → Option ℕ
 port_from low word = option_and_then (λ n. if nat_le low n then Some n else None) (port_of word)
+
+-- two ports by their numbers, the first not above the second
+abbrev pub port_range : List ℕ × List ℕ → Option (ℕ × ℕ)
+port_range pair =
+    option_and_then
+    (λ low. option_and_then (λ high. if nat_le low high then Some (low, high) else None) (number_of 65535 pair.1))
+    (number_of 65535 pair.0)
+
+-- ports from the first to the second: `any`, one port, or two with '-' between them
+unfoldable pub ports_of : List ℕ → Option (ℕ × ℕ)
+ports_of word =
+    if is_keyword (codes "any") word then Some (0, 65535)
+    else option_map_or port_range (cut_at 45 word) (option_map (λ n. (n, n)) (port_of word))

@@ -4,6 +4,7 @@ ghost use Rattle.std.specs.Prelude.{◌≡◌, ◌==◌, ℕ, ◌<◌, ◌^◌, 
 ghost use Rattle.std.specs.List.{list_any};
 ghost use Rattle.ios_policy_reader.specs.Edges.{said_by, said_back, prefix_by, nothing_where, word_where, address_where, is_end, ends_in, leaves, way_of, may_end};
 ghost use Rattle.ios_policy_reader.specs.Said.{address_said, is_classful};
+ghost use Rattle.ios_policy_reader.specs.declared.said.Value.TheVariants.{Ports};
 
 use crate::masks::{prefix_of_address, read_mask};
 use crate::names::{is_any_name, is_interface_name, is_name_of_list, is_router_name};
@@ -11,7 +12,9 @@ use crate::patterns::read_pattern;
 use crate::said::{
     Said, Tag, Value, has_class, is_said, last_address, least_length_said, number_said, ports_said,
 };
-use crate::words::{is_table_word, read_community, read_port, read_port_from, read_range};
+use crate::words::{
+    is_table_word, read_community, read_port, read_port_from, read_ports, read_range,
+};
 use mw_text::{Addr, read_addr, read_prefix};
 
 /// What a word has to be. Keywords stand in lower case and are filled up with blanks.
@@ -48,6 +51,8 @@ pub enum Takes {
     Once([u8; 22], Tag),
     /// A port by its number or its name.
     AnyPort,
+    /// `any`, a port, or two with `-` between them.
+    AnyPorts,
     /// This word, which stands for a number, where the protocol that was said has ports.
     PortKey([u8; 22], u32),
     /// A port that is not below the one that was said under the tag.
@@ -77,6 +82,13 @@ fn word_if(taken: bool, at: u32) -> Option<Value>
     ensures { result ≡ word_where at taken }
 {
     if taken { Some(Value::Word(at)) } else { None }
+}
+
+fn ports_if(ports: Option<(u16, u16)>) -> Option<Value>
+    ensures { result ≡ option_map (λ p. Ports p.0 p.1) ports }
+{
+    let (low, high) = ports?;
+    Some(Value::Ports(low, high))
 }
 
 fn address_if_class(address: Addr) -> Option<Value>
@@ -151,7 +163,8 @@ fn say(takes: Takes, said: &[Said], at: u32, word: &[u8]) -> Option<Value>
         Takes::AnyPrefix => Some(Value::Prefix(read_prefix(word)?)),
         Takes::AnyCommunity => Some(Value::Number(read_community(word)?)),
         Takes::Mask(least) => Some(Value::Length(read_mask(word, least)?)),
-        Takes::AnyPort => Some(Value::Number(read_port(word)?)),
+        Takes::AnyPort => Some(Value::Number(u32::from(read_port(word)?))),
+        Takes::AnyPorts => ports_if(read_ports(word)),
         Takes::AnyPattern => Some(Value::Pattern(read_pattern(word)?)),
         Takes::MaskOver
         | Takes::Once(_, _)

@@ -2,6 +2,8 @@
 
 ghost use Rattle.std.specs.Prelude.{◌≡◌, ◌≢◌, ◌-◌, ◌<◌, ◌≤◌, ◌^◌, IfOk, IfErr, OnErr, Ok, Err, false, length};
 ghost use Rattle.ios_policy_reader.specs.Heads.{said_in};
+ghost use Rattle.ios_ast.specs.declared.file.TheConstants.{MOST_POLICY_ENTRIES};
+ghost use Rattle.ios_policy_reader.specs.Lists.{policy_entries};
 ghost use Rattle.ios_policy_reader.specs.Policies.{open_line, map_line, taken_in, access_block, map_block, is_top_row, top_line, context_of, put, is_policy_row, said_reading, context_reading, policy_reading};
 
 use crate::access_lists::access_list_place;
@@ -254,7 +256,8 @@ fn refused_at(line: u32, cause: Cause) -> Refused
 
 /// Reads a line of a file into its lists and route maps. True where the line was a policy's, and then it is in
 /// `policies`; else they stay. A top line sets `block` to the access list or the map that it opens, or to none. A line
-/// with a blank before it is read in the open block. After a refusal `block` and `policies` are unchanged.
+/// with a blank before it is read in the open block. After a refusal `block` and `policies` are unchanged. Policies within
+/// the limit of entries stay within it.
 pub fn policy_line(
     alloc: Global,
     line: &Line,
@@ -267,6 +270,7 @@ pub fn policy_line(
     ensures line { IfErr result (λ refused. refused.cause ≢ Cause.Memory → refused.line ≡ line.now.number) }
     ensures unchanged { OnErr result (policies.new ≡ policies.old) }
     ensures same_block { OnErr result (block.new ≡ block.old) }
+    ensures few { IfOk result (λ _. policy_entries policies.old ≤ MOST_POLICY_ENTRIES → policy_entries policies.new ≤ MOST_POLICY_ENTRIES) }
 {
     match read_line(alloc, line, *block, policies) {
         Ok(step) => {

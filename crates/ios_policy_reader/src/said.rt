@@ -65,6 +65,20 @@ pub enum Tag {
     Shutdown,
     PrefixList,
     FilterList,
+    /// The router at which the packets of a question start, and the interface at which they come in there.
+    Start,
+    Entering,
+    /// Where they should, or should not, end: a router, a subnet, or an external peer of the router.
+    Router,
+    Subnet,
+    Peer,
+    /// The router between.
+    Waypoint,
+    /// The second of two routers that are compared.
+    OtherStart,
+    /// The greatest number of hops, and of links that may fail.
+    Hops,
+    Failures,
 }
 
 /// What a word says.
@@ -76,6 +90,8 @@ pub enum Value {
     Length(u8),
     Prefix(Prefix),
     Pattern(Pattern),
+    /// Ports, from the first to the second.
+    Ports(u16, u16),
     /// The word itself, by its place in the line, counted from 0.
     Word(u32),
 }
@@ -87,11 +103,18 @@ pub struct Said {
     pub value: Value,
 }
 
+/// The place of a tag among the tags.
+fn number_of_tag(tag: Tag) -> u8
+    ensures { result ≡ tag_number tag }
+{
+    tag as u8
+}
+
 /// Whether it was said under the tag.
 pub fn is_under(tag: Tag, said: Said) -> bool
     ensures { result ≡ (tag_number said.tag == tag_number tag) }
 {
-    said.tag as u8 == tag as u8
+    number_of_tag(said.tag) == number_of_tag(tag)
 }
 
 /// The number that this is, if it is one.

@@ -20,8 +20,8 @@ fn digits_of(alloc: Global, number: u32) -> Result<List<u8>, AllocError>
     })
 }
 
-/// The word of a line at a place, counted from 0.
-fn word_at(words: &[List<u8>], at: u32) -> &[u8]
+/// The word of a line at a place, counted from 0. No bytes where there is none.
+pub fn word_at(words: &[List<u8>], at: u32) -> &[u8]
     ensures { result.now ≡ Rattle.ios_policy_reader.specs.Values.word_at words.now at }
 {
     match words.get(at as usize) {

@@ -2,7 +2,7 @@
 
 ghost use Rattle.std.specs.Prelude.{◌≡◌, ◌==◌, ℕ, ◌≤◌, map, length, position};
 ghost use Rattle.std.specs.Char.{to_ascii_lowercase};
-ghost use Rattle.ios_policy_reader.specs.Words.{is_keyword, keyword_of, is_key, number_from, community_of, port_among, port_of, port_from};
+ghost use Rattle.ios_policy_reader.specs.Words.{is_keyword, keyword_of, is_key, number_from, community_of, port_among, port_of, port_from, port_range, ports_of};
 
 use mw_text::digits::cut;
 use mw_text::read_number;
@@ -73,7 +73,7 @@ pub fn read_community(word: &[u8]) -> Option<u32>
 
 /// The name of a port, filled up with blanks, and the port.
 #[derive(Clone, Copy, Debug)]
-pub struct PortName(pub [u8; 16], pub u32);
+pub struct PortName(pub [u8; 16], pub u16);
 
 /// The ports that have names (IANA).
 pub const PORT_NAMES: [PortName; 11] = [
@@ -91,7 +91,7 @@ pub const PORT_NAMES: [PortName; 11] = [
 ];
 
 /// The port of a name among these.
-fn find_port(names: &[PortName], word: &[u8]) -> Option<u32>
+fn find_port(names: &[PortName], word: &[u8]) -> Option<u16>
     ensures { result ≡ port_among word.now names.now }
 {
     for name in names {
@@ -104,12 +104,12 @@ fn find_port(names: &[PortName], word: &[u8]) -> Option<u32>
 
 /// The port that a number or a name writes.
 #[tactic(auto, unfolding(crate::specs::Words::port_of))]
-pub fn read_port(word: &[u8]) -> Option<u32>
+pub fn read_port(word: &[u8]) -> Option<u16>
     ensures { result ≡ port_of word.now }
 {
     match find_port(&PORT_NAMES, word) {
         Some(port) => Some(port),
-        None => read_range(word, 0, 65_535),
+        None => Some(read_number(word, 65_535)? as u16),
     }
 }
 
@@ -117,6 +117,33 @@ pub fn read_port(word: &[u8]) -> Option<u32>
 pub fn read_port_from(word: &[u8], low: u32) -> Option<u32>
     ensures { result ≡ port_from low word.now }
 {
-    let port = read_port(word)?;
+    let port = u32::from(read_port(word)?);
     if port >= low { Some(port) } else { None }
+}
+
+/// The ports from the number that the one word writes to that of the other, which is not below it.
+fn read_port_range(low: &[u8], high: &[u8]) -> Option<(u16, u16)>
+    ensures { result ≡ port_range (low.now, high.now) }
+{
+    let low = read_number(low, 65_535)? as u16;
+    let high = read_number(high, 65_535)? as u16;
+    if low <= high { Some((low, high)) } else { None }
+}
+
+/// The ports that a word writes: `any`, one by its number or its name, or two numbers with `-` between them, the first
+/// not above the second.
+#[tactic(auto, unfolding(crate::specs::Words::ports_of))]
+pub fn read_ports(word: &[u8]) -> Option<(u16, u16)>
+    ensures { result ≡ ports_of word.now }
+{
+    if is_word(word, b"any") {
+        return Some((0, 65_535));
+    }
+    match cut(word, b'-') {
+        Some((low, high)) => read_port_range(low, high),
+        None => {
+            let port = read_port(word)?;
+            Some((port, port))
+        }
+    }
 }

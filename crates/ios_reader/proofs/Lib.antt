@@ -1,2 +1,4 @@
 pub mod Carets
+pub mod KeptLimits
 pub mod LineByLine
+pub mod SaidCosts

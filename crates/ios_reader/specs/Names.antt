@@ -6,7 +6,7 @@ use Rattle.ios_policy_reader.specs.declared.said.Tag.{Tag}
 use Rattle.ios_policy_reader.specs.declared.said.Tag.TheVariants.{Map}
 use Rattle.ios_policy_reader.specs.declared.said.Value.{Value}
 use Rattle.ios_policy_reader.specs.declared.said.Value.TheVariants.{Nothing, Number, Address, Length, Prefix, Pattern}
-use Rattle.ios_policy_reader.specs.declared.said.Value.TheVariants.{Word}
+use Rattle.ios_policy_reader.specs.declared.said.Value.TheVariants.{Ports, Word}
 use Rattle.ios_policy_reader.specs.declared.said.Said.{Said}
 use Rattle.ios_policy_reader.specs.Said.{tag_number, has_said}
 
@@ -17,6 +17,7 @@ place_in otherwise (Address a) = otherwise
 place_in otherwise (Length n) = otherwise
 place_in otherwise (Prefix p) = otherwise
 place_in otherwise (Pattern p) = otherwise
+place_in otherwise (Ports low high) = otherwise
 place_in otherwise (Word at) = at
 
 abbrev pub place_more : Tag → ℕ → Said → ℕ
@@ -48,6 +49,7 @@ length_in otherwise (Address a) = otherwise
 length_in otherwise (Length n) = n
 length_in otherwise (Prefix p) = otherwise
 length_in otherwise (Pattern p) = otherwise
+length_in otherwise (Ports low high) = otherwise
 length_in otherwise (Word at) = otherwise
 
 abbrev pub length_more : Tag → ℕ → Said → ℕ

@@ -8,7 +8,7 @@ ghost use Rattle.ios_reader.specs.Bgp.{new_bgp, class_length, network_prefix, ne
 use crate::names::{map_said, mask_length_said};
 use crate::ospf::{metric_said, source_said};
 use ios_ast::{Bgp, BgpNet, Neighbour, Redist};
-use ios_policy_reader::said::{address_said_under, is_said, number_said};
+use ios_policy_reader::said::{address_said_under, is_said, is_under, number_said};
 use ios_policy_reader::{Said, Tag, Value};
 use mw_text::{Addr, Line, List, Prefix, prefix_of};
 use std::alloc::{AllocError, Global};
@@ -79,7 +79,7 @@ fn number_of_kind(value: Value) -> u32
 fn names_kind(kind: u32, said: Said) -> bool
     ensures { result ≡ is_match kind said }
 {
-    said.tag as u8 == Tag::Match as u8 && number_of_kind(said.value) == kind
+    is_under(Tag::Match, said) && number_of_kind(said.value) == kind
 }
 
 /// Whether the line names the kind of OSPF routes.

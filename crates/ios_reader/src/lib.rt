@@ -7,6 +7,7 @@ pub mod bgp_rows;
 pub mod draft;
 pub mod interface_rows;
 pub mod interfaces;
+pub mod laws;
 pub mod lines;
 pub mod names;
 pub mod neighbours;

@@ -1,20 +1,13 @@
 //! Names that the words of a line say, and lengths.
 
-ghost use Rattle.std.specs.Prelude.{◌≡◌, ◌==◌, IfOk};
-ghost use Rattle.ios_policy_reader.specs.Said.{tag_number};
+ghost use Rattle.std.specs.Prelude.{◌≡◌, IfOk};
 ghost use Rattle.ios_reader.specs.Names.{place_in, place_more, place_under, name_at, name_under, use_under, map_under, length_in, length_more, length_under};
 
 use ios_ast::Use;
-use ios_policy_reader::said::is_said;
+use ios_policy_reader::said::{is_said, is_under};
 use ios_policy_reader::{Said, Tag, Value};
 use mw_text::{Line, List, list_of};
 use std::alloc::{AllocError, Global};
-
-fn is_under(tag: Tag, said: Said) -> bool
-    ensures { result ≡ (tag_number said.tag == tag_number tag) }
-{
-    said.tag as u8 == tag as u8
-}
 
 /// The place of the word that this is, if it is one.
 fn place_of_value(value: Value, otherwise: u32) -> u32

@@ -1,7 +1,10 @@
 //! Reads a configuration file.
 
-ghost use Rattle.std.specs.Prelude.{◌≡◌, ◌≢◌, ◌+◌, ◌-◌, ◌≤◌, ◌<◌, ◌^◌, IfOk, IfErr, Ok, Err, drop, length};
+ghost use Rattle.std.specs.Prelude.{◌≡◌, ◌≢◌, ◌+◌, ◌-◌, ◌≤◌, ◌<◌, ◌^◌, IfOk, IfErr, Ok, Err, drop, length, true};
 ghost use Rattle.std.specs.List.{All};
+ghost use Rattle.ios_ast.specs.Limits.{keeps_limits};
+ghost use Rattle.ios_ast.specs.declared.file.TheConstants.{MOST_POLICY_ENTRIES};
+ghost use Rattle.ios_policy_reader.specs.Lists.{policy_entries};
 ghost use Rattle.ios_reader.specs.Drafts.{empty_draft};
 ghost use Rattle.ios_reader.specs.Reading.{at_line, with_line, finished, read_lines, reading};
 
@@ -90,11 +93,15 @@ fn read_all(alloc: Global, lines: &[Line]) -> Result<File, Refused>
 
 /// The file that a text reads as. Each line is of the row with the longest head that fits where the line stands. A text
 /// is refused at its first line with a cause: of several causes at a line the first counts in the order too many lines,
-/// out of place, unknown command, bad word, repeated, over a limit. A text without a hostname is refused at line 1.
+/// out of place, unknown command, bad word, repeated, over a limit. A text without a hostname is refused at line 1. The
+/// file keeps the limits of a file: interfaces, neighbours, entries of lists and maps, and the range of OSPF costs.
+#[tactic(auto, using(crate::proofs::KeptLimits::read_limits, crate::proofs::KeptLimits::read_entries))]
 pub fn read_file(alloc: Global, bytes: &[u8]) -> Result<File, Refused>
     requires { length bytes.now < 2 ^ 32 }
     ensures ok { IfOk result (λ file. reading bytes.now ≡ Ok file) }
     ensures refused { IfErr result (λ refused. refused.cause ≢ Cause.Memory → reading bytes.now ≡ Err refused) }
+    ensures limits { IfOk result (λ file. keeps_limits file ≡ true) }
+    ensures entries { IfOk result (λ file. policy_entries file.policies ≤ MOST_POLICY_ENTRIES) }
 {
     let lines = lines_of(alloc, bytes)?;
     read_all(alloc, lines.as_slice())

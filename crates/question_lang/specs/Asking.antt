@@ -1,119 +1,142 @@
 -- Which text reads as which questions.
-use Rattle.std.specs.Prelude.{ℕ, ◌&&◌, Bool, List, [], ◌∷◌, ◌++◌, length, nat_lt, nat_le, codes, position, Option}
-use Rattle.std.specs.Prelude.{Some, None, option_and_then, option_map, Result, Ok, Err, if◌then◌else◌}
-use Rattle.std.specs.List.{list_all, list_any}
+use Rattle.std.specs.Prelude.{ℕ, Bool, List, [], ◌∷◌, ◌++◌, length, nat_le, not, Option, Some, None, Result, Ok, Err}
+use Rattle.std.specs.Prelude.{option_and_then, option_map, if◌then◌else◌}
+use Rattle.std.specs.List.{list_any}
 use Rattle.std.specs.Option.{option_map_or}
-use Rattle.mw_text.specs.declared.address.Prefix.{Prefix}
 use Rattle.mw_text.specs.declared.words.Line.{Line}
-use Rattle.mw_text.specs.Digits.{cut_at, number_of, prefix_of_text}
+use Rattle.mw_text.specs.Reading.{following, in_turn}
 use Rattle.mw_text.specs.Text.{same_text}
 use Rattle.mw_text.specs.Words.{is_skipped, text_lines}
 use Rattle.ios_ast.specs.declared.file.File.{File}
-use Rattle.mw_text.specs.Reading.{in_turn}
-use Rattle.ios_policy_reader.specs.declared.cause.Cause.TheVariants.{NotBuilt}
+use Rattle.ios_policy_reader.specs.declared.cause.Cause.{Cause}
+use Rattle.ios_policy_reader.specs.declared.cause.Cause.TheVariants.{UnknownCommand, Repeated, UnknownRouter}
+use Rattle.ios_policy_reader.specs.declared.cause.Cause.TheVariants.{UnknownPeer, TooManyQuestions, Undefined}
 use Rattle.ios_policy_reader.specs.declared.cause.Refused.{Refused}
-use Rattle.ios_policy_reader.specs.Words.{is_keyword}
-use Rattle.question_lang.specs.declared.question.PacketSet.{PacketSet}
+use Rattle.ios_policy_reader.specs.declared.said.Said.{Said}
+use Rattle.ios_policy_reader.specs.declared.said.Tag.TheVariants.{Name, Start as StartTag, Waypoint as WaypointTag}
+use Rattle.ios_policy_reader.specs.declared.said.Tag.TheVariants.{OtherStart, Hops, Failures}
+use Rattle.ios_policy_reader.specs.Said.{number_under}
+use Rattle.question_lang.specs.declared.forms.Form.{Form}
+use Rattle.question_lang.specs.declared.forms.Form.TheVariants.{Reach as ReachForm, Isolate as IsolateForm}
+use Rattle.question_lang.specs.declared.forms.Form.TheVariants.{Waypoint as WaypointForm, NoLoop as NoLoopForm}
+use Rattle.question_lang.specs.declared.forms.Form.TheVariants.{NoBlackHole as NoBlackHoleForm}
+use Rattle.question_lang.specs.declared.forms.Form.TheVariants.{Within as WithinForm, Alike as AlikeForm}
+use Rattle.question_lang.specs.declared.forms.Form.TheVariants.{NoStable as NoStableForm}
+use Rattle.question_lang.specs.declared.question.Kind.{Kind}
+use Rattle.question_lang.specs.declared.question.Kind.TheVariants.{Reach, Isolate, Waypoint, NoLoop, NoBlackHole}
+use Rattle.question_lang.specs.declared.question.Kind.TheVariants.{Within, Alike, NoStable}
 use Rattle.question_lang.specs.declared.question.Question.{Question}
-use Rattle.question_lang.specs.declared.asking.TheConstants.{MOST_FAILURES}
+use Rattle.question_lang.specs.declared.question.Start.{Start}
+use Rattle.question_lang.specs.declared.question.Target.{Target}
 use Rattle.question_lang.specs.declared.reader.TheConstants.{MOST_QUESTIONS}
-use Rattle.question_lang.specs.Breaking.{reach_question}
+use Rattle.question_lang.specs.Grammar.{form_of, words_said}
+pub use Rattle.question_lang.specs.Naming.{router_named}
+use Rattle.question_lang.specs.Naming.{are_routers_known, is_peer_known, router_under, set_of, start_of, target_of}
+use Rattle.question_lang.specs.Naming.{word_under}
 
--- '!' to '~'
-abbrev pub is_printable : ℕ → Bool
-is_printable b = nat_le 33 b && nat_le b 126
+-- ---- one question
 
--- 1 to 64 of these
-abbrev pub is_name : List ℕ → Bool
-is_name word = nat_lt 0 (length word) && (nat_le (length word) 64 && list_all is_printable word)
+-- both ends, where they are there
+abbrev pub ends_of : List File → List (List ℕ) → List Said → Option (Start × Target)
+ends_of files words said =
+    option_and_then (λ start. option_map (λ target. (start, target)) (target_of files words said))
+    (start_of files words said)
 
--- the router of that name
-abbrev pub router_named : List File → List ℕ → Option ℕ
-router_named files name = position (λ file. same_text file.hostname name) files
+abbrev pub reach_of : List File → List (List ℕ) → List Said → Option Kind
+reach_of files words said = option_map (λ ends. Reach ends.0 ends.1) (ends_of files words said)
 
--- a protocol, by its name or its number (IANA protocol numbers); `ip` is any
-abbrev pub protocol_of : List ℕ → Option (Option ℕ)
-protocol_of word =
-    if is_keyword (codes "ip") word then Some None
-    else (if is_keyword (codes "icmp") word then Some (Some 1)
-    else (if is_keyword (codes "tcp") word then Some (Some 6)
-    else (if is_keyword (codes "udp") word then Some (Some 17) else option_map Some (number_of 255 word))))
+abbrev pub isolate_of : List File → List (List ℕ) → List Said → Option Kind
+isolate_of files words said = option_map (λ ends. Isolate ends.0 ends.1) (ends_of files words said)
 
--- `any`, or A/L
-abbrev pub addresses_of : List ℕ → Option Prefix
-addresses_of word =
-    if is_keyword (codes "any") word then Some (record { addr = record { 0 = 0 }; len = 0 }) else prefix_of_text word
+abbrev pub waypoint_of : List File → List (List ℕ) → List Said → Option Kind
+waypoint_of files words said =
+    option_and_then
+    (λ ends. option_map (λ via. Waypoint ends.0 ends.1 via) (router_under WaypointTag files words said))
+    (ends_of files words said)
 
-abbrev pub range_of : Option ℕ → Option ℕ → Option (ℕ × ℕ)
-range_of (Some low) (Some high) = if nat_le low high then Some (low, high) else None
-range_of _ _ = None
+abbrev pub no_loop_of : List File → List (List ℕ) → List Said → Option Kind
+no_loop_of files words said = option_map (λ start. NoLoop start) (start_of files words said)
 
--- `any`, a port, or LO-HI with LO not above HI
-abbrev pub ports_of : List ℕ → Option (ℕ × ℕ)
-ports_of word =
-    if is_keyword (codes "any") word then Some (0, 65535)
-    else option_map_or (λ cut. range_of (number_of 65535 cut.0) (number_of 65535 cut.1)) (cut_at 45 word)
-    (range_of (number_of 65535 word) (number_of 65535 word))
+abbrev pub no_black_hole_of : List File → List (List ℕ) → List Said → Option Kind
+no_black_hole_of files words said = option_map (λ start. NoBlackHole start) (start_of files words said)
 
--- a set of packets
-abbrev pub set_of : Option (Option ℕ) → Option Prefix → Option (ℕ × ℕ) → Option Prefix → Option (ℕ × ℕ)
-    → Option PacketSet
-set_of (Some proto) (Some src) (Some sport) (Some dst) (Some dport) =
-    Some (record { proto = proto; src = src; sport = sport; dst = dst; dport = dport })
-set_of _ _ _ _ _ = None
+abbrev pub within_of : List File → List (List ℕ) → List Said → Option Kind
+within_of files words said =
+    option_map (λ start. Within (number_under Hops said 0) start) (start_of files words said)
 
--- a question with its name
-abbrev pub question_of : List ℕ → Option ℕ → Option ℕ → Option PacketSet → Option ℕ → Option Question
-question_of name (Some start) (Some target) (Some set) (Some failures) =
-    if is_name name
-    then Some (record { name = name; kind = reach_question start target; packets = set; failures = failures }) else None
-question_of name _ _ _ _ = None
+abbrev pub alike_of : List File → List (List ℕ) → List Said → Option Kind
+alike_of files words said =
+    option_and_then
+    (λ one. option_and_then (λ other. option_map (λ target. Alike one other target) (target_of files words said))
+    (router_under OtherStart files words said))
+    (router_under StartTag files words said)
 
--- the fixed words of a question
-unfoldable pub are_keywords : List ℕ → List ℕ → List ℕ → List ℕ → List ℕ → List ℕ → Bool
-are_keywords reach from to router packets failures =
-    is_keyword (codes "reach") reach && (is_keyword (codes "from") from && (is_keyword (codes "to") to
-    && (is_keyword (codes "router") router
-    && (is_keyword (codes "packets") packets && is_keyword (codes "failures") failures))))
+-- what a question of the kind asks, where all that it names is there
+unfoldable pub kind_of : List File → Form → List (List ℕ) → List Said → Option Kind
+kind_of files ReachForm words said = reach_of files words said
+kind_of files IsolateForm words said = isolate_of files words said
+kind_of files WaypointForm words said = waypoint_of files words said
+kind_of files NoLoopForm words said = no_loop_of files words said
+kind_of files NoBlackHoleForm words said = no_black_hole_of files words said
+kind_of files WithinForm words said = within_of files words said
+kind_of files AlikeForm words said = alike_of files words said
+kind_of files NoStableForm words said = Some NoStable
 
--- the words of a set
-unfoldable pub set_in : List ℕ → List ℕ → List ℕ → List ℕ → List ℕ → Option PacketSet
-set_in proto src sport dst dport =
-    set_of (protocol_of proto) (addresses_of src) (ports_of sport) (addresses_of dst) (ports_of dport)
+-- the question that the words ask
+abbrev pub question_of : List File → Form → List (List ℕ) → List Said → Option Question
+question_of files form words said =
+    option_map (λ kind. record {
+      name = word_under Name words said;
+      kind = kind;
+      packets = set_of said;
+      failures = number_under Failures said 0;
+    })
+    (kind_of files form words said)
 
--- the question of a name, two routers, a set and a number of failed links
-unfoldable pub question_in : List File → List ℕ → List ℕ → List ℕ → Option PacketSet → List ℕ → Option Question
-question_in files name start target set failures =
-    question_of name (router_named files start) (router_named files target) set (number_of MOST_FAILURES failures)
+-- a question has that name
+abbrev pub has_name : List Question → List ℕ → Bool
+has_name questions name = list_any (λ q. same_text q.name name) questions
 
--- NAME reach from R to router R packets PROTO SRC SPORTS DST DPORTS failures K
-abbrev pub asked : List File → List (List ℕ) → Option Question
-asked files (name ∷ reach ∷ from ∷ start ∷ to ∷ router ∷ target ∷ packets ∷ proto ∷ src ∷ sport ∷ dst ∷ dport
-    ∷ failures ∷ most ∷ []) =
-    if are_keywords reach from to router packets failures
-    then question_in files name start target (set_in proto src sport dst dport) most else None
-asked files _ = None
+-- Why a question that reads well may not stand after these, by the first of the causes: its name stands before, it names
+-- a router that is not there, its target is no external peer of its router, it is one too many. Or none of these.
+abbrev pub cause_against : List File → List Question → List (List ℕ) → List Said → Option Cause
+cause_against files so_far words said =
+    if has_name so_far (word_under Name words said) then Some Repeated
+    else (if not (are_routers_known files words said) then Some UnknownRouter
+    else (if not (is_peer_known files words said) then Some UnknownPeer
+    else (if nat_le MOST_QUESTIONS (length so_far) then Some TooManyQuestions else None)))
 
--- each question has another name, and there are not too many
-abbrev pub with_question : List Question → Question → Option (List Question)
-with_question so_far question =
-    if list_any (λ q. same_text q.name question.name) so_far then None
-    else (if nat_le MOST_QUESTIONS (length so_far) then None else Some (so_far ++ question ∷ []))
+-- The question that the words ask after these, or why it may not stand there. Routers and peer are known then, so that
+-- what is not there can only be the interface.
+unfoldable pub asked : List File → List Question → Form → List (List ℕ) → List Said → Result Question Cause
+asked files so_far form words said =
+    option_map_or (λ cause. Err cause)
+    (cause_against files so_far words said)
+    (option_map_or (λ question. Ok question) (question_of files form words said) (Err Undefined))
 
--- the questions with a line more, where that line may stand there
-abbrev pub with_asked : List File → List Question → Line → Option (List Question)
-with_asked files so_far line =
-    if is_skipped line.words then Some so_far else option_and_then (with_question so_far) (asked files line.words)
+-- the question of a line of these words after the questions before, or why it has none: the kind is unknown, a word is
+-- bad, or the question may not stand there
+unfoldable pub question_in : List File → List Question → List (List ℕ) → Result Question Cause
+question_in files so_far words =
+    option_map_or (λ form. following (asked files so_far form words) (words_said form words)) (form_of words)
+    (Err UnknownCommand)
 
--- refused at that line, as what is not built
-abbrev pub not_built : ℕ → Refused
-not_built line = record { line = line; cause = NotBuilt }
+-- ---- all lines
 
--- the questions with a line more, or the refusal at that line, which may not stand there
-abbrev pub next_asked : List File → List Question → Line → Result (List Question) Refused
+abbrev pub refused_at : {A : Type 0} → ℕ → Result A Cause → Result A Refused
+refused_at line (Ok x) = Ok x
+refused_at line (Err cause) = Err (record { line = line; cause = cause })
+
+-- the question of a line after the questions before, or the refusal there
+abbrev pub question_at : List File → List Question → Line → Result Question Refused
+question_at files so_far line = refused_at line.number (question_in files so_far line.words)
+
+-- the questions with a line more, or its refusal; a line that says nothing asks nothing
+unfoldable pub next_asked : List File → List Question → Line → Result (List Question) Refused
 next_asked files so_far line =
-    option_map_or (λ next. Ok next) (with_asked files so_far line) (Err (not_built line.number))
+    if is_skipped line.words then Ok so_far
+    else following (λ question. Ok (so_far ++ question ∷ [])) (question_at files so_far line)
 
--- the questions that a text reads as, over the files, or its refusal
+-- the questions that a text reads as, over the files, or the refusal of its first line that has one
 abbrev pub asking : List File → List ℕ → Result (List Question) Refused
 asking files bytes = in_turn (next_asked files) [] (text_lines bytes)

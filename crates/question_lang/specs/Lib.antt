@@ -2,5 +2,9 @@ pub mod Packets
 pub mod Hops
 pub mod Walks
 pub mod Breaking
+pub mod Grammar
+pub mod Naming
+pub mod Known
 pub mod Asking
 pub mod Single
+pub mod Worked

@@ -1,8 +1,12 @@
 -- Questions that are read today, and sets of exactly one packet.
-use Rattle.std.specs.Prelude.{◌≡◌, ℕ, ◌==◌, ◌&&◌, ◌||◌, ◌<◌, Bool, false, List, Option, Some, None, slice_get}
+use Rattle.std.specs.Prelude.{◌≡◌, ℕ, ◌==◌, ◌&&◌, ◌||◌, ◌<◌, Bool, false, List, Option, Some, None, slice_get, is_none}
 use Rattle.std.specs.Prelude.{if◌then◌else◌}
+use Rattle.question_lang.specs.declared.question.Kind.{Kind}
+use Rattle.question_lang.specs.declared.question.Kind.TheVariants.{Reach, Isolate, Waypoint, NoLoop, NoBlackHole}
+use Rattle.question_lang.specs.declared.question.Kind.TheVariants.{Within, Alike, NoStable}
 use Rattle.question_lang.specs.declared.question.PacketSet.{PacketSet}
 use Rattle.question_lang.specs.declared.question.Question.{Question}
+use Rattle.question_lang.specs.declared.question.Target.TheVariants.{Router, Subnet, Peer}
 use Rattle.question_lang.specs.Breaking.{reach_question}
 
 -- with TCP (6) and UDP (17) a port range has one port where it has one value; else both ports are 0, which it must have
@@ -16,6 +20,19 @@ is_single set = of_protocol set.proto where
   of_protocol None = false
   of_protocol (Some proto) =
       (set.src.len == 32) && ((set.dst.len == 32) && (has_one_port proto set.sport && has_one_port proto set.dport))
+
+-- the question is whether packets from a router, without an incoming interface, reach a router
+abbrev pub is_reach : Kind → Bool
+is_reach (Reach start (Router target)) = is_none start.iface
+is_reach (Reach start (Subnet p)) = false
+is_reach (Reach start (Peer router a)) = false
+is_reach (Isolate start target) = false
+is_reach (Waypoint start target via) = false
+is_reach (NoLoop start) = false
+is_reach (NoBlackHole start) = false
+is_reach (Within most start) = false
+is_reach (Alike one other target) = false
+is_reach NoStable = false
 
 -- whether packets from a router of so many reach a router
 abbrev pub IsReach : ℕ → Question → Type 0

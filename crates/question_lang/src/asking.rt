@@ -1,272 +1,211 @@
 //! What a line of a questions file asks.
 
-ghost use Rattle.std.specs.Prelude.{◌≡◌, ◌<◌, ℕ, IfOk, IfSome, length};
-ghost use Rattle.std.specs.List.{list_all};
-ghost use Rattle.mw_text.specs.Digits.{number_of};
+ghost use Rattle.std.specs.Prelude.{◌≡◌, ◌≢◌, ◌<◌, ◌-◌, ◌^◌, IfOk, IfErr, IfSome, Ok, Err, None, length, true};
 ghost use Rattle.question_lang.specs.Asking as asking;
-ghost use Rattle.question_lang.specs.Single.{IsReach};
+ghost use Rattle.question_lang.specs.Known as known;
+ghost use Rattle.question_lang.specs.Naming as naming;
 
-use crate::question::{Kind, PacketSet, Question, Start, Target};
-use ios_policy_reader::words::is_word;
-use mw_text::digits::cut;
-use mw_text::{Addr, List, Prefix, list_of, read_number, read_prefix};
+use crate::forms::{Form, find_form, read_words};
+use crate::named::{
+    are_routers_known, is_peer_known, router_said, start_said, target_said, word_said,
+};
+use crate::packets::packets_said;
+use crate::question::{Kind, Question, Start, Target};
+use crate::reader::MOST_QUESTIONS;
+use ios_policy_reader::said::number_said;
+use ios_policy_reader::{Cause, Said, Tag};
+use mw_text::{List, list_of, same_bytes};
 use net_model::Net;
 use std::alloc::{AllocError, Global};
 
-/// How many links may fail in a question at most.
-pub const MOST_FAILURES: u64 = 8;
-
-fn is_printable(b: u8) -> bool
-    ensures { result ≡ asking.is_printable b }
+fn ends_said(net: &Net, words: &[List<u8>], said: &[Said]) -> Option<(Start, Target)>
+    requires peer { naming.is_peer_known net.now words.now said.now ≡ true }
+    ensures value { result ≡ asking.ends_of net.now words.now said.now }
+    ensures known { IfSome result (λ ends. known.IsStart net.now ends.0 × known.IsTarget net.now ends.1) }
 {
-    b >= b'!' && b <= b'~'
+    let start = start_said(net, words, said)?;
+    let target = target_said(net, words, said)?;
+    Some((start, target))
 }
 
-fn all_printable(word: &[u8]) -> bool
-    ensures { result ≡ list_all asking.is_printable word.now }
+fn reach_said(net: &Net, words: &[List<u8>], said: &[Said]) -> Option<Kind>
+    requires peer { naming.is_peer_known net.now words.now said.now ≡ true }
+    ensures value { result ≡ asking.reach_of net.now words.now said.now }
+    ensures known { IfSome result (known.IsKnown net.now) }
 {
-    word.iter().all(|b| is_printable(*b))
+    let (start, target) = ends_said(net, words, said)?;
+    Some(Kind::Reach(start, target))
 }
 
-fn is_name(word: &[u8]) -> bool
-    ensures { result ≡ asking.is_name word.now }
+fn isolate_said(net: &Net, words: &[List<u8>], said: &[Said]) -> Option<Kind>
+    requires peer { naming.is_peer_known net.now words.now said.now ≡ true }
+    ensures value { result ≡ asking.isolate_of net.now words.now said.now }
+    ensures known { IfSome result (known.IsKnown net.now) }
 {
-    !word.is_empty() && word.len() <= 64 && all_printable(word)
+    let (start, target) = ends_said(net, words, said)?;
+    Some(Kind::Isolate(start, target))
 }
 
-fn read_protocol(word: &[u8]) -> Option<Option<u8>>
-    ensures { result ≡ asking.protocol_of word.now }
+fn waypoint_said(net: &Net, words: &[List<u8>], said: &[Said]) -> Option<Kind>
+    requires peer { naming.is_peer_known net.now words.now said.now ≡ true }
+    ensures value { result ≡ asking.waypoint_of net.now words.now said.now }
+    ensures known { IfSome result (known.IsKnown net.now) }
 {
-    if is_word(word, b"ip") {
-        return Some(None);
-    }
-    if is_word(word, b"icmp") {
-        return Some(Some(1));
-    }
-    if is_word(word, b"tcp") {
-        return Some(Some(6));
-    }
-    if is_word(word, b"udp") {
-        return Some(Some(17));
-    }
-    match read_number(word, 255) {
-        None => None,
-        Some(number) => Some(Some(number as u8)),
+    let (start, target) = ends_said(net, words, said)?;
+    let via = router_said(Tag::Waypoint, net, words, said)?;
+    Some(Kind::Waypoint(start, target, via))
+}
+
+fn alike_said(net: &Net, words: &[List<u8>], said: &[Said]) -> Option<Kind>
+    requires peer { naming.is_peer_known net.now words.now said.now ≡ true }
+    ensures value { result ≡ asking.alike_of net.now words.now said.now }
+    ensures known { IfSome result (known.IsKnown net.now) }
+{
+    let one = router_said(Tag::Start, net, words, said)?;
+    let other = router_said(Tag::OtherStart, net, words, said)?;
+    let target = target_said(net, words, said)?;
+    Some(Kind::Alike(one, other, target))
+}
+
+fn no_loop_said(net: &Net, words: &[List<u8>], said: &[Said]) -> Option<Kind>
+    ensures value { result ≡ asking.no_loop_of net.now words.now said.now }
+    ensures known { IfSome result (known.IsKnown net.now) }
+{
+    let start = start_said(net, words, said)?;
+    Some(Kind::NoLoop(start))
+}
+
+fn no_black_hole_said(net: &Net, words: &[List<u8>], said: &[Said]) -> Option<Kind>
+    ensures value { result ≡ asking.no_black_hole_of net.now words.now said.now }
+    ensures known { IfSome result (known.IsKnown net.now) }
+{
+    let start = start_said(net, words, said)?;
+    Some(Kind::NoBlackHole(start))
+}
+
+fn within_said(net: &Net, words: &[List<u8>], said: &[Said]) -> Option<Kind>
+    ensures value { result ≡ asking.within_of net.now words.now said.now }
+    ensures known { IfSome result (known.IsKnown net.now) }
+{
+    let start = start_said(net, words, said)?;
+    Some(Kind::Within(number_said(Tag::Hops, said, 0), start))
+}
+
+#[tactic(auto, unfolding(crate::specs::Asking::kind_of))]
+fn kind_said(net: &Net, form: Form, words: &[List<u8>], said: &[Said]) -> Option<Kind>
+    requires peer { naming.is_peer_known net.now words.now said.now ≡ true }
+    ensures value { result ≡ asking.kind_of net.now form words.now said.now }
+    ensures known { IfSome result (known.IsKnown net.now) }
+{
+    match form {
+        Form::Reach => reach_said(net, words, said),
+        Form::Isolate => isolate_said(net, words, said),
+        Form::Waypoint => waypoint_said(net, words, said),
+        Form::NoLoop => no_loop_said(net, words, said),
+        Form::NoBlackHole => no_black_hole_said(net, words, said),
+        Form::Within => within_said(net, words, said),
+        Form::Alike => alike_said(net, words, said),
+        Form::NoStable => Some(Kind::NoStable),
     }
 }
 
-fn read_addresses(word: &[u8]) -> Option<Prefix>
-    ensures { result ≡ asking.addresses_of word.now }
-{
-    if is_word(word, b"any") {
-        return Some(Prefix {
-            addr: Addr(0),
-            len: 0,
-        });
-    }
-    read_prefix(word)
-}
-
-fn read_port(word: &[u8]) -> Option<u16>
-    ensures { result ≡ number_of 65535 word.now }
-{
-    match read_number(word, 65535) {
-        None => None,
-        Some(number) => Some(number as u16),
-    }
-}
-
-fn range_of(low: Option<u16>, high: Option<u16>) -> Option<(u16, u16)>
-    ensures { result ≡ asking.range_of low high }
-{
-    match (low, high) {
-        (Some(low), Some(high)) if low <= high => Some((low, high)),
-        _ => None,
-    }
-}
-
-fn read_ports(word: &[u8]) -> Option<(u16, u16)>
-    ensures { result ≡ asking.ports_of word.now }
-{
-    if is_word(word, b"any") {
-        return Some((0, 65535));
-    }
-    match cut(word, b'-') {
-        None => range_of(read_port(word), read_port(word)),
-        Some((low, high)) => range_of(read_port(low), read_port(high)),
-    }
-}
-
-fn set_of(
-    proto: Option<Option<u8>>,
-    src: Option<Prefix>,
-    sport: Option<(u16, u16)>,
-    dst: Option<Prefix>,
-    dport: Option<(u16, u16)>,
-) -> Option<PacketSet>
-    ensures { result ≡ asking.set_of proto src sport dst dport }
-{
-    let (Some(proto), Some(src), Some(sport), Some(dst), Some(dport)) = (
-        proto, src, sport, dst, dport,
-    ) else {
-        return None;
-    };
-    Some(PacketSet {
-        proto,
-        src,
-        sport,
-        dst,
-        dport,
-    })
-}
-
-fn question_of(
+fn question_said(
     alloc: Global,
-    name: &[u8],
-    start: Option<u32>,
-    target: Option<u32>,
-    set: Option<PacketSet>,
-    failures: Option<u32>,
+    net: &Net,
+    form: Form,
+    words: &[List<u8>],
+    said: &[Said],
 ) -> Result<Option<Question>, AllocError>
-    ensures question { IfOk result (λ question. question ≡ asking.question_of name.now start target set failures) }
-    ensures reach { IfOk result (λ question. (routers : ℕ) → IfSome start (λ at. at < routers) → IfSome question (IsReach routers)) }
+    requires peer { naming.is_peer_known net.now words.now said.now ≡ true }
+    ensures value { IfOk result (λ question. question ≡ asking.question_of net.now form words.now said.now) }
+    ensures known { IfOk result (λ question. IfSome question (λ q. known.IsKnown net.now q.kind)) }
 {
-    let (Some(start), Some(target), Some(packets), Some(failures)) = (start, target, set, failures)
-    else {
+    let Some(kind) = kind_said(net, form, words, said) else {
         return Ok(None);
-    };
-    if !is_name(name) {
-        return Ok(None);
-    }
-    let from = Start {
-        router: start,
-        iface: None,
     };
     Ok(Some(Question {
-        name: list_of(alloc, name)?,
-        kind: Kind::Reach(from, Target::Router(target)),
-        packets,
-        failures,
+        name: list_of(alloc, word_said(Tag::Name, words, said))?,
+        kind,
+        packets: packets_said(said),
+        failures: number_said(Tag::Failures, said, 0),
     }))
 }
 
-#[tactic(auto, unfolding(crate::specs::Asking::are_keywords))]
-fn are_keywords(
-    reach: &[u8],
-    from: &[u8],
-    to: &[u8],
-    router: &[u8],
-    packets: &[u8],
-    failures: &[u8],
-) -> bool
-    ensures { result ≡ asking.are_keywords reach.now from.now to.now router.now packets.now failures.now }
+fn has_name(questions: &[Question], name: &[u8]) -> bool
+    ensures { result ≡ asking.has_name questions.now name.now }
 {
-    is_word(reach, b"reach")
-        && is_word(from, b"from")
-        && is_word(to, b"to")
-        && is_word(router, b"router")
-        && is_word(packets, b"packets")
-        && is_word(failures, b"failures")
+    questions
+        .iter()
+        .any(|q| same_bytes(q.name.as_slice(), name))
 }
 
-#[tactic(auto, unfolding(crate::specs::Asking::set_in))]
-fn read_set(proto: &[u8], src: &[u8], sport: &[u8], dst: &[u8], dport: &[u8]) -> Option<PacketSet>
-    ensures { result ≡ asking.set_in proto.now src.now sport.now dst.now dport.now }
+/// Why a question that reads well may not stand after these, but for an interface that is not there.
+fn cause_against(
+    alloc: Global,
+    net: &Net,
+    questions: &[Question],
+    words: &[List<u8>],
+    said: &[Said],
+) -> Result<Option<Cause>, AllocError>
+    ensures value { IfOk result (λ cause. cause ≡ asking.cause_against net.now questions.now words.now said.now) }
+    ensures peer { IfOk result (λ cause. cause ≡ None → naming.is_peer_known net.now words.now said.now ≡ true) }
+    ensures few { IfOk result (λ cause. cause ≡ None → length questions.now < MOST_QUESTIONS) }
 {
-    set_of(
-        read_protocol(proto),
-        read_addresses(src),
-        read_ports(sport),
-        read_addresses(dst),
-        read_ports(dport),
-    )
+    if has_name(questions, word_said(Tag::Name, words, said)) {
+        return Ok(Some(Cause::Repeated));
+    }
+    if !are_routers_known(net, words, said) {
+        return Ok(Some(Cause::UnknownRouter));
+    }
+    if !is_peer_known(alloc, net, words, said)? {
+        return Ok(Some(Cause::UnknownPeer));
+    }
+    if questions.len() >= MOST_QUESTIONS {
+        return Ok(Some(Cause::TooManyQuestions));
+    }
+    Ok(None)
 }
 
-fn read_failures(word: &[u8]) -> Option<u32>
-    ensures { result ≡ number_of MOST_FAILURES word.now }
+#[tactic(auto, unfolding(crate::specs::Asking::asked))]
+fn ask(
+    alloc: Global,
+    net: &Net,
+    questions: &[Question],
+    form: Form,
+    words: &[List<u8>],
+    said: &[Said],
+) -> Result<Question, Cause>
+    ensures ok { IfOk result (λ question. asking.asked net.now questions.now form words.now said.now ≡ Ok question) }
+    ensures refused { IfErr result (λ cause. cause ≢ Cause.Memory → asking.asked net.now questions.now form words.now said.now ≡ Err cause) }
+    ensures known { IfOk result (λ question. known.IsKnown net.now question.kind) }
+    ensures few { IfOk result (λ _. length questions.now < MOST_QUESTIONS) }
 {
-    match read_number(word, MOST_FAILURES) {
-        None => None,
-        Some(most) => Some(most as u32),
+    if let Some(cause) = cause_against(alloc, net, questions, words, said)? {
+        return Err(cause);
+    }
+    match question_said(alloc, net, form, words, said)? {
+        None => Err(Cause::Undefined),
+        Some(question) => Ok(question),
     }
 }
 
+/// The question that a line of these words asks after the questions before.
 #[tactic(auto, unfolding(crate::specs::Asking::question_in))]
-fn question_over(
-    alloc: Global,
-    net: &Net,
-    name: &[u8],
-    start: &[u8],
-    target: &[u8],
-    set: Option<PacketSet>,
-    failures: &[u8],
-) -> Result<Option<Question>, AllocError>
-    ensures question { IfOk result (λ question. question ≡ asking.question_in net.now name.now start.now target.now set failures.now) }
-    ensures reach { IfOk result (λ question. IfSome question (IsReach (length net.now))) }
-{
-    question_of(
-        alloc,
-        name,
-        net.router_named(start),
-        net.router_named(target),
-        set,
-        read_failures(failures),
-    )
-}
-
-/// The question that the words of a line ask. None where they ask none that is read today.
 pub fn read_question(
     alloc: Global,
     net: &Net,
+    questions: &[Question],
     words: &[List<u8>],
-) -> Result<Option<Question>, AllocError>
-    ensures question { IfOk result (λ question. question ≡ asking.asked net.now words.now) }
-    ensures reach { IfOk result (λ question. IfSome question (IsReach (length net.now))) }
+) -> Result<Question, Cause>
+    requires few { length words.now < 2 ^ 32 - 1 }
+    ensures ok { IfOk result (λ question. asking.question_in net.now questions.now words.now ≡ Ok question) }
+    ensures refused { IfErr result (λ cause. cause ≢ Cause.Memory → asking.question_in net.now questions.now words.now ≡ Err cause) }
+    ensures known { IfOk result (λ question. known.IsKnown net.now question.kind) }
+    ensures few { IfOk result (λ _. length questions.now < MOST_QUESTIONS) }
 {
-    let [
-        name,
-        reach,
-        from,
-        start,
-        to,
-        router,
-        target,
-        packets,
-        proto,
-        src,
-        sport,
-        dst,
-        dport,
-        failures,
-        most,
-    ] = words
-    else {
-        return Ok(None);
+    let Some(form) = find_form(words) else {
+        return Err(Cause::UnknownCommand);
     };
-    if !are_keywords(
-        reach.as_slice(),
-        from.as_slice(),
-        to.as_slice(),
-        router.as_slice(),
-        packets.as_slice(),
-        failures.as_slice(),
-    ) {
-        return Ok(None);
-    }
-    let set = read_set(
-        proto.as_slice(),
-        src.as_slice(),
-        sport.as_slice(),
-        dst.as_slice(),
-        dport.as_slice(),
-    );
-    question_over(
-        alloc,
-        net,
-        name.as_slice(),
-        start.as_slice(),
-        target.as_slice(),
-        set,
-        most.as_slice(),
-    )
+    let said = read_words(alloc, form, words)?;
+    ask(alloc, net, questions, form, words, said.as_slice())
 }

@@ -2,13 +2,18 @@
 #![tactic(auto)]
 
 pub mod asking;
+pub mod forms;
+pub mod laws;
+pub mod named;
 pub mod packet;
+pub mod packets;
 pub mod question;
 pub mod reader;
+pub mod table;
 pub mod walk;
 
-pub use asking::MOST_FAILURES;
-pub use packet::{is_single, single_packet};
+pub use packet::{is_reach, is_single, single_packet};
 pub use question::{Kind, PacketSet, Question, Start, Target};
 pub use reader::{MOST_QUESTIONS, read_questions};
+pub use table::{MOST_FAILURES, MOST_HOPS};
 pub use walk::{End, Hop, Walk};

@@ -1,11 +1,13 @@
-//! The one packet of a set that has exactly one.
+//! Questions of one packet whether a router is reached.
 
-ghost use Rattle.std.specs.Prelude.{◌≡◌, true};
+ghost use Rattle.std.specs.Prelude.{◌≡◌, List, length, true};
 ghost use Rattle.route_record.specs.declared.Packet.{Packet as PacketOf};
 ghost use Rattle.question_lang.specs.Packets.{IsInSet, IsPacket};
+ghost use Rattle.ios_ast.specs.declared.file.File.{File};
+ghost use Rattle.question_lang.specs.Known.{IsKnown};
 ghost use Rattle.question_lang.specs.Single as single;
 
-use crate::question::PacketSet;
+use crate::question::{Kind, PacketSet, Question, Target};
 use mw_text::Addr;
 use route_record::Packet;
 
@@ -58,4 +60,21 @@ pub fn single_packet(set: &PacketSet) -> Packet
         Some(proto) => proto,
     };
     packet_of(set.src.addr, set.dst.addr, proto, set.sport.0, set.dport.0)
+}
+
+fn asks_reach(kind: Kind) -> bool
+    ensures { result ≡ single.is_reach kind }
+{
+    match kind {
+        Kind::Reach(start, Target::Router(_)) => start.iface.is_none(),
+        _ => false,
+    }
+}
+
+/// Whether a question asks that packets from a router, without an incoming interface, reach a router.
+pub fn is_reach(question: &Question) -> bool
+    ensures value { result ≡ single.is_reach question.now.kind }
+    ensures reach { (files : List File) → result ≡ true → IsKnown files question.now.kind → single.IsReach (length files) question.now }
+{
+    asks_reach(question.kind)
 }
