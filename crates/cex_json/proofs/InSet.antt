@@ -39,7 +39,8 @@ octet_small word n same =
 addr_sum : (a b c d : ℕ) → a ≤ 255 → b ≤ 255 → c ≤ 255 → d ≤ 255 → ((a * 256 + b) * 256 + c) * 256 + d < 2 ^ 32
 addr_sum a b c d p q r s = omega arith
 
-addr_small : (word : List ℕ) (a : Addr) → addr_of word ≡ Some a → a.0 < 2 ^ 32
+-- an address that is read has 32 bits
+pub addr_small : (word : List ℕ) (a : Addr) → addr_of word ≡ Some a → a.0 < 2 ^ 32
 addr_small word a same =
     let one = led _ (cut_at 46 word) a same in
     let two = led _ (cut_at 46 one.0.1) a one.2 in

@@ -5,3 +5,4 @@ pub mod Inversion
 pub mod Fitting
 pub mod Sizes
 pub mod InSet
+pub mod Surrounding

@@ -23,7 +23,7 @@ use Rattle.net_model.specs.World.{links_of}
 use Rattle.question_lang.specs.declared.question.Question.{Question}
 use Rattle.question_lang.specs.declared.question.Start.{Start}
 use Rattle.question_lang.specs.declared.walk.Walk.{Walk}
-use Rattle.serde_json.specs.Data.{Data, Members, no_members, member, put}
+use Rattle.serde_json.specs.Data.{Data, Members, no_members, member, null, put}
 use Rattle.serde_json.specs.View.{items_of}
 use Rattle.serde_json.specs.Written.{has_float, items_have_float, members_have_float}
 use Rattle.cex_json.specs.declared.counterexample.Counterexample.{Counterexample}
@@ -31,7 +31,7 @@ use Rattle.cex_json.specs.Parts.{addr_data, bgp_data, first_bgp_fields, first_of
 use Rattle.cex_json.specs.Parts.{hop_data, hop_fields, ospf_data, packet_data, parts_data, parts_fields, rib_data}
 use Rattle.cex_json.specs.Parts.{slots_from, walk_data, walk_fields}
 use Rattle.cex_json.specs.Json.{members_with_from, number_of, with_field}
-use Rattle.cex_json.specs.Text.{cex_data, shown_fields, surroundings_of, tables_data, world_fields}
+use Rattle.cex_json.specs.Text.{cex_data, part_data, part_list, shown_fields, surroundings_of, tables_data, world_fields}
 use Rattle.cex_json.specs.Worlds.{announcement_data, announcement_fields, link_data, peer_data, peers_from}
 
 put_plain : (name : List ℕ) (value : Data) (members : Members) → has_float value ≡ false → members_have_float members
@@ -198,3 +198,24 @@ cex_plain files questions cex =
 pub tables_plain : (files : List File) (tables : Tables) → has_float (tables_data files tables) ≡ false
 unfolding tables_data
 tables_plain files tables = slots_plain files 0 tables.slots
+
+-- parts of slots alone
+pub part_plain : (slot : Slot) → has_float (part_data slot) ≡ false
+unfolding part_data
+part_plain slot = by_bgp slot.bgp where
+  by_rib : (held : Option RibEntry) → has_float (option_map_or rib_data held null) ≡ false
+  by_rib None = refl
+  by_rib (Some held) = rib_plain held
+
+  by_ospf : (held : Option OspfRec) → has_float (option_map_or ospf_data held (option_map_or rib_data slot.rib null)) ≡ false
+  by_ospf None = by_rib slot.rib
+  by_ospf (Some held) = ospf_plain held
+
+  by_bgp : (held : Option BgpRec) →
+      has_float (option_map_or bgp_data held (option_map_or ospf_data slot.ospf (option_map_or rib_data slot.rib null))) ≡ false
+  by_bgp None = by_ospf slot.ospf
+  by_bgp (Some held) = bgp_plain held
+
+pub part_list_plain : (slots : List Slot) → has_float (part_list slots) ≡ false
+unfolding part_list
+part_list_plain slots = all_plain part_data part_plain slots

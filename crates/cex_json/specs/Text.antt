@@ -1,14 +1,15 @@
 -- The text of a counterexample.
-use Rattle.std.specs.Prelude.{ℕ, List, [], ◌∷◌, codes, Option, Some, option_map, slice_get}
+use Rattle.std.specs.Prelude.{ℕ, List, [], ◌∷◌, codes, map, Option, Some, option_map, slice_get}
 use Rattle.std.specs.Option.{option_map_or}
 use Rattle.ios_ast.specs.declared.file.File.{File}
+use Rattle.route_record.specs.declared.Slot.{Slot}
 use Rattle.route_record.specs.declared.Tables.{Tables}
 use Rattle.question_lang.specs.declared.question.Question.{Question}
-use Rattle.serde_json.specs.Data.{Data, Members, object}
+use Rattle.serde_json.specs.Data.{Data, Members, null, object}
 use Rattle.serde_json.specs.Written.{compact_text}
 use Rattle.cex_json.specs.declared.counterexample.Counterexample.{Counterexample}
 use Rattle.cex_json.specs.Json.{array_of, members_with, members_with_from, number_of, text_of}
-use Rattle.cex_json.specs.Parts.{packet_data, slots_from, walk_data}
+use Rattle.cex_json.specs.Parts.{bgp_data, ospf_data, packet_data, rib_data, slots_from, walk_data}
 use Rattle.cex_json.specs.Worlds.{announcements_data, failures_data, peers_data}
 
 -- the name of a question; a number that is no question's has the empty name
@@ -50,3 +51,20 @@ tables_data files tables = array_of (slots_from files 0 tables.slots)
 
 abbrev pub tables_text : List File → Tables → List ℕ
 tables_text files tables = compact_text (tables_data files tables)
+
+-- ---- parts of a slot alone
+
+-- the part that is there, of several the first by name; null where there is none
+unfoldable pub part_data : Slot → Data
+part_data slot =
+    option_map_or bgp_data slot.bgp (option_map_or ospf_data slot.ospf (option_map_or rib_data slot.rib null))
+
+abbrev pub part_text : Slot → List ℕ
+part_text slot = compact_text (part_data slot)
+
+-- the parts of slots, as a list
+unfoldable pub part_list : List Slot → Data
+part_list slots = array_of (map part_data slots)
+
+abbrev pub part_list_text : List Slot → List ℕ
+part_list_text slots = compact_text (part_list slots)

@@ -7,14 +7,14 @@ ghost use Rattle.cex_json.specs.Text as text;
 
 use crate::parts::{packet_value, text_value};
 use crate::routes::put_field;
-use crate::tables::slot_values;
+use crate::tables::{part_value, part_values, slot_values};
 use crate::walks::walk_value;
 use crate::worlds::{announcement_values, failure_values, peer_values};
 use ios_ast::File;
 use mw_text::List;
 use net_model::Net;
 use question_lang::{Question, Walk};
-use route_record::{Environment, Failures, Packet, Tables};
+use route_record::{Environment, Failures, Packet, Slot, Tables};
 use serde_json::{Map, Value, put};
 use std::alloc::{AllocError, Global};
 
@@ -127,6 +127,36 @@ pub fn write_tables(alloc: Global, net: &Net, tables: &Tables) -> Result<List<u8
     ensures { IfOk result (λ written. written ≡ text.tables_text net.now tables.now) }
 {
     let value = tables_value(alloc, net.routers(), tables)?;
+    Ok(List {
+        items: value.to_vec(alloc)?,
+    })
+}
+
+/// The text of a slot of which one part alone is there: that part in compact JSON, or `null` where there is none. Of several
+/// parts it is the first by name.
+#[tactic(auto, using(crate::proofs::Plain::part_plain))]
+pub fn write_part(alloc: Global, slot: &Slot) -> Result<List<u8>, AllocError>
+    ensures { IfOk result (λ written. written ≡ text.part_text slot.now) }
+{
+    let value = part_value(alloc, slot)?;
+    Ok(List {
+        items: value.to_vec(alloc)?,
+    })
+}
+
+#[tactic(auto, unfolding(crate::specs::Text::part_list))]
+fn part_list(alloc: Global, slots: &[Slot]) -> Result<Value, AllocError>
+    ensures { IfOk result (λ value. view value ≡ text.part_list slots.now) }
+{
+    Ok(Value::Array(part_values(alloc, slots)?))
+}
+
+/// The text of such slots: a list of their parts in compact JSON.
+#[tactic(auto, using(crate::proofs::Plain::part_list_plain))]
+pub fn write_part_list(alloc: Global, slots: &[Slot]) -> Result<List<u8>, AllocError>
+    ensures { IfOk result (λ written. written ≡ text.part_list_text slots.now) }
+{
+    let value = part_list(alloc, slots)?;
     Ok(List {
         items: value.to_vec(alloc)?,
     })

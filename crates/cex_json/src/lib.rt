@@ -16,6 +16,6 @@ mod tables;
 mod walks;
 mod worlds;
 
-pub use counterexample::{Counterexample, write_cex, write_tables};
+pub use counterexample::{Counterexample, write_cex, write_part, write_part_list, write_tables};
 pub use reader::read_cex;
 pub use refused::CexRefused;

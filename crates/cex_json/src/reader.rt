@@ -3,7 +3,7 @@
 ghost use Rattle.std.specs.Prelude.{◌≡◌, ◌≢◌, ◌<◌, ◌*◌, length, Some, None, Ok, Err, IfOk, IfErr, option_map, position, slice_get};
 ghost use Rattle.std.specs.Option.{option_copied};
 ghost use Rattle.mw_text.specs.Text.{same_text};
-ghost use Rattle.net_model.specs.World.{IsFailureSet};
+ghost use Rattle.net_model.specs.World.{IsEnvironment, IsFailureSet};
 ghost use Rattle.question_lang.specs.Packets.{IsInSet};
 ghost use Rattle.serde_json.specs.View.{view};
 ghost use Rattle.serde_json.specs.Read.{read};
@@ -213,7 +213,6 @@ fn value_of(alloc: Global, bytes: &[u8]) -> Result<Value, CexRefused>
 ///
 /// `NotJson` exactly where the text is no JSON (RFC 8259). `Field` at the first field that is missing, of a wrong type, out
 /// of range, out of order, or names nothing of the network or the questions.
-#[tactic(auto, using(crate::proofs::Fitting::cex_failures, crate::proofs::Sizes::cex_slots, crate::proofs::Sizes::cex_question))]
 pub fn read_cex(
     alloc: Global,
     net: &Net,
@@ -224,13 +223,14 @@ pub fn read_cex(
     ensures refused { IfErr result (λ refused. refused ≢ CexRefused.Memory →
         reading.reading net.now questions.now bytes.now ≡ Err refused) }
 
-    // The question is one of the list, the packet is in its set and the failed links are at most its number; each router
-    // has a slot for each length.
+    // The question is one of the list, the packet is in its set, the failed links are at most its number and the external
+    // peers send what they may; each router has a slot for each length.
     ensures question { IfOk result (λ cex. cex.question < length questions.now) }
     ensures packet { IfOk result (λ cex. (question : Question) → slice_get questions.now cex.question ≡ Some question →
         IsInSet question.packets cex.packet) }
     ensures failures { IfOk result (λ cex. (question : Question) → slice_get questions.now cex.question ≡ Some question →
         IsFailureSet net.now question.failures cex.failures) }
+    ensures environment { IfOk result (λ cex. IsEnvironment net.now cex.env) }
     ensures slots { IfOk result (λ cex. length cex.tables.slots ≡ LENGTHS * length net.now) }
 {
     let text = value_of(alloc, bytes)?;

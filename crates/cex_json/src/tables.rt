@@ -1,9 +1,11 @@
 //! The JSON values of tables.
 
 ghost use Rattle.std.specs.Prelude.{◌≡◌, IfOk, map, option_map};
-ghost use Rattle.serde_json.specs.Data.{string};
+ghost use Rattle.std.specs.Option.{option_map_or};
+ghost use Rattle.serde_json.specs.Data.{null, string};
 ghost use Rattle.serde_json.specs.View.{view};
 ghost use Rattle.cex_json.specs.Parts as parts;
+ghost use Rattle.cex_json.specs.Text as text;
 
 use crate::parts::{router_name, text_value};
 use crate::routes::{bgp_value, ospf_value, put_field};
@@ -88,6 +90,46 @@ pub fn slot_values(alloc: Global, files: &[File], slots: &[Slot]) -> Result<Vec<
         if has_part(slot) {
             values.push(slot_value(alloc, files, place, slot)?)?;
         }
+    }
+    Ok(values)
+}
+
+fn rib_or_null(alloc: Global, slot: &Slot) -> Result<Value, AllocError>
+    ensures { IfOk result (λ value. view value ≡ option_map_or parts.rib_data slot.now.rib null) }
+{
+    match &slot.rib {
+        None => Ok(Value::Null),
+        Some(entry) => rib_value(alloc, entry),
+    }
+}
+
+fn ospf_or_rib(alloc: Global, slot: &Slot) -> Result<Value, AllocError>
+    ensures { IfOk result (λ value. view value ≡ option_map_or parts.ospf_data slot.now.ospf (option_map_or parts.rib_data slot.now.rib null)) }
+{
+    match &slot.ospf {
+        None => rib_or_null(alloc, slot),
+        Some(held) => ospf_value(alloc, held),
+    }
+}
+
+/// The part of a slot that is there, of several the first by name; null where there is none.
+#[tactic(auto, unfolding(crate::specs::Text::part_data))]
+pub fn part_value(alloc: Global, slot: &Slot) -> Result<Value, AllocError>
+    ensures { IfOk result (λ value. view value ≡ text.part_data slot.now) }
+{
+    match &slot.bgp {
+        None => ospf_or_rib(alloc, slot),
+        Some(held) => bgp_value(alloc, held),
+    }
+}
+
+/// The parts of slots, in their order.
+pub fn part_values(alloc: Global, slots: &[Slot]) -> Result<Vec<Value>, AllocError>
+    ensures { IfOk result (λ values. map view values.items ≡ map text.part_data slots.now) }
+{
+    let mut values = Vec::new(alloc);
+    for slot in slots {
+        values.push(part_value(alloc, slot)?)?;
     }
     Ok(values)
 }

@@ -9,7 +9,6 @@ use std::alloc::{AllocError, AllocFailed};
 pub enum Cause {
     UnknownCommand,
     BadWord { word: u32 },
-    NotBuilt,
     Repeated,
     OutOfPlace,
     Limit,

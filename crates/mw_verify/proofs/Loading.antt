@@ -11,8 +11,7 @@ use Rattle.mw_verify.specs.Loading.{OnStop}
 use Rattle.mw_verify.specs.declared.text.Text.{Text}
 use Rattle.mw_text.proofs.Reading.{EachTo, split-read}
 use Rattle.mw_text.specs.Reading.{each}
-use Rattle.mw_verify.specs.Due.{Outcome, unread, refused, text_of}
-use Rattle.mw_verify.specs.declared.load.TheConstants.{MOST_BYTES}
+use Rattle.mw_verify.specs.Due.{Outcome, unread, refused, text_of, text_within}
 use Rattle.mw_verify.specs.Running.{StopsAt}
 use Rattle.mw_verify.specs.Texts.{too_long}
 
@@ -23,43 +22,43 @@ le_false : (a b : ℕ) → b < a → nat_le a b ≡ false
 le_false a b h = grind arith
 
 -- the text of what is there
-abbrev text_there : List ℕ → Option (List ℕ) → Result Text Outcome
-text_there name there =
-    option_map_or (λ bytes. cond (nat_le (length bytes) MOST_BYTES) (Ok (record { name = name; bytes = bytes }))
+abbrev text_there : ℕ → List ℕ → Option (List ℕ) → Result Text Outcome
+text_there most name there =
+    option_map_or (λ bytes. cond (nat_le (length bytes) most) (Ok (record { name = name; bytes = bytes }))
     (Err (refused (too_long name))))
     there (Err unread)
 
-there_whole : (name bytes : List ℕ) (there : Option (List ℕ)) → IsSomeAnd there (λ file. file ≡ bytes)
-    → length bytes ≤ MOST_BYTES →
-    text_there name there ≡ Ok (record { name = name; bytes = bytes })
-there_whole name bytes None whole small = absurd whole
-there_whole name bytes (Some file) whole small =
-    ap (λ f. text_there name (Some f)) whole
+there_whole : (most : ℕ) (name bytes : List ℕ) (there : Option (List ℕ)) → IsSomeAnd there (λ file. file ≡ bytes)
+    → length bytes ≤ most →
+    text_there most name there ≡ Ok (record { name = name; bytes = bytes })
+there_whole most name bytes None whole small = absurd whole
+there_whole most name bytes (Some file) whole small =
+    ap (λ f. text_there most name (Some f)) whole
     ∙ ap (λ b. cond b (Ok (record { name = name; bytes = bytes })) (Err (refused (too_long name))))
-    (le_true (length bytes) MOST_BYTES small)
+    (le_true (length bytes) most small)
 
-there_too_long : (name : List ℕ) (there : Option (List ℕ)) → IsSomeAnd there (λ file. MOST_BYTES < length file) →
-    text_there name there ≡ Err (refused (too_long name))
-there_too_long name None long = absurd long
-there_too_long name (Some file) long =
+there_too_long : (most : ℕ) (name : List ℕ) (there : Option (List ℕ)) → IsSomeAnd there (λ file. most < length file) →
+    text_there most name there ≡ Err (refused (too_long name))
+there_too_long most name None long = absurd long
+there_too_long most name (Some file) long =
     ap (λ b. cond b (Ok (record { name = name; bytes = file })) (Err (refused (too_long name))))
-    (le_false (length file) MOST_BYTES long)
+    (le_false (length file) most long)
 
 -- a file that was read whole, where contents are told
-pub text_whole : (told : Option Contents) (name bytes : List ℕ) (text : Text) → Has told name (λ file. file ≡ bytes)
-    → length bytes ≤ MOST_BYTES →
-    text ≡ record { name = name; bytes = bytes } → IfSome told (λ contents. text_of contents name ≡ Ok text)
-text_whole None name bytes text whole small is = tt
-text_whole (Some contents) name bytes text whole small is =
-    there_whole name bytes (get contents name) whole small ∙ ap Ok (sym is)
+pub text_whole : (most : ℕ) (told : Option Contents) (name bytes : List ℕ) (text : Text)
+    → Has told name (λ file. file ≡ bytes) → length bytes ≤ most →
+    text ≡ record { name = name; bytes = bytes } → IfSome told (λ contents. text_within most contents name ≡ Ok text)
+text_whole most None name bytes text whole small is = tt
+text_whole most (Some contents) name bytes text whole small is =
+    there_whole most name bytes (get contents name) whole small ∙ ap Ok (sym is)
 
 -- a file that was too long
-pub text_too_long : (told : Option Contents) (name line : List ℕ) → Has told name (λ file. MOST_BYTES < length file)
+pub text_too_long : (most : ℕ) (told : Option Contents) (name line : List ℕ) → Has told name (λ file. most < length file)
     → line ≡ too_long name →
-    IfSome told (λ contents. text_of contents name ≡ Err (refused line))
-text_too_long None name line long is = tt
-text_too_long (Some contents) name line long is =
-    there_too_long name (get contents name) long ∙ ap (λ l. Err (refused l)) (sym is)
+    IfSome told (λ contents. text_within most contents name ≡ Err (refused line))
+text_too_long most None name line long is = tt
+text_too_long most (Some contents) name line long is =
+    there_too_long most name (get contents name) long ∙ ap (λ l. Err (refused l)) (sym is)
 
 -- what is said of a stop
 pub on_stop-map : (stop : Stop) (P P' : List ℕ → Type 0) (Q Q' : Type 0) → OnStop stop P Q

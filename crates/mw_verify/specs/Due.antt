@@ -1,5 +1,5 @@
 -- What is due for words over the contents of files: usage, a refusal, or answers to questions over a network.
-use Rattle.std.specs.Prelude.{ℕ, ◌==◌, ◌&&◌, Bool, false, not, List, [], ◌∷◌, length, nat_lt, nat_le, codes}
+use Rattle.std.specs.Prelude.{ℕ, ◌==◌, ◌&&◌, ◌||◌, Bool, false, not, List, [], ◌∷◌, length, nat_lt, nat_le, codes}
 use Rattle.std.specs.Prelude.{slice_index, slice_get, filter, is_none, position, min, Option, Some, None}
 use Rattle.std.specs.Prelude.{option_and_then, option_map, is_some, unwrap_or, Result, Ok, Err, if◌then◌else◌}
 use Rattle.std.specs.List.{list_all, list_any}
@@ -12,20 +12,18 @@ use Rattle.ios_policy_reader.specs.declared.cause.Refused.{Refused}
 use Rattle.net_model.specs.declared.refusals.NetRefused.{NetRefused}
 use Rattle.net_model.specs.Refusals.{first_refusal}
 use Rattle.ios_reader.specs.Reading.{reading}
-use Rattle.net_model.specs.Limits.{keeps_limits}
+use Rattle.cex_json.specs.declared.counterexample.Counterexample.{Counterexample}
+use Rattle.cex_json.specs.declared.refused.CexRefused.{CexRefused}
+use Rattle.cex_json.specs.Reading.{reading as reading_cex}
 use Rattle.net_model.specs.Network.{is_plain}
 use Rattle.question_lang.specs.declared.question.Question.{Question}
 use Rattle.mw_text.specs.declared.words.Line.{Line}
 use Rattle.mw_text.specs.Words.{is_skipped, text_lines}
-use Rattle.question_lang.specs.declared.question.Kind.{Kind}
-use Rattle.question_lang.specs.declared.question.Kind.TheVariants.{Reach, Isolate, Waypoint, NoLoop, NoBlackHole}
-use Rattle.question_lang.specs.declared.question.Kind.TheVariants.{Within, Alike, NoStable}
-use Rattle.question_lang.specs.declared.question.Target.TheVariants.{Router, Subnet, Peer}
-use Rattle.question_lang.specs.Asking.{asking, not_built}
-use Rattle.question_lang.specs.Single.{is_single}
-use Rattle.mw_verify.specs.declared.load.TheConstants.{DEFAULT_CONFLICTS, MOST_BYTES}
+use Rattle.question_lang.specs.Asking.{asking}
+use Rattle.question_lang.specs.Single.{is_reach, is_single}
+use Rattle.mw_verify.specs.declared.load.TheConstants.{DEFAULT_CONFLICTS, MOST_BYTES, MOST_CEX_BYTES}
 use Rattle.mw_verify.specs.declared.text.Text.{Text}
-use Rattle.mw_verify.specs.Texts.{net_cause_text, no_network, refusal, refused_text, too_long}
+use Rattle.mw_verify.specs.Texts.{cex_refusal, net_cause_text, not_built, refusal, refused_text, too_long}
 
 -- what the contents of files come to
 pub data Outcome : Type 0 where
@@ -37,16 +35,29 @@ pub data Outcome : Type 0 where
   refused : List ℕ → Outcome
   -- the questions over the network of these files are answered, each with that number of additions allowed
   answering : List File → List Question → ℕ → Outcome
+  -- a counterexample to one of the questions over the network of these files is tested
+  replaying : List File → List Question → Counterexample → Outcome
 
 -- the word begins with '-'
 abbrev pub is_option : List ℕ → Bool
 is_option word = nat_lt 0 (length word) && slice_index word 0 == 45
 
+-- that command and at least so many names, none of which is an option
+abbrev pub is_words : List ℕ → ℕ → List (List ℕ) → Bool
+is_words command count [] = false
+is_words command count (word ∷ names) =
+    same_text word command && (nat_le count (length names) && not (list_any is_option names))
+
 -- verify QUESTIONS CONFIG...
 abbrev pub is_verify : List (List ℕ) → Bool
-is_verify [] = false
-is_verify (command ∷ names) =
-    same_text command (codes "verify") && (nat_le 2 (length names) && not (list_any is_option names))
+is_verify words = is_words (codes "verify") 2 words
+
+-- replay CEX QUESTIONS CONFIG...
+abbrev pub is_replay : List (List ℕ) → Bool
+is_replay words = is_words (codes "replay") 3 words
+
+abbrev pub is_command : List (List ℕ) → Bool
+is_command words = is_verify words || is_replay words
 
 -- a value, or the refusal of that file
 abbrev pub read_as : {A : Type 0} → List ℕ → Result A Refused → Result A Outcome
@@ -63,11 +74,6 @@ text_of contents name =
 -- the file that a text reads as
 abbrev pub file_of : Text → Result File Outcome
 file_of text = read_as text.name (reading text.bytes)
-
--- the name of the first of some files
-abbrev pub first_name : List Text → List ℕ
-first_name [] = []
-first_name (text ∷ texts) = text.name
 
 -- the name of the text of that number
 abbrev pub name_at : List Text → ℕ → List ℕ
@@ -94,39 +100,23 @@ unbuilt_line_at files at = unwrap_or (option_and_then unbuilt_line (slice_get fi
 -- the first file whose router runs a routing protocol is refused at that line
 abbrev pub unbuilt : List Text → List File → Option (List ℕ)
 unbuilt texts files =
-    option_map (λ at. refusal (name_at texts at) (not_built (unbuilt_line_at files at)))
+    option_map (λ at. not_built (name_at texts at) (unbuilt_line_at files at))
     (position (λ file. not (is_plain file)) files)
 
 -- files that break no rule of networks, and for which `verify` can answer
 abbrev pub answered_network : List Text → List File → Result (List File) Outcome
 answered_network texts files = option_map_or (λ line. Err (refused line)) (unbuilt texts files) (Ok files)
 
--- the files of some texts, where they are a network for which `verify` can answer. Files beyond the limits of a file,
--- which no text reads as, are none
+-- the files of some texts, where they are a network
 abbrev pub network_of : List Text → List File → Result (List File) Outcome
 network_of texts files =
-    if list_all keeps_limits files
-    then option_map_or (λ why. Err (refused (net_refusal texts why))) (first_refusal files)
-    (answered_network texts files)
-    else Err (refused (no_network (first_name texts)))
+    option_map_or (λ why. Err (refused (net_refusal texts why))) (first_refusal files) (Ok files)
 
 -- the network of some texts
 abbrev pub network_due : List Text → Result (List File) Outcome
 network_due texts = following (network_of texts) (each file_of texts)
 
 -- what `verify` can answer today: whether one packet from a router reaches a router, while no link fails
-abbrev pub is_reach : Kind → Bool
-is_reach (Reach start (Router router)) = is_none start.iface
-is_reach (Reach start (Subnet p)) = false
-is_reach (Reach start (Peer router a)) = false
-is_reach (Isolate start target) = false
-is_reach (Waypoint start target via) = false
-is_reach (NoLoop start) = false
-is_reach (NoBlackHole start) = false
-is_reach (Within most start) = false
-is_reach (Alike a b target) = false
-is_reach NoStable = false
-
 abbrev pub is_answerable : Question → Bool
 is_answerable question = is_reach question.kind && ((question.failures == 0) && is_single question.packets)
 
@@ -141,31 +131,60 @@ line_of bytes number = option_map_or (λ line. line.number) (slice_get (asking_l
 -- the first question that cannot be answered refuses the file at its line
 abbrev pub answerable : Text → List File → List Question → Result Outcome Outcome
 answerable text files questions =
-    option_map_or (λ number. Err (refused (refusal text.name (not_built (line_of text.bytes number)))))
+    option_map_or (λ number. Err (refused (not_built text.name (line_of text.bytes number))))
     (position (λ question. not (is_answerable question)) questions) (Ok (answering files questions DEFAULT_CONFLICTS))
 
 -- the questions of a text over a network
+abbrev pub asked_of : Text → List File → Result (List Question) Outcome
+asked_of text files = read_as text.name (asking files text.bytes)
+
+-- those that `verify` can answer
 abbrev pub questions_of : Text → List File → Result Outcome Outcome
-questions_of text files = following (answerable text files) (read_as text.name (asking files text.bytes))
+questions_of text files = following (answerable text files) (asked_of text files)
 
--- what the texts come to: each configuration is parsed, then the network, then the questions
+-- what the texts of `verify` come to: each configuration is parsed, then the network, then the questions
 abbrev pub texts_due : List Text → Text → Result Outcome Outcome
-texts_due texts asked = following (questions_of asked) (network_due texts)
+texts_due texts asked = following (questions_of asked) (following (answered_network texts) (network_due texts))
 
--- what the files come to: all are read, the configurations first, and then their texts are parsed
+-- what the files of `verify` come to: all are read, the configurations first, and then their texts are parsed
 abbrev pub files_due : Contents → List ℕ → List (List ℕ) → Result Outcome Outcome
 files_due contents questions names =
     following (λ texts. following (texts_due texts) (text_of contents questions)) (each (text_of contents) names)
+
+-- the counterexample that a text states, or its refusal
+abbrev pub told_as : Text → List File → List Question → Result Counterexample CexRefused → Result Outcome Outcome
+told_as text files questions (Ok cex) = Ok (replaying files questions cex)
+told_as text files questions (Err why) = Err (refused (cex_refusal text.name why))
+
+abbrev pub cex_of : Text → List File → List Question → Result Outcome Outcome
+cex_of text files questions = told_as text files questions (reading_cex files questions text.bytes)
+
+-- what the texts of `replay` come to: the configurations, the network, the questions, and then the counterexample
+abbrev pub replay_due : List Text → Text → Text → Result Outcome Outcome
+replay_due texts asked told =
+    following (λ files. following (cex_of told files) (asked_of asked files)) (network_due texts)
+
+-- what the files of `replay` come to, read in the same order
+abbrev pub replayed_due : Contents → List ℕ → List ℕ → List (List ℕ) → Result Outcome Outcome
+replayed_due contents cex questions names =
+    following (λ texts. following (λ asked. following (replay_due texts asked) (text_within MOST_CEX_BYTES contents cex))
+    (text_of contents questions)) (each (text_of contents) names)
 
 abbrev pub either : Result Outcome Outcome → Outcome
 either (Ok outcome) = outcome
 either (Err outcome) = outcome
 
 -- the words after the command
-abbrev pub named_due : Contents → List (List ℕ) → Outcome
-named_due contents (command ∷ questions ∷ names) = either (files_due contents questions names)
-named_due contents _ = usage
+abbrev pub verify_due : Contents → List (List ℕ) → Outcome
+verify_due contents (command ∷ questions ∷ names) = either (files_due contents questions names)
+verify_due contents _ = usage
+
+abbrev pub replay_words_due : Contents → List (List ℕ) → Outcome
+replay_words_due contents (command ∷ cex ∷ questions ∷ names) = either (replayed_due contents cex questions names)
+replay_words_due contents _ = usage
 
 -- what is due
 abbrev pub due : Contents → List (List ℕ) → Outcome
-due contents words = if is_verify words then named_due contents words else usage
+due contents words =
+    if is_verify words then verify_due contents words
+    else (if is_replay words then replay_words_due contents words else usage)

@@ -3,4 +3,5 @@ pub mod Numbers
 pub mod Due
 pub mod Loading
 pub mod Verdicts
+pub mod Replays
 pub mod Running

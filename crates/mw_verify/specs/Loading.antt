@@ -4,7 +4,12 @@ use Rattle.std.specs.Prelude.{Err}
 use Rattle.std.specs.List.{list_all}
 use Rattle.mw_verify.specs.declared.load.Stop.{Stop}
 use Rattle.mw_verify.specs.declared.load.Stop.TheVariants as stop
-use Rattle.mw_verify.specs.declared.load.TheConstants.{MOST_BYTES}
+use Rattle.mw_verify.specs.declared.load.TheConstants.{DEFAULT_CONFLICTS, MOST_BYTES}
+use Rattle.mw_verify.specs.declared.work.Work.{Work}
+use Rattle.mw_verify.specs.declared.work.Work.TheVariants.{Answer, Replay}
+use Rattle.question_lang.specs.Single.{AreReach}
+use Rattle.question_lang.specs.declared.reader.TheConstants.{MOST_QUESTIONS}
+use Rattle.net_model.specs.Network.{runs_no_protocol}
 use Rattle.mw_verify.specs.declared.text.Text.{Text}
 use Rattle.mw_outside.specs.Taken.{Takes}
 use Rattle.ios_ast.specs.declared.file.File.{File}
@@ -12,10 +17,11 @@ use Rattle.question_lang.specs.declared.question.Question.{Question}
 use Rattle.mw_verify.specs.declared.status.Status.{Status}
 use Rattle.mw_verify.specs.declared.status.Status.TheVariants.{Good, Bad, Unknown, Usage, Refused, ReadFault}
 use Rattle.mw_verify.specs.declared.status.Status.TheVariants.{WriteFault, Memory}
-use Rattle.mw_verify.specs.Due.{answering, is_answerable}
+use Rattle.mw_verify.specs.Due.{Outcome, usage, unread, refused, answering, replaying, is_answerable}
+use Rattle.mw_verify.specs.Replays.{IsAdmitted, IsReplayedSo}
 use Rattle.mw_verify.specs.Running.{PrintsPart}
 use Rattle.mw_verify.specs.declared.answer.Verdict.{Verdict}
-use Rattle.mw_verify.specs.Verdicts.{Answer, AreRight, IsRight, MayGoUnlogged, answers_text, is_broken_verdict}
+use Rattle.mw_verify.specs.Verdicts.{Answer as Answered, AreRight, IsRight, MayGoUnlogged, answers_text, is_broken_verdict}
 use Rattle.mw_verify.specs.Verdicts.{is_unknown_verdict, sections_text, status_of, verdict_text}
 
 -- P of the line of a refusal, Q at a fault of reading
@@ -42,24 +48,30 @@ AreAnswerable questions = list_all is_answerable questions ≡ true
 -- answers to all questions stand, none of them logged
 pub record IsWhole (files : List File) (questions : List Question) (budget : ℕ) (status : Status)
     (before now : Option (List ℕ)) : Type 0 where
-  pub answers : List Answer
+  pub answers : List Answered
   pub right : AreRight files budget 0 questions answers
   pub ends : status ≡ status_of answers
   pub text : Takes before now (answers_text files questions questions answers)
   pub unlogged : sections_text questions answers ≡ []
 
--- how a run of answers ends: with right answers to all questions and the whole text taken, or early, with a front of
--- right answers to the first questions
-abbrev pub AnswersSo : List File → List Question → ℕ → Status → Option (List ℕ) → Option (List ℕ) → Type 0 → Type 0
-AnswersSo files questions budget Good before now rose = IsWhole files questions budget Good before now
-AnswersSo files questions budget Bad before now rose = IsWhole files questions budget Bad before now
-AnswersSo files questions budget WriteFault before now rose = PrintsPart (answering files questions budget) before now
-    × rose
-AnswersSo files questions budget Memory before now rose = PrintsPart (answering files questions budget) before now
-AnswersSo files questions budget Unknown before now rose = ⊥
-AnswersSo files questions budget Usage before now rose = ⊥
-AnswersSo files questions budget Refused before now rose = ⊥
-AnswersSo files questions budget ReadFault before now rose = ⊥
+-- all that is due was answered, and nothing of it is logged
+abbrev pub IsAll : Outcome → Status → Option (List ℕ) → Option (List ℕ) → Type 0
+IsAll (answering files questions budget) status before now = IsWhole files questions budget status before now
+IsAll (replaying files questions cex) status before now = IsReplayedSo files questions cex status before now
+IsAll usage status before now = ⊥
+IsAll unread status before now = ⊥
+IsAll (refused line) status before now = ⊥
+
+-- how answers end: all of them, the whole text taken; or early, with a front of them
+abbrev pub AnswersSo : Outcome → Status → Option (List ℕ) → Option (List ℕ) → Type 0 → Type 0
+AnswersSo outcome Good before now rose = IsAll outcome Good before now
+AnswersSo outcome Bad before now rose = IsAll outcome Bad before now
+AnswersSo outcome WriteFault before now rose = PrintsPart outcome before now × rose
+AnswersSo outcome Memory before now rose = PrintsPart outcome before now
+AnswersSo outcome Unknown before now rose = ⊥
+AnswersSo outcome Usage before now rose = ⊥
+AnswersSo outcome Refused before now rose = ⊥
+AnswersSo outcome ReadFault before now rose = ⊥
 
 -- the text is that of a right verdict which goes unlogged, and the verdict is `broken` or not
 abbrev pub IsLine : List File → List Question → ℕ → Question → Bool → List ℕ → Type 0
@@ -67,3 +79,15 @@ IsLine files questions number question broken text =
     (verdict : Verdict) × IsRight files number question verdict × MayGoUnlogged verdict
     × (broken ≡ is_broken_verdict verdict)
     × (is_unknown_verdict verdict ≡ false) × (text ≡ verdict_text files questions question verdict)
+
+-- what the work of a command comes to
+abbrev pub outcome_of : Work → Outcome
+outcome_of (Answer loaded) = answering loaded.net loaded.questions DEFAULT_CONFLICTS
+outcome_of (Replay told) = replaying told.net told.questions told.cex
+
+-- the work can be done: the questions are among those that are answered today, or the counterexample is admitted
+abbrev pub IsReady : Work → Type 0
+IsReady (Answer loaded) =
+    (runs_no_protocol loaded.net ≡ true) × AreReach (length loaded.net) loaded.questions × AreAnswerable loaded.questions
+    × (length loaded.questions ≤ MOST_QUESTIONS)
+IsReady (Replay told) = IsAdmitted told.net told.questions told.cex

@@ -1,5 +1,5 @@
 -- What a run prints and logs.
-use Rattle.std.specs.Prelude.{◌≡◌, ℕ, false, List, [], ◌∷◌, ◌++◌, take, Option, IfSome, Ok}
+use Rattle.std.specs.Prelude.{◌≡◌, ◌⊎◌, ℕ, false, List, [], ◌∷◌, ◌++◌, take, Option, IfSome, Ok, if◌then◌else◌}
 use Rattle.mw_text.specs.Reading.{each}
 use Rattle.mw_outside.specs.Contents.{Contents}
 use Rattle.mw_outside.specs.Taken.{Takes, TakesPart}
@@ -9,14 +9,16 @@ use Rattle.mw_verify.specs.declared.status.Status.{Status}
 use Rattle.mw_verify.specs.declared.status.Status.TheVariants.{Good, Bad, Unknown, Usage, Refused, ReadFault}
 use Rattle.mw_verify.specs.declared.status.Status.TheVariants.{WriteFault, Memory}
 use Rattle.mw_verify.specs.declared.text.Text.{Text}
-use Rattle.mw_verify.specs.Due.{Outcome, usage, unread, refused, answering, due, is_verify, text_of}
+use Rattle.mw_verify.specs.Due.{Outcome, usage, unread, refused, answering, replaying, due, is_command, is_replay, text_of}
+use Rattle.mw_verify.specs.Replays.{AnswersReplay, IsReplayedSo, replay_text}
+use Rattle.stable_replay.specs.declared.differs.ReplayNo.{ReplayNo}
 use Rattle.mw_verify.specs.Texts.{usage_text}
 use Rattle.mw_verify.specs.Verdicts.{Answer, AreRight, answers_text, sections_text, status_of}
 
 -- what is due for the words: usage where they are no command, whatever the files hold; and what the contents come to,
 -- where these are told
 pub record IsDue (contents : Option Contents) (words : List (List ℕ)) (outcome : Outcome) : Type 0 where
-  pub no_command : is_verify words ≡ false → outcome ≡ usage
+  pub no_command : is_command words ≡ false → outcome ≡ usage
   pub told : IfSome contents (λ files. due files words ≡ outcome)
 
 -- right answers to all questions: the status is theirs, and their whole text and their sections stand
@@ -28,7 +30,18 @@ pub record AreAnswered (files : List File) (questions : List Question) (budget :
   pub text : Takes before now (answers_text files questions questions answers)
   pub logged : Takes logged_before logged_now (sections_text questions answers)
 
--- a text that may stand when a run ends early: the line that is due, or right answers to the first questions
+-- what is due is answered: all questions, or the replay, of which nothing is logged
+abbrev pub IsAnswered : Outcome → Status → Option (List ℕ) → Option (List ℕ) → Option (List ℕ) → Option (List ℕ) → Type 0
+IsAnswered (answering files questions budget) status before now logged_before logged_now =
+    AreAnswered files questions budget status before now logged_before logged_now
+IsAnswered (replaying files questions cex) status before now logged_before logged_now =
+    IsReplayedSo files questions cex status before now × (logged_now ≡ logged_before)
+IsAnswered usage status before now logged_before logged_now = ⊥
+IsAnswered unread status before now logged_before logged_now = ⊥
+IsAnswered (refused line) status before now logged_before logged_now = ⊥
+
+-- a text that may stand when a run ends early: the line that is due, or right answers to the first questions, or the answer
+-- of a replay where there was one
 abbrev pub MayPrint : Outcome → List ℕ → Type 0
 MayPrint usage text = text ≡ usage_text
 MayPrint unread text = text ≡ []
@@ -36,6 +49,8 @@ MayPrint (refused line) text = text ≡ line
 MayPrint (answering files questions budget) text =
     (count : ℕ) × (answers : List Answer) × AreRight files budget 0 (take count questions) answers
     × (text ≡ answers_text files questions (take count questions) answers)
+MayPrint (replaying files questions cex) text =
+    (text ≡ []) ⊎ ((answer : Option ReplayNo) × AnswersReplay files questions cex answer × (text ≡ replay_text files answer))
 
 -- a front of such a text stands
 abbrev pub PrintsPart : Outcome → Option (List ℕ) → Option (List ℕ) → Type 0
@@ -63,12 +78,21 @@ OnCut ReadFault P = Unit {0}
 OnCut WriteFault P = P
 OnCut Memory P = P
 
--- the names of the files in the order in which they are read: the configurations, and then the questions
-abbrev pub in_order : List (List ℕ) → List (List ℕ)
-in_order (command ∷ questions ∷ names) = names ++ questions ∷ []
-in_order _ = []
+-- the names of the files in the order in which they are read: the configurations, then the questions, and for `replay` then
+-- the counterexample
+abbrev pub verify_order : List (List ℕ) → List (List ℕ)
+verify_order (command ∷ questions ∷ names) = names ++ questions ∷ []
+verify_order _ = []
 
--- the files of these names are there, each with few enough bytes
+abbrev pub replay_order : List (List ℕ) → List (List ℕ)
+replay_order (command ∷ cex ∷ questions ∷ names) = names ++ questions ∷ cex ∷ []
+replay_order _ = []
+
+abbrev pub in_order : List (List ℕ) → List (List ℕ)
+in_order words = if is_replay words then replay_order words else verify_order words
+
+-- the files of these names are there, each with few enough bytes: only the last that a command names, its own, is none of
+-- these
 abbrev pub AreThere : Contents → List (List ℕ) → Type 0
 AreThere files names = (texts : List Text) × (each (text_of files) names ≡ Ok texts)
 

@@ -2,7 +2,7 @@
 use Rattle.std.specs.Prelude.{ℕ, ◌++◌, ◌∷◌, [], List, codes}
 use Rattle.std.specs.Fmt.{decimal}
 use Rattle.ios_policy_reader.specs.declared.cause.Cause.{Cause}
-use Rattle.ios_policy_reader.specs.declared.cause.Cause.TheVariants.{UnknownCommand, BadWord, NotBuilt, Repeated}
+use Rattle.ios_policy_reader.specs.declared.cause.Cause.TheVariants.{UnknownCommand, BadWord, Repeated}
 use Rattle.ios_policy_reader.specs.declared.cause.Cause.TheVariants.{OutOfPlace, Limit, NoHostname, UnknownRouter}
 use Rattle.ios_policy_reader.specs.declared.cause.Cause.TheVariants.{UnknownPeer, TooManyQuestions, Undefined, Memory}
 use Rattle.ios_policy_reader.specs.declared.cause.Refused.{Refused}
@@ -12,6 +12,9 @@ use Rattle.net_model.specs.declared.refusals.NetCause.TheVariants.{SameName, Sam
 use Rattle.net_model.specs.declared.refusals.NetCause.TheVariants.{NextHopNotConnected, ExternalInternalPeer}
 use Rattle.net_model.specs.declared.refusals.NetCause.TheVariants.{SecondArea, NetLimit}
 use Rattle.question_lang.specs.declared.question.Question.{Question}
+use Rattle.cex_json.specs.declared.refused.CexRefused.{CexRefused}
+use Rattle.cex_json.specs.declared.refused.CexRefused.TheVariants as cex
+use Rattle.cex_json.specs.declared.refused.CexRefused.TheVariants.{NotJson, Field}
 
 -- the line feed
 abbrev pub newline : List ℕ
@@ -21,7 +24,6 @@ newline = 10 ∷ []
 abbrev pub cause_text : Cause → List ℕ
 cause_text UnknownCommand = codes "1 UnknownCommand"
 cause_text (BadWord word) = codes "2 BadWord " ++ decimal word
-cause_text NotBuilt = codes "3 NotBuilt"
 cause_text Repeated = codes "4 Repeated"
 cause_text OutOfPlace = codes "5 OutOfPlace"
 cause_text Limit = codes "6 Limit"
@@ -52,13 +54,23 @@ refused_text name line cause = codes "refused " ++ name ++ codes ":" ++ decimal 
 abbrev pub refusal : List ℕ → Refused → List ℕ
 refusal name refused = refused_text name refused.line (cause_text refused.cause)
 
+-- what is wrong with a counterexample
+abbrev pub cex_cause_text : CexRefused → List ℕ
+cex_cause_text NotJson = codes "18 NotJson"
+cex_cause_text (Field path) = codes "19 Field " ++ path
+cex_cause_text cex.Memory = []
+
+-- a counterexample is refused at its first line
+abbrev pub cex_refusal : List ℕ → CexRefused → List ℕ
+cex_refusal name why = refused_text name 1 (cex_cause_text why)
+
 -- a file with more bytes than its limit
 abbrev pub too_long : List ℕ → List ℕ
 too_long name = refused_text name 0 (codes "25 TooLong")
 
--- files that are no network are refused at line 0 of the first
-abbrev pub no_network : List ℕ → List ℕ
-no_network name = refused_text name 0 (codes "3 NotBuilt")
+-- a file is refused at a line for which `verify` cannot answer yet
+abbrev pub not_built : List ℕ → ℕ → List ℕ
+not_built name line = refused_text name line (codes "3 NotBuilt")
 
 -- words that are no command
 abbrev pub usage_text : List ℕ

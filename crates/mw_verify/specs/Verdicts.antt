@@ -22,6 +22,7 @@ use Rattle.question_lang.specs.Packets.{IsInSet}
 use Rattle.question_lang.specs.Breaking.{Breaks}
 use Rattle.cex_json.specs.declared.counterexample.Counterexample.{Counterexample}
 use Rattle.cex_json.specs.Text.{cex_text}
+use Rattle.stable_replay.specs.Replayed.{world_of}
 use Rattle.mw_verify.specs.declared.answer.Verdict.{Verdict}
 use Rattle.mw_verify.specs.declared.answer.Verdict.TheVariants.{Holds, Broken, Unknown}
 use Rattle.mw_verify.specs.declared.status.Status.{Status}
@@ -49,10 +50,6 @@ abbrev pub IsBreakable : List File → Question → Type 0
 IsBreakable files question =
     (world : World) × (environment : Environment) × (walk : Option Walk)
     × IsBreaking files question world environment walk
-
--- the world of a counterexample
-abbrev pub world_of : Counterexample → World
-world_of cex = record { failures = cex.failures; packet = cex.packet; tables = cex.tables }
 
 -- a counterexample to the question of that number breaks it
 abbrev pub IsTrueCounterexample : List File → ℕ → Question → Counterexample → Type 0

@@ -1,31 +1,36 @@
 //! Reads and parses the files that the words name.
 
 ghost use Rattle.std.specs.Prelude.{◌≡◌, ◌≢◌, ◌≤◌, ◌++◌, ◌∷◌, [], Ok, Err, None, true, IfOk, IfErr, IfSome, filter, is_some, length, map, not, position, slice_get, string_bytes};
+ghost use Rattle.std.specs.List.{list_all};
 ghost use Rattle.std.specs.Option.{option_map_or};
+ghost use Rattle.ios_ast.specs.Limits.{keeps_limits};
 ghost use Rattle.mw_text.specs.Reading.{each};
 ghost use Rattle.mw_text.specs.Words.{is_skipped};
-ghost use Rattle.question_lang.specs.Asking.{not_built};
 ghost use Rattle.mw_verify.specs.Texts as lines;
 ghost use Rattle.net_model.specs.Network.{is_plain, runs_no_protocol};
 ghost use Rattle.mw_outside.specs.Faults.{Rose};
 ghost use Rattle.mw_outside.specs.Contents.{TellsOnly};
+ghost use Rattle.question_lang.specs.Known.{AreKnown};
 ghost use Rattle.question_lang.specs.Single.{AreReach};
 ghost use Rattle.mw_verify.specs.Due as due;
 ghost use Rattle.mw_verify.specs.Running.{StopsAt};
 ghost use Rattle.mw_verify.specs.Loading.{OnStop, UnlessReadFault, AreSmall, AreAnswerable};
 
-use crate::text::{Text, net_refused, no_network, refusal, too_long};
+use crate::text::{Text, net_refused, not_built, refusal, too_long};
 use ios_ast::File;
 use ios_policy_reader::{Cause, Refused};
 use ios_reader::read_file;
 use mw_outside::{Files, ReadRefused, read_whole};
 use mw_text::{Line, List, lines_of, list_of, says_nothing};
-use net_model::{Net, NetCause, NetRefused, keep_limits};
-use question_lang::{Kind, MOST_QUESTIONS, Question, Target, is_single, read_questions};
+use net_model::{Net, NetCause, NetRefused};
+use question_lang::{MOST_QUESTIONS, Question, is_reach, is_single, read_questions};
 use std::alloc::{AllocError, AllocFailed, Global};
 
 /// How many bytes a configuration or a questions file has at most.
 pub const MOST_BYTES: u64 = 1_048_576;
+
+/// How many bytes a counterexample has at most.
+pub const MOST_CEX_BYTES: u64 = 16_777_216;
 
 /// How many clauses a search may learn for a question, where the words do not say it.
 pub const DEFAULT_CONFLICTS: u64 = 1_000_000;
@@ -58,8 +63,8 @@ impl<T: Drop> From<AllocFailed<T>> for Stop {
     }
 }
 
-// A run that ends with that line.
-fn stop_with(line: Result<List<u8>, AllocError>) -> Stop
+/// A run that ends with that line.
+pub fn stop_with(line: Result<List<u8>, AllocError>) -> Stop
     ensures { OnStop result (λ printed. line ≡ Ok printed) ⊥ }
 {
     match line {
@@ -87,19 +92,24 @@ fn named(alloc: Global, name: &str, bytes: List<u8>) -> Result<Text, AllocError>
     })
 }
 
-// The text of the file of that name.
+/// The text of the file of that name, of at most so many bytes.
 #[tactic(auto, using(crate::proofs::Loading::text_whole, crate::proofs::Loading::text_too_long))]
-fn read_text<F: Files>(alloc: Global, files: &mut F, name: &str) -> Result<Text, Stop>
+pub fn read_text<F: Files>(
+    alloc: Global,
+    files: &mut F,
+    name: &str,
+    most: u64,
+) -> Result<Text, Stop>
     ensures kept { F.contents files.new ≡ F.contents files.old }
-    ensures ok { IfOk result (λ text. IfSome (F.contents files.old) (λ contents. due.text_of contents name.now ≡ Ok text)) }
-    ensures small { IfOk result (λ text. length text.bytes ≤ MOST_BYTES) }
+    ensures ok { IfOk result (λ text. IfSome (F.contents files.old) (λ contents. due.text_within most contents name.now ≡ Ok text)) }
+    ensures small { IfOk result (λ text. length text.bytes ≤ most) }
     ensures quiet { UnlessReadFault result (F.faults files.new ≡ F.faults files.old) }
     ensures name_stays { UnlessReadFault result (F.last_failed files.new ≡ F.last_failed files.old) }
     ensures stop { IfErr result (λ stop. OnStop stop
-        (λ line. IfSome (F.contents files.old) (λ contents. due.text_of contents name.now ≡ Err (due.refused line)))
+        (λ line. IfSome (F.contents files.old) (λ contents. due.text_within most contents name.now ≡ Err (due.refused line)))
         (Rose (F.faults files.old) (F.faults files.new) × TellsOnly name.now (F.last_failed files.new))) }
 {
-    match read_whole(alloc, files, name, MOST_BYTES) {
+    match read_whole(alloc, files, name, most) {
         Ok(bytes) => Ok(named(alloc, name, bytes)?),
         Err(ReadRefused::TooLong) => Err(stop_with(too_long(alloc, name.as_bytes()))),
         Err(ReadRefused::Failed) => Err(Stop::ReadFault),
@@ -107,8 +117,12 @@ fn read_text<F: Files>(alloc: Global, files: &mut F, name: &str) -> Result<Text,
     }
 }
 
-// The texts of the files of these names.
-fn read_texts<F: Files>(alloc: Global, files: &mut F, names: &[String]) -> Result<List<Text>, Stop>
+/// The texts of the files of these names.
+pub fn read_texts<F: Files>(
+    alloc: Global,
+    files: &mut F,
+    names: &[String],
+) -> Result<List<Text>, Stop>
     ensures kept { F.contents files.new ≡ F.contents files.old }
     ensures ok { IfOk result (λ texts. IfSome (F.contents files.old) (λ contents.
         each (due.text_of contents) (map string_bytes names.now) ≡ Ok texts)) }
@@ -121,7 +135,7 @@ fn read_texts<F: Files>(alloc: Global, files: &mut F, names: &[String]) -> Resul
 {
     let mut texts = List::new(alloc);
     for name in names {
-        let text = read_text(alloc, files, name.as_str())?;
+        let text = read_text(alloc, files, name.as_str(), MOST_BYTES)?;
         texts.items.push(text)?;
     }
     Ok(texts)
@@ -131,6 +145,7 @@ fn read_texts<F: Files>(alloc: Global, files: &mut F, names: &[String]) -> Resul
 fn parse_file(alloc: Global, text: &Text) -> Result<File, Stop>
     requires { length text.now.bytes ≤ MOST_BYTES }
     ensures ok { IfOk result (λ file. due.file_of text.now ≡ Ok file) }
+    ensures limits { IfOk result (λ file. keeps_limits file ≡ true) }
     ensures stop { IfErr result (λ stop. OnStop stop (λ line. due.file_of text.now ≡ Err (due.refused line)) ⊥) }
 {
     match read_file(alloc, text.bytes.as_slice()) {
@@ -143,6 +158,7 @@ fn parse_file(alloc: Global, text: &Text) -> Result<File, Stop>
 fn parse_files(alloc: Global, texts: &[Text]) -> Result<List<File>, Stop>
     requires { AreSmall texts.now }
     ensures ok { IfOk result (λ files. each due.file_of texts.now ≡ Ok files) }
+    ensures limits { IfOk result (λ files. list_all keeps_limits files ≡ true) }
     ensures stop { IfErr result (λ stop. OnStop stop (λ line. each due.file_of texts.now ≡ Err (due.refused line)) ⊥) }
 {
     let mut files = List::new(alloc);
@@ -151,15 +167,6 @@ fn parse_files(alloc: Global, texts: &[Text]) -> Result<List<File>, Stop>
         files.items.push(file)?;
     }
     Ok(files)
-}
-
-fn first_name(texts: &[Text]) -> &[u8]
-    ensures { result.now ≡ due.first_name texts.now }
-{
-    match texts {
-        [] => b"",
-        [text, ..] => text.name.as_slice(),
-    }
 }
 
 fn name_at(texts: &[Text], at: usize) -> &[u8]
@@ -235,13 +242,9 @@ fn unbuilt_refusal(
     files: &[File],
     at: usize,
 ) -> Result<List<u8>, AllocError>
-    ensures { IfOk result (λ line. line ≡ lines.refusal (due.name_at texts.now at) (not_built (due.unbuilt_line_at files.now at))) }
+    ensures { IfOk result (λ line. line ≡ lines.not_built (due.name_at texts.now at) (due.unbuilt_line_at files.now at)) }
 {
-    let refused = Refused {
-        line: unbuilt_line_at(files, at),
-        cause: Cause::NotBuilt,
-    };
-    refusal(alloc, name_at(texts, at), &refused)
+    not_built(alloc, name_at(texts, at), unbuilt_line_at(files, at))
 }
 
 // A run that ends at the refusal of files that form no network.
@@ -266,26 +269,22 @@ fn answered_network(alloc: Global, texts: &[Text], net: Net) -> Result<Net, Stop
     }
 }
 
-// The network of some files, where they form one for which `verify` can answer.
+// The network of some files, where they form one.
 fn network_of(alloc: Global, texts: &[Text], files: List<File>) -> Result<Net, Stop>
+    requires limits { list_all keeps_limits files ≡ true }
     ensures ok { IfOk result (λ net. due.network_of texts.now files ≡ Ok net) }
-    ensures plain { IfOk result (λ net. runs_no_protocol net ≡ true) }
     ensures stop { IfErr result (λ stop. OnStop stop (λ line. due.network_of texts.now files ≡ Err (due.refused line)) ⊥) }
 {
-    if !keep_limits(files.as_slice()) {
-        return Err(stop_with(no_network(alloc, first_name(texts))));
-    }
     match Net::build(alloc, files) {
-        Ok(net) => answered_network(alloc, texts, net),
+        Ok(net) => Ok(net),
         Err(why) => Err(stop_at_network(alloc, texts, why)),
     }
 }
 
-// The network of the texts.
-fn parse_network(alloc: Global, texts: &[Text]) -> Result<Net, Stop>
+/// The network of the texts.
+pub fn parse_network(alloc: Global, texts: &[Text]) -> Result<Net, Stop>
     requires { AreSmall texts.now }
     ensures ok { IfOk result (λ net. due.network_due texts.now ≡ Ok net) }
-    ensures plain { IfOk result (λ net. runs_no_protocol net ≡ true) }
     ensures stop { IfErr result (λ stop. OnStop stop (λ line. due.network_due texts.now ≡ Err (due.refused line)) ⊥) }
 {
     let files = parse_files(alloc, texts)?;
@@ -296,16 +295,7 @@ fn parse_network(alloc: Global, texts: &[Text]) -> Result<Net, Stop>
 fn is_answerable(question: &Question) -> bool
     ensures { result ≡ due.is_answerable question.now }
 {
-    is_reach(&question.kind) && question.failures == 0 && is_single(&question.packets)
-}
-
-fn is_reach(kind: &Kind) -> bool
-    ensures { result ≡ due.is_reach kind.now }
-{
-    match kind {
-        Kind::Reach(start, Target::Router(_)) => start.iface.is_none(),
-        _ => false,
-    }
+    is_reach(question) && question.failures == 0 && is_single(&question.packets)
 }
 
 fn find_unanswerable(questions: &[Question]) -> Option<usize>
@@ -350,17 +340,32 @@ fn line_of(lines: &[Line], number: usize) -> u32
 // The line of a question that cannot be answered.
 fn unanswerable(alloc: Global, asked: &Text, number: usize) -> Result<List<u8>, AllocError>
     requires { length asked.now.bytes ≤ MOST_BYTES }
-    ensures { IfOk result (λ line. line ≡ lines.refusal asked.now.name (not_built (due.line_of asked.now.bytes number))) }
+    ensures { IfOk result (λ line. line ≡ lines.not_built asked.now.name (due.line_of asked.now.bytes number)) }
 {
     let lines = lines_of(alloc, asked.bytes.as_slice())?;
-    let refused = Refused {
-        line: line_of(lines.as_slice(), number),
-        cause: Cause::NotBuilt,
-    };
-    refusal(alloc, asked.name.as_slice(), &refused)
+    not_built(
+        alloc,
+        asked.name.as_slice(),
+        line_of(lines.as_slice(), number),
+    )
+}
+
+/// The questions of the text over the network.
+pub fn read_asked(alloc: Global, asked: &Text, net: &Net) -> Result<List<Question>, Stop>
+    requires { length asked.now.bytes ≤ MOST_BYTES }
+    ensures ok { IfOk result (λ questions. due.asked_of asked.now net.now ≡ Ok questions) }
+    ensures known { IfOk result (AreKnown net.now) }
+    ensures few { IfOk result (λ questions. length questions ≤ MOST_QUESTIONS) }
+    ensures stop { IfErr result (λ stop. OnStop stop (λ line. due.asked_of asked.now net.now ≡ Err (due.refused line)) ⊥) }
+{
+    match read_questions(alloc, asked.bytes.as_slice(), net) {
+        Ok(questions) => Ok(questions),
+        Err(refused) => Err(stop_at(alloc, asked.name.as_slice(), &refused)),
+    }
 }
 
 // The questions of the text over the network, all of which can be answered.
+#[tactic(auto, using(crate::proofs::Deciding::are_reach))]
 fn parse_questions(alloc: Global, asked: &Text, net: &Net) -> Result<List<Question>, Stop>
     requires { length asked.now.bytes ≤ MOST_BYTES }
     ensures ok { IfOk result (λ questions. due.questions_of asked.now net.now ≡ Ok (due.answering net.now questions DEFAULT_CONFLICTS)) }
@@ -369,12 +374,10 @@ fn parse_questions(alloc: Global, asked: &Text, net: &Net) -> Result<List<Questi
     ensures few { IfOk result (λ questions. length questions ≤ MOST_QUESTIONS) }
     ensures stop { IfErr result (λ stop. OnStop stop (λ line. due.questions_of asked.now net.now ≡ Err (due.refused line)) ⊥) }
 {
-    match read_questions(alloc, asked.bytes.as_slice(), net) {
-        Ok(questions) => match first_unanswerable(questions.as_slice()) {
-            None => Ok(questions),
-            Some(number) => Err(stop_with(unanswerable(alloc, asked, number))),
-        },
-        Err(refused) => Err(stop_at(alloc, asked.name.as_slice(), &refused)),
+    let questions = read_asked(alloc, asked, net)?;
+    match first_unanswerable(questions.as_slice()) {
+        None => Ok(questions),
+        Some(number) => Err(stop_with(unanswerable(alloc, asked, number))),
     }
 }
 
@@ -397,6 +400,7 @@ fn parse(alloc: Global, texts: &[Text], asked: &Text) -> Result<Loaded, Stop>
     ensures stop { IfErr result (λ stop. OnStop stop (λ line. due.texts_due texts.now asked.now ≡ Err (due.refused line)) ⊥) }
 {
     let net = parse_network(alloc, texts)?;
+    let net = answered_network(alloc, texts, net)?;
     let questions = parse_questions(alloc, asked, &net)?;
     Ok(Loaded { net, questions })
 }
@@ -426,6 +430,6 @@ pub fn load<F: Files>(
         × StopsAt (F.contents files.old) (map string_bytes names.now ++ questions.now ∷ []) (F.last_failed files.new))) }
 {
     let texts = read_texts(alloc, files, names)?;
-    let asked = read_text(alloc, files, questions)?;
+    let asked = read_text(alloc, files, questions, MOST_BYTES)?;
     parse(alloc, texts.as_slice(), &asked)
 }

@@ -11,14 +11,16 @@ ghost use Rattle.question_lang.specs.Single.{AreReach, IsReach};
 ghost use Rattle.mw_verify.specs.Due as due;
 ghost use Rattle.mw_verify.specs.Due.{Outcome, is_answerable};
 ghost use Rattle.net_model.specs.Network.{runs_no_protocol};
-ghost use Rattle.mw_verify.specs.Loading.{AnswersSo, AreAnswerable, IsLine};
-ghost use Rattle.mw_verify.specs.Running.{AreAnswered, IsDue, OnAnswered, OnCut, PrintsPart, StopsAt, in_order};
+ghost use Rattle.mw_verify.specs.Loading.{AnswersSo, AreAnswerable, IsLine, IsReady, outcome_of};
+ghost use Rattle.mw_verify.specs.Running.{IsAnswered, IsDue, OnAnswered, OnCut, PrintsPart, StopsAt, in_order};
 ghost use Rattle.mw_verify.specs.Texts.{usage_text};
 ghost use Rattle.mw_verify.specs.Verdicts.{is_broken_verdict};
 
 use crate::answer::{Verdict, verdict_lines, verdict_of};
-use crate::load::{DEFAULT_CONFLICTS, Stop, load};
+use crate::load::{DEFAULT_CONFLICTS, Stop};
+use crate::replaying::put_replay;
 use crate::status::Status;
+use crate::work::{Work, work_of};
 use mw_outside::{Files, Sink};
 use mw_text::List;
 use net_model::Net;
@@ -70,7 +72,7 @@ fn put_verdicts<O: Sink>(alloc: Global, net: &Net, questions: &[Question], out: 
     requires answerable { AreAnswerable questions.now }
     requires plain { runs_no_protocol net.now ≡ true }
     requires few { length questions.now ≤ MOST_QUESTIONS }
-    ensures answers { AnswersSo net.now questions.now DEFAULT_CONFLICTS result (O.taken out.old) (O.taken out.new) (Rose (O.faults out.old) (O.faults out.new)) }
+    ensures answers { AnswersSo (due.answering net.now questions.now DEFAULT_CONFLICTS) result (O.taken out.old) (O.taken out.new) (Rose (O.faults out.old) (O.faults out.new)) }
     ensures writes { result ≢ Status.WriteFault → O.faults out.new ≡ O.faults out.old }
 {
     let mut broken = false;
@@ -87,38 +89,21 @@ fn put_verdicts<O: Sink>(alloc: Global, net: &Net, questions: &[Question], out: 
     if broken { Status::Bad } else { Status::Good }
 }
 
-fn is_option(word: &String) -> bool
-    ensures { result ≡ due.is_option (string_bytes word.now) }
+// Does the work, and prints its answers.
+fn put_answers<O: Sink>(alloc: Global, work: &Work, out: &mut O) -> Status
+    requires { IsReady work.now }
+    ensures answers { AnswersSo (outcome_of work.now) result (O.taken out.old) (O.taken out.new) (Rose (O.faults out.old) (O.faults out.new)) }
+    ensures writes { result ≢ Status.WriteFault → O.faults out.new ≡ O.faults out.old }
 {
-    word.as_bytes().first() == Some(&b'-')
-}
-
-fn has_option(words: &[String]) -> bool
-    ensures { result ≡ list_any (λ word. due.is_option (string_bytes word)) words.now }
-{
-    words.iter().any(|word| is_option(word))
-}
-
-fn is_command(word: &String) -> bool
-    ensures { result ≡ same_text (string_bytes word.now) (codes "verify") }
-{
-    word.as_str() == "verify"
-}
-
-// Whether the words are `verify QUESTIONS CONFIG...`.
-fn is_verify(words: &[String]) -> bool
-    ensures value { result ≡ due.is_verify (map string_bytes words.now) }
-    ensures long { result ≡ true → 3 ≤ length words.now }
-{
-    if words.is_empty() {
-        return false;
+    match work {
+        Work::Answer(loaded) => put_verdicts(alloc, &loaded.net, loaded.questions.as_slice(), out),
+        Work::Replay(told) => put_replay(alloc, told, out),
     }
-    let (_, names) = words.split_at(1);
-    is_command(&words[0]) && names.len() >= 2 && !has_option(names)
 }
 
-/// The whole run: reads the words and the files that they name, and prints a verdict for each question. The words are
-/// `verify QUESTIONS CONFIG...`. Nothing is logged yet.
+/// The whole run: reads the words and the files that they name, and prints the answers. For `verify QUESTIONS CONFIG...`
+/// they are a verdict for each question; for `replay CEX QUESTIONS CONFIG...` whether the counterexample is true of the
+/// network, and else why not. Nothing is logged yet.
 pub fn run<F: Files, O: Sink, L: Sink>(
     alloc: Global,
     words: &[String],
@@ -126,16 +111,15 @@ pub fn run<F: Files, O: Sink, L: Sink>(
     out: &mut O,
     log: &mut L,
 ) -> Status
-    // With 0, 1 or 2 each question has a right verdict in its order, the status is theirs, and the whole text and each
-    // section of the log stand.
-    ensures answered { OnAnswered result ((asked : ListOf File) × (questions : ListOf QuestionOf) × (budget : ℕ)
-        × IsDue (F.contents files.old) (map string_bytes words.now) (due.answering asked questions budget)
-        × AreAnswered asked questions budget result (O.taken out.old) (O.taken out.new) (L.taken log.old) (L.taken log.new)) }
+    // With 0, 1 or 2 what is due is answered: each question has a right verdict in its order, the status is theirs, and the
+    // whole text and each section of the log stand; or the counterexample is true or not as printed.
+    ensures answered { OnAnswered result ((outcome : Outcome) × IsDue (F.contents files.old) (map string_bytes words.now) outcome
+        × IsAnswered outcome result (O.taken out.old) (O.taken out.new) (L.taken log.old) (L.taken log.new)) }
 
     // With 3 the words are no command, and exactly the usage line stands.
     ensures usage { result ≡ Status.Usage →
-        (due.is_verify (map string_bytes words.now) ≡ false) × Takes (O.taken out.old) (O.taken out.new) usage_text }
-    ensures no_command { due.is_verify (map string_bytes words.now) ≡ false → (result ≡ Status.Usage) ⊎ (result ≡ Status.WriteFault) }
+        (due.is_command (map string_bytes words.now) ≡ false) × Takes (O.taken out.old) (O.taken out.new) usage_text }
+    ensures no_command { due.is_command (map string_bytes words.now) ≡ false → (result ≡ Status.Usage) ⊎ (result ≡ Status.WriteFault) }
 
     // With 4 exactly one line stands: that of the first refusal.
     ensures refused { result ≡ Status.Refused → (line : ListOf ℕ) × Takes (O.taken out.old) (O.taken out.new) line
@@ -161,15 +145,12 @@ pub fn run<F: Files, O: Sink, L: Sink>(
     ensures kept { F.contents files.new ≡ F.contents files.old }
     ensures not_logged { log.new ≡ log.old }
 {
-    if !is_verify(words) {
-        return match out.write(USAGE) {
+    match work_of(alloc, files, words) {
+        Ok(Some(work)) => put_answers(alloc, &work, out),
+        Ok(None) => match out.write(USAGE) {
             Ok(()) => Status::Usage,
             Err(_) => Status::WriteFault,
-        };
-    }
-    let (_, names) = words.split_at(2);
-    match load(alloc, files, words[1].as_str(), names) {
-        Ok(loaded) => put_verdicts(alloc, &loaded.net, loaded.questions.as_slice(), out),
+        },
         Err(Stop::Refused(line)) => match out.write(line.as_slice()) {
             Ok(()) => Status::Refused,
             Err(_) => Status::WriteFault,

@@ -3,6 +3,7 @@
 ghost use Rattle.std.specs.Prelude.{◌≡◌, ◌++◌, IfOk, OnOk};
 ghost use Rattle.mw_verify.specs.Texts as texts;
 
+use cex_json::CexRefused;
 use ios_policy_reader::{Cause, Refused};
 use mw_text::List;
 use net_model::{NetCause, NetRefused};
@@ -32,7 +33,6 @@ fn cause_text(alloc: Global, cause: Cause) -> Result<List<u8>, AllocError>
             append(&mut text, b"2 BadWord ")?;
             append(&mut text, word.to_string(alloc)?.as_bytes())?;
         }
-        Cause::NotBuilt => append(&mut text, b"3 NotBuilt")?,
         Cause::Repeated => append(&mut text, b"4 Repeated")?,
         Cause::OutOfPlace => append(&mut text, b"5 OutOfPlace")?,
         Cause::Limit => append(&mut text, b"6 Limit")?,
@@ -91,6 +91,29 @@ pub fn net_refused(alloc: Global, name: &[u8], why: &NetRefused) -> Result<List<
     refused_text(alloc, name, why.line, net_cause_text(why.cause))
 }
 
+fn cex_cause(alloc: Global, why: &CexRefused) -> Result<List<u8>, AllocError>
+    ensures { IfOk result (λ text. text ≡ texts.cex_cause_text why.now) }
+{
+    let mut text = List::new(alloc);
+    match why {
+        CexRefused::NotJson => append(&mut text, b"18 NotJson")?,
+        CexRefused::Field { path } => {
+            append(&mut text, b"19 Field ")?;
+            append(&mut text, path.as_slice())?;
+        }
+        CexRefused::Memory => {}
+    }
+    Ok(text)
+}
+
+/// The line of a counterexample that is refused.
+pub fn cex_refusal(alloc: Global, name: &[u8], why: &CexRefused) -> Result<List<u8>, AllocError>
+    ensures { IfOk result (λ text. text ≡ texts.cex_refusal name.now why.now) }
+{
+    let cause = cex_cause(alloc, why)?;
+    refused_text(alloc, name, 1, cause.as_slice())
+}
+
 /// The line of a file with more bytes than its limit.
 pub fn too_long(alloc: Global, name: &[u8]) -> Result<List<u8>, AllocError>
     ensures { IfOk result (λ text. text ≡ texts.too_long name.now) }
@@ -98,9 +121,9 @@ pub fn too_long(alloc: Global, name: &[u8]) -> Result<List<u8>, AllocError>
     refused_text(alloc, name, 0, b"25 TooLong")
 }
 
-/// The line of files that are no network, by the name of the first.
-pub fn no_network(alloc: Global, name: &[u8]) -> Result<List<u8>, AllocError>
-    ensures { IfOk result (λ text. text ≡ texts.no_network name.now) }
+/// The line of a file that is refused at a line for which `verify` cannot answer yet.
+pub fn not_built(alloc: Global, name: &[u8], line: u32) -> Result<List<u8>, AllocError>
+    ensures { IfOk result (λ text. text ≡ texts.not_built name.now line) }
 {
-    refused_text(alloc, name, 0, b"3 NotBuilt")
+    refused_text(alloc, name, line, b"3 NotBuilt")
 }

@@ -1,10 +1,8 @@
 //! Whether a counterexample is true of its tables and its walk.
 
-ghost use Rattle.std.specs.Prelude.{◌≡◌, ◌*◌, IfErr, IfOk, Some, true, false, length};
+ghost use Rattle.std.specs.Prelude.{◌≡◌, ◌≢◌, ◌*◌, IfErr, IfOk, true, false, length};
 ghost use Rattle.std.specs.Option.{option_copied};
 ghost use Rattle.question_lang.specs.Breaking.{Breaks};
-ghost use Rattle.question_lang.specs.Walks.{IsWalk};
-ghost use Rattle.question_lang.specs.declared.walk.Walk.{Walk as WalkOf};
 ghost use Rattle.stable_replay.specs.Replayed as replayed;
 
 use crate::checking::check;
@@ -16,7 +14,7 @@ use policy_eval::{copy_list, copy_route};
 use question_lang::{Question, Walk};
 use route_record::{BgpRec, Failures, LENGTHS, Slot, Tables, World};
 use std::alloc::{AllocError, Global};
-use walk_def::{breaks, is_walk};
+use walk_def::{asks_no_stable, breaks, is_walk};
 
 fn copy_held(alloc: Global, held: &Option<BgpRec>) -> Result<Option<BgpRec>, AllocError>
     ensures { IfOk result (λ made. made ≡ held.now) }
@@ -61,18 +59,19 @@ fn world_of(alloc: Global, cex: &Counterexample) -> Result<World, AllocError>
     })
 }
 
-// Whether the walk, where there is one, is a walk of the packet.
-fn is_walk_if_any(
+// Whether the walk, where there is one, is a walk of the packet; without one, whether the question speaks of none.
+fn has_walk(
     alloc: Global,
     net: &Net,
+    question: &Question,
     world: &World,
     walk: &Option<Walk>,
 ) -> Result<bool, AllocError>
-    ensures yes { IfOk result (λ yes. yes ≡ true → (w : WalkOf) → walk.now ≡ Some w → IsWalk net.now world.now w) }
-    ensures no { IfOk result (λ yes. yes ≡ false → (w : WalkOf) × (walk.now ≡ Some w) × (IsWalk net.now world.now w → ⊥)) }
+    ensures yes { IfOk result (λ yes. yes ≡ true → replayed.IsNoWalkIn net.now question.now world.now walk.now → ⊥) }
+    ensures no { IfOk result (λ yes. yes ≡ false → replayed.IsNoWalkIn net.now question.now world.now walk.now) }
 {
     match walk {
-        None => Ok(true),
+        None => Ok(asks_no_stable(&question.kind)),
         Some(walk) => is_walk(alloc, net, world, walk),
     }
 }
@@ -114,6 +113,7 @@ pub fn replay(
     requires size { length cex.now.tables.slots ≡ LENGTHS * length net.now }
     ensures ok { IfOk result (λ _. replayed.IsReplayed net.now question.now cex.now) }
     ensures refused { IfErr result (replayed.IsRefusedSo net.now question.now cex.now) }
+    ensures untrue { IfErr result (λ why. why ≢ ReplayNo.Memory → replayed.IsReplayed net.now question.now cex.now → ⊥) }
 {
     check(
         alloc,
@@ -124,7 +124,7 @@ pub fn replay(
         &cex.tables,
     )?;
     let world = world_of(alloc, cex)?;
-    if !is_walk_if_any(alloc, net, &world, &cex.walk)? {
+    if !has_walk(alloc, net, question, &world, &cex.walk)? {
         return Err(ReplayNo::NotWalk);
     }
     if !breaks_so(alloc, net, question, &world, &cex.walk)? {

@@ -249,7 +249,8 @@ fn breaks_with(
     breaks_by(alloc, net, kind, world, walk)
 }
 
-fn asks_no_stable(kind: &Kind) -> bool
+/// Whether a question asks for no stable routing, and so speaks of no walk.
+pub fn asks_no_stable(kind: &Kind) -> bool
     ensures yes { result ≡ true → kind.now ≡ Kind.NoStable }
     ensures no { result ≡ false → kind.now ≢ Kind.NoStable }
 {

@@ -13,7 +13,7 @@ pub mod safety;
 pub mod verdict;
 pub mod walking;
 
-pub use breaking::breaks;
+pub use breaking::{asks_no_stable, breaks};
 pub use once::next_hops;
 pub use route_record::World;
 pub use verdict::breaking_walk;
