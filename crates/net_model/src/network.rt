@@ -1,7 +1,8 @@
 //! The network of a list of files.
 
-ghost use Rattle.std.specs.Prelude.{All, AllPairs, ◌≡◌, ◌≢◌, ◌≤◌, ◌<◌, IfOk, IfErr, IfSome, None, Some, position, true, length};
+ghost use Rattle.std.specs.Prelude.{All, AllPairs, ◌≡◌, ◌≢◌, ◌≤◌, ◌<◌, IfOk, IfErr, IfSome, None, Some, position, true, length, slice_range};
 ghost use Rattle.std.specs.List.{list_all};
+ghost use Rattle.std.specs.List.Sorted.{IsNonDecreasingBy};
 ghost use Rattle.mw_text.specs.Address.{same_prefix};
 ghost use Rattle.mw_text.specs.Text.{same_text};
 ghost use Rattle.net_model.specs.Exports as exports;
@@ -18,7 +19,7 @@ ghost use Rattle.net_model.specs.Tracked as values;
 ghost use Rattle.net_model.specs.World as world;
 
 use crate::adjacencies::{Adjacency, adjacencies};
-use crate::ends::learnt_over;
+use crate::ends::{learnt_over, places_at};
 use crate::interfaces::{Addressed, IfaceId, addressed_of};
 use crate::links::{Link, link_place, links_of};
 use crate::ospf::{OspfInterface, advertised, ospf_cost, ospf_interfaces};
@@ -32,6 +33,7 @@ use mw_text::{Addr, List, Prefix, same_bytes};
 use route_record::{Failures, Learnt, Tracked};
 use std::alloc::{AllocError, Global};
 use std::marker::Model;
+use std::ops::Range;
 
 /// A network. Contracts see the list of its files; all else that a network has follows from these.
 #[derive(Drop)]
@@ -195,10 +197,22 @@ impl Net {
     }
 
     /// The ends of all BGP sessions, by router and then by neighbour line.
+    #[tactic(auto, using(crate::proofs::EndPlaces::ends_placed, crate::proofs::EndPlaces::ends_up))]
     pub fn ends(&self) -> &[SessionEnd]
-        ensures { result.now ≡ sessions.ends_of self.now }
+        ensures value { result.now ≡ sessions.ends_of self.now }
+        ensures placed { All (sessions.IsPlaced self.now) (sessions.ends_of self.now) }
+        ensures in_order { IsNonDecreasingBy (λ end. end.router) (sessions.ends_of self.now) }
     {
         self.parts.ends.as_slice()
+    }
+
+    /// Where the ends of one router stand among all: one after another, none where it has no session.
+    pub fn ends_of(&self, router: u32) -> Range<usize>
+        ensures ordered { result.start ≤ result.end }
+        ensures within { result.end ≤ length (sessions.ends_of self.now) }
+        ensures own { slice_range (sessions.ends_of self.now) result.start result.end ≡ sessions.ends_at self.now router }
+    {
+        places_at(self.ends(), router)
     }
 
     /// The end over which a router learnt a route. None for a local route, and where no session of the router has that
