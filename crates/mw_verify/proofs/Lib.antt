@@ -2,4 +2,4 @@ pub mod Loading
 pub mod Deciding
 pub mod Answering
 pub mod Words
-pub mod Replaying
+pub mod ReplayAnswers
