@@ -1,10 +1,10 @@
 -- What external peers are read to send is an environment of the network.
 use Rattle.std.proofs.Common.{◌≡◌, ℕ, ◌+◌, ◌-◌, ◌^◌, ◌<◌, ◌≤◌, ◌⊎◌, List, [], ◌∷◌, ◌++◌, length, Bool, true, false}
-use Rattle.std.proofs.Common.{◌&&◌, ◌||◌, ◌==◌, nat_lt, nat_le, Option, Some, None, option_map, option_and_then, Ok, inl}
-use Rattle.std.proofs.Common.{inr, refl, sym, ap, ◌∙◌, subst, arith, get_or, false≢true}
+use Rattle.std.proofs.Common.{◌&&◌, ◌||◌, ◌==◌, cond, nat_lt, nat_le, Option, Some, None, option_map, option_and_then, Ok, inl}
+use Rattle.std.proofs.Common.{inr, refl, sym, ap, ◌∙◌, subst, arith, get_or}
 use Rattle.std.specs.Prelude.{All, AllPairs, IfSome, codes, position, slice_get}
 use Rattle.std.specs.Option.{option_map_or}
-use Rattle.std.proofs.lemmas.Bool.{and_parts, eqb-true, leb-true, ltb-true, or_cases}
+use Rattle.std.proofs.lemmas.Bool.{and_parts, cases_lt, eqb-true, false≢true, leb-true, ltb-true, or_cases}
 use Rattle.std.proofs.lemmas.List.Elements.{All-append, All-cons, All-nil}
 use Rattle.std.proofs.lemmas.List.Quantifiers.{all_pairs_push, position-Some}
 use Rattle.std.proofs.lemmas.Option.{slice_get-get_or}
@@ -26,7 +26,7 @@ use Rattle.cex_json.specs.declared.reader.Surroundings.{Surroundings}
 use Rattle.cex_json.specs.declared.refused.CexRefused.{CexRefused}
 use Rattle.cex_json.specs.Entries.{entry_path, is_end_of, origin_in, router_in, slots_in}
 use Rattle.cex_json.specs.Fields.{addr_in, asn_step, ascending_in, ascending_step, greatest, in_order, is_above, members_in}
-use Rattle.cex_json.specs.Fields.{number_in, object_in, passing, path_in, required, text_in}
+use Rattle.cex_json.specs.Fields.{number_in, object_in, passing, path_in, place_of, required, text_in}
 use Rattle.cex_json.specs.Reading.{asked_place, cex_in, format_in, limits, surroundings_in, walk_for}
 use Rattle.cex_json.specs.Surroundings.{announcement_at, announcement_step, announcements_in, asn_fits, asn_of_end}
 use Rattle.cex_json.specs.Surroundings.{begins_with, end_in, end_named, failures_in, ids_in, is_later, is_outer_end, names_end}
@@ -111,16 +111,16 @@ end_known : (files : List File) (router : Option ℕ) (address : Option Addr) (a
 unfolding place_of
 end_known files None address at same = absurd (no_value at same)
 end_known files (Some router) None at same = absurd (no_value at same)
-end_known files (Some router) (Some a) at same = by_ends (ends_of files) found.0 where
-  found = passed (λ k. nat_le k greatest) (position (is_outer_end files router a) (ends_of files)) at same
-
-  by_ends : (ends : List SessionEnd) → position (is_outer_end files router a) ends ≡ Some at →
-      (end : SessionEnd) × (slice_get ends at ≡ Some end) × (is_outside end.far ≡ true)
-  by_ends [] none = absurd (no_value at none)
-  by_ends (x ∷ rest) is =
-      let there = position-Some (is_outer_end files router a) (x ∷ rest) at x is in
-      let end = get_or (x ∷ rest) at x in
-      (end, slice_get-get_or (x ∷ rest) at x there.0, (and_parts (is_outside end.far) (is_end_of files router a end) there.1).0)
+end_known files (Some router) (Some a) at same =
+    by_ends (ends_of files) (passed (λ k. nat_le k greatest) (position (is_outer_end files router a) (ends_of files)) at same).0
+  where
+    by_ends : (ends : List SessionEnd) → position (is_outer_end files router a) ends ≡ Some at →
+        (end : SessionEnd) × (slice_get ends at ≡ Some end) × (is_outside end.far ≡ true)
+    by_ends [] none = absurd (no_value at none)
+    by_ends (x ∷ rest) is =
+        let there = position-Some (is_outer_end files router a) (x ∷ rest) at x is in
+        let end = get_or (x ∷ rest) at x in
+        (end, slice_get-get_or (x ∷ rest) at x there.0, (and_parts (is_outside end.far) (is_end_of files router a end) there.1).0)
 
 end_fit : (files : List File) (d : Data) (at : ℕ) → end_in files d ≡ Some at → IsOuter files at
 unfolding end_in
@@ -188,15 +188,15 @@ after_last so_far one d some test =
 
 later_than_all : (so_far : List Announcement) (one : Announcement) → AllPairs IsEarlier so_far →
     is_later so_far one.end one.len ≡ true → (k : ℕ) (d : Announcement) → k < length so_far → IsEarlier (get_or so_far k d) one
-later_than_all so_far one pairs test k d within = by_place (nat_lt k (length so_far - 1)) refl where
+later_than_all so_far one pairs test k d within = by_place (cases_lt k (length so_far - 1)) where
   last : IsEarlier (get_or so_far (length so_far - 1) d) one
   last = after_last so_far one d (omega (arith, within)) test
 
-  by_place : (b : Bool) → nat_lt k (length so_far - 1) ≡ b → IsEarlier (get_or so_far k d) one
-  by_place true before =
-      let first = pairs k (length so_far - 1) d (ltb-true k (length so_far - 1) before) (omega (arith, within)) in
+  by_place : (k < length so_far - 1) ⊎ (length so_far - 1 ≤ k) → IsEarlier (get_or so_far k d) one
+  by_place (inl before) =
+      let first = pairs k (length so_far - 1) d before (omega (arith, within)) in
       earlier_trans (get_or so_far k d) (get_or so_far (length so_far - 1) d) one first last
-  by_place false none =
+  by_place (inr none) =
       let P : ℕ → Type 0 = λ i. IsEarlier (get_or so_far i d) one in
       let here : length so_far - 1 ≡ k = omega (arith, none, within) in
       subst P here last
@@ -240,7 +240,7 @@ peer_fit : (files : List File) (format : ℕ) (wanted : Option SessionEnd) (at :
 unfolding peer_at
 peer_fit files format wanted at d id same =
     let end = bound (required at (codes "address") (passing (names_end files d) wanted)) _ id same in
-    let known = bound (required at (codes "asn") (if asn_fits files format end.0 d then Some end.0 else None)) _ id end.2 in
+    let known = bound (required at (codes "asn") (cond (asn_fits files format end.0 d) (Some end.0) None)) _ id end.2 in
     address_small (get (codes "id") d) id (field at (codes "id") (addr_in (get (codes "id") d)) id known.2)
 
 id_kept : (files : List File) (format : ℕ) (ends : List SessionEnd) (i : ℕ) (so_far : List Addr) (d : Data) (next : List Addr) →

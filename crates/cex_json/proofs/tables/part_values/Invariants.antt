@@ -1,9 +1,9 @@
 use Rattle.std.proofs.Common.{◌≡◌, ◌++◌, drop, map}
 use Rattle.serde_json.specs.View.{view}
-use Rattle.cex_json.specs.Json.{number_of}
+use Rattle.cex_json.specs.Text.{part_data}
 use Rattle.cex_json.proofs.tables.part_values.Given as goal
 
--- the values so far and those of the numbers that are left are all
-abbrev pub invariant-loop-number : goal.invariant-loop-number
-invariant-loop-number l =
-    map view l.values.items ++ map number_of (drop l.number-index l.numbers) ≡ map number_of l.numbers
+-- the values so far and those of the slots that are left are all
+abbrev pub invariant-loop-slot : goal.invariant-loop-slot
+invariant-loop-slot l =
+    map view l.values.items ++ map part_data (drop l.slot-index l.slots) ≡ map part_data l.slots
