@@ -33,7 +33,8 @@ router_within files d router known =
     by_files name (file ∷ rest) found =
         (position-Some (λ f. same_text f.hostname name) (file ∷ rest) router file found).0
 
-number_small : (most : ℕ) (found : Option Data) (n : ℕ) → number_in most found ≡ Some n → n ≤ most
+-- a number that is read is at most the bound
+pub number_small : (most : ℕ) (found : Option Data) (n : ℕ) → number_in most found ≡ Some n → n ≤ most
 number_small most found n same =
     leb-true n most (passed (λ k. nat_le k most)
     (option_and_then (λ v. option_and_then as_u64 (as_number v)) found) n same).1
