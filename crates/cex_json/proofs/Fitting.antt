@@ -72,9 +72,11 @@ ascends_more xs n up above = ascends_below xs n up (all_below xs n up above)
 link_within : (links : List Link) (word : List ℕ) (at : ℕ) → link_named links word ≡ Some at → at < length links
 unfolding place_of
 link_within links word at same =
-    let named = led (λ p. place_of (position (λ link. same_prefix p link.prefix) links)) (prefix_of_text word) at same in
+    let named = led (λ p. place_of (position (λ link. same_prefix p link.prefix) links)) (prefix_of_text word) at same
+    in
     let here = passed (λ k. nat_le k _) (position (λ link. same_prefix named.0 link.prefix) links) at named.2 in
-    (position-Some (λ link. same_prefix named.0 link.prefix) links at (record { prefix = named.0; ifaces = [] }) here.0).0
+    let d : Link = record { prefix = named.0; ifaces = [] } in
+    (position-Some (λ link. same_prefix named.0 link.prefix) links at d here.0).0
 
 -- failed links ascend, and are links
 pub record AreLinks (count : ℕ) (links : List ℕ) : Type 0 where

@@ -25,6 +25,7 @@ use Rattle.cex_json.specs.Reading.{asked_place, cex_in, format_in, limits, surro
 use Rattle.cex_json.specs.Surroundings.{addr_under, announcements_in, failures_in, has_ports, ids_in, is_port}
 use Rattle.cex_json.specs.Surroundings.{packet_at, packet_in, port_in, proto_fits, proto_in}
 use Rattle.cex_json.proofs.Inversion.{bound, field, led, no_value, passed, same_ok, same_some}
+use Rattle.cex_json.proofs.Sizes.{number_small}
 
 chosen : (b : Bool) (v n : ℕ) → cond b (Some v) None ≡ Some n → (b ≡ true) × (v ≡ n)
 chosen true v n same = (refl, same_some v n same)
@@ -54,11 +55,6 @@ addr_small word a same =
     (addr_sum first.0 second.0 third.0 fourth.0 (octet_small one.0.0 first.0 first.1)
     (octet_small two.0.0 second.0 second.1)
     (octet_small three.0.0 third.0 third.1) (octet_small three.0.1 fourth.0 fourth.1))
-
-number_small : (most : ℕ) (found : Option Data) (n : ℕ) → number_in most found ≡ Some n → n ≤ most
-number_small most found n same =
-    leb-true n most (passed (λ k. nat_le k most)
-    (option_and_then (λ v. option_and_then as_u64 (as_number v)) found) n same).1
 
 -- an address under the prefix
 under : (p : Prefix) (found : Option Data) (a : Addr) → addr_under (Some p) found ≡ Some a → (covers p a ≡ true)

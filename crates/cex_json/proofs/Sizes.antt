@@ -33,7 +33,7 @@ router_within files d router known =
     by_files name (file ∷ rest) found =
         (position-Some (λ f. same_text f.hostname name) (file ∷ rest) router file found).0
 
--- a number that is read is at most the greatest
+-- a number that is read is at most the bound
 pub number_small : (most : ℕ) (found : Option Data) (n : ℕ) → number_in most found ≡ Some n → n ≤ most
 number_small most found n same =
     leb-true n most (passed (λ k. nat_le k most)

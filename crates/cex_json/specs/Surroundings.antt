@@ -60,7 +60,8 @@ packet_in set d = required [] (codes "packet") (object_in (get (codes "packet") 
 
 -- the place of a link
 abbrev pub link_named : List Link → List ℕ → Option ℕ
-link_named links word = option_and_then (λ p. place_of (position (λ link. same_prefix p link.prefix) links)) (prefix_of_text word)
+link_named links word =
+    option_and_then (λ p. place_of (position (λ link. same_prefix p link.prefix) links)) (prefix_of_text word)
 
 abbrev pub link_step : List Link → ℕ → List ℕ → Data → Result (List ℕ) CexRefused
 link_step links _ so_far d =

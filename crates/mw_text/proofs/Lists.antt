@@ -1,7 +1,9 @@
 -- Lists by their places, for the loops of the crates above.
-use Rattle.std.proofs.Common.{◌≡◌, ℕ, zero, suc, ◌+◌, ◌<◌, ◌≤◌, List, [], ◌∷◌, ◌++◌, length, drop, get_or, Option}
-use Rattle.std.proofs.Common.{Some, None, refl, ap, sym, arith, add-one, subst, ◌∙◌}
+use Rattle.std.proofs.Common.{◌≡◌, ℕ, zero, suc, ◌+◌, ◌<◌, ◌≤◌, Bool, true, false, eqb, List, [], ◌∷◌, ◌++◌, length}
+use Rattle.std.proofs.Common.{drop, get_or, Option, Some, None, refl, ap, sym, arith, add-one, subst, ◌∙◌}
 use Rattle.std.specs.Prelude.{slice_get}
+use Rattle.std.specs.List.{AllByRecursion, list_all, list_any}
+use Rattle.std.proofs.lemmas.Bool.{and_parts, or_parts}
 use Rattle.std.proofs.Math.Seq.{drop-cons}
 
 -- the items from a place on begin with the item that was read there
@@ -37,3 +39,17 @@ pub item_there : {A : Type 0} (xs : List A) (k : ℕ) → k < length xs → (x :
 item_there [] k within = absurd (omega arith)
 item_there (x ∷ xs) zero within = (x, refl)
 item_there (x ∷ xs) (suc k) within = item_there xs k (omega arith)
+
+-- where a test is true of all items, it is of the item at a place
+pub all_at : {A : Type 0} (p : A → Bool) (xs : List A) (k : ℕ) (x : A) → list_all p xs ≡ true → slice_get xs k ≡ Some x
+    → p x ≡ true
+all_at p [] k x all found = absurd cc
+all_at p (y ∷ ys) zero x all found =
+    let same : y ≡ x = cc in ap p (sym same) ∙ (and_parts (p y) (list_all p ys) all).0
+all_at p (y ∷ ys) (suc k) x all found = all_at p ys k x (and_parts (p y) (list_all p ys) all).1 found
+
+-- a number that is not in a list differs from each in it
+pub none_equal : (x : ℕ) (xs : List ℕ) → list_any (eqb x) xs ≡ false → AllByRecursion (λ y. eqb x y ≡ false) xs
+none_equal x [] none = tt
+none_equal x (y ∷ ys) none =
+    let both = or_parts (eqb x y) (list_any (eqb x) ys) none in (both.0, none_equal x ys both.1)

@@ -1,12 +1,13 @@
 -- The costs of a network's OSPF interfaces and adjacencies are in their range.
 use Rattle.std.proofs.Common.{◌≡◌, ℕ, zero, suc, ◌<◌, ◌≤◌, Bool, true, false, ◌&&◌, List, [], ◌∷◌, ◌++◌}
 use Rattle.std.proofs.Common.{Option, Some, None, refl, ap, ◌∙◌, sym, subst, arith}
-use Rattle.std.proofs.lemmas.Bool.{leb-true}
+use Rattle.std.proofs.lemmas.Bool.{and_parts, leb-true}
 use Rattle.std.specs.Prelude.{All, filter, map, nat_le, nat_lt, option_and_then, option_map, slice_get}
 use Rattle.std.specs.Prelude.{unwrap_or, if◌then◌else◌}
 use Rattle.std.specs.List.{AllByRecursion, cons_option, filter_map, flat_map, list_all}
 use Rattle.std.specs.Option.{option_map_or}
 use Rattle.std.proofs.lemmas.List.Elements.{All-from_recursion}
+use Rattle.mw_text.proofs.Lists.{all_at}
 use Rattle.ios_ast.specs.declared.file.File.{File}
 use Rattle.ios_ast.specs.declared.file.Iface.{Iface}
 use Rattle.ios_ast.specs.declared.ospf.Ospf.{Ospf}
@@ -17,21 +18,8 @@ use Rattle.net_model.specs.Limits.{has_cost_in_range, has_few_interfaces, has_fe
 use Rattle.net_model.specs.Ospf.{adjacencies, adjacencies_of, adjacency, are_adjacent, bandwidth_cost, interface_cost}
 use Rattle.net_model.specs.Ospf.{is_matched, ospf_at, ospf_interfaces, running, running_in}
 
-both : (a b : Bool) → (a && b) ≡ true → (a ≡ true) × (b ≡ true)
-both true true h = (refl, refl)
-both true false h = cc
-both false b h = cc
-
 abbrev IsCost : ℕ → Type 0
 IsCost cost = (0 < cost) × (cost ≤ 65535)
-
-all_at : {A : Type 0} (p : A → Bool) (xs : List A) (k : ℕ) (x : A) → list_all p xs ≡ true → slice_get xs k ≡ Some x
-    → p x ≡ true
-all_at p [] k x all found = cc
-all_at p (y ∷ ys) zero x all found =
-    let same : y ≡ x = cc in
-    ap p (sym same) ∙ (both (p y) (list_all p ys) all).0
-all_at p (y ∷ ys) (suc k) x all found = all_at p ys k x (both (p y) (list_all p ys) all).1 found
 
 of_interface : (process : Ospf) (iface : Iface) (loopback : Bool) → has_cost_in_range iface ≡ true →
     IsCost (interface_cost process iface loopback)
@@ -44,7 +32,7 @@ of_interface process iface loopback = by_cost iface.cost where
       IsCost (unwrap_or cost (if loopback then 1 else bandwidth_cost process.reference iface.bandwidth))
   by_cost None fits = plain loopback
   by_cost (Some c) fits =
-      let parts = both (nat_lt 0 c) (nat_le c 65535) fits in
+      let parts = and_parts (nat_lt 0 c) (nat_le c 65535) fits in
       (leb-true _ _ parts.0, leb-true _ _ parts.1)
 
 mapped : {A B : Type 0} (P : B → Type 0) (f : A → Option B) → ((x : A) (y : B) → f x ≡ Some y → P y) → (xs : List A) →
@@ -90,8 +78,8 @@ of_running files limits x y =
     by_file None kept is = cc
     by_file (Some file) kept is =
         let costs : Bool = list_all has_cost_in_range file.interfaces in
-        let here = both (has_few_neighbours file) costs
-        (both (has_few_interfaces file) (has_few_neighbours file && costs) (kept file refl)).1 in
+        let here = and_parts (has_few_neighbours file) costs
+        (and_parts (has_few_interfaces file) (has_few_neighbours file && costs) (kept file refl)).1 in
         by_process file.ospf file y here.1 is
 
 in_recursion : (files : List File) → list_all keeps_limits files ≡ true

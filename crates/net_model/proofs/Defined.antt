@@ -2,6 +2,7 @@
 use Rattle.std.proofs.Common.{◌≡◌, ℕ, zero, suc, ◌+◌, Bool, true, false, ◌&&◌, ◌||◌, not, List, [], ◌∷◌, Option, Some}
 use Rattle.std.proofs.Common.{None, refl, subst}
 use Rattle.std.specs.Prelude.{is_some, option_and_then, slice_get}
+use Rattle.std.proofs.lemmas.Bool.{and_parts, or_parts}
 use Rattle.std.specs.List.{filter_map, list_all, list_any}
 use Rattle.ios_ast.specs.declared.file.File.{File}
 use Rattle.mw_text.specs.declared.address.Prefix.{Prefix}
@@ -30,29 +31,20 @@ parts file defined = both_none (is_some file.ospf) (is_some file.bgp) defined
 pub no_bgp : (files : List File) → runs_no_protocol files ≡ true → list_any runs_bgp files ≡ false
 no_bgp [] all = refl
 no_bgp (file ∷ rest) all =
-    let both = two (is_plain file) (list_all is_plain rest) all in
+    let both = and_parts (is_plain file) (list_all is_plain rest) all in
     rw ((parts file both.0).1, no_bgp rest both.1) refl
-  where
-    two : (a b : Bool) → (a && b) ≡ true → (a ≡ true) × (b ≡ true)
-    two true true h = (refl, refl)
-    two true false h = cc
-    two false b h = cc
+
+none_here : {A : Type 0} (o : Option A) → is_some o ≡ false → o ≡ None
+none_here None h = refl
+none_here (Some x) h = cc
 
 -- where no router runs BGP there is no neighbour line
 peerings_routers-none : (all : List Addressed) (router : ℕ) (files : List File) → list_any runs_bgp files ≡ false →
     peerings_routers all router files ≡ []
 peerings_routers-none all router [] none = refl
 peerings_routers-none all router (file ∷ rest) none =
-    let both = neither (runs_bgp file) (list_any runs_bgp rest) none in
-    rw (none_runs file.bgp both.0, peerings_routers-none all (router + 1) rest both.1) refl
-  where
-    neither : (a b : Bool) → (a || b) ≡ false → (a ≡ false) × (b ≡ false)
-    neither false b h = (refl, h)
-    neither true b h = cc
-
-    none_runs : (o : Option Bgp) → is_some o ≡ false → o ≡ None
-    none_runs None h = refl
-    none_runs (Some x) h = cc
+    let both = or_parts (runs_bgp file) (list_any runs_bgp rest) none in
+    rw (none_here file.bgp both.0, peerings_routers-none all (router + 1) rest both.1) refl
 
 peerings-none : (files : List File) → runs_no_protocol files ≡ true → peerings files ≡ []
 unfolding peerings
@@ -63,24 +55,15 @@ pub no_ends : (files : List File) → runs_no_protocol files ≡ true → ends_o
 unfolding ends_of sessions
 no_ends files all = rw (peerings-none files all) refl
 
-two : (a b : Bool) → (a && b) ≡ true → (a ≡ true) × (b ≡ true)
-two true true h = (refl, refl)
-two true false h = cc
-two false b h = cc
-
-none_here : {A : Type 0} (o : Option A) → is_some o ≡ false → o ≡ None
-none_here None h = refl
-none_here (Some x) h = cc
-
 -- a file of such a network
 pub defined_at : (files : List File) → runs_no_protocol files ≡ true → (router : ℕ) (file : File) →
     slice_get files router ≡ Some file → is_plain file ≡ true
 defined_at [] all router file found = cc
 defined_at (x ∷ xs) all zero file found =
     let same : x ≡ file = cc in
-    let P : File → Type 0 = λ f. is_plain f ≡ true in subst P same (two (is_plain x) (list_all is_plain xs) all).0
+    let P : File → Type 0 = λ f. is_plain f ≡ true in subst P same (and_parts (is_plain x) (list_all is_plain xs) all).0
 defined_at (x ∷ xs) all (suc router) file found =
-    defined_at xs (two (is_plain x) (list_all is_plain xs) all).1 router file found
+    defined_at xs (and_parts (is_plain x) (list_all is_plain xs) all).1 router file found
 
 -- such a router runs neither OSPF nor BGP
 pub no_protocol : (files : List File) → runs_no_protocol files ≡ true → (router : ℕ) (file : File) →

@@ -1,9 +1,9 @@
 -- The ends of sessions: they stand in the order of the routers, and each is that of a neighbour line.
-use Rattle.std.proofs.Common.{◌≡◌, ℕ, zero, suc, ◌+◌, ◌-◌, ◌<◌, ◌≤◌, Bool, true, false, List, [], ◌∷◌, ◌++◌, length, take}
-use Rattle.std.proofs.Common.{drop, get_or, Option, Some, None, refl, ap, ◌∙◌, sym, subst, arith, if◌then◌else◌, is_some}
-use Rattle.std.proofs.Common.{◌⊎◌, inl, inr}
-use Rattle.std.specs.Prelude.{◌==◌, All, AllPairs, filter, map, nat_le, nat_lt, not, option_and_then, position, slice_get}
-use Rattle.std.specs.Prelude.{slice_range, unwrap_or}
+use Rattle.std.proofs.Common.{◌≡◌, ℕ, zero, suc, ◌+◌, ◌-◌, ◌<◌, ◌≤◌, Bool, true, false, List, [], ◌∷◌, ◌++◌, length}
+use Rattle.std.proofs.Common.{take, drop, get_or, Option, Some, None, refl, ap, ◌∙◌, sym, subst, arith, is_some}
+use Rattle.std.proofs.Common.{if◌then◌else◌, ◌⊎◌, inl, inr}
+use Rattle.std.specs.Prelude.{◌==◌, All, AllPairs, filter, map, nat_le, nat_lt, not, option_and_then, position}
+use Rattle.std.specs.Prelude.{slice_get, slice_range, unwrap_or}
 use Rattle.std.specs.List.{find}
 use Rattle.std.specs.List.Sorted.{IsNonDecreasingBy, IsPartitionPoint}
 use Rattle.std.specs.Option.{option_map_or}
@@ -27,9 +27,9 @@ use Rattle.net_model.specs.declared.sessions.Far.TheVariants.{Outside, Inside}
 use Rattle.net_model.specs.declared.sessions.Peering.{Peering}
 use Rattle.net_model.specs.declared.sessions.SessionEnd.{SessionEnd}
 use Rattle.net_model.specs.Interfaces.{addressed}
-use Rattle.net_model.specs.Sessions.{FarIsWithin, IsPlaced, end_of, ends_of, far_of, has_session, is_external_peer, meet}
-use Rattle.net_model.specs.Sessions.{peering, peerings, peerings_from, peerings_of, peerings_routers, sessions, speaking}
-use Rattle.net_model.specs.Sessions.{speaks_from}
+use Rattle.net_model.specs.Sessions.{FarIsWithin, IsPlaced, end_of, ends_of, far_of, has_session, is_external_peer}
+use Rattle.net_model.specs.Sessions.{meet, peering, peerings, peerings_from, peerings_of, peerings_routers, sessions}
+use Rattle.net_model.specs.Sessions.{speaking, speaks_from}
 use Rattle.net_model.proofs.Ascending.{first, later}
 
 -- ---- neighbour lines of the routers
@@ -75,8 +75,8 @@ lines_of : (all : List Addressed) (router : ℕ) (file : File) (rest : List File
 lines_of all router file rest = by_process file.bgp refl where
   by_process : (o : Option Bgp) → file.bgp ≡ o →
       All (IsLine router (file ∷ rest))
-      (option_map_or (λ bgp. peerings_from (filter (λ x. x.id.router == router) all) router file bgp.asn 0 bgp.neighbours)
-      o [])
+      (option_map_or (λ bgp. peerings_from
+      (filter (λ x. x.id.router == router) all) router file bgp.asn 0 bgp.neighbours) o [])
   by_process None runs = All-nil (IsLine router (file ∷ rest))
   by_process (Some bgp) runs =
       let own = filter (λ (x : Addressed). x.id.router == router) all in
@@ -177,18 +177,20 @@ all_same router xs same i j d below within =
     let two = same j d within in
     omega (arith, one, two)
 
-of_router : (all : List Addressed) (router : ℕ) (file : File) → All (λ a. a.router ≡ router) (peerings_of all router file)
+of_router : (all : List Addressed) (router : ℕ) (file : File) →
+    All (λ a. a.router ≡ router) (peerings_of all router file)
 of_router all router file = by_process file.bgp where
   by_process : (o : Option Bgp) → All (λ a. a.router ≡ router)
-      (option_map_or (λ bgp. peerings_from (filter (λ x. x.id.router == router) all) router file bgp.asn 0 bgp.neighbours)
-      o [])
+      (option_map_or (λ bgp. peerings_from
+      (filter (λ x. x.id.router == router) all) router file bgp.asn 0 bgp.neighbours) o [])
   by_process None = All-nil (λ a. a.router ≡ router)
   by_process (Some bgp) =
       let own = filter (λ (x : Addressed). x.id.router == router) all in
       All-weaker (IsOf router (0 + length bgp.neighbours)) (λ a. a.router ≡ router) (λ a is. is.0)
       (peerings_from own router file bgp.asn 0 bgp.neighbours) (lines_from own router file bgp.asn 0 bgp.neighbours)
 
-routers_up : (all : List Addressed) (router : ℕ) (files : List File) → AllPairs IsNotAfter (peerings_routers all router files)
+routers_up : (all : List Addressed) (router : ℕ) (files : List File) →
+    AllPairs IsNotAfter (peerings_routers all router files)
 routers_up all router [] = λ i j d below within. absurd (omega arith)
 routers_up all router (file ∷ rest) =
     joined (peerings_of all router file) (peerings_routers all (router + 1) rest) router

@@ -5,7 +5,8 @@ use Rattle.std.proofs.Common.{◌∙◌, min, slice_get}
 use Rattle.std.specs.Prelude.{◌⊎◌, fold, option_map, option_and_then, Contains, cond, if◌then◌else◌}
 use Rattle.std.specs.List.{cons_option, filter_map, flat_map, list_any, IsDistinct, AllByRecursion}
 use Rattle.std.specs.Option.{option_map_or, option_to_list}
-use Rattle.std.proofs.lemmas.Bool.{cases_lt, and_parts, and_from, or_parts, eqb-true}
+use Rattle.std.proofs.lemmas.Bool.{cases_lt, and_parts, and_from, eqb-true}
+use Rattle.mw_text.proofs.Lists.{none_equal}
 use Rattle.std.proofs.lemmas.List.{length-map}
 use Rattle.std.proofs.lemmas.Option.{option_and_then_some}
 use Rattle.std.proofs.lemmas.Map.Steps.{length-le_from_distinct_below}
@@ -356,7 +357,8 @@ below_files router (file ∷ rest) x here =
     by_part (inl now) deeper = let is = from_interfaces router 0 file.interfaces x now in omega (arith, is)
     by_part (inr later) deeper = let below = deeper later in omega (arith, below)
 
-ospf_at-same : (files : List File) (x : Addressed) (o : OspfInterface) → ospf_at files x ≡ Some o → o.at ≡ x
+-- an interface that runs OSPF is that with the address
+pub ospf_at-same : (files : List File) (x : Addressed) (o : OspfInterface) → ospf_at files x ≡ Some o → o.at ≡ x
 ospf_at-same files x o is =
     option_and_then_some (λ file. option_and_then (λ process.
     if is_matched process x.addr then option_map (λ iface. running process iface x)
@@ -426,11 +428,6 @@ stands_below files failures p router (a ∷ rest) sum q (there, further, walks, 
         (list_any (eqb q) (standings a.to.router rest) ≡ true → q < length files) → q < length files
     by_first true same h deeper = let is = eqb-true q router same in omega (arith, is, below)
     by_first false other h deeper = deeper h
-
-none_equal : (x : ℕ) (xs : List ℕ) → list_any (eqb x) xs ≡ false → AllByRecursion (λ y. eqb x y ≡ false) xs
-none_equal x [] none = tt
-none_equal x (y ∷ ys) none =
-    let both = or_parts (eqb x y) (list_any (eqb x) ys) none in (both.0, none_equal x ys both.1)
 
 not-true : (b : Bool) → not b ≡ true → b ≡ false
 not-true true h = cc

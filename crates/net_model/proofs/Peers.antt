@@ -1,7 +1,7 @@
 -- How many neighbour lines and sessions there are.
 use Rattle.std.proofs.Common.{◌≡◌, ℕ, ◌+◌, ◌*◌, ◌≤◌, Bool, true, false, ◌&&◌, List, [], ◌∷◌, length, length-append}
 use Rattle.std.proofs.Common.{Option, Some, None, refl, ap, arith}
-use Rattle.std.proofs.lemmas.Bool.{leb-true}
+use Rattle.std.proofs.lemmas.Bool.{and_parts, leb-true}
 use Rattle.std.proofs.lemmas.List.Sums.{count_by-le-length, length-filter}
 use Rattle.std.specs.Prelude.{filter, nat_le, ◌==◌, not}
 use Rattle.std.specs.List.{find, list_all}
@@ -54,21 +54,16 @@ few_routers : (all : List Addressed) (router : ℕ) (files : List File) → list
     length (peerings_routers all router files) ≤ 64 * length files
 few_routers all router [] few = omega arith
 few_routers all router (file ∷ rest) few =
-    let both = two (keeps_limits file) (list_all keeps_limits rest) few in
+    let both = and_parts (keeps_limits file) (list_all keeps_limits rest) few in
     let costs : Bool = list_all has_cost_in_range file.interfaces in
-    let here = two (has_few_neighbours file) costs
-    (two (has_few_interfaces file) (has_few_neighbours file && costs) both.0).1 in
+    let here = and_parts (has_few_neighbours file) costs
+    (and_parts (has_few_interfaces file) (has_few_neighbours file && costs) both.0).1 in
     omega (
       arith,
       length-append (peerings_of all router file) (peerings_routers all (router + 1) rest),
       few_of all router file here.0,
       few_routers all (router + 1) rest both.1,
     )
-  where
-    two : (a b : Bool) → (a && b) ≡ true → (a ≡ true) × (b ≡ true)
-    two true true h = (refl, refl)
-    two true false h = cc
-    two false b h = cc
 
 -- a filtered list is no longer
 pub filter-le : {A : Type 0} (p : A → Bool) (xs : List A) → length (filter p xs) ≤ length xs

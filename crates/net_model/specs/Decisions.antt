@@ -21,7 +21,7 @@ use Rattle.net_model.specs.declared.sessions.Far.{Far}
 use Rattle.net_model.specs.declared.sessions.Far.TheVariants.{Outside, Inside}
 use Rattle.net_model.specs.declared.sessions.SessionEnd.{SessionEnd}
 use Rattle.net_model.specs.Exports.{announced_message, exported, imported, router_id}
-use Rattle.net_model.specs.Mapping.{origin_code}
+use Rattle.route_record.specs.Origins.{origin_code}
 use Rattle.net_model.specs.Origins.{local_routes}
 use Rattle.net_model.specs.Resolution.{resolved, session_up}
 use Rattle.net_model.specs.Sessions.{ends_of, is_outside, neighbour_of}

@@ -31,7 +31,8 @@ use Rattle.net_model.specs.declared.sessions.Far.{Far}
 use Rattle.net_model.specs.declared.sessions.Far.TheVariants.{Outside, Inside}
 use Rattle.net_model.specs.declared.sessions.SessionEnd.{SessionEnd}
 use Rattle.net_model.specs.Interfaces.{addressed}
-use Rattle.net_model.specs.Mapping.{attributes_of, entries_named, origin_of_code, through_map, with_attributes}
+use Rattle.route_record.specs.Origins.{origin_of_code}
+use Rattle.net_model.specs.Mapping.{attributes_of, entries_named, through_map, with_attributes}
 use Rattle.net_model.specs.Sessions.{ends_of, neighbour_of}
 
 -- ---- routers and their identifiers

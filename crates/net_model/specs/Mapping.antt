@@ -1,5 +1,5 @@
 -- Route maps and lists as a router applies them to its routes.
-use Rattle.std.specs.Prelude.{ℕ, ◌==◌, Bool, false, List, [], Option, Some, if◌then◌else◌}
+use Rattle.std.specs.Prelude.{Bool, false, List, [], Option, Some}
 use Rattle.std.specs.List.{find}
 use Rattle.std.specs.Option.{option_map_or}
 use Rattle.mw_text.specs.declared.address.Prefix.{Prefix}
@@ -10,17 +10,7 @@ use Rattle.ios_ast.specs.declared.policies.Policies.{Policies}
 use Rattle.ios_ast.specs.Maps.{mapped}
 use Rattle.ios_ast.specs.Setting.{Attributes}
 use Rattle.route_record.specs.declared.BgpRec.{BgpRec}
-use Rattle.route_record.specs.declared.Origin.{Origin}
-use Rattle.route_record.specs.declared.Origin.TheVariants.{Igp, Egp, Incomplete}
-
--- the codes of origins (RFC 4271, section 5.1.1)
-abbrev pub origin_code : Origin → ℕ
-origin_code Igp = 0
-origin_code Egp = 1
-origin_code Incomplete = 2
-
-abbrev pub origin_of_code : ℕ → Origin
-origin_of_code code = if code == 0 then Igp else if code == 1 then Egp else Incomplete
+use Rattle.route_record.specs.Origins.{origin_code, origin_of_code}
 
 -- what route maps see of a BGP route
 abbrev pub attributes_of : BgpRec → Attributes

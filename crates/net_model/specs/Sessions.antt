@@ -1,6 +1,7 @@
 -- Ends of BGP sessions (RFC 4271, section 8; Cisco IOS, `neighbor remote-as` and `neighbor update-source`).
-use Rattle.std.specs.Prelude.{ℕ, ◌+◌, ◌<◌, ◌==◌, ◌&&◌, ◌||◌, ⊤, Bool, true, false, not, List, [], ◌∷◌, ◌++◌, filter, is_some}
-use Rattle.std.specs.Prelude.{IsSome, length, map, position, slice_get, Option, option_and_then, unwrap_or, if◌then◌else◌}
+use Rattle.std.specs.Prelude.{ℕ, ◌+◌, ◌<◌, ◌==◌, ◌&&◌, ◌||◌, ⊤, Bool, true, false, not, List, [], ◌∷◌, ◌++◌, filter}
+use Rattle.std.specs.Prelude.{IsSome, is_some, length, map, position, slice_get, Option, option_and_then, unwrap_or}
+use Rattle.std.specs.Prelude.{if◌then◌else◌}
 use Rattle.std.specs.List.{find, list_any}
 use Rattle.std.specs.Option.{option_map_or}
 use Rattle.mw_text.specs.Address.{covers, same_prefix}
@@ -129,7 +130,8 @@ abbrev pub FarIsWithin : ℕ → Far → Type 0
 FarIsWithin count Outside = ⊤
 FarIsWithin count (Inside at) = at < count
 
--- an end is of a router of the files, of a neighbour line of its process, and its far side is an external peer or an end
+-- an end is of a router of the files and of a neighbour line of its process, and at its far side is an external peer or
+-- one of the ends
 pub record IsPlaced (files : List File) (end : SessionEnd) : Type 0 where
   pub router : end.router < length files
   pub line : IsSome (neighbour_of files end)

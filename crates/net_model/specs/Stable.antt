@@ -1,5 +1,5 @@
 -- The stable routings of a network for one destination.
-use Rattle.std.specs.Prelude.{◌≡◌, ℕ, ◌*◌, ◌<◌, List, length, Option, Some, None, MatchOption, option_and_then}
+use Rattle.std.specs.Prelude.{◌≡◌, ℕ, ◌*◌, ◌<◌, All, List, length, Option, Some, None, MatchOption, option_and_then}
 use Rattle.std.specs.Prelude.{slice_get}
 use Rattle.mw_text.specs.declared.address.Addr.{Addr}
 use Rattle.mw_text.specs.declared.address.Prefix.{Prefix}
@@ -12,6 +12,7 @@ use Rattle.route_record.specs.declared.OspfRec.{OspfRec}
 use Rattle.route_record.specs.declared.Slot.{Slot}
 use Rattle.route_record.specs.declared.Tables.{Tables}
 use Rattle.route_record.specs.declared.TheConstants.{LENGTHS}
+use Rattle.route_record.specs.Fits.{FitsSlot}
 use Rattle.route_record.specs.Places.{slot_at}
 use Rattle.net_model.specs.Decisions.{DecidedByBgp}
 use Rattle.net_model.specs.Entries.{table_entry}
@@ -35,10 +36,12 @@ pub record IsStableSlot (files : List File) (failures : Failures) (environment :
   pub bgp : IsDecided files failures environment tables router file p slot.bgp
   pub rib : slot.rib ≡ table_entry files failures router file p slot
 
--- the tables are a stable routing: each router has a slot for each prefix of the destination, and its equations hold
+-- the tables are a stable routing: each router has a slot for each prefix of the destination, whose numbers fit their
+-- fields, and whose equations hold
 pub record Stable (files : List File) (destination : Addr) (failures : Failures) (environment : Environment)
     (tables : Tables) : Type 0 where
   pub size : length tables.slots ≡ LENGTHS * length files
+  pub fits : All FitsSlot tables.slots
   pub equations : (router len : ℕ) (file : File) (slot : Slot) →
       slice_get files router ≡ Some file → len < LENGTHS → slot_at tables router len ≡ Some slot →
       IsStableSlot files failures environment tables router file (prefix_at destination len) slot

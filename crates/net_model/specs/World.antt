@@ -74,7 +74,8 @@ pub record IsFailureSet (files : List File) (k : ℕ) (failures : Failures) : Ty
 -- that subnet is a failed link
 abbrev pub is_failed : List File → Failures → Prefix → Bool
 is_failed files failures p =
-    list_any (λ at. option_map_or (λ link. same_prefix p link.prefix) (slice_get (links_of files) at) Bool.false) failures.links
+    list_any (λ at. option_map_or (λ link. same_prefix p link.prefix) (slice_get (links_of files) at) Bool.false)
+    failures.links
 
 -- no link has failed
 abbrev pub no_failures : Failures

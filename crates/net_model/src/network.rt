@@ -1,6 +1,6 @@
 //! The network of a list of files.
 
-ghost use Rattle.std.specs.Prelude.{All, AllPairs, ◌≡◌, ◌≢◌, ◌≤◌, ◌<◌, IfOk, IfErr, IfSome, None, Some, position, true, length, slice_range};
+ghost use Rattle.std.specs.Prelude.{All, AllPairs, ◌≡◌, ◌≢◌, ◌≤◌, ◌<◌, IfOk, IfErr, IfSome, IsTrue, None, Some, position, true, length, slice_range};
 ghost use Rattle.std.specs.List.{list_all};
 ghost use Rattle.std.specs.List.Sorted.{IsNonDecreasingBy};
 ghost use Rattle.mw_text.specs.Address.{same_prefix};
@@ -242,15 +242,20 @@ impl Net {
     }
 
     /// Every prefix that some interface advertises by OSPF, ascending, each once.
+    #[tactic(auto, using(crate::proofs::Ascending::advertised_ascend))]
     pub fn advertised(&self) -> &[Prefix]
-        ensures { result.now ≡ ospf.advertised self.now }
+        ensures value { result.now ≡ ospf.advertised self.now }
+        ensures ascending { AllPairs (λ p q. IsTrue (world.comes_before p q)) (ospf.advertised self.now) }
     {
         self.parts.advertised.as_slice()
     }
 
     /// The communities, AS numbers and cluster identifiers that the files name.
+    #[tactic(auto, using(crate::proofs::TrackedUp::communities_ascend, crate::proofs::TrackedUp::numbers_ascend))]
     pub fn tracked(&self) -> &Tracked
-        ensures { result.now ≡ values.tracked_of self.now }
+        ensures value { result.now ≡ values.tracked_of self.now }
+        ensures communities { IsTrue (world.ascends (values.tracked_of self.now).communities) }
+        ensures numbers { IsTrue (world.ascends (values.tracked_of self.now).numbers) }
     {
         &self.parts.tracked
     }

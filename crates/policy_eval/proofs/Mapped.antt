@@ -3,18 +3,11 @@ use Rattle.std.proofs.Common.{◌≡◌, ◌∙◌, refl, sym, ap, Option, Some,
 use Rattle.std.specs.Option.{option_map}
 use Rattle.std.specs.Prelude.{IfSome}
 use Rattle.ios_ast.specs.Setting.{Attributes}
-use Rattle.policy_eval.specs.Attributes.{KeepsRest, attributes_of, origin_code}
-use Rattle.policy_eval.specs.Routes.{as_map_rec, origin_of_code, with_attributes}
+use Rattle.policy_eval.specs.Attributes.{KeepsRest, attributes_of}
+use Rattle.policy_eval.specs.Routes.{as_map_rec, with_attributes}
+use Rattle.route_record.proofs.OriginCodes.{code_back}
 use Rattle.route_record.specs.declared.BgpRec.{BgpRec}
 use Rattle.route_record.specs.declared.MapRec.{MapRec}
-use Rattle.route_record.specs.declared.Origin.{Origin}
-use Rattle.route_record.specs.declared.Origin.TheVariants.{Igp, Egp, Incomplete}
-
--- the origin of its code
-code_back : (origin : Origin) → origin_of_code (origin_code origin) ≡ origin
-code_back Igp = refl
-code_back Egp = refl
-code_back Incomplete = refl
 
 made_rest : (rec : BgpRec) (made : MapRec) → KeepsRest (as_map_rec rec) made
     → with_attributes rec (attributes_of made) ≡ made.bgp

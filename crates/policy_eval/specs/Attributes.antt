@@ -1,15 +1,8 @@
 -- What route maps see of a record, and what they leave.
-use Rattle.std.specs.Prelude.{◌≡◌, ℕ}
+use Rattle.std.specs.Prelude.{◌≡◌}
 use Rattle.ios_ast.specs.Setting.{Attributes}
 use Rattle.route_record.specs.declared.MapRec.{MapRec}
-use Rattle.route_record.specs.declared.Origin.{Origin}
-use Rattle.route_record.specs.declared.Origin.TheVariants.{Igp, Egp, Incomplete}
-
--- the codes of origins (RFC 4271, section 5.1.1)
-abbrev pub origin_code : Origin → ℕ
-origin_code Igp = 0
-origin_code Egp = 1
-origin_code Incomplete = 2
+use Rattle.route_record.specs.Origins.{origin_code}
 
 -- what route maps see of a record and may set
 abbrev pub attributes_of : MapRec → Attributes

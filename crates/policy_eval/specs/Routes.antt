@@ -1,5 +1,5 @@
 -- What route maps make of a BGP route.
-use Rattle.std.specs.Prelude.{ℕ, ◌==◌, Bool, false, List, [], Option, Some, if◌then◌else◌}
+use Rattle.std.specs.Prelude.{Bool, false, List, [], Option, Some}
 use Rattle.std.specs.List.{find}
 use Rattle.std.specs.Option.{option_map_or}
 use Rattle.mw_text.specs.declared.address.Prefix.{Prefix}
@@ -11,15 +11,11 @@ use Rattle.ios_ast.specs.Maps.{mapped}
 use Rattle.ios_ast.specs.Setting.{Attributes}
 use Rattle.route_record.specs.declared.BgpRec.{BgpRec}
 use Rattle.route_record.specs.declared.MapRec.{MapRec}
-use Rattle.route_record.specs.declared.Origin.{Origin}
-use Rattle.route_record.specs.declared.Origin.TheVariants.{Igp, Egp, Incomplete}
+use Rattle.route_record.specs.Origins.{origin_of_code}
 
 -- a route that is not redistributed, as route maps take it
 abbrev pub as_map_rec : BgpRec → MapRec
 as_map_rec rec = record { bgp = rec; type1 = false }
-
-abbrev pub origin_of_code : ℕ → Origin
-origin_of_code code = if code == 0 then Igp else if code == 1 then Egp else Incomplete
 
 -- the route with what a map has left of its attributes
 abbrev pub with_attributes : BgpRec → Attributes → BgpRec

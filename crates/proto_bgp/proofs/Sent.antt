@@ -14,8 +14,9 @@ use Rattle.net_model.specs.Sessions.{neighbour_of}
 use Rattle.route_record.specs.declared.BgpMsg.{BgpMsg}
 use Rattle.route_record.specs.declared.BgpRec.{BgpRec}
 use Rattle.net_model.specs.Exports as exports
-use Rattle.net_model.specs.Mapping.{attributes_of, origin_of_code, through_map, with_attributes}
-use Rattle.proto_bgp.proofs.Mapped.{code_back}
+use Rattle.route_record.specs.Origins.{origin_of_code}
+use Rattle.route_record.proofs.OriginCodes.{code_back}
+use Rattle.net_model.specs.Mapping.{attributes_of, through_map, with_attributes}
 
 -- a message of what a map leaves is one of the route that it makes
 then_made : {A B C : Type 0} (g : A → B) (h : A → C) (k : B → C) (found : Option A) (made : B) →

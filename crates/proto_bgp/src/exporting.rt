@@ -204,7 +204,7 @@ fn kept_metric(keeps: bool, med: u32) -> Option<u32>
 }
 
 /// The message over an external session: the own AS in front of the path, the own address as next hop.
-#[tactic(auto, using(crate::proofs::Mapped::code_back))]
+#[tactic(auto, using(route_record::proofs::OriginCodes::code_back))]
 fn external_message(
     alloc: Global,
     process: &Bgp,
@@ -232,7 +232,7 @@ fn external_message(
 }
 
 /// The message over an internal session: path, local preference and metric stay as the map leaves them.
-#[tactic(auto, using(crate::proofs::Mapped::code_back))]
+#[tactic(auto, using(route_record::proofs::OriginCodes::code_back))]
 fn internal_message(
     alloc: Global,
     files: &[File],

@@ -2,7 +2,7 @@
 
 ghost use Rattle.std.specs.Prelude.{◌≡◌, ◌==◌};
 ghost use Rattle.net_model.specs.Decisions as decisions;
-ghost use Rattle.net_model.specs.Mapping.{origin_code};
+ghost use Rattle.route_record.specs.Origins.{origin_code};
 ghost use Rattle.ios_ast.specs.Paths.{first_of};
 ghost use Rattle.proto_bgp.specs.Steps.{rule, seen};
 

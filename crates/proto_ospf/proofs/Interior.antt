@@ -24,6 +24,7 @@ use Rattle.net_model.specs.World.{is_up}
 use Rattle.mw_text.specs.Address.{same_prefix}
 use Rattle.net_model.specs.Ospf.{adjacencies, adjacencies_of, adjacency, advertisement, are_adjacent, is_matched}
 use Rattle.net_model.specs.Ospf.{is_up_at, ospf_at, ospf_interfaces, running, up_adjacencies}
+use Rattle.net_model.proofs.LeastWalks.{ospf_at-same}
 use Rattle.proto_ospf.specs.Rounds.{everywhere, interior_distances, lower, nearest, of_router, over, receiver, rounds}
 use Rattle.proto_ospf.proofs.Bounds.{all_filter_map}
 
@@ -77,32 +78,13 @@ of_these router (file ∷ rest) =
     (All-weaker (λ x. x.id.router < router + 1 + length rest) (λ x. x.id.router < router + suc (length rest))
     (λ x is. omega (arith, is)) (addressed_routers (router + 1) rest) (of_these (router + 1) rest))
 
-same_place : (files : List File) (x : Addressed) (o : OspfInterface) → ospf_at files x ≡ Some o → o.at ≡ x
-same_place files x o is =
-    option_and_then_some (λ file. option_and_then (λ process.
-    if is_matched process x.addr then option_map (λ iface. running process iface x)
-    (slice_get file.interfaces x.id.at) else None)
-    file.ospf) (slice_get files x.id.router) o is (λ file found inner.
-    option_and_then_some (λ process.
-    if is_matched process x.addr then option_map (λ iface. running process iface x)
-    (slice_get file.interfaces x.id.at) else None)
-    file.ospf o inner (λ process runs made. by_match process (is_matched process x.addr)
-    (slice_get file.interfaces x.id.at) made))
-  where
-    by_match : (process : Ospf) (b : Bool) (iface : Option Iface) →
-        (if b then option_map (λ i. running process i x) iface else None) ≡ Some o → o.at ≡ x
-    by_match process true None made = cc
-    by_match process true (Some i) made = let same : running process i x ≡ o = cc in
-        ap (λ (y : OspfInterface). y.at) (sym same)
-    by_match process false iface made = cc
-
 interfaces_within : (files : List File) → All (λ o. o.at.id.router < length files) (ospf_interfaces files)
 unfolding ospf_interfaces
 interfaces_within files =
     all_filter_map (λ x. x.id.router < 0 + length files) (λ o. o.at.id.router < length files) (ospf_at files)
     (addressed files)
     (λ x o below is.
-    let same = same_place files x o is in
+    let same = ospf_at-same files x o is in
     let there : o.at.id.router ≡ x.id.router = ap (λ (y : Addressed). y.id.router) same in
     omega (arith, there, below))
     (of_these 0 files)

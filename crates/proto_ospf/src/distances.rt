@@ -22,7 +22,14 @@ fn is_origin(net: &Net, failures: &Failures, p: &Prefix, x: &OspfInterface) -> b
     advertisement(x) == *p && net.is_up_with(failures, &x.at)
 }
 
-fn originates(net: &Net, failures: &Failures, router: u32, p: &Prefix, x: &OspfInterface) -> bool
+/// Whether the router originates the prefix by this interface: it is the router's own, advertises the prefix and is up.
+pub fn originates(
+    net: &Net,
+    failures: &Failures,
+    router: u32,
+    p: &Prefix,
+    x: &OspfInterface,
+) -> bool
     ensures { result ≡ ((x.now.at.id.router == router)
         && (same_prefix (ospf.advertisement x.now) p.now && is_up_in net.now failures.now x.now.at)) }
 {

@@ -10,7 +10,7 @@ mod sending;
 mod sessions;
 mod states;
 
-pub use distances::{distances_over, distances_to, igp_distance, own_cost};
+pub use distances::{distances_over, distances_to, igp_distance, originates, own_cost};
 pub use offers::{first_best, offer, prefer, transfer};
 pub use reached::{Reached, all_distances, resolve, resolve_over};
 pub use rounds::Receiver;

@@ -1,7 +1,7 @@
 -- The slots of all routers, by their places.
 use Rattle.std.proofs.Common.{◌≡◌, ℕ, true, ◌+◌, ◌*◌, ◌/◌, ◌%◌, ◌<◌, List, [], ◌++◌, length, Option, Some, None, refl}
 use Rattle.std.proofs.Common.{ap, ap₂, arith, sym, ◌∙◌, subst, get_or}
-use Rattle.std.specs.Prelude.{MatchOption, option_and_then, slice_get}
+use Rattle.std.specs.Prelude.{All, MatchOption, option_and_then, slice_get}
 use Rattle.std.proofs.lemmas.List.{append-nil}
 use Rattle.std.proofs.lemmas.Option.{slice_get_within, get_or_from_slice_get}
 use Rattle.mw_text.proofs.Lists.{list_ext, item_there}
@@ -16,6 +16,7 @@ use Rattle.route_record.specs.declared.BgpRec.{BgpRec}
 use Rattle.route_record.specs.declared.OspfRec.{OspfRec}
 use Rattle.route_record.specs.declared.RibEntry.{RibEntry}
 use Rattle.route_record.specs.declared.Slot.{Slot}
+use Rattle.route_record.specs.Fits.{FitsSlot}
 use Rattle.route_record.specs.declared.Tables.{Tables}
 use Rattle.net_model.specs.declared.interfaces.Addressed.{Addressed}
 use Rattle.net_model.specs.Interfaces.{addressed}
@@ -71,11 +72,12 @@ plain_entry files router file p slot ospf bgp =
 -- slots that are those of their places are a stable routing
 pub stable-from_places : (files : List File) (d : Addr) (slots : List Slot) (environment : Environment)
     → runs_no_protocol files ≡ true →
-    length slots ≡ LENGTHS * length files →
+    length slots ≡ LENGTHS * length files → All FitsSlot slots →
     ((k : ℕ) (slot : Slot) → slice_get slots k ≡ Some slot → IsSlotAt files d k slot) →
     Stable files d no_failures environment (record { slots = slots })
-stable-from_places files d slots environment network size each = record {
+stable-from_places files d slots environment network size fits each = record {
   size = size;
+  fits = fits;
   equations = λ router len file slot is_file in_range is_slot.
       let k : ℕ = LENGTHS * router + len in
       let found : slot ≡ slot_over (addressed files) router file (prefix_at d len) =

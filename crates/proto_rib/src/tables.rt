@@ -13,7 +13,7 @@ use ios_ast::{File, StaticRoute};
 use mw_text::{Addr, List, Prefix, prefix_of};
 use net_model::routing::{is_direct, open_interfaces, route_counts};
 use net_model::{Addressed, Net};
-use route_record::{LENGTHS, RibEntry, RibSource, Slot, Tables};
+use route_record::{LENGTHS, RibEntry, RibSource, Slot, Tables, read_tables};
 use std::alloc::{AllocError, Global};
 
 /// Of two entries the later one only where its distance is less.
@@ -90,5 +90,7 @@ pub fn tables_of(alloc: Global, net: &Net, d: Addr) -> Result<Tables, AllocError
         let slot = slot_of(alloc, net.addresses(), router as u32, &routers[router], &p)?;
         slots.items.push(slot)?;
     }
-    Ok(Tables { slots })
+    let tables = Tables { slots };
+    read_tables(&tables);
+    Ok(tables)
 }

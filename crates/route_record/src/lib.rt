@@ -1,12 +1,14 @@
 //! Packets, and the records of routes that a router holds, as plain data.
 #![tactic(auto)]
 
+mod fitting;
 mod shaping;
 mod tracked;
 
 ghost use Rattle.std.specs.Prelude.{◌≡◌};
 ghost use Rattle.std.specs.Option.{option_copied};
 
+pub use fitting::read_tables;
 use mw_text::{Addr, List};
 pub use shaping::shape;
 pub use tracked::{MOST_TRACKED, Shape, Tracked};

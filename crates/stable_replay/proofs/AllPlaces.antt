@@ -1,6 +1,6 @@
 -- The slots of all routers, by their places.
 use Rattle.std.proofs.Common.{◌≡◌, ◌∙◌, ℕ, ◌+◌, ◌*◌, ◌/◌, ◌%◌, ◌<◌, List, length, Some, refl, ap, arith, sym, subst}
-use Rattle.std.specs.Prelude.{slice_get}
+use Rattle.std.specs.Prelude.{All, slice_get}
 use Rattle.std.proofs.lemmas.Option.{slice_get_within}
 use Rattle.mw_text.specs.declared.address.Addr.{Addr}
 use Rattle.mw_text.specs.declared.address.Prefix.{Prefix}
@@ -11,6 +11,7 @@ use Rattle.route_record.specs.declared.Failures.{Failures}
 use Rattle.route_record.specs.declared.Slot.{Slot}
 use Rattle.route_record.specs.declared.Tables.{Tables}
 use Rattle.route_record.specs.declared.TheConstants.{LENGTHS}
+use Rattle.route_record.specs.Fits.{FitsSlot}
 use Rattle.route_record.specs.Places.{slot_at}
 use Rattle.net_model.specs.Stable.{IsStableSlot, Stable}
 use Rattle.stable_replay.specs.declared.differs.Differs.{Differs}
@@ -37,11 +38,12 @@ stable_there files d failures environment tables router len file slot in_range s
 -- where all slots are stable the tables are
 pub stable_everywhere : (files : List File) (d : Addr) (failures : Failures) (environment : Environment)
     (tables : Tables) →
-    length tables.slots ≡ LENGTHS * length files →
+    length tables.slots ≡ LENGTHS * length files → All FitsSlot tables.slots →
     ((k : ℕ) → k < LENGTHS * length files → IsStableAt files d failures environment tables k) →
     Stable files d failures environment tables
-stable_everywhere files d failures environment tables size each = record {
+stable_everywhere files d failures environment tables size fits each = record {
   size = size;
+  fits = fits;
   equations = λ router len file slot in_file in_range there.
       let within : router < length files = slice_get_within files router file in_file in
       stable_there files d failures environment tables router len file slot in_range

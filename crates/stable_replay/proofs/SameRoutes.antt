@@ -12,7 +12,7 @@ use Rattle.route_record.specs.declared.Learnt.{Learnt}
 use Rattle.route_record.specs.declared.Learnt.TheVariants.{Local, Peer}
 use Rattle.route_record.specs.declared.Origin.{Origin}
 use Rattle.route_record.specs.declared.Origin.TheVariants.{Igp, Egp, Incomplete}
-use Rattle.net_model.specs.Mapping.{origin_code}
+use Rattle.route_record.specs.Origins.{origin_code}
 use Rattle.stable_replay.specs.Same.{same_address, same_id, same_learnt, same_lists, same_numbers, same_rec}
 use Rattle.stable_replay.specs.Same.{same_sources}
 

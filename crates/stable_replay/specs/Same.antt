@@ -5,7 +5,7 @@ use Rattle.mw_text.specs.declared.address.Addr.{Addr}
 use Rattle.route_record.specs.declared.BgpRec.{BgpRec}
 use Rattle.route_record.specs.declared.Learnt.{Learnt}
 use Rattle.route_record.specs.declared.Learnt.TheVariants.{Local, Peer}
-use Rattle.net_model.specs.Mapping.{origin_code}
+use Rattle.route_record.specs.Origins.{origin_code}
 
 abbrev pub same_address : Addr → Addr → Bool
 same_address a b = a.0 == b.0

@@ -12,7 +12,7 @@ use crate::slots::test_slot;
 use crate::underlay::{Underlay, underlay_of};
 use mw_text::{Addr, prefix_of};
 use net_model::Net;
-use route_record::{Environment, Failures, LENGTHS, Tables};
+use route_record::{Environment, Failures, LENGTHS, Tables, read_tables};
 use std::alloc::{AllocError, Global};
 
 // Tests the slot at a place of the tables.
@@ -67,6 +67,7 @@ fn first_over(
         (Stable net.now d failures.now env.now tables.now)
         (differences.IsFirstDifference net.now d failures.now env.now tables.now)) }
 {
+    read_tables(tables);
     for place in 0..LENGTHS * net.routers().len() {
         if let Some(found) = test_place(alloc, net, d, failures, env, tables, underlay, place)? {
             return Ok(Some(found));

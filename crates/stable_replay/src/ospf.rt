@@ -4,11 +4,8 @@ ghost use Rattle.std.specs.Prelude.{◌≡◌, ◌==◌, ◌&&◌, ◌++◌, ◌
 ghost use Rattle.std.specs.Bool.{Decides};
 ghost use Rattle.std.specs.List.{filter_map};
 ghost use Rattle.std.specs.Option.{option_map_or};
-ghost use Rattle.mw_text.specs.Address.{same_prefix};
-ghost use Rattle.net_model.specs.Ospf as ospf;
 ghost use Rattle.net_model.specs.OspfRoutes as routes;
 ghost use Rattle.net_model.specs.Stable as stable;
-ghost use Rattle.net_model.specs.World.{is_up as is_up_in};
 ghost use Rattle.route_record.specs.Places.{slot_at};
 ghost use Rattle.stable_replay.specs.Parts as parts;
 ghost use Rattle.stable_replay.specs.Underlays.{IsUnderlay};
@@ -16,25 +13,11 @@ ghost use Rattle.stable_replay.specs.Underlays.{IsUnderlay};
 use crate::underlay::{Underlay, adjacencies_of};
 use ios_ast::File;
 use mw_text::{List, Prefix};
-use net_model::ospf::advertisement;
-use net_model::{Adjacency, Net, OspfInterface};
-use proto_ospf::{first_best, offer};
+use net_model::{Adjacency, Net};
+use proto_ospf::{first_best, offer, originates};
 use proto_rib::redistribute;
 use route_record::{Failures, OspfKind, OspfRec, Slot, Tables};
 use std::alloc::{AllocError, Global};
-
-fn advertises(net: &Net, failures: &Failures, p: &Prefix, x: &OspfInterface) -> bool
-    ensures { result ≡ (same_prefix (ospf.advertisement x.now) p.now && is_up_in net.now failures.now x.now.at) }
-{
-    advertisement(x) == *p && net.is_up_with(failures, &x.at)
-}
-
-fn originates(net: &Net, failures: &Failures, router: u32, p: &Prefix, x: &OspfInterface) -> bool
-    ensures { result ≡ ((x.now.at.id.router == router)
-        && (same_prefix (ospf.advertisement x.now) p.now && is_up_in net.now failures.now x.now.at)) }
-{
-    x.at.id.router == router && advertises(net, failures, p, x)
-}
 
 // What the interfaces of the router originate.
 fn internal_origins(

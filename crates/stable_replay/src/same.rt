@@ -2,7 +2,7 @@
 
 ghost use Rattle.std.specs.Prelude.{◌≡◌, ◌==◌, nat_eq};
 ghost use Rattle.std.specs.Cmp.Lexicographic.{pointwise};
-ghost use Rattle.net_model.specs.Mapping.{origin_code};
+ghost use Rattle.route_record.specs.Origins.{origin_code};
 ghost use Rattle.stable_replay.specs.Same as same;
 
 use mw_text::Addr;

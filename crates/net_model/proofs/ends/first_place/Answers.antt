@@ -5,5 +5,6 @@ use Rattle.net_model.proofs.ends.first_place.Goals as goal
 pub returns-clause-point : goal.returns-clause-point
 returns-clause-point c =
     IsPartitionPoint-from_clause (λ end. nat_lt end.router c.args.router) c.args.ends.now c.partition_point.result
-    c.partition_point.ensures.partitioned (IsPartitionedBy-ltb (λ end. end.router) c.args.ends.now c.args.router c.requires.in_order)
+    c.partition_point.ensures.partitioned
+    (IsPartitionedBy-ltb (λ end. end.router) c.args.ends.now c.args.router c.requires.in_order)
     (λ a r q k. search rules)

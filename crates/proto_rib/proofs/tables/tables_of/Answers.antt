@@ -25,7 +25,8 @@ loop-place-preserved c =
 pub returns-clause-stable : goal.returns-clause-stable
 returns-clause-stable c environment =
     stable-from_places c.args.net.now c.args.d c.loop-place.slots-inside.items.items environment c.requires.plain
-    (omega (arith, c.loop-place.invariant.0, ap length c.routers-routers.ensures.all)) c.loop-place.invariant.1
+    (omega (arith, c.loop-place.invariant.0, ap length c.routers-routers.ensures.all)) c.read_tables.ensures
+    c.loop-place.invariant.1
 
 pub returns-clause-only : goal.returns-clause-only
 returns-clause-only c environment other =

@@ -28,4 +28,5 @@ loop-place-preserved c =
 pub returns : goal.returns
 returns c =
     stable_everywhere c.args.net.now c.args.d c.args.failures.now c.args.env.now c.args.tables.now c.requires.size
+    c.read_tables.ensures
     (λ k within. c.loop-place.invariant k (omega (arith, within, ap length c.routers.ensures.all)))
