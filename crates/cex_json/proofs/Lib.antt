@@ -5,3 +5,6 @@ pub mod Inversion
 pub mod Fitting
 pub mod Sizes
 pub mod InSet
+pub mod Dotted
+pub mod Written
+pub mod WrittenPackets

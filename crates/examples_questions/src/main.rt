@@ -1,5 +1,5 @@
-//! Reads lines of a name, a tab and a text of questions, with `|` for the end of a line, and prints what each text asks over
-//! a small network, or the line and the cause of its refusal; and then lines of each kind, word by word, and the limits.
+//! Reads lines of a name, a tab and a text of questions, with `|` for the end of a line, and prints what each text asks
+//! over a small network, or the line and the cause of its refusal; then lines of each kind word by word, and the limits.
 #![tactic(auto)]
 
 mod limits;
