@@ -152,3 +152,23 @@ prefix_back p small short =
     rw (cut-append 47 (addr_text p.addr) (decimal p.len) (no_slash_in p.addr))
     (rw (addr_back p.addr small)
     (rw (same_number (number_of 32 (decimal p.len)) p.len (passes is_length 33 p.len lengths (omega arith))) refl))
+
+-- ---- an address is no word of letters
+
+-- the first byte of an octet is not that of `local`
+abbrev begins_plainly : List ℕ → Bool
+begins_plainly [] = false
+begins_plainly (b ∷ rest) = not (b == 108)
+
+plain_octets : all_below (λ n. begins_plainly (decimal n)) 256 ≡ true
+unfolding digits
+plain_octets = refl
+
+other_word : (front rest : List ℕ) → begins_plainly front ≡ true → same_text (front ++ rest) (codes "local") ≡ false
+other_word [] rest plain = absurd (false≢true plain)
+other_word (b ∷ front) rest plain = rw (not_true _ plain) refl
+
+pub not_local : (a : Addr) → same_text (addr_text a) (codes "local") ≡ false
+unfolding addr_text
+not_local a = other_word (decimal (octet a 24)) _
+    (passes (λ n. begins_plainly (decimal n)) 256 (octet a 24) plain_octets (omega arith))

@@ -8,3 +8,5 @@ pub mod InSet
 pub mod Dotted
 pub mod Written
 pub mod WrittenPackets
+pub mod WrittenLists
+pub mod WrittenRoutes
