@@ -10,3 +10,4 @@ pub mod Written
 pub mod WrittenPackets
 pub mod WrittenLists
 pub mod WrittenRoutes
+pub mod WrittenSlots
