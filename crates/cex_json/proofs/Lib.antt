@@ -6,3 +6,9 @@ pub mod Fitting
 pub mod Sizes
 pub mod InSet
 pub mod Surrounding
+pub mod Dotted
+pub mod Written
+pub mod WrittenPackets
+pub mod WrittenLists
+pub mod WrittenRoutes
+pub mod WrittenSlots

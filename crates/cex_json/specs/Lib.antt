@@ -7,3 +7,4 @@ pub mod Entries
 pub mod Surroundings
 pub mod Standings
 pub mod Reading
+pub mod Writable

@@ -4,6 +4,7 @@
 pub mod counterexample;
 mod entries;
 mod fields;
+pub mod laws;
 mod parts;
 pub mod reader;
 pub mod refused;
