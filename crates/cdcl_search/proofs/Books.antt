@@ -16,7 +16,8 @@ use Rattle.mw_text.proofs.Lists.{each_place-push}
 use Rattle.resolution_check.specs.declared.log.Lit.{Lit}
 use Rattle.resolution_check.specs.declared.log.Clause.{Clause}
 use Rattle.resolution_check.specs.Clauses.{has, is_same, is_below}
-use Rattle.cdcl_search.proofs.Places.{all_at, all_set, all_push}
+use Rattle.mw_text.proofs.Lists.{all_at}
+use Rattle.cdcl_search.proofs.Places.{all_set, all_push}
 use Rattle.cdcl_search.specs.Books.{Shelf, are_places, IsIndexed, listed, has_place, Finds}
 
 eqb_sym : (m n : ℕ) → (m == n) ≡ (n == m)

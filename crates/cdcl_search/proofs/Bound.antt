@@ -3,15 +3,15 @@ use Rattle.std.proofs.Common.{◌≡◌, ◌⊎◌, ℕ, suc, ◌+◌, ◌*◌, 
 use Rattle.std.proofs.Common.{cond, List, [], ◌∷◌, ◌++◌, length, Option, Some, None, is_some, Result, Ok, Err, IfOk}
 use Rattle.std.proofs.Common.{inl, inr, refl, sym, ap, ap₂, subst, ◌∙◌, add-zero, zero-mul, arith, nat_lt}
 use Rattle.std.specs.Option.{option_or}
-use Rattle.std.specs.List.{list_any, list_all, IsDistinct, AllByRecursion}
+use Rattle.std.specs.List.{list_any, list_all, IsDistinct}
 use Rattle.std.proofs.Math.Dec.{eqb}
 use Rattle.std.proofs.Math.Nat.{le_of_mul-le-mul_left, mul-le-mul_right}
 use Rattle.std.proofs.lemmas.Bool.{and_parts, cases_Bool, false_from_ne_true, false≢true, or_cases, eqb-true, eq-eqb}
-use Rattle.std.proofs.lemmas.Bool.{or_parts}
 use Rattle.std.proofs.lemmas.List.Elements.{filter_map-append}
 use Rattle.std.proofs.lemmas.List.Folds.{list_all-append}
 use Rattle.std.proofs.lemmas.Map.Keys.{IsDistinct-cons}
 use Rattle.std.proofs.lemmas.Map.Steps.{length-le_from_distinct_below}
+use Rattle.mw_text.proofs.Lists.{none_equal}
 use Rattle.resolution_check.specs.declared.log.Lit.{Lit}
 use Rattle.resolution_check.specs.declared.log.Clause.{Clause}
 use Rattle.resolution_check.specs.declared.log.Entry.{Entry}
@@ -176,10 +176,6 @@ record IsCoded (limit : ℕ) (es : List Entry) : Type 0 where
   fresh : ends_deleting false es ≡ true → length codes ≡ 0
   apart : (run_count false es ≡ 0) ⊎ (run_count false es + 1 ≤ 3 ^ limit)
 
-none_same : (x : ℕ) (xs : List ℕ) → list_any (eqb x) xs ≡ false → AllByRecursion (λ y. eqb x y ≡ false) xs
-none_same x [] h = tt
-none_same x (y ∷ xs) h = let both = or_parts (eqb x y) (list_any (eqb x) xs) h in (both.0, none_same x xs both.1)
-
 -- what an entry owes in such a log
 abbrev Owes : List Entry → Entry → Type 0
 Owes es e = KeepsGood es e × IsEarned es e × MayFollow es e
@@ -296,7 +292,7 @@ module _ (limit : ℕ) (es : List Entry) (h : IsCoded limit es) where
       good = each_push KeepsGood es addition h.good earned.good;
       below = below_more addition (own_below limit id clause is_below_too);
       codes = own ∷ h.codes;
-      distinct = IsDistinct-cons eqb own h.codes (none_same own h.codes new_code) h.distinct;
+      distinct = IsDistinct-cons eqb own h.codes (none_equal own h.codes new_code) h.distinct;
       coded = code_now;
       few = rw (count-push es addition, same_runs addition refl)
           (one_more (addition_count es) (run_count false es) (3 ^ limit) (length h.codes) h.few);

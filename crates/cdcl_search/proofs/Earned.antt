@@ -16,6 +16,7 @@ use Rattle.cdcl_search.specs.declared.trail.Step.{Step}
 use Rattle.cdcl_search.specs.Books.{are_filled}
 use Rattle.cdcl_search.specs.Trails.{value_of, holds, AreFresh}
 use Rattle.cdcl_search.specs.Levels.{IsSettled, AllSettled, IsDecision, AreFull, IsNegated}
+use Rattle.mw_text.proofs.Lists as lists
 use Rattle.cdcl_search.proofs.Places as places
 use Rattle.cdcl_search.proofs.Trails.{value_of-keeps, value_of-last}
 
@@ -141,7 +142,7 @@ smallest clauses ss lits filled full fresh negated place c there = elim (cases_B
       let all : (l : Lit) → has c.lits l ≡ true → IsNegated ss l =
       λ l h. negated l (all_at (has lits) c.lits inside l h) in
       let some : (x : Lit) × (has c.lits x ≡ true) =
-      first_of c.lits (places.all_at (λ (k : Clause). not (is_empty k.lits)) clauses place c filled there) in
+      first_of c.lits (lists.all_at (λ (k : Clause). not (is_empty k.lits)) clauses place c filled there) in
       let last = last_decision ss (all some.0 some.1).at (all some.0 some.1).decision in
       absurd (not_settled ss fresh last.at
       (λ i d. last.last i (slice_get_within ss i d.step d.there) d) c.lits last.decision.step last.decision.there all

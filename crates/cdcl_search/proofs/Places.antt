@@ -45,12 +45,6 @@ take-same m n xs h = sym (take_min m xs) ∙ ap (λ k. take k xs) h ∙ take_min
 
 -- ---- tests of which all items are true
 
-pub all_at : {X : Type 0} (p : X → Bool) (xs : List X) (i : ℕ) (x : X) → list_all p xs ≡ true
-    → slice_get xs i ≡ Some x → p x ≡ true
-all_at p [] i x all h = absurd cc
-all_at p (z ∷ xs) zero x all h = let e : z ≡ x = cc in ap p (sym e) ∙ (and_parts _ _ all).0
-all_at p (z ∷ xs) (suc i) x all h = all_at p xs i x (and_parts _ _ all).1 h
-
 pub all_set : {X : Type 0} (p : X → Bool) (xs : List X) (i : ℕ) (y : X) → list_all p xs ≡ true → p y ≡ true
     → list_all p (set xs i y) ≡ true
 all_set p [] i y all h = refl

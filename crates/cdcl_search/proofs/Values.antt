@@ -14,7 +14,7 @@ use Rattle.cdcl_search.specs.declared.trail.Step.{Step}
 use Rattle.cdcl_search.specs.Levels.{AllSettled}
 use Rattle.cdcl_search.specs.Trails.{lits_of, value_of, holds, IsTotal}
 use Rattle.resolution_check.proofs.Values.{settled_true_now}
-use Rattle.cdcl_search.proofs.Places.{all_at}
+use Rattle.mw_text.proofs.Lists.{all_at}
 
 -- a literal of each clause is true
 abbrev pub all_hold : List Step → List Clause → Bool

@@ -74,12 +74,23 @@ fn show_ends(rt: &impl Print, ends: &[SessionEnd]) -> io::Result<()> {
     Ok(())
 }
 
+fn show_places(rt: &impl Print, net: &Net) -> io::Result<()> {
+    for (router, _) in net.routers().iter().enumerate() {
+        let places = net.ends_of(router as u32);
+        if places.start < places.end {
+            println!(rt; " ends of {router} from {} to {}", places.start, places.end)?;
+        }
+    }
+    Ok(())
+}
+
 fn show_network(rt: &impl Print, net: &Net) -> io::Result<()> {
     show_links(rt, net)?;
     show_ospf(rt, net.ospf_interfaces())?;
     show_prefixes(rt, "advertised", net.advertised())?;
     show_adjacencies(rt, net.adjacencies())?;
     show_ends(rt, net.ends())?;
+    show_places(rt, net)?;
     let tracked = net.tracked();
     for community in tracked.communities.as_slice() {
         println!(rt; " community {}", *community)?;

@@ -75,7 +75,10 @@ fn sixty_four_questions_are_answered_in_their_order(rt: HostRuntime) -> Result<(
     assert_eq!(rt; ran.status, Status::Good);
     let (more, _) = questions_of(rt.alloc(), 65)?;
     let ran = asked(rt.alloc(), more.as_slice(), &[])?;
-    assert_eq!(rt; ran.text.as_slice(), "refused q:65 17 TooManyQuestions\n".as_bytes());
+    assert_eq!(rt;
+        ran.text.as_slice(),
+        "refused q:65 17 TooManyQuestions\n".as_bytes()
+    );
     Ok(())
 }
 

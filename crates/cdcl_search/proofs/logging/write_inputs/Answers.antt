@@ -2,7 +2,7 @@ use Rattle.resolution_check.specs.Clauses.{is_below}
 use Rattle.std.proofs.Common.{rules, ◌≡◌, ◌∙◌, Some, slice_get, arith}
 use Rattle.std.proofs.lemmas.Option.{slice_get_read}
 use Rattle.resolution_check.specs.declared.log.Clause.{Clause}
-use Rattle.cdcl_search.proofs.Places.{all_at}
+use Rattle.mw_text.proofs.Lists.{all_at}
 use Rattle.cdcl_search.proofs.Logs.{below_each, inputs_more, inputs_part}
 use Rattle.cdcl_search.proofs.logging.write_inputs.Goals as goal
 

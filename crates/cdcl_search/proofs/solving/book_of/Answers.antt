@@ -2,7 +2,8 @@ use Rattle.resolution_check.specs.Clauses.{is_below}
 use Rattle.std.proofs.Common.{rules, ◌≡◌, ◌∙◌, ◌++◌, ◌∷◌, [], true, Some, slice_get, ap₂, sym}
 use Rattle.std.proofs.lemmas.Option.{slice_get_read}
 use Rattle.resolution_check.specs.declared.log.Clause.{Clause}
-use Rattle.cdcl_search.proofs.Places.{all_at, take_at}
+use Rattle.mw_text.proofs.Lists.{all_at}
+use Rattle.cdcl_search.proofs.Places.{take_at}
 use Rattle.cdcl_search.proofs.solving.book_of.Goals as goal
 
 pub add-requires : goal.add-requires
