@@ -1,175 +1,7 @@
-//! Configurations: whole ones, ones with each row, and ones with one fault.
+//! Configurations with each row, and ones with one fault.
 
 /// Texts that are read.
-pub const GOOD: [(&str, &str); 17] = [
-    (
-        "shown configuration",
-        "Building configuration...
-
-Current configuration : 1042 bytes
-!
-version 15.2
-service timestamps debug datetime msec
-!
-hostname EDGE
-!
-boot-start-marker
-boot-end-marker
-!
-no aaa new-model
-ip cef
-!
-interface GigabitEthernet0/0
- description to provider
- ip address 192.0.2.1 255.255.255.252
- duplex auto
- speed auto
-!
-interface GigabitEthernet0/1
- ip address 10.20.0.1 255.255.255.0
-!
-router ospf 1
- passive-interface default
- network 10.0.0.0 0.255.255.255 area 0
-!
-router bgp 65000
- bgp log-neighbor-changes
- network 10.20.0.0 mask 255.255.255.0
- neighbor 192.0.2.2 remote-as 65001
- neighbor 192.0.2.2 prefix-list IN in
-!
-ip forward-protocol nd
-no ip http server
-!
-ip prefix-list IN seq 5 deny 10.0.0.0/8 le 32
-ip prefix-list IN seq 10 permit 0.0.0.0/0 le 32
-!
-banner motd ^C
-Authorised access only.
-^C
-!
-line con 0
-line vty 0 4
- login
-!
-end
-",
-    ),
-    (
-        "first of two",
-        "hostname N1
-interface GigabitEthernet0/0
- ip address 10.0.0.1 255.255.255.252
-ip route 10.2.0.1 255.255.255.255 10.0.0.2
-",
-    ),
-    (
-        "second of two",
-        "hostname N2
-interface GigabitEthernet0/0
- ip address 10.0.0.2 255.255.255.252
-interface Loopback0
- ip address 10.2.0.1 255.255.255.255
-",
-    ),
-    (
-        "third of a triangle",
-        "hostname K3
-interface GigabitEthernet0/1
- ip address 10.0.13.2 255.255.255.252
-interface GigabitEthernet0/2
- ip address 10.0.23.2 255.255.255.252
-interface Loopback0
- ip address 10.9.0.3 255.255.255.255
-router ospf 1
- network 10.0.0.0 0.255.255.255 area 0
-access-list 101 deny tcp any any eq www
-access-list 101 permit ip any any
-",
-    ),
-    (
-        "two providers",
-        "hostname B1
-interface GigabitEthernet0/0
- ip address 192.0.2.1 255.255.255.252
-interface GigabitEthernet0/1
- ip address 192.0.2.5 255.255.255.252
-router bgp 65000
- neighbor 192.0.2.2 remote-as 65001
- neighbor 192.0.2.6 remote-as 65002
- neighbor 192.0.2.2 prefix-list NONE in
- neighbor 192.0.2.10 remote-as 65003
- neighbor 192.0.2.10 prefix-list SHORT out
-ip prefix-list NONE seq 5 deny 0.0.0.0/0 le 32
-interface GigabitEthernet0/2
- ip address 192.0.2.9 255.255.255.252
-ip prefix-list SHORT seq 5 permit 203.0.0.0/16
-",
-    ),
-    (
-        "preferred path",
-        "hostname A1
-interface GigabitEthernet0/0
- ip address 10.1.0.2 255.255.255.252
-interface GigabitEthernet0/2
- ip address 10.12.0.1 255.255.255.252
-interface GigabitEthernet0/3
- ip address 10.13.0.1 255.255.255.252
-router bgp 65001
- neighbor 10.1.0.1 remote-as 65000
- neighbor 10.12.0.2 remote-as 65002
- neighbor 10.12.0.2 route-map NO in
- neighbor 10.13.0.2 remote-as 65003
- neighbor 10.13.0.2 route-map UP in
-ip as-path access-list 1 permit _65002_
-route-map NO deny 10
-route-map UP deny 10
- match as-path 1
-route-map UP permit 20
- set local-preference 200
-",
-    ),
-    (
-        "external routes of OSPF",
-        "hostname X
-interface GigabitEthernet0/0
- ip address 10.0.0.1 255.255.255.252
-router ospf 1
- network 10.0.0.0 0.0.0.3 area 0
-router bgp 65001
- redistribute ospf 1 match external 2
- neighbor 10.0.0.2 remote-as 65002
-",
-    ),
-    (
-        "routes of BGP into OSPF",
-        "hostname Y
-interface GigabitEthernet0/0
- ip address 10.0.0.2 255.255.255.252
-router ospf 1
- network 10.0.0.0 0.0.0.3 area 0
- redistribute bgp 65002 subnets
-router bgp 65002
- neighbor 10.0.0.1 remote-as 65001
-",
-    ),
-    (
-        "internal session",
-        "hostname E1
-interface GigabitEthernet0/0
- ip address 192.0.2.1 255.255.255.252
-interface GigabitEthernet0/1
- ip address 10.0.0.1 255.255.255.252
-interface Loopback0
- ip address 10.255.0.1 255.255.255.255
-router ospf 1
- network 10.0.0.0 0.255.255.255 area 0
-router bgp 65000
- neighbor 192.0.2.2 remote-as 65001
- neighbor 10.255.0.2 remote-as 65000
- neighbor 10.255.0.2 update-source Loopback0
-",
-    ),
+pub const GOOD: [(&str, &str); 13] = [
     (
         "kinds of interfaces",
         "hostname R
@@ -229,6 +61,17 @@ router ospf 65535
 ",
     ),
     (
+        "more lines of OSPF",
+        "hostname R
+router ospf 1
+ passive-interface default
+ no passive-interface Ethernet1
+ redistribute bgp 4294967295 metric 0 metric-type 2
+ redistribute static route-map M subnets
+ default-information originate metric-type 2
+",
+    ),
+    (
         "lines of BGP",
         "hostname R
 router bgp 4294967295
@@ -253,6 +96,24 @@ router bgp 4294967295
 ",
     ),
     (
+        "more lines of BGP",
+        "hostname R
+router bgp 1
+ network 10.0.0.0 mask 255.0.0.0 route-map M
+ redistribute ospf 65535 match external 1 external 2 route-map M metric 0
+ bgp log-neighbor-changes
+ no synchronization
+ neighbor 10.0.0.2 remote-as 2
+ neighbor 10.0.0.2 send-community
+ neighbor 10.0.0.2 password any words
+ neighbor 10.0.0.2 soft-reconfiguration inbound
+ neighbor 10.0.0.2 timers 10 30
+ neighbor 10.0.0.2 version 4
+ neighbor 10.0.0.3 remote-as 3
+ neighbor 10.0.0.3 send-community standard
+",
+    ),
+    (
         "lines on neighbours",
         "hostname R
 router bgp 1
@@ -273,6 +134,76 @@ router bgp 1
  neighbor 10.0.0.2 route-map O in
  neighbor 10.0.0.2 description the first
  neighbor 10.0.0.3 shutdown
+",
+    ),
+    (
+        "entries of lists",
+        "hostname R
+ip prefix-list P seq 5 deny 10.1.2.3/8
+ip prefix-list P permit 10.0.0.0/8 ge 9
+ip prefix-list P permit 10.0.0.0/8 le 24
+ip prefix-list P seq 4294967294 permit 10.0.0.0/8 ge 9 le 24
+ip prefix-list Q permit 0.0.0.0/0
+ip prefix-list P description any words
+ip community-list 1 permit 4294967295
+ip community-list standard 1 deny 1:2 no-export
+ip community-list standard C permit no-advertise 0:65535
+ip as-path access-list 500 permit ^$
+ip as-path access-list 500 deny .*
+ip as-path access-list 500 permit ^7$
+ip as-path access-list 500 permit ^7_
+ip as-path access-list 500 permit _7$
+ip as-path access-list 500 permit _7_
+",
+    ),
+    (
+        "entries of access lists",
+        "hostname R
+access-list 5 permit any
+access-list 5 deny host 10.0.0.1 log
+access-list 5 permit 10.0.0.1
+access-list 5 permit 10.0.0.0 0.0.0.255 log
+access-list 5 remark any words
+access-list 1999 deny any
+ip access-list standard 5
+ 10 permit any
+ remark any words
+access-list 100 permit ip any any
+access-list 100 deny icmp host 10.0.0.1 10.1.0.0 0.0.255.255 log
+access-list 100 permit tcp any eq www any neq 22 log-input
+access-list 100 permit udp any lt 1024 any gt 65535
+access-list 100 permit 6 any range 20 ftp any lt 0
+access-list 2699 permit 255 any any
+ip access-list extended NAME
+ 5 permit tcp any any eq bgp
+ deny 17 any gt 1023 any
+ip access-list standard EMPTY
+",
+    ),
+    (
+        "entries of maps",
+        "hostname R
+route-map M permit 0
+ match ip address A 005
+ match ip address prefix-list P Q
+ match community C 1
+ match as-path 1 007
+ match as-path 2
+ set local-preference 4294967295
+ set metric 0
+ set weight 65535
+ set community 1:2 no-export 5 additive
+ set origin igp
+ set as-path prepend 65001 4294967295
+ set metric-type type-1
+ description any words
+route-map M deny 65535
+ set community none
+ set origin incomplete
+ set metric-type type-2
+route-map N permit 10
+ set community 7 7
+route-map M permit 10
 ",
     ),
     (
@@ -302,7 +233,7 @@ hostname R
 ];
 
 /// Texts that are refused.
-pub const REFUSED: [(&str, &str); 62] = [
+pub const REFUSED: [(&str, &str); 69] = [
     ("no line", ""),
     ("no hostname", "interface Loopback0\n"),
     ("line feed wanting after a carriage return", "hostname R\r"),
@@ -479,4 +410,32 @@ pub const REFUSED: [(&str, &str); 62] = [
     ),
     ("first of two faults", "interface Tunnel0\nhostname A B\n"),
     ("bad hostname", "hostname a_b-c.D!\n"),
+    (
+        "out of place before repeated",
+        "hostname A\ninterface Ethernet0\n hostname B\n",
+    ),
+    (
+        "banner of line 9 without an end",
+        "hostname R\n!\n!\n!\n!\n!\n!\n!\nbanner motd #hello\nend\n",
+    ),
+    (
+        "bad word before a repeated interface",
+        "interface Ethernet0\ninterface Ethernet0 0\n",
+    ),
+    (
+        "bad word before a repeated entry",
+        "route-map M permit 10\nroute-map M permit 10 x\n",
+    ),
+    (
+        "number above the highest",
+        "ip prefix-list P seq 4294967290 permit 10.0.0.0/8\nip prefix-list P permit 10.0.0.0/8\n",
+    ),
+    (
+        "second prefix-list entry",
+        "ip prefix-list P permit 10.0.0.0/8\nip prefix-list P seq 5 deny 10.0.0.0/8\n",
+    ),
+    (
+        "second opening of a list",
+        "ip access-list standard L\nip access-list extended L\n",
+    ),
 ];

@@ -1,77 +1,16 @@
 //! Files as text, each part with its line after an `@`.
 
-use ios_ast::{
-    Bgp, BgpNet, DefaultOrigin, File, IfAddr, Iface, Neighbour, Ospf, OspfNet, Policies, Redist,
-    Source, StaticRoute, Use, Via,
+use crate::shown_policies::show_policies;
+use crate::shown_words::{
+    show_address, show_flag, show_named, show_number, show_number_if, show_prefix, show_use,
+    show_uses,
 };
-use mw_text::{Addr, List, Prefix};
+use ios_ast::{
+    Bgp, BgpNet, DefaultOrigin, File, IfAddr, Iface, Neighbour, Ospf, OspfNet, Redist, Source,
+    StaticRoute, Use, Via,
+};
+use mw_text::Addr;
 use std::alloc::AllocError;
-use std::fmt::Write;
-
-/// A number after a text.
-fn show_number(out: &mut String, before: &str, number: u32) -> Result<(), AllocError> {
-    out.push_str(before)?;
-    write!(out, "{number}")
-}
-
-/// A name after a text.
-fn show_name(out: &mut String, before: &str, name: &List<u8>) -> Result<(), AllocError> {
-    out.push_str(before)?;
-    for byte in name.as_slice() {
-        out.push(char::from(*byte))?;
-    }
-    Ok(())
-}
-
-/// A name and its line after a text.
-fn show_named(
-    out: &mut String,
-    before: &str,
-    name: &List<u8>,
-    line: u32,
-) -> Result<(), AllocError> {
-    show_name(out, before, name)?;
-    show_number(out, "@", line)
-}
-
-fn show_flag(out: &mut String, text: &str, is_set: bool) -> Result<(), AllocError> {
-    if is_set { out.push_str(text) } else { Ok(()) }
-}
-
-fn show_number_if(out: &mut String, before: &str, number: Option<u32>) -> Result<(), AllocError> {
-    match number {
-        Some(number) => show_number(out, before, number),
-        None => Ok(()),
-    }
-}
-
-fn show_use(out: &mut String, before: &str, used: &Option<Use>) -> Result<(), AllocError> {
-    match used {
-        Some(used) => show_named(out, before, &used.name, used.line),
-        None => Ok(()),
-    }
-}
-
-fn show_uses(out: &mut String, before: &str, uses: &[Use]) -> Result<(), AllocError> {
-    for used in uses {
-        show_named(out, before, &used.name, used.line)?;
-    }
-    Ok(())
-}
-
-/// An address after a text.
-fn show_address(out: &mut String, before: &str, address: Addr) -> Result<(), AllocError> {
-    let [a, b, c, d] = address.0.to_be_bytes();
-    show_number(out, before, u32::from(a))?;
-    show_number(out, ".", u32::from(b))?;
-    show_number(out, ".", u32::from(c))?;
-    show_number(out, ".", u32::from(d))
-}
-
-fn show_prefix(out: &mut String, prefix: Prefix) -> Result<(), AllocError> {
-    show_address(out, " ", prefix.addr)?;
-    show_number(out, "/", u32::from(prefix.len))
-}
 
 fn show_interface_address(out: &mut String, address: &Option<IfAddr>) -> Result<(), AllocError> {
     let Some(address) = address else {
@@ -227,27 +166,10 @@ fn show_bgp(out: &mut String, bgp: &Bgp) -> Result<(), AllocError> {
     Ok(())
 }
 
-/// The names of the lists and maps.
-fn show_policies(out: &mut String, policies: &Policies) -> Result<(), AllocError> {
-    for list in policies.prefix_lists.as_slice() {
-        show_name(out, " prefix-list ", &list.name)?;
-    }
-    for list in policies.as_paths.as_slice() {
-        show_name(out, " as-path ", &list.name)?;
-    }
-    for list in policies.access.as_slice() {
-        show_name(out, " access-list ", &list.name)?;
-    }
-    for map in policies.maps.as_slice() {
-        show_name(out, " route-map ", &map.name)?;
-    }
-    out.push_str("\n")
-}
-
 /// A file, each part with its line after an `@`.
 pub fn show_file(out: &mut String, file: &File) -> Result<(), AllocError> {
     show_named(out, " hostname ", &file.hostname, file.hostname_line)?;
-    show_policies(out, &file.policies)?;
+    out.push_str("\n")?;
     for iface in file.interfaces.as_slice() {
         show_interface(out, iface)?;
     }
@@ -257,8 +179,8 @@ pub fn show_file(out: &mut String, file: &File) -> Result<(), AllocError> {
     if let Some(ospf) = &file.ospf {
         show_ospf(out, ospf)?;
     }
-    match &file.bgp {
-        Some(bgp) => show_bgp(out, bgp),
-        None => Ok(()),
+    if let Some(bgp) = &file.bgp {
+        show_bgp(out, bgp)?;
     }
+    show_policies(out, &file.policies)
 }
