@@ -5,3 +5,4 @@ pub mod Peers
 pub mod Few
 pub mod Ids
 pub mod Costs
+pub mod Equations
