@@ -8,6 +8,7 @@ use Rattle.std.proofs.lemmas.Bool.{and_from, and_parts, leb-true, ltb-true, lt-l
 use Rattle.std.proofs.lemmas.List.Elements.{All-append, All-cons}
 use Rattle.std.proofs.lemmas.List.Quantifiers.{position-Some}
 use Rattle.mw_text.specs.declared.address.Prefix.{Prefix}
+use Rattle.net_model.specs.declared.links.Link.{Link}
 use Rattle.mw_text.specs.Address.{same_prefix}
 use Rattle.mw_text.specs.Digits.{prefix_of_text}
 use Rattle.ios_ast.specs.declared.file.File.{File}
@@ -68,19 +69,19 @@ pub ascends_more : (xs : List ℕ) (n : ℕ) → ascends xs ≡ true → is_abov
 ascends_more xs n up above = ascends_below xs n up (all_below xs n up above)
 
 -- a link that has a name is one
-link_within : (links : List Prefix) (word : List ℕ) (at : ℕ) → link_named links word ≡ Some at → at < length links
+link_within : (links : List Link) (word : List ℕ) (at : ℕ) → link_named links word ≡ Some at → at < length links
 unfolding place_of
 link_within links word at same =
-    let named = led (λ p. place_of (position (same_prefix p) links)) (prefix_of_text word) at same in
-    let here = passed (λ k. nat_le k _) (position (same_prefix named.0) links) at named.2 in
-    (position-Some (same_prefix named.0) links at named.0 here.0).0
+    let named = led (λ p. place_of (position (λ link. same_prefix p link.prefix) links)) (prefix_of_text word) at same in
+    let here = passed (λ k. nat_le k _) (position (λ link. same_prefix named.0 link.prefix) links) at named.2 in
+    (position-Some (λ link. same_prefix named.0 link.prefix) links at (record { prefix = named.0; ifaces = [] }) here.0).0
 
 -- failed links ascend, and are links
 pub record AreLinks (count : ℕ) (links : List ℕ) : Type 0 where
   pub ascending : ascends links ≡ true
   pub of_links : All (λ at. at < count) links
 
-link_kept : (links : List Prefix) (i : ℕ) (so_far : List ℕ) (d : Data) (next : List ℕ)
+link_kept : (links : List Link) (i : ℕ) (so_far : List ℕ) (d : Data) (next : List ℕ)
     → AreLinks (length links) so_far →
     link_step links i so_far d ≡ Ok next → AreLinks (length links) next
 link_kept links i so_far d next before same =

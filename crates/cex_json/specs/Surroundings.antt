@@ -10,6 +10,7 @@ use Rattle.mw_text.specs.Digits.{prefix_of_text}
 use Rattle.ios_ast.specs.declared.file.File.{File}
 use Rattle.route_record.specs.declared.Announcement.{Announcement}
 use Rattle.route_record.specs.declared.Packet.{Packet}
+use Rattle.net_model.specs.declared.links.Link.{Link}
 use Rattle.net_model.specs.declared.sessions.SessionEnd.{SessionEnd}
 use Rattle.net_model.specs.Sessions.{ends_of, external_ends, is_outside, neighbour_of}
 use Rattle.net_model.specs.World.{links_of}
@@ -58,10 +59,10 @@ abbrev pub packet_in : Option PacketSet → Data → Result Packet CexRefused
 packet_in set d = required [] (codes "packet") (object_in (get (codes "packet") d)) >>= packet_at set (codes "packet/")
 
 -- the place of a link
-abbrev pub link_named : List Prefix → List ℕ → Option ℕ
-link_named links word = option_and_then (λ p. place_of (position (same_prefix p) links)) (prefix_of_text word)
+abbrev pub link_named : List Link → List ℕ → Option ℕ
+link_named links word = option_and_then (λ p. place_of (position (λ link. same_prefix p link.prefix) links)) (prefix_of_text word)
 
-abbrev pub link_step : List Prefix → ℕ → List ℕ → Data → Result (List ℕ) CexRefused
+abbrev pub link_step : List Link → ℕ → List ℕ → Data → Result (List ℕ) CexRefused
 link_step links _ so_far d =
     with_one [] (codes "failures") so_far
     (passing (is_above so_far) (option_and_then (link_named links) (text_in (Some d))))

@@ -5,6 +5,7 @@ use Rattle.mw_text.specs.declared.address.Addr.{Addr}
 use Rattle.mw_text.specs.declared.address.Prefix.{Prefix}
 use Rattle.ios_ast.specs.declared.file.File.{File}
 use Rattle.route_record.specs.declared.Announcement.{Announcement}
+use Rattle.net_model.specs.declared.links.Link.{Link}
 use Rattle.net_model.specs.declared.sessions.SessionEnd.{SessionEnd}
 use Rattle.net_model.specs.Sessions.{ends_of, external_ends, neighbour_of}
 use Rattle.net_model.specs.World.{links_of}
@@ -17,10 +18,10 @@ unfoldable pub prefix_text : Prefix → List ℕ
 prefix_text p = addr_text p.addr ++ (codes "/" ++ decimal p.len)
 
 -- a link, by its place; a place without a link has the empty text
-abbrev pub link_text : List Prefix → ℕ → List ℕ
-link_text links at = option_map_or prefix_text (slice_get links at) []
+abbrev pub link_text : List Link → ℕ → List ℕ
+link_text links at = option_map_or (λ link. prefix_text link.prefix) (slice_get links at) []
 
-abbrev pub link_data : List Prefix → ℕ → Data
+abbrev pub link_data : List Link → ℕ → Data
 link_data links at = string (link_text links at)
 
 -- the address of the neighbour of an end; an end without a neighbour line has the empty text

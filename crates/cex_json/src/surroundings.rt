@@ -17,7 +17,7 @@ use crate::fields::{
 use crate::refused::CexRefused;
 use crate::slots::check_object;
 use mw_text::{Addr, List, Prefix, contains, read_prefix};
-use net_model::Net;
+use net_model::{Link, Net};
 use question_lang::PacketSet;
 use route_record::Packet;
 use serde_json::Value;
@@ -196,15 +196,15 @@ fn is_same(p: &Prefix, q: &Prefix) -> bool
     p.addr.0 == q.addr.0 && p.len == q.len
 }
 
-fn position_of(links: &[Prefix], p: &Prefix) -> Option<usize>
-    ensures { result ≡ position (same_prefix p.now) links.now }
+fn position_of(links: &[Link], p: &Prefix) -> Option<usize>
+    ensures { result ≡ position (λ link. same_prefix p.now link.prefix) links.now }
 {
-    links.iter().position(|q| is_same(p, q))
+    links.iter().position(|link| is_same(p, &link.prefix))
 }
 
 #[tactic(auto, unfolding(crate::specs::Fields::place_of))]
-fn link_place(links: &[Prefix], p: &Prefix) -> Option<u32>
-    ensures { result ≡ fields.place_of (position (same_prefix p.now) links.now) }
+fn link_place(links: &[Link], p: &Prefix) -> Option<u32>
+    ensures { result ≡ fields.place_of (position (λ link. same_prefix p.now link.prefix) links.now) }
 {
     match position_of(links, p) {
         None => None,
@@ -212,7 +212,7 @@ fn link_place(links: &[Prefix], p: &Prefix) -> Option<u32>
     }
 }
 
-fn link_named(links: &[Prefix], word: &[u8]) -> Option<u32>
+fn link_named(links: &[Link], word: &[u8]) -> Option<u32>
     ensures { result ≡ around.link_named links.now word.now }
 {
     match read_prefix(word) {
@@ -221,7 +221,7 @@ fn link_named(links: &[Prefix], word: &[u8]) -> Option<u32>
     }
 }
 
-fn link_of(links: &[Prefix], value: &Value) -> Option<u32>
+fn link_of(links: &[Link], value: &Value) -> Option<u32>
     ensures { result ≡ option_and_then (around.link_named links.now) (fields.text_in (Some (view value.now))) }
 {
     match text_of(value) {
@@ -230,7 +230,7 @@ fn link_of(links: &[Prefix], value: &Value) -> Option<u32>
     }
 }
 
-fn next_link(so_far: &[u32], links: &[Prefix], value: &Value) -> Option<u32>
+fn next_link(so_far: &[u32], links: &[Link], value: &Value) -> Option<u32>
     ensures { result ≡ passing (fields.is_above so_far.now)
         (option_and_then (around.link_named links.now) (fields.text_in (Some (view value.now)))) }
 {
@@ -240,7 +240,7 @@ fn next_link(so_far: &[u32], links: &[Prefix], value: &Value) -> Option<u32>
     }
 }
 
-fn take_links(alloc: Global, links: &[Prefix], members: &[Value]) -> Result<List<u32>, CexRefused>
+fn take_links(alloc: Global, links: &[Link], members: &[Value]) -> Result<List<u32>, CexRefused>
     ensures { Reads result (in_order (around.link_step links.now) 0 [] (items_view members.now)) }
 {
     let mut places = List::new(alloc);
@@ -286,6 +286,6 @@ pub fn failures_in(
     ensures { Reads result (around.failures_in net.now most (view text.now)) }
 {
     let members = members_in(alloc, "", "failures", text)?;
-    let links = take_links(alloc, net.link_prefixes(), members)?;
+    let links = take_links(alloc, net.links(), members)?;
     required(alloc, "", "failures", few_links(links, most))
 }

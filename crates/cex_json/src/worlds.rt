@@ -11,7 +11,7 @@ use crate::parts::{addr_string, addr_value, router_name, text_value};
 use crate::routes::{number_values, origin_value};
 use ios_ast::{File, Neighbour};
 use mw_text::{Addr, Prefix};
-use net_model::{Far, Net, SessionEnd};
+use net_model::{Far, Link, Net, SessionEnd};
 use route_record::Announcement;
 use serde_json::{Value, json};
 use std::alloc::{AllocError, Global};
@@ -25,16 +25,16 @@ fn prefix_string(alloc: Global, p: &Prefix) -> Result<String, AllocError>
     format!(in alloc; "{addr}/{len}")
 }
 
-fn link_string(alloc: Global, links: &[Prefix], at: u32) -> Result<String, AllocError>
+fn link_string(alloc: Global, links: &[Link], at: u32) -> Result<String, AllocError>
     ensures { IfOk result (λ text. string_bytes text ≡ worlds.link_text links.now at) }
 {
     match links.get(at as usize) {
         None => Ok(String::new(alloc)),
-        Some(link) => prefix_string(alloc, link),
+        Some(link) => prefix_string(alloc, &link.prefix),
     }
 }
 
-fn link_value(alloc: Global, links: &[Prefix], at: u32) -> Result<Value, AllocError>
+fn link_value(alloc: Global, links: &[Link], at: u32) -> Result<Value, AllocError>
     ensures { IfOk result (λ value. view value ≡ worlds.link_data links.now at) }
 {
     Ok(Value::String(link_string(alloc, links, at)?))
@@ -44,7 +44,7 @@ fn link_value(alloc: Global, links: &[Prefix], at: u32) -> Result<Value, AllocEr
 pub fn failure_values(alloc: Global, net: &Net, failed: &[u32]) -> Result<Vec<Value>, AllocError>
     ensures { IfOk result (λ values. map view values.items ≡ map (worlds.link_data (links_of net.now)) failed.now) }
 {
-    let links = net.link_prefixes();
+    let links = net.links();
     let mut values = Vec::new(alloc);
     for at in failed {
         values.push(link_value(alloc, links, *at)?)?;

@@ -1,7 +1,7 @@
 //! Networks of one file or two: their names and texts.
 
 /// Each has a name, a first file, and a second file unless it is empty.
-pub const CASES: [(&str, &str, &str); 34] = [
+pub const CASES: [(&str, &str, &str); 35] = [
     ("one hostname twice", "hostname R\n", "hostname R\n"),
     (
         "one address twice, shut down",
@@ -132,6 +132,11 @@ pub const CASES: [(&str, &str, &str); 34] = [
         "an external peer that is shut down",
         "hostname A\ninterface Ethernet0\n ip address 10.0.0.1 255.255.255.252\nrouter bgp 65000\n neighbor 10.0.0.2 remote-as 65001\n neighbor 10.0.0.2 shutdown\n",
         "",
+    ),
+    (
+        "a link with an interface that is shut down",
+        "hostname A\ninterface Ethernet0\n ip address 10.0.0.1 255.255.255.248\nrouter bgp 65000\n neighbor 10.0.0.3 remote-as 65001\n",
+        "hostname B\ninterface Ethernet0\n ip address 10.0.0.2 255.255.255.248\n shutdown\n",
     ),
     (
         "costs",

@@ -25,6 +25,23 @@ fn show_place(rt: &impl Print, i: IfaceId) -> io::Result<()> {
     print!(rt; " {}/{}", i.router, i.at)
 }
 
+fn show_links(rt: &impl Print, net: &Net) -> io::Result<()> {
+    for link in net.links() {
+        print!(rt; " link")?;
+        show_address(rt, link.prefix.addr)?;
+        print!(rt; "/{}", link.prefix.len)?;
+        match net.link_at(&link.prefix) {
+            None => print!(rt; " nowhere of")?,
+            Some(at) => print!(rt; " at {at} of")?,
+        }
+        for i in link.ifaces.as_slice() {
+            show_place(rt, *i)?;
+        }
+        println!(rt; ".")?;
+    }
+    Ok(())
+}
+
 fn show_ospf(rt: &impl Print, running: &[OspfInterface]) -> io::Result<()> {
     for x in running {
         print!(rt; " ospf on")?;
@@ -58,7 +75,7 @@ fn show_ends(rt: &impl Print, ends: &[SessionEnd]) -> io::Result<()> {
 }
 
 fn show_network(rt: &impl Print, net: &Net) -> io::Result<()> {
-    show_prefixes(rt, "link", net.link_prefixes())?;
+    show_links(rt, net)?;
     show_ospf(rt, net.ospf_interfaces())?;
     show_prefixes(rt, "advertised", net.advertised())?;
     show_adjacencies(rt, net.adjacencies())?;

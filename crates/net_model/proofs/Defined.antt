@@ -1,7 +1,7 @@
 -- What a network does not have where no router runs a routing protocol.
 use Rattle.std.proofs.Common.{◌≡◌, ℕ, zero, suc, ◌+◌, Bool, true, false, ◌&&◌, ◌||◌, not, List, [], ◌∷◌, Option, Some}
-use Rattle.std.proofs.Common.{None, refl, ◌∙◌, subst}
-use Rattle.std.specs.Prelude.{filter, fold, is_some, map, option_and_then, slice_get}
+use Rattle.std.proofs.Common.{None, refl, subst}
+use Rattle.std.specs.Prelude.{is_some, option_and_then, slice_get}
 use Rattle.std.specs.List.{filter_map, list_all, list_any}
 use Rattle.ios_ast.specs.declared.file.File.{File}
 use Rattle.mw_text.specs.declared.address.Prefix.{Prefix}
@@ -16,7 +16,6 @@ use Rattle.route_record.specs.declared.OspfRec.{OspfRec}
 use Rattle.route_record.specs.declared.Tables.{Tables}
 use Rattle.net_model.specs.Ospf.{adjacencies, advertised, ospf_at, ospf_interfaces, running_in, up_adjacencies}
 use Rattle.net_model.specs.Sending.{sent_by_ospf, sent_towards}
-use Rattle.net_model.specs.World.{is_joined_by, is_link, links_of, put_in_order}
 
 -- what two tests say together
 both_none : (a b : Bool) → (not a && not b) ≡ true → (a ≡ false) × (b ≡ false)

@@ -1,5 +1,5 @@
 -- A network has at most as many routers as may be.
-use Rattle.std.proofs.Common.{◌≡◌, ℕ, zero, suc, ◌+◌, ◌<◌, ◌≤◌, Bool, true, false, List, [], ◌∷◌, length, take, Option}
+use Rattle.std.proofs.Common.{◌≡◌, ℕ, zero, suc, ◌+◌, ◌≤◌, Bool, true, false, List, [], ◌∷◌, length, take, Option}
 use Rattle.std.proofs.Common.{Some, None, refl, ap, ◌∙◌, sym, arith}
 use Rattle.std.proofs.lemmas.Bool.{leb-false, leb-true}
 use Rattle.std.proofs.lemmas.List.{length-take-le}
@@ -8,11 +8,11 @@ use Rattle.std.specs.Option.{option_map_or, option_or}
 use Rattle.mw_text.proofs.Lists.{item_there}
 use Rattle.ios_ast.specs.declared.file.File.{File}
 use Rattle.net_model.specs.declared.refusals.NetCause.{NetCause}
-use Rattle.net_model.specs.declared.refusals.NetCause.TheVariants.{NetLimit, SecondArea}
+use Rattle.net_model.specs.declared.refusals.NetCause.TheVariants.{NetLimit}
 use Rattle.net_model.specs.declared.refusals.NetRefused.{NetRefused}
 use Rattle.net_model.specs.declared.refusals.TheConstants.{MOST_FILES}
 use Rattle.net_model.specs.Refusals.{broken_line, earlier, first_broken, first_from, first_refusal, limit_line}
-use Rattle.net_model.specs.Refusals.{line_if, refused_at, refused_by_addresses, refused_by_uses, router_line}
+use Rattle.net_model.specs.Refusals.{line_if, refused_at, refused_by_addresses, refused_by_uses}
 use Rattle.net_model.specs.Refusals.{second_area_number}
 
 -- what comes after another answer is none where both are

@@ -1,4 +1,8 @@
 pub mod Order
+pub mod Ascending
+pub mod FewLinks
+pub mod TrackedUp
+pub mod EndPlaces
 pub mod Defined
 pub mod LeastWalks
 pub mod Peers

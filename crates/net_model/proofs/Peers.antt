@@ -70,7 +70,8 @@ few_routers all router (file ∷ rest) few =
     two true false h = cc
     two false b h = cc
 
-filter-le : {A : Type 0} (p : A → Bool) (xs : List A) → length (filter p xs) ≤ length xs
+-- a filtered list is no longer
+pub filter-le : {A : Type 0} (p : A → Bool) (xs : List A) → length (filter p xs) ≤ length xs
 filter-le p xs = omega (arith, length-filter p xs, count_by-le-length p xs)
 
 -- so a position among the sessions fits

@@ -1,6 +1,6 @@
 -- Ends of BGP sessions (RFC 4271, section 8; Cisco IOS, `neighbor remote-as` and `neighbor update-source`).
-use Rattle.std.specs.Prelude.{ℕ, ◌+◌, ◌==◌, ◌&&◌, ◌||◌, Bool, true, false, not, List, [], ◌∷◌, ◌++◌, filter, is_some}
-use Rattle.std.specs.Prelude.{length, map, position, slice_get, Option, option_and_then, unwrap_or, if◌then◌else◌}
+use Rattle.std.specs.Prelude.{ℕ, ◌+◌, ◌<◌, ◌==◌, ◌&&◌, ◌||◌, ⊤, Bool, true, false, not, List, [], ◌∷◌, ◌++◌, filter, is_some}
+use Rattle.std.specs.Prelude.{IsSome, length, map, position, slice_get, Option, option_and_then, unwrap_or, if◌then◌else◌}
 use Rattle.std.specs.List.{find, list_any}
 use Rattle.std.specs.Option.{option_map_or}
 use Rattle.mw_text.specs.Address.{covers, same_prefix}
@@ -106,6 +106,10 @@ end_of all others a = record {
 unfoldable pub ends_of : List File → List SessionEnd
 ends_of files = map (end_of (addressed files) (sessions files)) (sessions files)
 
+-- the ends of one router, by neighbour line
+abbrev pub ends_at : List File → ℕ → List SessionEnd
+ends_at files router = filter (λ end. end.router == router) (ends_of files)
+
 abbrev pub is_outside : Far → Bool
 is_outside Outside = true
 is_outside (Inside at) = false
@@ -119,3 +123,14 @@ abbrev pub neighbour_of : List File → SessionEnd → Option Neighbour
 neighbour_of files end =
     option_and_then (λ bgp. slice_get bgp.neighbours end.neighbour)
     (option_and_then (λ file. file.bgp) (slice_get files end.router))
+
+-- what lies at the far side, if it is no external peer, is one of so many ends
+abbrev pub FarIsWithin : ℕ → Far → Type 0
+FarIsWithin count Outside = ⊤
+FarIsWithin count (Inside at) = at < count
+
+-- an end is of a router of the files, of a neighbour line of its process, and its far side is an external peer or an end
+pub record IsPlaced (files : List File) (end : SessionEnd) : Type 0 where
+  pub router : end.router < length files
+  pub line : IsSome (neighbour_of files end)
+  pub far : FarIsWithin (length (ends_of files)) end.far

@@ -10,6 +10,7 @@ use Rattle.route_record.specs.declared.Announcement.{Announcement}
 use Rattle.route_record.specs.declared.Failures.{Failures}
 use Rattle.route_record.specs.declared.Environment.{Environment}
 use Rattle.net_model.specs.declared.interfaces.Addressed.{Addressed}
+use Rattle.net_model.specs.declared.links.Link.{Link}
 use Rattle.route_record.specs.declared.TheConstants.{LENGTHS}
 use Rattle.net_model.specs.declared.sessions.Peering.{Peering}
 use Rattle.net_model.specs.declared.sessions.SessionEnd.{SessionEnd}
@@ -26,13 +27,13 @@ put_in_order [] p = p ∷ []
 put_in_order (q ∷ rest) p =
     if comes_before q p then q ∷ put_in_order rest p else (if same_prefix q p then q ∷ rest else p ∷ q ∷ rest)
 
--- two interfaces that are not shut down, of two routers on that subnet, none of them a loopback
+-- the interface is on that subnet, not shut down and no loopback
+abbrev pub joins : Prefix → Addressed → Bool
+joins p x = same_prefix x.subnet p && not (x.shutdown || x.loopback)
+
+-- two such interfaces of two routers, of which this is one
 abbrev pub is_joined_by : List Addressed → Prefix → Addressed → Bool
-is_joined_by all p x =
-    joins x && list_any (λ y. joins y && not (x.id.router == y.id.router)) all
-  where
-    joins : Addressed → Bool
-    joins y = same_prefix y.subnet p && not (y.shutdown || y.loopback)
+is_joined_by all p x = joins p x && list_any (λ y. joins p y && not (x.id.router == y.id.router)) all
 
 -- an external peer lies on the subnet, which is no loopback's
 abbrev pub is_peered_by : List Addressed → Prefix → Peering → Bool
@@ -41,11 +42,23 @@ is_peered_by all p a = is_external_peer all a && (same_prefix a.source.subnet p 
 abbrev pub is_link : List Addressed → List Peering → Prefix → Bool
 is_link all peers p = list_any (is_joined_by all p) all || list_any (is_peered_by all p) peers
 
--- the links of a network: the subnets of no loopback on which at least two routers have an interface that is not shut
--- down, or on which an external peer lies, in ascending order
-abbrev pub links_of : List File → List Prefix
-links_of files = filter (is_link (addressed files) (peerings files))
+-- the subnets of the links: those of no loopback on which at least two routers have an interface that is not shut down,
+-- or on which an external peer lies, in ascending order
+abbrev pub linked_subnets : List File → List Prefix
+linked_subnets files = filter (is_link (addressed files) (peerings files))
     (fold put_in_order [] (map (λ x. x.subnet) (addressed files)))
+
+-- the link on a subnet, with its interfaces that are not shut down, in the order of the files
+abbrev pub link_on : List Addressed → Prefix → Link
+link_on all p = record { prefix = p; ifaces = map (λ x. x.id) (filter (joins p) all) }
+
+-- the links of a network, in ascending order of their prefixes
+unfoldable pub links_of : List File → List Link
+links_of files = map (link_on (addressed files)) (linked_subnets files)
+
+-- of two links the prefix of the one comes before that of the other
+abbrev pub IsBefore : Link → Link → Type 0
+IsBefore a b = IsTrue (comes_before a.prefix b.prefix)
 
 -- numbers that ascend
 abbrev pub ascends : List ℕ → Bool
@@ -61,7 +74,7 @@ pub record IsFailureSet (files : List File) (k : ℕ) (failures : Failures) : Ty
 -- that subnet is a failed link
 abbrev pub is_failed : List File → Failures → Prefix → Bool
 is_failed files failures p =
-    list_any (λ at. option_map_or (same_prefix p) (slice_get (links_of files) at) Bool.false) failures.links
+    list_any (λ at. option_map_or (λ link. same_prefix p link.prefix) (slice_get (links_of files) at) Bool.false) failures.links
 
 -- no link has failed
 abbrev pub no_failures : Failures

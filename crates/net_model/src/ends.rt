@@ -1,6 +1,7 @@
 //! What lies at the ends of BGP sessions: the neighbour line of an end, and the end over which a route was learnt.
 
-ghost use Rattle.std.specs.Prelude.{◌≡◌, ◌==◌, ◌&&◌, false, option_and_then, slice_get};
+ghost use Rattle.std.specs.Prelude.{◌≡◌, ◌≤◌, ◌==◌, ◌&&◌, true, false, filter, length, nat_le, nat_lt, option_and_then, slice_get, slice_range};
+ghost use Rattle.std.specs.List.Sorted.{IsNonDecreasingBy, IsPartitionPoint};
 ghost use Rattle.std.specs.Option.{option_copied, option_map_or};
 ghost use Rattle.net_model.specs.Exports as exports;
 ghost use Rattle.net_model.specs.Sessions as sessions;
@@ -9,6 +10,7 @@ use crate::sessions::SessionEnd;
 use ios_ast::{Bgp, File, Neighbour};
 use mw_text::Addr;
 use route_record::Learnt;
+use std::ops::Range;
 
 /// The file of a router.
 pub fn file_of(files: &[File], router: u32) -> Option<&File>
@@ -77,4 +79,34 @@ pub fn learnt_over(
         Learnt::Local => None,
         Learnt::Peer(a) => end_towards(files, ends, router, a),
     }
+}
+
+// How many ends are of earlier routers.
+fn first_place(ends: &[SessionEnd], router: u32) -> usize
+    requires in_order { IsNonDecreasingBy (λ end. end.router) ends.now }
+    ensures bound { result ≤ length ends.now }
+    ensures point { IsPartitionPoint (λ end. nat_lt end.router router ≡ true) (λ end. nat_lt end.router router ≡ false) ends.now result }
+{
+    ends.partition_point(|end| end.router < router)
+}
+
+// How many are of this one or an earlier one.
+fn place_behind(ends: &[SessionEnd], router: u32) -> usize
+    requires in_order { IsNonDecreasingBy (λ end. end.router) ends.now }
+    ensures bound { result ≤ length ends.now }
+    ensures point { IsPartitionPoint (λ end. nat_le end.router router ≡ true) (λ end. nat_le end.router router ≡ false) ends.now result }
+{
+    ends.partition_point(|end| end.router <= router)
+}
+
+/// The places of the ends of one router, which follow each other.
+pub fn places_at(ends: &[SessionEnd], router: u32) -> Range<usize>
+    requires in_order { IsNonDecreasingBy (λ end. end.router) ends.now }
+    ensures ordered { result.start ≤ result.end }
+    ensures within { result.end ≤ length ends.now }
+    ensures own { slice_range ends.now result.start result.end ≡ filter (λ end. end.router == router) ends.now }
+{
+    let from = first_place(ends, router);
+    let to = place_behind(ends, router);
+    from..to
 }

@@ -24,6 +24,7 @@ pub mod undefined;
 pub use adjacencies::Adjacency;
 pub use interfaces::{Addressed, IfaceId};
 pub use limits::keep_limits;
+pub use links::Link;
 pub use network::Net;
 pub use ospf::OspfInterface;
 pub use refusals::{MOST_FILES, NetCause, NetRefused, refuse};

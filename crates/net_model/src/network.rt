@@ -1,7 +1,9 @@
 //! The network of a list of files.
 
-ghost use Rattle.std.specs.Prelude.{All, ◌≡◌, ◌≢◌, ◌≤◌, ◌<◌, IfOk, IfErr, IfSome, None, Some, position, true, length};
+ghost use Rattle.std.specs.Prelude.{All, AllPairs, ◌≡◌, ◌≢◌, ◌≤◌, ◌<◌, IfOk, IfErr, IfSome, IsTrue, None, Some, position, true, length, slice_range};
 ghost use Rattle.std.specs.List.{list_all};
+ghost use Rattle.std.specs.List.Sorted.{IsNonDecreasingBy};
+ghost use Rattle.mw_text.specs.Address.{same_prefix};
 ghost use Rattle.mw_text.specs.Text.{same_text};
 ghost use Rattle.net_model.specs.Exports as exports;
 ghost use Rattle.net_model.specs.Exports.{router_id};
@@ -17,9 +19,9 @@ ghost use Rattle.net_model.specs.Tracked as values;
 ghost use Rattle.net_model.specs.World as world;
 
 use crate::adjacencies::{Adjacency, adjacencies};
-use crate::ends::learnt_over;
+use crate::ends::{learnt_over, places_at};
 use crate::interfaces::{Addressed, IfaceId, addressed_of};
-use crate::links::links_of;
+use crate::links::{Link, link_place, links_of};
 use crate::ospf::{OspfInterface, advertised, ospf_cost, ospf_interfaces};
 use crate::refusals::{MOST_FILES, NetCause, NetRefused, refuse};
 use crate::router_ids::router_id;
@@ -31,6 +33,7 @@ use mw_text::{Addr, List, Prefix, same_bytes};
 use route_record::{Failures, Learnt, Tracked};
 use std::alloc::{AllocError, Global};
 use std::marker::Model;
+use std::ops::Range;
 
 /// A network. Contracts see the list of its files; all else that a network has follows from these.
 #[derive(Drop)]
@@ -43,7 +46,7 @@ pub struct Net {
 #[derive(Drop)]
 struct Parts {
     addresses: List<Addressed>,
-    links: List<Prefix>,
+    links: List<Link>,
     ends: List<SessionEnd>,
     running: List<OspfInterface>,
     adjacencies: List<Adjacency>,
@@ -77,15 +80,14 @@ fn all_links(
     alloc: Global,
     files: &[File],
     addresses: &[Addressed],
-) -> Result<List<Prefix>, AllocError>
+) -> Result<List<Link>, AllocError>
     requires addresses { addresses.now ≡ interfaces.addressed files.now }
     requires few { length files.now ≤ MOST_FILES }
     requires limits { list_all keeps_limits files.now ≡ true }
     ensures { IfOk result (λ links. links ≡ world.links_of files.now) }
 {
     let peers = peerings(alloc, files, addresses)?;
-    let items = links_of(alloc, files, addresses, peers.as_slice())?;
-    Ok(List { items })
+    links_of(alloc, files, addresses, peers.as_slice())
 }
 
 fn all_ids(alloc: Global, files: &[File], addresses: &[Addressed]) -> Result<List<Addr>, AllocError>
@@ -173,18 +175,44 @@ impl Net {
         self.parts.addresses.as_slice()
     }
 
-    /// The prefixes of the links, ascending: a link is named by its place here.
-    pub fn link_prefixes(&self) -> &[Prefix]
-        ensures { result.now ≡ world.links_of self.now }
+    /// The links, ascending by their prefixes: a link is named by its place here.
+    #[tactic(auto, using(crate::proofs::Ascending::links_ascend, crate::proofs::FewLinks::few_links))]
+    pub fn links(&self) -> &[Link]
+        ensures value { result.now ≡ world.links_of self.now }
+        ensures ascending { AllPairs world.IsBefore (world.links_of self.now) }
+        ensures few { length (world.links_of self.now) ≤ 0xffff_ffff }
     {
         self.parts.links.as_slice()
     }
 
+    /// The place of the link of that subnet. None exactly where the subnet is no link.
+    pub fn link_at(&self, p: &Prefix) -> Option<u32>
+        ensures place { result ≡ position (λ link. same_prefix link.prefix p.now) (world.links_of self.now) }
+        ensures within { IfSome result (λ at. at < length (world.links_of self.now)) }
+    {
+        match link_place(self.links(), p) {
+            None => None,
+            Some(at) => Some(at as u32),
+        }
+    }
+
     /// The ends of all BGP sessions, by router and then by neighbour line.
+    #[tactic(auto, using(crate::proofs::EndPlaces::ends_placed, crate::proofs::EndPlaces::ends_up))]
     pub fn ends(&self) -> &[SessionEnd]
-        ensures { result.now ≡ sessions.ends_of self.now }
+        ensures value { result.now ≡ sessions.ends_of self.now }
+        ensures placed { All (sessions.IsPlaced self.now) (sessions.ends_of self.now) }
+        ensures in_order { IsNonDecreasingBy (λ end. end.router) (sessions.ends_of self.now) }
     {
         self.parts.ends.as_slice()
+    }
+
+    /// Where the ends of one router stand among all: one after another, none where it has no session.
+    pub fn ends_of(&self, router: u32) -> Range<usize>
+        ensures ordered { result.start ≤ result.end }
+        ensures within { result.end ≤ length (sessions.ends_of self.now) }
+        ensures own { slice_range (sessions.ends_of self.now) result.start result.end ≡ sessions.ends_at self.now router }
+    {
+        places_at(self.ends(), router)
     }
 
     /// The end over which a router learnt a route. None for a local route, and where no session of the router has that
@@ -214,15 +242,20 @@ impl Net {
     }
 
     /// Every prefix that some interface advertises by OSPF, ascending, each once.
+    #[tactic(auto, using(crate::proofs::Ascending::advertised_ascend))]
     pub fn advertised(&self) -> &[Prefix]
-        ensures { result.now ≡ ospf.advertised self.now }
+        ensures value { result.now ≡ ospf.advertised self.now }
+        ensures ascending { AllPairs (λ p q. IsTrue (world.comes_before p q)) (ospf.advertised self.now) }
     {
         self.parts.advertised.as_slice()
     }
 
     /// The communities, AS numbers and cluster identifiers that the files name.
+    #[tactic(auto, using(crate::proofs::TrackedUp::communities_ascend, crate::proofs::TrackedUp::numbers_ascend))]
     pub fn tracked(&self) -> &Tracked
-        ensures { result.now ≡ values.tracked_of self.now }
+        ensures value { result.now ≡ values.tracked_of self.now }
+        ensures communities { IsTrue (world.ascends (values.tracked_of self.now).communities) }
+        ensures numbers { IsTrue (world.ascends (values.tracked_of self.now).numbers) }
     {
         &self.parts.tracked
     }
@@ -253,20 +286,14 @@ impl Net {
     pub fn is_up(&self, failures: &Failures, i: IfaceId) -> bool
         ensures { result ≡ ospf.is_up_at self.now failures.now i }
     {
-        is_up_at(
-            self.routers(),
-            self.addresses(),
-            self.link_prefixes(),
-            failures,
-            i,
-        )
+        is_up_at(self.routers(), self.addresses(), self.links(), failures, i)
     }
 
     /// Whether the interface is not shut down and its subnet is no failed link.
     pub fn is_up_with(&self, failures: &Failures, x: &Addressed) -> bool
         ensures { result ≡ world.is_up self.now failures.now x.now }
     {
-        is_up(self.routers(), self.link_prefixes(), failures, x)
+        is_up(self.routers(), self.links(), failures, x)
     }
 
     /// Whether an interface of the router that is up has the address on its subnet.
@@ -276,7 +303,7 @@ impl Net {
         is_reached_over(
             self.routers(),
             self.addresses(),
-            self.link_prefixes(),
+            self.links(),
             failures,
             router,
             a,
@@ -290,7 +317,7 @@ impl Net {
         is_direct_over(
             self.routers(),
             self.addresses(),
-            self.link_prefixes(),
+            self.links(),
             failures,
             router,
             p,

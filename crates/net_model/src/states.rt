@@ -10,6 +10,7 @@ ghost use Rattle.net_model.specs.Routing as routing;
 ghost use Rattle.net_model.specs.World as world;
 
 use crate::interfaces::{Addressed, IfaceId};
+use crate::links::Link;
 use ios_ast::File;
 use mw_text::{Addr, Prefix, contains};
 use route_record::Failures;
@@ -50,16 +51,16 @@ pub fn subnet_of(files: &[File], addresses: &[Addressed], a: Addr) -> Option<Pre
     }
 }
 
-fn is_link_at(links: &[Prefix], at: u32, p: &Prefix) -> bool
-    ensures { result ≡ option_map_or (same_prefix p.now) (slice_get links.now at) false }
+fn is_link_at(links: &[Link], at: u32, p: &Prefix) -> bool
+    ensures { result ≡ option_map_or (λ link. same_prefix p.now link.prefix) (slice_get links.now at) false }
 {
     match links.get(at as usize) {
         None => false,
-        Some(link) => *p == *link,
+        Some(link) => *p == link.prefix,
     }
 }
 
-fn is_failed(files: &[File], links: &[Prefix], failures: &Failures, p: &Prefix) -> bool
+fn is_failed(files: &[File], links: &[Link], failures: &Failures, p: &Prefix) -> bool
     requires links { links.now ≡ world.links_of files.now }
     ensures { result ≡ world.is_failed files.now failures.now p.now }
 {
@@ -72,7 +73,7 @@ fn is_failed(files: &[File], links: &[Prefix], failures: &Failures, p: &Prefix) 
 }
 
 /// Whether the interface is not shut down and its subnet is no failed link.
-pub fn is_up(files: &[File], links: &[Prefix], failures: &Failures, x: &Addressed) -> bool
+pub fn is_up(files: &[File], links: &[Link], failures: &Failures, x: &Addressed) -> bool
     requires links { links.now ≡ world.links_of files.now }
     ensures { result ≡ world.is_up files.now failures.now x.now }
 {
@@ -83,7 +84,7 @@ pub fn is_up(files: &[File], links: &[Prefix], failures: &Failures, x: &Addresse
 pub fn is_up_at(
     files: &[File],
     addresses: &[Addressed],
-    links: &[Prefix],
+    links: &[Link],
     failures: &Failures,
     i: IfaceId,
 ) -> bool
@@ -99,13 +100,7 @@ pub fn is_up_at(
     false
 }
 
-fn is_up_on(
-    files: &[File],
-    links: &[Prefix],
-    failures: &Failures,
-    router: u32,
-    x: &Addressed,
-) -> bool
+fn is_up_on(files: &[File], links: &[Link], failures: &Failures, router: u32, x: &Addressed) -> bool
     requires links { links.now ≡ world.links_of files.now }
     ensures { result ≡ ((x.now.id.router == router) && world.is_up files.now failures.now x.now) }
 {
@@ -116,7 +111,7 @@ fn is_up_on(
 pub fn is_reached_over(
     files: &[File],
     addresses: &[Addressed],
-    links: &[Prefix],
+    links: &[Link],
     failures: &Failures,
     router: u32,
     a: Addr,
@@ -137,7 +132,7 @@ pub fn is_reached_over(
 pub fn is_direct_over(
     files: &[File],
     addresses: &[Addressed],
-    links: &[Prefix],
+    links: &[Link],
     failures: &Failures,
     router: u32,
     p: &Prefix,
