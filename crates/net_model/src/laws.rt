@@ -18,7 +18,6 @@ pub fn interior_distance_law()
 
 /// The equations of interior distances have no other solution, since each adjacency costs something: distances of which
 /// each is the least of the router's own cost and of what its adjacencies lead to are the interior distances.
-#[tactic(auto, using(crate::proofs::Equations::solution_is))]
 pub fn distance_equations_law()
     ensures { (files : ListOf FileOf) (failures : FailuresOf) (p : PrefixOf) (d : ℕ → OptionOf ℕ) →
         All (λ a. 0 < a.cost) (adjacencies files) → AreDistances files failures p d → (router : ℕ) →

@@ -183,11 +183,7 @@ fn sym_none(alloc: Global, terms: &mut Terms) -> Result<SymOspf, AllocError>
 
 /// The first of the best of the routes that are there; none where none is.
 #[tactic(auto, using(crate::proofs::Joining::best_steps))]
-pub fn sym_best(
-    alloc: Global,
-    terms: &mut Terms,
-    recs: &[SymOspf],
-) -> Result<SymOspf, AllocError>
+pub fn sym_best(alloc: Global, terms: &mut Terms, recs: &[SymOspf]) -> Result<SymOspf, AllocError>
     requires { offers.offers_end recs.now ≤ size terms.old }
     ensures builds { Builds terms.old terms.new }
     ensures within { IfOk result (λ r. offers.offer_end r ≤ size terms.new) }
