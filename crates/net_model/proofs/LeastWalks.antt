@@ -28,37 +28,39 @@ use Rattle.net_model.specs.Ospf.{running, up_adjacencies}
 -- ---- members of lists
 
 -- x is a member of the list
-abbrev In : {X : Type 0} → X → List X → Type 0
+abbrev pub In : {X : Type 0} → X → List X → Type 0
 In x [] = ⊥
 In x (y ∷ ys) = (x ≡ y) ⊎ In x ys
 
-in-contains : {X : Type 0} (x : X) (xs : List X) → In x xs → Contains xs x
+-- a member stands somewhere
+pub in-contains : {X : Type 0} (x : X) (xs : List X) → In x xs → Contains xs x
 in-contains x [] here = absurd here
 in-contains x (y ∷ ys) (inl same) = (zero, omega arith, sym same)
 in-contains x (y ∷ ys) (inr later) = let there = in-contains x ys later in
     (suc there.0, omega (arith, there.1), there.2)
 
-contains-in : {X : Type 0} (x : X) (xs : List X) → Contains xs x → In x xs
+pub contains-in : {X : Type 0} (x : X) (xs : List X) → Contains xs x → In x xs
 contains-in x [] (k, within, is) = absurd (omega arith)
 contains-in x (y ∷ ys) (zero, within, is) = inl (sym is)
 contains-in x (y ∷ ys) (suc k, within, is) = inr (contains-in x ys (k, omega arith, is))
 
-in-left : {X : Type 0} (x : X) (xs ys : List X) → In x xs → In x (xs ++ ys)
+pub in-left : {X : Type 0} (x : X) (xs ys : List X) → In x xs → In x (xs ++ ys)
 in-left x [] ys here = absurd here
 in-left x (z ∷ xs) ys (inl same) = inl same
 in-left x (z ∷ xs) ys (inr later) = inr (in-left x xs ys later)
 
-in-right : {X : Type 0} (x : X) (xs ys : List X) → In x ys → In x (xs ++ ys)
+pub in-right : {X : Type 0} (x : X) (xs ys : List X) → In x ys → In x (xs ++ ys)
 in-right x [] ys here = here
 in-right x (z ∷ xs) ys here = inr (in-right x xs ys here)
 
-in-cases : {X : Type 0} (x : X) (xs ys : List X) → In x (xs ++ ys) → In x xs ⊎ In x ys
+-- a member of two lists is one of either
+pub in-cases : {X : Type 0} (x : X) (xs ys : List X) → In x (xs ++ ys) → In x xs ⊎ In x ys
 in-cases x [] ys here = inr here
 in-cases x (z ∷ xs) ys (inl same) = inl (inl same)
 in-cases x (z ∷ xs) ys (inr later) = elim (in-cases x xs ys later) [ inl front ↦ inl (inr front) | inr back ↦ inr back ]
 
 -- a member of what a function gives comes from a member
-in-filter_map : {X Y : Type 0} (h : X → Option Y) (xs : List X) (y : Y) → In y (filter_map h xs) →
+pub in-filter_map : {X Y : Type 0} (h : X → Option Y) (xs : List X) (y : Y) → In y (filter_map h xs) →
     (x : X) × In x xs × (h x ≡ Some y)
 in-filter_map h [] y here = absurd here
 in-filter_map {X} {Y} h (x ∷ xs) y here = by_first (h x) refl here (λ later. in-filter_map h xs y later)
@@ -69,7 +71,8 @@ in-filter_map {X} {Y} h (x ∷ xs) y here = by_first (h x) refl here (λ later. 
     by_first (Some w) is (inl same) further = (x, inl refl, is ∙ ap Some (sym same))
     by_first (Some w) is (inr later) further = let found = further later in (found.0, inr found.1, found.2)
 
-filter_map-in : {X Y : Type 0} (h : X → Option Y) (xs : List X) (x : X) (y : Y) → In x xs → h x ≡ Some y →
+-- what a function gives of a member
+pub filter_map-in : {X Y : Type 0} (h : X → Option Y) (xs : List X) (x : X) (y : Y) → In x xs → h x ≡ Some y →
     In y (filter_map h xs)
 filter_map-in h [] x y here gives = absurd here
 filter_map-in {X} {Y} h (z ∷ xs) x y (inl same) gives = by_first (h z) (sym (ap h same) ∙ gives)
@@ -83,7 +86,8 @@ filter_map-in {X} {Y} h (z ∷ xs) x y (inr later) gives = by_first (h z) (filte
     by_first None there = there
     by_first (Some w) there = inr there
 
-in-filter : {X : Type 0} (p : X → Bool) (xs : List X) (x : X) → In x (filter p xs) → In x xs × (p x ≡ true)
+-- a member of a filter passes
+pub in-filter : {X : Type 0} (p : X → Bool) (xs : List X) (x : X) → In x (filter p xs) → In x xs × (p x ≡ true)
 in-filter p [] x here = absurd here
 in-filter {X} p (y ∷ xs) x here = by_test (p y) refl here (λ later. in-filter p xs x later)
   where
@@ -140,7 +144,7 @@ after-some b (n ∷ ns) =
     )
 
 -- the least of numbers, where there are some
-least-some : (ns : List ℕ) (x : ℕ) → In x ns → (m : ℕ) × (least ns ≡ Some m) × (m ≤ x)
+pub least-some : (ns : List ℕ) (x : ℕ) → In x ns → (m : ℕ) × (least ns ≡ Some m) × (m ≤ x)
 least-some [] x here = absurd here
 least-some (n ∷ ns) x here =
     let found = after-some n ns in (
@@ -152,7 +156,8 @@ least-some (n ∷ ns) x here =
       ],
     )
 
-least-is : (ns : List ℕ) (m : ℕ) → least ns ≡ Some m → In m ns
+-- the least is one of the numbers
+pub least-is : (ns : List ℕ) (m : ℕ) → least ns ≡ Some m → In m ns
 least-is [] m is = cc
 least-is (n ∷ ns) m is =
     let found = after-some n ns in
@@ -160,12 +165,13 @@ least-is (n ∷ ns) m is =
     let P : ℕ → Type 0 = λ k. In k (n ∷ ns) in
     subst P same (elim found.2.one [ inl first ↦ inl first | inr later ↦ inr later ])
 
-in-option : {X : Type 0} (o : Option X) (x : X) → In x (option_to_list o) → o ≡ Some x
+-- the one item
+pub in-option : {X : Type 0} (o : Option X) (x : X) → In x (option_to_list o) → o ≡ Some x
 in-option None x here = absurd here
 in-option (Some y) x (inl same) = ap Some (sym same)
 in-option (Some y) x (inr none) = absurd none
 
-option-in : {X : Type 0} (o : Option X) (x : X) → o ≡ Some x → In x (option_to_list o)
+pub option-in : {X : Type 0} (o : Option X) (x : X) → o ≡ Some x → In x (option_to_list o)
 option-in None x is = cc
 option-in (Some y) x is = let same : x ≡ y = cc in inl same
 

@@ -9,3 +9,4 @@ pub mod Peers
 pub mod Few
 pub mod Ids
 pub mod Costs
+pub mod Equations

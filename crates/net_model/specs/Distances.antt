@@ -45,3 +45,17 @@ distance_within files failures p (suc most) router =
 -- are routers: this is the interior distance
 unfoldable pub interior_distance : List File → Failures → ℕ → Prefix → Option ℕ
 interior_distance files failures router p = distance_within files failures p (length files) router
+
+-- how far it is over an adjacency, by the distances of the routers
+abbrev pub beyond : (ℕ → Option ℕ) → Adjacency → Option ℕ
+beyond d a = option_map (λ n. a.cost + n) (d a.to.router)
+
+-- the least of the router's own cost and of what its adjacencies lead to
+abbrev pub nearest : List File → Failures → Prefix → (ℕ → Option ℕ) → ℕ → Option ℕ
+nearest files failures p d router =
+    least (option_to_list (own_cost files failures p router)
+    ++ filter_map (beyond d) (up_adjacencies files failures router))
+
+-- each distance is that least: the equations of the distances
+abbrev pub AreDistances : List File → Failures → Prefix → (ℕ → Option ℕ) → Type 0
+AreDistances files failures p d = (router : ℕ) → d router ≡ nearest files failures p d router

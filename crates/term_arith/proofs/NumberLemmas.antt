@@ -1,9 +1,9 @@
 -- Lists of nodes, item by item: their ends, their bits and the numbers of these.
-use Rattle.std.proofs.Common.{◌≡◌, ℕ, ◌+◌, ◌*◌, ◌/◌, ◌%◌, ◌^◌, nat_eq, ◌<◌, ◌≤◌, zero, suc, max, Bool, true, false}
+use Rattle.std.proofs.Common.{◌≡◌, ℕ, ◌+◌, ◌*◌, ◌/◌, ◌%◌, ◌^◌, nat_eq, ◌<◌, ◌≤◌, zero, suc, max, Bool, true, false, not, nat_lt}
 use Rattle.std.proofs.Common.{if◌then◌else◌, List, [], ◌∷◌, ◌++◌, take, drop, get_or, length, refl, sym, ap, subst}
 use Rattle.std.proofs.Common.{◌∙◌, arith}
 use Rattle.std.proofs.lemmas.List.{drop_more, drop_all, take_more, map-append, get_or-map, length-map}
-use Rattle.std.proofs.lemmas.Bool.{eqb-true}
+use Rattle.std.proofs.lemmas.Bool.{eqb-true, false_from_ne_true, lt-ltb, ltb-true}
 use Rattle.std.proofs.lemmas.Bool.Decides.{nat_tests}
 use Rattle.std.proofs.lemmas.Grind.{common_steps}
 use Rattle.std.proofs.Math.Nat.{pow-suc, pow-succ', div-one, div-div-eq-div-mul, zero-div}
@@ -83,15 +83,19 @@ add_step w a b out i d low next carry total in_a in_b sum so_far =
     ∙ ap (onto (bits w out)) (omega (arith, sum, number_drop w a i d in_a, number_drop w b i d in_b))
     ∙ so_far
 
--- the end of an addition: the carry is the highest bit
+-- the end of an addition: the carry stands above the bits
 pub add_done : (w : Reading) (a b out : List NodeId) (i : ℕ) (carry : NodeId) (total : ℕ) → length a ≤ i → length b ≤ i
     → onto (bits w out) (bit (at w carry) + number w (drop i a) + number w (drop i b)) ≡ total
-    → number w (out ++ carry ∷ []) ≡ total
+    → onto (bits w out) (bit (at w carry)) ≡ total
 add_done w a b out i carry total end_a end_b so_far =
-    sym (onto_zero w (out ++ carry ∷ []))
-    ∙ onto_push w out carry 0
-    ∙ ap (onto (bits w out)) (omega (arith, number_drop_end w a i end_a, number_drop_end w b i end_b))
-    ∙ so_far
+    ap (onto (bits w out)) (omega (arith, number_drop_end w a i end_a, number_drop_end w b i end_b)) ∙ so_far
+
+-- the sum with the carry as its highest bit
+pub add_whole : (w : Reading) (out : List NodeId) (carry : NodeId) (total : ℕ) → onto (bits w out) (bit (at w carry)) ≡ total
+    → number w (out ++ carry ∷ []) ≡ total
+add_whole w out carry total so_far =
+    sym (onto_zero w (out ++ carry ∷ [])) ∙ onto_push w out carry 0
+    ∙ ap (onto (bits w out)) (omega arith) ∙ so_far
 
 -- a number by its lowest bit
 half_and_bit : (n : ℕ) → bit (nat_eq (n % 2) 1) + 2 * (n / 2) ≡ n
@@ -134,6 +138,37 @@ pub number_below : (w : Reading) (ids : List NodeId) → number w ids < 2 ^ leng
 number_below w [] = omega arith
 number_below w (id ∷ ids) =
     let rest = number_below w ids in let low = bit_small (at w id) in omega (arith, pow-suc 2 (length ids))
+
+-- without a carry the bits are the whole sum
+pub add_low : (w : Reading) (out : List NodeId) (carry : NodeId) (total : ℕ) → onto (bits w out) (bit (at w carry)) ≡ total
+    → not (at w carry) ≡ true → number w out ≡ total
+add_low w out carry total so_far none = sym (onto_zero w out) ∙ ap (onto (bits w out)) (zero_bit (at w carry) none) ∙ so_far
+  where
+    zero_bit : (b : Bool) → not b ≡ true → 0 ≡ bit b
+    zero_bit false same = refl
+    zero_bit true same = cc
+
+-- there is no carry exactly where the sum fits
+pub add_fits : (w : Reading) (out : List NodeId) (carry : NodeId) (width total : ℕ) → length out ≡ width
+    → onto (bits w out) (bit (at w carry)) ≡ total → not (at w carry) ≡ nat_lt total (2 ^ width)
+add_fits w out carry width total long so_far = by (at w carry) refl
+  where
+    by : (b : Bool) → at w carry ≡ b → not (at w carry) ≡ nat_lt total (2 ^ width)
+    by false none =
+        let low = add_low w out carry total so_far (ap not none) in
+        let P : ℕ → Type 0 = λ n. n < 2 ^ length out in
+        let Q : ℕ → Type 0 = λ n. total < 2 ^ n in
+        ap not none ∙ sym (lt-ltb total (2 ^ width) (subst Q long (subst P low (number_below w out))))
+    by true some = ap not some ∙ sym (false_from_ne_true (nat_lt total (2 ^ width)) above)
+      where
+        above : nat_lt total (2 ^ width) ≡ true → ⊥
+        above fits =
+            let P : ℕ → Type 0 = λ n. n < 2 ^ length out in
+            let Q : ℕ → Type 0 = λ n. total < 2 ^ n in
+            let small = subst P (sym so_far) (subst Q (sym long) (ltb-true total (2 ^ width) fits)) in
+            let zero_carry = onto_fits w out (bit (at w carry)) small in
+            let one_carry : bit (at w carry) ≡ 1 = ap bit some in
+            omega (arith, zero_carry, one_carry)
 
 -- the high bits of a number are its quotient by a power of two
 pub number_high : (w : Reading) (ids : List NodeId) (i : ℕ) → number w (drop i ids) ≡ number w ids / 2 ^ i

@@ -19,7 +19,7 @@ pub use count::at_most;
 pub use lists::{copy, fresh_bits};
 pub use masked::equal_masked;
 use mw_text::List;
-pub use sum::add;
+pub use sum::{Summed, add, add_within};
 use term_store::NodeId;
 pub use values::values_of;
 

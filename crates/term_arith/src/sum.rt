@@ -1,12 +1,12 @@
 //! Addition over lists of nodes.
 
-ghost use Rattle.std.specs.Prelude.{◌≡◌, ℕ, ◌+◌, ◌*◌, ◌<◌, ◌≤◌, Bool, IfOk, length};
+ghost use Rattle.std.specs.Prelude.{◌≡◌, ℕ, ◌+◌, ◌*◌, ◌^◌, ◌<◌, ◌≤◌, ◌∷◌, ◌++◌, [], Bool, true, not, nat_lt, IfOk, length};
 ghost use Rattle.term_store.specs.Terms.{Reading, size, at};
 ghost use Rattle.term_store.specs.Reading.{Reads, Builds, Gives};
 ghost use Rattle.term_arith.specs.Bits.{bit, number, ids_end};
 
 use crate::Bits;
-use crate::gates::{constant_node, differs, select};
+use crate::gates::{constant_node, differs, negate, select};
 use crate::lists::put;
 use mw_text::List;
 use std::alloc::{AllocError, Global};
@@ -36,7 +36,15 @@ fn add_bits(terms: &mut Terms, a: NodeId, b: NodeId, carry: NodeId) -> Result<Bi
     Ok(BitSum { low, carry })
 }
 
+/// The sum of two numbers by its nodes: the low ones, as many as each number has, and the highest.
+#[derive(Drop)]
+struct Sum {
+    low: List<NodeId>,
+    carry: NodeId,
+}
+
 /// The sum of two numbers of equal widths, one bit wider.
+#[tactic(auto, using(crate::proofs::NumberLemmas::ids_end_push))]
 pub fn add(alloc: Global, terms: &mut Terms, a: &Bits, b: &Bits) -> Result<Bits, AllocError>
     requires same_width { length a.now.nodes ≡ length b.now.nodes }
     requires first { ids_end a.now.nodes ≤ size terms.old }
@@ -46,25 +54,62 @@ pub fn add(alloc: Global, terms: &mut Terms, a: &Bits, b: &Bits) -> Result<Bits,
     ensures width { IfOk result (λ r. length r.nodes ≡ length a.now.nodes + 1) }
     ensures value { Gives terms.new result (λ w r. number w r.nodes ≡ number w a.now.nodes + number w b.now.nodes) }
 {
-    let nodes = add_nodes(alloc, terms, a.nodes.as_slice(), b.nodes.as_slice())?;
+    let sum = add_nodes(alloc, terms, a.nodes.as_slice(), b.nodes.as_slice())?;
+    let mut nodes = sum.low;
+    put(&mut nodes, sum.carry)?;
     Ok(Bits { nodes })
 }
 
-/// The sum of two numbers by their nodes.
+/// A sum in the width of its operands, and whether it fits there.
+#[derive(Debug, Drop)]
+pub struct Summed {
+    pub sum: Bits,
+    pub fits: NodeId,
+}
+
+/// The sum of two numbers of equal widths in that width, where it fits.
+pub fn add_within(
+    alloc: Global,
+    terms: &mut Terms,
+    a: &Bits,
+    b: &Bits,
+) -> Result<Summed, AllocError>
+    requires same_width { length a.now.nodes ≡ length b.now.nodes }
+    requires first { ids_end a.now.nodes ≤ size terms.old }
+    requires second { ids_end b.now.nodes ≤ size terms.old }
+    ensures builds { Builds terms.old terms.new }
+    ensures within { IfOk result (λ r. ids_end r.sum.nodes ≤ size terms.new) }
+    ensures fits_within { IfOk result (λ r. r.fits.0 < size terms.new) }
+    ensures width { IfOk result (λ r. length r.sum.nodes ≡ length a.now.nodes) }
+    ensures fits { Gives terms.new result (λ w r. at w r.fits ≡ nat_lt (number w a.now.nodes + number w b.now.nodes) (2 ^ length a.now.nodes)) }
+    ensures value { Gives terms.new result (λ w r. at w r.fits ≡ true → number w r.sum.nodes ≡ number w a.now.nodes + number w b.now.nodes) }
+{
+    let sum = add_nodes(alloc, terms, a.nodes.as_slice(), b.nodes.as_slice())?;
+    let fits = negate(terms, sum.carry)?;
+    Ok(Summed {
+        sum: Bits { nodes: sum.low },
+        fits,
+    })
+}
+
+/// The sum of two numbers by their nodes. Where the highest is false, the low ones are the whole sum.
 #[tactic(auto, using(crate::proofs::NumberLemmas::node_steps))]
 fn add_nodes(
     alloc: Global,
     terms: &mut Terms,
     a: &[NodeId],
     b: &[NodeId],
-) -> Result<List<NodeId>, AllocError>
+) -> Result<Sum, AllocError>
     requires same_width { length a.now ≡ length b.now }
     requires first { ids_end a.now ≤ size terms.old }
     requires second { ids_end b.now ≤ size terms.old }
     ensures builds { Builds terms.old terms.new }
-    ensures within { IfOk result (λ r. ids_end r ≤ size terms.new) }
-    ensures width { IfOk result (λ r. length r ≡ length a.now + 1) }
-    ensures value { Gives terms.new result (λ w r. number w r ≡ number w a.now + number w b.now) }
+    ensures within { IfOk result (λ r. ids_end r.low ≤ size terms.new) }
+    ensures carry_within { IfOk result (λ r. r.carry.0 < size terms.new) }
+    ensures width { IfOk result (λ r. length r.low ≡ length a.now) }
+    ensures whole { Gives terms.new result (λ w r. number w (r.low ++ r.carry ∷ []) ≡ number w a.now + number w b.now) }
+    ensures fits { Gives terms.new result (λ w r. not (at w r.carry) ≡ nat_lt (number w a.now + number w b.now) (2 ^ length a.now)) }
+    ensures low { Gives terms.new result (λ w r. not (at w r.carry) ≡ true → number w r.low ≡ number w a.now + number w b.now) }
 {
     let mut out = List::new(alloc);
     let mut carry = constant_node(terms, false)?;
@@ -73,6 +118,5 @@ fn add_nodes(
         put(&mut out, sum.low)?;
         carry = sum.carry;
     }
-    put(&mut out, carry)?;
-    Ok(out)
+    Ok(Sum { low: out, carry })
 }
