@@ -3,15 +3,18 @@ use Rattle.std.proofs.Common.{◌≡◌, ℕ, zero, suc, ◌+◌, ◌<◌, ◌�
 use Rattle.std.proofs.Common.{take-append-drop, get_or, Option, Some, None, Result, Ok, Err, refl, ap, sym, arith, ◌∙◌}
 use Rattle.std.proofs.Common.{cond, append_assoc, nat_le, map, subst}
 use Rattle.std.specs.Prelude.{IfSome, IsSomeAnd}
+use Rattle.std.proofs.Math.Seq.{get_or-append_seam, take-append_seam}
+use Rattle.std.proofs.lemmas.List.{length-append}
 use Rattle.std.specs.Option.{option_map_or}
 use Rattle.mw_outside.specs.Contents.{Contents, get, Has, TellsOnly}
 use Rattle.mw_verify.specs.declared.load.Stop.{Stop}
 use Rattle.mw_verify.specs.declared.load.Stop.TheVariants.{Refused, ReadFault, Memory}
 use Rattle.mw_verify.specs.Loading.{OnStop}
 use Rattle.mw_verify.specs.declared.text.Text.{Text}
-use Rattle.mw_text.proofs.Reading.{EachTo, split-read}
-use Rattle.mw_text.specs.Reading.{each}
-use Rattle.mw_verify.specs.Due.{Outcome, unread, refused, text_of, text_within}
+use Rattle.mw_text.proofs.Reading.{EachTo, each-one, read-done, split-read}
+use Rattle.mw_text.specs.Reading.{each, following, in_turn, with_value}
+use Rattle.mw_verify.specs.declared.load.TheConstants.{MOST_CEX_BYTES}
+use Rattle.mw_verify.specs.Due.{Outcome, unread, refused, replay_due, replayed_due, text_of, text_within}
 use Rattle.mw_verify.specs.Running.{StopsAt}
 use Rattle.mw_verify.specs.Texts.{too_long}
 
@@ -115,6 +118,46 @@ stops-last told names name texts None read only = tt
 stops-last told names name texts (Some other) read only =
     let P : List ℕ → Type 0 = λ n. names ++ name ∷ [] ≡ names ++ n ∷ [] in
     (names, [], subst P (sym only) refl, if_told_one told _ _ read (λ contents so. (texts, so)))
+
+-- a file after all of these
+each_last : {A B E : Type 0} (become : A → Result B E) (items : List A) (x : A) (values : List B) (y : B) →
+    each become items ≡ Ok values → become x ≡ Ok y → each become (items ++ x ∷ []) ≡ Ok (values ++ y ∷ [])
+each_last {A} {B} {E} become items x values y before one =
+    let all : List A = items ++ x ∷ [] in
+    let size : length all ≡ length items + 1 = length-append items (x ∷ []) in
+    let start : EachTo become all (length items) values =
+    ap (in_turn (with_value become) []) (take-append_seam items (x ∷ [])) ∙ before in
+    let more = each-one become all (length items) x values y start (omega (arith, size))
+    (sym (get_or-append_seam items x [] x)) one in
+    read-done (with_value become) [] all (length items + 1) (values ++ y ∷ []) more (omega (arith, size))
+
+-- the third kind of file failed, after those of the first two were read
+pub stops-third : (told : Option Contents) (names : List (List ℕ)) (asked told_name : List ℕ) (texts : List Text)
+    (question : Text) (last : Option (List ℕ)) → IfSome told (λ contents. each (text_of contents) names ≡ Ok texts) →
+    IfSome told (λ contents. text_of contents asked ≡ Ok question) → TellsOnly told_name last →
+    StopsAt told (names ++ asked ∷ told_name ∷ []) last
+stops-third told names asked told_name texts question None read one only = tt
+stops-third told names asked told_name texts question (Some other) read one only =
+    let P : List ℕ → Type 0 = λ n. names ++ asked ∷ told_name ∷ [] ≡ (names ++ asked ∷ []) ++ n ∷ [] in (
+      names ++ asked ∷ [],
+      [],
+      subst P (sym only) (sym (append_assoc names (asked ∷ []) (told_name ∷ []))),
+      if_told told _ _ _ read one
+          (λ contents so too. (texts ++ question ∷ [], each_last (text_of contents) names asked texts question so too)),
+    )
+
+-- and was refused
+pub third_refused : (told : Option Contents) (names : List (List ℕ)) (cex asked : List ℕ) (texts : List Text)
+    (question : Text) (line : List ℕ) → IfSome told (λ contents. each (text_of contents) names ≡ Ok texts) →
+    IfSome told (λ contents. text_of contents asked ≡ Ok question) →
+    IfSome told (λ contents. text_within MOST_CEX_BYTES contents cex ≡ Err (refused line)) →
+    IfSome told (λ contents. replayed_due contents cex asked names ≡ Err (refused line))
+third_refused None names cex asked texts question line read one stopped = tt
+third_refused (Some contents) names cex asked texts question line read one stopped =
+    ap (following (λ ts. following (λ q. following (replay_due ts q) (text_within MOST_CEX_BYTES contents cex))
+    (text_of contents asked))) read
+    ∙ ap (following (λ q. following (replay_due texts q) (text_within MOST_CEX_BYTES contents cex))) one
+    ∙ ap (following (replay_due texts question)) stopped
 
 pub all_told : {A : Type 0} (told : Option A) (P : A → Type 0) → ((x : A) → P x) → IfSome told P
 all_told None P each = tt

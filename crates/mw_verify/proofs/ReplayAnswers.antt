@@ -1,7 +1,8 @@
 -- What a replay answers, and what stands of it.
-use Rattle.std.proofs.Common.{◌≡◌, ◌≢◌, ℕ, ◌*◌, ◌<◌, Bool, true, false, List, [], ◌∷◌, length, get_or, Option, Some, None}
-use Rattle.std.proofs.Common.{refl, sym, subst, arith, ◌∙◌, inl, inr, false≢true}
-use Rattle.std.specs.Prelude.{is_none, slice_get}
+use Rattle.std.proofs.Common.{◌≡◌, ◌≢◌, ℕ, ◌*◌, ◌<◌, Bool, true, false, List, [], ◌∷◌, length, get_or, Option, Some, None, Result, Ok, Err}
+use Rattle.std.proofs.Common.{refl, sym, subst, arith, ◌∙◌, inl, inr}
+use Rattle.std.specs.Prelude.{IfOk, is_none, slice_get}
+use Rattle.std.proofs.lemmas.Bool.{false≢true}
 use Rattle.std.proofs.lemmas.Option.{get_or_from_slice_get, slice_get-get_or, slice_get_within}
 use Rattle.mw_outside.specs.Taken.{Takes, TakesPart}
 use Rattle.ios_ast.specs.declared.file.File.{File}
@@ -82,6 +83,17 @@ replay_no files questions cex question why ready is other refused untrue =
     let never = subst Q same untrue in
     (ready.question, ready.asked, (subst P same refused, other, λ breaking. never (breaking.1.stable, breaking.1.breaks)))
 
+-- no, where memory was not wanting
+pub replay_told : {E : Type 0} (result : Result (Option ReplayNo) E) (files : List File) (questions : List Question)
+    (cex : Counterexample) (question : Question) (why : ReplayNo) →
+    IfOk result (λ answer. (answer ≡ Some why) × (why ≢ no.Memory)) → IsAdmitted files questions cex →
+    question ≡ get_or questions cex.question question → IsRefusedSo files question cex why →
+    (why ≢ no.Memory → IsReplayed files question cex → ⊥) → IfOk result (AnswersReplay files questions cex)
+replay_told (Err e) files questions cex question why told ready is refused untrue = tt
+replay_told (Ok answer) files questions cex question why told ready is refused untrue =
+    let P : Option ReplayNo → Type 0 = AnswersReplay files questions cex in
+    subst P (sym told.0) (replay_no files questions cex question why ready is told.1 refused (untrue told.1))
+
 status_yes : (answer : Option ReplayNo) → true ≡ is_none answer → Good ≡ replay_status answer
 status_yes None is = refl
 status_yes (Some why) is = absurd (false≢true (sym is))
@@ -91,23 +103,23 @@ status_no None is = absurd (false≢true is)
 status_no (Some why) is = refl
 
 -- the line stands
-pub replayed_yes : (files : List File) (questions : List Question) (cex : Counterexample) (yes : Bool) (text : List ℕ)
-    (before now : Option (List ℕ)) → IsReplayLine files questions cex yes text → yes ≡ true → Takes before now text →
+pub replayed_yes : (files : List File) (questions : List Question) (cex : Counterexample) (is_yes : Bool) (text : List ℕ)
+    (before now : Option (List ℕ)) → IsReplayLine files questions cex is_yes text → is_yes ≡ true → Takes before now text →
     IsReplayedSo files questions cex Good before now
-replayed_yes files questions cex yes text before now (answer, right, told, is) said takes =
+replayed_yes files questions cex is_yes text before now (answer, right, told, is) said takes =
     let T : List ℕ → Type 0 = Takes before now in
     record { answer = answer; right = right; ends = status_yes answer (sym said ∙ told); text = subst T is takes }
 
-pub replayed_no : (files : List File) (questions : List Question) (cex : Counterexample) (yes : Bool) (text : List ℕ)
-    (before now : Option (List ℕ)) → IsReplayLine files questions cex yes text → yes ≡ false → Takes before now text →
+pub replayed_no : (files : List File) (questions : List Question) (cex : Counterexample) (is_yes : Bool) (text : List ℕ)
+    (before now : Option (List ℕ)) → IsReplayLine files questions cex is_yes text → is_yes ≡ false → Takes before now text →
     IsReplayedSo files questions cex Bad before now
-replayed_no files questions cex yes text before now (answer, right, told, is) said takes =
+replayed_no files questions cex is_yes text before now (answer, right, told, is) said takes =
     let T : List ℕ → Type 0 = Takes before now in
     record { answer = answer; right = right; ends = status_no answer (sym said ∙ told); text = subst T is takes }
 
 -- a front of the line stands
-pub replayed_cut : (files : List File) (questions : List Question) (cex : Counterexample) (yes : Bool) (text : List ℕ)
-    (before now : Option (List ℕ)) → IsReplayLine files questions cex yes text → TakesPart before now text →
+pub replayed_cut : (files : List File) (questions : List Question) (cex : Counterexample) (is_yes : Bool) (text : List ℕ)
+    (before now : Option (List ℕ)) → IsReplayLine files questions cex is_yes text → TakesPart before now text →
     PrintsPart (replaying files questions cex) before now
-replayed_cut files questions cex yes text before now (answer, right, told, is) part =
+replayed_cut files questions cex is_yes text before now (answer, right, told, is) part =
     (text, inr (answer, right, is), part)

@@ -64,12 +64,16 @@ abbrev pub read_as : {A : Type 0} → List ℕ → Result A Refused → Result A
 read_as name (Ok x) = Ok x
 read_as name (Err why) = Err (refused (refusal name why))
 
--- the text of a file, of which there are not too many bytes
-abbrev pub text_of : Contents → List ℕ → Result Text Outcome
-text_of contents name =
-    option_map_or (λ bytes. if nat_le (length bytes) MOST_BYTES then Ok
+-- the text of a file of at most so many bytes
+abbrev pub text_within : ℕ → Contents → List ℕ → Result Text Outcome
+text_within most contents name =
+    option_map_or (λ bytes. if nat_le (length bytes) most then Ok
     (record { name = name; bytes = bytes }) else Err (refused (too_long name)))
     (get contents name) (Err unread)
+
+-- that of a configuration or of questions
+abbrev pub text_of : Contents → List ℕ → Result Text Outcome
+text_of contents name = text_within MOST_BYTES contents name
 
 -- the file that a text reads as
 abbrev pub file_of : Text → Result File Outcome

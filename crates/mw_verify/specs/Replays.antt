@@ -29,15 +29,16 @@ part_name Ospf = codes "ospf"
 part_name Bgp = codes "bgp"
 part_name Rib = codes "rib"
 
+-- one part, or null
+abbrev pub lone_text : List Slot → List ℕ
+lone_text [] = codes "null"
+lone_text (slot ∷ rest) = part_text slot
+
 -- what is wanted: of OSPF and of the table one part or null, of BGP the list of the routes that are left
 abbrev pub wanted_text : Part → List Slot → List ℕ
 wanted_text Ospf slots = lone_text slots
 wanted_text Rib slots = lone_text slots
 wanted_text Bgp slots = part_list_text slots
-
-abbrev pub lone_text : List Slot → List ℕ
-lone_text [] = codes "null"
-lone_text (slot ∷ rest) = part_text slot
 
 -- ROUTER LEN PART held H wanted W
 abbrev pub difference_text : List File → Difference → List ℕ
@@ -95,6 +96,6 @@ pub record IsAdmitted (files : List File) (questions : List Question) (cex : Cou
 
 -- the text of a right answer, and whether it is yes
 abbrev pub IsReplayLine : List File → List Question → Counterexample → Bool → List ℕ → Type 0
-IsReplayLine files questions cex yes text =
-    (answer : Option ReplayNo) × AnswersReplay files questions cex answer × (yes ≡ is_none answer)
+IsReplayLine files questions cex is_yes text =
+    (answer : Option ReplayNo) × AnswersReplay files questions cex answer × (is_yes ≡ is_none answer)
     × (text ≡ replay_text files answer)

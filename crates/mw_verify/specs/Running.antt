@@ -9,7 +9,7 @@ use Rattle.mw_verify.specs.declared.status.Status.{Status}
 use Rattle.mw_verify.specs.declared.status.Status.TheVariants.{Good, Bad, Unknown, Usage, Refused, ReadFault}
 use Rattle.mw_verify.specs.declared.status.Status.TheVariants.{WriteFault, Memory}
 use Rattle.mw_verify.specs.declared.text.Text.{Text}
-use Rattle.mw_verify.specs.Due.{Outcome, usage, unread, refused, answering, replaying, due, is_command, is_replay, text_of}
+use Rattle.mw_verify.specs.Due.{Outcome, usage, unread, refused, answering, replaying, due, is_command, is_verify, text_of}
 use Rattle.mw_verify.specs.Replays.{AnswersReplay, IsReplayedSo, replay_text}
 use Rattle.stable_replay.specs.declared.differs.ReplayNo.{ReplayNo}
 use Rattle.mw_verify.specs.Texts.{usage_text}
@@ -89,7 +89,7 @@ replay_order (command ∷ cex ∷ questions ∷ names) = names ++ questions ∷ 
 replay_order _ = []
 
 abbrev pub in_order : List (List ℕ) → List (List ℕ)
-in_order words = if is_replay words then replay_order words else verify_order words
+in_order words = if is_verify words then verify_order words else replay_order words
 
 -- the files of these names are there, each with few enough bytes: only the last that a command names, its own, is none of
 -- these

@@ -1,6 +1,6 @@
 //! Tests a counterexample that is told.
 
-ghost use Rattle.std.specs.Prelude.{◌≡◌, ◌≢◌, ◌≤◌, ◌++◌, ◌∷◌, [], Ok, Err, IfOk, IfErr, IfSome, length, map, string_bytes};
+ghost use Rattle.std.specs.Prelude.{◌≡◌, ◌≢◌, ◌≤◌, ◌++◌, ◌∷◌, [], Ok, Err, Some, IfOk, IfErr, IfSome, length, map, string_bytes};
 ghost use Rattle.mw_outside.specs.Faults.{Rose};
 ghost use Rattle.mw_verify.specs.Due as due;
 ghost use Rattle.mw_verify.specs.Loading.{AnswersSo, AreSmall, OnStop, UnlessReadFault};
@@ -104,6 +104,16 @@ pub fn load_replay<F: Files>(
     parse_replay(alloc, texts.as_slice(), &asked, &told)
 }
 
+// What a replay that says no comes to: its reason, but for want of memory.
+fn told_no(why: ReplayNo) -> Result<Option<ReplayNo>, AllocError>
+    ensures { IfOk result (λ answer. (answer ≡ Some why) × (why ≢ ReplayNo.Memory)) }
+{
+    match why {
+        ReplayNo::Memory => Err(AllocError),
+        _ => Ok(Some(why)),
+    }
+}
+
 // Why the counterexample is not true; None where it is.
 fn replay_answer(
     alloc: Global,
@@ -117,8 +127,7 @@ fn replay_answer(
     let question = &questions[cex.question as usize];
     match replay(alloc, net, question, cex) {
         Ok(()) => Ok(None),
-        Err(ReplayNo::Memory) => Err(AllocError),
-        Err(why) => Ok(Some(why)),
+        Err(why) => told_no(why),
     }
 }
 

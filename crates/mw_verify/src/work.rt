@@ -1,6 +1,6 @@
 //! The work that a command asks for.
 
-ghost use Rattle.std.specs.Prelude.{◌≡◌, ◌≤◌, ◌+◌, true, false, IfOk, IfErr, length, map, string_bytes, codes};
+ghost use Rattle.std.specs.Prelude.{◌≡◌, ◌≤◌, ◌+◌, true, false, IfOk, IfErr, IfSome, None, length, map, string_bytes, codes};
 ghost use Rattle.std.specs.List.{list_any};
 ghost use Rattle.mw_text.specs.Text.{same_text};
 ghost use Rattle.mw_outside.specs.Faults.{Rose};
