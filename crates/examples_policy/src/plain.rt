@@ -11,7 +11,7 @@ use mw_text::{Addr, List, Prefix};
 use policy_eval::{access_list, as_path_list, community_list, prefix_list, route_map};
 use route_record::{BgpRec, Learnt, MapRec, Origin, Packet, Shape, Side, Tracked, shape};
 use std::alloc::{AllocError, Global};
-use std::test::Fail;
+use std::io;
 
 fn prefix_entry(seq: u32, permit: bool, prefix: Prefix, low: u8, high: u8) -> PrefixEntry {
     PrefixEntry {
@@ -33,38 +33,41 @@ fn prefixes(alloc: Global, entries: &[PrefixEntry]) -> Result<PrefixList, AllocE
     })
 }
 
-#[test]
-fn prefix_list_takes_lengths(rt: HostRuntime) -> Result<(), Fail> {
+/// Lengths of 16 to 24 inside 10.0.0.0/8: one of 16, the prefix itself, one of 25, and one that lies outside.
+fn show_lengths(rt: &(impl Print + AllocGlobal)) -> io::Result<()> {
     let list = prefixes(
         rt.alloc(),
         &[prefix_entry(5, true, prefix(10, 0, 0, 0, 8), 16, 24)],
     )?;
     let table = [
-        (prefix(10, 1, 0, 0, 16), true),
-        (prefix(10, 0, 0, 0, 8), false),
-        (prefix(10, 1, 2, 128, 25), false),
-        (prefix(11, 1, 0, 0, 16), false),
+        prefix(10, 1, 0, 0, 16),
+        prefix(10, 0, 0, 0, 8),
+        prefix(10, 1, 2, 128, 25),
+        prefix(11, 1, 0, 0, 16),
     ];
-    for (p, wanted) in table {
-        assert_eq!(rt; prefix_list(&list, &p), wanted);
+    print!(rt; "lengths of a prefix list:")?;
+    for p in table {
+        print!(rt; " {}", prefix_list(&list, &p))?;
     }
-    Ok(())
+    println!(rt; "")
 }
 
-#[test]
-fn least_number_decides(rt: HostRuntime) -> Result<(), Fail> {
+/// The entry with the least number decides, and of equal ones the first: a denial numbered 5 behind a permission
+/// numbered 10, one numbered 20 before it, and one numbered 10 before it.
+fn show_order(rt: &(impl Print + AllocGlobal)) -> io::Result<()> {
     let inner = prefix(10, 1, 0, 0, 16);
     let outer = prefix_entry(10, true, prefix(10, 0, 0, 0, 8), 8, 32);
     let table = [
-        (outer, prefix_entry(5, false, inner, 16, 16), false),
-        (prefix_entry(20, false, inner, 16, 16), outer, true),
-        (prefix_entry(10, false, inner, 16, 16), outer, false),
+        (outer, prefix_entry(5, false, inner, 16, 16)),
+        (prefix_entry(20, false, inner, 16, 16), outer),
+        (prefix_entry(10, false, inner, 16, 16), outer),
     ];
-    for (first, second, wanted) in table {
+    print!(rt; "order of entries:")?;
+    for (first, second) in table {
         let list = prefixes(rt.alloc(), &[first, second])?;
-        assert_eq!(rt; prefix_list(&list, &inner), wanted);
+        print!(rt; " {}", prefix_list(&list, &inner))?;
     }
-    Ok(())
+    println!(rt; "")
 }
 
 fn communities(alloc: Global, permit: bool, values: &[u32]) -> Result<CommunityList, AllocError> {
@@ -80,15 +83,16 @@ fn communities(alloc: Global, permit: bool, values: &[u32]) -> Result<CommunityL
     })
 }
 
-#[test]
-fn community_entry_wants_all_its_values(rt: HostRuntime) -> Result<(), Fail> {
+/// An entry wants all its values: a route with one of the two, and one with both.
+fn show_communities(rt: &(impl Print + AllocGlobal)) -> io::Result<()> {
     let list = communities(rt.alloc(), true, &[4_259_840_001, 4_259_840_002])?;
     let one = [4_259_840_001, 4_259_840_003, 4_259_840_004];
     let both = [4_259_840_001, 4_259_840_002, 4_259_840_003];
-    for (carried, wanted) in [(one, false), (both, true)] {
-        assert_eq!(rt; community_list(&list, &carried), wanted);
+    print!(rt; "values of a community entry:")?;
+    for carried in [one, both] {
+        print!(rt; " {}", community_list(&list, &carried))?;
     }
-    Ok(())
+    println!(rt; "")
 }
 
 fn paths(alloc: Global, patterns: &[Pattern]) -> Result<AsPathList, AllocError> {
@@ -133,21 +137,14 @@ fn path_with(alloc: Global, len: u32, place: u32) -> Result<Vec<u32>, AllocError
     Ok(path)
 }
 
-#[test]
-fn patterns_match_paths(rt: HostRuntime) -> Result<(), Fail> {
-    let table = [
-        (0, 0, 0b110000),
-        (1, 0, 0b011111),
-        (1, 1, 0b010000),
-        (255, 0, 0b010101),
-        (255, 100, 0b010001),
-        (255, 254, 0b010011),
-    ];
-    for (len, place, wanted) in table {
+/// The empty path, those of one number, 7 or another, and those of 255 with 7 at the first, a middle and the last place.
+fn show_patterns(rt: &(impl Print + AllocGlobal)) -> io::Result<()> {
+    print!(rt; "patterns that match, as bits:")?;
+    for (len, place) in [(0, 0), (1, 0), (1, 1), (255, 0), (255, 100), (255, 254)] {
         let path = path_with(rt.alloc(), len, place)?;
-        assert_eq!(rt; matched(rt.alloc(), path.as_slice())?, wanted);
+        print!(rt; " {}", matched(rt.alloc(), path.as_slice())?)?;
     }
-    Ok(())
+    println!(rt; "")
 }
 
 const EVERYWHERE: Wild = Wild {
@@ -188,43 +185,33 @@ fn packet(src: u32, proto: u8, dport: u16) -> Packet {
     }
 }
 
-#[test]
-fn access_entries_test_packets(rt: HostRuntime) -> Result<(), Fail> {
+/// A wildcard mask against an address inside, one odd, one with another third octet and one of UDP; no port against the
+/// least and the highest; all ports but 80 against 81 and 80; and 80 to 81 against 79, 80 and 82.
+fn show_packets(rt: &(impl Print + AllocGlobal)) -> io::Result<()> {
     // Every even address whose third octet is 5, whatever its second one.
     let even = Wild {
         addr: Addr(0x0a00_0500),
         wild: 0x00ff_00fe,
     };
     let table = [
-        (tcp(even, Ports::Any), packet(0x0a63_0542, 6, 80), true),
-        (tcp(even, Ports::Any), packet(0x0a63_0543, 6, 80), false),
-        (tcp(even, Ports::Any), packet(0x0a63_0642, 6, 80), false),
-        (tcp(even, Ports::Any), packet(0x0a63_0542, 17, 80), false),
-        (tcp(EVERYWHERE, Ports::Empty), packet(1, 6, 0), false),
-        (tcp(EVERYWHERE, Ports::Empty), packet(1, 6, 65535), false),
-        (tcp(EVERYWHERE, Ports::Not(80)), packet(1, 6, 81), true),
-        (tcp(EVERYWHERE, Ports::Not(80)), packet(1, 6, 80), false),
-        (
-            tcp(EVERYWHERE, Ports::Range(80, 81)),
-            packet(1, 6, 79),
-            false,
-        ),
-        (
-            tcp(EVERYWHERE, Ports::Range(80, 81)),
-            packet(1, 6, 80),
-            true,
-        ),
-        (
-            tcp(EVERYWHERE, Ports::Range(80, 81)),
-            packet(1, 6, 82),
-            false,
-        ),
+        (tcp(even, Ports::Any), packet(0x0a63_0542, 6, 80)),
+        (tcp(even, Ports::Any), packet(0x0a63_0543, 6, 80)),
+        (tcp(even, Ports::Any), packet(0x0a63_0642, 6, 80)),
+        (tcp(even, Ports::Any), packet(0x0a63_0542, 17, 80)),
+        (tcp(EVERYWHERE, Ports::Empty), packet(1, 6, 0)),
+        (tcp(EVERYWHERE, Ports::Empty), packet(1, 6, 65535)),
+        (tcp(EVERYWHERE, Ports::Not(80)), packet(1, 6, 81)),
+        (tcp(EVERYWHERE, Ports::Not(80)), packet(1, 6, 80)),
+        (tcp(EVERYWHERE, Ports::Range(80, 81)), packet(1, 6, 79)),
+        (tcp(EVERYWHERE, Ports::Range(80, 81)), packet(1, 6, 80)),
+        (tcp(EVERYWHERE, Ports::Range(80, 81)), packet(1, 6, 82)),
     ];
-    for (entry, packet, wanted) in table {
+    print!(rt; "packets of an access list:")?;
+    for (entry, packet) in table {
         let list = access(rt.alloc(), &[entry])?;
-        assert_eq!(rt; access_list(&list, &packet), wanted);
+        print!(rt; " {}", access_list(&list, &packet))?;
     }
-    Ok(())
+    println!(rt; "")
 }
 
 /// A route with a path and communities.
@@ -328,21 +315,20 @@ fn preference(
     Ok(made.map_or(0, |rec| rec.bgp.local_pref))
 }
 
-#[test]
-fn map_denies_by_a_path_and_then_sets_a_preference(rt: HostRuntime) -> Result<(), Fail> {
+/// A path with 65002 and one without.
+fn show_denial(rt: &(impl Print + AllocGlobal)) -> io::Result<()> {
     let mut policies = no_policies(rt.alloc());
     policies
         .as_paths
         .items
         .push(paths(rt.alloc(), &[Pattern::Has(65002)])?)?;
     let map = avoiding(rt.alloc())?;
-    for (path, wanted) in [([65001, 65002], 0), ([65001, 65003], 200)] {
-        assert_eq!(rt;
-            preference(rt.alloc(), &map, &policies, &path, &[])?,
-            wanted
-        );
+    print!(rt; "a map that denies a path, and else sets a preference:")?;
+    for path in [[65001, 65002], [65001, 65003]] {
+        let preference = preference(rt.alloc(), &map, &policies, &path, &[])?;
+        print!(rt; " {preference}")?;
     }
-    Ok(())
+    println!(rt; "")
 }
 
 /// One list of each kind: access list 101 takes nothing of protocol 0, prefix list P takes /16 inside 10.0.0.0/8,
@@ -376,27 +362,26 @@ fn line_of(kind: u32, names: List<Use>) -> Match {
     }
 }
 
-#[test]
-fn each_kind_of_match(rt: HostRuntime) -> Result<(), Fail> {
+/// Each kind of match line, with lists that take the route and lists that do not; the last names no list.
+fn show_matches(rt: &(impl Print + AllocGlobal)) -> io::Result<()> {
     let policies = one_of_each(rt.alloc())?;
     let table = [
-        (0, "101", 5, 7, 0),
-        (1, "P", 5, 7, 100),
-        (2, "1", 5, 7, 100),
-        (2, "1", 5, 8, 0),
-        (3, "1", 5, 7, 100),
-        (3, "1", 6, 7, 0),
-        (3, "2", 5, 7, 0),
+        (0, "101", 5, 7),
+        (1, "P", 5, 7),
+        (2, "1", 5, 7),
+        (2, "1", 5, 8),
+        (3, "1", 5, 7),
+        (3, "1", 6, 7),
+        (3, "2", 5, 7),
     ];
-    for (kind, named, number, community, wanted) in table {
+    print!(rt; "each kind of match:")?;
+    for (kind, named, number, community) in table {
         let line = line_of(kind, uses(rt.alloc(), named.as_bytes())?);
         let map = one_entry(rt.alloc(), entry(rt.alloc(), 10, true, Some(line), None)?)?;
-        assert_eq!(rt;
-            preference(rt.alloc(), &map, &policies, &[number, 6], &[community])?,
-            wanted
-        );
+        let preference = preference(rt.alloc(), &map, &policies, &[number, 6], &[community])?;
+        print!(rt; " {preference}")?;
     }
-    Ok(())
+    println!(rt; "")
 }
 
 /// A set line by a number.
@@ -452,40 +437,21 @@ fn left(alloc: Global, which: u32, side: Side) -> Result<[u64; 7], AllocError> {
     Ok(made.map_or([0; 7], |rec| seen(&rec)))
 }
 
-#[test]
-fn each_set_line_on_each_side(rt: HostRuntime) -> Result<(), Fail> {
-    let table = [
-        [7, 0, 0, 1, 0, 2040, 506],
-        [100, 7, 0, 1, 0, 2040, 506],
-        [100, 0, 7, 1, 0, 2040, 506],
-        [100, 0, 0, 0, 0, 2040, 506],
-        [100, 0, 0, 2, 0, 2040, 506],
-        [100, 0, 0, 1, 1, 2040, 506],
-        [100, 0, 0, 1, 0, 0, 506],
-        [100, 0, 0, 1, 0, 1030, 506],
-        [100, 0, 0, 1, 0, 203_040, 506],
-    ];
-    for side in [Side::External, Side::Internal, Side::Redistribution] {
-        let mut which = 0u32;
-        for wanted in table {
-            assert_eq!(rt; left(rt.alloc(), which, side)?, wanted);
-            which = which.wrapping_add(1);
-        }
+/// What one set line leaves, after the name of the side.
+fn show_set(rt: &(impl Print + AllocGlobal), which: u32, name: &str, side: Side) -> io::Result<()> {
+    print!(rt; "set line {which}, {name}:")?;
+    for number in left(rt.alloc(), which, side)? {
+        print!(rt; " {number}")?;
     }
-    Ok(())
+    println!(rt; "")
 }
 
-#[test]
-fn numbers_are_prepended_on_external_sides_alone(rt: HostRuntime) -> Result<(), Fail> {
-    let longer = [100, 0, 0, 1, 0, 2040, 9_090_506];
-    let same = [100, 0, 0, 1, 0, 2040, 506];
-    let table = [
-        (Side::External, longer),
-        (Side::Internal, same),
-        (Side::Redistribution, same),
-    ];
-    for (side, wanted) in table {
-        assert_eq!(rt; left(rt.alloc(), 9, side)?, wanted);
+/// Each set line on each side.
+fn show_sets(rt: &(impl Print + AllocGlobal)) -> io::Result<()> {
+    for which in 0..10 {
+        show_set(rt, which, "external", Side::External)?;
+        show_set(rt, which, "internal", Side::Internal)?;
+        show_set(rt, which, "redistribution", Side::Redistribution)?;
     }
     Ok(())
 }
@@ -505,19 +471,24 @@ fn shape_with(alloc: Global, carried: &[u32]) -> Result<Option<Shape>, AllocErro
     }
 }
 
-#[test]
-fn untracked_communities_change_no_shape(rt: HostRuntime) -> Result<(), Fail> {
-    let wanted = Shape {
-        len: 3,
-        first: 5,
-        last: 7,
-        numbers: 5,
-        communities: 2,
-        cluster_len: 0,
-        clusters: 0,
-    };
+/// The shapes of two records that differ in communities which are not tracked.
+fn show_shapes(rt: &(impl Print + AllocGlobal)) -> io::Result<()> {
     for carried in [[20, 90], [1, 20]] {
-        assert_eq!(rt; shape_with(rt.alloc(), &carried)?, Some(wanted));
+        let shape = shape_with(rt.alloc(), &carried)?;
+        println!(rt; "shape: {shape:?}")?;
     }
     Ok(())
+}
+
+/// All cases.
+pub fn show_plain(rt: &(impl Print + AllocGlobal)) -> io::Result<()> {
+    show_lengths(rt)?;
+    show_order(rt)?;
+    show_communities(rt)?;
+    show_patterns(rt)?;
+    show_packets(rt)?;
+    show_denial(rt)?;
+    show_matches(rt)?;
+    show_sets(rt)?;
+    show_shapes(rt)
 }

@@ -16,7 +16,7 @@ use mw_text::{Addr, List, prefix_of};
 use policy_eval::route_map;
 use route_record::{BgpRec, Learnt, MapRec, Origin, Side, Tracked, shape};
 use std::alloc::{AllocError, Global};
-use std::test::Fail;
+use std::io;
 use sym_policy::{SymBgp, SymMapRec, sym_route_map};
 use term_arith::{Bits, fresh_bits, values_of};
 use term_store::{NodeId, Terms};
@@ -102,7 +102,7 @@ fn fresh_marks(alloc: Global, terms: &mut Terms) -> Result<Marks, AllocError>
 }
 
 /// A record of new variables, of which three numbers and three communities are tracked.
-fn fresh_rec(alloc: Global, terms: &mut Terms) -> Result<SymMapRec, AllocError>
+pub fn fresh_rec(alloc: Global, terms: &mut Terms) -> Result<SymMapRec, AllocError>
     ensures grows { Grows terms.old terms.new }
     ensures within { IfOk result (λ r. map_rec_end r ≤ size terms.new) }
     ensures numbers { IfOk result (λ r. length r.bgp.numbers.nodes ≡ 3) }
@@ -177,7 +177,7 @@ fn record_of(valid: NodeId, words: Words, path: Words, others: Others, marks: Ma
     }
 }
 
-fn tracked(alloc: Global) -> Result<Tracked, AllocError>
+pub fn tracked(alloc: Global) -> Result<Tracked, AllocError>
     ensures numbers { IfOk result (λ r. length r.numbers ≡ 3) }
     ensures communities { IfOk result (λ r. length r.communities ≡ 3) }
     ensures clusters { IfOk result (λ r. length r.clusters ≡ 0) }
@@ -594,11 +594,12 @@ fn map_agrees(alloc: Global, dice: &mut Dice) -> Result<u32, AllocError> {
     }
 }
 
-#[test]
-fn route_maps_as_terms(rt: HostRuntime) -> Result<(), Fail> {
+/// At how many of 400 routes random maps and the maps over terms agree.
+pub fn show_maps(rt: &(impl Print + AllocGlobal)) -> io::Result<()> {
     let mut dice = Dice::new(3);
+    let mut agreed = 0u32;
     for _ in 0..40 {
-        assert_eq!(rt; map_agrees(rt.alloc(), &mut dice)?, 10);
+        agreed = agreed.wrapping_add(map_agrees(rt.alloc(), &mut dice)?);
     }
-    Ok(())
+    println!(rt; "route maps and their terms: {agreed} of 400 agree")
 }

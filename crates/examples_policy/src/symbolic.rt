@@ -12,7 +12,7 @@ use mw_text::{Addr, List, prefix_of};
 use policy_eval::{access_list, prefix_list};
 use route_record::Packet;
 use std::alloc::{AllocError, Global};
-use std::test::Fail;
+use std::io;
 use sym_policy::{SymPacket, sym_access_list, sym_prefix_list};
 use term_arith::{fresh_bits, values_of};
 use term_store::{NodeId, Terms};
@@ -25,7 +25,7 @@ const MASKS: [u32; 6] = [0, 0xff, 0x0000_ffff, 0x00ff_00ff, 0xffff_fffe, 0xffff_
 const PORTS: [u32; 6] = [0, 1, 80, 1023, 1024, 65535];
 
 /// A packet of new variables.
-fn fresh_packet(alloc: Global, terms: &mut Terms) -> Result<SymPacket, AllocError>
+pub fn fresh_packet(alloc: Global, terms: &mut Terms) -> Result<SymPacket, AllocError>
     ensures grows { Grows terms.old terms.new }
     ensures within { IfOk result (λ r. packet_end r ≤ size terms.new) }
 {
@@ -164,13 +164,14 @@ fn access_agrees(alloc: Global, dice: &mut Dice) -> Result<u32, AllocError> {
     packets_agree(alloc, dice, &terms, node, &list)
 }
 
-#[test]
-fn access_lists_as_terms(rt: HostRuntime) -> Result<(), Fail> {
+/// At how many of 400 packets random access lists and their nodes agree.
+pub fn show_access_lists(rt: &(impl Print + AllocGlobal)) -> io::Result<()> {
     let mut dice = Dice::new(1);
+    let mut agreed = 0u32;
     for _ in 0..20 {
-        assert_eq!(rt; access_agrees(rt.alloc(), &mut dice)?, 20);
+        agreed = agreed.wrapping_add(access_agrees(rt.alloc(), &mut dice)?);
     }
-    Ok(())
+    println!(rt; "access lists and their terms: {agreed} of 400 agree")
 }
 
 fn prefix_entry(dice: &mut Dice) -> PrefixEntry {
@@ -228,11 +229,12 @@ fn prefixes_agree(alloc: Global, dice: &mut Dice, len: u8) -> Result<u32, AllocE
     addresses_agree(alloc, dice, &terms, node, &list, len)
 }
 
-#[test]
-fn prefix_lists_as_terms(rt: HostRuntime) -> Result<(), Fail> {
+/// At how many of 660 addresses random prefix lists and their nodes agree.
+pub fn show_prefix_lists(rt: &(impl Print + AllocGlobal)) -> io::Result<()> {
     let mut dice = Dice::new(2);
+    let mut agreed = 0u32;
     for len in 0..33u8 {
-        assert_eq!(rt; prefixes_agree(rt.alloc(), &mut dice, len)?, 20);
+        agreed = agreed.wrapping_add(prefixes_agree(rt.alloc(), &mut dice, len)?);
     }
-    Ok(())
+    println!(rt; "prefix lists and their terms: {agreed} of 660 agree")
 }
