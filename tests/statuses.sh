@@ -32,6 +32,13 @@ ended "0, every verdict is holds" 0 "holds q1"
 run verify questions.txt n1-broken.cfg n2.cfg
 ended "1, some verdict is broken" 1 "broken q1"
 
+network="$top/examples/ospf-bgp"
+set -- "$network/questions.txt" "$network/e1.cfg" "$network/e2.cfg"
+run replay "$network/counterexample.json" "$@"
+ended "0, a counterexample is true" 0 "yes"
+run replay "$network/unstable.json" "$@"
+ended "1, a counterexample is not true" 1 'no differs E2 24 bgp held null wanted [{"clusters":[],"communities":[],"from":"10.255.0.1","localpref":100,"med":0,"nexthop":"10.255.0.1","origin":"igp","path":[65001],"weight":0}]'
+
 # Status 2 is kept for verdicts that are neither: none comes today.
 
 run
