@@ -27,7 +27,7 @@ def peers_of(r):
     return [f"192.168.{100 * r + at}.2" for at in range(50)] if r < 2 else []
 
 def router(r, count):
-    lines = [f"hostname R{r}"]
+    lines = [f"hostname Ring{r}"]
     for at in range(2):
         lines += [f"interface GigabitEthernet0/{at}", f" ip address 10.200.{(r + at) % count}.{2 - at} 255.255.255.252"]
     for at, peer in enumerate(peers_of(r)):
@@ -47,7 +47,7 @@ def router(r, count):
 def slot(r, length, count):
     hops = min(r, count - r)
     metric = 20 if length else 1
-    slot = {"len": length, "ospf": {"cost": hops, "kind": "ext2", "metric": metric}, "router": f"R{r}"}
+    slot = {"len": length, "ospf": {"cost": hops, "kind": "ext2", "metric": metric}, "router": f"Ring{r}"}
     if r:
         slot["rib"] = {"distance": 110, "source": "ospf"}
     elif length:
@@ -58,7 +58,7 @@ def ring(count):
     for r in range(count):
         put(f"ring{count}-{r}.cfg", router(r, count))
     peers = [
-        {"address": peer, "asn": 64000 + at, "id": "1.1.1.1", "router": f"R{r}"}
+        {"address": peer, "asn": 64000 + at, "id": "1.1.1.1", "router": f"Ring{r}"}
         for r in range(2)
         for at, peer in enumerate(peers_of(r))
     ]
@@ -70,13 +70,13 @@ def ring(count):
         "peers": peers,
         "question": "q1",
         "tables": [slot(r, length, count) for r in range(count) for length in range(33)],
-        "walk": {"end": "discarded", "hops": [{"router": "R1"}, {"in": "GigabitEthernet0/1", "router": "R0"}]},
+        "walk": {"end": "discarded", "hops": [{"router": "Ring1"}, {"in": "GigabitEthernet0/1", "router": "Ring0"}]},
     }
     put(f"ring{count}.json", json.dumps(told, separators=(",", ":"), sort_keys=True))
 
 for count in (16, 32, 64):
     ring(count)
-put("q.txt", f"q1 noblackhole from R1 packets icmp any any {destination}/32 any failures 0")
+put("q.txt", f"q1 noblackhole from Ring1 packets icmp any any {destination}/32 any failures 0")
 END
 run() {
     files=$(cd "$dir" && ls "$1"-*.cfg | sort -V)
