@@ -1,8 +1,8 @@
 -- Addresses and prefixes that were written are read back.
-use Rattle.std.proofs.Common.{◌≡◌, ℕ, zero, suc, ◌+◌, ◌*◌, ◌/◌, ◌%◌, ◌^◌, ◌<◌, ◌≤◌, ◌==◌, ◌&&◌, ◌||◌, Bool, true, false}
+use Rattle.std.proofs.Common.{◌≡◌, ℕ, zero, suc, ◌+◌, ◌*◌, ◌/◌, ◌%◌, ◌^◌, ◌<◌, ◌≤◌, ◌==◌, ◌&&◌, Bool, true, false}
 use Rattle.std.proofs.Common.{cond, not, List, [], ◌∷◌, ◌++◌, length, take, drop, nat_eq, Option, Some, None, refl, ap}
 use Rattle.std.proofs.Common.{sym, subst, ◌∙◌, arith, length-append}
-use Rattle.std.proofs.lemmas.Bool.{and_parts, eq-eqb, eqb-true, eqb-false, lt-ltb, false≢true}
+use Rattle.std.proofs.lemmas.Bool.{and_parts, eq-eqb, eqb-true, eqb-false, lt-ltb, false≢true, not-true, or_parts}
 use Rattle.std.proofs.lemmas.List.Folds.{list_any-append}
 use Rattle.std.proofs.Math.Seq.{take-append_seam, drop-append-add}
 use Rattle.std.specs.Prelude.{codes, decimal, nat_lt, option_map}
@@ -17,22 +17,13 @@ use Rattle.mw_text.specs.Digits.{addr_of, cut_at, number_of, octet_of, prefix_of
 use Rattle.cex_json.specs.Parts.{addr_text, octet}
 use Rattle.cex_json.specs.Worlds.{prefix_text}
 
-or_none : (a b : Bool) → (a || b) ≡ false → (a ≡ false) × (b ≡ false)
-or_none false false none = (refl, refl)
-or_none false true none = absurd (false≢true (sym none))
-or_none true b none = absurd (false≢true (sym none))
-
-not_true : (b : Bool) → not b ≡ true → b ≡ false
-not_true false h = refl
-not_true true h = absurd (false≢true h)
-
 -- ---- cutting at the first byte of a kind
 
 first_place : (byte : ℕ) (front rest : List ℕ) → list_any (λ b. b == byte) front ≡ false →
     position_or_len (λ b. b == byte) (front ++ byte ∷ rest) ≡ length front
 first_place byte [] rest none = rw (eq-eqb byte byte refl) refl
 first_place byte (b ∷ front) rest none =
-    let parts = or_none (b == byte) (list_any (λ c. c == byte) front) none in
+    let parts = or_parts (b == byte) (list_any (λ c. c == byte) front) none in
     let more : 1 + length front ≡ suc (length front) = omega arith in
     rw parts.0 (ap (λ n. 1 + n) (first_place byte front rest parts.1) ∙ more)
 
@@ -95,10 +86,10 @@ pub octet_back : (n : ℕ) → n < 256 → octet_of (decimal n) ≡ Some n
 octet_back n small = same_number (octet_of (decimal n)) n (octet_facts n small).0
 
 no_dot : (n : ℕ) → n < 256 → list_any (λ b. b == 46) (decimal n) ≡ false
-no_dot n small = not_true _ (octet_facts n small).1.0
+no_dot n small = not-true _ (octet_facts n small).1.0
 
 no_slash : (n : ℕ) → n < 256 → list_any (λ b. b == 47) (decimal n) ≡ false
-no_slash n small = not_true _ (octet_facts n small).1.1
+no_slash n small = not-true _ (octet_facts n small).1.1
 
 -- ---- addresses
 
@@ -166,7 +157,7 @@ plain_octets = refl
 
 other_word : (front rest : List ℕ) → begins_plainly front ≡ true → same_text (front ++ rest) (codes "local") ≡ false
 other_word [] rest plain = absurd (false≢true plain)
-other_word (b ∷ front) rest plain = rw (not_true _ plain) refl
+other_word (b ∷ front) rest plain = rw (not-true _ plain) refl
 
 pub not_local : (a : Addr) → same_text (addr_text a) (codes "local") ≡ false
 unfolding addr_text

@@ -4,10 +4,10 @@ use Rattle.std.proofs.Common.{Some, option_map, option_and_then, Ok, refl, sym, 
 use Rattle.std.specs.Prelude.{All, position, slice_get, codes}
 use Rattle.std.specs.List.{list_all}
 use Rattle.std.specs.Option.{option_map_or}
-use Rattle.std.proofs.lemmas.Bool.{and_from, and_parts, leb-true, ltb-true, lt-ltb}
+use Rattle.std.proofs.lemmas.Bool.{and_from, and_parts, leb-true}
 use Rattle.std.proofs.lemmas.List.Elements.{All-append, All-cons}
 use Rattle.std.proofs.lemmas.List.Quantifiers.{position-Some}
-use Rattle.mw_text.specs.declared.address.Prefix.{Prefix}
+use Rattle.mw_text.proofs.Lists.{below_below}
 use Rattle.net_model.specs.declared.links.Link.{Link}
 use Rattle.mw_text.specs.Address.{same_prefix}
 use Rattle.mw_text.specs.Digits.{prefix_of_text}
@@ -24,9 +24,6 @@ use Rattle.cex_json.specs.Fields.{in_order, is_above, members_in, passing, place
 use Rattle.cex_json.specs.Reading.{asked_place, cex_in, format_in, limits, surroundings_in, walk_for}
 use Rattle.cex_json.specs.Surroundings.{announcements_in, failures_in, ids_in, link_named, link_step, packet_in}
 use Rattle.cex_json.proofs.Inversion.{bound, field, grown, kept, led, passed, same_ok, same_some}
-
-below-trans : (a b n : ℕ) → nat_lt a b ≡ true → nat_lt b n ≡ true → nat_lt a n ≡ true
-below-trans a b n first then = lt-ltb a n (omega (arith, ltb-true a b first, ltb-true b n then))
 
 last-cons : (a b : ℕ) (rest : List ℕ) →
     slice_get (a ∷ b ∷ rest) (length (a ∷ b ∷ rest) - 1) ≡ slice_get (b ∷ rest) (length (b ∷ rest) - 1)
@@ -46,7 +43,7 @@ all_below (a ∷ b ∷ rest) n up above =
     let others = all_below (b ∷ rest) n parts.1 deeper in
     let next = (and_parts (nat_lt a b) (list_all (nat_lt a) rest) parts.0).0 in
     let here = (and_parts (nat_lt b n) (list_all (λ x. nat_lt x n) rest) others).0 in
-    and_from (nat_lt a n) (list_all (λ x. nat_lt x n) (b ∷ rest)) (below-trans a b n next here) others
+    and_from (nat_lt a n) (list_all (λ x. nat_lt x n) (b ∷ rest)) (below_below a b n next here) others
 
 all_one : (p : ℕ → Bool) (xs : List ℕ) (n : ℕ) → list_all p xs ≡ true → p n ≡ true → list_all p (xs ++ n ∷ []) ≡ true
 all_one p [] n holds one = and_from (p n) true one refl

@@ -5,7 +5,7 @@ use Rattle.std.specs.Prelude.{IfOk, nat_lt, position, slice_get, slice_set, if�
 use Rattle.std.specs.List.{sum_by}
 use Rattle.std.specs.Option.{option_map_or}
 use Rattle.std.proofs.lemmas.Bool.{ltb-true}
-use Rattle.std.proofs.lemmas.List.{length-append, length-set}
+use Rattle.std.proofs.lemmas.List.{length_push, length-set}
 use Rattle.std.proofs.lemmas.List.Quantifiers.{position-Some}
 use Rattle.std.proofs.lemmas.List.Sums.{sum_by-append, sum_by-set}
 use Rattle.std.proofs.lemmas.Option.{get_or_from_slice_get, slice_get_within}
@@ -86,9 +86,6 @@ changed_length {A = A} change at items = by (slice_get items at) where
   by None = refl
   by (Some x) = length-set items at (change x)
 
-one_longer : {A : Type 0} (items : List A) (x : A) → length (items ++ x ∷ []) ≡ length items + 1
-one_longer items x = omega (arith, length-append items (x ∷ []))
-
 -- ---- the limit
 
 abbrev Few : Policies → Type 0
@@ -125,7 +122,7 @@ access_line_kept line said name policies few =
             named = false;
             entries = access_entry line.number said ∷ [];
           })
-          policies.access (λ list. one_longer list.entries (access_entry line.number said)) refl,
+          policies.access (λ list. length_push list.entries (access_entry line.number said)) refl,
     )))
     few
 
@@ -139,7 +136,7 @@ entry_line_kept line said at policies few =
       arith,
       changed_at_sum (λ list. length list.entries) 1
           (λ list. record list { entries = list.entries ++ access_entry line.number said ∷ [] }) at policies.access
-          (λ list. one_longer list.entries (access_entry line.number said)),
+          (λ list. length_push list.entries (access_entry line.number said)),
     )))
     few
 
@@ -173,7 +170,7 @@ numbered_line_kept line said name n policies few =
       changed_sum (λ list. length list.entries) 1 (λ list. same_text list.name name)
           (λ list. record list { entries = list.entries ++ prefix_entry line.number n said ∷ [] })
           (record { name = name; entries = prefix_entry line.number n said ∷ [] }) policies.prefix_lists
-          (λ list. one_longer list.entries (prefix_entry line.number n said)) refl,
+          (λ list. length_push list.entries (prefix_entry line.number n said)) refl,
     ))))
 
 prefix_line_kept : (line : Line) (said : List Said) (name : List ℕ) (policies : Policies) → Few policies
@@ -193,7 +190,7 @@ community_line_kept line said name policies =
       changed_sum (λ list. length list.entries) 1 (λ list. same_text list.name name)
           (λ list. record list { entries = list.entries ++ community_entry line.number said ∷ [] })
           (record { name = name; entries = community_entry line.number said ∷ [] }) policies.communities
-          (λ list. one_longer list.entries (community_entry line.number said)) refl,
+          (λ list. length_push list.entries (community_entry line.number said)) refl,
     ))
 
 path_line_kept : (line : Line) (said : List Said) (name : List ℕ) (policies : Policies)
@@ -206,7 +203,7 @@ path_line_kept line said name policies =
       changed_sum (λ list. length list.entries) 1 (λ list. same_text list.name name)
           (λ list. record list { entries = list.entries ++ path_entry line.number said ∷ [] })
           (record { name = name; entries = path_entry line.number said ∷ [] }) policies.as_paths
-          (λ list. one_longer list.entries (path_entry line.number said)) refl,
+          (λ list. length_push list.entries (path_entry line.number said)) refl,
     ))
 
 map_line_kept : (line : Line) (said : List Said) (name : List ℕ) (policies : Policies)
@@ -220,7 +217,7 @@ map_line_kept line said name policies =
       changed_sum (λ map. length map.entries) 1 (λ map. same_text map.name name)
           (λ map. record map { entries = map.entries ++ map_entry line.number said ∷ [] })
           (record { name = name; entries = map_entry line.number said ∷ [] }) policies.maps
-          (λ map. one_longer map.entries (map_entry line.number said)) refl,
+          (λ map. length_push map.entries (map_entry line.number said)) refl,
     )))
 
 clause_line_kept : (clause : MapClause) (at : ℕ) (policies : Policies) → Few policies

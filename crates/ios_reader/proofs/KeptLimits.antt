@@ -9,7 +9,7 @@ use Rattle.std.proofs.lemmas.List.{length-append, length-set}
 use Rattle.std.proofs.lemmas.List.Elements.{All-set}
 use Rattle.std.proofs.lemmas.List.Folds.{list_all-append}
 use Rattle.std.proofs.lemmas.List.Sums.{AllPass-from_list_all, list_all-from_AllPass}
-use Rattle.std.proofs.lemmas.Option.{get_or_from_slice_get, slice_get_within}
+use Rattle.mw_text.proofs.Lists.{all_at}
 use Rattle.std.proofs.lemmas.Result.{IfOk-at_ok, IfOk-weaker}
 use Rattle.mw_text.specs.declared.words.Line.{Line}
 use Rattle.mw_text.specs.Reading.{following}
@@ -120,12 +120,6 @@ all_set : {A : Type 0} (p : A → Bool) (xs : List A) (k : ℕ) (x : A) → list
     → list_all p (slice_set xs k x) ≡ true
 all_set p xs k x all one =
     list_all-from_AllPass p (slice_set xs k x) (All-set (λ y. p y ≡ true) xs k x one (AllPass-from_list_all p xs all))
-
-all_at : {A : Type 0} (p : A → Bool) (xs : List A) (k : ℕ) (x : A) → list_all p xs ≡ true → slice_get xs k ≡ Some x
-    → p x ≡ true
-all_at p xs k x all found =
-    subst (λ y. p y ≡ true) (get_or_from_slice_get xs k x x found)
-    (AllPass-from_list_all p xs all k x (slice_get_within xs k x found))
 
 -- ---- an interface block
 

@@ -1,9 +1,10 @@
 -- Lists by their places, for the loops of the crates above.
-use Rattle.std.proofs.Common.{◌≡◌, ℕ, zero, suc, ◌+◌, ◌<◌, ◌≤◌, Bool, true, false, eqb, List, [], ◌∷◌, ◌++◌, length}
-use Rattle.std.proofs.Common.{drop, get_or, Option, Some, None, refl, ap, sym, arith, add-one, subst, ◌∙◌}
-use Rattle.std.specs.Prelude.{slice_get}
+use Rattle.std.proofs.Common.{◌≡◌, ℕ, zero, suc, ◌+◌, ◌<◌, Bool, true, false, eqb, List, [], ◌∷◌, ◌++◌, length}
+use Rattle.std.proofs.Common.{drop, get_or, Some, refl, ap, sym, arith, add-one, subst, ◌∙◌}
+use Rattle.std.specs.Prelude.{All, filter, nat_lt, slice_get}
 use Rattle.std.specs.List.{AllByRecursion, list_all, list_any}
-use Rattle.std.proofs.lemmas.Bool.{and_parts, or_parts}
+use Rattle.std.proofs.lemmas.Bool.{and_parts, lt-ltb, ltb-true, or_parts}
+use Rattle.std.proofs.lemmas.List.Elements.{All-head, All-tail}
 use Rattle.std.proofs.Math.Seq.{drop-cons}
 
 -- the items from a place on begin with the item that was read there
@@ -53,3 +54,13 @@ pub none_equal : (x : ℕ) (xs : List ℕ) → list_any (eqb x) xs ≡ false →
 none_equal x [] none = tt
 none_equal x (y ∷ ys) none =
     let both = or_parts (eqb x y) (list_any (eqb x) ys) none in (both.0, none_equal x ys both.1)
+
+-- where no item passes, none is left
+pub filter_none : {A : Type 0} (p : A → Bool) (xs : List A) → All (λ x. p x ≡ false) xs → filter p xs ≡ []
+filter_none p [] none = refl
+filter_none p (x ∷ xs) none =
+    rw (All-head (λ y. p y ≡ false) x xs none) (filter_none p xs (All-tail (λ y. p y ≡ false) x xs none))
+
+-- a number below one that is below a third is below it
+pub below_below : (a b c : ℕ) → nat_lt a b ≡ true → nat_lt b c ≡ true → nat_lt a c ≡ true
+below_below a b c first then = lt-ltb a c (omega (arith, ltb-true a b first, ltb-true b c then))

@@ -1,7 +1,7 @@
 -- One packet from a router to a router, where no link fails: the one stable routing decides.
-use Rattle.std.proofs.Common.{◌≡◌, ℕ, zero, suc, ◌+◌, ◌<◌, ◌≤◌, Bool, true, false, not, cond, inl, inr, ◌&&◌, List, []}
+use Rattle.std.proofs.Common.{◌≡◌, ℕ, zero, suc, ◌+◌, ◌≤◌, Bool, true, false, not, cond, inl, inr, ◌&&◌, List, []}
 use Rattle.std.proofs.Common.{◌∷◌, length, Option, Some, None, refl, ap, sym, subst, arith, ◌∙◌, eqb}
-use Rattle.std.proofs.lemmas.Bool.{and_parts, false≢true, lt-ltb}
+use Rattle.std.proofs.lemmas.Bool.{and_parts, lt-ltb}
 use Rattle.std.proofs.lemmas.List.Sums.{AllPass-from_list_all}
 use Rattle.std.proofs.lemmas.Option.{get_or_from_slice_get, slice_get_within}
 use Rattle.std.proofs.lemmas.Grind.{common_steps}
@@ -18,18 +18,15 @@ use Rattle.net_model.specs.Network.{is_plain, runs_no_protocol}
 use Rattle.net_model.specs.Sessions.{is_outside}
 use Rattle.net_model.specs.World.{IsFailureSet, IsEnvironment, no_failures}
 use Rattle.net_model.specs.Stable.{Stable}
+use Rattle.question_lang.proofs.Reaching.{reach_known}
 use Rattle.question_lang.specs.declared.question.Kind.{Kind}
-use Rattle.question_lang.specs.declared.question.Kind.TheVariants.{Reach, Isolate, Waypoint, NoLoop, NoBlackHole}
-use Rattle.question_lang.specs.declared.question.Kind.TheVariants.{Within, Alike, NoStable}
-use Rattle.question_lang.specs.declared.question.Start.{Start}
-use Rattle.question_lang.specs.declared.question.Target.TheVariants.{Router, Subnet, Peer}
 use Rattle.question_lang.specs.Known.{AreKnown, IsKnown}
 use Rattle.question_lang.specs.declared.question.Question.{Question}
 use Rattle.question_lang.specs.declared.walk.Walk.{Walk}
 use Rattle.question_lang.specs.Packets.{IsInSet}
-use Rattle.question_lang.specs.Single.{AreReach, IsReach, is_reach, is_single}
-use Rattle.question_lang.specs.Breaking.{Breaks, at_router}
-use Rattle.std.specs.Prelude.{filter, is_none, nat_lt, position, slice_get}
+use Rattle.question_lang.specs.Single.{AreReach, is_reach, is_single}
+use Rattle.question_lang.specs.Breaking.{Breaks}
+use Rattle.std.specs.Prelude.{filter, nat_lt, position}
 use Rattle.std.specs.List.{list_all, prefix_len}
 use Rattle.std.proofs.lemmas.Bool.{cases_Bool}
 use Rattle.std.proofs.lemmas.Bool.Decides.{nat_tests}
@@ -176,31 +173,6 @@ true_from files number question packet tables walk kind failures environment net
       },
     )
 
--- a question whether a router is reached is about a router of the files
-reach_kind : (files : List File) (question : Question) (kind : Kind) → question.kind ≡ kind → is_reach kind ≡ true →
-    IsKnown files kind → IsReach (length files) question
-reach_kind files question (Reach start (Router target)) is reach known = by_iface start.iface refl reach where
-  by_iface : (o : Option ℕ) → start.iface ≡ o → is_none o ≡ true → IsReach (length files) question
-  by_iface None none passes =
-      let same : start ≡ at_router start.router = ap (λ o. made start.router o) none in
-      (start.router, target, is ∙ ap (λ s. reach_of s target) same, known.0.0)
-    where
-      made : ℕ → Option ℕ → Start
-      made router iface = record { router = router; iface = iface }
-
-      reach_of : Start → ℕ → Kind
-      reach_of s t = Reach s (Router t)
-  by_iface (Some at) some passes = absurd (false≢true passes)
-reach_kind files question (Reach start (Subnet p)) is reach known = absurd (false≢true reach)
-reach_kind files question (Reach start (Peer router a)) is reach known = absurd (false≢true reach)
-reach_kind files question (Isolate start target) is reach known = absurd (false≢true reach)
-reach_kind files question (Waypoint start target via) is reach known = absurd (false≢true reach)
-reach_kind files question (NoLoop start) is reach known = absurd (false≢true reach)
-reach_kind files question (NoBlackHole start) is reach known = absurd (false≢true reach)
-reach_kind files question (Within most start) is reach known = absurd (false≢true reach)
-reach_kind files question (Alike one other target) is reach known = absurd (false≢true reach)
-reach_kind files question NoStable is reach known = absurd (false≢true reach)
-
 -- questions that can be answered, all of which name what is there
 pub are_reach : (files : List File) (questions : List Question) → list_all is_answerable questions ≡ true →
     AreKnown files questions → AreReach (length files) questions
@@ -210,5 +182,5 @@ are_reach files questions can known k question there =
     let P : Question → Type 0 = λ q. IsKnown files q.kind in
     let Q : Question → Type 0 = λ q. is_answerable q ≡ true in
     let answerable = subst Q same (AllPass-from_list_all is_answerable questions can k question within) in
-    reach_kind files question question.kind refl (and_parts (is_reach question.kind) _ answerable).0
+    reach_known files question (and_parts (is_reach question.kind) _ answerable).0
     (subst P same (known k question within))

@@ -17,12 +17,11 @@ use Rattle.std.proofs.lemmas.List.Elements.{All-weaker, filter-append}
 use Rattle.std.proofs.lemmas.List.Folds.{drop_split}
 use Rattle.std.proofs.lemmas.List.Kept.{AllPairs-cons, AllPairs-filter}
 use Rattle.std.proofs.lemmas.List.Quantifiers.{position-Some}
-use Rattle.mw_text.proofs.Lists.{item_there}
+use Rattle.mw_text.proofs.Lists.{filter_none, item_there}
 use Rattle.ios_ast.specs.declared.bgp.Bgp.{Bgp}
 use Rattle.ios_ast.specs.declared.bgp.Neighbour.{Neighbour}
 use Rattle.ios_ast.specs.declared.file.File.{File}
 use Rattle.net_model.specs.declared.interfaces.Addressed.{Addressed}
-use Rattle.net_model.specs.declared.sessions.Far.{Far}
 use Rattle.net_model.specs.declared.sessions.Far.TheVariants.{Outside, Inside}
 use Rattle.net_model.specs.declared.sessions.Peering.{Peering}
 use Rattle.net_model.specs.declared.sessions.SessionEnd.{SessionEnd}
@@ -244,11 +243,6 @@ ends_up files i j d ordered within = by_order (cases_le i j ordered) where
 
 -- ---- a stretch of a list that does not fall
 
-none_of : {X : Type 0} (p : X → Bool) (xs : List X) → All (λ x. p x ≡ false) xs → filter p xs ≡ []
-none_of p [] none = refl
-none_of p (x ∷ xs) none =
-    rw (All-head (λ y. p y ≡ false) x xs none) (none_of p xs (All-tail (λ y. p y ≡ false) x xs none))
-
 all_of : {X : Type 0} (p : X → Bool) (xs : List X) → All (λ x. p x ≡ true) xs → filter p xs ≡ xs
 all_of p [] all = refl
 all_of p (x ∷ xs) all =
@@ -307,7 +301,7 @@ module _ {X : Type 0} (n : X → ℕ) (t : ℕ) (xs : List X) (from to : ℕ)
       let split : xs ≡ take from xs ++ (middle ++ drop to xs) =
       sym (take-append-drop from xs) ∙ ap (λ ys. take from xs ++ ys) (drop_split xs from to stretch_ordered) in
       sym (ap (filter is) split ∙ filter-append is (take from xs) (middle ++ drop to xs)
-      ∙ ap (λ ys. ys ++ filter is (middle ++ drop to xs)) (none_of is (take from xs) before)
+      ∙ ap (λ ys. ys ++ filter is (middle ++ drop to xs)) (filter_none is (take from xs) before)
       ∙ filter-append is middle (drop to xs)
-      ∙ ap (λ ys. filter is middle ++ ys) (none_of is (drop to xs) behind)
+      ∙ ap (λ ys. filter is middle ++ ys) (filter_none is (drop to xs) behind)
       ∙ append-nil (filter is middle) ∙ all_of is middle inside)

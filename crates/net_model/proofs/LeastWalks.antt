@@ -3,9 +3,9 @@ use Rattle.std.proofs.Common.{◌≡◌, ℕ, zero, suc, ◌+◌, ◌<◌, ◌�
 use Rattle.std.proofs.Common.{◌++◌, length, map, filter, Option, Some, None, inl, inr, refl, sym, ap, subst, arith}
 use Rattle.std.proofs.Common.{◌∙◌, min, slice_get}
 use Rattle.std.specs.Prelude.{◌⊎◌, fold, option_map, option_and_then, Contains, cond, if◌then◌else◌}
-use Rattle.std.specs.List.{cons_option, filter_map, flat_map, list_any, IsDistinct, AllByRecursion}
+use Rattle.std.specs.List.{cons_option, filter_map, flat_map, list_any, IsDistinct}
 use Rattle.std.specs.Option.{option_map_or, option_to_list}
-use Rattle.std.proofs.lemmas.Bool.{cases_lt, and_parts, and_from, eqb-true}
+use Rattle.std.proofs.lemmas.Bool.{cases_lt, and_parts, and_from, eqb-true, not-true}
 use Rattle.mw_text.proofs.Lists.{none_equal}
 use Rattle.std.proofs.lemmas.List.{length-map}
 use Rattle.std.proofs.lemmas.Option.{option_and_then_some}
@@ -434,10 +434,6 @@ stands_below files failures p router (a ∷ rest) sum q (there, further, walks, 
         (list_any (eqb q) (standings a.to.router rest) ≡ true → q < length files) → q < length files
     by_first true same h deeper = let is = eqb-true q router same in omega (arith, is, below)
     by_first false other h deeper = deeper h
-
-not-true : (b : Bool) → not b ≡ true → b ≡ false
-not-true true h = cc
-not-true false h = refl
 
 distinct_is : (xs : List ℕ) → distinct xs ≡ true → IsDistinct eqb xs
 unfolding IsDistinct

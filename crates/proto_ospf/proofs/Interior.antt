@@ -1,29 +1,28 @@
 -- The rounds have the distances of the definition, at every router.
-use Rattle.std.proofs.Common.{◌≡◌, ℕ, zero, suc, ◌+◌, ◌<◌, ◌≤◌, Bool, true, false, ◌&&◌, eqb, List, [], ◌∷◌, ◌++◌}
+use Rattle.std.proofs.Common.{◌≡◌, ℕ, zero, suc, ◌+◌, ◌<◌, ◌≤◌, Bool, false, ◌&&◌, eqb, List, [], ◌∷◌, ◌++◌}
 use Rattle.std.proofs.Common.{length, map, filter, Option, Some, None, inl, inr, refl, sym, ap, arith, ◌∙◌}
-use Rattle.std.specs.Prelude.{All, fold, option_map, option_and_then, slice_get, if◌then◌else◌}
+use Rattle.std.specs.Prelude.{All, fold, option_map, option_and_then}
 use Rattle.std.specs.List.{filter_map, flat_map, range_with_len}
 use Rattle.std.specs.Option.{option_map_or, option_to_list}
 use Rattle.std.proofs.lemmas.Bool.{cases_lt}
 use Rattle.std.proofs.lemmas.List.Elements.{All-append, All-cons, All-head, All-map, All-nil, All-tail, All-weaker}
 use Rattle.std.proofs.lemmas.List.FromFn.{get_or-map-range_with_len, length-map-range_with_len}
-use Rattle.std.proofs.lemmas.Option.{option_and_then_some, slice_get-get_or, slice_get_past}
+use Rattle.std.proofs.lemmas.Option.{slice_get-get_or, slice_get_past}
 use Rattle.std.proofs.lemmas.Simd.{map-map}
 use Rattle.mw_text.specs.declared.address.Prefix.{Prefix}
 use Rattle.ios_ast.specs.declared.file.File.{File}
 use Rattle.ios_ast.specs.declared.file.Iface.{Iface}
 use Rattle.ios_ast.specs.declared.file.IfAddr.{IfAddr}
-use Rattle.ios_ast.specs.declared.ospf.Ospf.{Ospf}
 use Rattle.route_record.specs.declared.Failures.{Failures}
 use Rattle.net_model.specs.declared.adjacencies.Adjacency.{Adjacency}
 use Rattle.net_model.specs.declared.interfaces.Addressed.{Addressed}
-use Rattle.net_model.specs.declared.ospf.OspfInterface.{OspfInterface}
 use Rattle.net_model.specs.Distances.{distance_within, interior_distance, least, own_cost}
 use Rattle.net_model.specs.Interfaces.{addressed, addressed_from, addressed_iface, addressed_routers}
 use Rattle.net_model.specs.World.{is_up}
 use Rattle.mw_text.specs.Address.{same_prefix}
-use Rattle.net_model.specs.Ospf.{adjacencies, adjacencies_of, adjacency, advertisement, are_adjacent, is_matched}
-use Rattle.net_model.specs.Ospf.{is_up_at, ospf_at, ospf_interfaces, running, up_adjacencies}
+use Rattle.mw_text.proofs.Lists.{filter_none}
+use Rattle.net_model.specs.Ospf.{adjacencies, adjacencies_of, adjacency, advertisement, are_adjacent}
+use Rattle.net_model.specs.Ospf.{is_up_at, ospf_at, ospf_interfaces, up_adjacencies}
 use Rattle.net_model.proofs.LeastWalks.{ospf_at-same}
 use Rattle.proto_ospf.specs.Rounds.{everywhere, interior_distances, lower, nearest, of_router, over, receiver, rounds}
 use Rattle.proto_ospf.proofs.Bounds.{all_filter_map}
@@ -36,12 +35,6 @@ all_flat_map P Q f [] gives all = All-nil Q
 all_flat_map P Q f (x ∷ xs) gives all =
     All-append Q (f x) (flat_map f xs) (gives x (All-head P x xs all))
     (all_flat_map P Q f xs gives (All-tail P x xs all))
-
-filter_none : {X : Type 0} (test : X → Bool) (xs : List X) → All (λ x. test x ≡ false) xs → filter test xs ≡ []
-filter_none test [] none = refl
-filter_none test (x ∷ xs) none =
-    let first : test x ≡ false = All-head (λ y. test y ≡ false) x xs none in
-    rw first (filter_none test xs (All-tail (λ y. test y ≡ false) x xs none))
 
 map_agree : {X Y : Type 0} (f g : X → Y) (xs : List X) → ((x : X) → f x ≡ g x) → map f xs ≡ map g xs
 map_agree f g [] same = refl

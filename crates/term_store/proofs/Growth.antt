@@ -1,8 +1,8 @@
 -- What stays true of a store when a node is put into it.
 use Rattle.std.proofs.Common.{◌≡◌, ℕ, ◌+◌, ◌<◌, ◌≤◌, List, [], ◌∷◌, ◌++◌, slice_get, get_or, length, Some, ◌⊎◌, inl}
-use Rattle.std.proofs.Common.{inr, ⊎_elim, sym, ap, subst, ◌∙◌, arith, length-append}
+use Rattle.std.proofs.Common.{inr, ⊎_elim, sym, ap, subst, ◌∙◌, arith}
 use Rattle.std.proofs.lemmas.Option.{slice_get_within, get_or_from_slice_get, slice_get-get_or}
-use Rattle.std.proofs.lemmas.List.{get_or_append_left}
+use Rattle.std.proofs.lemmas.List.{get_or_append_left, length_push}
 use Rattle.std.proofs.Math.Seq.{get_or-append_seam}
 use Rattle.std.proofs.lemmas.Bool.{cases_lt}
 use Rattle.term_store.specs.declared.Node.{Node}
@@ -10,28 +10,25 @@ use Rattle.term_store.specs.declared.Node.TheVariants.{Const, Var, Not, And, Or,
 use Rattle.term_store.specs.Terms.{Store, Reading, size, gate, IsBelow, IsSound, Puts}
 use Rattle.term_store.specs.Reading.{Reads, Stands, Grows, Builds}
 
-pub length-push : {X : Type 0} (xs : List X) (x : X) → length (xs ++ x ∷ []) ≡ length xs + 1
-length-push xs x = length-append xs (x ∷ [])
-
 -- an item stays where it is when another is put last
 pub slice_get_push : {X : Type 0} (xs : List X) (x y : X) (i : ℕ) → slice_get xs i ≡ Some y
     → slice_get (xs ++ x ∷ []) i ≡ Some y
 slice_get_push xs x y i h =
     let within = slice_get_within xs i y h in
-    slice_get-get_or (xs ++ x ∷ []) i y (omega (arith, length-push xs x))
+    slice_get-get_or (xs ++ x ∷ []) i y (omega (arith, length_push xs x))
     ∙ ap Some (get_or_append_left xs (x ∷ []) y i within ∙ get_or_from_slice_get xs i y y h)
 
 -- the last item
 pub slice_get_last : {X : Type 0} (xs : List X) (x : X) → slice_get (xs ++ x ∷ []) (length xs) ≡ Some x
 slice_get_last xs x =
-    slice_get-get_or (xs ++ x ∷ []) (length xs) x (omega (arith, length-push xs x))
+    slice_get-get_or (xs ++ x ∷ []) (length xs) x (omega (arith, length_push xs x))
     ∙ ap Some (get_or-append_seam xs x [] x)
 
 -- an item of the longer list was there before, or it is the last one
 pub push_cases : {X : Type 0} (xs : List X) (x y : X) (i : ℕ) → slice_get (xs ++ x ∷ []) i ≡ Some y
     → (slice_get xs i ≡ Some y) ⊎ ((i ≡ length xs) × (y ≡ x))
 push_cases xs x y i h =
-    let within : i < length xs + 1 = subst (λ n. i < n) (length-push xs x) (slice_get_within (xs ++ x ∷ []) i y h) in
+    let within : i < length xs + 1 = subst (λ n. i < n) (length_push xs x) (slice_get_within (xs ++ x ∷ []) i y h) in
     ⊎_elim
     (λ below. inl (slice_get-get_or xs i y below
     ∙ ap Some (sym (get_or_append_left xs (x ∷ []) y i below) ∙ get_or_from_slice_get (xs ++ x ∷ []) i y y h)))
@@ -62,7 +59,7 @@ IsSound-push nodes vars vars' n sound more counted fits = record {
       (λ old. IsBelow-more i vars i vars' m (omega arith) more (sound.below i m old))
       (λ last. subst (λ x. IsBelow i vars' x) (sym last.1) (subst (λ k. IsBelow k vars' n) (sym last.0) fits))
       (push_cases nodes n m i h);
-  counted = subst (λ k. vars' ≤ k) (sym (length-push nodes n)) counted;
+  counted = subst (λ k. vars' ≤ k) (sym (length_push nodes n)) counted;
 }
 
 -- a node of the store is above its operands
@@ -121,7 +118,7 @@ Reads-last w s nodes i n e at reads =
 pub Grows-push : (s t : Store) (n : Node) → t.nodes ≡ s.nodes ++ n ∷ [] → s.vars ≤ t.vars → Grows s t
 unfolding Reads Stands
 Grows-push s t n e more = record {
-  larger = omega (arith, ap length e, length-push s.nodes n);
+  larger = omega (arith, ap length e, length_push s.nodes n);
   more_vars = more;
   reads = λ w reads i m h. reads i m (ap (λ l. slice_get l i) e ∙ slice_get_push s.nodes n m i h);
   keeps = λ i m h. ap (λ l. slice_get l i) e ∙ slice_get_push s.nodes n m i h;

@@ -1,7 +1,7 @@
 -- The values of nodes under a valuation, and what readings have to do with them.
 use Rattle.std.proofs.Common.{◌≡◌, ℕ, ◌+◌, ◌<◌, Bool, false, not, List, [], ◌∷◌, ◌++◌, slice_get, get_or, length, Some}
 use Rattle.std.proofs.Common.{⊎_elim, refl, sym, ap, subst, ◌∙◌, arith, add-zero, zero-add, zero, suc}
-use Rattle.std.proofs.lemmas.List.{get_or_append_left}
+use Rattle.std.proofs.lemmas.List.{get_or_append_left, length_push}
 use Rattle.std.proofs.Math.Seq.{get_or-append_seam}
 use Rattle.std.proofs.lemmas.Bool.{cases_lt}
 use Rattle.term_store.specs.declared.Node.{Node}
@@ -9,7 +9,6 @@ use Rattle.term_store.specs.declared.Node.TheVariants.{Const, Var, Not, And, Or,
 use Rattle.term_store.specs.Terms.{Store, Reading, size, gate, IsBelow, IsSound, Agrees, reading_by, values_after}
 use Rattle.term_store.specs.Terms.{values_of, value_of, reading_of}
 use Rattle.term_store.specs.Reading.{Reads}
-use Rattle.term_store.proofs.Growth.{length-push}
 
 -- two readings that agree below a node give it the same value
 pub gate-same : (w u : Reading) (limit vars : ℕ) (n : Node) → IsBelow limit vars n
@@ -36,7 +35,7 @@ module _ (valuation : List Bool) where
   length-values_after [] values = omega arith
   length-values_after (n ∷ ns) values =
       let next = values ++ gate (reading_by valuation values) n ∷ [] in
-      omega (arith, length-values_after ns next, length-push values (gate (reading_by valuation values) n))
+      omega (arith, length-values_after ns next, length_push values (gate (reading_by valuation values) n))
 
   -- a value that is there stays when further nodes come
   pub values_after-keeps : (ns : List Node) (values : List Bool) (i : ℕ) → i < length values
@@ -44,7 +43,7 @@ module _ (valuation : List Bool) where
   values_after-keeps [] values i h = refl
   values_after-keeps (n ∷ ns) values i h =
       let b = gate (reading_by valuation values) n in
-      values_after-keeps ns (values ++ b ∷ []) i (omega (arith, length-push values b))
+      values_after-keeps ns (values ++ b ∷ []) i (omega (arith, length_push values b))
       ∙ get_or_append_left values (b ∷ []) false i h
 
   -- each further node has the value of its kind
@@ -60,7 +59,7 @@ module _ (valuation : List Bool) where
       let here : IsBelow (length values) vars n =
       subst (λ k. IsBelow k vars n) (add-zero (length values)) (below zero n refl) in
       ap (λ k. get_or all k false) (add-zero (length values))
-      ∙ values_after-keeps ns (values ++ b ∷ []) (length values) (omega (arith, length-push values b))
+      ∙ values_after-keeps ns (values ++ b ∷ []) (length values) (omega (arith, length_push values b))
       ∙ get_or-append_seam values b [] false
       ∙ gate-same (reading_by valuation values) (reading_by valuation all) (length values) vars n here (λ k g. refl)
       (λ j g. sym (values_after-keeps (n ∷ ns) values j g))
@@ -69,7 +68,7 @@ module _ (valuation : List Bool) where
       let b = gate (reading_by valuation values) n in
       let all = values_after valuation (values ++ b ∷ []) ns in
       let moved : (j : ℕ) → length values + suc j ≡ length (values ++ b ∷ []) + j =
-      λ j. omega (arith, length-push values b) in
+      λ j. omega (arith, length_push values b) in
       ap (λ k. get_or all k false) (moved i)
       ∙ values_after-gate vars ns (values ++ b ∷ []) i m h
       (λ j k g. subst (λ l. IsBelow l vars k) (moved j) (below (suc j) k g))
@@ -83,7 +82,7 @@ module _ (valuation : List Bool) where
   values_after-agrees w vars [] values agrees below reads so_far i h = so_far i (omega arith)
   values_after-agrees w vars (n ∷ ns) values agrees below reads so_far i h =
       let b = gate (reading_by valuation values) n in
-      let longer = length-push values b in
+      let longer = length_push values b in
       let moved : (j : ℕ) → length values + suc j ≡ length (values ++ b ∷ []) + j = λ j. omega (arith, longer) in
       let here : IsBelow (length values) vars n =
       subst (λ k. IsBelow k vars n) (add-zero (length values)) (below zero n refl) in

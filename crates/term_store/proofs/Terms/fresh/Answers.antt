@@ -1,7 +1,8 @@
 use Rattle.std.proofs.Common.{◌+◌, ◌≤◌, length, ap, sym, subst, ◌∙◌, arith}
 use Rattle.term_store.specs.declared.Node.TheVariants.{Var}
 use Rattle.term_store.specs.Terms.{IsSound}
-use Rattle.term_store.proofs.Growth.{Puts-next_var, IsSound-push, Grows-push, Reads-last, length-push}
+use Rattle.term_store.proofs.Growth.{Puts-next_var, IsSound-push, Grows-push, Reads-last}
+use Rattle.std.proofs.lemmas.List.{length_push}
 use Rattle.term_store.proofs.Terms.fresh.Goals as goal
 
 pub invariant_of-self-2 : goal.invariant_of-self-2
@@ -23,7 +24,7 @@ returns-clause-grows c =
 pub returns-clause-within : goal.returns-clause-within
 returns-clause-within c =
     let e = Puts-next_var _ _ _ c.self.invariant c.in_ok-put.ensures.puts in
-    omega (arith, ap length e, length-push c.self.inside.nodes.keys (Var c.self.inside.vars), c.len-number.ensures.len)
+    omega (arith, ap length e, length_push c.self.inside.nodes.keys (Var c.self.inside.vars), c.len-number.ensures.len)
 
 pub returns-clause-value : goal.returns-clause-value
 returns-clause-value c = λ w reads.
