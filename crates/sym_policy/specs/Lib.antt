@@ -3,3 +3,4 @@ pub mod Shapes
 pub mod Routes
 pub mod Order
 pub mod MapRecs
+pub mod Held

@@ -1,0 +1,136 @@
+-- What a reading makes of symbolic routes, failed links and interior distances.
+use Rattle.std.specs.Prelude.{◌≡◌, ℕ, zero, suc, ◌+◌, ◌^◌, ◌==◌, max, if◌then◌else◌, Bool, true, false, List, [], ◌∷◌}
+use Rattle.std.specs.Prelude.{Option, Some, None, length, map, option_map}
+use Rattle.mw_text.specs.declared.address.Addr.{Addr}
+use Rattle.term_store.specs.Terms.{Reading, at}
+use Rattle.term_arith.specs.Bits.{bits, number, ids_end}
+use Rattle.route_record.specs.declared.BgpRec.{BgpRec}
+use Rattle.route_record.specs.declared.Failures.{Failures}
+use Rattle.route_record.specs.declared.Learnt.{Learnt}
+use Rattle.route_record.specs.declared.Learnt.TheVariants.{Local, Peer}
+use Rattle.route_record.specs.declared.OspfKind.{OspfKind}
+use Rattle.route_record.specs.declared.OspfKind.TheVariants.{Internal, Ext1, Ext2}
+use Rattle.route_record.specs.declared.OspfRec.{OspfRec}
+use Rattle.route_record.specs.declared.tracked.Tracked.{Tracked}
+use Rattle.route_record.specs.Origins.{origin_code}
+use Rattle.route_record.specs.Shape.{has_address}
+use Rattle.ios_ast.specs.Deciding.{carries}
+use Rattle.sym_policy.specs.declared.records.SymBgp.{SymBgp}
+use Rattle.sym_policy.specs.declared.records.SymNet.{SymNet}
+use Rattle.sym_policy.specs.declared.records.SymOspf.{SymOspf}
+use Rattle.sym_policy.specs.Shapes.{PathShape, Preferences, path_shape}
+
+-- ---- OSPF routes
+
+-- the kind of a number: 0 for an internal route, 1 for one of type 1 and every other for one of type 2
+abbrev pub kind_of_number : ℕ → OspfKind
+kind_of_number n = if n == 0 then Internal else (if n == 1 then Ext1 else Ext2)
+
+-- the route, as if it were there
+abbrev pub ospf_at : Reading → SymOspf → OspfRec
+ospf_at w s = record {
+  kind = kind_of_number (number w s.kind.nodes);
+  metric = number w s.metric.nodes;
+  cost = number w s.cost.nodes;
+}
+
+-- the route, where it is there
+abbrev pub ospf_of : Reading → SymOspf → Option OspfRec
+ospf_of w s = if at w s.valid then Some (ospf_at w s) else None
+
+-- the least size of a store that has all nodes of the route
+abbrev pub ospf_end : SymOspf → ℕ
+ospf_end s =
+    max (max (s.valid.0 + 1) (ids_end s.kind.nodes)) (max (ids_end s.metric.nodes) (ids_end s.cost.nodes))
+
+-- a cost or a distance, as an internal route with metric 0
+abbrev pub internal_route : ℕ → OspfRec
+internal_route cost = record { kind = Internal; metric = 0; cost = cost }
+
+-- ---- failed links
+
+-- the positions, from a first one on, of the values that are true
+abbrev pub positions : ℕ → List Bool → List ℕ
+positions first [] = []
+positions first (b ∷ bs) = if b then first ∷ positions (suc first) bs else positions (suc first) bs
+
+-- the links that have failed
+unfoldable pub failures_of : Reading → SymNet → Failures
+failures_of w net = record { links = positions 0 (bits w net.down.list) }
+
+-- ---- BGP routes
+
+-- what is kept of a BGP route: its lists by their shape. An address that may be missing is 0 without one, and else
+-- stands above 2^32
+pub record BgpShape : Type 0 where
+  pub preferences : Preferences
+  pub path : PathShape
+  pub communities : List Bool
+  pub next_hop : ℕ
+  pub originator : ℕ
+  pub from : ℕ
+  pub cluster_len : ℕ
+  pub clusters : List Bool
+
+abbrev pub address_number : Option Addr → ℕ
+address_number None = 0
+address_number (Some a) = 2 ^ 32 + a.0
+
+abbrev pub learnt_number : Learnt → ℕ
+learnt_number Local = 0
+learnt_number (Peer a) = 2 ^ 32 + a.0
+
+-- the shape of a BGP route
+abbrev pub bgp_shape : Tracked → BgpRec → BgpShape
+bgp_shape tracked r = record {
+  preferences = record { weight = r.weight; local_pref = r.local_pref; med = r.med; origin = origin_code r.origin };
+  path = path_shape tracked.numbers r.path;
+  communities = map (carries r.communities) tracked.communities;
+  next_hop = r.next_hop.0;
+  originator = address_number r.originator;
+  from = learnt_number r.from;
+  cluster_len = length r.clusters;
+  clusters = map (has_address r.clusters) tracked.clusters;
+}
+
+-- the shape that a reading makes of a symbolic route, as if it were there
+abbrev pub bgp_at : Reading → SymBgp → BgpShape
+bgp_at w s = record {
+  preferences = record {
+    weight = number w s.weight.nodes;
+    local_pref = number w s.local_pref.nodes;
+    med = number w s.med.nodes;
+    origin = number w s.origin.nodes;
+  };
+  path = record {
+    len = number w s.len.nodes;
+    first = number w s.first.nodes;
+    last = number w s.last.nodes;
+    numbers = bits w s.numbers.nodes;
+  };
+  communities = bits w s.communities.nodes;
+  next_hop = number w s.next_hop.nodes;
+  originator = number w s.originator.nodes;
+  from = number w s.from.nodes;
+  cluster_len = number w s.cluster_len.nodes;
+  clusters = bits w s.clusters.nodes;
+}
+
+abbrev pub bgp_of : Reading → SymBgp → Option BgpShape
+bgp_of w s = if at w s.valid then Some (bgp_at w s) else None
+
+-- under the reading the symbolic route stands for that route, or for none
+abbrev pub StandsForBgp : Reading → Tracked → SymBgp → Option BgpRec → Type 0
+StandsForBgp w tracked s held = bgp_of w s ≡ option_map (bgp_shape tracked) held
+
+-- the least size of a store that has all nodes of the route
+abbrev pub bgp_end : SymBgp → ℕ
+bgp_end s =
+    max
+    (max (max (s.valid.0 + 1) (max (ids_end s.weight.nodes) (ids_end s.local_pref.nodes)))
+    (max (ids_end s.med.nodes) (ids_end s.origin.nodes)))
+    (max
+    (max (max (ids_end s.len.nodes) (ids_end s.first.nodes)) (max (ids_end s.last.nodes) (ids_end s.numbers.nodes)))
+    (max (max (ids_end s.communities.nodes) (ids_end s.next_hop.nodes))
+    (max (max (ids_end s.originator.nodes) (ids_end s.from.nodes))
+    (max (ids_end s.cluster_len.nodes) (ids_end s.clusters.nodes)))))
