@@ -56,7 +56,7 @@ positions first (b ∷ bs) = if b then first ∷ positions (suc first) bs else p
 
 -- the links that have failed
 unfoldable pub failures_of : Reading → SymNet → Failures
-failures_of w net = record { links = positions 0 (bits w net.down.list) }
+failures_of w net = record { links = positions 0 (bits w net.down) }
 
 -- ---- BGP routes
 
