@@ -528,7 +528,7 @@ fn answer_at(
     Ok(seen_at(found.as_slice(), made))
 }
 
-/// At how many of ten routes the map over terms makes what the map makes.
+/// At how many of twenty routes the map over terms makes what the map makes.
 fn routes_agree(
     alloc: Global,
     dice: &mut Dice,
@@ -542,7 +542,7 @@ fn routes_agree(
     requires clusters { length tracked.now.clusters ≡ 0 }
 {
     let mut agreed = 0u32;
-    for _ in 0..10 {
+    for _ in 0..20 {
         let rec = route(alloc, dice)?;
         let wanted = plain_answer(alloc, case, &rec, tracked)?;
         let there = dice.roll(8) > 0;
@@ -554,7 +554,7 @@ fn routes_agree(
     Ok(agreed)
 }
 
-/// At how many of ten routes a map and the map over terms agree.
+/// At how many of twenty routes a map and the map over terms agree.
 fn case_agrees(
     alloc: Global,
     dice: &mut Dice,
@@ -583,7 +583,7 @@ fn case_agrees(
     routes_agree(alloc, dice, case, &terms, &made, tracked)
 }
 
-/// At how many of ten routes a random map and the map over terms agree.
+/// At how many of twenty routes a random map and the map over terms agree.
 fn map_agrees(alloc: Global, dice: &mut Dice) -> Result<u32, AllocError> {
     let case = random_case(alloc, dice)?;
     let tracked = tracked(alloc)?;
@@ -594,12 +594,12 @@ fn map_agrees(alloc: Global, dice: &mut Dice) -> Result<u32, AllocError> {
     }
 }
 
-/// At how many of 400 routes random maps and the maps over terms agree.
+/// At how many of 14,000 routes random maps and the maps over terms agree.
 pub fn show_maps(rt: &(impl Print + AllocGlobal)) -> io::Result<()> {
     let mut dice = Dice::new(3);
     let mut agreed = 0u32;
-    for _ in 0..40 {
+    for _ in 0..700 {
         agreed = agreed.wrapping_add(map_agrees(rt.alloc(), &mut dice)?);
     }
-    println!(rt; "route maps and their terms: {agreed} of 400 agree")
+    println!(rt; "route maps and their terms: {agreed} of 14000 agree")
 }

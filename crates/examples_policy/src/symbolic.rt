@@ -164,14 +164,14 @@ fn access_agrees(alloc: Global, dice: &mut Dice) -> Result<u32, AllocError> {
     packets_agree(alloc, dice, &terms, node, &list)
 }
 
-/// At how many of 400 packets random access lists and their nodes agree.
+/// At how many of 14,000 packets random access lists and their nodes agree.
 pub fn show_access_lists(rt: &(impl Print + AllocGlobal)) -> io::Result<()> {
     let mut dice = Dice::new(1);
     let mut agreed = 0u32;
-    for _ in 0..20 {
+    for _ in 0..700 {
         agreed = agreed.wrapping_add(access_agrees(rt.alloc(), &mut dice)?);
     }
-    println!(rt; "access lists and their terms: {agreed} of 400 agree")
+    println!(rt; "access lists and their terms: {agreed} of 14000 agree")
 }
 
 fn prefix_entry(dice: &mut Dice) -> PrefixEntry {
@@ -229,12 +229,21 @@ fn prefixes_agree(alloc: Global, dice: &mut Dice, len: u8) -> Result<u32, AllocE
     addresses_agree(alloc, dice, &terms, node, &list, len)
 }
 
-/// At how many of 660 addresses random prefix lists and their nodes agree.
+/// At how many of 660 addresses a random prefix list for each length and its node agree.
+fn lengths_agree(alloc: Global, dice: &mut Dice) -> Result<u32, AllocError> {
+    let mut agreed = 0u32;
+    for len in 0..33u8 {
+        agreed = agreed.wrapping_add(prefixes_agree(alloc, dice, len)?);
+    }
+    Ok(agreed)
+}
+
+/// At how many of 13,860 addresses random prefix lists and their nodes agree.
 pub fn show_prefix_lists(rt: &(impl Print + AllocGlobal)) -> io::Result<()> {
     let mut dice = Dice::new(2);
     let mut agreed = 0u32;
-    for len in 0..33u8 {
-        agreed = agreed.wrapping_add(prefixes_agree(rt.alloc(), &mut dice, len)?);
+    for _ in 0..21 {
+        agreed = agreed.wrapping_add(lengths_agree(rt.alloc(), &mut dice)?);
     }
-    println!(rt; "prefix lists and their terms: {agreed} of 660 agree")
+    println!(rt; "prefix lists and their terms: {agreed} of 13860 agree")
 }
