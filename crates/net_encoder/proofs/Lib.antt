@@ -1,0 +1,2 @@
+mod Supports
+mod Bounded

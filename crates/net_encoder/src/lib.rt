@@ -1,0 +1,4 @@
+//! Questions about a network as formulas over Boolean variables.
+#![tactic(auto)]
+
+pub mod laws;
