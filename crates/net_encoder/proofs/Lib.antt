@@ -1,2 +1,7 @@
 mod Supports
 mod Bounded
+pub mod Reading
+pub mod PacketParts
+pub mod FailureParts
+pub mod PacketSound
+pub mod UnknownParts

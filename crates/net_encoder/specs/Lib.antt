@@ -1,1 +1,5 @@
 pub mod Supported
+pub mod Rows
+pub mod Packets
+pub mod Failures
+pub mod Unknowns
