@@ -5,3 +5,5 @@ pub mod PacketParts
 pub mod FailureParts
 pub mod PacketSound
 pub mod UnknownParts
+pub mod Stability
+pub mod Completeness

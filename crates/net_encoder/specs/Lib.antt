@@ -3,3 +3,4 @@ pub mod Rows
 pub mod Packets
 pub mod Failures
 pub mod Unknowns
+pub mod Slots
