@@ -7,3 +7,4 @@ pub mod PacketSound
 pub mod UnknownParts
 pub mod Stability
 pub mod Completeness
+pub mod Rooms

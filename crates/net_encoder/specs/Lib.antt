@@ -4,3 +4,4 @@ pub mod Packets
 pub mod Failures
 pub mod Unknowns
 pub mod Slots
+pub mod Rooms
