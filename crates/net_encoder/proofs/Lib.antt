@@ -8,3 +8,4 @@ pub mod UnknownParts
 pub mod Stability
 pub mod Completeness
 pub mod Rooms
+pub mod Worlds

@@ -3,7 +3,7 @@ use Rattle.std.proofs.Common.{◌≡◌, ◌≢◌, ℕ, zero, suc, ◌+◌, ◌
 use Rattle.std.proofs.Common.{◌&&◌, ◌||◌, Option, Some, None, refl, sym, ap, subst, arith, ◌∙◌, nat_le, nat_eq, cond}
 use Rattle.std.specs.Prelude.{◌==◌, IfSome, IsTrue, if◌then◌else◌}
 use Rattle.std.specs.Option.{option_map_or}
-use Rattle.std.proofs.lemmas.Bool.{and_from, and_parts, eqb-true, eq-eqb, leb-true, false≢true, true≢false}
+use Rattle.std.proofs.lemmas.Bool.{and_from, and_parts, eqb-true, eq-eqb, le-leb, leb-true, false≢true, true≢false}
 use Rattle.std.proofs.Math.Nat.{add-mul-div_left, div-eq_of_lt, div-lt_iff_lt-mul, mul-le-mul_left, mul-suc, mul_comm, zero-add}
 use Rattle.std.proofs.lemmas.Nat.{pow-add, pow_pos}
 use Rattle.std.proofs.lemmas.Option.{same_Some}
@@ -97,3 +97,22 @@ packet_sound set v from fits holds =
       dport = (leb-true _ _ dports.0, leb-true _ _ dports.1);
       portless = no_ports _ _ _ second.1;
     }
+
+-- a packet of the set passes the test
+pub packet_complete : (set : PacketSet) (packet : Packet) → IsInSet set packet → is_in_set set packet ≡ true
+unfolding is_in_set
+packet_complete set packet inside =
+    and_from _ _ (and_from _ _ (le-leb _ _ inside.sport.0) (le-leb _ _ inside.sport.1))
+    (and_from _ _ (and_from _ _ (le-leb _ _ inside.dport.0) (le-leb _ _ inside.dport.1)) portless)
+  where
+    by : (a b : Bool) → (packet.proto == 6) ≡ a → (packet.proto == 17) ≡ b →
+        (not (not (a || b)) || (packet.sport == 0 && packet.dport == 0)) ≡ true
+    by true b six seventeen = refl
+    by false true six seventeen = refl
+    by false false six seventeen =
+        let ports = inside.portless (λ is. absurd (false≢true (sym six ∙ eq-eqb packet.proto 6 is)))
+            (λ is. absurd (false≢true (sym seventeen ∙ eq-eqb packet.proto 17 is))) in
+        and_from (packet.sport == 0) (packet.dport == 0) (eq-eqb packet.sport 0 ports.0) (eq-eqb packet.dport 0 ports.1)
+
+    portless : (not (is_portless packet.proto) || (packet.sport == 0 && packet.dport == 0)) ≡ true
+    portless = by (packet.proto == 6) (packet.proto == 17) refl refl

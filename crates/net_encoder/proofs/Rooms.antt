@@ -234,7 +234,7 @@ module _ (files : List File) (destinations : Prefix) (d : Addr) (failures : Fail
         ∙ option_and_then_some _ file.ospf h (sym equation ∙ holds) (λ process runs is. ap is_some runs)
 
   -- some interface advertises the prefix, or routes are taken from tables
-  room_there : (router len : ℕ) (slot : Slot) (h : OspfRec) → len < LENGTHS → slot_at tables router len ≡ Some slot →
+  pub room_there : (router len : ℕ) (slot : Slot) (h : OspfRec) → len < LENGTHS → slot_at tables router len ≡ Some slot →
       slot.ospf ≡ Some h → has_room files destinations router len ≡ true
   room_there router len slot h short here holds =
       and_from _ _ (runs_there router len slot h short here holds) (by (some_take files) refl)
@@ -252,7 +252,7 @@ module _ (files : List File) (destinations : Prefix) (d : Addr) (failures : Fail
           rw advertised refl
 
   -- the route is as wide as is allowed
-  width_there : (router len : ℕ) (slot : Slot) (h : OspfRec) → len < LENGTHS → slot_at tables router len ≡ Some slot →
+  pub width_there : (router len : ℕ) (slot : Slot) (h : OspfRec) → len < LENGTHS → slot_at tables router len ≡ Some slot →
       slot.ospf ≡ Some h → FitsWidths (widths_of files) h
   unfolding widths_of
   width_there router len slot h short here holds = by (some_take files) refl where

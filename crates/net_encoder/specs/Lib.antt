@@ -5,3 +5,5 @@ pub mod Failures
 pub mod Unknowns
 pub mod Slots
 pub mod Rooms
+pub mod Breaking
+pub mod Worlds
