@@ -9,3 +9,4 @@ pub mod Stability
 pub mod Completeness
 pub mod Rooms
 pub mod Worlds
+pub mod WorldBits

@@ -172,7 +172,7 @@ own_none files failures d router len slot none = by (slice_get files router) whe
   by None = refl
   by (Some file) = ap (λ held. option_map_or (is_own files failures router file (prefix_at d len) slot) held false) none
 
-fits_room : (files : List File) (failures : Failures) (d : Addr) (router len : ℕ) (slot : Slot) (widths : Widths)
+pub fits_room : (files : List File) (failures : Failures) (d : Addr) (router len : ℕ) (slot : Slot) (widths : Widths)
     (room : Bool) → ((h : OspfRec) → slot.ospf ≡ Some h → FitsWidths widths h) →
     ((h : OspfRec) → slot.ospf ≡ Some h → room ≡ true) →
     FitsRoom widths room (unknown_of files failures d router len slot)
@@ -188,7 +188,7 @@ fits_room files failures d router len slot widths room wide there = by slot.ospf
   by (Some h) is false same = absurd (false≢true (sym same ∙ there h is))
 
 -- what is open of the slots from a place on fits the rooms
-fit_rooms : (files : List File) (destinations : Prefix) (failures : Failures) (d : Addr) (widths : Widths)
+pub fit_rooms : (files : List File) (destinations : Prefix) (failures : Failures) (d : Addr) (widths : Widths)
     (at : ℕ) (slots : List Slot) →
     ((k : ℕ) (slot : Slot) → slice_get slots k ≡ Some slot →
     FitsRoom widths (has_room files destinations ((at + k) / LENGTHS) ((at + k) % LENGTHS))
