@@ -1,1 +1,2 @@
 pub mod FailedLinks
+pub mod RouteKinds

@@ -5,5 +5,7 @@
 #![tactic(auto)]
 
 mod links;
+mod routes;
 
 pub use links::{sym_up, sym_up_at};
+pub use routes::{sym_best, sym_transfer};
