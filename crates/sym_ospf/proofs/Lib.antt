@@ -1,2 +1,3 @@
 pub mod FailedLinks
 pub mod RouteKinds
+pub mod LeastOffers

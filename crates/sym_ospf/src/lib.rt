@@ -4,7 +4,9 @@
 //! reading its result is what the definitions of `net_model` say of the values read.
 #![tactic(auto)]
 
+mod distances;
 mod links;
+mod parts;
 mod routes;
 
 pub use links::{sym_up, sym_up_at};
