@@ -5,9 +5,11 @@
 #![tactic(auto)]
 
 mod distances;
+mod equations;
 mod links;
 mod parts;
 mod routes;
 
+pub use equations::sym_igp;
 pub use links::{sym_up, sym_up_at};
 pub use routes::{sym_best, sym_transfer};
