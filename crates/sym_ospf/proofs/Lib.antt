@@ -4,3 +4,4 @@ pub mod LeastOffers
 pub mod EquationTests
 pub mod FileRouters
 pub mod Solutions
+pub mod Reach

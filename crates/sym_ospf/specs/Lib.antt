@@ -1,2 +1,3 @@
 pub mod Routes
 pub mod Rows
+pub mod Reached

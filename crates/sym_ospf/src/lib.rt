@@ -8,8 +8,10 @@ mod distances;
 mod equations;
 mod links;
 mod parts;
+mod resolution;
 mod routes;
 
 pub use equations::sym_igp;
 pub use links::{sym_up, sym_up_at};
+pub use resolution::sym_resolve;
 pub use routes::{sym_best, sym_transfer};
