@@ -10,8 +10,10 @@ mod links;
 mod parts;
 mod resolution;
 mod routes;
+mod sessions;
 
 pub use equations::sym_igp;
 pub use links::{sym_up, sym_up_at};
 pub use resolution::sym_resolve;
 pub use routes::{sym_best, sym_transfer};
+pub use sessions::sym_session_up;
