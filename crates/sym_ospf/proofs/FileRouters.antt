@@ -1,6 +1,6 @@
 -- The routers of interfaces that run OSPF and of adjacencies are routers of the files.
-use Rattle.std.proofs.Common.{◌≡◌, ℕ, ◌<◌, List, [], ◌∷◌, ◌++◌, length, map, filter, Option, Some, None, refl, ap, sym}
-use Rattle.std.proofs.Common.{subst, arith, inl, inr}
+use Rattle.std.proofs.Common.{◌≡◌, ℕ, ◌<◌, List, [], ◌∷◌, length, map, filter, Option, Some, None, refl, sym}
+use Rattle.std.proofs.Common.{subst, inl, inr}
 use Rattle.std.specs.Prelude.{◌==◌, ◌&&◌, option_and_then, slice_get}
 use Rattle.std.specs.List.{flat_map}
 use Rattle.std.proofs.lemmas.Bool.{and_parts, eqb-true}
@@ -14,8 +14,8 @@ use Rattle.net_model.specs.declared.interfaces.Addressed.{Addressed}
 use Rattle.net_model.specs.declared.ospf.OspfInterface.{OspfInterface}
 use Rattle.net_model.specs.Distances.{own_cost}
 use Rattle.net_model.specs.Interfaces.{addressed}
-use Rattle.net_model.specs.Ospf.{adjacencies, adjacency, advertisement, are_adjacent, is_up_at, origin_interfaces, ospf_at}
-use Rattle.net_model.specs.Ospf.{ospf_interfaces, running_in, up_adjacencies}
+use Rattle.net_model.specs.Ospf.{adjacencies, adjacency, advertisement, are_adjacent, is_up_at, origin_interfaces}
+use Rattle.net_model.specs.Ospf.{ospf_at, ospf_interfaces, running_in, up_adjacencies}
 use Rattle.net_model.specs.World.{is_up}
 use Rattle.net_model.proofs.LeastWalks.{In, in-cases, in-filter, in-filter_map, least-is, ospf_at-same}
 
@@ -33,7 +33,8 @@ flat_member f (x ∷ xs) y here = elim (in-cases y (f x) (flat_map f xs) here) [
 ]
 
 -- an interface that runs OSPF is one of a router of the files
-interface_within : (files : List File) (o : OspfInterface) → In o (ospf_interfaces files) → o.at.id.router < length files
+interface_within : (files : List File) (o : OspfInterface) → In o (ospf_interfaces files)
+    → o.at.id.router < length files
 unfolding ospf_interfaces
 interface_within files o here =
     let source = in-filter_map (ospf_at files) (addressed files) o here in
@@ -75,7 +76,8 @@ pub own_within : (files : List File) (failures : Failures) (p : Prefix) (router 
     → own_cost files failures p router ≡ Some m → router < length files
 unfolding own_cost
 own_within files failures p router m is =
-    let one = map_member (λ (x : OspfInterface). x.cost) (origin_interfaces files failures router p) m (least-is _ m is) in
+    let one = map_member (λ (x : OspfInterface). x.cost) (origin_interfaces files failures router p) m
+    (least-is _ m is) in
     let kept = in-filter (λ (x : OspfInterface). (x.at.id.router == router)
     && (same_prefix (advertisement x) p && is_up files failures x.at)) (ospf_interfaces files) one.0 one.1 in
     let below = interface_within files one.0 kept.0 in

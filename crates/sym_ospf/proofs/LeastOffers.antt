@@ -1,9 +1,9 @@
 -- The least of what interfaces and adjacencies offer, one after another.
-use Rattle.std.proofs.Common.{Fits, w64, ◌^◌}
-use Rattle.std.proofs.Common.{◌≡◌, ℕ, zero, suc, ◌+◌, ◌*◌, ◌<◌, ◌≤◌, Bool, true, false, not, List, [], ◌∷◌, ◌++◌, length, take}
-use Rattle.std.proofs.Common.{get_or, map, filter, Option, Some, None, refl, ap, sym, ◌∙◌, arith, inl, inr, if◌then◌else◌, min}
-use Rattle.std.specs.Prelude.{◌==◌, ◌&&◌, ◌||◌, ◌⊎◌, cond, fold, nat_lt, option_map, slice_get}
-use Rattle.std.specs.List.{cons_option, filter_map}
+use Rattle.std.proofs.Common.{◌≡◌, ℕ, ◌+◌, ◌*◌, ◌<◌, ◌≤◌, Bool, true, false, not, List, [], ◌∷◌, ◌++◌, length, take}
+use Rattle.std.proofs.Common.{get_or, map, filter, Option, Some, None, refl, ap, sym, ◌∙◌, arith, inl, inr}
+use Rattle.std.proofs.Common.{if◌then◌else◌, min, Fits, w64, ◌^◌}
+use Rattle.std.specs.Prelude.{◌==◌, ◌&&◌, ◌||◌, ◌⊎◌, cond, fold, nat_lt, slice_get}
+use Rattle.std.specs.List.{filter_map}
 use Rattle.std.specs.Option.{option_map_or, option_to_list}
 use Rattle.std.proofs.lemmas.Bool.Decides.{nat_tests}
 use Rattle.std.proofs.lemmas.Grind.{common_steps}
@@ -18,7 +18,7 @@ use Rattle.route_record.specs.declared.Failures.{Failures}
 use Rattle.net_model.specs.declared.adjacencies.Adjacency.{Adjacency}
 use Rattle.net_model.specs.declared.ospf.OspfInterface.{OspfInterface}
 use Rattle.net_model.specs.Distances.{beyond, least, nearest, own_cost}
-use Rattle.net_model.specs.Ospf.{adjacencies, advertisement, is_up_at, origin_interfaces, ospf_interfaces, up_adjacencies}
+use Rattle.net_model.specs.Ospf.{adjacencies, advertisement, is_up_at, ospf_interfaces, up_adjacencies}
 use Rattle.net_model.specs.World.{is_up}
 use Rattle.sym_ospf.specs.Rows.{far_offer, nearer, own_offer}
 use Rattle.sym_ospf.proofs.RouteKinds.{routes_end_at}

@@ -1,37 +1,33 @@
 -- What a router reaches, and how far it is.
-use Rattle.std.proofs.Common.{◌≡◌, ℕ, zero, suc, ◌+◌, ◌-◌, ◌*◌, ◌<◌, ◌≤◌, Bool, true, false, List, [], ◌∷◌, length, take, drop}
-use Rattle.std.proofs.Common.{get_or, map, filter, Option, Some, None, refl, ap, sym, subst, ◌∙◌, arith, inl, inr}
+use Rattle.std.proofs.Common.{◌≡◌, ℕ, ◌+◌, ◌-◌, ◌*◌, ◌<◌, ◌≤◌, Bool, true, false, List, [], ◌∷◌, length, drop}
+use Rattle.std.proofs.Common.{get_or, filter, Option, Some, None, refl, ap, sym, ◌∙◌, arith}
 use Rattle.std.proofs.Common.{if◌then◌else◌, is_some}
-use Rattle.std.specs.Prelude.{◌==◌, ◌&&◌, ◌||◌, ◌⊎◌, cond, option_map, option_and_then, slice_get}
-use Rattle.std.specs.List.{filter_map, find, list_any}
-use Rattle.std.specs.Option.{option_copied, option_map_or}
-use Rattle.std.proofs.lemmas.Bool.{and_parts, eqb-true}
-use Rattle.std.proofs.lemmas.Bool.Decides.{nat_tests}
+use Rattle.std.specs.Prelude.{◌==◌, ◌&&◌, ◌||◌, cond, option_map, option_and_then, slice_get}
+use Rattle.std.specs.List.{find, list_any}
 use Rattle.std.proofs.lemmas.Grind.{common_steps}
 use Rattle.std.proofs.lemmas.List.{drop_more, drop_all}
 use Rattle.std.proofs.lemmas.List.Folds.{list_any_more}
 use Rattle.std.proofs.lemmas.Option.{option_and_then_some, slice_get-get_or, slice_get_within}
 use Rattle.mw_text.specs.declared.address.Addr.{Addr}
 use Rattle.mw_text.specs.declared.address.Prefix.{Prefix}
-use Rattle.mw_text.specs.Address.{covers, same_prefix}
+use Rattle.mw_text.specs.Address.{covers}
 use Rattle.ios_ast.specs.declared.file.File.{File}
 use Rattle.route_record.specs.declared.Failures.{Failures}
 use Rattle.route_record.specs.declared.OspfRec.{OspfRec}
 use Rattle.net_model.specs.declared.adjacencies.Adjacency.{Adjacency}
 use Rattle.net_model.specs.declared.interfaces.Addressed.{Addressed}
-use Rattle.net_model.specs.declared.ospf.OspfInterface.{OspfInterface}
-use Rattle.net_model.specs.Distances.{IsInteriorDistance, IsWalkSum, interior_distance, least, own_cost}
+use Rattle.net_model.specs.Distances.{IsInteriorDistance, IsWalkSum, interior_distance}
 use Rattle.net_model.specs.Interfaces.{addressed}
-use Rattle.net_model.specs.Ospf.{advertised, advertisement, origin_interfaces, ospf_at, ospf_interfaces, running_in, up_adjacencies}
+use Rattle.net_model.specs.Ospf.{advertised, up_adjacencies}
 use Rattle.net_model.specs.Routing.{is_reached, up_interfaces}
 use Rattle.net_model.specs.World.{is_up}
-use Rattle.net_model.proofs.LeastWalks.{In, contains-in, in-filter, in-filter_map, is_interior, least-is, ospf_at-same}
+use Rattle.net_model.proofs.LeastWalks.{contains-in, is_interior}
 use Rattle.term_store.specs.Terms.{Reading}
 use Rattle.sym_policy.specs.declared.records.SymNet.{SymNet}
 use Rattle.sym_policy.specs.declared.records.SymOspf.{SymOspf}
 use Rattle.sym_policy.specs.Held.{failures_of, internal_route, ospf_of}
 use Rattle.sym_ospf.specs.Reached.{found, is_reached_by}
-use Rattle.sym_ospf.specs.Rows.{HasDistances, igp_at}
+use Rattle.sym_ospf.specs.Rows.{HasDistances}
 use Rattle.sym_ospf.proofs.FileRouters.{own_within, up_within}
 
 -- ---- over a subnet
@@ -64,21 +60,15 @@ pub row_is : (w : Reading) (files : List File) (net : SymNet) (router k : ℕ) (
 row_is w files net router k p o has within there is =
     ap (option_and_then (ospf_of w)) is ∙ has.are router k p within there
 
-pub ruleset distance_steps = (row_is)
-
 -- the next prefix contains the address, or one behind it does
-pub found_at : (files : List File) (failures : Failures) (router : ℕ) (a : Addr) (ps : List Prefix) (i : ℕ) (d : Prefix)
-    → i < length ps
-    → (covers (get_or ps i d) a ≡ covers (get_or ps i d) a)
-    × (found files failures router a (drop i ps)
-    ≡ (if covers (get_or ps i d) a then option_map internal_route (interior_distance files failures router (get_or ps i d))
-    else found files failures router a (drop (i + 1) ps)))
+found_at : (files : List File) (failures : Failures) (router : ℕ) (a : Addr) (ps : List Prefix) (i : ℕ) (d : Prefix)
+    → i < length ps → found files failures router a (drop i ps) ≡ (if covers (get_or ps i d) a
+    then option_map internal_route (interior_distance files failures router (get_or ps i d))
+    else found files failures router a (drop (i + 1) ps))
 unfolding found
-found_at files failures router a ps i d within = (
-  refl,
-  ap (λ qs. option_map internal_route (option_and_then (interior_distance files failures router)
-      (find (λ p. covers p a) qs))) (drop_more ps i d within) ∙ by_test (covers (get_or ps i d) a),
-)
+found_at files failures router a ps i d within =
+    ap (λ qs. option_map internal_route (option_and_then (interior_distance files failures router)
+    (find (λ p. covers p a) qs))) (drop_more ps i d within) ∙ by_test (covers (get_or ps i d) a)
   where
     behind : Option Prefix
     behind = find (λ p. covers p a) (drop (i + 1) ps)
@@ -90,7 +80,7 @@ found_at files failures router a ps i d within = (
     by_test true = refl
     by_test false = refl
 
--- the same at a prefix that is known to stand there
+-- the same, counted down, where the list is known to be another
 pub found_step : (files : List File) (failures : Failures) (router : ℕ) (a : Addr) (ps qs : List Prefix) (i : ℕ)
     (d : Prefix) → 0 < i → i ≤ length ps → qs ≡ ps
     → (if covers (get_or qs (i - 1) d) a
@@ -104,7 +94,7 @@ found_step files failures router a ps qs i d some within same =
     ∙ ap (λ j. if covers (get_or ps (i - 1) d) a
     then option_map internal_route (interior_distance files failures router (get_or ps (i - 1) d))
     else found files failures router a (drop j ps)) (sym next)
-    ∙ sym (found_at files failures router a ps (i - 1) d (omega (arith, some, within))).1
+    ∙ sym (found_at files failures router a ps (i - 1) d (omega (arith, some, within)))
 
 pub found_end : (files : List File) (failures : Failures) (router : ℕ) (a : Addr) (ps : List Prefix) (i : ℕ)
     → length ps ≤ i → found files failures router a (drop i ps) ≡ None
@@ -113,7 +103,7 @@ found_end files failures router a ps i past =
     ap (λ qs. option_map internal_route (option_and_then (interior_distance files failures router)
     (find (λ p. covers p a) qs))) (drop_all i ps past)
 
-pub ruleset found_steps = (found_at, found_end, slice_get-get_or)
+pub ruleset found_steps = (found_end, slice_get-get_or)
 
 -- ---- a router past the files has no distance
 
@@ -143,8 +133,6 @@ found_past files failures router a ps past = by_prefix (find (λ p. covers p a) 
   by_prefix None = refl
   by_prefix (Some p) = ap (option_map internal_route) (none_past files failures router p past)
 
-pub ruleset far_steps = (found_past)
-
 -- ---- the whole
 
 -- over a subnet it costs nothing
@@ -155,8 +143,6 @@ pub resolved_is : (b : Bool) (files : List File) (failures : Failures) (router :
 unfolding found
 resolved_is true files failures router a = refl
 resolved_is false files failures router a = refl
-
-pub ruleset resolved_steps = (resolved_is)
 
 -- a route is there where there is a distance
 pub resolves_is : (b : Bool) (r : OspfRec) (o : Option ℕ)

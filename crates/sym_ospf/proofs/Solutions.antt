@@ -1,5 +1,5 @@
 -- The rows meet the equations exactly where they are the interior distances.
-use Rattle.std.proofs.Common.{◌≡◌, ℕ, zero, suc, ◌+◌, ◌*◌, ◌<◌, ◌≤◌, Bool, true, false, List, [], ◌∷◌, ◌++◌, length}
+use Rattle.std.proofs.Common.{◌≡◌, ℕ, ◌+◌, ◌<◌, ◌≤◌, Bool, true, false, List, [], ◌∷◌, ◌++◌, length}
 use Rattle.std.proofs.Common.{Option, Some, None, refl, ap, sym, subst, ◌∙◌, arith, inl, inr, if◌then◌else◌}
 use Rattle.std.specs.Prelude.{◌==◌, ◌&&◌, ◌⊎◌, All, nat_lt, option_map, slice_get}
 use Rattle.std.specs.List.{cons_option, filter_map}
@@ -24,7 +24,8 @@ use Rattle.net_model.proofs.LeastWalks.{in-option, in-right, is_interior, least-
 use Rattle.term_store.specs.Terms.{Reading}
 use Rattle.sym_policy.specs.declared.records.SymNet.{SymNet}
 use Rattle.sym_policy.specs.Held.{failures_of, internal_route}
-use Rattle.sym_ospf.specs.Rows.{HasDistances, all_below, costs_at, equation, igp_at, is_distance, is_internal, row_holds, rows_hold}
+use Rattle.sym_ospf.specs.Rows.{HasDistances, costs_at, equation, igp_at, is_distance, is_internal, row_holds}
+use Rattle.sym_ospf.specs.Rows.{rows_hold}
 use Rattle.sym_ospf.proofs.EquationTests.{all_at, all_from}
 use Rattle.sym_ospf.proofs.FileRouters.{up_within}
 
@@ -101,7 +102,8 @@ module _ (files : List File) (failures : Failures) (p : Prefix) where
     by_distance (Some m) is some = (m, is, some.2 walk sum walks)
 
   -- a distance is the sum of some walk
-  inner_walk : (router m : ℕ) → inner router ≡ Some m → (walk : List Adjacency) × IsWalkSum files failures p router walk m
+  inner_walk : (router m : ℕ) → inner router ≡ Some m
+      → (walk : List Adjacency) × IsWalkSum files failures p router walk m
   inner_walk router m is = by_distance (inner router) is (is_interior files failures p router) where
     by_distance : (o : Option ℕ) → o ≡ Some m → IsInteriorDistance files failures p router o
         → (walk : List Adjacency) × IsWalkSum files failures p router walk m

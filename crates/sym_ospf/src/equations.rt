@@ -151,9 +151,9 @@ fn sym_rows(alloc: Global, terms: &mut Terms, net: &Net, sym: &SymNet) -> Result
     Ok(all)
 }
 
-/// True exactly where the rows of `sym` are the interior distances while its links have failed (RFC 2328, section 16.1):
-/// for each router and each advertised prefix, at `router * advertised().len() + place`, an internal route with metric 0
-/// that costs the distance, and none where there is no distance.
+/// True exactly where the rows of `sym` are the interior distances while its links have failed (RFC 2328, section
+/// 16.1): for each router and each advertised prefix, at `router * advertised().len() + place`, an internal route with
+/// metric 0 that costs the distance, and none where there is no distance.
 #[tactic(auto, using(crate::proofs::Solutions::rows_are))]
 pub fn sym_igp(
     alloc: Global,

@@ -102,7 +102,7 @@ fn sym_reached(
 }
 
 /// The distance to the advertised prefix at a place where it contains the address, else what is behind it.
-#[tactic(auto, using(crate::proofs::Reach::distance_steps))]
+#[tactic(auto, using(crate::proofs::Reach::row_is))]
 fn sym_found_at(
     alloc: Global,
     terms: &mut Terms,
@@ -168,7 +168,7 @@ fn sym_found(
 }
 
 /// The distance to the advertised prefix that contains the address, also of a router that is none of the files.
-#[tactic(auto, using(crate::proofs::Reach::far_steps))]
+#[tactic(auto, using(crate::proofs::Reach::found_past))]
 fn sym_far(
     alloc: Global,
     terms: &mut Terms,
@@ -196,7 +196,7 @@ fn sym_far(
 /// How far the address is from the router, as an internal route with metric 0: cost 0 where an interface of the router
 /// that is up has it on its subnet, else the interior distance to the advertised prefix that contains it, and else none
 /// (RFC 4271, section 5.1.3). This holds under each reading in which the rows of `sym` are the interior distances.
-#[tactic(auto, unfolding(net_model::specs::Resolution::resolved), using(crate::proofs::Reach::resolved_steps))]
+#[tactic(auto, unfolding(net_model::specs::Resolution::resolved), using(crate::proofs::Reach::resolved_is))]
 pub fn sym_resolve(
     alloc: Global,
     terms: &mut Terms,

@@ -225,9 +225,9 @@ fn sym_extended(
     })
 }
 
-/// The route as it is received over an adjacency (RFC 2328, section 16.1). Where `up` is true it costs more by the output
-/// cost of the receiving interface, and there is none where that cost would have more than 32 bits; where `up` is false
-/// there is none.
+/// The route as it is received over an adjacency (RFC 2328, section 16.1). Where `up` is true it costs more by the
+/// output cost of the receiving interface, and there is none where that cost would have more than 32 bits. Where `up` is
+/// false there is none.
 pub fn sym_transfer(
     alloc: Global,
     terms: &mut Terms,

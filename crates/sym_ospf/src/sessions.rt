@@ -120,10 +120,10 @@ fn sym_end_up(
     }
 }
 
-/// Whether the session of the end at a place of `Net::ends` is up (RFC 4271, section 8.2): with an external peer where the
-/// router's own interface is up; with a router of the files where both interfaces are, and, unless the neighbour's address
-/// is on a shared subnet, both resolve each other. False where there is no such end. This holds under each reading in
-/// which the rows of `sym` are the interior distances.
+/// Whether the session of the end at a place of `Net::ends` is up (RFC 4271, section 8.2): with an external peer where
+/// the router's own interface is up; with a router of the files where both interfaces are, and, unless the neighbour's
+/// address is on a shared subnet, both resolve each other. False where there is no such end. This holds under each
+/// reading in which the rows of `sym` are the interior distances.
 pub fn sym_session_up(
     alloc: Global,
     terms: &mut Terms,

@@ -1,6 +1,6 @@
-use Rattle.std.proofs.Common.{◌≡◌, ◌+◌, ◌*◌, length, arith, ap}
+use Rattle.std.proofs.Common.{◌+◌, ◌*◌, length, arith, ap}
 use Rattle.net_model.specs.Ospf.{advertised}
-use Rattle.sym_ospf.proofs.LeastOffers.{fits_product, fits_sum, past_none, place_past, place_within}
+use Rattle.sym_ospf.proofs.LeastOffers.{fits_product, fits_sum, past_none, place_past}
 use Rattle.sym_ospf.proofs.distances.igp_of.Goals as goal
 
 pub overflow_mul-at : goal.overflow_mul-at

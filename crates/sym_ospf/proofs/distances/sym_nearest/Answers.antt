@@ -1,5 +1,6 @@
-use Rattle.std.proofs.Common.{◌≡◌, ◌<◌, ◌∙◌, sym, arith, rules, ap, length, get_or, List}
+use Rattle.std.proofs.Common.{◌<◌, ◌∙◌, sym, arith, rules, ap, length, get_or, List}
 use Rattle.net_model.specs.declared.adjacencies.Adjacency.{Adjacency}
+use Rattle.net_model.specs.declared.interfaces.IfaceId.{IfaceId}
 use Rattle.net_model.specs.Distances.{own_cost}
 use Rattle.net_model.specs.Ospf.{adjacencies}
 use Rattle.sym_policy.specs.Held.{failures_of}
@@ -14,7 +15,8 @@ loop-a-preserved c =
     let at = c.loop-a.a-index in
     let items = c.adjacencies-a-items.ensures.value in
     let within : at < length (adjacencies net) = omega (arith, ap length items) in
-    let none : Adjacency = record { from = record { router = 0; at = 0 }; to = record { router = 0; at = 0 }; cost = 0 } in
+    let place : IfaceId = record { router = 0; at = 0 } in
+    let none : Adjacency = record { from = place; to = place; cost = 0 } in
     record {
       builds = search rules;
       within = search rules;
@@ -27,6 +29,6 @@ loop-a-preserved c =
           ∙ ap (λ (xs : List Adjacency). far_offer net failures costs router (get_or xs at none)) items in
           c.in_ok-best-2.ensures.value w reads
           ∙ (λ i. nearer (best i) (next i))
-          ∙ sym (far_more net failures costs router (own_cost net failures c.args.p.now router) (adjacencies net) at none
-          within);
+          ∙ sym (far_more net failures costs router (own_cost net failures c.args.p.now router) (adjacencies net) at
+          none within);
     }

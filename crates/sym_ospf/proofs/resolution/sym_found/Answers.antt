@@ -1,4 +1,4 @@
-use Rattle.std.proofs.Common.{◌≡◌, ◌-◌, ◌∙◌, ap, arith, rules, if◌then◌else◌, get_or, length, Option, option_map}
+use Rattle.std.proofs.Common.{◌-◌, ◌∙◌, ap, arith, rules, if◌then◌else◌, get_or, length, Option, option_map}
 use Rattle.mw_text.specs.declared.address.Prefix.{Prefix}
 use Rattle.mw_text.specs.Address.{covers}
 use Rattle.route_record.specs.declared.OspfRec.{OspfRec}
@@ -24,8 +24,9 @@ loop-k-preserved c =
           let failures = failures_of w c.args.sym.now in
           let a = address_of w c.args.a.now in
           step.value w reads has
-          ∙ ap (λ (o : Option OspfRec). if covers p a then option_map internal_route (interior_distance net failures router p)
-          else o) (c.loop-k.invariant.value w (step.builds.reads w reads) has)
+          ∙ ap (λ (o : Option OspfRec). if covers p a
+          then option_map internal_route (interior_distance net failures router p) else o)
+          (c.loop-k.invariant.value w (step.builds.reads w reads) has)
           ∙ found_step net failures router a (advertised net) c.advertised.result.now c.loop-k.k none (omega arith)
           (omega (arith, outer)) c.advertised.ensures.value;
     }

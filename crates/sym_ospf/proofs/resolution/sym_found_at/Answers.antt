@@ -1,4 +1,4 @@
-use Rattle.std.proofs.Common.{◌≡◌, ◌∙◌, Some, if◌then◌else◌}
+use Rattle.std.proofs.Common.{◌∙◌, Some, if◌then◌else◌}
 use Rattle.sym_policy.specs.Held.{ospf_of}
 use Rattle.sym_ospf.proofs.Reach.{row_is}
 use Rattle.sym_ospf.proofs.resolution.sym_found_at.Goals as goal
