@@ -1,0 +1,9 @@
+//! Failed links, OSPF routes, interior distances and the state of sessions as terms over Boolean variables.
+//!
+//! A reading of the store turns a symbolic value into a plain one, so a call here stands for the plain one: under every
+//! reading its result is what the definitions of `net_model` say of the values read.
+#![tactic(auto)]
+
+mod links;
+
+pub use links::{sym_up, sym_up_at};
