@@ -1,3 +1,4 @@
 pub mod Entries
 pub mod LearntOver
 pub mod Networks
+pub mod TableEntries

@@ -5,9 +5,13 @@
 //! slot, what a call here answers stands for what the definitions of the network make of that slot.
 #![tactic(auto)]
 
+mod entry;
+mod interfaces;
 mod learnt;
 mod prefixes;
 mod ribs;
 mod slots;
+mod statics;
 
+pub use entry::sym_entry;
 pub use slots::{SymRib, SymSlot};
