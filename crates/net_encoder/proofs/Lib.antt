@@ -10,3 +10,4 @@ pub mod Completeness
 pub mod Rooms
 pub mod Worlds
 pub mod WorldBits
+pub mod Steps

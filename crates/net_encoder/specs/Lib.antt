@@ -7,3 +7,4 @@ pub mod Slots
 pub mod Rooms
 pub mod Breaking
 pub mod Worlds
+pub mod Symbols
