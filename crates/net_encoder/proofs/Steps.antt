@@ -1,12 +1,16 @@
 -- Stores that grow, and numbers of new variables.
 use Rattle.std.proofs.Common.{◌≡◌, ℕ, zero, suc, ◌+◌, ◌*◌, ◌^◌, ◌≤◌, Bool, List, [], ◌∷◌, ◌++◌, length, refl, sym, ap, arith}
-use Rattle.std.proofs.Common.{◌∙◌}
+use Rattle.std.proofs.Common.{◌∙◌, false, ◌-◌, ◌/◌, ◌<◌, max, subst}
 use Rattle.std.proofs.lemmas.List.{map-append, length-map}
-use Rattle.std.proofs.Math.Nat.{mul_right_comm, pow-suc}
+use Rattle.std.proofs.Math.Nat.{div-lt_iff_lt-mul, mul_comm, mul_right_comm, pow-suc}
+use Rattle.std.proofs.lemmas.Nat.{pow-add, pow_pos}
 use Rattle.term_store.specs.declared.NodeId.{NodeId}
 use Rattle.term_store.specs.Terms.{Reading, Store, at}
 use Rattle.term_store.specs.Reading.{Builds, Grows}
-use Rattle.term_arith.specs.Bits.{bit, bits, number, number_of, variables}
+use Rattle.term_arith.specs.Bits.{bit, bits, ids_end, number, number_of, variables}
+use Rattle.term_arith.proofs.NumberLemmas.{bits_push, ids_end_push}
+use Rattle.std.proofs.lemmas.Grind.{common_steps}
+use Rattle.net_encoder.specs.Failures.{none_of}
 use Rattle.net_encoder.specs.Rows.{number_from, row}
 
 -- a store that is built on grows
@@ -28,15 +32,54 @@ pub number_fresh : (w : Reading) (ids : List NodeId) (from width : ℕ) → bits
 unfolding number_from
 number_fresh w ids from width same = ap number_of (same ∙ variables_row w from width)
 
-number_of-append : (xs ys : List Bool) → number_of (xs ++ ys) ≡ number_of xs + 2 ^ length xs * number_of ys
-number_of-append [] ys = omega arith
-number_of-append (b ∷ xs) ys =
-    let rest = number_of-append xs ys in
+number_of_append : (xs ys : List Bool) → number_of (xs ++ ys) ≡ number_of xs + 2 ^ length xs * number_of ys
+number_of_append [] ys = omega arith
+number_of_append (b ∷ xs) ys =
+    let rest = number_of_append xs ys in
     omega (arith, rest, ap (λ k. k * number_of ys) (pow-suc 2 (length xs)), mul_right_comm (2 ^ length xs) 2 (number_of ys))
 
 -- a number above another
-pub number-above : (w : Reading) (low high : List NodeId) →
+pub number_above : (w : Reading) (low high : List NodeId) →
     number w (low ++ high) ≡ number w low + 2 ^ length low * number w high
-number-above w low high =
-    ap number_of (map-append (at w) low high) ∙ number_of-append (bits w low) (bits w high)
+number_above w low high =
+    ap number_of (map-append (at w) low high) ∙ number_of_append (bits w low) (bits w high)
     ∙ ap (λ k. number w low + 2 ^ k * number w high) (length-map low (at w))
+
+pub grows_grown : {s t u : Store} → Grows s t → Grows t u → Grows s u
+grows_grown first then = record {
+  larger = omega (arith, first.larger, then.larger);
+  more_vars = omega (arith, first.more_vars, then.more_vars);
+  reads = λ w reads. first.reads w (then.reads w reads);
+  keeps = λ i n stands. then.keeps i n (first.keeps i n stands);
+}
+
+pub ids_end_above : (low high : List NodeId) → ids_end (low ++ high) ≡ max (ids_end low) (ids_end high)
+ids_end_above [] high = omega arith
+ids_end_above (id ∷ low) high = let rest = ids_end_above low high in omega (arith, rest)
+
+-- the first bits of an address fit the width that is left
+pub high_bits : (a len : ℕ) → a < 2 ^ 32 → a / 2 ^ (32 - len) < 2 ^ (32 - (32 - len))
+high_bits a len small =
+    let all : (32 - len) + (32 - (32 - len)) ≡ 32 = omega arith in
+    (div-lt_iff_lt-mul (pow_pos (32 - len))).1 (subst (λ n. a < n) (sym (ap (λ n. 2 ^ n) all)
+    ∙ pow-add 2 (32 - len) (32 - (32 - len)) ∙ mul_comm (2 ^ (32 - len)) (2 ^ (32 - (32 - len)))) small)
+
+pub row_more : (v : ℕ → Bool) (first count : ℕ) → row v first count ++ v (first + count) ∷ [] ≡ row v first (count + 1)
+row_more v first zero = ap (λ n. v n ∷ []) (omega arith)
+row_more v first (suc count) =
+    let rest = row_more v (first + 1) count in
+    let place : first + suc count ≡ first + 1 + count = omega arith in
+    let width : suc (count + 1) ≡ suc count + 1 = omega arith in
+    ap (λ n. (v first ∷ row v (first + 1) count) ++ v n ∷ []) place ∙ ap (λ bs. v first ∷ bs) rest
+    ∙ ap (row v first) width
+
+pub none_more : (count : ℕ) → none_of count ++ false ∷ [] ≡ none_of (count + 1)
+none_more zero = refl
+none_more (suc count) =
+    let width : suc (count + 1) ≡ suc count + 1 = omega arith in
+    ap (λ bs. false ∷ bs) (none_more count) ∙ ap none_of width
+
+-- for loops over new variables and constants, in `using`
+pub ruleset row_steps = (common_steps, ids_end_push, bits_push, row_more)
+
+pub ruleset none_steps = (common_steps, ids_end_push, bits_push, none_more)

@@ -2,4 +2,5 @@
 #![tactic(auto)]
 
 pub mod laws;
+mod links;
 mod packets;

@@ -40,3 +40,65 @@ fn above(low: Bits, high: &Bits) -> Result<Bits, AllocError>
     all.nodes.items.extend_from_slice(high.nodes.as_slice())?;
     Ok(all)
 }
+
+// An address under a prefix: its lowest bits are new, and the others the prefix's.
+#[tactic(auto, using(crate::proofs::Steps::grows_built, crate::proofs::Steps::grows_grown, crate::proofs::Steps::number_fresh, crate::proofs::Steps::number_above, crate::proofs::Steps::ids_end_above, crate::proofs::Steps::high_bits))]
+fn address(alloc: Global, terms: &mut Terms, prefix: &Prefix) -> Result<Bits, AllocError>
+    requires addr { prefix.now.addr.0 < 2 ^ 32 }
+    ensures grows { Grows terms.old terms.new }
+    ensures within { IfOk result (λ r. ids_end r.nodes ≤ size terms.new) }
+    ensures width { IfOk result (λ r. length r.nodes ≡ 32) }
+    ensures vars { OnOk result (terms.new.vars ≡ terms.old.vars + (32 - prefix.now.len)) }
+    ensures value { Gives terms.new result (λ w r. number w r.nodes ≡ address_from prefix.now w.variable terms.old.vars) }
+{
+    let free = 32u8.saturating_sub(prefix.len);
+    let high = u64::from(prefix.addr.0) >> free;
+    let low = fresh_bits(alloc, terms, free)?;
+    let fixed = constant(alloc, terms, high, 32 - free)?;
+    above(low, &fixed)
+}
+
+fn has_no_ports(proto: u8) -> bool
+    ensures { result ≡ is_portless proto }
+{
+    !(proto == 6 || proto == 17)
+}
+
+// A port that the set fixes.
+fn known_port(proto: Option<u8>, range: (u16, u16)) -> Option<u16>
+    ensures { result ≡ fixed_port proto range }
+{
+    let portless = match proto {
+        Some(proto) => has_no_ports(proto),
+        None => false,
+    };
+    if portless {
+        Some(0)
+    } else if range.0 == range.1 {
+        Some(range.0)
+    } else {
+        None
+    }
+}
+
+/// A packet of the set: its variables are new.
+#[tactic(auto, using(crate::proofs::Steps::grows_grown), unfolding(crate::specs::Packets::packet_from, crate::specs::Packets::packet_width))]
+pub fn packet_in(alloc: Global, terms: &mut Terms, set: PacketSet) -> Result<SymPacket, AllocError>
+    ensures grows { Grows terms.old terms.new }
+    ensures within { IfOk result (λ r. packet_end r ≤ size terms.new) }
+    ensures vars { OnOk result (terms.new.vars ≡ terms.old.vars + packet_width set) }
+    ensures value { Gives terms.new result (λ w r. packet_of w r ≡ packet_from set w.variable terms.old.vars) }
+{
+    let proto = field(alloc, terms, set.proto.map(u16::from), 8)?;
+    let src = address(alloc, terms, &set.src)?;
+    let dst = address(alloc, terms, &set.dst)?;
+    let sport = field(alloc, terms, known_port(set.proto, set.sport), 16)?;
+    let dport = field(alloc, terms, known_port(set.proto, set.dport), 16)?;
+    Ok(SymPacket {
+        src,
+        dst,
+        proto,
+        sport,
+        dport,
+    })
+}
