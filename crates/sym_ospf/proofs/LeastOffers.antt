@@ -2,7 +2,7 @@
 use Rattle.std.proofs.Common.{◌≡◌, ℕ, ◌+◌, ◌*◌, ◌<◌, ◌≤◌, Bool, true, false, not, List, [], ◌∷◌, ◌++◌, length, take}
 use Rattle.std.proofs.Common.{get_or, map, filter, Option, Some, None, refl, ap, sym, ◌∙◌, arith, inl, inr}
 use Rattle.std.proofs.Common.{if◌then◌else◌, min, Fits, w64, ◌^◌}
-use Rattle.std.specs.Prelude.{◌==◌, ◌&&◌, ◌||◌, ◌⊎◌, cond, fold, nat_lt, slice_get}
+use Rattle.std.specs.Prelude.{◌==◌, ◌&&◌, ◌||◌, ◌⊎◌, cond, fold, nat_lt, option_and_then, option_map, slice_get}
 use Rattle.std.specs.List.{filter_map}
 use Rattle.std.specs.Option.{option_map_or, option_to_list}
 use Rattle.std.proofs.lemmas.Bool.Decides.{nat_tests}
@@ -18,9 +18,13 @@ use Rattle.route_record.specs.declared.Failures.{Failures}
 use Rattle.net_model.specs.declared.adjacencies.Adjacency.{Adjacency}
 use Rattle.net_model.specs.declared.ospf.OspfInterface.{OspfInterface}
 use Rattle.net_model.specs.Distances.{beyond, least, nearest, own_cost}
-use Rattle.net_model.specs.Ospf.{adjacencies, advertisement, is_up_at, ospf_interfaces, up_adjacencies}
+use Rattle.net_model.specs.Ospf.{adjacencies, advertised, advertisement, is_up_at, ospf_interfaces, up_adjacencies}
 use Rattle.net_model.specs.World.{is_up}
-use Rattle.sym_ospf.specs.Rows.{far_offer, nearer, own_offer}
+use Rattle.term_store.specs.Terms.{Reading}
+use Rattle.sym_policy.specs.declared.records.SymNet.{SymNet}
+use Rattle.sym_policy.specs.Held.{ospf_of}
+use Rattle.route_record.specs.declared.OspfRec.{OspfRec}
+use Rattle.sym_ospf.specs.Rows.{costs_at, far_offer, nearer, own_offer}
 use Rattle.sym_ospf.proofs.RouteKinds.{routes_end_at}
 
 -- the choice between the least so far and the next is the less of the two
@@ -132,7 +136,7 @@ pub ruleset far_steps = (common_steps, nearest_is, far_more)
 -- ---- the place of a route among the rows
 
 -- it is within them
-pub place_within : (router n k files total : ℕ) → total ≡ files * n → router < files → k < n → router * n + k < total
+place_within : (router n k files total : ℕ) → total ≡ files * n → router < files → k < n → router * n + k < total
 place_within router n k files total all below within =
     omega (arith, all, mul-add-lt router n k files below within, mul_comm n files)
 
@@ -152,15 +156,33 @@ fits_product router n k files total m all below within same small =
     omega (arith, inside, small, product)
 
 -- and past them for a router that is none of the files
-pub place_past : (router n k files total : ℕ) → total ≡ files * n → files ≤ router → total ≤ router * n + k
+place_past : (router n k files total : ℕ) → total ≡ files * n → files ≤ router → total ≤ router * n + k
 place_past router n k files total all past = omega (arith, all, mul-le-mul_right {m = files} {n = router} n past)
 
 pub ruleset held_steps = (routes_end_at, slice_get-get_or)
 
 -- nothing stands past the end
-pub past_none : {X : Type 0} (xs : List X) (i : ℕ) → length xs ≤ i → None ≡ slice_get xs i
+past_none : {X : Type 0} (xs : List X) (i : ℕ) → length xs ≤ i → None ≡ slice_get xs i
 past_none {X} xs i past = by_case (slice_get_cases xs i).1 where
   by_case : ((x : X) × (i < length xs) × (slice_get xs i ≡ Some x) × (get_or xs i x ≡ x))
       ⊎ ((length xs ≤ i) × (slice_get xs i ≡ None)) → None ≡ slice_get xs i
   by_case (inl (x, below, there, is)) = absurd (omega (arith, below, past))
   by_case (inr (above, none)) = sym none
+
+-- so there is nothing over an adjacency to such a router
+pub beyond_past : (w : Reading) (files : List File) (net : SymNet) (k : ℕ) (a : Adjacency) (up : Bool)
+    → length net.igp ≡ length files * length (advertised files) → length files ≤ a.to.router
+    → (if up then beyond (costs_at w files net k) a else None) ≡ None
+beyond_past w files net k a up rows past = by_test up where
+  n : ℕ
+  n = length (advertised files)
+
+  none : slice_get net.igp (a.to.router * n + k) ≡ None
+  none =
+      sym (past_none net.igp (a.to.router * n + k)
+      (place_past a.to.router n k (length files) (length net.igp) rows past))
+
+  by_test : (b : Bool) → (if b then beyond (costs_at w files net k) a else None) ≡ None
+  by_test true =
+      ap (λ o. option_map (λ m. a.cost + m) (option_map (λ (r : OspfRec). r.cost) (option_and_then (ospf_of w) o))) none
+  by_test false = refl

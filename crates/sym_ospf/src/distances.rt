@@ -1,12 +1,9 @@
 //! Interior distances as terms: the least of what a router's own interfaces and its adjacencies offer.
 
-ghost use Rattle.std.specs.Prelude.{◌≡◌, ◌==◌, ℕ, ◌+◌, ◌*◌, ◌^◌, ◌<◌, ◌≤◌, ◌&&◌, ◌||◌, Bool, true, false, not};
-ghost use Rattle.std.specs.Prelude.{nat_lt, if◌then◌else◌, IfOk, IfSome, Some, None, length, option_map};
-ghost use Rattle.std.specs.Prelude.{slice_get};
-ghost use Rattle.std.specs.Option.{option_copied};
-ghost use Rattle.term_store.specs.Terms.{Reading, size, at};
-ghost use Rattle.term_store.specs.Reading.{Reads, Builds, Gives};
-ghost use Rattle.term_arith.specs.Bits.{bits, number, ids_end};
+ghost use Rattle.std.specs.Prelude.{◌≡◌, ◌+◌, ◌*◌, ◌<◌, ◌≤◌, ◌||◌, true, false, if◌then◌else◌, IfOk, Some, None};
+ghost use Rattle.std.specs.Prelude.{length, option_map, slice_get};
+ghost use Rattle.term_store.specs.Terms.{size, at};
+ghost use Rattle.term_store.specs.Reading.{Builds, Gives};
 ghost use Rattle.net_model.specs.Distances.{own_cost, nearest, beyond};
 ghost use Rattle.net_model.specs.Ospf as ospf;
 ghost use Rattle.sym_policy.specs.Held.{failures_of, ospf_of, ospf_end};
@@ -21,7 +18,7 @@ use net_model::{Adjacency, Net, OspfInterface};
 use std::alloc::{AllocError, Global};
 use sym_policy::{SymNet, SymOspf};
 use term_arith::gates::{both, constant_node, either, negate};
-use term_arith::{Bits, add, choose, constant, less};
+use term_arith::{add, choose, constant, less};
 use term_store::{NodeId, Terms};
 
 /// A known distance, which is there where `there` is true.
@@ -74,9 +71,9 @@ fn sym_nearer(
     Ok(SymDistance { there, sum })
 }
 
-/// What an interface offers to a router that originates the prefix by it.
+/// The least distance so far, after an interface by which the router may originate the prefix.
 #[tactic(auto, unfolding(crate::specs::Rows::own_offer))]
-fn sym_own_offer(
+fn sym_own_after(
     alloc: Global,
     terms: &mut Terms,
     net: &Net,
@@ -84,19 +81,21 @@ fn sym_own_offer(
     router: u32,
     p: &Prefix,
     x: &OspfInterface,
+    best: SymDistance,
 ) -> Result<SymDistance, AllocError>
     requires nodes { net_end sym.now ≤ size terms.old }
+    requires best { distance_end best ≤ size terms.old }
     ensures builds { Builds terms.old terms.new }
     ensures within { IfOk result (λ r. distance_end r ≤ size terms.new) }
     ensures value { Gives terms.new result (λ w r. distance_of w r
-        ≡ own_offer net.now (failures_of w sym.now) p.now router x.now) }
+        ≡ nearer (distance_of w best) (own_offer net.now (failures_of w sym.now) p.now router x.now)) }
 {
-    if x.at.id.router == router && advertisement(x) == *p {
-        let up = sym_up(alloc, terms, net, sym, &x.at)?;
-        known_distance(alloc, terms, up, x.cost)
-    } else {
-        no_distance(alloc, terms)
+    if x.at.id.router != router || advertisement(x) != *p {
+        return Ok(best);
     }
+    let up = sym_up(alloc, terms, net, sym, &x.at)?;
+    let next = known_distance(alloc, terms, up, x.cost)?;
+    sym_nearer(alloc, terms, &best, &next)
 }
 
 /// The least cost of an interface by which the router originates the prefix.
@@ -117,8 +116,7 @@ fn sym_own_cost(
 {
     let mut best = no_distance(alloc, terms)?;
     for x in net.ospf_interfaces() {
-        let next = sym_own_offer(alloc, terms, net, sym, router, p, x)?;
-        best = sym_nearer(alloc, terms, &best, &next)?;
+        best = sym_own_after(alloc, terms, net, sym, router, p, x, best)?;
     }
     Ok(best)
 }
@@ -144,24 +142,22 @@ fn sym_sum(
     Ok(SymDistance { there, sum })
 }
 
-/// The route of a router to the advertised prefix at a place. None exactly where there is no such router.
+/// The route of a router of the files to the advertised prefix at a place.
 #[tactic(auto, using(crate::proofs::LeastOffers::held_steps))]
-pub(crate) fn igp_of<'a>(net: &Net, sym: &'a SymNet, router: u32, k: usize) -> Option<&'a SymOspf>
+pub(crate) fn igp_of<'a>(net: &Net, sym: &'a SymNet, router: u32, k: usize) -> &'a SymOspf
     requires rows { length sym.now.igp ≡ length net.now * length (ospf.advertised net.now) }
+    requires router { router < length net.now }
     requires place { k < length (ospf.advertised net.now) }
-    ensures value { option_copied result ≡ slice_get sym.now.igp (router * length (ospf.advertised net.now) + k) }
-    ensures within { IfSome result (λ r. ospf_end r.now ≤ routes_end sym.now.igp) }
+    ensures value { slice_get sym.now.igp (router * length (ospf.advertised net.now) + k) ≡ Some result.now }
+    ensures within { ospf_end result.now ≤ routes_end sym.now.igp }
 {
     let rows = sym.igp.as_slice();
-    if (router as usize) < net.routers().len() {
-        let at = router as usize * net.advertised().len() + k;
-        Some(&rows[at])
-    } else {
-        None
-    }
+    let at = router as usize * net.advertised().len() + k;
+    &rows[at]
 }
 
 /// The distance over an adjacency whose interfaces are up where `up` is true.
+#[tactic(auto, using(crate::proofs::LeastOffers::beyond_past))]
 fn sym_beyond(
     alloc: Global,
     terms: &mut Terms,
@@ -180,15 +176,17 @@ fn sym_beyond(
     ensures value { Gives terms.new result (λ w r. distance_of w r
         ≡ (if at w up then beyond (costs_at w net.now sym.now k) a.now else None)) }
 {
-    match igp_of(net, sym, a.to.router, k) {
-        None => no_distance(alloc, terms),
-        Some(far) => sym_sum(alloc, terms, far, up, a.cost),
+    if (a.to.router as usize) < net.routers().len() {
+        let far = igp_of(net, sym, a.to.router, k);
+        sym_sum(alloc, terms, far, up, a.cost)
+    } else {
+        no_distance(alloc, terms)
     }
 }
 
-/// What a router is offered over an adjacency.
+/// The least distance so far, after an adjacency over which the router may receive.
 #[tactic(auto, unfolding(crate::specs::Rows::far_offer))]
-fn sym_far_offer(
+fn sym_far_after(
     alloc: Global,
     terms: &mut Terms,
     net: &Net,
@@ -196,22 +194,26 @@ fn sym_far_offer(
     router: u32,
     k: usize,
     a: &Adjacency,
+    best: SymDistance,
 ) -> Result<SymDistance, AllocError>
     requires rows { length sym.now.igp ≡ length net.now * length (ospf.advertised net.now) }
     requires place { k < length (ospf.advertised net.now) }
     requires nodes { net_end sym.now ≤ size terms.old }
+    requires best { distance_end best ≤ size terms.old }
     ensures builds { Builds terms.old terms.new }
     ensures within { IfOk result (λ r. distance_end r ≤ size terms.new) }
     ensures value { Gives terms.new result (λ w r. distance_of w r
-        ≡ far_offer net.now (failures_of w sym.now) (costs_at w net.now sym.now k) router a.now) }
+        ≡ nearer (distance_of w best)
+        (far_offer net.now (failures_of w sym.now) (costs_at w net.now sym.now k) router a.now)) }
 {
     if a.from.router != router {
-        return no_distance(alloc, terms);
+        return Ok(best);
     }
     let from = sym_up_at(alloc, terms, net, sym, a.from)?;
     let to = sym_up_at(alloc, terms, net, sym, a.to)?;
     let up = both(terms, from, to)?;
-    sym_beyond(alloc, terms, net, sym, k, up, a)
+    let next = sym_beyond(alloc, terms, net, sym, k, up, a)?;
+    sym_nearer(alloc, terms, &best, &next)
 }
 
 /// The least of the router's own cost and of what its adjacencies lead to.
@@ -235,8 +237,7 @@ pub(crate) fn sym_nearest(
 {
     let mut best = sym_own_cost(alloc, terms, net, sym, router, p)?;
     for a in net.adjacencies() {
-        let next = sym_far_offer(alloc, terms, net, sym, router, k, a)?;
-        best = sym_nearer(alloc, terms, &best, &next)?;
+        best = sym_far_after(alloc, terms, net, sym, router, k, a, best)?;
     }
     Ok(best)
 }

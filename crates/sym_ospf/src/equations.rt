@@ -1,15 +1,13 @@
 //! The equations of the interior distances as a term.
 
-ghost use Rattle.std.specs.Prelude.{◌≡◌, ◌==◌, ℕ, ◌+◌, ◌*◌, ◌<◌, ◌≤◌, ◌&&◌, ◌||◌, ◌↔◌, Bool, true, false, not};
-ghost use Rattle.std.specs.Prelude.{if◌then◌else◌, IfOk, Some, None, length, slice_get};
-ghost use Rattle.term_store.specs.Terms.{Reading, size, at, differ};
-ghost use Rattle.term_store.specs.Reading.{Reads, Builds, Gives};
-ghost use Rattle.term_arith.specs.Bits.{bits, number, ids_end};
-ghost use Rattle.net_model.specs.Distances.{nearest};
+ghost use Rattle.std.specs.Prelude.{◌≡◌, ◌==◌, ◌+◌, ◌*◌, ◌<◌, ◌≤◌, ◌&&◌, true, IfOk, length};
+ghost use Rattle.term_store.specs.Terms.{size, at};
+ghost use Rattle.term_store.specs.Reading.{Builds, Gives};
+ghost use Rattle.term_arith.specs.Bits.{number, ids_end};
 ghost use Rattle.net_model.specs.Ospf as ospf;
-ghost use Rattle.sym_policy.specs.Held.{failures_of, ospf_at, ospf_of, ospf_end};
-ghost use Rattle.sym_ospf.specs.Rows.{net_end, distance_of, distance_end, costs_at, is_internal, is_distance};
-ghost use Rattle.sym_ospf.specs.Rows.{equation, row_holds, rows_hold, HasDistances};
+ghost use Rattle.sym_policy.specs.Held.{ospf_at, ospf_of, ospf_end};
+ghost use Rattle.sym_ospf.specs.Rows.{net_end, distance_of, distance_end, is_internal, is_distance, equation};
+ghost use Rattle.sym_ospf.specs.Rows.{row_holds, rows_hold, HasDistances};
 
 use crate::distances::{igp_of, sym_nearest};
 use crate::parts::SymDistance;
@@ -98,6 +96,7 @@ fn sym_equation(
 ) -> Result<NodeId, AllocError>
     requires rows { length sym.now.igp ≡ length net.now * length (ospf.advertised net.now) }
     requires place { k < length (ospf.advertised net.now) }
+    requires router { router < length net.now }
     requires nodes { net_end sym.now ≤ size terms.old }
     ensures builds { Builds terms.old terms.new }
     ensures within { IfOk result (λ r. r.0 < size terms.new) }
@@ -105,10 +104,8 @@ fn sym_equation(
 {
     let p = net.advertised()[k];
     let least = sym_nearest(alloc, terms, net, sym, router, k, &p)?;
-    match igp_of(net, sym, router, k) {
-        None => negate(terms, least.there),
-        Some(rec) => sym_is_distance(alloc, terms, rec, &least),
-    }
+    let rec = igp_of(net, sym, router, k);
+    sym_is_distance(alloc, terms, rec, &least)
 }
 
 /// Whether the equations of all advertised prefixes hold at a router.
@@ -121,6 +118,7 @@ fn sym_row(
     router: u32,
 ) -> Result<NodeId, AllocError>
     requires rows { length sym.now.igp ≡ length net.now * length (ospf.advertised net.now) }
+    requires router { router < length net.now }
     requires nodes { net_end sym.now ≤ size terms.old }
     ensures builds { Builds terms.old terms.new }
     ensures within { IfOk result (λ r. r.0 < size terms.new) }

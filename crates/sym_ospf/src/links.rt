@@ -1,9 +1,9 @@
 //! Which interfaces are up while some links have failed.
 
-ghost use Rattle.std.specs.Prelude.{◌≡◌, ℕ, ◌+◌, ◌<◌, ◌≤◌, ◌==◌, ◌&&◌, Bool, false, IfOk, length, slice_index_or};
+ghost use Rattle.std.specs.Prelude.{◌≡◌, ◌<◌, ◌≤◌, ◌==◌, ◌&&◌, ◌||◌, false, IfOk, slice_index_or};
 ghost use Rattle.std.specs.Option.{option_map_or};
-ghost use Rattle.term_store.specs.Terms.{Reading, size, at};
-ghost use Rattle.term_store.specs.Reading.{Reads, Builds, Gives};
+ghost use Rattle.term_store.specs.Terms.{size, at};
+ghost use Rattle.term_store.specs.Reading.{Builds, Gives};
 ghost use Rattle.term_arith.specs.Bits.{bits, ids_end};
 ghost use Rattle.net_model.specs.World as world;
 ghost use Rattle.net_model.specs.Ospf as ospf;
@@ -13,7 +13,7 @@ use mw_text::Prefix;
 use net_model::{Addressed, IfaceId, Net};
 use std::alloc::{AllocError, Global};
 use sym_policy::SymNet;
-use term_arith::gates::{both, constant_node, either, negate};
+use term_arith::gates::{constant_node, either, negate};
 use term_store::{NodeId, Terms};
 
 /// The node at a place. Where there is none, false.
@@ -64,25 +64,29 @@ pub fn sym_up(
     negate(terms, failed)
 }
 
-/// Whether the interface is the one at that place and is up.
-fn sym_up_there(
+/// True where the node is, or where the interface is the one at that place and is up.
+fn sym_or_up(
     alloc: Global,
     terms: &mut Terms,
     net: &Net,
     sym: &SymNet,
     i: IfaceId,
     x: &Addressed,
+    any: NodeId,
 ) -> Result<NodeId, AllocError>
     requires nodes { ids_end sym.now.down ≤ size terms.old }
+    requires any { any.0 < size terms.old }
     ensures builds { Builds terms.old terms.new }
     ensures within { IfOk result (λ r. r.0 < size terms.new) }
-    ensures value { Gives terms.new result (λ w r. at w r ≡ (((x.now.id.router == i.router) && (x.now.id.at == i.at))
-        && world.is_up net.now (failures_of w sym.now) x.now)) }
+    ensures value { Gives terms.new result (λ w r. at w r
+        ≡ (at w any || (((x.now.id.router == i.router) && (x.now.id.at == i.at))
+        && world.is_up net.now (failures_of w sym.now) x.now))) }
 {
     if x.id.router == i.router && x.id.at == i.at {
-        sym_up(alloc, terms, net, sym, x)
+        let up = sym_up(alloc, terms, net, sym, x)?;
+        either(terms, any, up)
     } else {
-        constant_node(terms, false)
+        Ok(any)
     }
 }
 
@@ -101,8 +105,7 @@ pub fn sym_up_at(
 {
     let mut any = constant_node(terms, false)?;
     for x in net.addresses() {
-        let up = sym_up_there(alloc, terms, net, sym, i, x)?;
-        any = either(terms, any, up)?;
+        any = sym_or_up(alloc, terms, net, sym, i, x, any)?;
     }
     Ok(any)
 }

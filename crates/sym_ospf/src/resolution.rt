@@ -1,11 +1,11 @@
 //! Resolution of next hops as terms.
 
-ghost use Rattle.std.specs.Prelude.{◌≡◌, ◌==◌, ℕ, ◌+◌, ◌-◌, ◌*◌, ◌/◌, ◌^◌, ◌<◌, ◌≤◌, ◌&&◌, Bool, true, false};
-ghost use Rattle.std.specs.Prelude.{if◌then◌else◌, IfOk, Some, None, length, drop, option_map, slice_get};
+ghost use Rattle.std.specs.Prelude.{◌≡◌, ◌-◌, ◌*◌, ◌/◌, ◌<◌, ◌≤◌, true, false, if◌then◌else◌, IfOk, Some, length};
+ghost use Rattle.std.specs.Prelude.{drop, option_map, slice_get};
 ghost use Rattle.mw_text.specs.Address.{covers};
-ghost use Rattle.term_store.specs.Terms.{Reading, size, at};
-ghost use Rattle.term_store.specs.Reading.{Reads, Builds, Gives};
-ghost use Rattle.term_arith.specs.Bits.{bits, number, ids_end};
+ghost use Rattle.term_store.specs.Terms.{size, at};
+ghost use Rattle.term_store.specs.Reading.{Builds, Gives};
+ghost use Rattle.term_arith.specs.Bits.{ids_end};
 ghost use Rattle.net_model.specs.Distances.{interior_distance};
 ghost use Rattle.net_model.specs.Ospf as ospf;
 ghost use Rattle.net_model.specs.Resolution.{resolved};
@@ -18,12 +18,12 @@ ghost use Rattle.sym_ospf.specs.Reached.{is_reached_by, found};
 use crate::distances::igp_of;
 use crate::links::sym_up;
 use crate::routes::{choose_ospf, known_ospf};
-use mw_text::{Addr, Prefix};
+use mw_text::Prefix;
 use net_model::{Addressed, Net};
 use std::alloc::{AllocError, Global};
 use sym_policy::{SymNet, SymOspf};
 use term_arith::gates::{both, constant_node, either};
-use term_arith::{Bits, constant, equal_number};
+use term_arith::{Bits, equal_number};
 use term_store::{NodeId, Terms};
 
 /// The bits of an address above its `low` lowest ones.
@@ -102,7 +102,6 @@ fn sym_reached(
 }
 
 /// The distance to the advertised prefix at a place where it contains the address, else what is behind it.
-#[tactic(auto, using(crate::proofs::Reach::row_is))]
 fn sym_found_at(
     alloc: Global,
     terms: &mut Terms,
@@ -130,13 +129,9 @@ fn sym_found_at(
         else ospf_of w behind.now)) }
 {
     let inside = sym_contains(terms, p, a)?;
-    match igp_of(net, sym, router, k) {
-        None => choose_ospf(alloc, terms, inside, behind, behind),
-        Some(rec) => {
-            let made = choose_ospf(alloc, terms, inside, rec, behind)?;
-            Ok(made)
-        }
-    }
+    let rec = igp_of(net, sym, router, k);
+    let made = choose_ospf(alloc, terms, inside, rec, behind)?;
+    Ok(made)
 }
 
 /// The distance to the advertised prefix that contains the address.

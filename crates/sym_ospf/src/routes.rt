@@ -1,19 +1,18 @@
 //! OSPF routes as terms: which is the better one, the first best of some, and one that is handed on.
 
-ghost use Rattle.std.specs.Prelude.{◌≡◌, ◌==◌, ℕ, ◌+◌, ◌^◌, ◌<◌, ◌≤◌, ◌&&◌, ◌||◌, Bool, true, false, not, nat_lt};
-ghost use Rattle.std.specs.Prelude.{if◌then◌else◌, IfOk, Some, None, length, fold, option_and_then};
+ghost use Rattle.std.specs.Prelude.{◌≡◌, ◌==◌, ◌<◌, ◌≤◌, ◌&&◌, ◌||◌, true, false, not, nat_lt, if◌then◌else◌, IfOk};
+ghost use Rattle.std.specs.Prelude.{Some, None, option_and_then};
 ghost use Rattle.std.specs.List.{filter_map};
-ghost use Rattle.term_store.specs.Terms.{Reading, size, at};
-ghost use Rattle.term_store.specs.Reading.{Reads, Builds, Gives};
-ghost use Rattle.term_arith.specs.Bits.{bits, number, ids_end};
-ghost use Rattle.net_model.specs.OspfRoutes.{kind_rank, is_type2, is_better, better_of, first_best, extended};
+ghost use Rattle.term_store.specs.Terms.{size, at};
+ghost use Rattle.term_store.specs.Reading.{Builds, Gives};
+ghost use Rattle.net_model.specs.OspfRoutes.{kind_rank, is_type2, is_better, first_best, extended};
 ghost use Rattle.sym_policy.specs.Held.{ospf_at, ospf_of, ospf_end, internal_route};
 ghost use Rattle.sym_ospf.specs.Routes.{routes_end, kept};
 
 use std::alloc::{AllocError, Global};
 use sym_policy::SymOspf;
 use term_arith::gates::{both, constant_node, either, negate, select};
-use term_arith::{Bits, Summed, add_within, choose, constant, copy, equal, equal_number, less};
+use term_arith::{Summed, add_within, choose, constant, copy, equal, equal_number, less};
 use term_store::{NodeId, Terms};
 
 /// The first route where `c` is true, else the second.

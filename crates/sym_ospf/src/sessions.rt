@@ -1,10 +1,9 @@
 //! Which BGP sessions are up, as terms.
 
-ghost use Rattle.std.specs.Prelude.{◌≡◌, ℕ, ◌+◌, ◌*◌, ◌<◌, ◌≤◌, ◌&&◌, ◌||◌, ◌^◌, Bool, true, false, IfOk, length};
-ghost use Rattle.std.specs.Prelude.{slice_get};
+ghost use Rattle.std.specs.Prelude.{◌≡◌, ◌*◌, ◌<◌, ◌≤◌, ◌&&◌, ◌||◌, true, false, IfOk, length, slice_get};
 ghost use Rattle.std.specs.Option.{option_map_or};
-ghost use Rattle.term_store.specs.Terms.{Reading, size, at};
-ghost use Rattle.term_store.specs.Reading.{Reads, Builds, Gives};
+ghost use Rattle.term_store.specs.Terms.{size, at};
+ghost use Rattle.term_store.specs.Reading.{Builds, Gives};
 ghost use Rattle.net_model.specs.Ospf as ospf;
 ghost use Rattle.net_model.specs.Resolution as resolution;
 ghost use Rattle.net_model.specs.Sessions as sessions;
@@ -18,7 +17,7 @@ use net_model::{Far, Net, SessionEnd};
 use std::alloc::{AllocError, Global};
 use sym_policy::SymNet;
 use term_arith::constant;
-use term_arith::gates::{both, constant_node, either};
+use term_arith::gates::{both, constant_node};
 use term_store::{NodeId, Terms};
 
 /// Whether the router at an end resolves the address of its neighbour.
