@@ -11,3 +11,4 @@ pub mod Rooms
 pub mod Worlds
 pub mod WorldBits
 pub mod Steps
+pub mod RoomSteps

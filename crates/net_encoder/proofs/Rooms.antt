@@ -5,7 +5,7 @@ use Rattle.std.proofs.Common.{sym, ap, subst, arith, ◌∙◌, slice_get, max, 
 use Rattle.std.specs.Prelude.{◌==◌, ◌⊎◌, All, IfSome, IsTrue, fold, is_some, option_and_then, if◌then◌else◌}
 use Rattle.std.specs.List.{filter_map, flat_map, list_any}
 use Rattle.std.specs.Option.{option_map_or, option_to_list}
-use Rattle.std.proofs.lemmas.Bool.{and_from, and_parts, cases_Bool, eqb-true, eq-eqb, false≢true, le-ltb, ltb-true, or_from, or_parts}
+use Rattle.std.proofs.lemmas.Bool.{and_from, and_parts, cases_lt, eqb-true, eq-eqb, false≢true, le-ltb, ltb-true, or_from, or_parts}
 use Rattle.std.proofs.lemmas.List.Elements.{All-append, All-cons, All-filter, All-head, All-map, All-nil, All-tail}
 use Rattle.std.proofs.lemmas.List.Elements.{All-weaker}
 use Rattle.std.proofs.Math.Dec.{eqb-suc-zero}
@@ -31,13 +31,15 @@ use Rattle.net_model.specs.declared.adjacencies.Adjacency.{Adjacency}
 use Rattle.net_model.specs.declared.ospf.OspfInterface.{OspfInterface}
 use Rattle.net_model.specs.Ospf.{adjacencies, adjacency, advertisement, are_adjacent, origin_interfaces, ospf_interfaces}
 use Rattle.net_model.specs.OspfRoutes.{kind_rank, own_origins}
+use Rattle.net_model.specs.Connected.{overlap}
 use Rattle.net_model.specs.Origins.{redistributed}
 use Rattle.net_model.specs.Stable.{Stable, held_ospf}
 use Rattle.net_model.specs.World.{is_up}
-use Rattle.net_encoder.specs.Rooms.{greatest_cost, has_room, is_advertised, meet, most_cost, rooms_from, some_take}
+use Rattle.net_encoder.specs.Rooms.{greatest_cost, has_room, is_advertised, most_cost, rooms_from, some_take}
 use Rattle.net_encoder.specs.Rooms.{takes_routes, width_from, widths_of}
 use Rattle.net_encoder.specs.Supported.{AreOrigins}
-use Rattle.net_encoder.specs.Unknowns.{FitsWidths, Widths}
+use Rattle.net_encoder.specs.declared.widths.Widths.{Widths}
+use Rattle.net_encoder.specs.Unknowns.{FitsWidths}
 use Rattle.net_encoder.proofs.Bounded.{cost_bound}
 use Rattle.net_encoder.proofs.Supports.{all_held, all_in, file_there}
 use Rattle.net_model.proofs.LeastWalks.{In, in-filter}
@@ -45,6 +47,7 @@ use Rattle.net_model.proofs.LeastWalks.{In, in-filter}
 -- ---- the least width
 
 pub in_width : (n bound width more : ℕ) → n ≤ bound → n < 2 ^ (width + more) → n < 2 ^ width_from bound width more
+unfolding width_from
 in_width n bound width zero le fits = subst (λ k. n < 2 ^ k) (omega arith) fits
 in_width n bound width (suc more) le fits = by (nat_lt bound (2 ^ width)) refl
     (in_width n bound (suc width) more le (subst (λ k. n < 2 ^ k) (omega arith) fits))
@@ -195,8 +198,26 @@ coarser a b long short le same = one a ∙ ap (λ n. n / 2 ^ more) same ∙ sym 
   one n = ap (λ k. n / 2 ^ k) (sym bits_of) ∙ ap (λ k. n / k) (pow-add 2 (32 - long) more)
       ∙ sym (div-div-eq-div-mul n (2 ^ (32 - long)) (2 ^ more))
 
+-- the shorter of two prefixes covers the other's address
+covering : (p q : Prefix) → (q.len < p.len) ⊎ (p.len ≤ q.len) →
+    p.addr.0 / block (min p.len q.len) ≡ q.addr.0 / block (min p.len q.len) → overlap p q ≡ true
+covering p q (inl less) same =
+    let short : min p.len q.len ≡ q.len = omega (arith, less) in
+    or_second (covers p q.addr) (covers q p.addr)
+    (eq-eqb (p.addr.0 / block q.len) (q.addr.0 / block q.len)
+    (subst (λ k. p.addr.0 / block k ≡ q.addr.0 / block k) short same))
+  where
+    or_second : (a b : Bool) → b ≡ true → (a || b) ≡ true
+    or_second true b is = refl
+    or_second false b is = is
+covering p q (inr more) same =
+    let short : min p.len q.len ≡ p.len = omega (arith, more) in
+    let first : covers p q.addr ≡ true = eq-eqb (q.addr.0 / block p.len) (p.addr.0 / block p.len)
+        (sym (subst (λ k. p.addr.0 / block k ≡ q.addr.0 / block k) short same)) in
+    rw first refl
+
 meets : (q destinations : Prefix) (d : Addr) (len : ℕ) → same_prefix q (prefix_at d len) ≡ true →
-    covers destinations d ≡ true → meet q destinations ≡ true
+    covers destinations d ≡ true → overlap q destinations ≡ true
 meets q destinations d len same covered =
     let both = and_parts _ _ same in
     let addr : q.addr.0 ≡ d.0 / block len * block len = eqb-true _ _ both.0 in
@@ -208,7 +229,7 @@ meets q destinations d len same covered =
     let far : d.0 / block (min q.len destinations.len) ≡ destinations.addr.0 / block (min q.len destinations.len) =
         coarser d.0 destinations.addr.0 destinations.len (min q.len destinations.len) (omega arith)
         (eqb-true _ _ covered) in
-    eq-eqb _ _ (near ∙ far)
+    covering q destinations (cases_lt destinations.len q.len) (near ∙ far)
 
 advertised_there : (files : List File) (destinations : Prefix) (d : Addr) (len : ℕ) (o : OspfRec) →
     covers destinations d ≡ true → IsOfInterface files (prefix_at d len) o → is_advertised files destinations len ≡ true

@@ -1,7 +1,9 @@
 -- Stores that grow, and numbers of new variables.
 use Rattle.std.proofs.Common.{◌≡◌, ℕ, zero, suc, ◌+◌, ◌*◌, ◌^◌, ◌≤◌, Bool, List, [], ◌∷◌, ◌++◌, length, refl, sym, ap, arith}
-use Rattle.std.proofs.Common.{◌∙◌, false, ◌-◌, ◌/◌, ◌<◌, max, subst}
-use Rattle.std.proofs.lemmas.List.{map-append, length-map}
+use Rattle.std.specs.Prelude.{if◌then◌else◌, nat_lt}
+use Rattle.std.proofs.lemmas.Bool.{le-ltb, lt-ltb}
+use Rattle.std.proofs.Common.{◌∙◌, drop, get_or, map, false, ◌-◌, ◌/◌, ◌<◌, max, subst}
+use Rattle.std.proofs.lemmas.List.{drop_more, map-append, length-map}
 use Rattle.std.proofs.Math.Nat.{div-lt_iff_lt-mul, mul_comm, mul_right_comm, pow-suc}
 use Rattle.std.proofs.lemmas.Nat.{pow-add, pow_pos}
 use Rattle.term_store.specs.declared.NodeId.{NodeId}
@@ -11,6 +13,11 @@ use Rattle.term_arith.specs.Bits.{bit, bits, ids_end, number, number_of, variabl
 use Rattle.term_arith.proofs.NumberLemmas.{bits_push, ids_end_push}
 use Rattle.std.proofs.lemmas.Grind.{common_steps}
 use Rattle.net_encoder.specs.Failures.{none_of}
+use Rattle.net_encoder.specs.declared.opens.SymOpen.{SymOpen}
+use Rattle.net_encoder.specs.declared.widths.Widths.{Widths}
+use Rattle.net_encoder.specs.Symbols.{open_end, open_of, opens_end}
+use Rattle.net_encoder.specs.Unknowns.{unknown_from, unknown_width, unknowns_from, unknowns_width}
+use Rattle.net_encoder.specs.Rooms.{width_from}
 use Rattle.net_encoder.specs.Rows.{number_from, row}
 
 -- a store that is built on grows
@@ -46,11 +53,11 @@ number_above w low high =
     ∙ ap (λ k. number w low + 2 ^ k * number w high) (length-map low (at w))
 
 pub grows_grown : {s t u : Store} → Grows s t → Grows t u → Grows s u
-grows_grown first then = record {
-  larger = omega (arith, first.larger, then.larger);
-  more_vars = omega (arith, first.more_vars, then.more_vars);
-  reads = λ w reads. first.reads w (then.reads w reads);
-  keeps = λ i n stands. then.keeps i n (first.keeps i n stands);
+grows_grown first next = record {
+  larger = omega (arith, first.larger, next.larger);
+  more_vars = omega (arith, first.more_vars, next.more_vars);
+  reads = λ w reads. first.reads w (next.reads w reads);
+  keeps = λ i n stands. next.keeps i n (first.keeps i n stands);
 }
 
 pub ids_end_above : (low high : List NodeId) → ids_end (low ++ high) ≡ max (ids_end low) (ids_end high)
@@ -83,3 +90,58 @@ none_more (suc count) =
 pub ruleset row_steps = (common_steps, ids_end_push, bits_push, row_more)
 
 pub ruleset none_steps = (common_steps, ids_end_push, bits_push, none_more)
+
+-- a width in which the number has room
+pub width_found : (n width : ℕ) → width < 32 → n < 2 ^ width → width_from n width (32 - width) ≡ width
+unfolding width_from
+width_found n width less fits =
+    let more : 32 - width ≡ suc (32 - (width + 1)) = omega (arith, less) in
+    ap (width_from n width) more
+    ∙ ap (λ b. if b then width else width_from n (suc width) (32 - (width + 1))) (lt-ltb n (2 ^ width) fits)
+
+-- trying one width more
+pub width_more : (n width : ℕ) → width < 32 → 2 ^ width ≤ n →
+    width_from n width (32 - width) ≡ width_from n (width + 1) (32 - (width + 1))
+unfolding width_from
+width_more n width less large =
+    let more : 32 - width ≡ suc (32 - (width + 1)) = omega (arith, less) in
+    let next : suc width ≡ width + 1 = omega arith in
+    ap (width_from n width) more
+    ∙ ap (λ b. if b then width else width_from n (suc width) (32 - (width + 1))) (le-ltb n (2 ^ width) large)
+    ∙ ap (λ k. width_from n k (32 - (width + 1))) next
+
+-- and where none is left
+pub width_last : (n : ℕ) → width_from n 32 (32 - 32) ≡ 32
+unfolding width_from
+width_last n = refl
+
+-- nothing above a number changes it
+pub nothing_above : (low power high : ℕ) → high ≡ 0 → low + power * high ≡ low
+nothing_above low power high none = ap (λ n. low + power * n) none ∙ omega arith
+
+-- ---- what is open of the slots, one after another
+
+pub opens_end_push : (xs : List SymOpen) (x : SymOpen) → opens_end (xs ++ x ∷ []) ≡ max (opens_end xs) (open_end x)
+opens_end_push [] x = omega arith
+opens_end_push (y ∷ xs) x = let rest = opens_end_push xs x in omega (arith, rest)
+
+pub opens_push : (w : Reading) (xs : List SymOpen) (x : SymOpen) →
+    map (open_of w) (xs ++ x ∷ []) ≡ map (open_of w) xs ++ open_of w x ∷ []
+opens_push w xs x = map-append (open_of w) xs (x ∷ [])
+
+pub rooms_at : (rooms : List Bool) (i : ℕ) (d : Bool) → i < length rooms →
+    (get_or rooms i d ≡ get_or rooms i d) × (drop i rooms ≡ get_or rooms i d ∷ drop (i + 1) rooms)
+rooms_at rooms i d within = (refl, drop_more rooms i d within)
+
+pub unknowns_next : (widths : Widths) (room : Bool) (rooms : List Bool) (v : ℕ → Bool) (from : ℕ) →
+    unknowns_from widths (room ∷ rooms) v from
+    ≡ unknown_from widths room v from ∷ unknowns_from widths rooms v (from + unknown_width widths room)
+unfolding unknowns_from
+unknowns_next widths room rooms v from = refl
+
+pub widths_next : (widths : Widths) (room : Bool) (rooms : List Bool) →
+    unknowns_width widths (room ∷ rooms) ≡ unknown_width widths room + unknowns_width widths rooms
+unfolding unknowns_width
+widths_next widths room rooms = refl
+
+pub ruleset open_steps = (common_steps, grows_grown, opens_end_push, opens_push, rooms_at, unknowns_next, widths_next)

@@ -9,7 +9,8 @@ use Rattle.route_record.specs.declared.OspfRec.{OspfRec}
 use Rattle.net_model.specs.OspfRoutes.{kind_rank}
 use Rattle.sym_policy.specs.Held.{kind_of_number}
 use Rattle.net_encoder.specs.Rows.{IsAt, digits, number_from}
-use Rattle.net_encoder.specs.Unknowns.{FitRooms, FitsRoom, FitsWidths, Unknown, Widths, route_bits, route_from}
+use Rattle.net_encoder.specs.declared.widths.Widths.{Widths}
+use Rattle.net_encoder.specs.Unknowns.{FitRooms, FitsRoom, FitsWidths, Unknown, route_bits, route_from}
 use Rattle.net_encoder.specs.Unknowns.{route_or_any, route_width, unknown_bits, unknown_from, unknown_width}
 use Rattle.net_encoder.specs.Unknowns.{unknowns_bits, unknowns_from, unknowns_width}
 use Rattle.net_encoder.proofs.Reading.{field_at, one_then}

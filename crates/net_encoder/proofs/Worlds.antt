@@ -38,7 +38,8 @@ use Rattle.net_encoder.specs.Packets.{is_in_set, packet_from, packet_width}
 use Rattle.net_encoder.specs.Rooms.{has_room, most_cost, rooms_from, some_take, width_from, widths_of}
 use Rattle.net_encoder.specs.Rows.{IsAt, number_from, row, truth}
 use Rattle.net_encoder.specs.Slots.{all_hold, runs_no_bgp, tables_of, unknown_of, unknowns_of}
-use Rattle.net_encoder.specs.Unknowns.{FitRooms, FitsRoom, FitsWidths, Unknown, Widths, route_from, unknown_from}
+use Rattle.net_encoder.specs.declared.widths.Widths.{Widths}
+use Rattle.net_encoder.specs.Unknowns.{FitRooms, FitsRoom, FitsWidths, Unknown, route_from, unknown_from}
 use Rattle.net_encoder.specs.Unknowns.{unknown_width, unknowns_from, unknowns_width}
 use Rattle.net_encoder.specs.Worlds.{downs_start, slots_start}
 use Rattle.net_encoder.specs.Worlds.{IsEncodable, is_routing, opens_from, rooms_of, world_bits, world_from, world_width}
@@ -87,6 +88,7 @@ few_step n width more true below deeper = below
 few_step n width more false below deeper = deeper
 
 few : (n width more : ℕ) → width + more < 33 → width_from n width more < 33
+unfolding width_from
 few n width zero below = omega (arith, below)
 few n width (suc more) below =
     few_step n width more (nat_lt n (2 ^ width)) (omega (arith, below))

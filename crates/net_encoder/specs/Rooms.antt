@@ -4,22 +4,18 @@ use Rattle.std.specs.Prelude.{◌∷◌, length, fold, is_some, max, min, nat_lt
 use Rattle.std.specs.List.{list_any}
 use Rattle.std.specs.Option.{option_map_or}
 use Rattle.mw_text.specs.declared.address.Prefix.{Prefix}
-use Rattle.mw_text.specs.Address.{block}
 use Rattle.ios_ast.specs.declared.file.File.{File}
 use Rattle.ios_ast.specs.declared.ospf.Ospf.{Ospf}
 use Rattle.route_record.specs.declared.TheConstants.{LENGTHS}
 use Rattle.net_model.specs.declared.ospf.OspfInterface.{OspfInterface}
+use Rattle.net_model.specs.Connected.{overlap}
 use Rattle.net_model.specs.Ospf.{advertisement, ospf_interfaces}
-use Rattle.net_encoder.specs.Unknowns.{Widths}
-
--- some address under both prefixes: their first bits agree, as many as the shorter one has
-abbrev pub meet : Prefix → Prefix → Bool
-meet p q = p.addr.0 / block (min p.len q.len) == q.addr.0 / block (min p.len q.len)
+use Rattle.net_encoder.specs.declared.widths.Widths.{Widths}
 
 -- an interface advertises a prefix of that length that some of the destinations have
 abbrev pub is_advertised : List File → Prefix → ℕ → Bool
 is_advertised files destinations len =
-    list_any (λ x. ((advertisement x).len == len) && meet (advertisement x) destinations) (ospf_interfaces files)
+    list_any (λ x. ((advertisement x).len == len) && overlap (advertisement x) destinations) (ospf_interfaces files)
 
 -- the process takes routes from its router's own table
 abbrev pub takes_routes : Ospf → Bool
@@ -52,7 +48,7 @@ abbrev pub most_cost : List File → ℕ
 most_cost files = greatest_cost files + length files * greatest_cost files
 
 -- the least width, from one on, in which the number has room, where so many more may be tried
-abbrev pub width_from : ℕ → ℕ → ℕ → ℕ
+unfoldable pub width_from : ℕ → ℕ → ℕ → ℕ
 width_from n width zero = width
 width_from n width (suc more) = if nat_lt n (2 ^ width) then width else width_from n (suc width) more
 

@@ -1,8 +1,12 @@
--- What a reading makes of a symbolic packet.
+-- What a reading makes of a symbolic packet and of what is open of slots.
+use Rattle.std.specs.Prelude.{ℕ, ◌+◌, max, List, [], ◌∷◌}
 use Rattle.route_record.specs.declared.Packet.{Packet}
-use Rattle.term_store.specs.Terms.{Reading}
+use Rattle.term_store.specs.Terms.{Reading, at}
 use Rattle.term_arith.specs.Bits.{number}
 use Rattle.sym_policy.specs.declared.records.SymPacket.{SymPacket}
+use Rattle.sym_policy.specs.Held.{ospf_of, ospf_end}
+use Rattle.net_encoder.specs.declared.opens.SymOpen.{SymOpen}
+use Rattle.net_encoder.specs.Unknowns.{Unknown}
 
 abbrev pub packet_of : Reading → SymPacket → Packet
 packet_of w packet = record {
@@ -12,3 +16,15 @@ packet_of w packet = record {
   sport = number w packet.sport.nodes;
   dport = number w packet.dport.nodes;
 }
+
+-- what is open of a slot
+abbrev pub open_of : Reading → SymOpen → Unknown
+open_of w s = record { ospf = ospf_of w s.ospf; own = at w s.own }
+
+-- the least size of a store that has its nodes, and those of several
+abbrev pub open_end : SymOpen → ℕ
+open_end s = max (ospf_end s.ospf) (s.own.0 + 1)
+
+abbrev pub opens_end : List SymOpen → ℕ
+opens_end [] = 0
+opens_end (s ∷ rest) = max (open_end s) (opens_end rest)

@@ -6,16 +6,11 @@ use Rattle.route_record.specs.declared.OspfRec.{OspfRec}
 use Rattle.net_model.specs.OspfRoutes.{kind_rank}
 use Rattle.sym_policy.specs.Held.{kind_of_number}
 use Rattle.net_encoder.specs.Rows.{digits, number_from}
+use Rattle.net_encoder.specs.declared.widths.Widths.{Widths}
 
 pub record Unknown : Type 0 where
   pub ospf : Option OspfRec
   pub own : Bool
-
--- how many bits the kind, the metric and the cost of a route have
-pub record Widths : Type 0 where
-  pub kind : ℕ
-  pub metric : ℕ
-  pub cost : ℕ
 
 -- a route of so many bits
 abbrev pub route_from : Widths → (ℕ → Bool) → ℕ → OspfRec

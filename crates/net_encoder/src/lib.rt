@@ -3,4 +3,6 @@
 
 pub mod laws;
 mod links;
+mod opens;
 mod packets;
+mod widths;

@@ -33,7 +33,7 @@ fn field(alloc: Global, terms: &mut Terms, fixed: Option<u16>, width: u8) -> Res
 }
 
 // A number above another: its nodes come after the other's.
-fn above(low: Bits, high: &Bits) -> Result<Bits, AllocError>
+pub fn above(low: Bits, high: &Bits) -> Result<Bits, AllocError>
     ensures { IfOk result (λ r. r.nodes ≡ low.nodes ++ high.now.nodes) }
 {
     let mut all = low;
