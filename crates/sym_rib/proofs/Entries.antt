@@ -1,5 +1,6 @@
 -- Entries of routing tables: their sources by numbers, choices between two, and the closer of two.
-use Rattle.std.proofs.Common.{◌≡◌, ℕ, Bool, true, false, not, ◌&&◌, ◌||◌, if◌then◌else◌, nat_lt, Option, Some, None, refl, ap}
+use Rattle.std.proofs.Common.{◌≡◌, ℕ, Bool, true, false, not, ◌&&◌, ◌||◌, if◌then◌else◌, nat_lt, Option, Some, None}
+use Rattle.std.proofs.Common.{refl, ap}
 use Rattle.std.proofs.Common.{sym}
 use Rattle.route_record.specs.declared.RibEntry.{RibEntry}
 use Rattle.route_record.specs.declared.RibSource.{RibSource}

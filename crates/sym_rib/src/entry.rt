@@ -1,6 +1,7 @@
 //! The entry of a router's table for one prefix of a destination, as terms (RFC 1812, section 5.2.4).
 
-ghost use Rattle.std.specs.Prelude.{◌≡◌, ◌==◌, ◌&&◌, ℕ, ◌+◌, ◌<◌, ◌≤◌, Bool, not, fold, map, if◌then◌else◌, Some, None, IfOk, length, slice_get, option_and_then};
+ghost use Rattle.std.specs.Prelude.{◌≡◌, ◌==◌, ◌&&◌, ℕ, ◌+◌, ◌<◌, ◌≤◌, Bool, not, fold, map, if◌then◌else◌, Some};
+ghost use Rattle.std.specs.Prelude.{None, IfOk, length, slice_get, option_and_then};
 ghost use Rattle.net_model.specs.Entries as entries;
 ghost use Rattle.net_model.specs.Routing as routing;
 ghost use Rattle.net_model.specs.Tracked.{tracked_of};
@@ -126,7 +127,8 @@ fn table_rib(
     requires own { own.0 < size terms.old }
     ensures builds { Builds terms.old terms.new }
     ensures within { IfOk result (λ r. rib_end r ≤ size terms.new) }
-    ensures value { Gives terms.new result (λ w r. rib_of w r ≡ entry_read net.now (failures_of w sym.now) router file.now (prefix_of w dst.now len)
+    ensures value { Gives terms.new result (λ w r. rib_of w r
+        ≡ entry_read net.now (failures_of w sym.now) router file.now (prefix_of w dst.now len)
         (if at w slot.now.bgp.valid then learnt_entry net.now router (number w slot.now.bgp.from.nodes) else None)
         (at w slot.now.ospf.valid && not (at w own))) }
 {
@@ -137,10 +139,10 @@ fn table_rib(
     closer_rib(alloc, terms, &best, &ospf)
 }
 
-/// The entry of a router's table for the prefix of that length of a destination: the candidate of least administrative
-/// distance among its connected and static routes, the held BGP route and the held OSPF route, the latter only where no
-/// own origin is as good (`own_ospf`). Equal distances go to the first of connected, static, BGP and OSPF. Where there is
-/// no such router, there is no entry.
+/// The entry of a router's table for the prefix of that length of a destination: the candidate of least
+/// administrative distance among its connected and static routes, the held BGP route and the held OSPF route, the
+/// latter only where no own origin is as good (`own_ospf`). Equal distances go to the first of connected, static, BGP
+/// and OSPF. Where there is no such router, there is no entry.
 pub fn sym_entry(
     alloc: Global,
     terms: &mut Terms,

@@ -1,6 +1,7 @@
 //! The end of a session over which a BGP route was learnt, as terms.
 
-ghost use Rattle.std.specs.Prelude.{◌≡◌, ◌==◌, ℕ, ◌+◌, ◌^◌, ◌<◌, ◌≤◌, Bool, false, if◌then◌else◌, Some, None, IfOk, length};
+ghost use Rattle.std.specs.Prelude.{◌≡◌, ◌==◌, ℕ, ◌+◌, ◌^◌, ◌<◌, ◌≤◌, Bool, false, if◌then◌else◌, Some, None, IfOk};
+ghost use Rattle.std.specs.Prelude.{length};
 ghost use Rattle.std.specs.List.{find};
 ghost use Rattle.std.specs.Option.{option_map_or};
 ghost use Rattle.sym_policy.specs.Held.{bgp_end};
@@ -76,7 +77,8 @@ fn sym_learnt(
     requires { ids_end from.now.nodes ≤ size terms.old }
     ensures builds { Builds terms.old terms.new }
     ensures within { IfOk result (λ r. r.0 < size terms.new) }
-    ensures value { Gives terms.new result (λ w r. at w r ≡ option_map_or (is_of_kind internal) (end_numbered net.now router (number w from.now.nodes)) false) }
+    ensures value { Gives terms.new result (λ w r. at w r
+        ≡ option_map_or (is_of_kind internal) (end_numbered net.now router (number w from.now.nodes)) false) }
 {
     let ends = net.ends();
     let mut rest = constant_node(terms, false)?;
@@ -100,7 +102,8 @@ pub(crate) fn bgp_rib(
     requires { bgp_end bgp.now ≤ size terms.old }
     ensures builds { Builds terms.old terms.new }
     ensures within { IfOk result (λ r. rib_end r ≤ size terms.new) }
-    ensures value { Gives terms.new result (λ w r. rib_of w r ≡ (if at w bgp.now.valid then learnt_entry net.now router (number w bgp.now.from.nodes) else None)) }
+    ensures value { Gives terms.new result (λ w r. rib_of w r
+        ≡ (if at w bgp.now.valid then learnt_entry net.now router (number w bgp.now.from.nodes) else None)) }
 {
     let internal = sym_learnt(terms, net, router, &bgp.from, true)?;
     let external = sym_learnt(terms, net, router, &bgp.from, false)?;

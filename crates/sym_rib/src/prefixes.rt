@@ -2,6 +2,7 @@
 
 ghost use Rattle.std.specs.Prelude.{◌≡◌, ◌==◌, ◌&&◌, ◌||◌, ◌<◌, ◌≤◌, ◌+◌, ◌/◌, ◌^◌, ℕ, Bool, IfOk, length, drop};
 ghost use Rattle.mw_text.specs.Address.{block, prefix_at, same_prefix};
+ghost use Rattle.net_model.specs.Origins as origins;
 ghost use Rattle.sym_policy.specs.Records.{prefix_of as prefix_read};
 ghost use Rattle.term_store.specs.Terms.{Reading, size, at};
 ghost use Rattle.term_store.specs.Reading.{Reads, Builds, Gives};
@@ -50,7 +51,8 @@ fn sym_agrees(terms: &mut Terms, p: &Prefix, dst: &Bits, len: u8) -> Result<Node
     requires nodes { ids_end dst.now.nodes ≤ size terms.old }
     ensures builds { Builds terms.old terms.new }
     ensures within { IfOk result (λ r. r.0 < size terms.new) }
-    ensures value { Gives terms.new result (λ w r. at w r ≡ (number w dst.now.nodes / block len == p.now.addr.0 / block len)) }
+    ensures value { Gives terms.new result (λ w r. at w r
+        ≡ (number w dst.now.nodes / block len == p.now.addr.0 / block len)) }
 {
     let low = 32 - len;
     sym_high(terms, dst, low, u64::from(p.addr.0) >> low)
@@ -77,4 +79,29 @@ pub(crate) fn sym_same_prefix(
         let never = constant_node(terms, false)?;
         Ok(never)
     }
+}
+
+/// Whether the prefix of that length of a destination is a network of class A, B or C (RFC 791, section 3.2).
+pub(crate) fn sym_classful(terms: &mut Terms, dst: &Bits, len: u8) -> Result<NodeId, AllocError>
+    requires long { len ≤ 32 }
+    requires wide { length dst.now.nodes ≡ 32 }
+    requires nodes { ids_end dst.now.nodes ≤ size terms.old }
+    ensures builds { Builds terms.old terms.new }
+    ensures within { IfOk result (λ r. r.0 < size terms.new) }
+    ensures value { Gives terms.new result (λ w r. at w r ≡ origins.is_classful (prefix_read w dst.now len)) }
+{
+    if len == 8 {
+        let first = sym_high(terms, dst, 31, 0)?;
+        return Ok(first);
+    }
+    if len == 16 {
+        let second = sym_high(terms, dst, 30, 2)?;
+        return Ok(second);
+    }
+    if len == 24 {
+        let third = sym_high(terms, dst, 29, 6)?;
+        return Ok(third);
+    }
+    let never = constant_node(terms, false)?;
+    Ok(never)
 }

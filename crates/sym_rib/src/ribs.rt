@@ -40,7 +40,8 @@ pub(crate) fn entry_where(
     requires { valid.0 < size terms.old }
     ensures builds { Builds terms.old terms.new }
     ensures within { IfOk result (λ r. rib_end r ≤ size terms.new) }
-    ensures value { Gives terms.new result (λ w r. rib_of w r ≡ (if at w valid then Some (record { source = source; distance = distance }) else None)) }
+    ensures value { Gives terms.new result (λ w r. rib_of w r
+        ≡ (if at w valid then Some (record { source = source; distance = distance }) else None)) }
 {
     let source = constant(alloc, terms, number_of(source), 3)?;
     let distance = constant(alloc, terms, u64::from(distance), 8)?;

@@ -6,8 +6,8 @@ use sym_policy::{SymBgp, SymOspf};
 use term_arith::Bits;
 use term_store::NodeId;
 
-/// An entry of a routing table as terms, which is there where `valid` is true. Its source is 0 for a connected subnet, 1
-/// for a static route, 2 for external BGP, 3 for OSPF and 4 for internal BGP; a greater number counts as 4.
+/// An entry of a routing table as terms, which is there where `valid` is true. Its source is 0 for a connected
+/// subnet, 1 for a static route, 2 for external BGP, 3 for OSPF and 4 for internal BGP; a greater number counts as 4.
 #[derive(Debug, Drop)]
 pub struct SymRib {
     pub valid: NodeId,

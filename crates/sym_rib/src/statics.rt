@@ -1,6 +1,7 @@
 //! Static routes of a router as terms.
 
-ghost use Rattle.std.specs.Prelude.{◌≡◌, ◌==◌, ◌&&◌, ℕ, ◌+◌, ◌<◌, ◌≤◌, Bool, true, false, fold, map, if◌then◌else◌, Some, None, IfOk, length};
+ghost use Rattle.std.specs.Prelude.{◌≡◌, ◌==◌, ◌&&◌, ℕ, ◌+◌, ◌<◌, ◌≤◌, Bool, true, false, fold, map, if◌then◌else◌};
+ghost use Rattle.std.specs.Prelude.{Some, None, IfOk, length};
 ghost use Rattle.net_model.specs.Routing as routing;
 ghost use Rattle.route_record.specs.declared.RibSource as source;
 ghost use Rattle.sym_policy.specs.Held.{failures_of};
@@ -24,8 +25,8 @@ use term_arith::Bits;
 use term_arith::gates::{both, constant_node};
 use term_store::{NodeId, Terms};
 
-/// Whether a static route counts: it goes to Null0 or its next hop is on the subnet of an interface of the router that is
-/// up, and its distance is not 255.
+/// Whether a static route counts: it goes to Null0 or its next hop is on the subnet of an interface of the router
+/// that is up, and its distance is not 255.
 fn sym_counts(
     alloc: Global,
     terms: &mut Terms,
@@ -68,7 +69,8 @@ fn static_rib(
     ensures builds { Builds terms.old terms.new }
     ensures within { IfOk result (λ r. rib_end r ≤ size terms.new) }
     ensures value { Gives terms.new result (λ w r. rib_of w r
-        ≡ static_entry (routing.up_interfaces net.now (failures_of w sym.now) router) (prefix_of w dst.now len) route.now) }
+        ≡ static_entry (routing.up_interfaces net.now (failures_of w sym.now) router)
+        (prefix_of w dst.now len) route.now) }
 {
     let same = sym_same_prefix(terms, &route.prefix, dst, len)?;
     let counted = sym_counts(alloc, terms, net, sym, router, route)?;
@@ -96,7 +98,8 @@ fn after_static(
     ensures builds { Builds terms.old terms.new }
     ensures within { IfOk result (λ r. rib_end r ≤ size terms.new) }
     ensures value { Gives terms.new result (λ w r. rib_of w r ≡ closer_of (rib_of w best)
-        (static_entry (routing.up_interfaces net.now (failures_of w sym.now) router) (prefix_of w dst.now len) route.now)) }
+        (static_entry (routing.up_interfaces net.now (failures_of w sym.now) router)
+        (prefix_of w dst.now len) route.now)) }
 {
     if route.prefix.len != len {
         return Ok(best);
@@ -124,8 +127,10 @@ pub(crate) fn best_static(
     requires first { rib_end first ≤ size terms.old }
     ensures builds { Builds terms.old terms.new }
     ensures within { IfOk result (λ r. rib_end r ≤ size terms.new) }
-    ensures value { Gives terms.new result (λ w r. rib_of w r ≡ fold routing.closer (rib_of w first) (map static_candidate
-        (routing.static_routes (routing.up_interfaces net.now (failures_of w sym.now) router) statics.now (prefix_of w dst.now len)))) }
+    ensures value { Gives terms.new result (λ w r. rib_of w r
+        ≡ fold routing.closer (rib_of w first) (map static_candidate
+        (routing.static_routes (routing.up_interfaces net.now (failures_of w sym.now) router) statics.now
+        (prefix_of w dst.now len)))) }
 {
     let mut best = first;
     for route in statics {
