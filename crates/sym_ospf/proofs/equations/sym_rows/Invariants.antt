@@ -1,0 +1,12 @@
+use Rattle.std.proofs.Common.{◌≡◌, ◌<◌}
+use Rattle.term_store.specs.Terms.{Reading, at, size}
+use Rattle.term_store.specs.Reading.{Reads, Builds}
+use Rattle.sym_ospf.specs.Rows.{all_below, row_holds}
+use Rattle.sym_ospf.proofs.equations.sym_rows.Given as goal
+
+abbrev pub invariant-loop-router : goal.invariant-loop-router
+invariant-loop-router l = record {
+  builds : Builds l.fn.terms l.terms;
+  within : l.all.0 < size l.terms;
+  value : (w : Reading) → Reads w l.terms → at w l.all ≡ all_below (row_holds w l.net l.sym) l.router;
+}

@@ -1,0 +1,3 @@
+pub mod Routes
+pub mod Rows
+pub mod Reached

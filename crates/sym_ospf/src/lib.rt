@@ -1,0 +1,19 @@
+//! Failed links, OSPF routes, interior distances and the state of sessions as terms over Boolean variables.
+//!
+//! A reading of the store turns a symbolic value into a plain one, so a call here stands for the plain one: under every
+//! reading its result is what the definitions of `net_model` say of the values read.
+#![tactic(auto)]
+
+mod distances;
+mod equations;
+mod links;
+mod parts;
+mod resolution;
+mod routes;
+mod sessions;
+
+pub use equations::sym_igp;
+pub use links::{sym_up, sym_up_at};
+pub use resolution::sym_resolve;
+pub use routes::{sym_best, sym_transfer};
+pub use sessions::sym_session_up;

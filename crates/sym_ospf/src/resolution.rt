@@ -1,0 +1,216 @@
+//! Resolution of next hops as terms.
+
+ghost use Rattle.std.specs.Prelude.{◌≡◌, ◌-◌, ◌*◌, ◌/◌, ◌<◌, ◌≤◌, true, false, if◌then◌else◌, IfOk, Some, length};
+ghost use Rattle.std.specs.Prelude.{drop, option_map, slice_get};
+ghost use Rattle.mw_text.specs.Address.{covers};
+ghost use Rattle.term_store.specs.Terms.{size, at};
+ghost use Rattle.term_store.specs.Reading.{Builds, Gives};
+ghost use Rattle.term_arith.specs.Bits.{ids_end};
+ghost use Rattle.net_model.specs.Distances.{interior_distance};
+ghost use Rattle.net_model.specs.Ospf as ospf;
+ghost use Rattle.net_model.specs.Resolution.{resolved};
+ghost use Rattle.net_model.specs.Routing as routing;
+ghost use Rattle.sym_policy.specs.Held.{failures_of, internal_route, ospf_of, ospf_end};
+ghost use Rattle.sym_policy.specs.Records.{address_of};
+ghost use Rattle.sym_ospf.specs.Rows.{net_end, HasDistances};
+ghost use Rattle.sym_ospf.specs.Reached.{is_reached_by, found};
+
+use crate::distances::igp_of;
+use crate::links::sym_up;
+use crate::routes::{choose_ospf, known_ospf};
+use mw_text::Prefix;
+use net_model::{Addressed, Net};
+use std::alloc::{AllocError, Global};
+use sym_policy::{SymNet, SymOspf};
+use term_arith::gates::{both, constant_node, either};
+use term_arith::{Bits, equal_number};
+use term_store::{NodeId, Terms};
+
+/// The bits of an address above its `low` lowest ones.
+#[tactic(auto, using(std::proofs::lemmas::List::take_rest))]
+fn high_bits(address: &Bits, low: u8) -> &[NodeId]
+    requires { low ≤ length address.now.nodes }
+    ensures { result.now ≡ drop low address.now.nodes }
+{
+    &address.nodes.as_slice()[low as usize..]
+}
+
+/// Whether the prefix contains an address, by as many bits as the prefix is long.
+#[tactic(auto, using(sym_policy::proofs::HighBits::prefix_steps))]
+fn sym_contains(terms: &mut Terms, prefix: &Prefix, address: &Bits) -> Result<NodeId, AllocError>
+    requires wide { length address.now.nodes ≡ 32 }
+    requires nodes { ids_end address.now.nodes ≤ size terms.old }
+    ensures builds { Builds terms.old terms.new }
+    ensures within { IfOk result (λ r. r.0 < size terms.new) }
+    ensures value { Gives terms.new result (λ w r. at w r ≡ covers prefix.now (address_of w address.now)) }
+{
+    let low = 32u8.saturating_sub(prefix.len);
+    let bits = high_bits(address, low);
+    equal_number(terms, bits, u64::from(prefix.addr.0) >> low)
+}
+
+/// Whether the interface is one of the router, is up, and has the address on its subnet.
+fn sym_reached_by(
+    alloc: Global,
+    terms: &mut Terms,
+    net: &Net,
+    sym: &SymNet,
+    router: u32,
+    a: &Bits,
+    x: &Addressed,
+) -> Result<NodeId, AllocError>
+    requires wide { length a.now.nodes ≡ 32 }
+    requires address { ids_end a.now.nodes ≤ size terms.old }
+    requires nodes { net_end sym.now ≤ size terms.old }
+    ensures builds { Builds terms.old terms.new }
+    ensures within { IfOk result (λ r. r.0 < size terms.new) }
+    ensures value { Gives terms.new result (λ w r. at w r
+        ≡ is_reached_by net.now (failures_of w sym.now) router (address_of w a.now) x.now) }
+{
+    if x.id.router != router {
+        return constant_node(terms, false);
+    }
+    let up = sym_up(alloc, terms, net, sym, x)?;
+    let inside = sym_contains(terms, &x.subnet, a)?;
+    both(terms, up, inside)
+}
+
+/// Whether an interface of the router that is up has the address on its subnet.
+#[tactic(auto, using(crate::proofs::Reach::reach_steps))]
+fn sym_reached(
+    alloc: Global,
+    terms: &mut Terms,
+    net: &Net,
+    sym: &SymNet,
+    router: u32,
+    a: &Bits,
+) -> Result<NodeId, AllocError>
+    requires wide { length a.now.nodes ≡ 32 }
+    requires address { ids_end a.now.nodes ≤ size terms.old }
+    requires nodes { net_end sym.now ≤ size terms.old }
+    ensures builds { Builds terms.old terms.new }
+    ensures within { IfOk result (λ r. r.0 < size terms.new) }
+    ensures value { Gives terms.new result (λ w r. at w r
+        ≡ routing.is_reached (routing.up_interfaces net.now (failures_of w sym.now) router) (address_of w a.now)) }
+{
+    let mut any = constant_node(terms, false)?;
+    for x in net.addresses() {
+        let one = sym_reached_by(alloc, terms, net, sym, router, a, x)?;
+        any = either(terms, any, one)?;
+    }
+    Ok(any)
+}
+
+/// The distance to the advertised prefix at a place where it contains the address, else what is behind it.
+fn sym_found_at(
+    alloc: Global,
+    terms: &mut Terms,
+    net: &Net,
+    sym: &SymNet,
+    router: u32,
+    k: usize,
+    p: &Prefix,
+    a: &Bits,
+    behind: &SymOspf,
+) -> Result<SymOspf, AllocError>
+    requires rows { length sym.now.igp ≡ length net.now * length (ospf.advertised net.now) }
+    requires router { router < length net.now }
+    requires place { k < length (ospf.advertised net.now) }
+    requires there { slice_get (ospf.advertised net.now) k ≡ Some p.now }
+    requires wide { length a.now.nodes ≡ 32 }
+    requires address { ids_end a.now.nodes ≤ size terms.old }
+    requires nodes { net_end sym.now ≤ size terms.old }
+    requires behind { ospf_end behind.now ≤ size terms.old }
+    ensures builds { Builds terms.old terms.new }
+    ensures within { IfOk result (λ r. ospf_end r ≤ size terms.new) }
+    ensures value { Gives terms.new result (λ w r. HasDistances w net.now sym.now → ospf_of w r
+        ≡ (if covers p.now (address_of w a.now)
+        then option_map internal_route (interior_distance net.now (failures_of w sym.now) router p.now)
+        else ospf_of w behind.now)) }
+{
+    let inside = sym_contains(terms, p, a)?;
+    let rec = igp_of(net, sym, router, k);
+    let made = choose_ospf(alloc, terms, inside, rec, behind)?;
+    Ok(made)
+}
+
+/// The distance to the advertised prefix that contains the address.
+#[tactic(auto, using(crate::proofs::Reach::found_steps))]
+fn sym_found(
+    alloc: Global,
+    terms: &mut Terms,
+    net: &Net,
+    sym: &SymNet,
+    router: u32,
+    a: &Bits,
+) -> Result<SymOspf, AllocError>
+    requires rows { length sym.now.igp ≡ length net.now * length (ospf.advertised net.now) }
+    requires router { router < length net.now }
+    requires wide { length a.now.nodes ≡ 32 }
+    requires address { ids_end a.now.nodes ≤ size terms.old }
+    requires nodes { net_end sym.now ≤ size terms.old }
+    ensures builds { Builds terms.old terms.new }
+    ensures within { IfOk result (λ r. ospf_end r ≤ size terms.new) }
+    ensures value { Gives terms.new result (λ w r. HasDistances w net.now sym.now → ospf_of w r
+        ≡ found net.now (failures_of w sym.now) router (address_of w a.now) (ospf.advertised net.now)) }
+{
+    let mut rest = known_ospf(alloc, terms, false, 0)?;
+    for k in (0..net.advertised().len()).rev() {
+        let p = net.advertised()[k];
+        rest = sym_found_at(alloc, terms, net, sym, router, k, &p, a, &rest)?;
+    }
+    Ok(rest)
+}
+
+/// The distance to the advertised prefix that contains the address, also of a router that is none of the files.
+#[tactic(auto, using(crate::proofs::Reach::found_past))]
+fn sym_far(
+    alloc: Global,
+    terms: &mut Terms,
+    net: &Net,
+    sym: &SymNet,
+    router: u32,
+    a: &Bits,
+) -> Result<SymOspf, AllocError>
+    requires rows { length sym.now.igp ≡ length net.now * length (ospf.advertised net.now) }
+    requires wide { length a.now.nodes ≡ 32 }
+    requires address { ids_end a.now.nodes ≤ size terms.old }
+    requires nodes { net_end sym.now ≤ size terms.old }
+    ensures builds { Builds terms.old terms.new }
+    ensures within { IfOk result (λ r. ospf_end r ≤ size terms.new) }
+    ensures value { Gives terms.new result (λ w r. HasDistances w net.now sym.now → ospf_of w r
+        ≡ found net.now (failures_of w sym.now) router (address_of w a.now) (ospf.advertised net.now)) }
+{
+    if (router as usize) < net.routers().len() {
+        sym_found(alloc, terms, net, sym, router, a)
+    } else {
+        known_ospf(alloc, terms, false, 0)
+    }
+}
+
+/// How far the address is from the router, as an internal route with metric 0: cost 0 where an interface of the router
+/// that is up has it on its subnet, else the interior distance to the advertised prefix that contains it, and else none
+/// (RFC 4271, section 5.1.3). This holds under each reading in which the rows of `sym` are the interior distances.
+#[tactic(auto, unfolding(net_model::specs::Resolution::resolved), using(crate::proofs::Reach::resolved_is))]
+pub fn sym_resolve(
+    alloc: Global,
+    terms: &mut Terms,
+    net: &Net,
+    sym: &SymNet,
+    router: u32,
+    a: &Bits,
+) -> Result<SymOspf, AllocError>
+    requires rows { length sym.now.igp ≡ length net.now * length (ospf.advertised net.now) }
+    requires wide { length a.now.nodes ≡ 32 }
+    requires address { ids_end a.now.nodes ≤ size terms.old }
+    requires nodes { net_end sym.now ≤ size terms.old }
+    ensures builds { Builds terms.old terms.new }
+    ensures within { IfOk result (λ r. ospf_end r ≤ size terms.new) }
+    ensures value { Gives terms.new result (λ w r. HasDistances w net.now sym.now → ospf_of w r
+        ≡ option_map internal_route (resolved net.now (failures_of w sym.now) router (address_of w a.now))) }
+{
+    let reached = sym_reached(alloc, terms, net, sym, router, a)?;
+    let far = sym_far(alloc, terms, net, sym, router, a)?;
+    let here = known_ospf(alloc, terms, true, 0)?;
+    choose_ospf(alloc, terms, reached, &here, &far)
+}
