@@ -1,0 +1,11 @@
+pub mod Classes
+pub mod Entries
+pub mod FilesTracked
+pub mod KnownRows
+pub mod LearntOver
+pub mod MapLaw
+pub mod Networks
+pub mod OneEach
+pub mod Redistribution
+pub mod SourceLaw
+pub mod TableEntries

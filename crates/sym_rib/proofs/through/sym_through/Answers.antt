@@ -1,0 +1,15 @@
+use Rattle.std.proofs.Common.{Option, ◌∙◌, ap, sym, false}
+use Rattle.std.specs.Option.{option_and_then, option_map}
+use Rattle.ios_ast.specs.declared.file.Use.{Use}
+use Rattle.net_model.specs.Mapping.{through_map}
+use Rattle.sym_policy.specs.Records.{prefix_of}
+use Rattle.sym_policy.specs.Shapes.{RouteShape, route_shape}
+use Rattle.sym_rib.proofs.through.sym_through.Goals as goal
+
+pub returns-in_ok-left-in-Some-clause-value : goal.returns-in_ok-left-in-Some-clause-value
+returns-in_ok-left-in-Some-clause-value c = λ w reads held all short is.
+    let p = prefix_of w c.args.dst.now c.args.len in
+    let left : Option Use → Option RouteShape =
+    λ used. option_map (route_shape c.args.tracked.now)
+    (option_and_then (through_map c.args.policies.now used p false) held) in
+    c.in_ok-left-in-Some.ensures.value w reads held all short is ∙ ap left (sym c.in-Some.is)

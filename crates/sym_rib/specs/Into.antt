@@ -1,0 +1,31 @@
+-- What a `redistribute` line of an OSPF process takes.
+use Rattle.std.specs.Prelude.{◌≡◌, ℕ, max, List, [], ◌∷◌, Option, Some, None, length}
+use Rattle.ios_ast.specs.declared.ospf.Source.{Source}
+use Rattle.ios_ast.specs.declared.ospf.Source.TheVariants as source
+use Rattle.ios_ast.specs.declared.ospf.Redist.{Redist}
+use Rattle.ios_ast.specs.Setting.{Attributes}
+use Rattle.route_record.specs.declared.BgpRec.{BgpRec}
+use Rattle.net_model.specs.Origins.{plain_route}
+use Rattle.route_record.specs.declared.tracked.Tracked.{Tracked}
+use Rattle.sym_policy.specs.declared.records.SymBgp.{SymBgp}
+
+-- the number of the source of the entries that a line takes
+abbrev pub source_taken : Source → Option ℕ
+source_taken source.Connected = Some 0
+source_taken source.Static = Some 1
+source_taken (source.Bgp asn) = Some 2
+source_taken (source.Ospf process) = None
+
+-- what the route map of a line sees of a BGP route
+abbrev pub seen_of_bgp : Redist → BgpRec → Attributes
+seen_of_bgp line h = record (plain_route line 1) { path = h.path; communities = h.communities }
+
+-- there is one node for each tracked number and community
+pub record HasTracked (tracked : Tracked) (s : SymBgp) : Type 0 where
+  pub numbers : length s.numbers.nodes ≡ length tracked.numbers
+  pub communities : length s.communities.nodes ≡ length tracked.communities
+
+-- the greatest of the items' ends
+abbrev pub list_end : {A : Type 0} → (A → ℕ) → List A → ℕ
+list_end end [] = 0
+list_end end (x ∷ xs) = max (end x) (list_end end xs)

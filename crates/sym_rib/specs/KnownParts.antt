@@ -1,0 +1,72 @@
+-- What a reading makes of the parts of a route that is known.
+use Rattle.std.specs.Prelude.{◌≡◌, ℕ, ◌+◌, max, [], length, map}
+use Rattle.route_record.specs.declared.tracked.Tracked.{Tracked}
+use Rattle.route_record.specs.Shape.{has_address}
+use Rattle.sym_policy.specs.Shapes.{PathShape, RouteShape}
+use Rattle.sym_rib.specs.declared.known_parts.KnownPath.{KnownPath}
+use Rattle.sym_rib.specs.declared.known_parts.KnownPreferences.{KnownPreferences}
+use Rattle.sym_rib.specs.declared.known_parts.KnownRest.{KnownRest}
+use Rattle.sym_rib.specs.declared.known_parts.OwnPart.{OwnPart}
+use Rattle.term_store.specs.declared.NodeId.{NodeId}
+use Rattle.term_store.specs.Terms.{Reading, at}
+use Rattle.term_arith.specs.declared.Bits.{Bits}
+use Rattle.term_arith.specs.Bits.{bits, number, ids_end}
+
+abbrev pub known_path_at : Reading → KnownPath → PathShape
+known_path_at w s = record {
+  len = number w s.len.nodes;
+  first = number w s.first.nodes;
+  last = number w s.last.nodes;
+  numbers = bits w s.numbers.nodes;
+}
+
+abbrev pub known_path_end : KnownPath → ℕ
+known_path_end s =
+    max (max (ids_end s.len.nodes) (ids_end s.first.nodes)) (max (ids_end s.last.nodes) (ids_end s.numbers.nodes))
+
+abbrev pub own_part_end : OwnPart → ℕ
+own_part_end s =
+    max (max (ids_end s.next_hop.nodes) (ids_end s.originator.nodes))
+    (max (ids_end s.from.nodes) (max (ids_end s.cluster_len.nodes) (ids_end s.clusters.nodes)))
+
+pub record IsOwnPart (w : Reading) (tracked : Tracked) (s : OwnPart) : Type 0 where
+  pub next_hop : number w s.next_hop.nodes ≡ 0
+  pub originator : number w s.originator.nodes ≡ 0
+  pub from : number w s.from.nodes ≡ 0
+  pub cluster_len : number w s.cluster_len.nodes ≡ 0
+  pub clusters : bits w s.clusters.nodes ≡ map (has_address []) tracked.clusters
+
+abbrev pub known_preferences_end : KnownPreferences → ℕ
+known_preferences_end s = max (ids_end s.weight.nodes) (max (ids_end s.local_pref.nodes) (ids_end s.origin.nodes))
+
+-- what route maps see of a record of these parts, and the least size of a store that has all its nodes
+abbrev pub parts_at : Reading → KnownPreferences → Bits → KnownRest → NodeId → RouteShape
+parts_at w preferences med rest type1 = record {
+  preferences = record {
+    weight = number w preferences.weight.nodes;
+    local_pref = number w preferences.local_pref.nodes;
+    med = number w med.nodes;
+    origin = number w preferences.origin.nodes;
+  };
+  path = known_path_at w rest.path;
+  communities = bits w rest.communities.nodes;
+  type1 = at w type1;
+}
+
+abbrev pub parts_end : NodeId → KnownPreferences → Bits → KnownRest → NodeId → ℕ
+parts_end valid preferences med rest type1 =
+    max (valid.0 + 1)
+    (max
+    (max
+    (max (max (ids_end preferences.weight.nodes) (ids_end preferences.local_pref.nodes))
+    (max (ids_end med.nodes) (ids_end preferences.origin.nodes)))
+    (max (known_path_end rest.path) (max (ids_end rest.communities.nodes) (type1.0 + 1))))
+    (own_part_end rest.own))
+
+abbrev pub known_rest_end : KnownRest → ℕ
+known_rest_end s = max (known_path_end s.path) (max (ids_end s.communities.nodes) (own_part_end s.own))
+
+-- the rest has one node for each tracked value
+pub record HasTrackedRows (tracked : Tracked) (s : KnownRest) : Type 0 where
+  pub numbers : length s.path.numbers.nodes ≡ length tracked.numbers
+  pub communities : length s.communities.nodes ≡ length tracked.communities
