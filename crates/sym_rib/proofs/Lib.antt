@@ -1,0 +1,4 @@
+pub mod Entries
+pub mod LearntOver
+pub mod Networks
+pub mod TableEntries

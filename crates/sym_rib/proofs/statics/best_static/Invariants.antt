@@ -1,0 +1,22 @@
+use Rattle.std.proofs.Common.{◌≡◌, ◌≤◌, drop, fold, map}
+use Rattle.net_model.specs.Routing.{closer, static_routes, up_interfaces}
+use Rattle.sym_policy.specs.Held.{failures_of}
+use Rattle.sym_policy.specs.Records.{prefix_of}
+use Rattle.term_store.specs.Terms.{Reading, size}
+use Rattle.term_store.specs.Reading.{Reads, Builds}
+use Rattle.sym_rib.specs.Slots.{rib_of, rib_end}
+use Rattle.sym_rib.specs.Sources.{static_candidate}
+use Rattle.sym_rib.proofs.statics.best_static.Given as goal
+
+-- the best so far and the routes that are left decide
+abbrev pub invariant-loop-route : goal.invariant-loop-route
+invariant-loop-route l = record {
+  builds : Builds l.fn.terms l.terms;
+  within : rib_end l.best ≤ size l.terms;
+  value : (w : Reading) → Reads w l.terms
+      → fold closer (rib_of w l.best) (map static_candidate
+      (static_routes (up_interfaces l.net (failures_of w l.sym) l.router) (drop l.route-index l.statics)
+      (prefix_of w l.dst l.len)))
+      ≡ fold closer (rib_of w l.fn.first) (map static_candidate
+      (static_routes (up_interfaces l.net (failures_of w l.sym) l.router) l.statics (prefix_of w l.dst l.len)));
+}

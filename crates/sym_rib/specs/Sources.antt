@@ -1,0 +1,58 @@
+-- The candidates for an entry of a routing table, one at a time.
+use Rattle.std.specs.Prelude.{ℕ, ◌+◌, ◌^◌, ◌==◌, ◌&&◌, Bool, false, not, if◌then◌else◌, List, Option, Some, None, fold}
+use Rattle.std.specs.Prelude.{option_map}
+use Rattle.std.specs.List.{find}
+use Rattle.std.specs.Option.{option_map_or, option_to_list}
+use Rattle.mw_text.specs.declared.address.Prefix.{Prefix}
+use Rattle.mw_text.specs.Address.{same_prefix}
+use Rattle.ios_ast.specs.declared.file.File.{File}
+use Rattle.ios_ast.specs.declared.file.StaticRoute.{StaticRoute}
+use Rattle.route_record.specs.declared.RibEntry.{RibEntry}
+use Rattle.route_record.specs.declared.Failures.{Failures}
+use Rattle.route_record.specs.declared.RibSource.TheVariants.{Static, Ebgp, Ospf, Ibgp}
+use Rattle.net_model.specs.declared.interfaces.Addressed.{Addressed}
+use Rattle.net_model.specs.declared.sessions.SessionEnd.{SessionEnd}
+use Rattle.net_model.specs.Routing.{candidates, closer, counts, least_distance, up_interfaces}
+use Rattle.net_model.specs.Sessions.{ends_of, neighbour_of}
+
+-- the closer of two entries that may be there, of equal distances the first
+abbrev pub closer_of : Option RibEntry → Option RibEntry → Option RibEntry
+closer_of best next = fold closer best (option_to_list next)
+
+-- the entry of a static route that counts
+abbrev pub static_candidate : StaticRoute → RibEntry
+static_candidate route = record { source = Static; distance = route.distance }
+
+-- the entry of a static route, where it is one to that prefix and counts
+abbrev pub static_entry : List Addressed → Prefix → StaticRoute → Option RibEntry
+static_entry up p route =
+    if same_prefix route.prefix p && counts up route then Some (static_candidate route) else None
+
+-- the number that stands for an address in the field that tells where a route was learnt is that of the end's neighbour
+abbrev pub is_from : List File → ℕ → ℕ → SessionEnd → Bool
+is_from files router n end =
+    (end.router == router)
+    && option_map_or (λ neighbour. 2 ^ 32 + neighbour.addr.0 == n) (neighbour_of files end) false
+
+-- the end over which a route with that number was learnt
+abbrev pub end_numbered : List File → ℕ → ℕ → Option SessionEnd
+end_numbered files router n = find (is_from files router n) (ends_of files)
+
+-- an end of the kind that is asked for
+abbrev pub is_of_kind : Bool → SessionEnd → Bool
+is_of_kind internal end = if internal then end.internal else not end.internal
+
+-- the entry of a route that was learnt over an end
+abbrev pub entry_over : SessionEnd → RibEntry
+entry_over end =
+    if end.internal then record { source = Ibgp; distance = 200 } else record { source = Ebgp; distance = 20 }
+
+abbrev pub learnt_entry : List File → ℕ → ℕ → Option RibEntry
+learnt_entry files router n = option_map entry_over (end_numbered files router n)
+
+-- the entry by an entry of BGP and by whether OSPF gives one
+abbrev pub entry_read : List File → Failures → ℕ → File → Prefix → Option RibEntry → Bool → Option RibEntry
+entry_read files failures router file p bgp ospf =
+    closer_of
+    (closer_of (least_distance (candidates (up_interfaces files failures router) file.statics p)) bgp)
+    (if ospf then Some (record { source = Ospf; distance = 110 }) else None)

@@ -1,0 +1,179 @@
+//! The entry of a router's table for one prefix of a destination, as terms (RFC 1812, section 5.2.4).
+
+ghost use Rattle.std.specs.Prelude.{◌≡◌, ◌==◌, ◌&&◌, ℕ, ◌+◌, ◌<◌, ◌≤◌, Bool, not, fold, map, if◌then◌else◌, Some, None, IfOk, length, slice_get, option_and_then};
+ghost use Rattle.net_model.specs.Entries as entries;
+ghost use Rattle.net_model.specs.Routing as routing;
+ghost use Rattle.net_model.specs.Tracked.{tracked_of};
+ghost use Rattle.route_record.specs.declared.Slot.{Slot};
+ghost use Rattle.sym_policy.specs.Held.{failures_of, ospf_end};
+ghost use Rattle.sym_policy.specs.Records.{prefix_of};
+ghost use Rattle.sym_rib.specs.Slots.{rib_of, rib_end, slot_end, StandsForSlot};
+ghost use Rattle.sym_rib.specs.Sources.{closer_of, entry_read, learnt_entry};
+ghost use Rattle.term_store.specs.Terms.{Reading, size, at};
+ghost use Rattle.term_store.specs.Reading.{Reads, Builds, Gives};
+ghost use Rattle.term_arith.specs.Bits.{number, ids_end};
+
+use crate::interfaces::sym_direct;
+use crate::learnt::bgp_rib;
+use crate::ribs::{closer_rib, entry_where};
+use crate::slots::{SymRib, SymSlot};
+use crate::statics::best_static;
+use ios_ast::File;
+use net_model::Net;
+use net_model::ends::file_of;
+use route_record::RibSource;
+use std::alloc::{AllocError, Global};
+use sym_policy::{SymNet, SymOspf};
+use term_arith::Bits;
+use term_arith::gates::{both, constant_node, negate};
+use term_store::{NodeId, Terms};
+
+/// The entry of a connected subnet.
+fn direct_rib(
+    alloc: Global,
+    terms: &mut Terms,
+    net: &Net,
+    sym: &SymNet,
+    router: u32,
+    dst: &Bits,
+    len: u8,
+) -> Result<SymRib, AllocError>
+    requires long { len ≤ 32 }
+    requires wide { length dst.now.nodes ≡ 32 }
+    requires nodes { ids_end dst.now.nodes ≤ size terms.old }
+    requires down { ids_end sym.now.down ≤ size terms.old }
+    ensures builds { Builds terms.old terms.new }
+    ensures within { IfOk result (λ r. rib_end r ≤ size terms.new) }
+    ensures value { Gives terms.new result (λ w r. rib_of w r
+        ≡ (if routing.is_direct (routing.up_interfaces net.now (failures_of w sym.now) router) (prefix_of w dst.now len)
+        then Some (record { source = RibSource.Connected; distance = 0 }) else None)) }
+{
+    let direct = sym_direct(alloc, terms, net, sym, router, dst, len)?;
+    entry_where(alloc, terms, direct, RibSource::Connected, 0)
+}
+
+/// The entry of a held OSPF route, where no own origin is as good.
+fn ospf_rib(
+    alloc: Global,
+    terms: &mut Terms,
+    ospf: &SymOspf,
+    own: NodeId,
+) -> Result<SymRib, AllocError>
+    requires nodes { ospf_end ospf.now ≤ size terms.old }
+    requires own { own.0 < size terms.old }
+    ensures builds { Builds terms.old terms.new }
+    ensures within { IfOk result (λ r. rib_end r ≤ size terms.new) }
+    ensures value { Gives terms.new result (λ w r. rib_of w r ≡ (if at w ospf.now.valid && not (at w own)
+        then Some (record { source = RibSource.Ospf; distance = 110 }) else None)) }
+{
+    let other = negate(terms, own)?;
+    let valid = both(terms, ospf.valid, other)?;
+    entry_where(alloc, terms, valid, RibSource::Ospf, 110)
+}
+
+/// The best entry of the connected subnet and the static routes.
+fn plain_rib(
+    alloc: Global,
+    terms: &mut Terms,
+    net: &Net,
+    sym: &SymNet,
+    router: u32,
+    file: &File,
+    dst: &Bits,
+    len: u8,
+) -> Result<SymRib, AllocError>
+    requires long { len ≤ 32 }
+    requires wide { length dst.now.nodes ≡ 32 }
+    requires nodes { ids_end dst.now.nodes ≤ size terms.old }
+    requires down { ids_end sym.now.down ≤ size terms.old }
+    ensures builds { Builds terms.old terms.new }
+    ensures within { IfOk result (λ r. rib_end r ≤ size terms.new) }
+    ensures value { Gives terms.new result (λ w r. rib_of w r ≡ routing.least_distance (routing.candidates
+        (routing.up_interfaces net.now (failures_of w sym.now) router) file.now.statics (prefix_of w dst.now len))) }
+{
+    let direct = direct_rib(alloc, terms, net, sym, router, dst, len)?;
+    best_static(
+        alloc,
+        terms,
+        net,
+        sym,
+        router,
+        dst,
+        len,
+        direct,
+        file.statics.as_slice(),
+    )
+}
+
+/// The entry of a router of the network, by the terms of its slot.
+fn table_rib(
+    alloc: Global,
+    terms: &mut Terms,
+    net: &Net,
+    sym: &SymNet,
+    router: u32,
+    file: &File,
+    dst: &Bits,
+    len: u8,
+    slot: &SymSlot,
+    own: NodeId,
+) -> Result<SymRib, AllocError>
+    requires long { len ≤ 32 }
+    requires wide { length dst.now.nodes ≡ 32 }
+    requires nodes { ids_end dst.now.nodes ≤ size terms.old }
+    requires down { ids_end sym.now.down ≤ size terms.old }
+    requires slot { slot_end slot.now ≤ size terms.old }
+    requires own { own.0 < size terms.old }
+    ensures builds { Builds terms.old terms.new }
+    ensures within { IfOk result (λ r. rib_end r ≤ size terms.new) }
+    ensures value { Gives terms.new result (λ w r. rib_of w r ≡ entry_read net.now (failures_of w sym.now) router file.now (prefix_of w dst.now len)
+        (if at w slot.now.bgp.valid then learnt_entry net.now router (number w slot.now.bgp.from.nodes) else None)
+        (at w slot.now.ospf.valid && not (at w own))) }
+{
+    let plain = plain_rib(alloc, terms, net, sym, router, file, dst, len)?;
+    let bgp = bgp_rib(alloc, terms, net, router, &slot.bgp)?;
+    let best = closer_rib(alloc, terms, &plain, &bgp)?;
+    let ospf = ospf_rib(alloc, terms, &slot.ospf, own)?;
+    closer_rib(alloc, terms, &best, &ospf)
+}
+
+/// The entry of a router's table for the prefix of that length of a destination: the candidate of least administrative
+/// distance among its connected and static routes, the held BGP route and the held OSPF route, the latter only where no
+/// own origin is as good (`own_ospf`). Equal distances go to the first of connected, static, BGP and OSPF. Where there is
+/// no such router, there is no entry.
+pub fn sym_entry(
+    alloc: Global,
+    terms: &mut Terms,
+    net: &Net,
+    sym: &SymNet,
+    router: u32,
+    dst: &Bits,
+    len: u8,
+    slot: &SymSlot,
+    own_ospf: NodeId,
+) -> Result<SymRib, AllocError>
+    requires long { len ≤ 32 }
+    requires wide { length dst.now.nodes ≡ 32 }
+    requires nodes { ids_end dst.now.nodes ≤ size terms.old }
+    requires down { ids_end sym.now.down ≤ size terms.old }
+    requires slot { slot_end slot.now ≤ size terms.old }
+    requires own { own_ospf.0 < size terms.old }
+    ensures builds { Builds terms.old terms.new }
+    ensures within { IfOk result (λ r. rib_end r ≤ size terms.new) }
+    ensures value { Gives terms.new result (λ w r. (held : Slot) → StandsForSlot w (tracked_of net.now) slot.now held
+        → rib_of w r ≡ option_and_then (λ file. entries.entry_with net.now (failures_of w sym.now) router file
+        (prefix_of w dst.now len) held (at w own_ospf)) (slice_get net.now router)) }
+{
+    match file_of(net.routers(), router) {
+        None => {
+            let valid = constant_node(terms, false)?;
+            entry_where(alloc, terms, valid, RibSource::Connected, 0)
+        }
+        Some(file) => {
+            let entry = table_rib(
+                alloc, terms, net, sym, router, file, dst, len, slot, own_ospf,
+            )?;
+            Ok(entry)
+        }
+    }
+}

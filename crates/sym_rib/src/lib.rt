@@ -1,0 +1,17 @@
+//! The routing table of a router as terms: its entry toward a destination, and what it gives to OSPF and to BGP from that
+//! entry.
+//!
+//! A reading of the store turns a symbolic slot into a plain one (`specs/Slots.antt`). Where a symbolic slot stands for a
+//! slot, what a call here answers stands for what the definitions of the network make of that slot.
+#![tactic(auto)]
+
+mod entry;
+mod interfaces;
+mod learnt;
+mod prefixes;
+mod ribs;
+mod slots;
+mod statics;
+
+pub use entry::sym_entry;
+pub use slots::{SymRib, SymSlot};

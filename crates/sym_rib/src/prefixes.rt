@@ -1,0 +1,80 @@
+//! Prefixes of a destination as terms.
+
+ghost use Rattle.std.specs.Prelude.{◌≡◌, ◌==◌, ◌&&◌, ◌||◌, ◌<◌, ◌≤◌, ◌+◌, ◌/◌, ◌^◌, ℕ, Bool, IfOk, length, drop};
+ghost use Rattle.mw_text.specs.Address.{block, prefix_at, same_prefix};
+ghost use Rattle.sym_policy.specs.Records.{prefix_of as prefix_read};
+ghost use Rattle.term_store.specs.Terms.{Reading, size, at};
+ghost use Rattle.term_store.specs.Reading.{Reads, Builds, Gives};
+ghost use Rattle.term_arith.specs.Bits.{number, ids_end};
+
+use mw_text::{Prefix, prefix_of};
+use std::alloc::AllocError;
+use term_arith::gates::constant_node;
+use term_arith::{Bits, equal_number};
+use term_store::{NodeId, Terms};
+
+/// Whether a prefix is one of that length, with no bit past it.
+fn is_network(p: &Prefix, len: u8) -> bool
+    ensures { result ≡ same_prefix (prefix_at p.now.addr len) p.now }
+{
+    prefix_of(p.addr, len) == *p
+}
+
+/// The bits of an address above its `low` lowest ones.
+#[tactic(auto, using(std::proofs::lemmas::List::take_rest))]
+fn high_bits(address: &Bits, low: u8) -> &[NodeId]
+    requires { low ≤ length address.now.nodes }
+    ensures { result.now ≡ drop low address.now.nodes }
+{
+    &address.nodes.as_slice()[low as usize..]
+}
+
+/// Whether the bits of an address above its `low` lowest ones are those of a number.
+#[tactic(auto, using(crate::proofs::Networks::high_steps))]
+fn sym_high(terms: &mut Terms, address: &Bits, low: u8, value: u64) -> Result<NodeId, AllocError>
+    requires low { low ≤ 32 }
+    requires wide { length address.now.nodes ≡ 32 }
+    requires nodes { ids_end address.now.nodes ≤ size terms.old }
+    ensures builds { Builds terms.old terms.new }
+    ensures within { IfOk result (λ r. r.0 < size terms.new) }
+    ensures value { Gives terms.new result (λ w r. at w r ≡ (number w address.now.nodes / 2 ^ low == value)) }
+{
+    let bits = high_bits(address, low);
+    equal_number(terms, bits, value)
+}
+
+/// Whether the first bits of a prefix are those of an address, as many as are asked for.
+fn sym_agrees(terms: &mut Terms, p: &Prefix, dst: &Bits, len: u8) -> Result<NodeId, AllocError>
+    requires long { len ≤ 32 }
+    requires wide { length dst.now.nodes ≡ 32 }
+    requires nodes { ids_end dst.now.nodes ≤ size terms.old }
+    ensures builds { Builds terms.old terms.new }
+    ensures within { IfOk result (λ r. r.0 < size terms.new) }
+    ensures value { Gives terms.new result (λ w r. at w r ≡ (number w dst.now.nodes / block len == p.now.addr.0 / block len)) }
+{
+    let low = 32 - len;
+    sym_high(terms, dst, low, u64::from(p.addr.0) >> low)
+}
+
+/// Whether a prefix is that of this length of a destination.
+pub(crate) fn sym_same_prefix(
+    terms: &mut Terms,
+    p: &Prefix,
+    dst: &Bits,
+    len: u8,
+) -> Result<NodeId, AllocError>
+    requires long { len ≤ 32 }
+    requires wide { length dst.now.nodes ≡ 32 }
+    requires nodes { ids_end dst.now.nodes ≤ size terms.old }
+    ensures builds { Builds terms.old terms.new }
+    ensures within { IfOk result (λ r. r.0 < size terms.new) }
+    ensures value { Gives terms.new result (λ w r. at w r ≡ same_prefix p.now (prefix_read w dst.now len)) }
+{
+    if is_network(p, len) {
+        let same = sym_agrees(terms, p, dst, len)?;
+        Ok(same)
+    } else {
+        let never = constant_node(terms, false)?;
+        Ok(never)
+    }
+}
