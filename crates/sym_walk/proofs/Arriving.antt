@@ -1,9 +1,8 @@
 -- From which routers a walk ends as a question asks.
-use Rattle.std.proofs.Common.{◌≡◌, ℕ, zero, suc, ◌<◌, Bool, true, ◌||◌, List, [], ◌∷◌, ◌++◌, length, map, ◌⊎◌, inl}
+use Rattle.std.proofs.Common.{◌≡◌, ℕ, zero, suc, ◌<◌, true, List, [], ◌∷◌, ◌++◌, length, map, ◌⊎◌, inl}
 use Rattle.std.proofs.Common.{inr, Some}
 use Rattle.std.proofs.Common.{refl, sym, ap, subst, arith, ◌∙◌}
 use Rattle.std.specs.Prelude.{Contains, slice_get}
-use Rattle.std.specs.List.{list_any}
 use Rattle.std.proofs.lemmas.Bool.{or_cases, or_left, or_right}
 use Rattle.std.proofs.lemmas.List.{length-map}
 use Rattle.mw_text.proofs.Lists.{item_there}
@@ -17,9 +16,8 @@ use Rattle.question_lang.specs.declared.walk.Hop.TheVariants.{To, Ends}
 use Rattle.question_lang.specs.Walks.{GoesOn, MayEnd}
 use Rattle.walk_def.proofs.Members.{last-same}
 use Rattle.walk_def.specs.Arriving.{LastIn}
-use Rattle.walk_def.specs.Safety.{is_end, is_inside, known}
+use Rattle.walk_def.specs.Safety.{is_end, known}
 use Rattle.sym_walk.specs.Layers.{Forwarding, arrives, arriving, ends_or_sends, sends_on}
-use Rattle.sym_walk.specs.Forwardings.{IsForwarding}
 use Rattle.sym_walk.proofs.Edges.{Stands, leading, led, sends_below}
 use Rattle.sym_walk.proofs.Marks.{Below, count, count_most, known_mapped, mapped_known, same_or_more}
 

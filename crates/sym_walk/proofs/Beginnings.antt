@@ -1,9 +1,8 @@
 -- Where walks of a question begin, in a world.
-use Rattle.std.proofs.Common.{◌≡◌, ℕ, ◌<◌, Bool, true, false, List, [], ◌∷◌, ◌++◌, length, ◌⊎◌, inl, inr, Option}
+use Rattle.std.proofs.Common.{◌≡◌, ℕ, ◌<◌, true, false, List, [], ◌∷◌, length, Option}
 use Rattle.std.proofs.Common.{Some, None}
-use Rattle.std.proofs.Common.{refl, sym, ap, subst, arith, ◌∙◌}
+use Rattle.std.proofs.Common.{refl, sym, ap, subst, arith}
 use Rattle.std.specs.Prelude.{Contains, slice_get}
-use Rattle.std.specs.List.{list_all}
 use Rattle.std.specs.Option.{option_map_or}
 use Rattle.std.proofs.lemmas.Option.{slice_get_within}
 use Rattle.ios_ast.specs.declared.file.File.{File}
@@ -24,7 +23,7 @@ use Rattle.walk_def.proofs.Inside.{next_hops_inside}
 use Rattle.walk_def.proofs.Members.{test-of_item}
 use Rattle.walk_def.specs.Safety.{is_inside}
 use Rattle.sym_walk.specs.Layers.{Forwarding}
-use Rattle.sym_walk.specs.Forwardings.{AreForwarding, IsDenied, IsForwarding, IsSought}
+use Rattle.sym_walk.specs.Forwardings.{AreForwarding, IsDenied, IsSought}
 use Rattle.sym_walk.proofs.Edges.{Stands}
 
 -- ---- the table of a world

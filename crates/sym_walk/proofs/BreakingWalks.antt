@@ -1,5 +1,5 @@
 -- For each kind of question: the layers say whether a walk breaks it.
-use Rattle.std.proofs.Common.{◌≡◌, ◌≢◌, ℕ, zero, suc, ◌+◌, ◌<◌, Bool, true, false, ◌&&◌, ◌||◌, not, List, [], ◌∷◌}
+use Rattle.std.proofs.Common.{◌≡◌, ◌≢◌, ℕ, ◌+◌, Bool, true, false, ◌&&◌, ◌||◌, not, List, [], ◌∷◌}
 use Rattle.std.proofs.Common.{◌++◌, length}
 use Rattle.std.proofs.Common.{◌⊎◌, inl, inr, Option, Some, None, refl, sym, ap, subst, arith, ◌∙◌, set}
 use Rattle.std.specs.Prelude.{All}
@@ -25,11 +25,11 @@ use Rattle.question_lang.specs.Walks.{GoesOn, IsWalk, MayBegin}
 use Rattle.walk_def.proofs.Arrivals.{at_target, from_target}
 use Rattle.walk_def.proofs.Lasts.{no_last}
 use Rattle.walk_def.proofs.Members.{last-same}
-use Rattle.walk_def.specs.Arriving.{IsTargetRouter, LastIn, target_end}
+use Rattle.walk_def.specs.Arriving.{LastIn, target_end}
 use Rattle.walk_def.specs.Safety.{is_end, known}
 use Rattle.sym_walk.specs.Layers.{Beginning, Forwarding, arrives, going, is_broken, loops, silent}
-use Rattle.sym_walk.specs.Forwardings.{AreForwarding, IsAtTarget, IsBeginning, IsBeginningOf, IsDenied, IsSought}
-use Rattle.sym_walk.proofs.Arriving.{Arrival, arrival, arrives_from}
+use Rattle.sym_walk.specs.Forwardings.{AreForwarding, IsAtTarget, IsBeginning, IsBeginningOf, IsSought}
+use Rattle.sym_walk.proofs.Arriving.{arrival, arrives_from}
 use Rattle.sym_walk.proofs.Beginnings.{Begun, stood, denied, begun, denied_walk, stands_in}
 use Rattle.sym_walk.proofs.Edges.{Stands}
 use Rattle.sym_walk.proofs.Looping.{goes_so_far, loop_from, loops_from, walk_of}

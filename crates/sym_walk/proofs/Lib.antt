@@ -11,3 +11,4 @@ pub mod Twins
 pub mod Sought
 pub mod Starts
 pub mod TargetRouters
+pub mod OwnerHops

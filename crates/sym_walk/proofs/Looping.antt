@@ -2,7 +2,7 @@
 use Rattle.std.proofs.Common.{◌≡◌, ℕ, zero, suc, ◌+◌, ◌<◌, Bool, true, false, ◌||◌, List, [], ◌∷◌, ◌++◌, length, map}
 use Rattle.std.proofs.Common.{◌⊎◌, inl, inr}
 use Rattle.std.proofs.Common.{Some, refl, sym, ap, subst, arith, ◌∙◌, eqb, length-append}
-use Rattle.std.specs.Prelude.{Any, Contains, nat_lt, slice_get}
+use Rattle.std.specs.Prelude.{Any, Contains, nat_lt}
 use Rattle.std.specs.List.{IsDistinct, list_any}
 use Rattle.std.proofs.lemmas.Cmp.{nat_eq_equiv}
 use Rattle.std.proofs.lemmas.Bool.{eqb-true, ltb-true, or_cases}

@@ -1,7 +1,7 @@
 -- Marks of routers, and how many are set.
-use Rattle.std.proofs.Common.{◌≡◌, ℕ, zero, suc, ◌+◌, ◌<◌, ◌≤◌, Bool, true, false, ◌||◌, List, [], ◌∷◌, length, map}
-use Rattle.std.proofs.Common.{◌⊎◌, inl, inr, Option, Some, None, refl, sym, ap, subst, arith, ◌∙◌}
-use Rattle.std.specs.Prelude.{slice_get, unwrap_or}
+use Rattle.std.proofs.Common.{◌≡◌, ℕ, zero, suc, ◌<◌, ◌≤◌, Bool, true, false, List, [], ◌∷◌, length, map}
+use Rattle.std.proofs.Common.{◌⊎◌, inl, inr, Some, refl, ap, arith, ◌∙◌}
+use Rattle.std.specs.Prelude.{slice_get}
 use Rattle.walk_def.specs.Safety.{known}
 
 -- what a mark says of the item at its place

@@ -1,7 +1,7 @@
 -- Walks that pass a router by: those over the hops of the others.
 use Rattle.std.proofs.Common.{◌≡◌, ◌≢◌, ℕ, zero, suc, Bool, true, false, cond, List, [], ◌∷◌, ◌++◌, ◌⊎◌, inl, inr}
 use Rattle.std.proofs.Common.{Some, refl}
-use Rattle.std.proofs.Common.{sym, ap, subst, arith, ◌∙◌, eqb, eq-eqb, set, length}
+use Rattle.std.proofs.Common.{sym, ap, subst, arith, eqb, eq-eqb, set}
 use Rattle.std.specs.Prelude.{Contains, slice_get}
 use Rattle.std.specs.List.{AllByRecursion}
 use Rattle.std.proofs.lemmas.Bool.{eqb-true}

@@ -1,14 +1,13 @@
 -- A forwarding that stands for the next hops of a router is that of the router.
-use Rattle.std.proofs.Common.{◌≡◌, ℕ, zero, suc, ◌<◌, Bool, true, false, ◌&&◌, not, List, [], ◌∷◌, ◌⊎◌, inl, inr}
+use Rattle.std.proofs.Common.{◌≡◌, ℕ, Bool, true, false, ◌&&◌, not, List, ◌⊎◌, inl, inr}
 use Rattle.std.proofs.Common.{refl, sym, ap}
-use Rattle.std.proofs.Common.{subst, arith, ◌∙◌, eqb, eq-eqb}
-use Rattle.std.specs.Prelude.{Any, Contains}
+use Rattle.std.proofs.Common.{subst, ◌∙◌, eq-eqb}
+use Rattle.std.specs.Prelude.{Contains}
 use Rattle.std.specs.List.{list_any}
 use Rattle.std.proofs.lemmas.Bool.{and_from, and_parts, eqb-true}
 use Rattle.std.proofs.lemmas.List.Folds.{Any-from_list_any, list_any-from_Any}
 use Rattle.ios_ast.specs.declared.file.File.{File}
 use Rattle.route_record.specs.declared.World.{World}
-use Rattle.net_model.specs.declared.interfaces.IfaceId.{IfaceId}
 use Rattle.question_lang.specs.declared.question.Kind.{Kind}
 use Rattle.question_lang.specs.declared.question.Kind.TheVariants.{Reach, Isolate, Waypoint, NoLoop, NoBlackHole}
 use Rattle.question_lang.specs.declared.question.Kind.TheVariants.{Within, Alike, NoStable}
@@ -22,7 +21,7 @@ use Rattle.question_lang.specs.declared.walk.Hop.TheVariants.{To, Ends}
 use Rattle.walk_def.specs.Arriving.{IsTargetRouter, target_end}
 use Rattle.walk_def.specs.Safety.{is_delivered}
 use Rattle.sym_walk.specs.Layers.{Forwarding}
-use Rattle.sym_walk.specs.Forwardings.{IsAtTarget, IsForwarding, IsSought, sends_to}
+use Rattle.sym_walk.specs.Forwardings.{IsAtTarget, IsForwarding, IsSought}
 use Rattle.sym_walk.specs.Twins.{IsTwin, ends_as, is_lost, is_sought, is_target_end, leads_to, leaves_to}
 
 delivered_is : (end : End) → is_delivered end ≡ true → end ≡ Delivered

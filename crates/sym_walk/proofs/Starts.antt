@@ -1,16 +1,14 @@
 -- What is said of a start says where walks of a world begin.
-use Rattle.std.proofs.Common.{◌≡◌, ℕ, Bool, true, false, ◌&&◌, not, List, Option, Some, None, refl, sym, ap, subst, ◌∙◌}
-use Rattle.std.specs.Prelude.{MatchOption}
+use Rattle.std.proofs.Common.{◌≡◌, ℕ, Bool, true, false, not, List, Option, Some, None, refl, sym, ap, subst}
 use Rattle.std.proofs.lemmas.Bool.{and_from, and_parts}
 use Rattle.ios_ast.specs.declared.file.File.{File}
 use Rattle.route_record.specs.declared.World.{World}
 use Rattle.net_model.specs.declared.interfaces.IfaceId.{IfaceId}
 use Rattle.question_lang.specs.declared.question.Start.{Start}
 use Rattle.question_lang.specs.Hops.{permits_in}
-use Rattle.question_lang.specs.Walks.{IsTestedIn, MayBegin, is_open}
+use Rattle.question_lang.specs.Walks.{IsTestedIn, is_open}
 use Rattle.sym_walk.specs.Beginnings.{begins_at, begins_in}
-use Rattle.sym_walk.specs.Forwardings.{IsBeginning, IsDenied}
-use Rattle.sym_walk.specs.Layers.{Beginning}
+use Rattle.sym_walk.specs.Forwardings.{IsBeginning}
 
 is_false : (b : Bool) → not b ≡ true → b ≡ false
 is_false true h = cc

@@ -2,19 +2,16 @@
 use Rattle.std.proofs.Common.{◌≡◌, ℕ, zero, suc, ◌+◌, ◌<◌, ◌≤◌, max, Bool, true, false, List, [], ◌∷◌, ◌++◌, length}
 use Rattle.std.proofs.Common.{map, set, get_or}
 use Rattle.std.proofs.Common.{drop, Option, Some, None, refl, sym, ap, arith, ◌∙◌}
-use Rattle.std.specs.Prelude.{slice_get, unwrap_or, option_map}
-use Rattle.std.specs.Option.{option_map_or}
 use Rattle.std.proofs.lemmas.List.{append_assoc, append-nil, drop_all, drop_more, length-map, map-append}
 use Rattle.std.proofs.lemmas.Grind.{common_steps}
-use Rattle.std.proofs.lemmas.Option.{slice_get-get_or, slice_get_past}
 use Rattle.term_store.specs.declared.NodeId.{NodeId}
 use Rattle.term_store.specs.Terms.{Reading, at}
-use Rattle.term_arith.specs.Bits.{bits, ids_end}
+use Rattle.term_arith.specs.Bits.{bits}
 use Rattle.term_arith.proofs.NumberLemmas.{bits_push, ids_end_at, ids_end_push, node_steps}
 use Rattle.walk_def.specs.Safety.{known}
 use Rattle.sym_walk.specs.declared.forwarding.SymEdge.{SymEdge}
 use Rattle.sym_walk.specs.declared.forwarding.SymForwarding.{SymForwarding}
-use Rattle.sym_walk.specs.Layers.{Edge, Forwarding, arrives, arriving, going, loops}
+use Rattle.sym_walk.specs.Layers.{Forwarding, arrives, arriving, going, loops}
 use Rattle.sym_walk.specs.Symbolic.{edge_of, edges_of, edges_end, forwarding_of, forwarding_end, table_of, table_end}
 use Rattle.sym_walk.specs.Symbolic.{layered, marked_first, marked_on}
 

@@ -1,5 +1,5 @@
 -- The test of a router says whether walks to the target of a question end there.
-use Rattle.std.proofs.Common.{◌≡◌, ℕ, Bool, true, ◌&&◌, List, eqb, eq-eqb}
+use Rattle.std.proofs.Common.{ℕ, List, eq-eqb}
 use Rattle.std.proofs.lemmas.Bool.{and_from, and_parts, eqb-true}
 use Rattle.mw_text.specs.Address.{covers}
 use Rattle.ios_ast.specs.declared.file.File.{File}

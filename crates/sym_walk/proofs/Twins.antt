@@ -1,16 +1,16 @@
 -- Forwardings that stand for lists of next hops: one hop, none, and one of two lists.
-use Rattle.std.proofs.Common.{◌≡◌, ℕ, Bool, true, false, ◌&&◌, ◌||◌, not, cond, List, [], ◌∷◌, ◌++◌, map, refl, sym}
+use Rattle.std.proofs.Common.{◌≡◌, Bool, true, false, ◌&&◌, ◌||◌, not, cond, List, [], ◌∷◌, ◌++◌, refl, sym}
 use Rattle.std.proofs.Common.{ap, subst, ◌∙◌}
 use Rattle.std.specs.List.{list_any}
 use Rattle.std.proofs.lemmas.List.Folds.{list_any-append}
 use Rattle.question_lang.specs.declared.walk.End.{End}
-use Rattle.question_lang.specs.declared.walk.End.TheVariants.{DeniedIn, DeniedOut}
+use Rattle.question_lang.specs.declared.walk.End.TheVariants.{DeniedIn}
 use Rattle.question_lang.specs.declared.walk.Hop.{Hop}
 use Rattle.question_lang.specs.declared.walk.Hop.TheVariants.{To, Ends}
 use Rattle.net_model.specs.declared.interfaces.IfaceId.{IfaceId}
 use Rattle.sym_walk.specs.Choices.{IsChosen}
 use Rattle.sym_walk.specs.Forwardings.{sends_to}
-use Rattle.sym_walk.specs.Layers.{Edge, Forwarding, silent}
+use Rattle.sym_walk.specs.Layers.{Forwarding, silent}
 use Rattle.sym_walk.specs.Twins.{IsTwin, ends_as, leads_to}
 
 or_false : (b : Bool) → (b || false) ≡ b

@@ -1,11 +1,10 @@
 -- Whether a walk breaks a question, by layers: from which routers a walk of one hop more ends so, or goes on.
-use Rattle.std.specs.Prelude.{◌≡◌, ℕ, zero, suc, ◌+◌, ◌&&◌, ◌||◌, not, Bool, true, false, List, [], ◌∷◌, length}
+use Rattle.std.specs.Prelude.{ℕ, zero, suc, ◌+◌, ◌&&◌, ◌||◌, not, Bool, true, false, List, [], length}
 use Rattle.std.specs.Prelude.{map, set}
 use Rattle.std.specs.List.{list_any}
 use Rattle.question_lang.specs.declared.question.Kind.{Kind}
 use Rattle.question_lang.specs.declared.question.Kind.TheVariants.{Reach, Isolate, Waypoint, NoLoop, NoBlackHole}
 use Rattle.question_lang.specs.declared.question.Kind.TheVariants.{Within, Alike, NoStable}
-use Rattle.question_lang.specs.declared.question.Start.{Start}
 use Rattle.walk_def.specs.Safety.{known}
 
 -- a router to which another may send the packet, and whether it does

@@ -2,14 +2,26 @@
 #![tactic(auto)]
 
 mod aims;
+mod begins;
 mod broken;
 mod choices;
+mod connected;
 mod forwarding;
+mod here;
 pub mod laws;
 mod layers;
+mod lists;
+mod over;
+mod owners;
 mod permits;
+mod prefixes;
+mod sending;
 
 pub use aims::SymAim;
+pub use begins::sym_begin;
 pub use broken::sym_broken;
+pub use connected::sym_connected;
 pub use forwarding::{SymBeginning, SymEdge, SymForwarding};
+pub use here::sym_here;
+pub use over::sym_send_over;
 pub use permits::{sym_permits_in, sym_permits_out};

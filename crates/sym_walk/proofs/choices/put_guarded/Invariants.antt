@@ -1,4 +1,4 @@
-use Rattle.std.proofs.Common.{◌≡◌, ◌≤◌, take}
+use Rattle.std.proofs.Common.{◌≤◌, take}
 use Rattle.term_store.specs.Terms.{Reading, size, at}
 use Rattle.term_store.specs.Reading.{Reads, Builds}
 use Rattle.sym_walk.specs.Choices.{AreJoined}
