@@ -16,6 +16,7 @@ mod owners;
 mod permits;
 mod prefixes;
 mod sending;
+mod statics;
 
 pub use aims::SymAim;
 pub use begins::sym_begin;
@@ -25,3 +26,4 @@ pub use forwarding::{SymBeginning, SymEdge, SymForwarding};
 pub use here::sym_here;
 pub use over::sym_send_over;
 pub use permits::{sym_permits_in, sym_permits_out};
+pub use statics::sym_static;
