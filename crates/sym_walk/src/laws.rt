@@ -29,8 +29,7 @@ pub fn layers_law()
 {}
 
 /// What each router does with the packet in a world is known from lists of its next hops: a table whose forwardings
-/// send
-/// and end as these do is that of the world. And what `begins_at` says of the start of a question is so.
+/// send and end as these do is that of the world. And what `begins_at` says of the start of a question is so.
 pub fn forwardings_law()
     ensures table { (files : ListOf File) (world : WorldOf) (kind : KindOf) (table : ListOf Forwarding) →
         length table ≡ length files →
