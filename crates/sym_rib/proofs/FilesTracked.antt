@@ -103,7 +103,8 @@ said_of_entry tracked e = list_all-map (holds tracked) (said_at e.line) e.values
 said_of_list : (tracked : List ℕ) (l : CommunityList)
     → list_all (holds tracked) (said_in_list l) ≡ list_all (values_tracked tracked) l.entries
 said_of_list tracked l =
-    all_flat (holds tracked) (λ e. map (said_at e.line) e.values) (values_tracked tracked) (said_of_entry tracked) l.entries
+    all_flat (holds tracked) (λ e. map (said_at e.line) e.values) (values_tracked tracked) (said_of_entry tracked)
+    l.entries
 
 said_of_paths : (tracked : List ℕ) (es : List AsPathEntry)
     → list_all (holds tracked) (filter_map said_in_pattern es) ≡ list_all (path_tracked tracked) es

@@ -45,8 +45,10 @@ pub ruleset found_steps = (common_steps, found_at, found_end)
 -- the entry of a route by the kind of the end over which it was learnt
 pub learnt_chosen : (valid : Bool) (end : Option SessionEnd)
     → (if valid && option_map_or (is_of_kind true) end false
-    then (if valid && option_map_or (is_of_kind true) end false then Some (record { source = Ibgp; distance = 200 }) else None)
-    else (if valid && option_map_or (is_of_kind false) end false then Some (record { source = Ebgp; distance = 20 }) else None))
+    then (if valid && option_map_or (is_of_kind true) end false
+    then Some (record { source = Ibgp; distance = 200 }) else None)
+    else (if valid && option_map_or (is_of_kind false) end false
+    then Some (record { source = Ebgp; distance = 20 }) else None))
     ≡ (if valid then option_map entry_over end else None)
 learnt_chosen false end = refl
 learnt_chosen true None = refl

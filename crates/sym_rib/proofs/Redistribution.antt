@@ -51,7 +51,8 @@ seen_bgp tracked line true x before after (Some h) is plain whole =
     let shape : BgpShape = bgp_shape tracked h in
     let shape_of : Option BgpShape → BgpShape = λ o. option_map_or (λ y. y) o x in
     let same : x ≡ shape = ap shape_of is in
-    let with_parts : RouteShape → BgpShape → RouteShape = λ s y. record s { path = y.path; communities = y.communities } in
+    let with_parts : RouteShape → BgpShape → RouteShape =
+    λ s y. record s { path = y.path; communities = y.communities } in
     ap Some (whole ∙ ap (λ s. with_parts s x) plain ∙ ap (with_parts (route_shape tracked (plain_route line 1))) same)
 
 -- the path of a route that is seen is short
@@ -78,7 +79,8 @@ short_seen w tracked bgp line held wide stands = by line.source
         let P : ℕ → Type 0 = λ n. number w bgp.len.nodes < 2 ^ n in
         subst P wide (number_below w bgp.len.nodes)
 
-    of_bgp : (o : Option BgpRec) → IfSome o (λ h. length h.path < 2 ^ 32) → IfSome (option_map (seen_of_bgp line) o) IsShort
+    of_bgp : (o : Option BgpRec) → IfSome o (λ h. length h.path < 2 ^ 32)
+        → IfSome (option_map (seen_of_bgp line) o) IsShort
     of_bgp None h = tt
     of_bgp (Some x) h = h
 

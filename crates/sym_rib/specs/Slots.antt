@@ -14,7 +14,8 @@ use Rattle.sym_rib.specs.declared.slots.SymSlot.{SymSlot}
 -- the source of a number, and the number of a source
 abbrev pub source_of_number : ℕ → RibSource
 source_of_number n =
-    if n == 0 then Connected else (if n == 1 then Static else (if n == 2 then Ebgp else (if n == 3 then Ospf else Ibgp)))
+    if n == 0 then Connected
+    else (if n == 1 then Static else (if n == 2 then Ebgp else (if n == 3 then Ospf else Ibgp)))
 
 abbrev pub number_of_source : RibSource → ℕ
 number_of_source Connected = 0

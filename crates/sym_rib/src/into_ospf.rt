@@ -489,7 +489,8 @@ pub fn sym_redistribute(
     ensures within { IfOk result (λ r. list_end ospf_end r ≤ size terms.new) }
     ensures value { Gives terms.new result (λ w r. (held : Slot) → StandsForSlot w (tracked_of net.now) slot.now held
         → filter_map (ospf_of w) r ≡ option_map_or (λ file. option_map_or (λ process.
-        origins.redistributed file process (prefix_of w dst.now len) held) file.ospf []) (slice_get net.now router) []) }
+        origins.redistributed file process (prefix_of w dst.now len) held) file.ospf [])
+        (slice_get net.now router) []) }
 {
     match file_of(net.routers(), router) {
         None => Ok(List::new(alloc)),

@@ -229,7 +229,8 @@ pub(crate) fn known_rec(
     ensures marks { IfOk result (λ r. HasMarks tracked.now r) }
     ensures own { Gives terms.new result (λ w r. IsOwn w tracked.now r) }
     ensures value { Gives terms.new result (λ w r. attributes_at w r
-        ≡ route_shape tracked.now (known_attributes weight local_pref (origin_code origin) type1 (number w med.nodes))) }
+        ≡ route_shape tracked.now
+        (known_attributes weight local_pref (origin_code origin) type1 (number w med.nodes))) }
 {
     let preferences = known_preferences(alloc, terms, weight, local_pref, origin)?;
     let rest = known_rest(alloc, terms, tracked)?;
@@ -248,7 +249,8 @@ pub(crate) fn with_held(
     ensures rows { IfOk result (λ r. length r.bgp.numbers.nodes ≡ length held.now.numbers.nodes) }
     ensures marks { IfOk result (λ r. length r.bgp.communities.nodes ≡ length held.now.communities.nodes) }
     ensures value { IfOk result (λ r. (w : Reading) → attributes_at w r
-        ≡ record (attributes_at w rec) { path = (bgp_at w held.now).path; communities = bits w held.now.communities.nodes }) }
+        ≡ record (attributes_at w rec)
+        { path = (bgp_at w held.now).path; communities = bits w held.now.communities.nodes }) }
 {
     let mut made = rec;
     made.bgp.valid = held.valid;

@@ -19,5 +19,6 @@ returns-in_ok-entry-in-Some-clause-value c = λ w reads held stands.
     let entry_of : Option File → Option RibEntry =
     option_and_then (λ file. entry_with files failures c.args.router file p held own) in
     c.in_ok-entry-in-Some.ensures.value w reads
-    ∙ entry_stands w files failures c.args.router c.in-Some.file.now p (tracked_of files) c.args.slot.now held own stands
+    ∙ entry_stands w files failures c.args.router c.in-Some.file.now p (tracked_of files) c.args.slot.now held own
+    stands
     ∙ ap entry_of (c.in-Some.ensures ∙ ap (λ fs. slice_get fs c.args.router) c.routers.ensures.all)

@@ -1,0 +1,10 @@
+pub mod Layers
+pub mod Forwardings
+pub mod Symbolic
+pub mod Choices
+pub mod Twins
+pub mod Aims
+pub mod Packets
+pub mod Beginnings
+pub mod Owners
+pub mod Here

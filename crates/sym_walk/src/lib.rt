@@ -1,0 +1,31 @@
+//! Whether a walk of a packet breaks a question, as a term over Boolean variables.
+#![tactic(auto)]
+
+mod aims;
+mod begins;
+mod broken;
+mod choices;
+mod connected;
+mod forwarding;
+mod here;
+pub mod laws;
+mod layers;
+mod lists;
+mod over;
+mod own;
+mod owners;
+mod permits;
+mod prefixes;
+mod sending;
+mod statics;
+
+pub use aims::SymAim;
+pub use begins::sym_begin;
+pub use broken::sym_broken;
+pub use connected::sym_connected;
+pub use forwarding::{SymBeginning, SymEdge, SymForwarding};
+pub use here::sym_here;
+pub use over::sym_send_over;
+pub use own::sym_own;
+pub use permits::{sym_permits_in, sym_permits_out};
+pub use statics::sym_static;
