@@ -11,7 +11,7 @@ mod into_ospf;
 mod known;
 mod known_parts;
 mod learnt;
-mod prefixes;
+pub mod prefixes;
 mod ribs;
 mod slots;
 mod statics;

@@ -59,7 +59,7 @@ fn sym_agrees(terms: &mut Terms, p: &Prefix, dst: &Bits, len: u8) -> Result<Node
 }
 
 /// Whether a prefix is that of this length of a destination.
-pub(crate) fn sym_same_prefix(
+pub fn sym_same_prefix(
     terms: &mut Terms,
     p: &Prefix,
     dst: &Bits,
