@@ -5,4 +5,5 @@ pub mod laws;
 mod links;
 mod opens;
 mod packets;
+mod tables;
 mod widths;

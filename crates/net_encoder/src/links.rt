@@ -13,9 +13,9 @@ use term_arith::gates::constant_node;
 use term_arith::lists::put;
 use term_store::{NodeId, Terms};
 
-// So many nodes that are false.
+/// So many nodes that are false.
 #[tactic(auto, using(crate::proofs::Steps::none_steps))]
-fn none_down(alloc: Global, terms: &mut Terms, links: usize) -> Result<List<NodeId>, AllocError>
+pub fn none_down(alloc: Global, terms: &mut Terms, links: usize) -> Result<List<NodeId>, AllocError>
     ensures builds { Builds terms.old terms.new }
     ensures within { IfOk result (λ r. ids_end r ≤ size terms.new) }
     ensures length { IfOk result (λ r. length r ≡ links) }

@@ -1,0 +1,187 @@
+//! The slots of a routing as terms: what is open of them, and the entries that follow.
+
+ghost use Rattle.std.specs.Prelude.{◌≡◌, ℕ, ◌+◌, ◌≤◌, ◌<◌, ◌*◌, IfOk, OnOk, Some, None, ◌++◌, ◌∷◌, [], length, map, max};
+ghost use Rattle.net_model.specs.Tracked.{tracked_of};
+ghost use Rattle.sym_policy.specs.Held.{bgp_of, bgp_end, failures_of, ospf_of, ospf_end};
+ghost use Rattle.sym_policy.specs.Records.{address_of};
+ghost use Rattle.sym_rib.specs.Into.{HasTracked};
+ghost use Rattle.sym_rib.specs.Slots.{rib_of, rib_end, slot_end, StandsForSlot};
+ghost use Rattle.net_encoder.specs.Slots.{bare, slot_of};
+ghost use Rattle.net_encoder.specs.Symbols.{open_of, open_end};
+ghost use Rattle.term_store.specs.Terms.{Reading, at, size};
+ghost use Rattle.term_store.specs.Reading.{Reads, Builds, Gives};
+ghost use Rattle.term_arith.specs.Bits.{ids_end};
+
+use crate::links::none_down;
+use crate::opens::SymOpen;
+use mw_text::List;
+use net_model::Net;
+use route_record::Tracked;
+use std::alloc::{AllocError, Global};
+use sym_policy::{SymBgp, SymNet, SymOspf};
+use sym_rib::{SymRib, SymSlot, sym_entry};
+use term_arith::gates::constant_node;
+use term_arith::{Bits, constant, copy};
+use term_store::{NodeId, Terms};
+
+// The numbers by which BGP routes are preferred, all 0.
+#[derive(Drop)]
+struct NoPreferences {
+    weight: Bits,
+    local_pref: Bits,
+    origin: Bits,
+    med: Bits,
+    ghost weight_wide: { length weight.nodes ≡ 32 },
+    ghost local_pref_wide: { length local_pref.nodes ≡ 32 },
+    ghost origin_wide: { length origin.nodes ≡ 2 },
+    ghost med_wide: { length med.nodes ≡ 32 },
+}
+
+fn no_preferences(alloc: Global, terms: &mut Terms) -> Result<NoPreferences, AllocError>
+    ensures builds { Builds terms.old terms.new }
+    ensures within { IfOk result (λ r. max (max (ids_end r.weight.nodes) (ids_end r.local_pref.nodes))
+        (max (ids_end r.origin.nodes) (ids_end r.med.nodes)) ≤ size terms.new) }
+{
+    Ok(NoPreferences {
+        weight: constant(alloc, terms, 0, 32)?,
+        local_pref: constant(alloc, terms, 0, 32)?,
+        origin: constant(alloc, terms, 0, 2)?,
+        med: constant(alloc, terms, 0, 32)?,
+    })
+}
+
+// The path of a BGP route, all 0.
+#[derive(Drop)]
+struct NoPath {
+    len: Bits,
+    first: Bits,
+    last: Bits,
+    numbers: Bits,
+    ghost len_wide: { length len.nodes ≡ 32 },
+    ghost first_wide: { length first.nodes ≡ 32 },
+    ghost last_wide: { length last.nodes ≡ 32 },
+}
+
+fn no_path(alloc: Global, terms: &mut Terms, tracked: usize) -> Result<NoPath, AllocError>
+    ensures builds { Builds terms.old terms.new }
+    ensures row { IfOk result (λ r. length r.numbers.nodes ≡ tracked) }
+    ensures within { IfOk result (λ r. max (max (ids_end r.len.nodes) (ids_end r.first.nodes))
+        (max (ids_end r.last.nodes) (ids_end r.numbers.nodes)) ≤ size terms.new) }
+{
+    Ok(NoPath {
+        len: constant(alloc, terms, 0, 32)?,
+        first: constant(alloc, terms, 0, 32)?,
+        last: constant(alloc, terms, 0, 32)?,
+        numbers: Bits {
+            nodes: none_down(alloc, terms, tracked)?,
+        },
+    })
+}
+
+// The addresses and lists of a BGP route, all 0.
+#[derive(Drop)]
+struct NoOthers {
+    next_hop: Bits,
+    originator: Bits,
+    from: Bits,
+    communities: Bits,
+    cluster_len: Bits,
+    clusters: Bits,
+    ghost next_hop_wide: { length next_hop.nodes ≡ 32 },
+    ghost originator_wide: { length originator.nodes ≡ 33 },
+    ghost from_wide: { length from.nodes ≡ 33 },
+    ghost cluster_len_wide: { length cluster_len.nodes ≡ 32 },
+}
+
+fn no_others(alloc: Global, terms: &mut Terms, tracked: usize) -> Result<NoOthers, AllocError>
+    ensures builds { Builds terms.old terms.new }
+    ensures row { IfOk result (λ r. length r.communities.nodes ≡ tracked) }
+    ensures within { IfOk result (λ r. max (max (ids_end r.communities.nodes) (ids_end r.next_hop.nodes))
+        (max (max (ids_end r.originator.nodes) (ids_end r.from.nodes))
+        (max (ids_end r.cluster_len.nodes) (ids_end r.clusters.nodes))) ≤ size terms.new) }
+{
+    Ok(NoOthers {
+        next_hop: constant(alloc, terms, 0, 32)?,
+        originator: constant(alloc, terms, 0, 33)?,
+        from: constant(alloc, terms, 0, 33)?,
+        communities: Bits {
+            nodes: none_down(alloc, terms, tracked)?,
+        },
+        cluster_len: constant(alloc, terms, 0, 32)?,
+        clusters: constant(alloc, terms, 0, 0)?,
+    })
+}
+
+// A BGP route that is not there.
+fn no_bgp(alloc: Global, terms: &mut Terms, tracked: &Tracked) -> Result<SymBgp, AllocError>
+    ensures builds { Builds terms.old terms.new }
+    ensures rows { IfOk result (λ r. HasTracked tracked.now r) }
+    ensures within { IfOk result (λ r. bgp_end r ≤ size terms.new) }
+    ensures value { Gives terms.new result (λ w r. bgp_of w r ≡ None) }
+{
+    let valid = constant_node(terms, false)?;
+    let preferences = no_preferences(alloc, terms)?;
+    let path = no_path(alloc, terms, tracked.numbers.as_slice().len())?;
+    let others = no_others(alloc, terms, tracked.communities.as_slice().len())?;
+    Ok(SymBgp {
+        valid,
+        weight: preferences.weight,
+        local_pref: preferences.local_pref,
+        origin: preferences.origin,
+        med: preferences.med,
+        next_hop: others.next_hop,
+        originator: others.originator,
+        from: others.from,
+        len: path.len,
+        first: path.first,
+        last: path.last,
+        numbers: path.numbers,
+        communities: others.communities,
+        cluster_len: others.cluster_len,
+        clusters: others.clusters,
+    })
+}
+
+// An entry that is not there.
+fn no_entry(alloc: Global, terms: &mut Terms) -> Result<SymRib, AllocError>
+    ensures builds { Builds terms.old terms.new }
+    ensures within { IfOk result (λ r. rib_end r ≤ size terms.new) }
+    ensures value { Gives terms.new result (λ w r. rib_of w r ≡ None) }
+{
+    let valid = constant_node(terms, false)?;
+    let source = constant(alloc, terms, 0, 3)?;
+    let distance = constant(alloc, terms, 0, 8)?;
+    Ok(SymRib {
+        valid,
+        source,
+        distance,
+    })
+}
+
+fn copy_route(alloc: Global, rec: &SymOspf) -> Result<SymOspf, AllocError>
+    ensures { IfOk result (λ r. r ≡ rec.now) }
+{
+    let kind = copy(alloc, &rec.kind)?;
+    let metric = copy(alloc, &rec.metric)?;
+    let cost = copy(alloc, &rec.cost)?;
+    Ok(SymOspf {
+        valid: rec.valid,
+        kind,
+        metric,
+        cost,
+    })
+}
+
+// A slot with that OSPF route alone.
+fn bare_slot(alloc: Global, terms: &mut Terms, tracked: &Tracked, ospf: &SymOspf) -> Result<SymSlot, AllocError>
+    requires { ospf_end ospf.now ≤ size terms.old }
+    ensures builds { Builds terms.old terms.new }
+    ensures within { IfOk result (λ r. slot_end r ≤ size terms.new) }
+    ensures rows { IfOk result (λ r. HasTracked tracked.now r.bgp) }
+    ensures value { Gives terms.new result (λ w r. StandsForSlot w tracked.now r (bare (ospf_of w ospf.now))) }
+{
+    let bgp = no_bgp(alloc, terms, tracked)?;
+    let rib = no_entry(alloc, terms)?;
+    let ospf = copy_route(alloc, ospf)?;
+    Ok(SymSlot { ospf, bgp, rib })
+}
