@@ -111,13 +111,13 @@ module _ (files : List File) (destination : Addr) (failures : Failures) (environ
       Chain tables len h.cost (suc (suc k))
   behind k router slot h dear here holds deeper (inl own) =
       let cheap : h.cost ≤ most = all_in (λ o. o.cost ≤ most) _ h (origins router own.file own.process slot own.at
-          own.runs here) own.there in
+      own.runs here) own.there in
       absurd (omega (arith, cheap, dear))
   behind k router slot h dear here holds deeper (inr other) =
       let cost : h.cost ≡ other.held.cost + other.over.cost = ap (λ (r : OspfRec). r.cost) other.is in
       let some : 0 < other.over.cost = all_in (λ a. 0 < a.cost) (adjacencies files) other.over costs other.there in
       let at_most : other.over.cost ≤ step =
-          all_in (λ a. a.cost ≤ step) (adjacencies files) other.over steps other.there in
+      all_in (λ a. a.cost ≤ step) (adjacencies files) other.over steps other.there in
       joined (suc k) router slot h other.held.cost here holds (omega (arith, cost, some))
       (deeper other.over.to.router other.slot other.held (omega (arith, dear, cost, at_most, suc-mul k step)) other.at
       other.holds)
@@ -153,7 +153,7 @@ module _ (files : List File) (destination : Addr) (failures : Failures) (environ
     by (inl dear) =
         let long = chain (length files) router slot h dear here holds in
         let few = length-le_from_distinct_below long.routers (length files) long.apart
-            (λ q there. below q (long.each q (any_in q long.routers there))) in
+        (λ q there. below q (long.each q (any_in q long.routers there))) in
         absurd (omega (arith, few, long.long))
 
 pub cost_bound : (files : List File) (destination : Addr) (failures : Failures) (environment : Environment)

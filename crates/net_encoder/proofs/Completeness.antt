@@ -51,11 +51,11 @@ slot_again files failures d tables router len slot meets =
     let p = prefix_at d len in
     let own = own_there files failures d router len slot meets.file meets.there in
     let entry : entry_of files failures d router len (unknown_of files failures d router len slot) ≡ slot.rib =
-        ap (λ o. option_and_then (λ file. entry_with files failures router file p (bare slot.ospf)
-        (unknown_of files failures d router len slot).own) o) meets.there
-        ∙ ap (entry_with files failures router meets.file p (bare slot.ospf)) own
-        ∙ sym (entry_bare files failures router meets.file p slot
-        (own_is_as_good files failures router meets.file p slot) meets.bgp) ∙ sym meets.rib in
+    ap (λ o. option_and_then (λ file. entry_with files failures router file p (bare slot.ospf)
+    (unknown_of files failures d router len slot).own) o) meets.there
+    ∙ ap (entry_with files failures router meets.file p (bare slot.ospf)) own
+    ∙ sym (entry_bare files failures router meets.file p slot
+    (own_is_as_good files failures router meets.file p slot) meets.bgp) ∙ sym meets.rib in
     λ i. record { ospf = slot.ospf; bgp = sym meets.bgp i; rib = entry i }
 
 -- and what is open of it passes the test
@@ -76,8 +76,8 @@ open_holds files failures d tables router len slot meets =
         (slot_of files failures d router len u)) ≡ true
     own =
         let good = own_there files failures d router len slot meets.file meets.there
-            ∙ ap (own_is_as_good files failures router meets.file (prefix_at d len))
-            (sym (slot_again files failures d tables router len slot meets)) in
+        ∙ ap (own_is_as_good files failures router meets.file (prefix_at d len))
+        (sym (slot_again files failures d tables router len slot meets)) in
         subst (λ b. beq u.own b ≡ true) good (beq-same u.own)
 
 -- each slot from a place on meets its equations
@@ -108,9 +108,9 @@ unfolding slots_of unknowns_of
 slots_again files failures d tables at [] meet = refl
 slots_again files failures d tables at (slot ∷ slots) meet =
     let one = slot_again files failures d tables (at / LENGTHS) (at % LENGTHS) slot
-        (first_meets files failures d tables at slot slots meet) in
+    (first_meets files failures d tables at slot slots meet) in
     let others = slots_again files failures d tables (suc at) slots
-        (rest_meet files failures d tables at slot slots meet) in cc
+    (rest_meet files failures d tables at slot slots meet) in cc
 
 opens_hold : (files : List File) (failures : Failures) (d : Addr) (tables : Tables) (at : ℕ) (slots : List Slot) →
     AllMeet files failures d tables at slots →
@@ -165,7 +165,7 @@ pub tables_again : (files : List File) (d : Addr) (failures : Failures) (environ
     tables_of files failures d (unknowns_of files failures d 0 tables.slots) ≡ tables
 tables_again files d failures environment tables none stable =
     let slots = slots_again files failures d tables 0 tables.slots
-        (stable_meets files d failures environment tables none stable) in
+    (stable_meets files d failures environment tables none stable) in
     λ i. record { slots = slots i }
 
 pub stable_holds : (files : List File) (d : Addr) (failures : Failures) (environment : Environment) (tables : Tables) →

@@ -1,5 +1,6 @@
 -- The failed links are read from their bits, and what is read is a set of links.
-use Rattle.std.proofs.Common.{◌≡◌, ◌≢◌, ℕ, zero, suc, ◌+◌, ◌<◌, ◌≤◌, Bool, true, false, ◌&&◌, List, [], ◌∷◌, ◌++◌, length}
+use Rattle.std.proofs.Common.{◌≡◌, ◌≢◌, ℕ, zero, suc, ◌+◌, ◌<◌, ◌≤◌, Bool, true, false, ◌&&◌, List, [], ◌∷◌, ◌++◌}
+use Rattle.std.proofs.Common.{length}
 use Rattle.std.proofs.Common.{nat_lt, nat_eq, refl, sym, ap, subst, arith, ◌∙◌, inl, inr}
 use Rattle.std.specs.Prelude.{◌==◌, ◌⊎◌, All, IsTrue, if◌then◌else◌}
 use Rattle.std.specs.List.{list_all}
@@ -51,14 +52,16 @@ joined first past false xs within rest = record {
   high = rest.high;
 }
 
-are_positions : (first past : ℕ) (bs : List Bool) → first + length bs ≡ past → ArePositions first past (positions first bs)
+are_positions : (first past : ℕ) (bs : List Bool) → first + length bs ≡ past →
+    ArePositions first past (positions first bs)
 are_positions first past [] long = record { low = refl; ascending = refl; high = All-nil (λ x. x < past) }
 are_positions first past (b ∷ bs) long =
     let rest = are_positions (suc first) past bs (omega (arith, long)) in
     let is = joined first past b (positions (suc first) bs) (omega (arith, long)) rest in
     by b is
   where
-    by : (c : Bool) → ArePositions first past (if c then first ∷ positions (suc first) bs else positions (suc first) bs) →
+    by : (c : Bool) → ArePositions first past (if c then first ∷ positions (suc first) bs else positions
+        (suc first) bs) →
         ArePositions first past (if c then first ∷ positions (suc first) bs else positions (suc first) bs)
     by c is = is
 
@@ -81,7 +84,7 @@ unfolding failures_from
 failures_sound files most v from few =
     let long = length-downs most (length (links_of files)) v from in
     let are = are_positions 0 (length (links_of files)) (downs_from most (length (links_of files)) v from)
-        (omega (arith, long)) in
+    (omega (arith, long)) in
     record { ascending = are.ascending; of_links = are.high; at_most = few }
 
 -- ---- the positions of the marks are the failed links
@@ -155,8 +158,8 @@ positions-marks first zero (f ∷ failed) past up high =
 positions-marks first (suc count) [] past up high = no_marks (suc first) count
 positions-marks first (suc count) (f ∷ failed) past up high =
     let wider : All (λ x. x < suc first + count) (f ∷ failed) =
-        All-weaker (λ x. x < first + suc count) (λ x. x < suc first + count) (λ x below. omega (arith, below))
-        (f ∷ failed) high in
+    All-weaker (λ x. x < first + suc count) (λ x. x < suc first + count) (λ x below. omega (arith, below))
+    (f ∷ failed) high in
     marks_next first count f failed (f == first) refl past up
     (λ past'. positions-marks (suc first) count failed past' (and_parts _ _ up).1
     (All-tail (λ x. x < suc first + count) f failed wider))
@@ -197,7 +200,8 @@ failures_at files most failures v from rest fits here = by (most == 0) refl here
       let long = length-marks 0 count failures.links in
       let parts = after v from (marks 0 count failures.links) rest read in
       let within = All-weaker (λ x. x < count) (λ x. x < 0 + count) (λ x below. omega (arith, below)) failures.links
-          fits.of_links in
-      let is = positions-marks 0 count failures.links (at_least_none failures.links) fits.ascending within in
-      (ap made (ap (positions 0) (subst (λ k. row v from k ≡ marks 0 count failures.links) long parts.0) ∙ is),
-        subst (λ k. IsAt v (from + k) rest) long parts.1)
+      fits.of_links in
+      let is = positions-marks 0 count failures.links (at_least_none failures.links) fits.ascending within in (
+        ap made (ap (positions 0) (subst (λ k. row v from k ≡ marks 0 count failures.links) long parts.0) ∙ is),
+        subst (λ k. IsAt v (from + k) rest) long parts.1,
+      )

@@ -32,9 +32,11 @@ address_part : (v : ℕ → Bool) (p : Prefix) (a from : ℕ) (rest : List Bool)
     IsAt v from (address_bits p a ++ rest) → (address_from p v from ≡ a) × IsAt v (from + (32 - p.len)) rest
 address_part v p a from rest covered here =
     let same : a / block p.len ≡ p.addr.0 / block p.len = eqb-true _ _ covered in
-    let read = field_at v from (32 - p.len) (a % block p.len) rest (mod-lt a (pow_pos (32 - p.len))) here in
-    (ap (λ n. n + block p.len * (p.addr.0 / block p.len)) read.0
-      ∙ ap (λ q. a % block p.len + block p.len * q) (sym same) ∙ mod-add-div a (block p.len), read.1)
+    let read = field_at v from (32 - p.len) (a % block p.len) rest (mod-lt a (pow_pos (32 - p.len))) here in (
+      ap (λ n. n + block p.len * (p.addr.0 / block p.len)) read.0
+          ∙ ap (λ q. a % block p.len + block p.len * q) (sym same) ∙ mod-add-div a (block p.len),
+      read.1,
+    )
 
 -- ---- a port that is fixed
 
@@ -42,9 +44,10 @@ abbrev HasNoPort : ℕ → ℕ → Type 0
 HasNoPort proto port = proto ≢ 6 → proto ≢ 17 → port ≡ 0
 
 no_ports : (proto : ℕ) → is_portless proto ≡ true → (proto ≢ 6) × (proto ≢ 17)
-no_ports proto portless =
-    (λ six. absurd (false≢true (sym (ap is_portless six) ∙ portless)),
-      λ seventeen. absurd (false≢true (sym (ap is_portless seventeen) ∙ portless)))
+no_ports proto portless = (
+  λ six. absurd (false≢true (sym (ap is_portless six) ∙ portless)),
+  λ seventeen. absurd (false≢true (sym (ap is_portless seventeen) ∙ portless)),
+)
 
 by_range : (range : ℕ × ℕ) (port m : ℕ) (b : Bool) → (range.0 == range.1) ≡ b → (range.0 ≤ port) × (port ≤ range.1) →
     (if b then Some range.0 else None) ≡ Some m → port ≡ m
@@ -77,15 +80,17 @@ packet_at set packet v from rest inside here =
     let src = address_part v set.src packet.src.0 _ _ inside.src proto.1 in
     let dst = address_part v set.dst packet.dst.0 _ _ inside.dst src.1 in
     let sport = field_part v (fixed_port set.proto set.sport) 16 packet.sport _ _ inside.ranges.sport
-        (λ m. port_fixed set.proto set.sport packet.proto packet.sport m inside.proto
-        (λ six seventeen. (inside.portless six seventeen).0) inside.sport) dst.1 in
+    (λ m. port_fixed set.proto set.sport packet.proto packet.sport m inside.proto
+    (λ six seventeen. (inside.portless six seventeen).0) inside.sport) dst.1 in
     let dport = field_part v (fixed_port set.proto set.dport) 16 packet.dport _ rest inside.ranges.dport
-        (λ m. port_fixed set.proto set.dport packet.proto packet.dport m inside.proto
-        (λ six seventeen. (inside.portless six seventeen).1) inside.dport) sport.1 in
-    (λ i. record {
-      proto = proto.0 i;
-      src = record { 0 = src.0 i };
-      dst = record { 0 = dst.0 i };
-      sport = sport.0 i;
-      dport = dport.0 i;
-    }, subst (λ k. IsAt v k rest) (omega arith) dport.1)
+    (λ m. port_fixed set.proto set.dport packet.proto packet.dport m inside.proto
+    (λ six seventeen. (inside.portless six seventeen).1) inside.dport) sport.1 in (
+      λ i. record {
+        proto = proto.0 i;
+        src = record { 0 = src.0 i };
+        dst = record { 0 = dst.0 i };
+        sport = sport.0 i;
+        dport = dport.0 i;
+      },
+      subst (λ k. IsAt v k rest) (omega arith) dport.1,
+    )

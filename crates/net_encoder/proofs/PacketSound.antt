@@ -4,7 +4,8 @@ use Rattle.std.proofs.Common.{◌&&◌, ◌||◌, Option, Some, None, refl, sym,
 use Rattle.std.specs.Prelude.{◌==◌, IfSome, IsTrue, if◌then◌else◌}
 use Rattle.std.specs.Option.{option_map_or}
 use Rattle.std.proofs.lemmas.Bool.{and_from, and_parts, eqb-true, eq-eqb, le-leb, leb-true, false≢true, true≢false}
-use Rattle.std.proofs.Math.Nat.{add-mul-div_left, div-eq_of_lt, div-lt_iff_lt-mul, mul-le-mul_left, mul-suc, mul_comm, zero-add}
+use Rattle.std.proofs.Math.Nat.{add-mul-div_left, div-eq_of_lt, div-lt_iff_lt-mul, mul-le-mul_left, mul-suc, mul_comm}
+use Rattle.std.proofs.Math.Nat.{zero-add}
 use Rattle.std.proofs.lemmas.Nat.{pow-add, pow_pos}
 use Rattle.std.proofs.lemmas.Option.{same_Some}
 use Rattle.mw_text.specs.declared.address.Addr.{Addr}
@@ -13,7 +14,8 @@ use Rattle.mw_text.specs.Address.{block, covers}
 use Rattle.route_record.specs.declared.Packet.{Packet}
 use Rattle.question_lang.specs.declared.question.PacketSet.{PacketSet}
 use Rattle.question_lang.specs.Packets.{IsInSet, IsPacket}
-use Rattle.net_encoder.specs.Packets.{FitsSet, address_from, field_from, fixed_port, is_in_set, is_portless, packet_from}
+use Rattle.net_encoder.specs.Packets.{FitsSet, address_from, field_from, fixed_port, is_in_set, is_portless}
+use Rattle.net_encoder.specs.Packets.{packet_from}
 use Rattle.net_encoder.specs.Rows.{number_from}
 use Rattle.net_encoder.proofs.Reading.{number_from-below}
 
@@ -45,8 +47,8 @@ address_below : (v : ℕ → Bool) (p : Prefix) (from : ℕ) → p.addr.0 < 2 ^ 
 address_below v p from fits =
     let low = number_from-below v from (32 - p.len) in
     let few : p.addr.0 / block p.len < 2 ^ (32 - (32 - p.len)) =
-        (div-lt_iff_lt-mul (pow_pos (32 - p.len))).1 (subst (λ n. p.addr.0 < n) (sym (whole p.len)
-        ∙ mul_comm (block p.len) (2 ^ (32 - (32 - p.len)))) fits) in
+    (div-lt_iff_lt-mul (pow_pos (32 - p.len))).1 (subst (λ n. p.addr.0 < n) (sym (whole p.len)
+    ∙ mul_comm (block p.len) (2 ^ (32 - (32 - p.len)))) fits) in
     let most = mul-le-mul_left (block p.len) few in
     omega (arith, low, most, whole p.len, mul-suc (block p.len) (p.addr.0 / block p.len))
 
@@ -111,7 +113,7 @@ packet_complete set packet inside =
     by false true six seventeen = refl
     by false false six seventeen =
         let ports = inside.portless (λ is. absurd (false≢true (sym six ∙ eq-eqb packet.proto 6 is)))
-            (λ is. absurd (false≢true (sym seventeen ∙ eq-eqb packet.proto 17 is))) in
+        (λ is. absurd (false≢true (sym seventeen ∙ eq-eqb packet.proto 17 is))) in
         and_from (packet.sport == 0) (packet.dport == 0) (eq-eqb packet.sport 0 ports.0) (eq-eqb packet.dport 0 ports.1)
 
     portless : (not (is_portless packet.proto) || (packet.sport == 0 && packet.dport == 0)) ≡ true

@@ -57,13 +57,15 @@ pub field_at : (v : ℕ → Bool) (from width n : ℕ) (rest : List Bool) → n 
 unfolding number_from
 field_at v from width n rest small here =
     let parts = after v from (digits width n) rest here in
-    let long = length-digits width n in
-    (ap number_of (subst (λ k. row v from k ≡ digits width n) long parts.0) ∙ number-digits width n small,
-      subst (λ k. IsAt v (from + k) rest) long parts.1)
+    let long = length-digits width n in (
+      ap number_of (subst (λ k. row v from k ≡ digits width n) long parts.0) ∙ number-digits width n small,
+      subst (λ k. IsAt v (from + k) rest) long parts.1,
+    )
 
 -- ---- the row as values of variables
 
-shifted : (b : Bool) (bs : List Bool) (from count : ℕ) → row (truth (b ∷ bs)) (suc from) count ≡ row (truth bs) from count
+shifted : (b : Bool) (bs : List Bool) (from count : ℕ) →
+    row (truth (b ∷ bs)) (suc from) count ≡ row (truth bs) from count
 shifted b bs from zero = refl
 shifted b bs from (suc count) =
     let next : suc (from + 1) ≡ suc from + 1 = omega arith in

@@ -5,7 +5,8 @@ use Rattle.std.proofs.Common.{sym, ap, subst, arith, ◌∙◌, slice_get, max, 
 use Rattle.std.specs.Prelude.{◌==◌, ◌⊎◌, All, IfSome, IsTrue, fold, is_some, option_and_then, if◌then◌else◌}
 use Rattle.std.specs.List.{filter_map, flat_map, list_any}
 use Rattle.std.specs.Option.{option_map_or, option_to_list}
-use Rattle.std.proofs.lemmas.Bool.{and_from, and_parts, cases_lt, eqb-true, eq-eqb, false≢true, le-ltb, ltb-true, or_from, or_parts}
+use Rattle.std.proofs.lemmas.Bool.{and_from, and_parts, cases_lt, eqb-true, eq-eqb, false≢true, le-ltb, ltb-true}
+use Rattle.std.proofs.lemmas.Bool.{or_from, or_parts}
 use Rattle.std.proofs.lemmas.List.Elements.{All-append, All-cons, All-filter, All-head, All-map, All-nil, All-tail}
 use Rattle.std.proofs.lemmas.List.Elements.{All-weaker}
 use Rattle.std.proofs.Math.Dec.{eqb-suc-zero}
@@ -29,7 +30,8 @@ use Rattle.route_record.specs.Fits.{FitsOspf, FitsSlot}
 use Rattle.route_record.specs.Places.{slot_at}
 use Rattle.net_model.specs.declared.adjacencies.Adjacency.{Adjacency}
 use Rattle.net_model.specs.declared.ospf.OspfInterface.{OspfInterface}
-use Rattle.net_model.specs.Ospf.{adjacencies, adjacency, advertisement, are_adjacent, origin_interfaces, ospf_interfaces}
+use Rattle.net_model.specs.Ospf.{adjacencies, adjacency, advertisement, are_adjacent, origin_interfaces}
+use Rattle.net_model.specs.Ospf.{ospf_interfaces}
 use Rattle.net_model.specs.OspfRoutes.{kind_rank, own_origins}
 use Rattle.net_model.specs.Connected.{overlap}
 use Rattle.net_model.specs.Origins.{redistributed}
@@ -169,7 +171,8 @@ of_interfaces files failures router file process p slot none =
     (All-map (IsOfInterface files p) origin_by (origin_interfaces files failures router p)
     (all_from_in (λ x. IsOfInterface files p (origin_by x)) (origin_interfaces files failures router p)
     (of_one files failures router p)))
-    (subst (All (IsOfInterface files p)) (sym (nothing_taken file process p slot none)) (All-nil (IsOfInterface files p)))
+    (subst (All (IsOfInterface files p)) (sym (nothing_taken file process p slot none)) (All-nil
+        (IsOfInterface files p)))
 
 none_takes : (files : List File) (router : ℕ) (file : File) (process : Ospf) → some_take files ≡ false →
     slice_get files router ≡ Some file → file.ospf ≡ Some process → takes_routes process ≡ false
@@ -213,7 +216,7 @@ covering p q (inl less) same =
 covering p q (inr more) same =
     let short : min p.len q.len ≡ p.len = omega (arith, more) in
     let first : covers p q.addr ≡ true = eq-eqb (q.addr.0 / block p.len) (p.addr.0 / block p.len)
-        (sym (subst (λ k. p.addr.0 / block k ≡ q.addr.0 / block k) short same)) in
+    (sym (subst (λ k. p.addr.0 / block k ≡ q.addr.0 / block k) short same)) in
     rw first refl
 
 meets : (q destinations : Prefix) (d : Addr) (len : ℕ) → same_prefix q (prefix_at d len) ≡ true →
@@ -223,12 +226,12 @@ meets q destinations d len same covered =
     let addr : q.addr.0 ≡ d.0 / block len * block len = eqb-true _ _ both.0 in
     let long : q.len ≡ len = eqb-true _ _ both.1 in
     let first : q.addr.0 / block len ≡ d.0 / block len =
-        ap (λ n. n / block len) addr ∙ mul-div_cancel (d.0 / block len) (pow_pos (32 - len)) in
+    ap (λ n. n / block len) addr ∙ mul-div_cancel (d.0 / block len) (pow_pos (32 - len)) in
     let near : q.addr.0 / block (min q.len destinations.len) ≡ d.0 / block (min q.len destinations.len) =
-        coarser q.addr.0 d.0 len (min q.len destinations.len) (omega (arith, long)) first in
+    coarser q.addr.0 d.0 len (min q.len destinations.len) (omega (arith, long)) first in
     let far : d.0 / block (min q.len destinations.len) ≡ destinations.addr.0 / block (min q.len destinations.len) =
-        coarser d.0 destinations.addr.0 destinations.len (min q.len destinations.len) (omega arith)
-        (eqb-true _ _ covered) in
+    coarser d.0 destinations.addr.0 destinations.len (min q.len destinations.len) (omega arith)
+    (eqb-true _ _ covered) in
     covering q destinations (cases_lt destinations.len q.len) (near ∙ far)
 
 advertised_there : (files : List File) (destinations : Prefix) (d : Addr) (len : ℕ) (o : OspfRec) →
@@ -255,7 +258,8 @@ module _ (files : List File) (destinations : Prefix) (d : Addr) (failures : Fail
         ∙ option_and_then_some _ file.ospf h (sym equation ∙ holds) (λ process runs is. ap is_some runs)
 
   -- some interface advertises the prefix, or routes are taken from tables
-  pub room_there : (router len : ℕ) (slot : Slot) (h : OspfRec) → len < LENGTHS → slot_at tables router len ≡ Some slot →
+  pub room_there : (router len : ℕ) (slot : Slot) (h : OspfRec) → len < LENGTHS →
+      slot_at tables router len ≡ Some slot →
       slot.ospf ≡ Some h → has_room files destinations router len ≡ true
   room_there router len slot h short here holds =
       and_from _ _ (runs_there router len slot h short here holds) (by (some_take files) refl)
@@ -267,13 +271,14 @@ module _ (files : List File) (destinations : Prefix) (d : Addr) (failures : Fail
         or_true false = refl
       by false none =
           let advertised = all_held files d failures environment tables len
-              (λ r. is_advertised files destinations len ≡ true) stable short costs (λ r cost is. is)
-              (origins_are files failures tables (prefix_at d len) (λ r. is_advertised files destinations len ≡ true) none
-              (λ o origin. advertised_there files destinations d len o covered origin)) router slot h here holds in
+          (λ r. is_advertised files destinations len ≡ true) stable short costs (λ r cost is. is)
+          (origins_are files failures tables (prefix_at d len) (λ r. is_advertised files destinations len ≡ true) none
+          (λ o origin. advertised_there files destinations d len o covered origin)) router slot h here holds in
           rw advertised refl
 
   -- the route is as wide as is allowed
-  pub width_there : (router len : ℕ) (slot : Slot) (h : OspfRec) → len < LENGTHS → slot_at tables router len ≡ Some slot →
+  pub width_there : (router len : ℕ) (slot : Slot) (h : OspfRec) → len < LENGTHS →
+      slot_at tables router len ≡ Some slot →
       slot.ospf ≡ Some h → FitsWidths (widths_of files) h
   unfolding widths_of
   width_there router len slot h short here holds = by (some_take files) refl where
@@ -292,17 +297,17 @@ module _ (files : List File) (destinations : Prefix) (d : Addr) (failures : Fail
     by true some = record { kind = small_rank h.kind; metric = fits.metric; cost = fits.cost }
     by false none =
         let plain = all_held files d failures environment tables len (λ r. (kind_rank r.kind ≡ 0) × (r.metric ≡ 0))
-            stable short costs (λ r cost is. is) (origins_are files failures tables (prefix_at d len)
-            (λ r. (kind_rank r.kind ≡ 0) × (r.metric ≡ 0)) none (λ o origin.
-            (ap (λ (r : OspfRec). kind_rank r.kind) origin.is, ap (λ (r : OspfRec). r.metric) origin.is)))
-            router slot h here holds in
+        stable short costs (λ r cost is. is) (origins_are files failures tables (prefix_at d len)
+        (λ r. (kind_rank r.kind ≡ 0) × (r.metric ≡ 0)) none (λ o origin.
+        (ap (λ (r : OspfRec). kind_rank r.kind) origin.is, ap (λ (r : OspfRec). r.metric) origin.is)))
+        router slot h here holds in
         let dearest = cost_bound files d failures environment tables len (greatest_cost files) (greatest_cost files)
-            stable short costs (adjacencies_within files) (origins_are files failures tables (prefix_at d len)
-            (λ o. o.cost ≤ greatest_cost files) none (λ o origin.
-            let within : origin.at.cost ≤ greatest_cost files = all_in (λ x. x.cost ≤ greatest_cost files)
-                (ospf_interfaces files) origin.at (interfaces_within files) origin.there in
-            let same = ap (λ (r : OspfRec). r.cost) origin.is in omega (arith, within, same)))
-            router slot h here holds in
+        stable short costs (adjacencies_within files) (origins_are files failures tables (prefix_at d len)
+        (λ o. o.cost ≤ greatest_cost files) none (λ o origin.
+        let within : origin.at.cost ≤ greatest_cost files = all_in (λ x. x.cost ≤ greatest_cost files)
+        (ospf_interfaces files) origin.at (interfaces_within files) origin.there in
+        let same = ap (λ (r : OspfRec). r.cost) origin.is in omega (arith, within, same)))
+        router slot h here holds in
         record {
           kind = omega (arith, plain.0);
           metric = omega (arith, plain.1);

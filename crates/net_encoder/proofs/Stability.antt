@@ -183,7 +183,8 @@ slot_fits files failures d router len u distances fits = record {
   bgp = tt;
   rib = by (slice_get files router) refl;
 } where
-  by : (o : Option File) → slice_get files router ≡ o → IfSome (option_and_then (λ file. entry_with files failures router
+  by : (o : Option File) → slice_get files router ≡ o →
+      IfSome (option_and_then (λ file. entry_with files failures router
       file (prefix_at d len) (bare u.ospf) u.own) o) FitsRib
   by None none = tt
   by (Some file) there = entry_fits files failures router file (prefix_at d len) u.ospf u.own (distances file there)
@@ -195,7 +196,8 @@ unfolding slots_of
 slots_fit files failures d at [] distances fit = All-nil FitsSlot
 slots_fit files failures d at (u ∷ us) distances fit =
     All-cons FitsSlot _ _
-    (slot_fits files failures d (at / LENGTHS) (at % LENGTHS) u (distances (at / LENGTHS)) (All-head (λ x. IfSome x.ospf FitsOspf) u us fit))
+    (slot_fits files failures d (at / LENGTHS) (at % LENGTHS) u (distances (at / LENGTHS)) (All-head
+        (λ x. IfSome x.ospf FitsOspf) u us fit))
     (slots_fit files failures d (suc at) us distances (All-tail (λ x. IfSome x.ospf FitsOspf) u us fit))
 
 pub no_bgp_at : (files : List File) (router : ℕ) (file : File) → runs_no_bgp files ≡ true →
@@ -226,14 +228,16 @@ stable_sound files d failures environment us none distances long fit hold = reco
       (slot_of files failures d router len u)
   by_parts router len file u there holds =
       let wanted : is_wanted files failures d tables router len u file ≡ true =
-          ap (λ o. option_map_or (is_wanted files failures d tables router len u) o false) (sym there) ∙ holds in
-      let both = and_parts (same_ospf u.ospf (held_ospf files failures tables router file (prefix_at d len))) _ wanted in
+      ap (λ o. option_map_or (is_wanted files failures d tables router len u) o false) (sym there) ∙ holds in
+      let both = and_parts (same_ospf u.ospf (held_ospf files failures tables router file
+          (prefix_at d len))) _ wanted in
       let own = beq-is u.own _ both.1 in
       let bgp = no_bgp_at files router file none there in
       record {
         ospf = same_ospf-is u.ospf _ both.0;
         bgp = rw bgp refl;
-        rib = ap (λ o. option_and_then (λ f. entry_with files failures router f (prefix_at d len) (bare u.ospf) u.own) o)
+        rib = ap (λ o. option_and_then (λ f. entry_with files failures router f (prefix_at d len)
+            (bare u.ospf) u.own) o)
             there ∙ sym (entry_bare files failures router file (prefix_at d len)
             (slot_of files failures d router len u) u.own refl)
             ∙ ap (entry_with files failures router file (prefix_at d len) (slot_of files failures d router len u)) own;
@@ -243,13 +247,14 @@ stable_sound files d failures environment us none distances long fit hold = reco
   at_place : (place router len : ℕ) (slot : Slot) → place / LENGTHS ≡ router → place % LENGTHS ≡ len →
       IsOpenAt files failures d tables place slot → (u : Unknown) × (slot ≡ slot_of files failures d router len u)
       × (slot_holds files failures d tables router len u ≡ true)
-  at_place place router len slot by_router by_len found =
-      (found.open_part,
-        found.is ∙ ap (λ r. slot_of files failures d r (place % LENGTHS) found.open_part) by_router
+  at_place place router len slot by_router by_len found = (
+    found.open_part,
+    found.is ∙ ap (λ r. slot_of files failures d r (place % LENGTHS) found.open_part) by_router
         ∙ ap (λ l. slot_of files failures d router l found.open_part) by_len,
-        subst (λ l. slot_holds files failures d tables router l found.open_part ≡ true) by_len
+    subst (λ l. slot_holds files failures d tables router l found.open_part ≡ true) by_len
         (subst (λ r. slot_holds files failures d tables r (place % LENGTHS) found.open_part ≡ true) by_router
-        found.holds))
+        found.holds),
+  )
 
   each : (router len : ℕ) (file : File) (slot : Slot) → slice_get files router ≡ Some file → len < LENGTHS →
       slot_at tables router len ≡ Some slot →
@@ -259,6 +264,6 @@ stable_sound files d failures environment us none distances long fit hold = reco
       let place : 0 + (LENGTHS * router + len) ≡ LENGTHS * router + len = omega arith in
       let parts = place_parts router len short in
       let read = at_place (0 + (LENGTHS * router + len)) router len slot (ap (λ n. n / LENGTHS) place ∙ parts.0)
-          (ap (λ n. n % LENGTHS) place ∙ parts.1) found in
+      (ap (λ n. n % LENGTHS) place ∙ parts.1) found in
       subst (IsStableSlot files failures environment tables router file (prefix_at d len)) (sym read.1)
       (by_parts router len file read.0 there read.2)

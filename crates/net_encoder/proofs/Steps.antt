@@ -1,5 +1,6 @@
 -- Stores that grow, and numbers of new variables.
-use Rattle.std.proofs.Common.{◌≡◌, ℕ, zero, suc, ◌+◌, ◌*◌, ◌^◌, ◌≤◌, Bool, List, [], ◌∷◌, ◌++◌, length, refl, sym, ap, arith}
+use Rattle.std.proofs.Common.{◌≡◌, ℕ, zero, suc, ◌+◌, ◌*◌, ◌^◌, ◌≤◌, Bool, List, [], ◌∷◌, ◌++◌, length, refl, sym, ap}
+use Rattle.std.proofs.Common.{arith}
 use Rattle.std.specs.Prelude.{if◌then◌else◌, nat_lt}
 use Rattle.std.proofs.lemmas.Bool.{le-ltb, lt-ltb}
 use Rattle.std.proofs.Common.{◌∙◌, drop, get_or, map, false, ◌-◌, ◌/◌, ◌<◌, max, subst}
@@ -43,7 +44,8 @@ number_of_append : (xs ys : List Bool) → number_of (xs ++ ys) ≡ number_of xs
 number_of_append [] ys = omega arith
 number_of_append (b ∷ xs) ys =
     let rest = number_of_append xs ys in
-    omega (arith, rest, ap (λ k. k * number_of ys) (pow-suc 2 (length xs)), mul_right_comm (2 ^ length xs) 2 (number_of ys))
+    omega (arith, rest, ap (λ k. k * number_of ys) (pow-suc 2 (length xs)), mul_right_comm (2 ^ length xs) 2
+        (number_of ys))
 
 -- a number above another
 pub number_above : (w : Reading) (low high : List NodeId) →

@@ -21,7 +21,8 @@ use Rattle.route_record.specs.declared.TheConstants.{LENGTHS}
 use Rattle.route_record.specs.Places.{slot_at}
 use Rattle.net_model.specs.declared.adjacencies.Adjacency.{Adjacency}
 use Rattle.net_model.specs.Ospf.{adjacencies, is_up_at, up_adjacencies}
-use Rattle.net_model.specs.OspfRoutes.{better_of, extended, first_best, held_by_ospf, is_better, offer_over, own_origins}
+use Rattle.net_model.specs.OspfRoutes.{better_of, extended, first_best, held_by_ospf, is_better, offer_over}
+use Rattle.net_model.specs.OspfRoutes.{own_origins}
 use Rattle.net_model.specs.Stable.{Stable, held_ospf}
 use Rattle.net_model.proofs.LeastWalks.{In, contains-in, in-cases, in-contains, in-filter, in-filter_map}
 use Rattle.net_encoder.specs.Supported.{AreOrigins, IsKept}
@@ -150,7 +151,8 @@ pub supports : (files : List File) (destination : Addr) (failures : Failures) (e
 supports files destination failures environment tables router len slot h stable short here holds =
     let found = file_there files tables router len slot stable.size here in
     let equation = (stable.equations router len found.0 slot found.1 short here).ospf in
-    supported files failures tables (prefix_at destination len) router found.0 slot h found.1 here (sym equation ∙ holds)
+    supported files failures tables (prefix_at destination len) router found.0 slot h found.1 here
+        (sym equation ∙ holds)
 
 module _ (files : List File) (destination : Addr) (failures : Failures) (environment : Environment) (tables : Tables)
     (len : ℕ) (P : OspfRec → Type 0) (stable : Stable files destination failures environment tables)
@@ -170,7 +172,7 @@ module _ (files : List File) (destination : Addr) (failures : Failures) (environ
       let cost : h.cost ≡ other.held.cost + other.over.cost = ap (λ (r : OspfRec). r.cost) other.is in
       let some : 0 < other.over.cost = all_in (λ a. 0 < a.cost) (adjacencies files) other.over costs other.there in
       let before : P other.held = deeper other.over.to.router other.slot other.held (omega (arith, below, cost, some))
-          other.at other.holds in
+      other.at other.holds in
       subst P (sym other.is) (kept other.held (other.held.cost + other.over.cost) before)
 
   -- by the cost: what is offered costs less where it comes from

@@ -27,9 +27,10 @@ route_at widths r v from rest fits here =
     let kind = field_at v from widths.kind (kind_rank r.kind) _ fits.kind here in
     let metric = field_at v _ widths.metric r.metric _ fits.metric kind.1 in
     let cost = field_at v _ widths.cost r.cost rest fits.cost metric.1 in
-    let is = ap kind_of_number kind.0 ∙ kind_again r.kind in
-    (λ i. record { kind = is i; metric = metric.0 i; cost = cost.0 i },
-      subst (λ k. IsAt v k rest) (omega arith) cost.1)
+    let is = ap kind_of_number kind.0 ∙ kind_again r.kind in (
+      λ i. record { kind = is i; metric = metric.0 i; cost = cost.0 i },
+      subst (λ k. IsAt v k rest) (omega arith) cost.1,
+    )
 
 none_fits : (widths : Widths) → FitsWidths widths (route_or_any None)
 none_fits widths = record {
@@ -55,7 +56,8 @@ unknown_at widths false u v from rest fits here =
     (λ i. record { ospf = sym fits.0 i; own = sym fits.1 i }, subst (λ k. IsAt v k rest) (omega arith) here)
 unknown_at widths true u v from rest fits here =
     let there = one_then v from (is_some u.ospf) _ here in
-    let route = route_at widths (route_or_any u.ospf) v (from + 1) (u.own ∷ rest) (fits_any widths u.ospf fits) there.1 in
+    let route = route_at widths (route_or_any u.ospf) v (from + 1) (u.own ∷ rest)
+        (fits_any widths u.ospf fits) there.1 in
     let own = one_then v _ u.own rest route.1 in
     let ospf = ospf_again u.ospf (v from) (route_from widths v (from + 1)) there.0 route.0 in
     (λ i. record { ospf = ospf i; own = own.0 i }, subst (λ k. IsAt v k rest) (omega arith) own.1)

@@ -1,5 +1,6 @@
 -- Each routing that breaks a question is that of its own bits, and passes the test there.
-use Rattle.std.proofs.Common.{◌≡◌, ℕ, zero, suc, ◌+◌, ◌*◌, ◌/◌, ◌%◌, ◌<◌, Bool, true, false, ◌&&◌, List, [], ◌∷◌, length}
+use Rattle.std.proofs.Common.{◌≡◌, ℕ, zero, suc, ◌+◌, ◌*◌, ◌/◌, ◌%◌, ◌<◌, Bool, true, false, ◌&&◌, List, [], ◌∷◌}
+use Rattle.std.proofs.Common.{length}
 use Rattle.std.proofs.Common.{Option, Some, None, refl, sym, ap, subst, arith, ◌∙◌, slice_get}
 use Rattle.std.specs.Prelude.{◌≤◌, All, nat_le}
 use Rattle.std.proofs.lemmas.Bool.{and_from, le-leb}
@@ -99,8 +100,8 @@ parts_read files question world environment walk v from fits broken here =
     let packet = packet_at question.packets world.packet v from _ broken.packet here in
     let failures = failures_at files question.failures world.failures v _ _ broken.failures packet.1 in
     let opens = unknowns_at (widths_of files) (rooms_of files question)
-        (unknowns_of files world.failures world.packet.dst 0 world.tables.slots) v _ []
-        (opens_have_room files question world environment walk fits broken) failures.1 in
+    (unknowns_of files world.failures world.packet.dst 0 world.tables.slots) v _ []
+    (opens_have_room files question world environment walk fits broken) failures.1 in
     record { packet = packet.0; failures = failures.0; opens = opens.0 }
 
 tables_read : (files : List File) (question : Question) (world : World) (environment : Environment)
@@ -109,7 +110,8 @@ tables_read : (files : List File) (question : Question) (world : World) (environ
     tables_of files (failures_from question.failures (length (links_of files)) v (downs_start question from))
     (packet_from question.packets v from).dst (opens_from files question v from) ≡ world.tables
 tables_read files question world environment walk v from fits broken read =
-    ap (λ f. tables_of files f (packet_from question.packets v from).dst (opens_from files question v from)) read.failures
+    ap (λ f. tables_of files f (packet_from question.packets v from).dst
+        (opens_from files question v from)) read.failures
     ∙ ap (λ (p : Packet). tables_of files world.failures p.dst (opens_from files question v from)) read.packet
     ∙ ap (tables_of files world.failures world.packet.dst) read.opens
     ∙ tables_again files world.packet.dst world.failures environment world.tables fits.no_bgp broken.stable

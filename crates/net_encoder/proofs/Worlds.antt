@@ -41,7 +41,7 @@ use Rattle.net_encoder.specs.Slots.{all_hold, runs_no_bgp, tables_of, unknown_of
 use Rattle.net_encoder.specs.declared.widths.Widths.{Widths}
 use Rattle.net_encoder.specs.Unknowns.{FitRooms, FitsRoom, FitsWidths, Unknown, route_from, unknown_from}
 use Rattle.net_encoder.specs.Unknowns.{unknown_width, unknowns_from, unknowns_width}
-use Rattle.net_encoder.specs.Worlds.{downs_start, slots_start}
+use Rattle.net_encoder.specs.Worlds.{downs_start, no_environment, slots_start}
 use Rattle.net_encoder.specs.Worlds.{IsEncodable, is_routing, opens_from, rooms_of, world_bits, world_from, world_width}
 use Rattle.net_encoder.proofs.Completeness.{stable_holds, tables_again}
 use Rattle.net_encoder.proofs.FailureParts.{failures_at, failures_sound}
@@ -53,9 +53,6 @@ use Rattle.net_encoder.proofs.Stability.{stable_sound}
 use Rattle.net_encoder.proofs.UnknownParts.{length-unknowns, unknowns_at}
 
 -- ---- without BGP the environment is empty
-
-abbrev pub no_environment : Environment
-no_environment = record { ids = []; announced = [] }
 
 none_runs : {A : Type 0} (o : Option A) → not (is_some o) ≡ true → o ≡ None
 none_runs None is = refl

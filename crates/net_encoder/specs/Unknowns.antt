@@ -27,7 +27,8 @@ abbrev pub route_bits : Widths → OspfRec → List Bool → List Bool
 route_bits widths r rest =
     digits widths.kind (kind_rank r.kind) ++ (digits widths.metric r.metric ++ (digits widths.cost r.cost ++ rest))
 
--- what is open of a slot, where there is room for a route: whether there is one, the route, and whether an own origin is
+-- what is open of a slot, where there is room for a route: whether there is one, the route, and whether an own
+-- origin is
 -- as good
 abbrev pub unknown_from : Widths → Bool → (ℕ → Bool) → ℕ → Unknown
 unknown_from widths false v from = record { ospf = None; own = false }

@@ -3,6 +3,7 @@
 use Rattle.std.specs.Prelude.{◌≡◌, ℕ, ◌+◌, ◌*◌, ◌<◌, ◌^◌, ◌&&◌, All, Bool, List, [], length, nat_le, slice_get, Some}
 use Rattle.ios_ast.specs.declared.file.File.{File}
 use Rattle.ios_ast.specs.declared.file.StaticRoute.{StaticRoute}
+use Rattle.route_record.specs.declared.Environment.{Environment}
 use Rattle.route_record.specs.declared.TheConstants.{LENGTHS}
 use Rattle.route_record.specs.declared.World.{World}
 use Rattle.net_model.specs.Limits.{keeps_limits}
@@ -71,3 +72,7 @@ is_routing files question v from =
     is_in_set question.packets world.packet
     && (nat_le (length world.failures.links) question.failures
     && all_hold files world.failures world.packet.dst world.tables 0 (opens_from files question v from))
+
+-- what comes from outside a network without external sessions: nothing
+abbrev pub no_environment : Environment
+no_environment = record { ids = []; announced = [] }

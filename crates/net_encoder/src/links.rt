@@ -48,7 +48,12 @@ fn fresh_row(alloc: Global, terms: &mut Terms, count: usize) -> Result<List<Node
 
 /// Which of so many links are down, where at most so many are.
 #[tactic(auto, using(crate::proofs::Steps::grows_built), unfolding(crate::specs::Failures::downs_from, crate::specs::Failures::downs_width))]
-pub fn downs_of(alloc: Global, terms: &mut Terms, most: u32, links: usize) -> Result<List<NodeId>, AllocError>
+pub fn downs_of(
+    alloc: Global,
+    terms: &mut Terms,
+    most: u32,
+    links: usize,
+) -> Result<List<NodeId>, AllocError>
     ensures grows { Grows terms.old terms.new }
     ensures within { IfOk result (λ r. ids_end r ≤ size terms.new) }
     ensures length { IfOk result (λ r. length r ≡ links) }

@@ -43,7 +43,12 @@ fn padded(alloc: Global, terms: &mut Terms, width: u8, whole: u8) -> Result<Bits
 
 // A route of new variables, which is there where a node is true.
 #[tactic(auto, using(crate::proofs::Steps::grows_grown))]
-fn route(alloc: Global, terms: &mut Terms, widths: Widths, valid: NodeId) -> Result<SymOspf, AllocError>
+fn route(
+    alloc: Global,
+    terms: &mut Terms,
+    widths: Widths,
+    valid: NodeId,
+) -> Result<SymOspf, AllocError>
     requires kind { widths.kind ≤ 2 }
     requires metric { widths.metric ≤ 32 }
     requires cost { widths.cost ≤ 32 }
@@ -127,7 +132,12 @@ fn put_open(made: &mut List<SymOpen>, next: SymOpen) -> Result<(), AllocError>
 
 /// What is open of all slots, in their order: their variables are new.
 #[tactic(auto, using(crate::proofs::Steps::open_steps), unfolding(crate::specs::Unknowns::unknowns_from, crate::specs::Unknowns::unknowns_width))]
-pub fn opens(alloc: Global, terms: &mut Terms, widths: Widths, rooms: &[bool]) -> Result<List<SymOpen>, AllocError>
+pub fn opens(
+    alloc: Global,
+    terms: &mut Terms,
+    widths: Widths,
+    rooms: &[bool],
+) -> Result<List<SymOpen>, AllocError>
     requires kind { widths.kind ≤ 2 }
     requires metric { widths.metric ≤ 32 }
     requires cost { widths.cost ≤ 32 }

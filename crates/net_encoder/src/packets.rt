@@ -17,7 +17,12 @@ use term_store::Terms;
 
 // A field: a number that is fixed, or new variables.
 #[tactic(auto, using(crate::proofs::Steps::grows_built, crate::proofs::Steps::number_fresh))]
-fn field(alloc: Global, terms: &mut Terms, fixed: Option<u16>, width: u8) -> Result<Bits, AllocError>
+fn field(
+    alloc: Global,
+    terms: &mut Terms,
+    fixed: Option<u16>,
+    width: u8,
+) -> Result<Bits, AllocError>
     requires small { width ≤ 64 }
     requires fits { IfSome fixed (λ n. n < 2 ^ width) }
     ensures grows { Grows terms.old terms.new }

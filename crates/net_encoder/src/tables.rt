@@ -173,7 +173,12 @@ fn copy_route(alloc: Global, rec: &SymOspf) -> Result<SymOspf, AllocError>
 }
 
 // A slot with that OSPF route alone.
-fn bare_slot(alloc: Global, terms: &mut Terms, tracked: &Tracked, ospf: &SymOspf) -> Result<SymSlot, AllocError>
+fn bare_slot(
+    alloc: Global,
+    terms: &mut Terms,
+    tracked: &Tracked,
+    ospf: &SymOspf,
+) -> Result<SymSlot, AllocError>
     requires { ospf_end ospf.now ≤ size terms.old }
     ensures builds { Builds terms.old terms.new }
     ensures within { IfOk result (λ r. slot_end r ≤ size terms.new) }

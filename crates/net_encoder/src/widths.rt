@@ -11,11 +11,11 @@ ghost use Rattle.route_record.specs.declared.TheConstants.{LENGTHS};
 
 use ios_ast::{File, Ospf};
 use mw_text::{List, Prefix};
-use route_record::LENGTHS;
 use net_model::connected::prefixes_overlap;
 use net_model::ends::file_of;
 use net_model::ospf::advertisement;
 use net_model::{Net, OspfInterface};
+use route_record::LENGTHS;
 use std::alloc::{AllocError, Global};
 
 /// The bits of a route's kind, metric and cost.
@@ -127,7 +127,12 @@ pub fn rooms(alloc: Global, net: &Net, destinations: &Prefix) -> Result<List<boo
     let count = LENGTHS as u32 * net.routers().len() as u32;
     let mut made = List::new(alloc);
     for place in 0..count {
-        let here = has_room(net, destinations, place / LENGTHS as u32, (place % LENGTHS as u32) as u8);
+        let here = has_room(
+            net,
+            destinations,
+            place / LENGTHS as u32,
+            (place % LENGTHS as u32) as u8,
+        );
         put_room(&mut made, here)?;
     }
     Ok(made)
