@@ -172,7 +172,7 @@ of_interfaces files failures router file process p slot none =
     (all_from_in (λ x. IsOfInterface files p (origin_by x)) (origin_interfaces files failures router p)
     (of_one files failures router p)))
     (subst (All (IsOfInterface files p)) (sym (nothing_taken file process p slot none)) (All-nil
-        (IsOfInterface files p)))
+    (IsOfInterface files p)))
 
 none_takes : (files : List File) (router : ℕ) (file : File) (process : Ospf) → some_take files ≡ false →
     slice_get files router ≡ Some file → file.ospf ≡ Some process → takes_routes process ≡ false

@@ -197,7 +197,7 @@ slots_fit files failures d at [] distances fit = All-nil FitsSlot
 slots_fit files failures d at (u ∷ us) distances fit =
     All-cons FitsSlot _ _
     (slot_fits files failures d (at / LENGTHS) (at % LENGTHS) u (distances (at / LENGTHS)) (All-head
-        (λ x. IfSome x.ospf FitsOspf) u us fit))
+    (λ x. IfSome x.ospf FitsOspf) u us fit))
     (slots_fit files failures d (suc at) us distances (All-tail (λ x. IfSome x.ospf FitsOspf) u us fit))
 
 pub no_bgp_at : (files : List File) (router : ℕ) (file : File) → runs_no_bgp files ≡ true →
@@ -230,7 +230,7 @@ stable_sound files d failures environment us none distances long fit hold = reco
       let wanted : is_wanted files failures d tables router len u file ≡ true =
       ap (λ o. option_map_or (is_wanted files failures d tables router len u) o false) (sym there) ∙ holds in
       let both = and_parts (same_ospf u.ospf (held_ospf files failures tables router file
-          (prefix_at d len))) _ wanted in
+      (prefix_at d len))) _ wanted in
       let own = beq-is u.own _ both.1 in
       let bgp = no_bgp_at files router file none there in
       record {

@@ -44,8 +44,13 @@ number_of_append : (xs ys : List Bool) → number_of (xs ++ ys) ≡ number_of xs
 number_of_append [] ys = omega arith
 number_of_append (b ∷ xs) ys =
     let rest = number_of_append xs ys in
-    omega (arith, rest, ap (λ k. k * number_of ys) (pow-suc 2 (length xs)), mul_right_comm (2 ^ length xs) 2
-        (number_of ys))
+    omega (
+      arith,
+      rest,
+      ap (λ k. k * number_of ys) (pow-suc 2 (length xs)),
+      mul_right_comm (2 ^ length xs) 2
+          (number_of ys),
+    )
 
 -- a number above another
 pub number_above : (w : Reading) (low high : List NodeId) →

@@ -152,7 +152,7 @@ supports files destination failures environment tables router len slot h stable 
     let found = file_there files tables router len slot stable.size here in
     let equation = (stable.equations router len found.0 slot found.1 short here).ospf in
     supported files failures tables (prefix_at destination len) router found.0 slot h found.1 here
-        (sym equation ∙ holds)
+    (sym equation ∙ holds)
 
 module _ (files : List File) (destination : Addr) (failures : Failures) (environment : Environment) (tables : Tables)
     (len : ℕ) (P : OspfRec → Type 0) (stable : Stable files destination failures environment tables)

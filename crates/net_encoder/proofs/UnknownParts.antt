@@ -57,7 +57,7 @@ unknown_at widths false u v from rest fits here =
 unknown_at widths true u v from rest fits here =
     let there = one_then v from (is_some u.ospf) _ here in
     let route = route_at widths (route_or_any u.ospf) v (from + 1) (u.own ∷ rest)
-        (fits_any widths u.ospf fits) there.1 in
+    (fits_any widths u.ospf fits) there.1 in
     let own = one_then v _ u.own rest route.1 in
     let ospf = ospf_again u.ospf (v from) (route_from widths v (from + 1)) there.0 route.0 in
     (λ i. record { ospf = ospf i; own = own.0 i }, subst (λ k. IsAt v k rest) (omega arith) own.1)

@@ -111,7 +111,7 @@ tables_read : (files : List File) (question : Question) (world : World) (environ
     (packet_from question.packets v from).dst (opens_from files question v from) ≡ world.tables
 tables_read files question world environment walk v from fits broken read =
     ap (λ f. tables_of files f (packet_from question.packets v from).dst
-        (opens_from files question v from)) read.failures
+    (opens_from files question v from)) read.failures
     ∙ ap (λ (p : Packet). tables_of files world.failures p.dst (opens_from files question v from)) read.packet
     ∙ ap (tables_of files world.failures world.packet.dst) read.opens
     ∙ tables_again files world.packet.dst world.failures environment world.tables fits.no_bgp broken.stable
