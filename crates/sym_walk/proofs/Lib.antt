@@ -12,3 +12,4 @@ pub mod Sought
 pub mod Starts
 pub mod TargetRouters
 pub mod OwnerHops
+pub mod StaticHops

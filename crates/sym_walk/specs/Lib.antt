@@ -8,3 +8,4 @@ pub mod Packets
 pub mod Beginnings
 pub mod Owners
 pub mod Here
+pub mod Statics

@@ -28,4 +28,4 @@ pub use here::sym_here;
 pub use over::sym_send_over;
 pub use own::sym_own;
 pub use permits::{sym_permits_in, sym_permits_out};
-pub use statics::sym_static;
+pub use statics::{sym_static, sym_statics};
