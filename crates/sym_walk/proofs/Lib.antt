@@ -13,3 +13,4 @@ pub mod Starts
 pub mod TargetRouters
 pub mod OwnerHops
 pub mod StaticHops
+pub mod OfferedHops

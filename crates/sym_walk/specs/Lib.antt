@@ -9,3 +9,5 @@ pub mod Beginnings
 pub mod Owners
 pub mod Here
 pub mod Statics
+pub mod Worlds
+pub mod Offers

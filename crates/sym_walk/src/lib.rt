@@ -1,6 +1,7 @@
 //! Whether a walk of a packet breaks a question, as a term over Boolean variables.
 #![tactic(auto)]
 
+mod adjacent;
 mod aims;
 mod begins;
 mod broken;
@@ -12,6 +13,7 @@ pub mod laws;
 mod layers;
 mod lists;
 mod over;
+mod offers;
 mod own;
 mod owners;
 mod permits;
@@ -19,6 +21,7 @@ mod prefixes;
 mod sending;
 mod statics;
 
+pub use adjacent::sym_ospf_hops;
 pub use aims::SymAim;
 pub use begins::sym_begin;
 pub use broken::sym_broken;
