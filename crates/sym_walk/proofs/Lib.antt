@@ -14,3 +14,4 @@ pub mod TargetRouters
 pub mod OwnerHops
 pub mod StaticHops
 pub mod OfferedHops
+pub mod EntryHops

@@ -119,3 +119,7 @@ united_twin sought c false xs ys a b f is same first second = record {
       ∙ or_false (list_any (sends_to router) a.next) ∙ first.sends router;
   ends = is.ends ∙ ap (λ x. a.ends || (x && b.ends)) same ∙ or_false a.ends ∙ first.ends;
 }
+
+-- a router whose walks never end as sought, and that sends nowhere
+pub still_twin : (b : Bool) → b ≡ false → (sought : End → Bool) → IsTwin sought [] (record { next = []; ends = b })
+still_twin b never sought = record { sends = λ router. refl; ends = never }

@@ -11,3 +11,4 @@ pub mod Here
 pub mod Statics
 pub mod Worlds
 pub mod Offers
+pub mod Entries

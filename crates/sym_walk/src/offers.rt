@@ -87,11 +87,7 @@ fn sym_same_record(terms: &mut Terms, a: &SymOspf, b: &SymOspf) -> Result<NodeId
 }
 
 // Whether both routes are there and are one.
-fn sym_is_held(
-    terms: &mut Terms,
-    held: &SymOspf,
-    offer: &SymOspf,
-) -> Result<NodeId, AllocError>
+fn sym_is_held(terms: &mut Terms, held: &SymOspf, offer: &SymOspf) -> Result<NodeId, AllocError>
     requires first { ospf_end held.now ≤ size terms.old }
     requires second { ospf_end offer.now ≤ size terms.old }
     ensures builds { Builds terms.old terms.new }
