@@ -15,3 +15,5 @@ pub mod OwnerHops
 pub mod StaticHops
 pub mod OfferedHops
 pub mod EntryHops
+pub mod PushedTwins
+pub mod BrokenWorlds

@@ -12,3 +12,5 @@ pub mod Statics
 pub mod Worlds
 pub mod Offers
 pub mod Entries
+pub mod TwinTables
+pub mod Whole

@@ -36,9 +36,9 @@ use term_arith::equal_number;
 use term_arith::gates::constant_node;
 use term_store::{NodeId, Terms};
 
-// A router that does nothing with the packet.
+/// A router that does nothing with the packet.
 #[tactic(auto, using(crate::proofs::Twins::still_twin))]
-fn still(alloc: Global, terms: &mut Terms) -> Result<SymForwarding, AllocError>
+pub(crate) fn still(alloc: Global, terms: &mut Terms) -> Result<SymForwarding, AllocError>
     ensures builds { Builds terms.old terms.new }
     ensures within { IfOk result (λ r. forwarding_end r ≤ size terms.new) }
     ensures value { Gives terms.new result (λ w r. (sought : EndOf → Bool) → IsTwin sought [] (forwarding_of w r)) }
