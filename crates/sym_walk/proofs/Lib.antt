@@ -17,3 +17,4 @@ pub mod OfferedHops
 pub mod EntryHops
 pub mod PushedTwins
 pub mod BrokenWorlds
+pub mod PlainTables
