@@ -1,9 +1,8 @@
 -- The next hops of an entry by the number of its source, and the longest prefix with an entry, one length at a time.
-use Rattle.std.proofs.Common.{◌≡◌, ℕ, zero, suc, ◌+◌, ◌*◌, Bool, true, false, cond, List, [], ◌∷◌, Option, Some, None}
+use Rattle.std.proofs.Common.{◌≡◌, ℕ, suc, ◌+◌, ◌*◌, Bool, true, false, cond, List, [], ◌∷◌, Option, Some, None}
 use Rattle.std.proofs.Common.{refl, sym, ap, ◌∙◌, eqb, arith}
 use Rattle.std.proofs.lemmas.Bool.{eqb-true}
-use Rattle.std.specs.Prelude.{map, slice_get, option_map, option_and_then, filter, if◌then◌else◌, ◌==◌}
-use Rattle.std.specs.List.{flat_map}
+use Rattle.std.specs.Prelude.{slice_get, option_map, option_and_then}
 use Rattle.std.specs.Option.{option_map_or}
 use Rattle.mw_text.specs.Address.{prefix_at}
 use Rattle.ios_ast.specs.declared.file.File.{File}
@@ -15,14 +14,13 @@ use Rattle.route_record.specs.declared.Tables.{Tables}
 use Rattle.route_record.specs.declared.TheConstants.{LENGTHS}
 use Rattle.route_record.specs.declared.World.{World}
 use Rattle.net_model.specs.declared.interfaces.Addressed.{Addressed}
-use Rattle.net_model.specs.Routing.{static_routes, up_interfaces}
+use Rattle.net_model.specs.Routing.{up_interfaces}
 use Rattle.question_lang.specs.declared.walk.End.TheVariants.{NoRoute}
 use Rattle.question_lang.specs.declared.walk.Hop.{Hop}
 use Rattle.question_lang.specs.declared.walk.Hop.TheVariants.{Ends}
-use Rattle.question_lang.specs.Hops.{all_up, connected_hops, entry_at, entry_hops, longest_below, ospf_hops, static_hops}
-use Rattle.sym_policy.specs.declared.records.SymOspf.{SymOspf}
+use Rattle.question_lang.specs.Hops.{all_up, connected_hops, entry_at, entry_hops, longest_below, ospf_hops}
 use Rattle.sym_rib.specs.declared.slots.SymSlot.{SymSlot}
-use Rattle.sym_rib.specs.Slots.{rib_at, rib_of, source_of_number}
+use Rattle.sym_rib.specs.Slots.{rib_at, rib_of}
 use Rattle.term_store.specs.Terms.{Reading, at}
 use Rattle.term_arith.specs.Bits.{number}
 use Rattle.sym_walk.specs.Entries.{by_entry, by_number, entry_of, longer, static_part}

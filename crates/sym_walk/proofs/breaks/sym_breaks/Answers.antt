@@ -1,4 +1,4 @@
-use Rattle.std.proofs.Common.{◌≡◌, ◌∙◌, List, length, subst, sym}
+use Rattle.std.proofs.Common.{◌∙◌, List, length, subst, sym}
 use Rattle.sym_rib.specs.declared.slots.SymSlot.{SymSlot}
 use Rattle.sym_walk.specs.Symbolic.{beginning_of, table_of}
 use Rattle.sym_walk.specs.TwinTables.{AreTwins}

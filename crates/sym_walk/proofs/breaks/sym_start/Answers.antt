@@ -1,4 +1,4 @@
-use Rattle.std.proofs.Common.{◌≡◌, ◌∙◌, sym, subst}
+use Rattle.std.proofs.Common.{◌≡◌, ◌∙◌, subst}
 use Rattle.question_lang.specs.declared.question.Start.{Start}
 use Rattle.sym_policy.specs.Held.{failures_of}
 use Rattle.sym_walk.specs.Beginnings.{begins_at}

@@ -1,4 +1,4 @@
-use Rattle.std.proofs.Common.{◌≡◌, List, [], cond, eqb, sym, subst}
+use Rattle.std.proofs.Common.{List, [], cond, eqb, sym, subst}
 use Rattle.mw_text.specs.Address.{prefix_at}
 use Rattle.net_model.specs.Routing.{up_interfaces}
 use Rattle.question_lang.specs.declared.walk.Hop.{Hop}

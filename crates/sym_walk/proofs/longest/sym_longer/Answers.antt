@@ -1,4 +1,4 @@
-use Rattle.std.proofs.Common.{List, ap, subst, sym}
+use Rattle.std.proofs.Common.{List, subst, sym}
 use Rattle.question_lang.specs.declared.walk.Hop.{Hop}
 use Rattle.sym_walk.specs.Aims.{sought_by}
 use Rattle.sym_walk.specs.Entries.{by_entry}

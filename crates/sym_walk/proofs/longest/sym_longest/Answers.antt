@@ -1,6 +1,5 @@
-use Rattle.std.proofs.Common.{◌≡◌, List, Option, ap, arith, rules, subst, sym}
+use Rattle.std.proofs.Common.{◌≡◌, Option, arith, rules, subst, sym}
 use Rattle.std.specs.Prelude.{ℕ}
-use Rattle.question_lang.specs.declared.walk.Hop.{Hop}
 use Rattle.question_lang.specs.Hops.{longest_below}
 use Rattle.route_record.specs.declared.RibEntry.{RibEntry}
 use Rattle.route_record.specs.declared.Slot.{Slot}

@@ -1,4 +1,4 @@
-use Rattle.std.proofs.Common.{◌≡◌, ◌∙◌, [], List, Option, ap, subst, sym}
+use Rattle.std.proofs.Common.{◌∙◌, [], Option, ap, subst}
 use Rattle.std.specs.Prelude.{slice_get}
 use Rattle.std.specs.Option.{option_map_or}
 use Rattle.ios_ast.specs.declared.file.File.{File}

@@ -1,4 +1,4 @@
-use Rattle.std.proofs.Common.{◌≡◌, Bool, subst}
+use Rattle.std.proofs.Common.{Bool, subst}
 use Rattle.question_lang.specs.Hops.{next_hops}
 use Rattle.sym_walk.specs.Symbolic.{forwarding_of}
 use Rattle.sym_walk.specs.Twins.{IsTwin, is_sought}
