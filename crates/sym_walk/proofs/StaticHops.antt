@@ -85,7 +85,8 @@ routes_step files failures packet router p distance x xs =
     let own = up_interfaces files failures router in
     let hops = static_hops files packet (all_up files failures) own in
     let rest = routes_hops files failures packet router p distance xs in
-    first_twice hops (λ route. eqb route.distance distance) (λ route. same_prefix route.prefix p && counts own route) x xs
+    first_twice hops (λ route. eqb route.distance distance)
+    (λ route. same_prefix route.prefix p && counts own route) x xs
     ∙ ap (λ b. cond ((same_prefix x.prefix p && b) && eqb x.distance distance) (hops x) [] ++ rest) (counts_is own x)
     ∙ ap (λ hs. hs ++ rest)
     (unasked (same_prefix x.prefix p) (not (eqb x.distance 255)) (leads_on own x.via) (eqb x.distance distance)

@@ -28,7 +28,8 @@ abbrev pub offers : Tables → Prefix → Option OspfRec → Adjacency → Bool
 offers tables p held a = option_map_or (λ h. offers_held tables p h a) held false
 
 -- the hops over those of some adjacencies that are up and offer the record held
-abbrev pub offered_hops : List File → Failures → Packet → Tables → ℕ → Prefix → Option OspfRec → List Adjacency → List Hop
+abbrev pub offered_hops : List File → Failures → Packet → Tables → ℕ → Prefix → Option OspfRec → List Adjacency →
+    List Hop
 offered_hops files failures packet tables router p held adjacent =
     option_map_or (λ h. map (send_adjacent files packet)
     (filter (offers_held tables p h) (filter (is_up_from files failures router) adjacent))) held []

@@ -14,6 +14,7 @@ IsTwinOf files world kind router f =
     IsTwin (is_sought kind (ends_here files world.failures world.packet router kind)) (next_hops files world router) f
 
 -- the table has one for each of so many routers
-pub record AreTwins (files : List File) (world : World) (kind : Kind) (many : ℕ) (table : List Forwarding) : Type 0 where
-  pub long : length table ≡ many
-  pub each : (router : ℕ) (f : Forwarding) → slice_get table router ≡ Some f → IsTwinOf files world kind router f
+pub record AreTwins (files : List File) (world : World) (kind : Kind) (many : ℕ) (table : List Forwarding) : Type 0
+  where
+    pub long : length table ≡ many
+    pub each : (router : ℕ) (f : Forwarding) → slice_get table router ≡ Some f → IsTwinOf files world kind router f

@@ -1,6 +1,7 @@
 //! The next hops of OSPF entries, as forwardings.
 
-ghost use Rattle.std.specs.Prelude.{◌≡◌, ℕ, ◌+◌, ◌<◌, ◌≤◌, ◌==◌, ◌&&◌, Bool, IfOk, [], ◌∷◌, ◌++◌, if◌then◌else◌, length};
+ghost use Rattle.std.specs.Prelude.{◌≡◌, ℕ, ◌+◌, ◌<◌, ◌≤◌, ◌==◌, ◌&&◌, Bool, IfOk, [], ◌∷◌, ◌++◌};
+ghost use Rattle.std.specs.Prelude.{if◌then◌else◌, length};
 ghost use Rattle.std.specs.Prelude.{List as ListOf, map};
 ghost use Rattle.std.specs.Option.{option_map_or};
 ghost use Rattle.mw_text.specs.Address.{prefix_at};
@@ -104,7 +105,8 @@ fn sym_adjacent_or(
     Ok(made)
 }
 
-/// Where an OSPF entry of that length leads: over each adjacency of the router that is up and offers the route it holds.
+/// Where an OSPF entry of that length leads: over each adjacency of the router that is up and offers the route it
+/// holds.
 pub fn sym_ospf_hops(
     alloc: Global,
     terms: &mut Terms,

@@ -30,7 +30,8 @@ use sym_rib::SymSlot;
 use term_arith::gates::constant_node;
 use term_store::{NodeId, Terms};
 
-/// What a packet meets, as terms: the packet itself, the failed links, and the slots by router and then by prefix length.
+/// What a packet meets, as terms: the packet itself, the failed links, and the slots by router and then by prefix
+/// length.
 #[derive(Drop)]
 pub struct SymWorld {
     pub packet: SymPacket,

@@ -1,6 +1,7 @@
 //! The next hops of the entry of a slot, as forwardings, in a network without BGP.
 
-ghost use Rattle.std.specs.Prelude.{◌≡◌, ℕ, ◌+◌, ◌<◌, ◌≤◌, ◌==◌, ◌&&◌, Bool, IfOk, [], ◌∷◌, ◌++◌, if◌then◌else◌, length};
+ghost use Rattle.std.specs.Prelude.{◌≡◌, ℕ, ◌+◌, ◌<◌, ◌≤◌, ◌==◌, ◌&&◌, Bool, IfOk, [], ◌∷◌, ◌++◌};
+ghost use Rattle.std.specs.Prelude.{if◌then◌else◌, length};
 ghost use Rattle.std.specs.Prelude.{List as ListOf, Option as OptionOf};
 ghost use Rattle.mw_text.specs.Address.{prefix_at};
 ghost use Rattle.net_model.specs.Routing.{up_interfaces};

@@ -148,8 +148,8 @@ fn sym_longest(
     Ok(rest)
 }
 
-/// What a router of the network does with the packet: it delivers it where the destination is an address of an interface of
-/// its own that is up, else the entry of the longest prefix decides, and without one there is no route.
+/// What a router of the network does with the packet: it delivers it where the destination is an address of an
+/// interface of its own that is up, else the entry of the longest prefix decides, and without one there is no route.
 pub fn sym_hops(
     alloc: Global,
     terms: &mut Terms,

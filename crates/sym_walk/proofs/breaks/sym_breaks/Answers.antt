@@ -16,7 +16,8 @@ returns-clause-sound c = λ w reads broken.
     (table_of w c.in_ok-table.table) in
     let after_begin = c.in_ok-table.ensures.builds.reads w after_table in
     walk_breaks c.args.net.now (whole_of w c.args.world.now) c.args.question.now.kind
-    (beginning_of w c.in_ok-begin.begin) (table_of w c.in_ok-table.table) (subst P c.as_slice.ensures (c.in_ok-table.ensures.value w after_table))
+    (beginning_of w c.in_ok-begin.begin) (table_of w c.in_ok-table.table)
+    (subst P c.as_slice.ensures (c.in_ok-table.ensures.value w after_table))
     (c.in_ok-begin.ensures.value w after_begin) (sym (made.value w reads) ∙ broken)
 
 pub returns-clause-complete : goal.returns-clause-complete
@@ -29,5 +30,6 @@ returns-clause-complete c = λ w reads walk breaks.
     let after_begin = c.in_ok-table.ensures.builds.reads w after_table in
     made.value w reads
     ∙ breaks_all c.args.net.now (whole_of w c.args.world.now) c.args.question.now.kind
-    (beginning_of w c.in_ok-begin.begin) (table_of w c.in_ok-table.table) (subst P c.as_slice.ensures (c.in_ok-table.ensures.value w after_table))
+    (beginning_of w c.in_ok-begin.begin) (table_of w c.in_ok-table.table)
+    (subst P c.as_slice.ensures (c.in_ok-table.ensures.value w after_table))
     (c.in_ok-begin.ensures.value w after_begin) walk breaks

@@ -26,7 +26,8 @@ loop-i-preserved c = record {
       let step = c.in_ok-rest.ensures in
       let P : List Hop → Type 0 = λ hs. IsTwin (sought_by w c.args.aim.now) hs (forwarding_of w c.in_ok-rest.rest) in
       subst P
-      (sym (routes_back net failures packet c.args.router key distance all c.loop-i.i c.index-routes-i.result (omega arith)
+      (sym (routes_back net failures packet c.args.router key distance all c.loop-i.i c.index-routes-i.result
+      (omega arith)
       (omega arith) c.index-routes-i.is))
       (step.value w reads (routes_hops net failures packet c.args.router key distance (drop c.loop-i.i all))
       (c.loop-i.invariant.value w (step.builds.reads w reads)));
