@@ -12,3 +12,9 @@ pub mod Sought
 pub mod Starts
 pub mod TargetRouters
 pub mod OwnerHops
+pub mod StaticHops
+pub mod OfferedHops
+pub mod EntryHops
+pub mod PushedTwins
+pub mod BrokenWorlds
+pub mod PlainTables

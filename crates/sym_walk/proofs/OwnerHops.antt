@@ -38,7 +38,7 @@ first_passing {A} {B} {C} up has g f other x xs = by_up (up x) where
   by_up false = refl
 
 -- a recursion over a list, one item further back
-back : {A B : Type 0} (F : List A → B) (G : A → B → B) → ((x : A) (xs : List A) → F (x ∷ xs) ≡ G x (F xs)) →
+pub back : {A B : Type 0} (F : List A → B) (G : A → B → B) → ((x : A) (xs : List A) → F (x ∷ xs) ≡ G x (F xs)) →
     (xs : List A) (i : ℕ) (d : A) → 0 < i → i ≤ length xs →
     F (drop (i - 1) xs) ≡ G (get_or xs (i - 1) d) (F (drop i xs))
 back F G step xs i d above within =

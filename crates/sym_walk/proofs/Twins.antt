@@ -8,7 +8,7 @@ use Rattle.question_lang.specs.declared.walk.End.TheVariants.{DeniedIn}
 use Rattle.question_lang.specs.declared.walk.Hop.{Hop}
 use Rattle.question_lang.specs.declared.walk.Hop.TheVariants.{To, Ends}
 use Rattle.net_model.specs.declared.interfaces.IfaceId.{IfaceId}
-use Rattle.sym_walk.specs.Choices.{IsChosen}
+use Rattle.sym_walk.specs.Choices.{IsChosen, IsUnion}
 use Rattle.sym_walk.specs.Forwardings.{sends_to}
 use Rattle.sym_walk.specs.Layers.{Forwarding, silent}
 use Rattle.sym_walk.specs.Twins.{IsTwin, ends_as, leads_to}
@@ -90,3 +90,36 @@ joined_twin sought xs ys a b first second = record {
   ends = ap (λ x. x || b.ends) first.ends ∙ ap (λ x. list_any (ends_as sought) xs || x) second.ends
       ∙ sym (list_any-append (ends_as sought) xs ys);
 }
+
+-- a second list under a condition, before the first one
+pub united_twin : (sought : End → Bool) (c test : Bool) (xs ys : List Hop) (a b f : Forwarding) → IsUnion c a b f →
+    c ≡ test → IsTwin sought xs a → IsTwin sought ys b → IsTwin sought (cond test ys [] ++ xs) f
+united_twin sought c true xs ys a b f is same first second = record {
+  sends = λ router.
+      is.goes router
+      ∙ ap (λ x. list_any (sends_to router) a.next || (x && list_any (sends_to router) b.next)) same
+      ∙ ap (λ x. x || list_any (sends_to router) b.next) (first.sends router)
+      ∙ ap (λ x. list_any (leads_to router) xs || x) (second.sends router)
+      ∙ or_swap (list_any (leads_to router) xs) (list_any (leads_to router) ys)
+      ∙ sym (list_any-append (leads_to router) ys xs);
+  ends = is.ends ∙ ap (λ x. a.ends || (x && b.ends)) same ∙ ap (λ x. x || b.ends) first.ends
+      ∙ ap (λ x. list_any (ends_as sought) xs || x) second.ends
+      ∙ or_swap (list_any (ends_as sought) xs) (list_any (ends_as sought) ys)
+      ∙ sym (list_any-append (ends_as sought) ys xs);
+} where
+  or_swap : (x y : Bool) → (x || y) ≡ (y || x)
+  or_swap true true = refl
+  or_swap true false = refl
+  or_swap false true = refl
+  or_swap false false = refl
+united_twin sought c false xs ys a b f is same first second = record {
+  sends = λ router.
+      is.goes router
+      ∙ ap (λ x. list_any (sends_to router) a.next || (x && list_any (sends_to router) b.next)) same
+      ∙ or_false (list_any (sends_to router) a.next) ∙ first.sends router;
+  ends = is.ends ∙ ap (λ x. a.ends || (x && b.ends)) same ∙ or_false a.ends ∙ first.ends;
+}
+
+-- a router whose walks never end as sought, and that sends nowhere
+pub still_twin : (b : Bool) → b ≡ false → (sought : End → Bool) → IsTwin sought [] (record { next = []; ends = b })
+still_twin b never sought = record { sends = λ router. refl; ends = never }

@@ -16,3 +16,8 @@ AreJoined first c second es = (router : ℕ) → sends es router ≡ (sends firs
 pub record IsChosen (c : Bool) (a b f : Forwarding) : Type 0 where
   pub goes : (router : ℕ) → sends f.next router ≡ (if c then sends a.next router else sends b.next router)
   pub ends : f.ends ≡ (if c then a.ends else b.ends)
+
+-- the forwarding sends and ends as the first one does, and under the condition as the second one does too
+pub record IsUnion (c : Bool) (a b f : Forwarding) : Type 0 where
+  pub goes : AreJoined a.next c b.next f.next
+  pub ends : f.ends ≡ (a.ends || (c && b.ends))

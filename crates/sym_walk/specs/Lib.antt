@@ -8,3 +8,9 @@ pub mod Packets
 pub mod Beginnings
 pub mod Owners
 pub mod Here
+pub mod Statics
+pub mod Worlds
+pub mod Offers
+pub mod Entries
+pub mod TwinTables
+pub mod Whole

@@ -3,13 +3,13 @@
 ghost use Rattle.std.specs.Prelude.{◌≡◌, ℕ, ◌+◌, ◌<◌, ◌≤◌, Bool, true, false, IfOk, OnOk, [], ◌∷◌, ◌++◌};
 ghost use Rattle.term_store.specs.Terms.{Reading, size, at};
 ghost use Rattle.term_store.specs.Reading.{Reads, Builds, Gives};
-ghost use Rattle.sym_walk.specs.Choices.{AreJoined, IsChosen};
+ghost use Rattle.sym_walk.specs.Choices.{AreJoined, IsChosen, IsUnion};
 ghost use Rattle.sym_walk.specs.Symbolic.{edge_of, edges_of, edges_end, forwarding_of, forwarding_end};
 
 use crate::forwarding::{SymEdge, SymForwarding};
 use mw_text::List;
 use std::alloc::{AllocError, Global};
-use term_arith::gates::{both, negate, select};
+use term_arith::gates::{both, either, negate, select};
 use term_store::{Node, NodeId, Terms};
 
 // Whether the node is the constant false.
@@ -84,5 +84,27 @@ pub(crate) fn choose_forwarding(
     let mut next = List::new(alloc);
     put_guarded(terms, &mut next, c, a.next.as_slice())?;
     put_guarded(terms, &mut next, otherwise, b.next.as_slice())?;
+    Ok(SymForwarding { next, ends })
+}
+
+/// The first forwarding, and where `c` is true the second one too.
+pub(crate) fn join_forwarding(
+    terms: &mut Terms,
+    c: NodeId,
+    a: SymForwarding,
+    b: &SymForwarding,
+) -> Result<SymForwarding, AllocError>
+    requires test { c.0 < size terms.old }
+    requires first { forwarding_end a ≤ size terms.old }
+    requires second { forwarding_end b.now ≤ size terms.old }
+    ensures builds { Builds terms.old terms.new }
+    ensures within { IfOk result (λ r. forwarding_end r ≤ size terms.new) }
+    ensures value { Gives terms.new result (λ w r. IsUnion (at w c) (forwarding_of w a) (forwarding_of w b.now)
+        (forwarding_of w r)) }
+{
+    let counted = both(terms, c, b.ends)?;
+    let ends = either(terms, a.ends, counted)?;
+    let mut next = a.next;
+    put_guarded(terms, &mut next, c, b.next.as_slice())?;
     Ok(SymForwarding { next, ends })
 }

@@ -8,6 +8,11 @@ ghost use Rattle.question_lang.specs.declared.question.Start.{Start as StartOf};
 ghost use Rattle.question_lang.specs.declared.walk.Walk.{Walk as WalkOf};
 ghost use Rattle.question_lang.specs.Breaking.{Breaks};
 ghost use Rattle.question_lang.specs.Hops.{next_hops};
+ghost use Rattle.route_record.specs.declared.Tables.{Tables as TablesOf};
+ghost use Rattle.route_record.specs.declared.tracked.Tracked.{Tracked as TrackedOf};
+ghost use Rattle.sym_rib.specs.declared.slots.SymSlot.{SymSlot as SymSlotOf};
+ghost use Rattle.term_store.specs.Terms.{Reading};
+ghost use Rattle.sym_walk.specs.Worlds.{ArePlain, tables_of};
 ghost use Rattle.sym_walk.specs.Beginnings.{begins_at};
 ghost use Rattle.sym_walk.specs.Forwardings.{AreForwarding, IsBeginningOf, start_asked};
 ghost use Rattle.sym_walk.specs.Here.{ends_here};
@@ -40,4 +45,10 @@ pub fn forwardings_law()
     ensures beginning { (files : ListOf File) (world : WorldOf) (kind : KindOf) (start : StartOf) →
         start_asked kind ≡ Some start →
         IsBeginningOf files world kind (begins_at files world.failures world.packet start) }
+{}
+
+/// Symbolic slots that stand for those of tables without BGP routes are read as these tables.
+pub fn plain_tables_law()
+    ensures { (w : Reading) (tracked : TrackedOf) (slots : ListOf SymSlotOf) (tables : TablesOf) →
+        ArePlain w tracked slots tables → tables_of w slots ≡ tables }
 {}

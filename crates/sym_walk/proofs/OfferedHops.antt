@@ -1,0 +1,97 @@
+-- Over which adjacencies an OSPF entry sends, one adjacency at a time.
+use Rattle.std.proofs.Common.{◌≡◌, ℕ, zero, suc, ◌-◌, ◌<◌, ◌≤◌, Bool, true, false, ◌&&◌, cond, List, [], ◌∷◌}
+use Rattle.std.proofs.Common.{◌++◌, length, get_or, drop, Option, Some, None, refl, sym, ap, arith, rules}
+use Rattle.std.specs.Prelude.{filter, map, slice_get, option_copied, option_map, IfSome}
+use Rattle.std.specs.Borrow.{Bor}
+use Rattle.std.specs.Option.{option_map_or}
+use Rattle.std.proofs.lemmas.Option.{slice_get-map}
+use Rattle.mw_text.specs.declared.address.Prefix.{Prefix}
+use Rattle.ios_ast.specs.declared.file.File.{File}
+use Rattle.route_record.specs.declared.Failures.{Failures}
+use Rattle.route_record.specs.declared.OspfRec.{OspfRec}
+use Rattle.route_record.specs.declared.Packet.{Packet}
+use Rattle.route_record.specs.declared.Tables.{Tables}
+use Rattle.net_model.specs.declared.adjacencies.Adjacency.{Adjacency}
+use Rattle.net_model.specs.Ospf.{adjacencies, up_adjacencies}
+use Rattle.net_model.specs.Sending.{sent_by_ospf}
+use Rattle.question_lang.specs.declared.walk.Hop.{Hop}
+use Rattle.question_lang.specs.Hops.{send_adjacent}
+use Rattle.sym_rib.specs.declared.slots.SymSlot.{SymSlot}
+use Rattle.sym_rib.specs.Slots.{slot_end}
+use Rattle.term_store.specs.Terms.{Reading}
+use Rattle.sym_walk.specs.Offers.{is_up_from, offered_hops, offers, offers_held}
+use Rattle.sym_walk.specs.Worlds.{slot_of, slots_end}
+use Rattle.sym_walk.proofs.OwnerHops.{back}
+
+-- a slot at a place
+pub slot_read : (w : Reading) (slots : List SymSlot) (place : ℕ) →
+    slice_get (map (slot_of w) slots) place ≡ option_map (slot_of w) (slice_get slots place)
+slot_read w slots place = slice_get-map (slot_of w) slots place
+
+pub slots_end_at : (slots : List SymSlot) (place : ℕ) (s : SymSlot) → slice_get slots place ≡ Some s →
+    slot_end s ≤ slots_end slots
+slots_end_at [] place s h = cc
+slots_end_at (x ∷ rest) zero s h =
+    let same : x ≡ s = cc in
+    let here : slot_end x ≡ slot_end s = ap slot_end same in
+    omega arith
+slots_end_at (x ∷ rest) (suc place) s h =
+    let deeper = slots_end_at rest place s h in
+    omega arith
+
+-- the nodes of a slot that is found stand below the end of all
+pub slot_bounded : (slots : List SymSlot) (place : ℕ) (o : Option (Bor SymSlot)) →
+    option_copied o ≡ slice_get slots place → IfSome o (λ r. slot_end r.now ≤ slots_end slots)
+slot_bounded slots place None h = search rules
+slot_bounded slots place (Some r) h = slots_end_at slots place r.now (sym h)
+
+-- what the first of some items gives that pass two tests
+mapped_twice : {A B : Type 0} (f : A → B) (q p : A → Bool) (x : A) (xs : List A) →
+    map f (filter q (filter p (x ∷ xs))) ≡ cond (p x && q x) (f x ∷ []) [] ++ map f (filter q (filter p xs))
+mapped_twice {A} {B} f q p x xs = by_one (p x) where
+  by_other : (c : Bool) → map f (cond c (x ∷ filter q (filter p xs)) (filter q (filter p xs)))
+      ≡ cond c (f x ∷ []) [] ++ map f (filter q (filter p xs))
+  by_other true = refl
+  by_other false = refl
+
+  by_one : (b : Bool) → map f (filter q (cond b (x ∷ filter p xs) (filter p xs)))
+      ≡ cond (b && q x) (f x ∷ []) [] ++ map f (filter q (filter p xs))
+  by_one true = by_other (q x)
+  by_one false = refl
+
+offered_step : (files : List File) (failures : Failures) (packet : Packet) (tables : Tables) (router : ℕ) (p : Prefix)
+    (held : Option OspfRec) (x : Adjacency) (xs : List Adjacency) →
+    offered_hops files failures packet tables router p held (x ∷ xs)
+    ≡ cond (is_up_from files failures router x && offers tables p held x) (send_adjacent files packet x ∷ []) []
+    ++ offered_hops files failures packet tables router p held xs
+offered_step files failures packet tables router p None x xs = by_up (is_up_from files failures router x) where
+  by_up : (b : Bool) → ◌≡◌ {A = List Hop} [] (cond (b && false) (send_adjacent files packet x ∷ []) [] ++ [])
+  by_up true = refl
+  by_up false = refl
+offered_step files failures packet tables router p (Some h) x xs =
+    mapped_twice (send_adjacent files packet) (offers_held tables p h) (is_up_from files failures router) x xs
+
+pub offered_back : (files : List File) (failures : Failures) (packet : Packet) (tables : Tables) (router : ℕ)
+    (p : Prefix) (held : Option OspfRec) (xs : List Adjacency) (i : ℕ) (d : Adjacency) → 0 < i → i ≤ length xs →
+    offered_hops files failures packet tables router p held (drop (i - 1) xs)
+    ≡ cond (is_up_from files failures router (get_or xs (i - 1) d) && offers tables p held (get_or xs (i - 1) d))
+    (send_adjacent files packet (get_or xs (i - 1) d) ∷ []) []
+    ++ offered_hops files failures packet tables router p held (drop i xs)
+offered_back files failures packet tables router p held xs i d above within =
+    back (offered_hops files failures packet tables router p held)
+    (λ y rest. cond (is_up_from files failures router y && offers tables p held y) (send_adjacent files packet y ∷ [])
+    [] ++ rest)
+    (offered_step files failures packet tables router p held) xs i d above within
+
+-- these are the hops of an OSPF entry
+pub offered_all : (files : List File) (failures : Failures) (packet : Packet) (tables : Tables) (router : ℕ)
+    (p : Prefix) (held : Option OspfRec) →
+    offered_hops files failures packet tables router p held (adjacencies files)
+    ≡ option_map_or (λ h. map (send_adjacent files packet) (sent_by_ospf files failures tables router p h)) held []
+unfolding sent_by_ospf up_adjacencies
+offered_all files failures packet tables router p None = refl
+offered_all files failures packet tables router p (Some h) = refl
+
+-- what stands past the end of a list of adjacencies
+abbrev pub no_adjacency : Adjacency
+no_adjacency = record { from = record { router = 0; at = 0 }; to = record { router = 0; at = 0 }; cost = 0 }

@@ -1,0 +1,50 @@
+use Rattle.std.proofs.Common.{List, ◌≡◌, ◌∙◌, ap, sym, subst, arith, rules, drop}
+use Rattle.net_model.specs.declared.adjacencies.Adjacency.{Adjacency}
+use Rattle.question_lang.specs.declared.walk.Hop.{Hop}
+use Rattle.sym_policy.specs.Held.{failures_of, ospf_of}
+use Rattle.sym_policy.specs.Records.{prefix_of}
+use Rattle.sym_walk.specs.Aims.{sought_by}
+use Rattle.sym_walk.specs.Offers.{offered_hops}
+use Rattle.sym_walk.specs.Packets.{packet_of}
+use Rattle.sym_walk.specs.Symbolic.{forwarding_of}
+use Rattle.sym_walk.specs.Twins.{IsTwin}
+use Rattle.sym_walk.specs.Worlds.{tables_of}
+use Rattle.sym_walk.proofs.OfferedHops.{no_adjacency, offered_all, offered_back}
+use Rattle.sym_walk.proofs.adjacent.sym_ospf_hops.Goals as goal
+
+pub loop-i-preserved : goal.loop-i-preserved
+loop-i-preserved c = record {
+  builds = search rules;
+  within = search rules;
+  value = λ w reads.
+      let net = c.args.net.now in
+      let failures = failures_of w c.args.sym.now in
+      let packet = packet_of w c.args.packet.now in
+      let tables = tables_of w c.args.slots.now in
+      let key = prefix_of w c.args.packet.now.dst c.args.len in
+      let held = ospf_of w c.args.held.now in
+      let all = c.adjacencies-all.result.now in
+      let step = c.in_ok-rest.ensures in
+      let P : List Hop → Type 0 = λ hs. IsTwin (sought_by w c.args.aim.now) hs (forwarding_of w c.in_ok-rest.rest) in
+      subst P
+      (sym (offered_back net failures packet tables c.args.router key held all c.loop-i.i no_adjacency (omega arith)
+      (omega arith)))
+      (step.value w reads (offered_hops net failures packet tables c.args.router key held (drop c.loop-i.i all))
+      (c.loop-i.invariant.value w (step.builds.reads w reads)));
+}
+
+pub returns-clause-value : goal.returns-clause-value
+returns-clause-value c = λ w reads.
+    let none : c.loop-i.i ≡ 0 = omega arith in
+    let net = c.args.net.now in
+    let failures = failures_of w c.args.sym.now in
+    let packet = packet_of w c.args.packet.now in
+    let tables = tables_of w c.args.slots.now in
+    let key = prefix_of w c.args.packet.now.dst c.args.len in
+    let held = ospf_of w c.args.held.now in
+    let all = c.adjacencies-all.result.now in
+    let P : List Adjacency → Type 0 = λ xs. IsTwin (sought_by w c.args.aim.now)
+    (offered_hops net failures packet tables c.args.router key held xs) (forwarding_of w c.loop-i.rest) in
+    let Q : List Hop → Type 0 = λ hs. IsTwin (sought_by w c.args.aim.now) hs (forwarding_of w c.loop-i.rest) in
+    subst Q (offered_all net failures packet tables c.args.router key held)
+    (subst P (ap (λ j. drop j all) none ∙ c.adjacencies-all.ensures.value) (c.loop-i.invariant.value w reads))

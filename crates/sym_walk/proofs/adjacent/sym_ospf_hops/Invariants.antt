@@ -1,0 +1,22 @@
+use Rattle.std.proofs.Common.{◌≤◌, drop}
+use Rattle.term_store.specs.Terms.{Reading, size}
+use Rattle.term_store.specs.Reading.{Reads, Builds}
+use Rattle.sym_policy.specs.Held.{failures_of, ospf_of}
+use Rattle.sym_policy.specs.Records.{prefix_of}
+use Rattle.sym_walk.specs.Aims.{sought_by}
+use Rattle.sym_walk.specs.Offers.{offered_hops}
+use Rattle.sym_walk.specs.Packets.{packet_of}
+use Rattle.sym_walk.specs.Symbolic.{forwarding_end, forwarding_of}
+use Rattle.sym_walk.specs.Twins.{IsTwin}
+use Rattle.sym_walk.specs.Worlds.{tables_of}
+use Rattle.sym_walk.proofs.adjacent.sym_ospf_hops.Given as goal
+
+abbrev pub invariant-loop-i : goal.invariant-loop-i
+invariant-loop-i l = record {
+  builds : Builds l.fn.terms l.terms;
+  within : forwarding_end l.rest ≤ size l.terms;
+  value : (w : Reading) → Reads w l.terms → IsTwin (sought_by w l.aim)
+      (offered_hops l.net (failures_of w l.sym) (packet_of w l.packet) (tables_of w l.slots) l.router
+      (prefix_of w l.packet.dst l.len) (ospf_of w l.held) (drop l.i l.all))
+      (forwarding_of w l.rest);
+}

@@ -1,0 +1,28 @@
+use Rattle.std.proofs.Common.{eqb, []}
+use Rattle.mw_text.specs.Address.{prefix_at}
+use Rattle.question_lang.specs.Hops.{ospf_hops}
+use Rattle.sym_policy.specs.Records.{address_of}
+use Rattle.sym_walk.specs.Aims.{sought_by}
+use Rattle.sym_walk.specs.Symbolic.{forwarding_of}
+use Rattle.sym_walk.specs.Worlds.{slot_of, world_of}
+use Rattle.sym_walk.proofs.Twins.{chosen_lists}
+use Rattle.term_arith.specs.Bits.{number}
+use Rattle.term_store.specs.Terms.{at}
+use Rattle.sym_walk.proofs.entries.sym_by_ospf.Goals as goal
+
+pub returns-clause-value : goal.returns-clause-value
+returns-clause-value c = λ w reads.
+    let made = c.in_ok-made.ensures in
+    let rest = c.in_ok-rest.ensures in
+    let to = c.in_ok-to.ensures in
+    let test = c.in_ok-test.ensures in
+    let after_rest = made.builds.reads w reads in
+    let after_to = rest.builds.reads w after_rest in
+    let slot = c.args.slot.now in
+    let sought = sought_by w c.args.aim.now in
+    chosen_lists sought (at w c.in_ok-test.test) (eqb (number w slot.rib.source.nodes) 3)
+    (ospf_hops c.args.net.now (world_of w c.args.sym.now c.args.packet.now c.args.slots.now) c.args.router
+    (prefix_at (address_of w c.args.packet.now.dst) c.args.len) (slot_of w slot)) []
+    (forwarding_of w c.in_ok-to.to) (forwarding_of w c.in_ok-rest.rest) (forwarding_of w c.in_ok-made.made)
+    (made.value w reads) (test.value w (to.builds.reads w after_to)) (to.value w after_to)
+    (rest.value w after_rest sought)

@@ -1,0 +1,47 @@
+use Rattle.std.proofs.Common.{◌≡◌, Option, arith, rules, subst, sym}
+use Rattle.std.specs.Prelude.{ℕ}
+use Rattle.question_lang.specs.Hops.{longest_below}
+use Rattle.route_record.specs.declared.RibEntry.{RibEntry}
+use Rattle.route_record.specs.declared.Slot.{Slot}
+use Rattle.sym_walk.specs.Aims.{sought_by}
+use Rattle.sym_walk.specs.Entries.{by_entry}
+use Rattle.sym_walk.specs.Symbolic.{forwarding_of}
+use Rattle.sym_walk.specs.Twins.{IsTwin}
+use Rattle.sym_walk.specs.Worlds.{tables_of, world_of}
+use Rattle.sym_walk.proofs.EntryHops.{longest_more, longest_none}
+use Rattle.sym_walk.proofs.longest.sym_longest.Goals as goal
+
+pub loop-len-init : goal.loop-len-init
+loop-len-init c = record {
+  builds = search rules;
+  within = search rules;
+  value = λ w reads.
+      let world = world_of w c.args.sym.now c.args.packet.now c.args.slots.now in
+      let P : Option (ℕ × Slot × RibEntry) → Type 0 = λ found. IsTwin (sought_by w c.args.aim.now)
+      (by_entry c.args.net.now world c.args.router c.args.file.now found) (forwarding_of w c.in_ok-rest.rest) in
+      subst P (sym (longest_none (tables_of w c.args.slots.now) c.args.router)) (c.in_ok-rest.ensures.value w reads);
+}
+
+pub loop-len-preserved : goal.loop-len-preserved
+loop-len-preserved c = record {
+  builds = search rules;
+  within = search rules;
+  value = λ w reads.
+      let world = world_of w c.args.sym.now c.args.packet.now c.args.slots.now in
+      let tables = tables_of w c.args.slots.now in
+      let step = c.in_ok-rest-2.ensures in
+      let P : Option (ℕ × Slot × RibEntry) → Type 0 = λ found. IsTwin (sought_by w c.args.aim.now)
+      (by_entry c.args.net.now world c.args.router c.args.file.now found) (forwarding_of w c.in_ok-rest-2.rest) in
+      subst P (sym (longest_more tables c.args.router c.loop-len.len))
+      (step.value w reads (longest_below tables c.args.router c.loop-len.len)
+      (c.loop-len.invariant.value w (step.builds.reads w reads)));
+}
+
+pub returns-clause-value : goal.returns-clause-value
+returns-clause-value c = λ w reads.
+    let all : c.loop-len.len ≡ 33 = omega arith in
+    let world = world_of w c.args.sym.now c.args.packet.now c.args.slots.now in
+    let P : ℕ → Type 0 = λ n. IsTwin (sought_by w c.args.aim.now)
+    (by_entry c.args.net.now world c.args.router c.args.file.now (longest_below (tables_of w c.args.slots.now)
+    c.args.router n)) (forwarding_of w c.loop-len.rest) in
+    subst P all (c.loop-len.invariant.value w reads)

@@ -1,0 +1,21 @@
+use Rattle.std.proofs.Common.{◌≤◌}
+use Rattle.term_store.specs.Terms.{Reading, size}
+use Rattle.term_store.specs.Reading.{Reads, Builds}
+use Rattle.question_lang.specs.Hops.{longest_below}
+use Rattle.sym_walk.specs.Aims.{sought_by}
+use Rattle.sym_walk.specs.Entries.{by_entry}
+use Rattle.sym_walk.specs.Symbolic.{forwarding_end, forwarding_of}
+use Rattle.sym_walk.specs.Twins.{IsTwin}
+use Rattle.sym_walk.specs.Worlds.{tables_of, world_of}
+use Rattle.sym_walk.proofs.longest.sym_longest.Given as goal
+
+-- by the entry of the longest prefix that is shorter than the length
+abbrev pub invariant-loop-len : goal.invariant-loop-len
+invariant-loop-len l = record {
+  builds : Builds l.fn.terms l.terms;
+  within : forwarding_end l.rest ≤ size l.terms;
+  value : (w : Reading) → Reads w l.terms → IsTwin (sought_by w l.aim)
+      (by_entry l.net (world_of w l.sym l.packet l.slots) l.router l.file
+      (longest_below (tables_of w l.slots) l.router l.len))
+      (forwarding_of w l.rest);
+}

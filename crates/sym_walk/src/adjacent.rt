@@ -1,0 +1,146 @@
+//! The next hops of OSPF entries, as forwardings.
+
+ghost use Rattle.std.specs.Prelude.{◌≡◌, ℕ, ◌+◌, ◌<◌, ◌≤◌, ◌==◌, ◌&&◌, Bool, IfOk, [], ◌∷◌, ◌++◌};
+ghost use Rattle.std.specs.Prelude.{if◌then◌else◌, length};
+ghost use Rattle.std.specs.Prelude.{List as ListOf, map};
+ghost use Rattle.std.specs.Option.{option_map_or};
+ghost use Rattle.mw_text.specs.Address.{prefix_at};
+ghost use Rattle.net_model.specs.Ospf.{adjacencies};
+ghost use Rattle.net_model.specs.Sending.{sent_by_ospf};
+ghost use Rattle.question_lang.specs.declared.walk.Hop.{Hop as HopOf};
+ghost use Rattle.question_lang.specs.Hops as hops;
+ghost use Rattle.sym_policy.specs.Held.{failures_of, ospf_of, ospf_end};
+ghost use Rattle.sym_policy.specs.Records.{address_of, packet_end, prefix_of as prefix_read};
+ghost use Rattle.sym_walk.specs.Aims.{sought_by};
+ghost use Rattle.sym_walk.specs.Offers as defined;
+ghost use Rattle.sym_walk.specs.Packets.{packet_of};
+ghost use Rattle.sym_walk.specs.Symbolic.{forwarding_of, forwarding_end};
+ghost use Rattle.sym_walk.specs.Twins.{IsTwin};
+ghost use Rattle.sym_walk.specs.Worlds.{slots_end, tables_of};
+ghost use Rattle.term_store.specs.Terms.{Reading, size, at};
+ghost use Rattle.term_store.specs.Reading.{Reads, Builds, Gives};
+ghost use Rattle.term_arith.specs.Bits.{ids_end, number};
+
+use crate::aims::SymAim;
+use crate::choices::join_forwarding;
+use crate::forwarding::SymForwarding;
+use crate::lists::{sym_arrive, sym_depart};
+use crate::offers::sym_sends_over;
+use mw_text::List;
+use net_model::{Adjacency, Net};
+use std::alloc::{AllocError, Global};
+use sym_policy::{SymNet, SymOspf, SymPacket};
+use sym_rib::SymSlot;
+use term_arith::gates::constant_node;
+use term_store::Terms;
+
+// Over an adjacency: out of the own interface and in at the other router's.
+fn sym_send_adjacent(
+    alloc: Global,
+    terms: &mut Terms,
+    net: &Net,
+    packet: &SymPacket,
+    aim: &SymAim,
+    a: &Adjacency,
+) -> Result<SymForwarding, AllocError>
+    requires packet { packet_end packet.now ≤ size terms.old }
+    requires aim { aim.now.here.0 < size terms.old }
+    ensures builds { Builds terms.old terms.new }
+    ensures within { IfOk result (λ r. forwarding_end r ≤ size terms.new) }
+    ensures value { Gives terms.new result (λ w r. IsTwin (sought_by w aim.now)
+        (hops.send_adjacent net.now (packet_of w packet.now) a.now ∷ []) (forwarding_of w r)) }
+{
+    let on = sym_arrive(alloc, terms, net, packet, aim, a.to)?;
+    let made = sym_depart(alloc, terms, net, packet, aim, a.from, &on)?;
+    Ok(made)
+}
+
+// Over the adjacency, where the entry sends over it, and where the rest does.
+fn sym_adjacent_or(
+    alloc: Global,
+    terms: &mut Terms,
+    net: &Net,
+    sym: &SymNet,
+    slots: &[SymSlot],
+    packet: &SymPacket,
+    aim: &SymAim,
+    router: u32,
+    len: u8,
+    held: &SymOspf,
+    a: &Adjacency,
+    rest: SymForwarding,
+) -> Result<SymForwarding, AllocError>
+    requires downs { ids_end sym.now.down ≤ size terms.old }
+    requires slots { slots_end slots.now ≤ size terms.old }
+    requires packet { packet_end packet.now ≤ size terms.old }
+    requires aim { aim.now.here.0 < size terms.old }
+    requires held { ospf_end held.now ≤ size terms.old }
+    requires rest { forwarding_end rest ≤ size terms.old }
+    ensures builds { Builds terms.old terms.new }
+    ensures within { IfOk result (λ r. forwarding_end r ≤ size terms.new) }
+    ensures value { Gives terms.new result (λ w r. (others : ListOf HopOf) →
+        IsTwin (sought_by w aim.now) others (forwarding_of w rest) →
+        IsTwin (sought_by w aim.now)
+        ((if defined.is_up_from net.now (failures_of w sym.now) router a.now
+        && defined.offers (tables_of w slots.now) (prefix_read w packet.now.dst len) (ospf_of w held.now) a.now
+        then hops.send_adjacent net.now (packet_of w packet.now) a.now ∷ [] else []) ++ others) (forwarding_of w r)) }
+{
+    if a.from.router != router {
+        return Ok(rest);
+    }
+    let taken = sym_sends_over(
+        alloc,
+        terms,
+        net,
+        sym,
+        slots,
+        router,
+        &packet.dst,
+        len,
+        held,
+        a,
+    )?;
+    let to = sym_send_adjacent(alloc, terms, net, packet, aim, a)?;
+    let made = join_forwarding(terms, taken, rest, &to)?;
+    Ok(made)
+}
+
+/// Where an OSPF entry of that length leads: over each adjacency of the router that is up and offers the route it
+/// holds.
+pub fn sym_ospf_hops(
+    alloc: Global,
+    terms: &mut Terms,
+    net: &Net,
+    sym: &SymNet,
+    slots: &[SymSlot],
+    packet: &SymPacket,
+    aim: &SymAim,
+    router: u32,
+    len: u8,
+    held: &SymOspf,
+) -> Result<SymForwarding, AllocError>
+    requires downs { ids_end sym.now.down ≤ size terms.old }
+    requires slots { slots_end slots.now ≤ size terms.old }
+    requires packet { packet_end packet.now ≤ size terms.old }
+    requires aim { aim.now.here.0 < size terms.old }
+    requires held { ospf_end held.now ≤ size terms.old }
+    ensures builds { Builds terms.old terms.new }
+    ensures within { IfOk result (λ r. forwarding_end r ≤ size terms.new) }
+    ensures value { Gives terms.new result (λ w r. IsTwin (sought_by w aim.now)
+        (option_map_or (λ h. map (hops.send_adjacent net.now (packet_of w packet.now)) (sent_by_ospf net.now
+        (failures_of w sym.now) (tables_of w slots.now) router (prefix_at (address_of w packet.now.dst) len) h))
+        (ospf_of w held.now) []) (forwarding_of w r)) }
+{
+    let all = net.adjacencies();
+    let never = constant_node(terms, false)?;
+    let mut rest = SymForwarding {
+        next: List::new(alloc),
+        ends: never,
+    };
+    for i in (0..all.len()).rev() {
+        rest = sym_adjacent_or(
+            alloc, terms, net, sym, slots, packet, aim, router, len, held, &all[i], rest,
+        )?;
+    }
+    Ok(rest)
+}

@@ -1,0 +1,216 @@
+//! The next hops of the entry of a slot, as forwardings, in a network without BGP.
+
+ghost use Rattle.std.specs.Prelude.{◌≡◌, ℕ, ◌+◌, ◌<◌, ◌≤◌, ◌==◌, ◌&&◌, Bool, IfOk, [], ◌∷◌, ◌++◌};
+ghost use Rattle.std.specs.Prelude.{if◌then◌else◌, length};
+ghost use Rattle.std.specs.Prelude.{List as ListOf, Option as OptionOf};
+ghost use Rattle.mw_text.specs.Address.{prefix_at};
+ghost use Rattle.net_model.specs.Routing.{up_interfaces};
+ghost use Rattle.question_lang.specs.declared.walk.Hop.{Hop as HopOf};
+ghost use Rattle.question_lang.specs.declared.walk.End.{End as EndOf};
+ghost use Rattle.question_lang.specs.Hops as hops;
+ghost use Rattle.sym_policy.specs.Held.{failures_of, ospf_end};
+ghost use Rattle.sym_policy.specs.Records.{address_of, packet_end};
+ghost use Rattle.sym_rib.specs.Slots.{slot_end};
+ghost use Rattle.sym_walk.specs.Aims.{sought_by};
+ghost use Rattle.sym_walk.specs.Entries as defined;
+ghost use Rattle.sym_walk.specs.Packets.{packet_of};
+ghost use Rattle.sym_walk.specs.Symbolic.{forwarding_of, forwarding_end};
+ghost use Rattle.sym_walk.specs.Twins.{IsTwin};
+ghost use Rattle.sym_walk.specs.Worlds.{slot_of, slots_end, world_of};
+ghost use Rattle.term_store.specs.Terms.{Reading, size, at};
+ghost use Rattle.term_store.specs.Reading.{Reads, Builds, Gives};
+ghost use Rattle.term_arith.specs.Bits.{ids_end, number};
+
+use crate::adjacent::sym_ospf_hops;
+use crate::aims::SymAim;
+use crate::choices::choose_forwarding;
+use crate::connected::sym_connected;
+use crate::forwarding::SymForwarding;
+use crate::statics::sym_statics;
+use ios_ast::File;
+use mw_text::List;
+use net_model::Net;
+use std::alloc::{AllocError, Global};
+use sym_policy::{SymNet, SymPacket};
+use sym_rib::SymSlot;
+use term_arith::equal_number;
+use term_arith::gates::constant_node;
+use term_store::{NodeId, Terms};
+
+/// A router that does nothing with the packet.
+#[tactic(auto, using(crate::proofs::Twins::still_twin))]
+pub(crate) fn still(alloc: Global, terms: &mut Terms) -> Result<SymForwarding, AllocError>
+    ensures builds { Builds terms.old terms.new }
+    ensures within { IfOk result (λ r. forwarding_end r ≤ size terms.new) }
+    ensures value { Gives terms.new result (λ w r. (sought : EndOf → Bool) → IsTwin sought [] (forwarding_of w r)) }
+{
+    let never = constant_node(terms, false)?;
+    Ok(SymForwarding {
+        next: List::new(alloc),
+        ends: never,
+    })
+}
+
+// Whether the source of the entry has that number.
+fn sym_source(terms: &mut Terms, slot: &SymSlot, source: u64) -> Result<NodeId, AllocError>
+    requires slot { slot_end slot.now ≤ size terms.old }
+    ensures builds { Builds terms.old terms.new }
+    ensures within { IfOk result (λ r. r.0 < size terms.new) }
+    ensures value { Gives terms.new result (λ w r. at w r ≡ (number w slot.now.rib.source.nodes == source)) }
+{
+    equal_number(terms, slot.rib.source.nodes.as_slice(), source)
+}
+
+// Where the entry leads if its source is OSPF, and else nowhere.
+fn sym_by_ospf(
+    alloc: Global,
+    terms: &mut Terms,
+    net: &Net,
+    sym: &SymNet,
+    slots: &[SymSlot],
+    packet: &SymPacket,
+    aim: &SymAim,
+    router: u32,
+    len: u8,
+    slot: &SymSlot,
+) -> Result<SymForwarding, AllocError>
+    requires downs { ids_end sym.now.down ≤ size terms.old }
+    requires slots { slots_end slots.now ≤ size terms.old }
+    requires packet { packet_end packet.now ≤ size terms.old }
+    requires aim { aim.now.here.0 < size terms.old }
+    requires slot { slot_end slot.now ≤ size terms.old }
+    ensures builds { Builds terms.old terms.new }
+    ensures within { IfOk result (λ r. forwarding_end r ≤ size terms.new) }
+    ensures value { Gives terms.new result (λ w r. IsTwin (sought_by w aim.now)
+        (if number w slot.now.rib.source.nodes == 3 then hops.ospf_hops net.now
+        (world_of w sym.now packet.now slots.now) router (prefix_at (address_of w packet.now.dst) len)
+        (slot_of w slot.now) else []) (forwarding_of w r)) }
+{
+    let test = sym_source(terms, slot, 3)?;
+    let to = sym_ospf_hops(
+        alloc, terms, net, sym, slots, packet, aim, router, len, &slot.ospf,
+    )?;
+    let rest = still(alloc, terms)?;
+    let made = choose_forwarding(alloc, terms, test, &to, &rest)?;
+    Ok(made)
+}
+
+// Where the entry leads if its source is a static route, and else as given.
+fn sym_by_static(
+    alloc: Global,
+    terms: &mut Terms,
+    net: &Net,
+    sym: &SymNet,
+    packet: &SymPacket,
+    aim: &SymAim,
+    router: u32,
+    file: &File,
+    len: u8,
+    slot: &SymSlot,
+    rest: &SymForwarding,
+) -> Result<SymForwarding, AllocError>
+    requires downs { ids_end sym.now.down ≤ size terms.old }
+    requires packet { packet_end packet.now ≤ size terms.old }
+    requires aim { aim.now.here.0 < size terms.old }
+    requires slot { slot_end slot.now ≤ size terms.old }
+    requires rest { forwarding_end rest.now ≤ size terms.old }
+    ensures builds { Builds terms.old terms.new }
+    ensures within { IfOk result (λ r. forwarding_end r ≤ size terms.new) }
+    ensures value { Gives terms.new result (λ w r. (others : ListOf HopOf) →
+        IsTwin (sought_by w aim.now) others (forwarding_of w rest.now) →
+        IsTwin (sought_by w aim.now)
+        (if number w slot.now.rib.source.nodes == 1 then defined.static_part net.now (packet_of w packet.now)
+        (hops.all_up net.now (failures_of w sym.now)) (up_interfaces net.now (failures_of w sym.now) router)
+        file.now.statics (prefix_at (address_of w packet.now.dst) len) (number w slot.now.rib.distance.nodes)
+        else others) (forwarding_of w r)) }
+{
+    let test = sym_source(terms, slot, 1)?;
+    let to = sym_statics(
+        alloc,
+        terms,
+        net,
+        sym,
+        packet,
+        aim,
+        router,
+        len,
+        &slot.rib.distance,
+        file.statics.as_slice(),
+    )?;
+    let made = choose_forwarding(alloc, terms, test, &to, rest)?;
+    Ok(made)
+}
+
+// Where the entry leads if it is a connected one, and else as given.
+fn sym_by_connected(
+    alloc: Global,
+    terms: &mut Terms,
+    net: &Net,
+    sym: &SymNet,
+    packet: &SymPacket,
+    aim: &SymAim,
+    router: u32,
+    len: u8,
+    slot: &SymSlot,
+    rest: &SymForwarding,
+) -> Result<SymForwarding, AllocError>
+    requires downs { ids_end sym.now.down ≤ size terms.old }
+    requires packet { packet_end packet.now ≤ size terms.old }
+    requires aim { aim.now.here.0 < size terms.old }
+    requires long { len ≤ 32 }
+    requires slot { slot_end slot.now ≤ size terms.old }
+    requires rest { forwarding_end rest.now ≤ size terms.old }
+    ensures builds { Builds terms.old terms.new }
+    ensures within { IfOk result (λ r. forwarding_end r ≤ size terms.new) }
+    ensures value { Gives terms.new result (λ w r. (others : ListOf HopOf) →
+        IsTwin (sought_by w aim.now) others (forwarding_of w rest.now) →
+        IsTwin (sought_by w aim.now)
+        (if number w slot.now.rib.source.nodes == 0 then hops.connected_hops net.now (packet_of w packet.now)
+        (hops.all_up net.now (failures_of w sym.now)) (up_interfaces net.now (failures_of w sym.now) router)
+        (prefix_at (address_of w packet.now.dst) len) else others) (forwarding_of w r)) }
+{
+    let test = sym_source(terms, slot, 0)?;
+    let to = sym_connected(alloc, terms, net, sym, packet, aim, router, len)?;
+    let made = choose_forwarding(alloc, terms, test, &to, rest)?;
+    Ok(made)
+}
+
+/// Where the entry of a slot leads, as if there were one, in a network without BGP. The slot is that of the router for
+/// the prefix of that length of the destination.
+pub fn sym_entry_hops(
+    alloc: Global,
+    terms: &mut Terms,
+    net: &Net,
+    sym: &SymNet,
+    slots: &[SymSlot],
+    packet: &SymPacket,
+    aim: &SymAim,
+    router: u32,
+    file: &File,
+    len: u8,
+    slot: &SymSlot,
+) -> Result<SymForwarding, AllocError>
+    requires downs { ids_end sym.now.down ≤ size terms.old }
+    requires slots { slots_end slots.now ≤ size terms.old }
+    requires packet { packet_end packet.now ≤ size terms.old }
+    requires aim { aim.now.here.0 < size terms.old }
+    requires long { len ≤ 32 }
+    requires slot { slot_end slot.now ≤ size terms.old }
+    ensures builds { Builds terms.old terms.new }
+    ensures within { IfOk result (λ r. forwarding_end r ≤ size terms.new) }
+    ensures value { Gives terms.new result (λ w r. IsTwin (sought_by w aim.now)
+        (defined.entry_of w net.now (world_of w sym.now packet.now slots.now)
+        (hops.all_up net.now (failures_of w sym.now)) (up_interfaces net.now (failures_of w sym.now) router) router
+        file.now len slot.now) (forwarding_of w r)) }
+{
+    let ospf = sym_by_ospf(
+        alloc, terms, net, sym, slots, packet, aim, router, len, slot,
+    )?;
+    let plain = sym_by_static(
+        alloc, terms, net, sym, packet, aim, router, file, len, slot, &ospf,
+    )?;
+    let made = sym_by_connected(
+        alloc, terms, net, sym, packet, aim, router, len, slot, &plain,
+    )?;
+    Ok(made)
+}

@@ -1,0 +1,179 @@
+//! What a router does with a packet, as a forwarding, in a network without BGP (RFC 1812, section 5.2.4).
+
+ghost use Rattle.std.specs.Prelude.{◌≡◌, ℕ, ◌+◌, ◌*◌, ◌<◌, ◌≤◌, Bool, IfOk, [], ◌∷◌, if◌then◌else◌, length};
+ghost use Rattle.std.specs.Prelude.{List as ListOf, Option as OptionOf, Some, None};
+ghost use Rattle.std.specs.Option.{option_map_or};
+ghost use Rattle.net_model.specs.Routing.{up_interfaces};
+ghost use Rattle.question_lang.specs.declared.walk.End.TheVariants.{NoRoute};
+ghost use Rattle.question_lang.specs.declared.walk.Hop.{Hop as HopOf};
+ghost use Rattle.question_lang.specs.declared.walk.Hop.TheVariants.{Ends};
+ghost use Rattle.question_lang.specs.Hops as hops;
+ghost use Rattle.route_record.specs.declared.RibEntry.{RibEntry};
+ghost use Rattle.route_record.specs.declared.Slot.{Slot};
+ghost use Rattle.route_record.specs.declared.TheConstants as constants;
+ghost use Rattle.sym_policy.specs.Held.{failures_of};
+ghost use Rattle.sym_policy.specs.Records.{packet_end};
+ghost use Rattle.sym_rib.specs.Slots.{slot_end};
+ghost use Rattle.sym_walk.specs.Aims.{sought_by};
+ghost use Rattle.sym_walk.specs.Entries as defined;
+ghost use Rattle.sym_walk.specs.Packets.{packet_of};
+ghost use Rattle.sym_walk.specs.Symbolic.{forwarding_of, forwarding_end};
+ghost use Rattle.sym_walk.specs.Twins.{IsTwin};
+ghost use Rattle.sym_walk.specs.Worlds.{slots_end, tables_of, world_of};
+ghost use Rattle.term_store.specs.Terms.{Reading, size, at};
+ghost use Rattle.term_store.specs.Reading.{Reads, Builds, Gives};
+ghost use Rattle.term_arith.specs.Bits.{ids_end};
+
+use crate::aims::SymAim;
+use crate::choices::choose_forwarding;
+use crate::entries::sym_entry_hops;
+use crate::forwarding::SymForwarding;
+use crate::lists::sym_ends;
+use crate::offers::slot_for;
+use crate::own::sym_own;
+use ios_ast::File;
+use net_model::Net;
+use question_lang::End;
+use route_record::LENGTHS;
+use std::alloc::{AllocError, Global};
+use sym_policy::{SymNet, SymPacket};
+use sym_rib::SymSlot;
+use term_store::Terms;
+
+// By the entry of the slot where it has one, and else as given.
+fn sym_by_slot(
+    alloc: Global,
+    terms: &mut Terms,
+    net: &Net,
+    sym: &SymNet,
+    slots: &[SymSlot],
+    packet: &SymPacket,
+    aim: &SymAim,
+    router: u32,
+    file: &File,
+    len: u8,
+    slot: &SymSlot,
+    rest: SymForwarding,
+) -> Result<SymForwarding, AllocError>
+    requires downs { ids_end sym.now.down ≤ size terms.old }
+    requires slots { slots_end slots.now ≤ size terms.old }
+    requires packet { packet_end packet.now ≤ size terms.old }
+    requires aim { aim.now.here.0 < size terms.old }
+    requires long { len ≤ 32 }
+    requires slot { slot_end slot.now ≤ size terms.old }
+    requires rest { forwarding_end rest ≤ size terms.old }
+    ensures builds { Builds terms.old terms.new }
+    ensures within { IfOk result (λ r. forwarding_end r ≤ size terms.new) }
+    ensures value { Gives terms.new result (λ w r. (others : ListOf HopOf) →
+        IsTwin (sought_by w aim.now) others (forwarding_of w rest) →
+        IsTwin (sought_by w aim.now) (if at w slot.now.rib.valid then defined.entry_of w net.now
+        (world_of w sym.now packet.now slots.now) (hops.all_up net.now (failures_of w sym.now))
+        (up_interfaces net.now (failures_of w sym.now) router) router file.now len slot.now else others)
+        (forwarding_of w r)) }
+{
+    let to = sym_entry_hops(
+        alloc, terms, net, sym, slots, packet, aim, router, file, len, slot,
+    )?;
+    let made = choose_forwarding(alloc, terms, slot.rib.valid, &to, &rest)?;
+    Ok(made)
+}
+
+// By the entry of that length where the router has one, and else as given.
+fn sym_longer(
+    alloc: Global,
+    terms: &mut Terms,
+    net: &Net,
+    sym: &SymNet,
+    slots: &[SymSlot],
+    packet: &SymPacket,
+    aim: &SymAim,
+    router: u32,
+    file: &File,
+    len: u8,
+    rest: SymForwarding,
+) -> Result<SymForwarding, AllocError>
+    requires downs { ids_end sym.now.down ≤ size terms.old }
+    requires slots { slots_end slots.now ≤ size terms.old }
+    requires packet { packet_end packet.now ≤ size terms.old }
+    requires aim { aim.now.here.0 < size terms.old }
+    requires long { len ≤ 32 }
+    requires rest { forwarding_end rest ≤ size terms.old }
+    ensures builds { Builds terms.old terms.new }
+    ensures within { IfOk result (λ r. forwarding_end r ≤ size terms.new) }
+    ensures value { Gives terms.new result (λ w r. (shorter : OptionOf (ℕ × Slot × RibEntry)) →
+        IsTwin (sought_by w aim.now) (defined.by_entry net.now (world_of w sym.now packet.now slots.now) router file.now
+        shorter) (forwarding_of w rest) →
+        IsTwin (sought_by w aim.now) (defined.by_entry net.now (world_of w sym.now packet.now slots.now) router file.now
+        (defined.longer (tables_of w slots.now) router len shorter)) (forwarding_of w r)) }
+{
+    match slot_for(slots, router, len) {
+        None => Ok(rest),
+        Some(slot) => {
+            let made = sym_by_slot(
+                alloc, terms, net, sym, slots, packet, aim, router, file, len, slot, rest,
+            )?;
+            Ok(made)
+        }
+    }
+}
+
+// By the longest prefix with an entry.
+fn sym_longest(
+    alloc: Global,
+    terms: &mut Terms,
+    net: &Net,
+    sym: &SymNet,
+    slots: &[SymSlot],
+    packet: &SymPacket,
+    aim: &SymAim,
+    router: u32,
+    file: &File,
+) -> Result<SymForwarding, AllocError>
+    requires downs { ids_end sym.now.down ≤ size terms.old }
+    requires slots { slots_end slots.now ≤ size terms.old }
+    requires packet { packet_end packet.now ≤ size terms.old }
+    requires aim { aim.now.here.0 < size terms.old }
+    ensures builds { Builds terms.old terms.new }
+    ensures within { IfOk result (λ r. forwarding_end r ≤ size terms.new) }
+    ensures value { Gives terms.new result (λ w r. IsTwin (sought_by w aim.now)
+        (defined.by_entry net.now (world_of w sym.now packet.now slots.now) router file.now
+        (hops.longest_below (tables_of w slots.now) router constants.LENGTHS)) (forwarding_of w r)) }
+{
+    let mut rest = sym_ends(alloc, terms, aim, End::NoRoute)?;
+    for len in 0..LENGTHS as u8 {
+        rest = sym_longer(
+            alloc, terms, net, sym, slots, packet, aim, router, file, len, rest,
+        )?;
+    }
+    Ok(rest)
+}
+
+/// What a router of the network does with the packet: it delivers it where the destination is an address of an
+/// interface of its own that is up, else the entry of the longest prefix decides, and without one there is no route.
+pub fn sym_hops(
+    alloc: Global,
+    terms: &mut Terms,
+    net: &Net,
+    sym: &SymNet,
+    slots: &[SymSlot],
+    packet: &SymPacket,
+    aim: &SymAim,
+    router: u32,
+    file: &File,
+) -> Result<SymForwarding, AllocError>
+    requires downs { ids_end sym.now.down ≤ size terms.old }
+    requires slots { slots_end slots.now ≤ size terms.old }
+    requires packet { packet_end packet.now ≤ size terms.old }
+    requires aim { aim.now.here.0 < size terms.old }
+    ensures builds { Builds terms.old terms.new }
+    ensures within { IfOk result (λ r. forwarding_end r ≤ size terms.new) }
+    ensures value { Gives terms.new result (λ w r. IsTwin (sought_by w aim.now)
+        (hops.hops_over net.now (world_of w sym.now packet.now slots.now) (hops.all_up net.now (failures_of w sym.now))
+        (up_interfaces net.now (failures_of w sym.now) router) router file.now) (forwarding_of w r)) }
+{
+    let own = sym_own(alloc, terms, net, sym, router, &packet.dst)?;
+    let here = sym_ends(alloc, terms, aim, End::Delivered)?;
+    let on = sym_longest(alloc, terms, net, sym, slots, packet, aim, router, file)?;
+    let made = choose_forwarding(alloc, terms, own, &here, &on)?;
+    Ok(made)
+}

@@ -1,0 +1,160 @@
+//! What each router of a network does with a packet, as a table of forwardings.
+
+ghost use Rattle.std.specs.Prelude.{◌≡◌, ℕ, ◌+◌, ◌<◌, ◌≤◌, Bool, IfOk, [], ◌∷◌, ◌++◌, length};
+ghost use Rattle.question_lang.specs.Hops as hops;
+ghost use Rattle.sym_policy.specs.Held.{failures_of};
+ghost use Rattle.sym_policy.specs.Records.{packet_end};
+ghost use Rattle.sym_walk.specs.Aims.{sought_by};
+ghost use Rattle.sym_walk.specs.Here.{ends_here};
+ghost use Rattle.sym_walk.specs.Packets.{packet_of};
+ghost use Rattle.sym_walk.specs.Symbolic.{forwarding_of, forwarding_end, table_end, table_of};
+ghost use Rattle.sym_walk.specs.TwinTables.{AreTwins};
+ghost use Rattle.sym_walk.specs.Twins.{IsTwin, is_sought};
+ghost use Rattle.sym_walk.specs.Worlds.{slots_end, world_of};
+ghost use Rattle.term_store.specs.Terms.{Reading, size, at};
+ghost use Rattle.term_store.specs.Reading.{Reads, Builds, Gives};
+ghost use Rattle.term_arith.specs.Bits.{ids_end};
+
+use crate::aims::SymAim;
+use crate::entries::still;
+use crate::forwarding::SymForwarding;
+use crate::here::sym_here;
+use crate::longest::sym_hops;
+use mw_text::List;
+use net_model::Net;
+use net_model::ends::file_of;
+use question_lang::Kind;
+use std::alloc::{AllocError, Global};
+use sym_policy::{SymNet, SymPacket};
+use sym_rib::SymSlot;
+use term_store::Terms;
+
+// What the router of that number does with the packet. A number that is no router's does nothing.
+fn sym_next(
+    alloc: Global,
+    terms: &mut Terms,
+    net: &Net,
+    sym: &SymNet,
+    slots: &[SymSlot],
+    packet: &SymPacket,
+    aim: &SymAim,
+    router: u32,
+) -> Result<SymForwarding, AllocError>
+    requires downs { ids_end sym.now.down ≤ size terms.old }
+    requires slots { slots_end slots.now ≤ size terms.old }
+    requires packet { packet_end packet.now ≤ size terms.old }
+    requires aim { aim.now.here.0 < size terms.old }
+    ensures builds { Builds terms.old terms.new }
+    ensures within { IfOk result (λ r. forwarding_end r ≤ size terms.new) }
+    ensures value { Gives terms.new result (λ w r. IsTwin (sought_by w aim.now)
+        (hops.next_hops net.now (world_of w sym.now packet.now slots.now) router) (forwarding_of w r)) }
+{
+    match file_of(net.routers(), router) {
+        None => {
+            let none = still(alloc, terms)?;
+            Ok(none)
+        }
+        Some(file) => {
+            let made = sym_hops(alloc, terms, net, sym, slots, packet, aim, router, file)?;
+            Ok(made)
+        }
+    }
+}
+
+// The same, for a question of that kind.
+fn sym_router(
+    alloc: Global,
+    terms: &mut Terms,
+    net: &Net,
+    sym: &SymNet,
+    slots: &[SymSlot],
+    packet: &SymPacket,
+    kind: Kind,
+    router: u32,
+) -> Result<SymForwarding, AllocError>
+    requires downs { ids_end sym.now.down ≤ size terms.old }
+    requires slots { slots_end slots.now ≤ size terms.old }
+    requires packet { packet_end packet.now ≤ size terms.old }
+    ensures builds { Builds terms.old terms.new }
+    ensures within { IfOk result (λ r. forwarding_end r ≤ size terms.new) }
+    ensures value { Gives terms.new result (λ w r. IsTwin
+        (is_sought kind (ends_here net.now (failures_of w sym.now) (packet_of w packet.now) router kind))
+        (hops.next_hops net.now (world_of w sym.now packet.now slots.now) router) (forwarding_of w r)) }
+{
+    let here = sym_here(alloc, terms, net, sym, packet, router, kind)?;
+    let aim = SymAim { kind, here };
+    let made = sym_next(alloc, terms, net, sym, slots, packet, &aim, router)?;
+    Ok(made)
+}
+
+// The table with one router more.
+fn with_one(
+    table: List<SymForwarding>,
+    one: SymForwarding,
+) -> Result<List<SymForwarding>, AllocError>
+    ensures { IfOk result (λ r. r ≡ table ++ one ∷ []) }
+{
+    let mut longer = table;
+    longer.items.push(one)?;
+    Ok(longer)
+}
+
+// How many routers there are.
+fn router_count(net: &Net) -> u32
+    ensures { result ≡ length net.now }
+{
+    net.routers().len() as u32
+}
+
+// The table of the first routers, with that of the next number.
+#[tactic(auto, using(crate::proofs::PushedTwins::table_end_push))]
+fn add_router(
+    alloc: Global,
+    terms: &mut Terms,
+    net: &Net,
+    sym: &SymNet,
+    slots: &[SymSlot],
+    packet: &SymPacket,
+    kind: Kind,
+    router: u32,
+    table: List<SymForwarding>,
+) -> Result<List<SymForwarding>, AllocError>
+    requires downs { ids_end sym.now.down ≤ size terms.old }
+    requires slots { slots_end slots.now ≤ size terms.old }
+    requires packet { packet_end packet.now ≤ size terms.old }
+    requires table { table_end table ≤ size terms.old }
+    ensures builds { Builds terms.old terms.new }
+    ensures within { IfOk result (λ r. table_end r ≤ size terms.new) }
+    ensures value { Gives terms.new result (λ w r.
+        AreTwins net.now (world_of w sym.now packet.now slots.now) kind router (table_of w table) →
+        AreTwins net.now (world_of w sym.now packet.now slots.now) kind (router + 1) (table_of w r)) }
+{
+    let one = sym_router(alloc, terms, net, sym, slots, packet, kind, router)?;
+    let made = with_one(table, one)?;
+    Ok(made)
+}
+
+/// What each router of the network does with the packet, in a network without BGP, for a question of that kind.
+pub fn sym_table(
+    alloc: Global,
+    terms: &mut Terms,
+    net: &Net,
+    sym: &SymNet,
+    slots: &[SymSlot],
+    packet: &SymPacket,
+    kind: Kind,
+) -> Result<List<SymForwarding>, AllocError>
+    requires downs { ids_end sym.now.down ≤ size terms.old }
+    requires slots { slots_end slots.now ≤ size terms.old }
+    requires packet { packet_end packet.now ≤ size terms.old }
+    ensures builds { Builds terms.old terms.new }
+    ensures within { IfOk result (λ r. table_end r ≤ size terms.new) }
+    ensures value { Gives terms.new result (λ w r. AreTwins net.now (world_of w sym.now packet.now slots.now) kind
+        (length net.now) (table_of w r)) }
+{
+    let mut table = List::new(alloc);
+    for router in 0..router_count(net) {
+        table = add_router(alloc, terms, net, sym, slots, packet, kind, router, table)?;
+    }
+    Ok(table)
+}
