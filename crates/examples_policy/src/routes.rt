@@ -594,12 +594,12 @@ fn map_agrees(alloc: Global, dice: &mut Dice) -> Result<u32, AllocError> {
     }
 }
 
-/// At how many of 14,000 routes random maps and the maps over terms agree.
+/// At how many of 5,000 routes random maps and the maps over terms agree.
 pub fn show_maps(rt: &(impl Print + AllocGlobal)) -> io::Result<()> {
     let mut dice = Dice::new(3);
     let mut agreed = 0u32;
-    for _ in 0..700 {
+    for _ in 0..250 {
         agreed = agreed.wrapping_add(map_agrees(rt.alloc(), &mut dice)?);
     }
-    println!(rt; "route maps and their terms: {agreed} of 14000 agree")
+    println!(rt; "route maps and their terms: {agreed} of 5000 agree")
 }

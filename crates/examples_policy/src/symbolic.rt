@@ -164,14 +164,14 @@ fn access_agrees(alloc: Global, dice: &mut Dice) -> Result<u32, AllocError> {
     packets_agree(alloc, dice, &terms, node, &list)
 }
 
-/// At how many of 14,000 packets random access lists and their nodes agree.
+/// At how many of 5,000 packets random access lists and their nodes agree.
 pub fn show_access_lists(rt: &(impl Print + AllocGlobal)) -> io::Result<()> {
     let mut dice = Dice::new(1);
     let mut agreed = 0u32;
-    for _ in 0..700 {
+    for _ in 0..250 {
         agreed = agreed.wrapping_add(access_agrees(rt.alloc(), &mut dice)?);
     }
-    println!(rt; "access lists and their terms: {agreed} of 14000 agree")
+    println!(rt; "access lists and their terms: {agreed} of 5000 agree")
 }
 
 fn prefix_entry(dice: &mut Dice) -> PrefixEntry {
@@ -238,12 +238,12 @@ fn lengths_agree(alloc: Global, dice: &mut Dice) -> Result<u32, AllocError> {
     Ok(agreed)
 }
 
-/// At how many of 13,860 addresses random prefix lists and their nodes agree.
+/// At how many of 5,280 addresses random prefix lists and their nodes agree.
 pub fn show_prefix_lists(rt: &(impl Print + AllocGlobal)) -> io::Result<()> {
     let mut dice = Dice::new(2);
     let mut agreed = 0u32;
-    for _ in 0..21 {
+    for _ in 0..8 {
         agreed = agreed.wrapping_add(lengths_agree(rt.alloc(), &mut dice)?);
     }
-    println!(rt; "prefix lists and their terms: {agreed} of 13860 agree")
+    println!(rt; "prefix lists and their terms: {agreed} of 5280 agree")
 }
