@@ -190,3 +190,34 @@ fn bare_slot(
     let ospf = copy_route(alloc, ospf)?;
     Ok(SymSlot { ospf, bgp, rib })
 }
+
+// The slot of a router for the prefix of that length of a destination: its open route, and the entry that follows.
+fn slot(
+    alloc: Global,
+    terms: &mut Terms,
+    net: &Net,
+    sym: &SymNet,
+    router: u32,
+    dst: &Bits,
+    len: u8,
+    part: &SymOpen,
+) -> Result<SymSlot, AllocError>
+    requires long { len ≤ 32 }
+    requires wide { length dst.now.nodes ≡ 32 }
+    requires nodes { ids_end dst.now.nodes ≤ size terms.old }
+    requires down { ids_end sym.now.down ≤ size terms.old }
+    requires part { open_end part.now ≤ size terms.old }
+    ensures builds { Builds terms.old terms.new }
+    ensures within { IfOk result (λ r. slot_end r ≤ size terms.new) }
+    ensures rows { IfOk result (λ r. HasTracked (tracked_of net.now) r.bgp) }
+    ensures value { Gives terms.new result (λ w r. StandsForSlot w (tracked_of net.now) r
+        (slot_of net.now (failures_of w sym.now) (address_of w dst.now) router len (open_of w part.now))) }
+{
+    let before = bare_slot(alloc, terms, net.tracked(), &part.ospf)?;
+    let rib = sym_entry(alloc, terms, net, sym, router, dst, len, &before, part.own)?;
+    Ok(SymSlot {
+        ospf: before.ospf,
+        bgp: before.bgp,
+        rib,
+    })
+}

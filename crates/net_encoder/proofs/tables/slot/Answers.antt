@@ -1,0 +1,16 @@
+use Rattle.std.proofs.Common.{subst}
+use Rattle.route_record.specs.declared.tracked.Tracked.{Tracked}
+use Rattle.net_model.specs.Tracked.{tracked_of}
+use Rattle.sym_policy.specs.Held.{ospf_of}
+use Rattle.sym_rib.specs.Slots.{StandsForSlot}
+use Rattle.net_encoder.specs.Slots.{bare}
+use Rattle.net_encoder.proofs.tables.slot.Goals as goal
+
+pub returns-clause-value : goal.returns-clause-value
+returns-clause-value c w reads =
+    let P : Tracked → Type 0 = λ tracked. StandsForSlot w tracked c.in_ok-before.before
+    (bare (ospf_of w c.args.part.now.ospf)) in
+    let before = subst P c.tracked.ensures.value
+    (c.in_ok-before.ensures.value w (c.sym_entry.ensures.builds.reads w reads)) in
+    let rib = c.in_ok-rib.ensures.value w reads (bare (ospf_of w c.args.part.now.ospf)) before in
+    record { ospf = before.ospf; bgp = before.bgp; rib = rib }
