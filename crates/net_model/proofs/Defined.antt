@@ -34,12 +34,13 @@ no_bgp (file ∷ rest) all =
     let both = and_parts (is_plain file) (list_all is_plain rest) all in
     rw ((parts file both.0).1, no_bgp rest both.1) refl
 
-none_here : {A : Type 0} (o : Option A) → is_some o ≡ false → o ≡ None
+-- an option without a value is none
+pub none_here : {A : Type 0} (o : Option A) → is_some o ≡ false → o ≡ None
 none_here None h = refl
 none_here (Some x) h = cc
 
 -- where no router runs BGP there is no neighbour line
-peerings_routers-none : (all : List Addressed) (router : ℕ) (files : List File) → list_any runs_bgp files ≡ false →
+pub peerings_routers-none : (all : List Addressed) (router : ℕ) (files : List File) → list_any runs_bgp files ≡ false →
     peerings_routers all router files ≡ []
 peerings_routers-none all router [] none = refl
 peerings_routers-none all router (file ∷ rest) none =

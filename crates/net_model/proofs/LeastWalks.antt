@@ -97,12 +97,14 @@ in-filter {X} p (y ∷ xs) x here = by_test (p y) refl here (λ later. in-filter
     by_test true is (inr later) further = let found = further later in (inr found.0, found.1)
     by_test false is here further = let found = further here in (inr found.0, found.1)
 
-in-map : {X Y : Type 0} (f : X → Y) (xs : List X) (y : Y) → In y (map f xs) → (x : X) × In x xs × (y ≡ f x)
+-- a member of a map is what a member of the list becomes
+pub in-map : {X Y : Type 0} (f : X → Y) (xs : List X) (y : Y) → In y (map f xs) → (x : X) × In x xs × (y ≡ f x)
 in-map f [] y here = absurd here
 in-map f (x ∷ xs) y (inl same) = (x, inl refl, same)
 in-map f (x ∷ xs) y (inr later) = let found = in-map f xs y later in (found.0, inr found.1, found.2)
 
-in-flat_map : {X Y : Type 0} (f : X → List Y) (xs : List X) (y : Y) → In y (flat_map f xs) → (x : X) × In x xs
+-- and one of lists in a row stands in one of them
+pub in-flat_map : {X Y : Type 0} (f : X → List Y) (xs : List X) (y : Y) → In y (flat_map f xs) → (x : X) × In x xs
     × In y (f x)
 in-flat_map f [] y here = absurd here
 in-flat_map f (x ∷ xs) y here = elim (in-cases y (f x) (flat_map f xs) here) [
@@ -383,7 +385,8 @@ ospf_at-same files x o is =
         ap (λ (y : OspfInterface). y.at) (sym same)
     by_match process false iface made = cc
 
-interface_below : (files : List File) (o : OspfInterface) → In o (ospf_interfaces files) → o.at.id.router < length files
+-- an interface that runs OSPF is one of a router of the files
+pub interface_below : (files : List File) (o : OspfInterface) → In o (ospf_interfaces files) → o.at.id.router < length files
 unfolding ospf_interfaces
 interface_below files o here =
     let found = in-filter_map (ospf_at files) (addressed files) o here in
@@ -392,7 +395,7 @@ interface_below files o here =
     let P : Addressed → Type 0 = λ y. y.id.router < length files in
     subst P (sym same) (omega (arith, below))
 
-adjacency_below : (files : List File) (a : Adjacency) → In a (adjacencies files) →
+pub adjacency_below : (files : List File) (a : Adjacency) → In a (adjacencies files) →
     (a.from.router < length files) × (a.to.router < length files)
 unfolding adjacencies
 adjacency_below files a here =
@@ -404,7 +407,7 @@ adjacency_below files a here =
     subst P (sym inner.2) (interface_below files outer.0 outer.1, interface_below files inner.0 other.0)
 
 -- an adjacency over which a router receives: that router and the far one are routers of the files
-up_below : (files : List File) (failures : Failures) (router : ℕ) (a : Adjacency)
+pub up_below : (files : List File) (failures : Failures) (router : ℕ) (a : Adjacency)
     → In a (up_adjacencies files failures router) →
     (router < length files) × (a.to.router < length files)
 unfolding up_adjacencies

@@ -4,6 +4,7 @@ use Rattle.std.proofs.Common.{Option, Some, None, refl, ap, sym, ◌∙◌, arit
 use Rattle.std.specs.Prelude.{◌==◌, ◌&&◌, ◌||◌, AllPairs, nat_lt, position, slice_get, slice_index_or}
 use Rattle.std.specs.List.{list_any, position_or_len}
 use Rattle.std.specs.Option.{option_map_or}
+use Rattle.std.proofs.lemmas.Bool.{not-true}
 use Rattle.std.proofs.lemmas.Bool.Decides.{nat_tests}
 use Rattle.std.proofs.lemmas.List.{get_or_past}
 use Rattle.std.proofs.lemmas.List.Quantifiers.{position-Some}
@@ -78,10 +79,6 @@ none_of : (b : Bool) (n : ℕ) → (if b then Some n else None) ≡ None → b �
 none_of true n same = cc
 none_of false n same = refl
 
-not_true : (b : Bool) → not b ≡ true → b ≡ false
-not_true true same = cc
-not_true false same = refl
-
 -- where no link has the prefix, each differs
 none_has : (links : List Link) (p : Prefix) (k : ℕ) → position (λ link. same_prefix link.prefix p) links ≡ None
     → has_at links p k ≡ false
@@ -93,7 +90,7 @@ none_has links p k none = has_from links p k false within (λ above. refl) where
   within d below =
       let ends = none_of (nat_lt (position_or_len test links) (length links)) _ none in
       let whole : length links ≤ position_or_len test links = grind (arith, nat_tests, ends) in
-      not_true _ (prefix_len_passes (λ link. not (test link)) links k d (omega (arith, below, whole)))
+      not-true _ (prefix_len_passes (λ link. not (test link)) links k d (omega (arith, below, whole)))
 
 -- the place of the one link that has the prefix
 one_has : (links : List Link) (p : Prefix) (k : ℕ) → AllPairs IsBefore links

@@ -22,13 +22,14 @@ use Rattle.net_model.specs.Ospf.{advertised, up_adjacencies}
 use Rattle.net_model.specs.Routing.{is_reached, up_interfaces}
 use Rattle.net_model.specs.World.{is_up}
 use Rattle.net_model.proofs.LeastWalks.{contains-in, is_interior}
+use Rattle.net_model.proofs.LeastWalks.{up_below}
 use Rattle.term_store.specs.Terms.{Reading}
 use Rattle.sym_policy.specs.declared.records.SymNet.{SymNet}
 use Rattle.sym_policy.specs.declared.records.SymOspf.{SymOspf}
 use Rattle.sym_policy.specs.Held.{failures_of, internal_route, ospf_of}
 use Rattle.sym_ospf.specs.Reached.{found, is_reached_by}
 use Rattle.sym_ospf.specs.Rows.{HasDistances}
-use Rattle.sym_ospf.proofs.FileRouters.{own_within, up_within}
+use Rattle.sym_ospf.proofs.FileRouters.{own_within}
 
 -- ---- over a subnet
 
@@ -112,7 +113,7 @@ walk_within : (files : List File) (failures : Failures) (p : Prefix) (router : �
     → IsWalkSum files failures p router walk sum → router < length files
 walk_within files failures p router [] sum walks = own_within files failures p router sum walks
 walk_within files failures p router (a ∷ rest) sum (there, further, walks, is) =
-    (up_within files failures router a (contains-in a (up_adjacencies files failures router) there)).0
+    (up_below files failures router a (contains-in a (up_adjacencies files failures router) there)).0
 
 none_past : (files : List File) (failures : Failures) (router : ℕ) (p : Prefix) → length files ≤ router
     → interior_distance files failures router p ≡ None

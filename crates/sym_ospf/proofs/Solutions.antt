@@ -21,13 +21,13 @@ use Rattle.net_model.specs.Ospf.{adjacencies, advertised, up_adjacencies}
 use Rattle.net_model.proofs.Equations.{solution_is}
 use Rattle.net_model.proofs.LeastWalks.{In, contains-in, filter_map-in, in-cases, in-contains, in-filter_map, in-left}
 use Rattle.net_model.proofs.LeastWalks.{in-option, in-right, is_interior, least-is, least-some, option-in}
+use Rattle.net_model.proofs.LeastWalks.{up_below}
 use Rattle.term_store.specs.Terms.{Reading}
 use Rattle.sym_policy.specs.declared.records.SymNet.{SymNet}
 use Rattle.sym_policy.specs.Held.{failures_of, internal_route}
 use Rattle.sym_ospf.specs.Rows.{HasDistances, costs_at, equation, igp_at, is_distance, is_internal, row_holds}
 use Rattle.sym_ospf.specs.Rows.{rows_hold}
 use Rattle.sym_ospf.proofs.EquationTests.{all_at, all_from}
-use Rattle.sym_ospf.proofs.FileRouters.{up_within}
 
 -- ---- a route that is a distance
 
@@ -86,7 +86,7 @@ module _ (files : List File) (failures : Failures) (p : Prefix) where
       ap (λ ns. least (option_to_list (own_cost files failures p router) ++ ns))
       (filter_map_same (beyond d) (beyond e) (up_adjacencies files failures router)
       (λ a there. ap (option_map (λ n. a.cost + n))
-      (same a.to.router (up_within files failures router a there).1)))
+      (same a.to.router (up_below files failures router a there).1)))
 
   -- the interior distance of each router
   abbrev inner : ℕ → Option ℕ

@@ -8,7 +8,7 @@ use Rattle.std.proofs.lemmas.Bool.Decides.{nat_tests}
 use Rattle.std.specs.List.{count_by, filter_map, flat_map, list_all, list_any}
 use Rattle.std.proofs.lemmas.List.Folds.{list_all-append, list_all-map}
 use Rattle.mw_text.proofs.Lists.{all_at}
-use Rattle.std.proofs.lemmas.Bool.{and_from, and_parts}
+use Rattle.std.proofs.lemmas.Bool.{and_from, and_parts, or_right}
 use Rattle.ios_ast.specs.declared.file.File.{File}
 use Rattle.ios_ast.specs.declared.policies.AsPathEntry.{AsPathEntry}
 use Rattle.ios_ast.specs.declared.policies.CommunityEntry.{CommunityEntry}
@@ -23,10 +23,6 @@ use Rattle.net_model.specs.Tracked.{said_as, said_in_pattern, said_numbers, trac
 use Rattle.sym_policy.specs.Shapes.{all_tracked, path_tracked, values_tracked}
 
 -- ---- values that are put into a list stand there
-
-or_right : (a b : Bool) → b ≡ true → (a || b) ≡ true
-or_right true b h = refl
-or_right false b h = h
 
 any_new : (p : ℕ → Bool) (xs : List ℕ) (at n : ℕ) → p n ≡ true → list_any p (insert xs at n) ≡ true
 any_new p [] zero n h = ap (λ b. b || false) h

@@ -4,7 +4,7 @@ use Rattle.std.proofs.Common.{[], ◌∷◌, ◌++◌}
 use Rattle.std.proofs.Common.{length, get_or, take, refl, sym, ap, subst, arith, eqb, ◌∙◌}
 use Rattle.std.proofs.lemmas.Grind.{common_steps}
 use Rattle.std.proofs.lemmas.List.{map-append, take_more}
-use Rattle.std.proofs.lemmas.List.Folds.{list_any-append}
+use Rattle.std.proofs.lemmas.List.Folds.{list_any-append, or-false}
 use Rattle.term_store.specs.Terms.{Reading, at}
 use Rattle.sym_walk.specs.declared.forwarding.SymEdge.{SymEdge}
 use Rattle.sym_walk.specs.Choices.{AreJoined, IsChosen, sends}
@@ -13,15 +13,11 @@ use Rattle.sym_walk.specs.Layers.{Edge, Forwarding}
 use Rattle.sym_walk.specs.Symbolic.{edge_of, edges_of, edges_end}
 use Rattle.sym_walk.proofs.Tables.{edges_end_at}
 
-or_false : (b : Bool) → (b || false) ≡ b
-or_false true = refl
-or_false false = refl
-
 -- an edge that never counts sends nowhere
 pub never_joined : (first : List Edge) (e : Edge) → e.when ≡ false → AreJoined first true (e ∷ []) first
 never_joined first e never router =
     sym (ap (λ b. sends first router || ((b && (sends_to router (record { when = true; to = e.to }))) || false)) never
-    ∙ or_false (sends first router))
+    ∙ or-false (sends first router))
 
 -- one more edge
 pub edge_joined : (w : Reading) (out : List SymEdge) (e : SymEdge) →
@@ -38,8 +34,8 @@ pub ruleset put_steps = (common_steps, never_joined, edge_joined, edges_end_push
 
 -- nothing is joined to the edges
 pub none_joined : (first : List Edge) (c : Bool) → AreJoined first c [] first
-none_joined first true router = sym (or_false (sends first router))
-none_joined first false router = sym (or_false (sends first router))
+none_joined first true router = sym (or-false (sends first router))
+none_joined first false router = sym (or-false (sends first router))
 
 -- one edge more under the condition
 one_more : (a c x e t : Bool) → ((a || (c && x)) || (((c && e) && t) || false)) ≡ (a || (c && (x || ((e && t) ||

@@ -1,6 +1,6 @@
 -- What is said of a start says where walks of a world begin.
 use Rattle.std.proofs.Common.{◌≡◌, ℕ, Bool, true, false, not, List, Option, Some, None, refl, sym, ap, subst}
-use Rattle.std.proofs.lemmas.Bool.{and_from, and_parts}
+use Rattle.std.proofs.lemmas.Bool.{and_from, and_parts, not-true}
 use Rattle.ios_ast.specs.declared.file.File.{File}
 use Rattle.route_record.specs.declared.World.{World}
 use Rattle.net_model.specs.declared.interfaces.IfaceId.{IfaceId}
@@ -10,10 +10,6 @@ use Rattle.question_lang.specs.Walks.{IsTestedIn, is_open}
 use Rattle.sym_walk.specs.Beginnings.{begins_at, begins_in}
 use Rattle.sym_walk.specs.Forwardings.{IsBeginning}
 
-is_false : (b : Bool) → not b ≡ true → b ≡ false
-is_false true h = cc
-is_false false h = refl
-
 tested : (files : List File) (world : World) (i : IfaceId) →
     (begins_in files world.failures world.packet i).begins ≡ true → IsTestedIn files world i true
 tested files world i h = and_parts (is_open files world.failures i) (permits_in files world.packet i) h
@@ -22,7 +18,7 @@ refused : (files : List File) (world : World) (i : IfaceId) →
     (begins_in files world.failures world.packet i).denied ≡ true → IsTestedIn files world i false
 refused files world i h =
     let parts = and_parts (is_open files world.failures i) (not (permits_in files world.packet i)) h in
-    (parts.0, is_false (permits_in files world.packet i) parts.1)
+    (parts.0, not-true (permits_in files world.packet i) parts.1)
 
 -- the start is that of the router and this interface, or none
 pub begins : (files : List File) (world : World) (start : Start) →

@@ -2,12 +2,13 @@
 use Rattle.std.proofs.Common.{◌≡◌, ℕ, zero, suc, ◌+◌, ◌<◌, ◌≤◌, max, Bool, true, false, List, [], ◌∷◌, ◌++◌, length}
 use Rattle.std.proofs.Common.{map, set, get_or}
 use Rattle.std.proofs.Common.{drop, Option, Some, None, refl, sym, ap, arith, ◌∙◌}
-use Rattle.std.proofs.lemmas.List.{append_assoc, append-nil, drop_all, drop_more, length-map, map-append}
+use Rattle.std.proofs.lemmas.List.{append-nil, drop_all, drop_more, length-map, map-append}
 use Rattle.std.proofs.lemmas.Grind.{common_steps}
 use Rattle.term_store.specs.declared.NodeId.{NodeId}
 use Rattle.term_store.specs.Terms.{Reading, at}
 use Rattle.term_arith.specs.Bits.{bits}
-use Rattle.term_arith.proofs.NumberLemmas.{bits_push, ids_end_at, ids_end_push, node_steps}
+use Rattle.term_arith.proofs.NumberLemmas.{ids_end_at, ids_end_push, node_steps}
+use Rattle.sym_policy.proofs.Rows.{with_push}
 use Rattle.walk_def.specs.Safety.{known}
 use Rattle.sym_walk.specs.declared.forwarding.SymEdge.{SymEdge}
 use Rattle.sym_walk.specs.declared.forwarding.SymForwarding.{SymForwarding}
@@ -65,12 +66,7 @@ table_at w fs i d h = (refl, ap (table_of w) (drop_more fs i d h))
 pub table_past : (w : Reading) (fs : List SymForwarding) (i : ℕ) → length fs ≤ i → table_of w (drop i fs) ≡ []
 table_past w fs i h = ap (table_of w) (drop_all i fs h)
 
--- one more mark, before those of the rest
-pub marks_push : (w : Reading) (out : List NodeId) (id : NodeId) (rest : List Bool) →
-    bits w (out ++ id ∷ []) ++ rest ≡ bits w out ++ at w id ∷ rest
-marks_push w out id rest = ap (λ bs. bs ++ rest) (bits_push w out id) ∙ append_assoc (bits w out) (at w id ∷ []) rest
-
-pub ruleset layer_steps = (common_steps, ids_end_push, table_end_at, table_at, table_past, marks_push, append-nil)
+pub ruleset layer_steps = (common_steps, ids_end_push, table_end_at, table_at, table_past, with_push, append-nil)
 
 -- ---- layers
 

@@ -2,7 +2,7 @@
 use Rattle.std.proofs.Common.{◌≡◌, Bool, true, false, ◌&&◌, ◌||◌, not, cond, List, [], ◌∷◌, ◌++◌, refl, sym}
 use Rattle.std.proofs.Common.{ap, subst, ◌∙◌}
 use Rattle.std.specs.List.{list_any}
-use Rattle.std.proofs.lemmas.List.Folds.{list_any-append}
+use Rattle.std.proofs.lemmas.List.Folds.{list_any-append, or-false}
 use Rattle.question_lang.specs.declared.walk.End.{End}
 use Rattle.question_lang.specs.declared.walk.End.TheVariants.{DeniedIn}
 use Rattle.question_lang.specs.declared.walk.Hop.{Hop}
@@ -12,10 +12,6 @@ use Rattle.sym_walk.specs.Choices.{IsChosen, IsUnion}
 use Rattle.sym_walk.specs.Forwardings.{sends_to}
 use Rattle.sym_walk.specs.Layers.{Forwarding, silent}
 use Rattle.sym_walk.specs.Twins.{IsTwin, ends_as, leads_to}
-
-or_false : (b : Bool) → (b || false) ≡ b
-or_false true = refl
-or_false false = refl
 
 -- the choice between two forwardings stands for the choice between their lists
 pub chosen_twin : (sought : End → Bool) (c : Bool) (xs ys : List Hop) (a b f : Forwarding) → IsTwin sought xs a →
@@ -35,7 +31,7 @@ silent_twin sought = record { sends = λ router. refl; ends = refl }
 -- a router that ends walks so
 pub end_twin : (sought : End → Bool) (end : End) (b : Bool) → b ≡ sought end →
     IsTwin sought (Ends end ∷ []) (record { next = []; ends = b })
-end_twin sought end b same = record { sends = λ router. refl; ends = same ∙ sym (or_false (sought end)) }
+end_twin sought end b same = record { sends = λ router. refl; ends = same ∙ sym (or-false (sought end)) }
 
 -- one that sends in at an interface where the packet is permitted, and else ends walks there
 pub arrive_twin : (sought : End → Bool) (i : IfaceId) (permit ends : Bool) → ends ≡
@@ -45,7 +41,7 @@ pub arrive_twin : (sought : End → Bool) (i : IfaceId) (permit ends : Bool) →
 arrive_twin sought i true ends same = record { sends = λ router. refl; ends = same }
 arrive_twin sought i false ends same = record {
   sends = λ router. refl;
-  ends = same ∙ sym (or_false (sought (DeniedIn i)));
+  ends = same ∙ sym (or-false (sought (DeniedIn i)));
 }
 
 -- a choice between two hops
@@ -116,7 +112,7 @@ united_twin sought c false xs ys a b f is same first second = record {
   sends = λ router.
       is.goes router
       ∙ ap (λ x. list_any (sends_to router) a.next || (x && list_any (sends_to router) b.next)) same
-      ∙ or_false (list_any (sends_to router) a.next) ∙ first.sends router;
+      ∙ or-false (list_any (sends_to router) a.next) ∙ first.sends router;
   ends = is.ends ∙ ap (λ x. a.ends || (x && b.ends)) same ∙ or_false a.ends ∙ first.ends;
 }
 
