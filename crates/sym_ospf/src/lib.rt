@@ -15,5 +15,5 @@ mod sessions;
 pub use equations::sym_igp;
 pub use links::{sym_up, sym_up_at};
 pub use resolution::sym_resolve;
-pub use routes::{sym_best, sym_transfer};
+pub use routes::{known_ospf, sym_best, sym_better, sym_same_record, sym_transfer};
 pub use sessions::sym_session_up;

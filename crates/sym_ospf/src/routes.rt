@@ -6,6 +6,7 @@ ghost use Rattle.std.specs.List.{filter_map};
 ghost use Rattle.term_store.specs.Terms.{size, at};
 ghost use Rattle.term_store.specs.Reading.{Builds, Gives};
 ghost use Rattle.net_model.specs.OspfRoutes.{kind_rank, is_type2, is_better, first_best, extended};
+ghost use Rattle.net_model.specs.Sending.{same_record};
 ghost use Rattle.sym_policy.specs.Held.{ospf_at, ospf_of, ospf_end, internal_route};
 ghost use Rattle.sym_ospf.specs.Routes.{routes_end, kept};
 
@@ -44,7 +45,7 @@ pub(crate) fn choose_ospf(
 }
 
 /// An internal route of a known cost, which is there where `valid` is true.
-pub(crate) fn known_ospf(
+pub fn known_ospf(
     alloc: Global,
     terms: &mut Terms,
     valid: bool,
@@ -113,6 +114,21 @@ fn sym_same_kind(terms: &mut Terms, a: &SymOspf, b: &SymOspf) -> Result<NodeId, 
     either(terms, same, last)
 }
 
+/// Whether two routes are one, as if both were there.
+pub fn sym_same_record(terms: &mut Terms, a: &SymOspf, b: &SymOspf) -> Result<NodeId, AllocError>
+    requires first { ospf_end a.now ≤ size terms.old }
+    requires second { ospf_end b.now ≤ size terms.old }
+    ensures builds { Builds terms.old terms.new }
+    ensures within { IfOk result (λ r. r.0 < size terms.new) }
+    ensures value { Gives terms.new result (λ w r. at w r ≡ same_record (ospf_at w a.now) (ospf_at w b.now)) }
+{
+    let kind = sym_same_kind(terms, a, b)?;
+    let metric = equal(terms, &a.metric, &b.metric)?;
+    let cost = equal(terms, &a.cost, &b.cost)?;
+    let numbers = both(terms, metric, cost)?;
+    both(terms, kind, numbers)
+}
+
 /// Whether of two routes of one kind the first is the better one: of type 2 by the metric and then by the cost, else by
 /// the cost.
 fn sym_nearer(terms: &mut Terms, a: &SymOspf, b: &SymOspf) -> Result<NodeId, AllocError>
@@ -136,8 +152,8 @@ fn sym_nearer(terms: &mut Terms, a: &SymOspf, b: &SymOspf) -> Result<NodeId, All
     either(terms, by_metric, cheaper)
 }
 
-/// Whether the first route is the better one, as if both were there.
-fn sym_better(terms: &mut Terms, a: &SymOspf, b: &SymOspf) -> Result<NodeId, AllocError>
+/// Whether the first route is the better one, as if both were there (RFC 2328, section 16.4).
+pub fn sym_better(terms: &mut Terms, a: &SymOspf, b: &SymOspf) -> Result<NodeId, AllocError>
     requires first { ospf_end a.now ≤ size terms.old }
     requires second { ospf_end b.now ≤ size terms.old }
     ensures builds { Builds terms.old terms.new }

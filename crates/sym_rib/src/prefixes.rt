@@ -15,7 +15,7 @@ use term_arith::{Bits, equal_number};
 use term_store::{NodeId, Terms};
 
 /// Whether a prefix is one of that length, with no bit past it.
-fn is_network(p: &Prefix, len: u8) -> bool
+pub fn is_network(p: &Prefix, len: u8) -> bool
     ensures { result ≡ same_prefix (prefix_at p.now.addr len) p.now }
 {
     prefix_of(p.addr, len) == *p

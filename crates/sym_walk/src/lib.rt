@@ -35,6 +35,7 @@ pub use entries::sym_entry_hops;
 pub use forwarding::{SymBeginning, SymEdge, SymForwarding};
 pub use here::sym_here;
 pub use longest::sym_hops;
+pub use offers::slot_for;
 pub use over::sym_send_over;
 pub use own::sym_own;
 pub use permits::{sym_permits_in, sym_permits_out};

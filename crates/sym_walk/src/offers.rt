@@ -4,26 +4,25 @@ ghost use Rattle.std.specs.Prelude.{◌≡◌, ℕ, ◌+◌, ◌*◌, ◌<◌, �
 ghost use Rattle.std.specs.Prelude.{IfSome, Some, None};
 ghost use Rattle.std.specs.Prelude.{if◌then◌else◌, length, slice_get, map, option_copied};
 ghost use Rattle.std.specs.Option.{option_map_or};
-ghost use Rattle.net_model.specs.OspfRoutes.{kind_rank, is_type2};
 ghost use Rattle.net_model.specs.Sending as sent;
 ghost use Rattle.route_record.specs.declared.TheConstants as constants;
-ghost use Rattle.sym_policy.specs.Held.{failures_of, ospf_at, ospf_of, ospf_end};
+ghost use Rattle.sym_policy.specs.Held.{failures_of, ospf_of, ospf_end};
 ghost use Rattle.sym_policy.specs.Records.{prefix_of as prefix_read};
 ghost use Rattle.sym_rib.specs.Slots.{slot_end};
 ghost use Rattle.sym_walk.specs.Offers as defined;
 ghost use Rattle.sym_walk.specs.Worlds.{slot_of, slots_end, tables_of};
 ghost use Rattle.term_store.specs.Terms.{Reading, size, at};
 ghost use Rattle.term_store.specs.Reading.{Reads, Builds, Gives};
-ghost use Rattle.term_arith.specs.Bits.{ids_end, number};
+ghost use Rattle.term_arith.specs.Bits.{ids_end};
 
 use net_model::{Adjacency, Net};
 use route_record::LENGTHS;
 use std::alloc::{AllocError, Global};
-use sym_ospf::{sym_transfer, sym_up_at};
+use sym_ospf::{sym_same_record, sym_transfer, sym_up_at};
 use sym_policy::{SymNet, SymOspf};
 use sym_rib::SymSlot;
-use term_arith::gates::{both, constant_node, either, negate};
-use term_arith::{Bits, equal, equal_number};
+use term_arith::Bits;
+use term_arith::gates::{both, constant_node};
 use term_store::{NodeId, Terms};
 
 fn slot_there(slots: &[SymSlot], router: u32, len: u8) -> Option<&SymSlot>
@@ -34,57 +33,11 @@ fn slot_there(slots: &[SymSlot], router: u32, len: u8) -> Option<&SymSlot>
 }
 
 /// The symbolic slot of a router for a prefix length. None exactly where there is none there.
-pub(crate) fn slot_for(slots: &[SymSlot], router: u32, len: u8) -> Option<&SymSlot>
+pub fn slot_for(slots: &[SymSlot], router: u32, len: u8) -> Option<&SymSlot>
     ensures place { option_copied result ≡ slice_get slots.now (constants.LENGTHS * router + len) }
     ensures within { IfSome result (λ r. slot_end r.now ≤ slots_end slots.now) }
 {
     slot_there(slots, router, len)
-}
-
-// Whether the route is external of type 2.
-#[tactic(auto, using(sym_ospf::proofs::RouteKinds::type2_is))]
-fn sym_type2(terms: &mut Terms, rec: &SymOspf) -> Result<NodeId, AllocError>
-    requires nodes { ospf_end rec.now ≤ size terms.old }
-    ensures builds { Builds terms.old terms.new }
-    ensures within { IfOk result (λ r. r.0 < size terms.new) }
-    ensures value { Gives terms.new result (λ w r. at w r ≡ is_type2 (ospf_at w rec.now).kind) }
-{
-    let internal = equal_number(terms, rec.kind.nodes.as_slice(), 0)?;
-    let type1 = equal_number(terms, rec.kind.nodes.as_slice(), 1)?;
-    let other = either(terms, internal, type1)?;
-    negate(terms, other)
-}
-
-// Whether two routes are of one kind.
-#[tactic(auto, using(sym_ospf::proofs::RouteKinds::same_is))]
-fn sym_same_kind(terms: &mut Terms, a: &SymOspf, b: &SymOspf) -> Result<NodeId, AllocError>
-    requires first { ospf_end a.now ≤ size terms.old }
-    requires second { ospf_end b.now ≤ size terms.old }
-    ensures builds { Builds terms.old terms.new }
-    ensures within { IfOk result (λ r. r.0 < size terms.new) }
-    ensures value { Gives terms.new result (λ w r. at w r
-        ≡ (kind_rank (ospf_at w a.now).kind == kind_rank (ospf_at w b.now).kind)) }
-{
-    let same = equal(terms, &a.kind, &b.kind)?;
-    let first = sym_type2(terms, a)?;
-    let second = sym_type2(terms, b)?;
-    let last = both(terms, first, second)?;
-    either(terms, same, last)
-}
-
-// Whether two routes are one, as if both were there.
-fn sym_same_record(terms: &mut Terms, a: &SymOspf, b: &SymOspf) -> Result<NodeId, AllocError>
-    requires first { ospf_end a.now ≤ size terms.old }
-    requires second { ospf_end b.now ≤ size terms.old }
-    ensures builds { Builds terms.old terms.new }
-    ensures within { IfOk result (λ r. r.0 < size terms.new) }
-    ensures value { Gives terms.new result (λ w r. at w r ≡ sent.same_record (ospf_at w a.now) (ospf_at w b.now)) }
-{
-    let kind = sym_same_kind(terms, a, b)?;
-    let metric = equal(terms, &a.metric, &b.metric)?;
-    let cost = equal(terms, &a.cost, &b.cost)?;
-    let numbers = both(terms, metric, cost)?;
-    both(terms, kind, numbers)
 }
 
 // Whether both routes are there and are one.

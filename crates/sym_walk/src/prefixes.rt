@@ -7,8 +7,9 @@ ghost use Rattle.term_store.specs.Terms.{Reading, size, at};
 ghost use Rattle.term_store.specs.Reading.{Reads, Builds, Gives};
 ghost use Rattle.term_arith.specs.Bits.{number, ids_end};
 
-use mw_text::{Prefix, prefix_of};
+use mw_text::Prefix;
 use std::alloc::AllocError;
+use sym_rib::prefixes::is_network;
 use term_arith::gates::constant_node;
 use term_arith::{Bits, equal_number};
 use term_store::{NodeId, Terms};
@@ -46,13 +47,6 @@ pub(crate) fn sym_covers(
     let low = open_bits(prefix);
     let bits = high_bits(address, low);
     equal_number(terms, bits, u64::from(prefix.addr.0) >> low)
-}
-
-// Whether a prefix is one of that length, with no bit past it.
-fn is_network(p: &Prefix, len: u8) -> bool
-    ensures { result ≡ same_prefix (prefix_at p.now.addr len) p.now }
-{
-    prefix_of(p.addr, len) == *p
 }
 
 /// Whether the prefix is that of this length of an address.
