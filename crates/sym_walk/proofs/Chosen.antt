@@ -4,7 +4,8 @@ use Rattle.std.proofs.Common.{[], ◌∷◌, ◌++◌}
 use Rattle.std.proofs.Common.{length, get_or, take, refl, sym, ap, subst, arith, eqb, ◌∙◌}
 use Rattle.std.proofs.lemmas.Grind.{common_steps}
 use Rattle.std.proofs.lemmas.List.{map-append, take_more}
-use Rattle.std.proofs.lemmas.List.Folds.{list_any-append, or-false}
+use Rattle.std.proofs.lemmas.List.Folds.{list_any-append}
+use Rattle.std.proofs.Math.Bool.{or-false}
 use Rattle.term_store.specs.Terms.{Reading, at}
 use Rattle.sym_walk.specs.declared.forwarding.SymEdge.{SymEdge}
 use Rattle.sym_walk.specs.Choices.{AreJoined, IsChosen, sends}
@@ -81,5 +82,5 @@ chosen_joined c other a b f between is first second ends = record {
   ends = ends;
 } where
   either : (c x y : Bool) → ((c && x) || (not c && y)) ≡ cond c x y
-  either true x y = or_false x
+  either true x y = or-false x
   either false x y = refl

@@ -2,7 +2,8 @@
 use Rattle.std.proofs.Common.{◌≡◌, Bool, true, false, ◌&&◌, ◌||◌, not, cond, List, [], ◌∷◌, ◌++◌, refl, sym}
 use Rattle.std.proofs.Common.{ap, subst, ◌∙◌}
 use Rattle.std.specs.List.{list_any}
-use Rattle.std.proofs.lemmas.List.Folds.{list_any-append, or-false}
+use Rattle.std.proofs.lemmas.List.Folds.{list_any-append}
+use Rattle.std.proofs.Math.Bool.{or-false}
 use Rattle.question_lang.specs.declared.walk.End.{End}
 use Rattle.question_lang.specs.declared.walk.End.TheVariants.{DeniedIn}
 use Rattle.question_lang.specs.declared.walk.Hop.{Hop}
@@ -113,7 +114,7 @@ united_twin sought c false xs ys a b f is same first second = record {
       is.goes router
       ∙ ap (λ x. list_any (sends_to router) a.next || (x && list_any (sends_to router) b.next)) same
       ∙ or-false (list_any (sends_to router) a.next) ∙ first.sends router;
-  ends = is.ends ∙ ap (λ x. a.ends || (x && b.ends)) same ∙ or_false a.ends ∙ first.ends;
+  ends = is.ends ∙ ap (λ x. a.ends || (x && b.ends)) same ∙ or-false a.ends ∙ first.ends;
 }
 
 -- a router whose walks never end as sought, and that sends nowhere
