@@ -1,7 +1,7 @@
 -- How much the OSPF routes of a stable routing cost at most.
 use Rattle.std.proofs.Common.{◌≡◌, ℕ, zero, suc, ◌+◌, ◌*◌, ◌<◌, ◌≤◌, Bool, true, false, eqb, List, [], ◌∷◌, length}
-use Rattle.std.proofs.Common.{◌||◌, Option, Some, None, inl, inr, refl, sym, ap, subst, arith, ◌∙◌}
-use Rattle.std.specs.Prelude.{◌⊎◌, All, nat_lt}
+use Rattle.std.proofs.Common.{◌||◌, Some, inl, inr, refl, sym, ap, subst, arith, ◌∙◌}
+use Rattle.std.specs.Prelude.{◌⊎◌, All}
 use Rattle.std.specs.List.{AllByRecursion, IsDistinct, list_any}
 use Rattle.std.proofs.lemmas.Bool.{cases_lt, eqb-true}
 use Rattle.std.proofs.Math.Nat.{suc-mul}

@@ -12,3 +12,8 @@ pub mod Worlds
 pub mod WorldBits
 pub mod Steps
 pub mod RoomSteps
+pub mod EquationSteps
+pub mod HoldingSteps
+pub mod SlotSteps
+pub mod RoutingSteps
+pub mod Wanted

@@ -1,23 +1,21 @@
 -- A packet of a set is read from its bits, and what is read is in the set where the test says so.
-use Rattle.std.proofs.Common.{◌≡◌, ◌≢◌, ℕ, zero, suc, ◌+◌, ◌-◌, ◌*◌, ◌/◌, ◌%◌, ◌^◌, ◌<◌, ◌≤◌, Bool, true, false, not}
-use Rattle.std.proofs.Common.{◌&&◌, ◌||◌, List, [], ◌∷◌, ◌++◌, length, Option, Some, None, refl, sym, ap, subst, arith}
-use Rattle.std.proofs.Common.{◌∙◌, nat_le, nat_eq}
+use Rattle.std.proofs.Common.{◌≡◌, ◌≢◌, ℕ, ◌+◌, ◌-◌, ◌*◌, ◌/◌, ◌%◌, ◌^◌, ◌<◌, ◌≤◌, Bool, true, false}
+use Rattle.std.proofs.Common.{List, ◌++◌, Option, Some, None, refl, sym, ap, subst, arith}
+use Rattle.std.proofs.Common.{◌∙◌}
 use Rattle.std.specs.Prelude.{◌==◌, IsTrue, if◌then◌else◌}
-use Rattle.std.specs.Option.{option_map_or}
-use Rattle.std.proofs.lemmas.Bool.{and_from, and_parts, eqb-true, eq-eqb, le-leb, leb-true, false≢true}
+use Rattle.std.proofs.lemmas.Bool.{eqb-true, false≢true}
 use Rattle.std.proofs.Math.Nat.{mod-add-div, mod-lt}
 use Rattle.std.proofs.lemmas.Nat.{pow_pos}
 use Rattle.std.proofs.lemmas.Option.{same_Some}
-use Rattle.mw_text.specs.declared.address.Addr.{Addr}
 use Rattle.mw_text.specs.declared.address.Prefix.{Prefix}
 use Rattle.mw_text.specs.Address.{block, covers}
 use Rattle.route_record.specs.declared.Packet.{Packet}
 use Rattle.question_lang.specs.declared.question.PacketSet.{PacketSet}
-use Rattle.question_lang.specs.Packets.{IsInSet, IsPacket}
+use Rattle.question_lang.specs.Packets.{IsInSet}
 use Rattle.net_encoder.specs.Packets.{address_bits, address_from, field_bits, field_from, field_width, fixed_port}
-use Rattle.net_encoder.specs.Packets.{is_in_set, is_portless, packet_bits, packet_from, packet_width}
-use Rattle.net_encoder.specs.Rows.{IsAt, digits, number_from, row}
-use Rattle.net_encoder.proofs.Reading.{after, field_at, number_from-below}
+use Rattle.net_encoder.specs.Packets.{is_portless, packet_bits, packet_from, packet_width}
+use Rattle.net_encoder.specs.Rows.{IsAt}
+use Rattle.net_encoder.proofs.Reading.{field_at}
 
 -- ---- a field
 

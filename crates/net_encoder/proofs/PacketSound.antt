@@ -1,19 +1,18 @@
 -- What is read from variables is a packet, and in the set where the test says so.
-use Rattle.std.proofs.Common.{◌≡◌, ◌≢◌, ℕ, zero, suc, ◌+◌, ◌-◌, ◌*◌, ◌/◌, ◌%◌, ◌^◌, ◌<◌, ◌≤◌, Bool, true, false, not}
-use Rattle.std.proofs.Common.{◌&&◌, ◌||◌, Option, Some, None, refl, sym, ap, subst, arith, ◌∙◌, nat_le, nat_eq, cond}
+use Rattle.std.proofs.Common.{◌≡◌, ◌≢◌, ℕ, ◌+◌, ◌-◌, ◌*◌, ◌/◌, ◌^◌, ◌<◌, Bool, true, false, not}
+use Rattle.std.proofs.Common.{◌&&◌, ◌||◌, Option, Some, None, refl, sym, ap, subst, arith, ◌∙◌}
 use Rattle.std.specs.Prelude.{◌==◌, IfSome, IsTrue, if◌then◌else◌}
 use Rattle.std.specs.Option.{option_map_or}
-use Rattle.std.proofs.lemmas.Bool.{and_from, and_parts, eqb-true, eq-eqb, le-leb, leb-true, false≢true, true≢false}
+use Rattle.std.proofs.lemmas.Bool.{and_from, and_parts, eqb-true, eq-eqb, le-leb, leb-true, false≢true}
 use Rattle.std.proofs.Math.Nat.{add-mul-div_left, div-eq_of_lt, div-lt_iff_lt-mul, mul-le-mul_left, mul-suc, mul_comm}
 use Rattle.std.proofs.Math.Nat.{zero-add}
 use Rattle.std.proofs.lemmas.Nat.{pow-add, pow_pos}
 use Rattle.std.proofs.lemmas.Option.{same_Some}
-use Rattle.mw_text.specs.declared.address.Addr.{Addr}
 use Rattle.mw_text.specs.declared.address.Prefix.{Prefix}
 use Rattle.mw_text.specs.Address.{block, covers}
 use Rattle.route_record.specs.declared.Packet.{Packet}
 use Rattle.question_lang.specs.declared.question.PacketSet.{PacketSet}
-use Rattle.question_lang.specs.Packets.{IsInSet, IsPacket}
+use Rattle.question_lang.specs.Packets.{IsInSet}
 use Rattle.net_encoder.specs.Packets.{FitsSet, address_from, field_from, fixed_port, is_in_set, is_portless}
 use Rattle.net_encoder.specs.Packets.{packet_from}
 use Rattle.net_encoder.specs.Rows.{number_from}

@@ -1,11 +1,11 @@
 -- Reading numbers and values from a row of variables.
 use Rattle.std.proofs.Common.{◌≡◌, ℕ, zero, suc, ◌+◌, ◌*◌, ◌/◌, ◌%◌, ◌^◌, ◌<◌, Bool, true, false, List, [], ◌∷◌, ◌++◌}
-use Rattle.std.proofs.Common.{length, nat_eq, refl, sym, ap, subst, arith, ◌∙◌, add-one}
+use Rattle.std.proofs.Common.{length, refl, sym, ap, subst, arith, ◌∙◌}
 use Rattle.std.specs.Prelude.{◌==◌}
-use Rattle.std.proofs.lemmas.List.{length-append}
 use Rattle.std.proofs.Math.Nat.{div-add-mod, pow-suc}
 use Rattle.term_arith.specs.Bits.{bit, number_of}
-use Rattle.net_encoder.specs.Rows.{IsAt, digits, number_from, row, truth}
+use Rattle.net_encoder.specs.Rows.{IsAt, digits, number_from, row}
+use Rattle.term_store.specs.Terms.{truth}
 
 -- ---- rows
 

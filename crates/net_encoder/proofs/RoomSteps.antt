@@ -1,5 +1,5 @@
 -- Rooms of slots, one after another.
-use Rattle.std.proofs.Common.{◌≡◌, ℕ, zero, suc, ◌+◌, ◌/◌, ◌%◌, Bool, List, [], ◌∷◌, ◌++◌, refl, ap, arith, ◌∙◌}
+use Rattle.std.proofs.Common.{◌≡◌, ℕ, zero, suc, ◌+◌, ◌/◌, ◌%◌, List, [], ◌∷◌, ◌++◌, length, refl, ap, arith, ◌∙◌}
 use Rattle.std.proofs.lemmas.Grind.{common_steps}
 use Rattle.mw_text.specs.declared.address.Prefix.{Prefix}
 use Rattle.ios_ast.specs.declared.file.File.{File}
@@ -35,5 +35,12 @@ rooms_next files destinations count =
 pub rooms_none : (files : List File) (destinations : Prefix) → rooms_from files destinations 0 0 ≡ []
 unfolding rooms_from
 rooms_none files destinations = refl
+
+-- as many as are asked for
+pub rooms_long : (files : List File) (destinations : Prefix) (at count : ℕ) →
+    length (rooms_from files destinations at count) ≡ count
+unfolding rooms_from
+rooms_long files destinations at zero = refl
+rooms_long files destinations at (suc count) = ap suc (rooms_long files destinations (suc at) count)
 
 pub ruleset room_steps = (common_steps, rooms_next, rooms_none)

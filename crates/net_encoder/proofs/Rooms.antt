@@ -1,18 +1,18 @@
 -- The OSPF routes of a stable routing have room.
-use Rattle.std.proofs.Common.{◌≡◌, ◌≢◌, ℕ, zero, suc, ◌+◌, ◌-◌, ◌*◌, ◌/◌, ◌%◌, ◌^◌, ◌<◌, ◌≤◌, Bool, true, false, not}
-use Rattle.std.proofs.Common.{◌&&◌, ◌||◌, List, [], ◌∷◌, ◌++◌, length, map, filter, Option, Some, None, inl, inr, refl}
-use Rattle.std.proofs.Common.{sym, ap, subst, arith, ◌∙◌, slice_get, max, min, nat_lt, nat_eq}
-use Rattle.std.specs.Prelude.{◌==◌, ◌⊎◌, All, IfSome, IsTrue, fold, is_some, option_and_then, if◌then◌else◌}
-use Rattle.std.specs.List.{filter_map, flat_map, list_any}
-use Rattle.std.specs.Option.{option_map_or, option_to_list}
-use Rattle.std.proofs.lemmas.Bool.{and_from, and_parts, cases_lt, eqb-true, eq-eqb, false≢true, le-ltb, ltb-true}
-use Rattle.std.proofs.lemmas.Bool.{or_from, or_parts}
-use Rattle.std.proofs.lemmas.List.Elements.{All-append, All-cons, All-filter, All-head, All-map, All-nil, All-tail}
+use Rattle.std.proofs.Common.{◌≡◌, ℕ, zero, suc, ◌+◌, ◌-◌, ◌*◌, ◌/◌, ◌^◌, ◌<◌, ◌≤◌, Bool, true, false, not}
+use Rattle.std.proofs.Common.{◌&&◌, ◌||◌, List, [], ◌∷◌, length, map, filter, Option, Some, None, inl, inr, refl}
+use Rattle.std.proofs.Common.{sym, ap, subst, arith, ◌∙◌, slice_get, max, min, nat_lt}
+use Rattle.std.specs.Prelude.{◌==◌, ◌⊎◌, All, IfSome, fold, is_some, if◌then◌else◌}
+use Rattle.std.specs.List.{flat_map, list_any}
+use Rattle.std.specs.Option.{option_map_or}
+use Rattle.std.proofs.lemmas.Bool.{and_from, and_parts, cases_lt, eqb-true, eq-eqb, false≢true, ltb-true}
+use Rattle.std.proofs.lemmas.Bool.{or_parts}
+use Rattle.std.proofs.lemmas.List.Elements.{All-append, All-cons, All-head, All-map, All-nil, All-tail}
 use Rattle.std.proofs.lemmas.List.Elements.{All-weaker}
 use Rattle.std.proofs.Math.Dec.{eqb-suc-zero}
 use Rattle.std.proofs.Math.Nat.{div-div-eq-div-mul, mul-div_cancel}
 use Rattle.std.proofs.lemmas.Nat.{pow-add, pow_pos}
-use Rattle.std.proofs.lemmas.Option.{option_and_then_some, same_Some, slice_get_within}
+use Rattle.std.proofs.lemmas.Option.{option_and_then_some, same_Some}
 use Rattle.mw_text.specs.declared.address.Addr.{Addr}
 use Rattle.mw_text.specs.declared.address.Prefix.{Prefix}
 use Rattle.mw_text.specs.Address.{block, covers, prefix_at, same_prefix}
@@ -28,19 +28,17 @@ use Rattle.route_record.specs.declared.Tables.{Tables}
 use Rattle.route_record.specs.declared.TheConstants.{LENGTHS}
 use Rattle.route_record.specs.Fits.{FitsOspf, FitsSlot}
 use Rattle.route_record.specs.Places.{slot_at}
-use Rattle.net_model.specs.declared.adjacencies.Adjacency.{Adjacency}
 use Rattle.net_model.specs.declared.ospf.OspfInterface.{OspfInterface}
 use Rattle.net_model.specs.Ospf.{adjacencies, adjacency, advertisement, are_adjacent, origin_interfaces}
 use Rattle.net_model.specs.Ospf.{ospf_interfaces}
 use Rattle.net_model.specs.OspfRoutes.{kind_rank, own_origins}
 use Rattle.net_model.specs.Connected.{overlap}
 use Rattle.net_model.specs.Origins.{redistributed}
-use Rattle.net_model.specs.Stable.{Stable, held_ospf}
+use Rattle.net_model.specs.Stable.{Stable}
 use Rattle.net_model.specs.World.{is_up}
-use Rattle.net_encoder.specs.Rooms.{greatest_cost, has_room, is_advertised, most_cost, rooms_from, some_take}
+use Rattle.net_encoder.specs.Rooms.{greatest_cost, has_room, is_advertised, most_cost, some_take}
 use Rattle.net_encoder.specs.Rooms.{takes_routes, width_from, widths_of}
 use Rattle.net_encoder.specs.Supported.{AreOrigins}
-use Rattle.net_encoder.specs.declared.widths.Widths.{Widths}
 use Rattle.net_encoder.specs.Unknowns.{FitsWidths}
 use Rattle.net_encoder.proofs.Bounded.{cost_bound}
 use Rattle.net_encoder.proofs.Supports.{all_held, all_in, file_there}

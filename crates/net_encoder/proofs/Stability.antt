@@ -1,13 +1,12 @@
 -- The test is true exactly where the tables are a stable routing, in a network without BGP.
-use Rattle.std.proofs.Common.{◌≡◌, ℕ, zero, suc, ◌+◌, ◌*◌, ◌/◌, ◌%◌, ◌^◌, ◌<◌, Bool, true, false, not, ◌&&◌, List, []}
+use Rattle.std.proofs.Common.{◌≡◌, ℕ, zero, suc, ◌+◌, ◌*◌, ◌/◌, ◌%◌, ◌^◌, ◌<◌, Bool, true, false, not, List, []}
 use Rattle.std.proofs.Common.{◌∷◌, ◌++◌, length, map, Option, Some, None, refl, sym, ap, subst, arith, ◌∙◌, slice_get}
-use Rattle.std.specs.Prelude.{◌==◌, All, IfSome, fold, is_some, nat_lt, option_and_then, option_map, if◌then◌else◌}
-use Rattle.std.specs.List.{list_all, filter_map}
+use Rattle.std.specs.Prelude.{◌==◌, All, IfSome, fold, is_some, nat_lt, option_and_then, if◌then◌else◌}
 use Rattle.std.specs.Bool.{beq}
 use Rattle.std.specs.Option.{option_map_or, option_to_list}
 use Rattle.std.proofs.lemmas.Bool.{and_from, and_parts, eqb-true, eq-eqb, false≢true}
 use Rattle.std.proofs.lemmas.List.Elements.{All-append, All-cons, All-filter, All-head, All-map, All-nil, All-tail}
-use Rattle.std.proofs.lemmas.Option.{same_Some, slice_get_within}
+use Rattle.std.proofs.lemmas.Option.{same_Some}
 use Rattle.mw_text.proofs.Lists.{all_at}
 use Rattle.mw_text.specs.declared.address.Addr.{Addr}
 use Rattle.mw_text.specs.declared.address.Prefix.{Prefix}
@@ -26,13 +25,13 @@ use Rattle.route_record.specs.declared.Tables.{Tables}
 use Rattle.route_record.specs.declared.TheConstants.{LENGTHS}
 use Rattle.route_record.specs.Fits.{FitsOspf, FitsRib, FitsSlot}
 use Rattle.route_record.specs.Places.{slot_at}
-use Rattle.net_model.specs.Entries.{bgp_entry, entry_with, ospf_entry, own_is_as_good, table_entry}
+use Rattle.net_model.specs.Entries.{bgp_entry, entry_with, ospf_entry}
 use Rattle.net_model.specs.OspfRoutes.{kind_rank}
 use Rattle.net_model.specs.Routing.{candidates, closer, is_direct, least_distance, static_routes, up_interfaces}
 use Rattle.net_model.specs.Sending.{same_record}
 use Rattle.net_model.specs.Stable.{IsStableSlot, Stable, held_ospf}
-use Rattle.net_encoder.specs.Slots.{all_hold, bare, entry_of, is_wanted, runs_no_bgp, same_ospf, slot_holds, slot_of}
-use Rattle.net_encoder.specs.Slots.{slots_of, tables_of, unknown_of, unknowns_of}
+use Rattle.net_encoder.specs.Slots.{all_hold, bare, is_wanted, runs_no_bgp, same_ospf, slot_holds, slot_of}
+use Rattle.net_encoder.specs.Slots.{slots_of, tables_of}
 use Rattle.net_encoder.specs.Unknowns.{Unknown}
 
 -- ---- the tests of equality

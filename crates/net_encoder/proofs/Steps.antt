@@ -1,7 +1,7 @@
 -- Stores that grow, and numbers of new variables.
 use Rattle.std.proofs.Common.{◌≡◌, ℕ, zero, suc, ◌+◌, ◌*◌, ◌^◌, ◌≤◌, Bool, List, [], ◌∷◌, ◌++◌, length, refl, sym, ap}
 use Rattle.std.proofs.Common.{arith}
-use Rattle.std.specs.Prelude.{if◌then◌else◌, nat_lt}
+use Rattle.std.specs.Prelude.{if◌then◌else◌}
 use Rattle.std.proofs.lemmas.Bool.{le-ltb, lt-ltb}
 use Rattle.std.proofs.Common.{◌∙◌, drop, get_or, map, false, ◌-◌, ◌/◌, ◌<◌, max, subst}
 use Rattle.std.proofs.lemmas.List.{drop_more, map-append, length-map}
@@ -10,7 +10,7 @@ use Rattle.std.proofs.lemmas.Nat.{pow-add, pow_pos}
 use Rattle.term_store.specs.declared.NodeId.{NodeId}
 use Rattle.term_store.specs.Terms.{Reading, Store, at}
 use Rattle.term_store.specs.Reading.{Builds, Grows}
-use Rattle.term_arith.specs.Bits.{bit, bits, ids_end, number, number_of, variables}
+use Rattle.term_arith.specs.Bits.{bits, ids_end, number, number_of, variables}
 use Rattle.term_arith.proofs.NumberLemmas.{bits_push, ids_end_push}
 use Rattle.std.proofs.lemmas.Grind.{common_steps}
 use Rattle.net_encoder.specs.Failures.{none_of}

@@ -1,7 +1,7 @@
 -- Each OSPF route of a stable routing is an own origin or that of a router over an adjacency, which costs less.
-use Rattle.std.proofs.Common.{◌≡◌, ℕ, zero, suc, ◌+◌, ◌*◌, ◌<◌, ◌≤◌, Bool, true, false, List, [], ◌∷◌, ◌++◌, length}
-use Rattle.std.proofs.Common.{Option, Some, None, inl, inr, refl, sym, ap, subst, arith, ◌∙◌, slice_get}
-use Rattle.std.specs.Prelude.{◌⊎◌, ◌^◌, All, Contains, fold, nat_lt, option_and_then, cond, if◌then◌else◌}
+use Rattle.std.proofs.Common.{◌≡◌, ℕ, zero, suc, ◌+◌, ◌*◌, ◌<◌, Bool, true, false, List, [], ◌∷◌, ◌++◌, length}
+use Rattle.std.proofs.Common.{Some, None, inl, inr, refl, sym, ap, subst, arith, ◌∙◌, slice_get}
+use Rattle.std.specs.Prelude.{◌⊎◌, ◌^◌, All, fold, nat_lt, option_and_then, if◌then◌else◌}
 use Rattle.std.specs.List.{filter_map}
 use Rattle.std.specs.Option.{option_map_or}
 use Rattle.std.proofs.lemmas.List.Elements.{All-head, All-tail}
@@ -20,11 +20,11 @@ use Rattle.route_record.specs.declared.Tables.{Tables}
 use Rattle.route_record.specs.declared.TheConstants.{LENGTHS}
 use Rattle.route_record.specs.Places.{slot_at}
 use Rattle.net_model.specs.declared.adjacencies.Adjacency.{Adjacency}
-use Rattle.net_model.specs.Ospf.{adjacencies, is_up_at, up_adjacencies}
+use Rattle.net_model.specs.Ospf.{adjacencies, up_adjacencies}
 use Rattle.net_model.specs.OspfRoutes.{better_of, extended, first_best, held_by_ospf, is_better, offer_over}
 use Rattle.net_model.specs.OspfRoutes.{own_origins}
 use Rattle.net_model.specs.Stable.{Stable, held_ospf}
-use Rattle.net_model.proofs.LeastWalks.{In, contains-in, in-cases, in-contains, in-filter, in-filter_map}
+use Rattle.net_model.proofs.LeastWalks.{In, in-cases, in-filter, in-filter_map}
 use Rattle.net_encoder.specs.Supported.{AreOrigins, IsKept}
 
 -- ---- the first best of some offers is one of them

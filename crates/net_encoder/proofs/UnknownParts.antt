@@ -1,14 +1,14 @@
 -- What is open of the slots is read from its bits.
-use Rattle.std.proofs.Common.{◌≡◌, ℕ, zero, suc, ◌+◌, ◌^◌, ◌<◌, Bool, true, false, List, [], ◌∷◌, ◌++◌, length}
+use Rattle.std.proofs.Common.{◌≡◌, ℕ, suc, ◌+◌, Bool, true, false, List, [], ◌∷◌, length}
 use Rattle.std.proofs.Common.{Option, Some, None, refl, sym, ap, subst, arith, ◌∙◌}
-use Rattle.std.specs.Prelude.{◌==◌, IfSome, is_some, if◌then◌else◌}
+use Rattle.std.specs.Prelude.{IfSome, is_some, if◌then◌else◌}
 use Rattle.std.proofs.lemmas.Nat.{pow_pos}
 use Rattle.route_record.specs.declared.OspfKind.{OspfKind}
 use Rattle.route_record.specs.declared.OspfKind.TheVariants.{Internal, Ext1, Ext2}
 use Rattle.route_record.specs.declared.OspfRec.{OspfRec}
 use Rattle.net_model.specs.OspfRoutes.{kind_rank}
 use Rattle.sym_policy.specs.Held.{kind_of_number}
-use Rattle.net_encoder.specs.Rows.{IsAt, digits, number_from}
+use Rattle.net_encoder.specs.Rows.{IsAt}
 use Rattle.net_encoder.specs.declared.widths.Widths.{Widths}
 use Rattle.net_encoder.specs.Unknowns.{FitRooms, FitsRoom, FitsWidths, Unknown, route_bits, route_from}
 use Rattle.net_encoder.specs.Unknowns.{route_or_any, route_width, unknown_bits, unknown_from, unknown_width}

@@ -1,37 +1,30 @@
 -- Each routing that breaks a question is that of its own bits, and passes the test there.
-use Rattle.std.proofs.Common.{◌≡◌, ℕ, zero, suc, ◌+◌, ◌*◌, ◌/◌, ◌%◌, ◌<◌, Bool, true, false, ◌&&◌, List, [], ◌∷◌}
+use Rattle.std.proofs.Common.{◌≡◌, ℕ, ◌+◌, ◌*◌, ◌/◌, ◌%◌, ◌<◌, Bool, true, ◌&&◌, List, []}
 use Rattle.std.proofs.Common.{length}
-use Rattle.std.proofs.Common.{Option, Some, None, refl, sym, ap, subst, arith, ◌∙◌, slice_get}
+use Rattle.std.proofs.Common.{Option, Some, sym, ap, subst, arith, ◌∙◌, slice_get}
 use Rattle.std.specs.Prelude.{◌≤◌, All, nat_le}
 use Rattle.std.proofs.lemmas.Bool.{and_from, le-leb}
 use Rattle.std.proofs.lemmas.List.Elements.{All-weaker}
-use Rattle.std.proofs.lemmas.Option.{slice_get_within}
-use Rattle.mw_text.specs.declared.address.Addr.{Addr}
 use Rattle.ios_ast.specs.declared.file.File.{File}
 use Rattle.route_record.specs.declared.Environment.{Environment}
-use Rattle.route_record.specs.declared.Failures.{Failures}
-use Rattle.route_record.specs.declared.OspfRec.{OspfRec}
 use Rattle.route_record.specs.declared.Packet.{Packet}
 use Rattle.route_record.specs.declared.Slot.{Slot}
-use Rattle.route_record.specs.declared.Tables.{Tables}
 use Rattle.route_record.specs.declared.TheConstants.{LENGTHS}
 use Rattle.route_record.specs.declared.World.{World}
 use Rattle.route_record.specs.Places.{slot_at}
 use Rattle.net_model.specs.Ospf.{adjacencies}
-use Rattle.net_model.specs.Stable.{Stable}
 use Rattle.net_model.specs.World.{links_of}
 use Rattle.net_model.proofs.Costs.{adjacency_costs}
 use Rattle.question_lang.specs.declared.question.Question.{Question}
 use Rattle.question_lang.specs.declared.walk.Walk.{Walk}
-use Rattle.question_lang.specs.Packets.{IsInSet}
 use Rattle.net_encoder.specs.Breaking.{IsBreaking}
-use Rattle.net_encoder.specs.Failures.{downs_width, failures_from}
-use Rattle.net_encoder.specs.Packets.{is_in_set, packet_from, packet_width}
+use Rattle.net_encoder.specs.Failures.{failures_from}
+use Rattle.net_encoder.specs.Packets.{is_in_set, packet_from}
 use Rattle.net_encoder.specs.Rooms.{has_room, rooms_from, widths_of}
 use Rattle.net_encoder.specs.Rows.{IsAt}
-use Rattle.net_encoder.specs.Slots.{all_hold, runs_no_bgp, tables_of, unknown_of, unknowns_of}
-use Rattle.net_encoder.specs.Unknowns.{FitRooms, FitsRoom, FitsWidths, Unknown, unknowns_from, unknowns_width}
-use Rattle.net_encoder.specs.Worlds.{IsEncodable, downs_start, is_routing, opens_from, rooms_of, slots_start}
+use Rattle.net_encoder.specs.Slots.{all_hold, tables_of, unknown_of, unknowns_of}
+use Rattle.net_encoder.specs.Unknowns.{FitRooms, FitsRoom}
+use Rattle.net_encoder.specs.Worlds.{IsEncodable, downs_start, is_routing, opens_from, rooms_of}
 use Rattle.net_encoder.specs.Worlds.{world_bits, world_from}
 use Rattle.net_encoder.proofs.Completeness.{stable_holds, tables_again}
 use Rattle.net_encoder.proofs.FailureParts.{failures_at}

@@ -1,56 +1,42 @@
 -- What the variables stand for is a routing where the test says so, and each routing is that of some values.
-use Rattle.std.proofs.Common.{◌≡◌, ℕ, zero, suc, ◌+◌, ◌*◌, ◌/◌, ◌%◌, ◌^◌, ◌<◌, Bool, true, false, not, ◌&&◌, List, []}
-use Rattle.std.proofs.Common.{◌∷◌, ◌++◌, length, Option, Some, None, refl, sym, ap, subst, arith, ◌∙◌, slice_get}
-use Rattle.std.specs.Prelude.{All, AllPairs, IfSome, IsTrue, is_some, nat_le, nat_lt, filter, ◌≤◌, if◌then◌else◌}
-use Rattle.std.specs.List.{list_all, list_any}
+use Rattle.std.proofs.Common.{◌≡◌, ℕ, zero, suc, ◌+◌, ◌*◌, ◌/◌, ◌%◌, ◌^◌, ◌<◌, Bool, true, false, not, List, []}
+use Rattle.std.proofs.Common.{◌∷◌, length, Option, Some, None, refl, sym, ap, subst, arith, ◌∙◌, slice_get}
+use Rattle.std.specs.Prelude.{All, IfSome, is_some, nat_lt, filter, ◌≤◌, if◌then◌else◌}
 use Rattle.std.specs.Option.{option_map_or}
-use Rattle.std.proofs.lemmas.Bool.{and_from, and_parts, cases_Bool, false≢true, le-leb, leb-true}
-use Rattle.std.proofs.lemmas.List.Elements.{All-cons, All-head, All-nil, All-tail, All-weaker}
+use Rattle.std.proofs.lemmas.Bool.{and_parts, false≢true, leb-true}
+use Rattle.std.proofs.lemmas.List.Elements.{All-cons, All-nil}
 use Rattle.std.proofs.Math.Pow.{pow_mono}
 use Rattle.mw_text.specs.declared.address.Addr.{Addr}
 use Rattle.mw_text.specs.declared.address.Prefix.{Prefix}
 use Rattle.mw_text.specs.Address.{prefix_at}
 use Rattle.ios_ast.specs.declared.file.File.{File}
-use Rattle.route_record.specs.declared.Announcement.{Announcement}
-use Rattle.route_record.specs.declared.Environment.{Environment}
 use Rattle.route_record.specs.declared.Failures.{Failures}
 use Rattle.route_record.specs.declared.OspfRec.{OspfRec}
 use Rattle.route_record.specs.declared.Slot.{Slot}
-use Rattle.route_record.specs.declared.Tables.{Tables}
 use Rattle.route_record.specs.declared.TheConstants.{LENGTHS}
-use Rattle.route_record.specs.declared.World.{World}
 use Rattle.route_record.specs.Fits.{FitsOspf}
 use Rattle.net_model.specs.declared.interfaces.Addressed.{Addressed}
 use Rattle.net_model.specs.Interfaces.{addressed}
 use Rattle.net_model.specs.Entries.{own_is_as_good}
-use Rattle.net_model.specs.Ospf.{adjacencies}
 use Rattle.net_model.specs.OspfRoutes.{is_own}
 use Rattle.net_model.specs.Sessions.{ends_of, is_outside, peerings, peerings_routers, sessions}
-use Rattle.net_model.specs.Stable.{Stable}
-use Rattle.net_model.specs.World.{IsAnnouncement, IsEarlier, IsEnvironment, links_of}
-use Rattle.net_model.proofs.Costs.{adjacency_costs}
+use Rattle.net_model.specs.World.{IsAnnouncement, IsEnvironment}
 use Rattle.question_lang.specs.declared.question.Question.{Question}
 use Rattle.question_lang.specs.declared.walk.Walk.{Walk}
 use Rattle.question_lang.specs.Breaking.{Breaks}
 use Rattle.net_encoder.specs.Breaking.{IsBreaking}
-use Rattle.net_encoder.specs.Failures.{downs_width, failures_from}
-use Rattle.net_encoder.specs.Packets.{is_in_set, packet_from, packet_width}
 use Rattle.net_encoder.specs.Rooms.{has_room, most_cost, rooms_from, some_take, width_from, widths_of}
-use Rattle.net_encoder.specs.Rows.{IsAt, number_from, row, truth}
-use Rattle.net_encoder.specs.Slots.{all_hold, runs_no_bgp, tables_of, unknown_of, unknowns_of}
+use Rattle.net_encoder.specs.Slots.{runs_no_bgp, unknown_of, unknowns_of}
 use Rattle.net_encoder.specs.declared.widths.Widths.{Widths}
-use Rattle.net_encoder.specs.Unknowns.{FitRooms, FitsRoom, FitsWidths, Unknown, route_from, unknown_from}
-use Rattle.net_encoder.specs.Unknowns.{unknown_width, unknowns_from, unknowns_width}
+use Rattle.net_encoder.specs.Unknowns.{FitRooms, FitsRoom, FitsWidths, route_from, unknown_from}
+use Rattle.net_encoder.specs.Unknowns.{unknown_width, unknowns_from}
 use Rattle.net_encoder.specs.Worlds.{downs_start, no_environment, slots_start}
-use Rattle.net_encoder.specs.Worlds.{IsEncodable, is_routing, opens_from, rooms_of, world_bits, world_from, world_width}
-use Rattle.net_encoder.proofs.Completeness.{stable_holds, tables_again}
-use Rattle.net_encoder.proofs.FailureParts.{failures_at, failures_sound}
-use Rattle.net_encoder.proofs.PacketParts.{packet_at}
+use Rattle.net_encoder.specs.Worlds.{IsEncodable, is_routing, opens_from, rooms_of, world_from}
+use Rattle.net_encoder.proofs.FailureParts.{failures_sound}
 use Rattle.net_encoder.proofs.PacketSound.{packet_sound}
-use Rattle.net_encoder.proofs.Reading.{IsAt-truth, number_from-below}
-use Rattle.net_encoder.proofs.Rooms.{room_there, width_there}
+use Rattle.net_encoder.proofs.Reading.{number_from-below}
 use Rattle.net_encoder.proofs.Stability.{stable_sound}
-use Rattle.net_encoder.proofs.UnknownParts.{length-unknowns, unknowns_at}
+use Rattle.net_encoder.proofs.UnknownParts.{length-unknowns}
 
 -- ---- without BGP the environment is empty
 

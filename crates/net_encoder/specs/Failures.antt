@@ -1,5 +1,5 @@
 -- The failed links by the variables of a formula: one for each link, and none where no link may fail.
-use Rattle.std.specs.Prelude.{ℕ, zero, suc, ◌+◌, ◌==◌, Bool, true, false, List, [], ◌∷◌, ◌++◌, if◌then◌else◌}
+use Rattle.std.specs.Prelude.{ℕ, zero, suc, ◌==◌, Bool, true, false, List, [], ◌∷◌, ◌++◌, if◌then◌else◌}
 use Rattle.route_record.specs.declared.Failures.{Failures}
 use Rattle.sym_policy.specs.Held.{positions}
 use Rattle.net_encoder.specs.Rows.{row}

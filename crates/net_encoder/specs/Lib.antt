@@ -8,3 +8,4 @@ pub mod Rooms
 pub mod Breaking
 pub mod Worlds
 pub mod Symbols
+pub mod Equations

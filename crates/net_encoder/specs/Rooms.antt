@@ -1,13 +1,12 @@
 -- Where a stable routing can hold an OSPF route at all, and how many bits its numbers need.
-use Rattle.std.specs.Prelude.{ℕ, zero, suc, ◌+◌, ◌*◌, ◌/◌, ◌%◌, ◌^◌, ◌==◌, ◌&&◌, ◌||◌, Bool, true, false, not, List, []}
-use Rattle.std.specs.Prelude.{◌∷◌, length, fold, is_some, max, min, nat_lt, slice_get, if◌then◌else◌}
+use Rattle.std.specs.Prelude.{ℕ, zero, suc, ◌+◌, ◌*◌, ◌/◌, ◌%◌, ◌^◌, ◌==◌, ◌&&◌, ◌||◌, Bool, false, not, List, []}
+use Rattle.std.specs.Prelude.{◌∷◌, length, fold, is_some, max, nat_lt, slice_get, if◌then◌else◌}
 use Rattle.std.specs.List.{list_any}
 use Rattle.std.specs.Option.{option_map_or}
 use Rattle.mw_text.specs.declared.address.Prefix.{Prefix}
 use Rattle.ios_ast.specs.declared.file.File.{File}
 use Rattle.ios_ast.specs.declared.ospf.Ospf.{Ospf}
 use Rattle.route_record.specs.declared.TheConstants.{LENGTHS}
-use Rattle.net_model.specs.declared.ospf.OspfInterface.{OspfInterface}
 use Rattle.net_model.specs.Connected.{overlap}
 use Rattle.net_model.specs.Ospf.{advertisement, ospf_interfaces}
 use Rattle.net_encoder.specs.declared.widths.Widths.{Widths}

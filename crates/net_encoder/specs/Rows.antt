@@ -1,5 +1,5 @@
 -- Values of variables in a row, and numbers among them: the lowest bit comes first.
-use Rattle.std.specs.Prelude.{◌≡◌, ℕ, zero, suc, ◌+◌, ◌/◌, ◌%◌, ◌==◌, Bool, false, List, [], ◌∷◌, ◌++◌, length}
+use Rattle.std.specs.Prelude.{◌≡◌, ℕ, zero, suc, ◌+◌, ◌/◌, ◌%◌, ◌==◌, Bool, List, [], ◌∷◌, length}
 use Rattle.term_arith.specs.Bits.{number_of}
 
 -- the values of so many variables from one on
@@ -19,9 +19,3 @@ digits (suc width) n = (n % 2 == 1) ∷ digits width (n / 2)
 -- the variables from one on have the values of that row
 abbrev pub IsAt : (ℕ → Bool) → ℕ → List Bool → Type 0
 IsAt v from values = row v from (length values) ≡ values
-
--- the values of a row as those of the variables from 0 on
-abbrev pub truth : List Bool → ℕ → Bool
-truth [] n = false
-truth (b ∷ bs) zero = b
-truth (b ∷ bs) (suc n) = truth bs n

@@ -1,5 +1,5 @@
 -- Where the OSPF routes of a routing come from.
-use Rattle.std.specs.Prelude.{◌≡◌, ℕ, ◌<◌, All, List, Some, slice_get}
+use Rattle.std.specs.Prelude.{◌≡◌, ℕ, All, List, Some, slice_get}
 use Rattle.mw_text.specs.declared.address.Prefix.{Prefix}
 use Rattle.ios_ast.specs.declared.file.File.{File}
 use Rattle.ios_ast.specs.declared.ospf.Ospf.{Ospf}

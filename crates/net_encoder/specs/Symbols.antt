@@ -1,21 +1,9 @@
--- What a reading makes of a symbolic packet and of what is open of slots.
+-- What a reading makes of what is open of slots.
 use Rattle.std.specs.Prelude.{ℕ, ◌+◌, max, List, [], ◌∷◌}
-use Rattle.route_record.specs.declared.Packet.{Packet}
 use Rattle.term_store.specs.Terms.{Reading, at}
-use Rattle.term_arith.specs.Bits.{number}
-use Rattle.sym_policy.specs.declared.records.SymPacket.{SymPacket}
 use Rattle.sym_policy.specs.Held.{ospf_of, ospf_end}
 use Rattle.net_encoder.specs.declared.opens.SymOpen.{SymOpen}
 use Rattle.net_encoder.specs.Unknowns.{Unknown}
-
-abbrev pub packet_of : Reading → SymPacket → Packet
-packet_of w packet = record {
-  src = record { 0 = number w packet.src.nodes };
-  dst = record { 0 = number w packet.dst.nodes };
-  proto = number w packet.proto.nodes;
-  sport = number w packet.sport.nodes;
-  dport = number w packet.dport.nodes;
-}
 
 -- what is open of a slot
 abbrev pub open_of : Reading → SymOpen → Unknown

@@ -16,12 +16,16 @@ use Rattle.net_encoder.specs.Slots.{all_hold, runs_no_bgp, tables_of, unknowns_o
 use Rattle.net_encoder.specs.Unknowns.{Unknown, unknowns_bits, unknowns_from, unknowns_width}
 use Rattle.std.specs.List.{list_all}
 
+-- the administrative distance of a static route fits its field
+abbrev pub FitsDistance : StaticRoute → Type 0
+FitsDistance route = route.distance < 2 ^ 8
+
 -- what is encoded: networks without BGP, in which every number fits its field
 pub record IsEncodable (files : List File) (question : Question) : Type 0 where
   pub limits : list_all keeps_limits files ≡ Bool.true
   pub no_bgp : runs_no_bgp files ≡ Bool.true
   pub distances : (router : ℕ) (file : File) → slice_get files router ≡ Some file →
-      All (λ (route : StaticRoute). route.distance < 2 ^ 8) file.statics
+      All FitsDistance file.statics
   pub packets : FitsSet question.packets
 
 -- the slots that have room for a route

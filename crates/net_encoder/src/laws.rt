@@ -15,13 +15,14 @@ ghost use Rattle.route_record.specs.Places.{slot_at};
 ghost use Rattle.net_model.specs.Ospf.{adjacencies};
 ghost use Rattle.net_model.specs.Stable.{Stable};
 ghost use Rattle.net_encoder.specs.Breaking.{IsBreaking};
-ghost use Rattle.net_encoder.specs.Rows.{IsAt, truth};
+ghost use Rattle.net_encoder.specs.Rows.{IsAt};
 ghost use Rattle.net_encoder.specs.Supported.{AreOrigins, IsKept};
 ghost use Rattle.net_encoder.specs.Worlds.{IsEncodable, is_routing, no_environment, world_bits, world_from};
 ghost use Rattle.question_lang.specs.declared.question.Question.{Question as QuestionOf};
 ghost use Rattle.question_lang.specs.declared.walk.Walk.{Walk as WalkOf};
 ghost use Rattle.question_lang.specs.Breaking.{Breaks};
 ghost use Rattle.route_record.specs.declared.World.{World as WorldOf};
+ghost use Rattle.term_store.specs.Terms.{truth};
 
 /// Whatever is true of all that routers originate into OSPF for a prefix, and stays true when a route costs more, is true
 /// of each OSPF route for it that a stable routing holds, since each adjacency costs something.

@@ -1,9 +1,18 @@
 //! Questions about a network as formulas over Boolean variables.
 #![tactic(auto)]
 
+mod encoding;
+mod holding;
 pub mod laws;
 mod links;
+mod offers;
 mod opens;
+mod origins;
 mod packets;
+mod routing;
+mod slots;
 mod tables;
+mod unknowns;
 mod widths;
+
+pub use encoding::{Encoding, encode};

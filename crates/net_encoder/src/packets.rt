@@ -6,7 +6,7 @@ ghost use Rattle.term_store.specs.Reading.{Reads, Grows, Gives};
 ghost use Rattle.term_arith.specs.Bits.{number, ids_end};
 ghost use Rattle.sym_policy.specs.Records.{packet_end};
 ghost use Rattle.net_encoder.specs.Packets.{address_from, field_from, field_width, fixed_port, is_portless, packet_from, packet_width};
-ghost use Rattle.net_encoder.specs.Symbols.{packet_of};
+ghost use Rattle.sym_walk.specs.Packets.{packet_of};
 
 use mw_text::{Addr, Prefix};
 use question_lang::PacketSet;

@@ -6,6 +6,7 @@ ghost use Rattle.sym_policy.specs.Held.{bgp_of, bgp_end, failures_of, ospf_of, o
 ghost use Rattle.sym_policy.specs.Records.{address_of};
 ghost use Rattle.sym_rib.specs.Into.{HasTracked};
 ghost use Rattle.sym_rib.specs.Slots.{rib_of, rib_end, slot_end, StandsForSlot};
+ghost use Rattle.sym_walk.specs.Worlds.{slot_of as slot_read};
 ghost use Rattle.net_encoder.specs.Slots.{bare, slot_of};
 ghost use Rattle.net_encoder.specs.Symbols.{open_of, open_end};
 ghost use Rattle.term_store.specs.Terms.{Reading, at, size};
@@ -191,8 +192,8 @@ fn bare_slot(
     Ok(SymSlot { ospf, bgp, rib })
 }
 
-// The slot of a router for the prefix of that length of a destination: its open route, and the entry that follows.
-fn slot(
+/// The slot of a router for the prefix of that length of a destination: its open route, and the entry that follows.
+pub fn slot(
     alloc: Global,
     terms: &mut Terms,
     net: &Net,
@@ -210,8 +211,9 @@ fn slot(
     ensures builds { Builds terms.old terms.new }
     ensures within { IfOk result (λ r. slot_end r ≤ size terms.new) }
     ensures rows { IfOk result (λ r. HasTracked (tracked_of net.now) r.bgp) }
-    ensures value { Gives terms.new result (λ w r. StandsForSlot w (tracked_of net.now) r
-        (slot_of net.now (failures_of w sym.now) (address_of w dst.now) router len (open_of w part.now))) }
+    ensures bare { Gives terms.new result (λ w r. bgp_of w r.bgp ≡ None) }
+    ensures value { Gives terms.new result (λ w r. slot_read w r
+        ≡ slot_of net.now (failures_of w sym.now) (address_of w dst.now) router len (open_of w part.now)) }
 {
     let before = bare_slot(alloc, terms, net.tracked(), &part.ospf)?;
     let rib = sym_entry(alloc, terms, net, sym, router, dst, len, &before, part.own)?;

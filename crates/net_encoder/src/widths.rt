@@ -57,7 +57,8 @@ fn dearest(interfaces: &[OspfInterface]) -> u32
 // The least width in which a number has room, 32 at most.
 #[tactic(auto, using(crate::proofs::Steps::width_found, crate::proofs::Steps::width_more, crate::proofs::Steps::width_last))]
 fn least_width(number: u64) -> u8
-    ensures { result ≡ width_from number 0 32 }
+    ensures value { result ≡ width_from number 0 32 }
+    ensures few { result ≤ 32 }
 {
     for width in 0..32u8 {
         if number < 1u64 << width {
@@ -71,7 +72,10 @@ fn least_width(number: u64) -> u8
 /// metric 0.
 #[tactic(auto, unfolding(crate::specs::Rooms::widths_of))]
 pub fn widths_of(net: &Net) -> Widths
-    ensures { result ≡ room.widths_of net.now }
+    ensures value { result ≡ room.widths_of net.now }
+    ensures kind { result.kind ≤ 2 }
+    ensures metric { result.metric ≤ 32 }
+    ensures cost { result.cost ≤ 32 }
 {
     if some_takes(net.routers()) {
         return Widths {

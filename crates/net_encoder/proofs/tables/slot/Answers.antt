@@ -1,10 +1,13 @@
-use Rattle.std.proofs.Common.{subst}
+use Rattle.std.proofs.Common.{None, subst}
 use Rattle.route_record.specs.declared.tracked.Tracked.{Tracked}
-use Rattle.net_model.specs.Tracked.{tracked_of}
 use Rattle.sym_policy.specs.Held.{ospf_of}
 use Rattle.sym_rib.specs.Slots.{StandsForSlot}
 use Rattle.net_encoder.specs.Slots.{bare}
 use Rattle.net_encoder.proofs.tables.slot.Goals as goal
+
+pub returns-clause-bare : goal.returns-clause-bare
+returns-clause-bare c w reads =
+    (c.in_ok-before.ensures.value w (c.sym_entry.ensures.builds.reads w reads)).bgp
 
 pub returns-clause-value : goal.returns-clause-value
 returns-clause-value c w reads =
@@ -13,4 +16,4 @@ returns-clause-value c w reads =
     let before = subst P c.tracked.ensures.value
     (c.in_ok-before.ensures.value w (c.sym_entry.ensures.builds.reads w reads)) in
     let rib = c.in_ok-rib.ensures.value w reads (bare (ospf_of w c.args.part.now.ospf)) before in
-    record { ospf = before.ospf; bgp = before.bgp; rib = rib }
+    λ i. record { ospf = before.ospf i; bgp = None; rib = rib i }

@@ -1,0 +1,72 @@
+-- Ranges of ports, and how many links fail.
+use Rattle.std.proofs.Common.{◌≡◌, ℕ, suc, ◌+◌, Bool, true, false, not, List, [], ◌∷◌, length, refl, ap, sym}
+use Rattle.std.proofs.Common.{◌&&◌, ap₂, arith, subst, ◌∙◌}
+use Rattle.std.specs.Prelude.{cond, nat_le, nat_lt, if◌then◌else◌}
+use Rattle.std.specs.List.{count_by}
+use Rattle.std.proofs.lemmas.Bool.Decides.{nat_tests}
+use Rattle.std.proofs.lemmas.List.Sums.{sum_by-cons}
+use Rattle.ios_ast.specs.declared.file.File.{File}
+use Rattle.route_record.specs.declared.World.{World}
+use Rattle.question_lang.specs.declared.question.Question.{Question}
+use Rattle.term_store.specs.declared.NodeId.{NodeId}
+use Rattle.term_store.specs.Terms.{Reading, at}
+use Rattle.term_arith.specs.Bits.{bits}
+use Rattle.sym_policy.specs.Held.{positions}
+use Rattle.net_encoder.specs.Packets.{is_in_set}
+use Rattle.net_encoder.specs.Slots.{all_hold, slots_of}
+use Rattle.net_encoder.specs.Unknowns.{Unknown}
+use Rattle.net_encoder.specs.Worlds.{is_routing, opens_from, world_from}
+
+-- a number that is not below another is at least it, and one that is not above it at most
+not_below : (n m : ℕ) → not (nat_lt n m) ≡ nat_le m n
+not_below n m = by_test (nat_lt n m) refl (nat_le m n) refl where
+  by_test : (a : Bool) → nat_lt n m ≡ a → (b : Bool) → nat_le m n ≡ b → not a ≡ b
+  by_test true less true most = grind (arith, nat_tests)
+  by_test true less false most = refl
+  by_test false less true most = refl
+  by_test false less false most = grind (arith, nat_tests)
+
+pub at_least : (port first range : ℕ) → first ≡ range → not (nat_lt port first) ≡ nat_le range port
+at_least port first range same = not_below port first ∙ ap (λ n. nat_le n port) same
+
+pub at_greatest : (port last range : ℕ) → last ≡ range → not (nat_lt last port) ≡ nat_le port range
+at_greatest port last range same = not_below last port ∙ ap (nat_le port) same
+
+-- as many links fail as their nodes are true
+counted : (w : Reading) (ids : List NodeId) (first : ℕ) → length (positions first (bits w ids)) ≡ count_by (at w) ids
+counted w [] first = refl
+counted w (id ∷ ids) first =
+    by_node (at w id) (counted w ids (suc first)) ∙ sym (sum_by-cons (λ x. cond (at w x) 1 0) id ids)
+  where
+    by_node : (b : Bool) → length (positions (suc first) (bits w ids)) ≡ count_by (at w) ids →
+        length (if b then first ∷ positions (suc first) (bits w ids) else positions (suc first) (bits w ids))
+        ≡ cond b 1 0 + count_by (at w) ids
+    by_node true same = omega (arith, same)
+    by_node false same = omega (arith, same)
+
+pub as_many_fail : (w : Reading) (ids : List NodeId) → length (positions 0 (bits w ids)) ≡ count_by (at w) ids
+as_many_fail w ids = counted w ids 0
+
+-- the slots of the world are those that follow from what is open
+pub slots_are : (files : List File) (question : Question) (v : ℕ → Bool) (from : ℕ) (world : World) (us : List Unknown) →
+    us ≡ opens_from files question v from → world ≡ world_from files question v from →
+    world.tables.slots ≡ slots_of files world.failures world.packet.dst 0 us
+unfolding world_from
+slots_are files question v from world us opens same =
+    let P : World → Type 0 = λ x. x.tables.slots ≡ slots_of files x.failures x.packet.dst 0 us in
+    let whole = world_from files question v from in
+    subst P (sym same) (ap (λ xs. slots_of files whole.failures whole.packet.dst 0 xs) (sym opens))
+
+-- the test of a routing by its three parts
+pub routing_is : (files : List File) (question : Question) (v : ℕ → Bool) (from : ℕ) (world : World) (us : List Unknown)
+    (a b c : Bool) → us ≡ opens_from files question v from → world ≡ world_from files question v from →
+    a ≡ is_in_set question.packets world.packet → b ≡ nat_le (length world.failures.links) question.failures →
+    c ≡ all_hold files world.failures world.packet.dst world.tables 0 us →
+    (a && (b && c)) ≡ is_routing files question v from
+unfolding is_routing
+routing_is files question v from world us a b c opens same in_set few hold =
+    let P : World → Type 0 = λ x. (a && (b && c)) ≡ (is_in_set question.packets x.packet
+    && (nat_le (length x.failures.links) question.failures
+    && all_hold files x.failures x.packet.dst x.tables 0 (opens_from files question v from))) in
+    subst P same (ap₂ (λ x y. x && y) in_set (ap₂ (λ x y. x && y) few
+    (hold ∙ ap (all_hold files world.failures world.packet.dst world.tables 0) opens)))

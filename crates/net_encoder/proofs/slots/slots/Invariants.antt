@@ -1,0 +1,23 @@
+use Rattle.std.proofs.Common.{◌≡◌, ◌≤◌, ◌++◌, drop, map}
+use Rattle.net_model.specs.Tracked.{tracked_of}
+use Rattle.sym_policy.specs.Held.{failures_of}
+use Rattle.sym_policy.specs.Records.{address_of}
+use Rattle.sym_walk.specs.Worlds.{slots_end, slot_of as slot_read}
+use Rattle.term_store.specs.Terms.{Reading, size}
+use Rattle.term_store.specs.Reading.{Reads, Builds}
+use Rattle.net_encoder.specs.Equations.{AreBare, HaveTracked}
+use Rattle.net_encoder.specs.Slots.{slots_of}
+use Rattle.net_encoder.specs.Symbols.{open_of}
+use Rattle.net_encoder.proofs.slots.slots.Given as goal
+
+-- the slots so far, with those that are left, are all
+abbrev pub invariant-loop-place : goal.invariant-loop-place
+invariant-loop-place l = record {
+  builds : Builds l.fn.terms l.terms;
+  within : slots_end l.made ≤ size l.terms;
+  rows : HaveTracked (tracked_of l.net) l.made;
+  plain : (w : Reading) → Reads w l.terms → AreBare w l.made;
+  value : (w : Reading) → Reads w l.terms → map (slot_read w) l.made
+      ++ slots_of l.net (failures_of w l.sym) (address_of w l.dst) l.place (map (open_of w) (drop l.place l.parts))
+      ≡ slots_of l.net (failures_of w l.sym) (address_of w l.dst) 0 (map (open_of w) l.parts);
+}

@@ -1,0 +1,55 @@
+-- The routes of which a router takes the best one, by one interface and one adjacency after another.
+use Rattle.std.specs.Prelude.{◌≡◌, ℕ, ◌==◌, ◌&&◌, All, Bool, List, Option, Some, None, filter, map, if◌then◌else◌}
+use Rattle.std.specs.List.{filter_map}
+use Rattle.mw_text.specs.declared.address.Prefix.{Prefix}
+use Rattle.mw_text.specs.Address.{same_prefix}
+use Rattle.ios_ast.specs.declared.file.File.{File}
+use Rattle.route_record.specs.declared.Failures.{Failures}
+use Rattle.route_record.specs.declared.OspfRec.{OspfRec}
+use Rattle.route_record.specs.declared.tracked.Tracked.{Tracked}
+use Rattle.route_record.specs.declared.Tables.{Tables}
+use Rattle.net_model.specs.declared.adjacencies.Adjacency.{Adjacency}
+use Rattle.net_model.specs.declared.ospf.OspfInterface.{OspfInterface}
+use Rattle.net_model.specs.Ospf.{advertisement, is_up_at}
+use Rattle.net_model.specs.OspfRoutes.{offer_over}
+use Rattle.net_model.specs.World.{is_up}
+use Rattle.term_store.specs.Terms.{Reading}
+use Rattle.sym_policy.specs.Held.{bgp_of, internal_route}
+use Rattle.sym_rib.specs.declared.slots.SymSlot.{SymSlot}
+use Rattle.sym_rib.specs.Into.{HasTracked}
+
+-- the router originates the prefix by that interface
+abbrev pub originates : List File → Failures → ℕ → Prefix → OspfInterface → Bool
+originates files failures router p x =
+    (x.at.id.router == router) && (same_prefix (advertisement x) p && is_up files failures x.at)
+
+-- the route, if it does
+abbrev pub origin_by : List File → Failures → ℕ → Prefix → OspfInterface → Option OspfRec
+origin_by files failures router p x = if originates files failures router p x then Some (internal_route x.cost) else None
+
+-- the routes by some interfaces
+unfoldable pub origins_by : List File → Failures → ℕ → Prefix → List OspfInterface → List OspfRec
+origins_by files failures router p xs =
+    map (λ x. internal_route x.cost) (filter (originates files failures router p) xs)
+
+-- the router receives over that adjacency
+abbrev pub receives : List File → Failures → ℕ → Adjacency → Bool
+receives files failures router a =
+    (a.from.router == router) && (is_up_at files failures a.from && is_up_at files failures a.to)
+
+-- what is offered over it, if the router does
+abbrev pub offered_by : List File → Failures → Tables → ℕ → Prefix → Adjacency → Option OspfRec
+offered_by files failures tables router p a =
+    if receives files failures router a then offer_over tables p a else None
+
+-- what is offered over some adjacencies
+unfoldable pub offers_by : List File → Failures → Tables → ℕ → Prefix → List Adjacency → List OspfRec
+offers_by files failures tables router p links =
+    filter_map (offer_over tables p) (filter (receives files failures router) links)
+
+-- each slot has one node for each tracked number and community, and no BGP route under the reading
+abbrev pub HaveTracked : Tracked → List SymSlot → Type 0
+HaveTracked tracked slots = All (λ s. HasTracked tracked s.bgp) slots
+
+abbrev pub AreBare : Reading → List SymSlot → Type 0
+AreBare w slots = All (λ s. bgp_of w s.bgp ≡ None) slots

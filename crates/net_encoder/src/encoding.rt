@@ -1,0 +1,155 @@
+//! A question about a network as a formula: its solutions are the routings that break the question.
+
+ghost use Rattle.std.specs.Prelude.{◌≡◌, ℕ, ◌<◌, ◌≤◌, ◌^◌, All, ◌+◌, Bool, IfOk, OnOk, List as ListOf, Option as OptionOf, true, length};
+ghost use Rattle.question_lang.specs.declared.walk.Walk.{Walk as WalkOf};
+ghost use Rattle.question_lang.specs.Breaking.{Breaks};
+ghost use Rattle.route_record.specs.declared.Environment.{Environment as EnvironmentOf};
+ghost use Rattle.route_record.specs.declared.World.{World as WorldOf};
+ghost use Rattle.sym_walk.specs.Whole.{whole_of};
+ghost use Rattle.net_encoder.specs.Breaking.{IsBreaking};
+ghost use Rattle.net_encoder.specs.Packets.{FitsSet};
+ghost use Rattle.net_encoder.specs.Slots.{runs_no_bgp};
+ghost use Rattle.net_encoder.specs.Worlds.{FitsDistance, is_routing, no_environment, world_bits, world_from, world_width};
+ghost use Rattle.term_store.specs.Terms.{Reading, at, size, truth, value_of};
+ghost use Rattle.term_store.specs.Reading.{Reads, Grows, Gives};
+
+use crate::laws::{routing_law, row_law};
+use crate::routing::sym_routing;
+use crate::unknowns::open_world;
+use ios_ast::{File, StaticRoute};
+use mw_text::List;
+use net_model::Net;
+use question_lang::{PacketSet, Question};
+use route_record::Plan;
+use std::alloc::{AllocError, Global};
+use sym_walk::{SymWorld, sym_breaks};
+use term_arith::gates::both;
+use term_store::{NodeId, Terms};
+
+/// A formula: terms and the root among them that is true exactly of the routings that break the question, with the world
+/// whose variables they are.
+#[derive(Drop)]
+pub struct Encoding {
+    pub terms: Terms,
+    pub root: NodeId,
+    pub world: SymWorld,
+}
+
+// A law about what is read: the numbers of a set of packets fit their fields.
+fn packets_fit(set: PacketSet)
+    ensures { FitsSet set }
+{
+    let _fields = (set.proto, set.src, set.dst, set.sport, set.dport);
+}
+
+fn octet(_value: u8)
+    ensures { _value < 2 ^ 8 }
+{}
+
+// So does the distance of a static route.
+fn distance_fits(route: &StaticRoute)
+    ensures { FitsDistance route.now }
+{
+    octet(route.distance);
+}
+
+// So do those of some.
+fn distances_fit(statics: &[StaticRoute])
+    ensures { All FitsDistance statics.now }
+{
+    for route in statics {
+        distance_fits(route);
+    }
+}
+
+// And those of all files.
+fn all_distances_fit(files: &[File])
+    ensures { All (λ file. All FitsDistance file.statics) files.now }
+{
+    for file in files {
+        distances_fit(file.statics.as_slice());
+    }
+}
+
+// A plan of the same lengths.
+fn copied(alloc: Global, plan: &Plan) -> Result<Plan, AllocError> {
+    let class = Vec::from_slice(alloc, plan.class.as_slice())?;
+    let slices = Vec::from_slice(alloc, plan.slices.as_slice())?;
+    Ok(Plan {
+        class: List { items: class },
+        slices: List { items: slices },
+    })
+}
+
+// The root and the world of a question's variables.
+#[derive(Drop)]
+struct Rooted {
+    root: NodeId,
+    world: SymWorld,
+}
+
+// Whether the values of a question's variables are a routing of it that breaks it.
+fn root_of(
+    alloc: Global,
+    terms: &mut Terms,
+    net: &Net,
+    question: &Question,
+    plan: Plan,
+) -> Result<Rooted, AllocError>
+    ensures grows { Grows terms.old terms.new }
+    ensures root { IfOk result (λ r. r.root.0 < size terms.new) }
+    ensures vars { OnOk result (terms.new.vars ≡ terms.old.vars + world_width net.now question.now) }
+    ensures world { Gives terms.new result (λ w r. whole_of w r.world
+        ≡ world_from net.now question.now w.variable terms.old.vars) }
+    ensures sound { Gives terms.new result (λ w r. at w r.root ≡ true →
+        (is_routing net.now question.now w.variable terms.old.vars ≡ true) × ((walk : OptionOf WalkOf)
+        × Breaks net.now (world_from net.now question.now w.variable terms.old.vars) question.now.kind walk)) }
+    ensures complete { Gives terms.new result (λ w r. (walk : OptionOf WalkOf) →
+        is_routing net.now question.now w.variable terms.old.vars ≡ true →
+        Breaks net.now (world_from net.now question.now w.variable terms.old.vars) question.now.kind walk →
+        at w r.root ≡ true) }
+{
+    let open = open_world(alloc, terms, net, question, plan)?;
+    let routing = sym_routing(alloc, terms, net, question, &open)?;
+    let broken = sym_breaks(alloc, terms, net, question, &open.world)?;
+    let root = both(terms, routing, broken)?;
+    Ok(Rooted {
+        root,
+        world: open.world,
+    })
+}
+
+/// A question about a network without BGP as a formula. The root is true under exactly those values of the variables
+/// whose world is a stable routing that breaks the question: whatever values make it true, their world breaks it
+/// (`sound`); and where a routing breaks the question its own bits make it true (`complete`).
+pub fn encode(
+    alloc: Global,
+    net: &Net,
+    question: &Question,
+    plan: &Plan,
+) -> Result<Encoding, AllocError>
+    requires no_bgp { runs_no_bgp net.now ≡ true }
+    ensures root { IfOk result (λ e. e.root.0 < size e.terms) }
+    ensures vars { IfOk result (λ e. e.terms.vars ≡ world_width net.now question.now) }
+    ensures world { IfOk result (λ e. (w : Reading) → Reads w e.terms → whole_of w e.world
+        ≡ world_from net.now question.now w.variable 0) }
+    ensures sound { IfOk result (λ e. (valuation : ListOf Bool) →
+        value_of e.terms.nodes valuation e.root.0 ≡ true → (walk : OptionOf WalkOf) × IsBreaking net.now question.now
+        (world_from net.now question.now (truth valuation) 0) no_environment walk) }
+    ensures complete { IfOk result (λ e. (world : WorldOf) (environment : EnvironmentOf) (walk : OptionOf WalkOf) →
+        IsBreaking net.now question.now world environment walk →
+        value_of e.terms.nodes (world_bits net.now question.now world) e.root.0 ≡ true) }
+{
+    let mut terms = Terms::new(alloc);
+    let made = root_of(alloc, &mut terms, net, question, copied(alloc, plan)?)?;
+    terms.valuation_reads();
+    all_distances_fit(net.routers());
+    packets_fit(question.packets);
+    routing_law();
+    row_law();
+    Ok(Encoding {
+        terms,
+        root: made.root,
+        world: made.world,
+    })
+}

@@ -1,0 +1,143 @@
+//! The variables of a world as terms: its packet, its failed links, and what is open of its slots.
+
+ghost use Rattle.std.specs.Prelude.{◌≡◌, ℕ, ◌+◌, ◌≤◌, ◌*◌, IfOk, OnOk, length, map, max};
+ghost use Rattle.net_model.specs.Tracked.{tracked_of};
+ghost use Rattle.net_model.specs.World.{links_of};
+ghost use Rattle.route_record.specs.declared.TheConstants as constants;
+ghost use Rattle.sym_policy.specs.Held.{failures_of};
+ghost use Rattle.sym_policy.specs.Records.{address_of, packet_end};
+ghost use Rattle.sym_walk.specs.Packets.{packet_of};
+ghost use Rattle.sym_walk.specs.Whole.{whole_of, whole_end};
+ghost use Rattle.sym_walk.specs.Worlds.{slots_end, slot_of as slot_read};
+ghost use Rattle.net_encoder.specs.Equations.{AreBare, HaveTracked};
+ghost use Rattle.net_encoder.specs.Failures.{downs_from, downs_width, failures_from};
+ghost use Rattle.net_encoder.specs.Packets.{packet_from, packet_width};
+ghost use Rattle.net_encoder.specs.Rooms as room;
+ghost use Rattle.net_encoder.specs.Slots.{slots_of};
+ghost use Rattle.net_encoder.specs.Symbols.{open_of, opens_end};
+ghost use Rattle.net_encoder.specs.Unknowns.{unknowns_from, unknowns_width};
+ghost use Rattle.net_encoder.specs.Worlds.{downs_start, opens_from, rooms_of, slots_start, world_from, world_width};
+ghost use Rattle.term_store.specs.Terms.{Reading, size};
+ghost use Rattle.term_store.specs.Reading.{Reads, Builds, Grows, Gives};
+ghost use Rattle.term_arith.specs.Bits.{bits, ids_end};
+
+use crate::links::downs_of;
+use crate::opens::{SymOpen, opens};
+use crate::packets::packet_in;
+use crate::slots::slots;
+use crate::widths::{rooms, widths_of};
+use mw_text::List;
+use net_model::Net;
+use question_lang::Question;
+use route_record::Plan;
+use std::alloc::{AllocError, Global};
+use sym_policy::{SymNet, SymPacket};
+use sym_walk::SymWorld;
+use term_store::{NodeId, Terms};
+
+/// A world as terms, with what is open of its slots.
+#[derive(Drop)]
+pub struct OpenWorld {
+    pub world: SymWorld,
+    pub parts: List<SymOpen>,
+}
+
+// The packet and the failed links of a world.
+#[derive(Drop)]
+struct Outside {
+    packet: SymPacket,
+    net: SymNet,
+}
+
+// The packet of a question's set, and at most so many failed links as it allows: their variables are new.
+#[tactic(auto, using(crate::proofs::Steps::grows_grown), unfolding(crate::specs::Failures::failures_from, sym_policy::specs::Held::failures_of))]
+fn open_outside(
+    alloc: Global,
+    terms: &mut Terms,
+    net: &Net,
+    question: &Question,
+) -> Result<Outside, AllocError>
+    ensures grows { Grows terms.old terms.new }
+    ensures packet_within { IfOk result (λ r. packet_end r.packet ≤ size terms.new) }
+    ensures down_within { IfOk result (λ r. ids_end r.net.down ≤ size terms.new) }
+    ensures vars { OnOk result (terms.new.vars ≡ slots_start net.now question.now terms.old.vars) }
+    ensures packet { Gives terms.new result (λ w r. packet_of w r.packet
+        ≡ packet_from question.now.packets w.variable terms.old.vars) }
+    ensures failures { Gives terms.new result (λ w r. failures_of w r.net
+        ≡ failures_from question.now.failures (length (links_of net.now)) w.variable
+        (downs_start question.now terms.old.vars)) }
+{
+    let packet = packet_in(alloc, terms, question.packets)?;
+    let down = downs_of(alloc, terms, question.failures, net.links().len())?;
+    let net = SymNet {
+        down,
+        igp: List::new(alloc),
+    };
+    Ok(Outside { packet, net })
+}
+
+// What is open of the slots: their variables are new.
+#[tactic(auto, using(crate::proofs::RoomSteps::rooms_long))]
+fn open_slots(
+    alloc: Global,
+    terms: &mut Terms,
+    net: &Net,
+    question: &Question,
+) -> Result<List<SymOpen>, AllocError>
+    requires few { length net.now ≤ 64 }
+    ensures grows { Grows terms.old terms.new }
+    ensures within { IfOk result (λ r. opens_end r ≤ size terms.new) }
+    ensures long { IfOk result (λ r. length r ≡ constants.LENGTHS * length net.now) }
+    ensures vars { OnOk result (terms.new.vars
+        ≡ terms.old.vars + unknowns_width (room.widths_of net.now) (rooms_of net.now question.now)) }
+    ensures value { Gives terms.new result (λ w r. map (open_of w) r
+        ≡ unknowns_from (room.widths_of net.now) (rooms_of net.now question.now) w.variable terms.old.vars) }
+{
+    let widths = widths_of(net);
+    let rooms = rooms(alloc, net, &question.packets.dst)?;
+    opens(alloc, terms, widths, rooms.as_slice())
+}
+
+/// The world of a question's variables, which are new: a packet of its set, failed links, and the tables that follow from
+/// what is open of their slots.
+#[tactic(auto, using(crate::proofs::Steps::grows_built, crate::proofs::Steps::grows_grown), unfolding(crate::specs::Worlds::world_width, crate::specs::Worlds::world_from, crate::specs::Worlds::opens_from))]
+pub fn open_world(
+    alloc: Global,
+    terms: &mut Terms,
+    net: &Net,
+    question: &Question,
+    plan: Plan,
+) -> Result<OpenWorld, AllocError>
+    ensures grows { Grows terms.old terms.new }
+    ensures within { IfOk result (λ r. whole_end r.world ≤ size terms.new) }
+    ensures parts_within { IfOk result (λ r. opens_end r.parts ≤ size terms.new) }
+    ensures rows { IfOk result (λ r. HaveTracked (tracked_of net.now) r.world.slots) }
+    ensures long { IfOk result (λ r. length r.parts ≡ constants.LENGTHS * length net.now) }
+    ensures vars { OnOk result (terms.new.vars ≡ terms.old.vars + world_width net.now question.now) }
+    ensures bare { Gives terms.new result (λ w r. AreBare w r.world.slots) }
+    ensures parts { Gives terms.new result (λ w r. map (open_of w) r.parts
+        ≡ opens_from net.now question.now w.variable terms.old.vars) }
+    ensures value { Gives terms.new result (λ w r. whole_of w r.world
+        ≡ world_from net.now question.now w.variable terms.old.vars) }
+{
+    let _routers = net.routers();
+    let outside = open_outside(alloc, terms, net, question)?;
+    let parts = open_slots(alloc, terms, net, question)?;
+    let slots = slots(
+        alloc,
+        terms,
+        net,
+        &outside.net,
+        &outside.packet.dst,
+        parts.as_slice(),
+    )?;
+    Ok(OpenWorld {
+        world: SymWorld {
+            packet: outside.packet,
+            net: outside.net,
+            slots,
+            plan,
+        },
+        parts,
+    })
+}
