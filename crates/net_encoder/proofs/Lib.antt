@@ -12,3 +12,4 @@ pub mod Worlds
 pub mod WorldBits
 pub mod Steps
 pub mod RoomSteps
+pub mod DecodingSteps
