@@ -2,10 +2,10 @@
 use Rattle.std.proofs.Common.{◌≡◌, ◌≢◌, ℕ, zero, suc, ◌+◌, ◌<◌, ◌≤◌, Bool, true, false, cond, List, [], ◌∷◌, ◌++◌}
 use Rattle.std.proofs.Common.{length, slice_get, get_or, set, replicate, Option, Some, None, inl, inr, refl, sym, ap}
 use Rattle.std.proofs.Common.{arith, subst, ◌∙◌, IfSome, length-append, append-nil}
-use Rattle.std.specs.List.{list_all}
-use Rattle.std.proofs.lemmas.Bool.{cases_lt, and_parts, false≢true}
+use Rattle.std.proofs.lemmas.Bool.{cases_lt, false≢true}
 use Rattle.std.proofs.lemmas.List.{get_or-set_same, get_or-set_other}
 use Rattle.std.proofs.lemmas.Option.{slice_get-get_or}
+use Rattle.mw_text.proofs.Lists.{all_at}
 use Rattle.term_store.specs.declared.NodeId.{NodeId}
 use Rattle.term_store.specs.declared.Node.{Node}
 use Rattle.term_store.specs.declared.Node.TheVariants.{Const, Var, Not, And, Or, Xor, Ite}
@@ -50,12 +50,6 @@ truth-within [] i h = absurd (false≢true h)
 truth-within (b ∷ values) zero h = omega arith
 truth-within (b ∷ values) (suc i) h = let rest = truth-within values i h in omega arith
 
-all-at : {X : Type 0} (p : X → Bool) (xs : List X) (k : ℕ) (x : X) → list_all p xs ≡ true → slice_get xs k ≡ Some x
-    → p x ≡ true
-all-at p [] k x h at = absurd cc
-all-at p (y ∷ xs) zero x h at = let e : y ≡ x = cc in subst (λ z. p z ≡ true) e (and_parts _ _ h).0
-all-at p (y ∷ xs) (suc k) x h at = all-at p xs k x (and_parts _ _ h).1 at
-
 -- where values, one for each variable, satisfy the clauses, every root is a node
 pub roots-below : (nodes : List Node) (roots : List NodeId) (values : List Bool)
     → length values ≡ length (nodes_of nodes roots) → satisfies (truth values) (clauses_of nodes roots) ≡ true
@@ -65,7 +59,7 @@ roots-below nodes roots values same h k r at =
     let many : length values ≡ variable_of test (length nodes) = same in
     let holds = true_under (truth values) test nodes roots h in
     let within : variable_of test r.0 < length values = truth-within values (variable_of test r.0)
-    (all-at (λ (id : NodeId). truth values (variable_of test id.0)) roots k r holds.roots_true at) in
+    (all_at (λ (id : NodeId). truth values (variable_of test id.0)) roots k r holds.roots_true at) in
     elim (cases_lt r.0 (length nodes)) [
       | inl less ↦ less
       | inr past ↦

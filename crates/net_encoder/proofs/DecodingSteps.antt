@@ -16,7 +16,6 @@ use Rattle.term_arith.specs.Bits.{bit, number_of}
 use Rattle.term_store.specs.Terms as store
 use Rattle.sym_policy.specs.Held.{positions}
 use Rattle.net_encoder.specs.declared.widths.Widths.{Widths}
-use Rattle.net_encoder.specs.Failures.{none_of}
 use Rattle.net_encoder.specs.Rooms.{most_cost, rooms_from, some_take, width_from, widths_of}
 use Rattle.net_encoder.specs.Rows.{number_from, row, truth}
 use Rattle.net_encoder.specs.Slots.{slot_of, slots_of}
@@ -91,10 +90,6 @@ failed_more v from count =
     ap (λ n. positions 0 (row v from count) ++ (if v (from + count) then n ∷ [] else [])) (sym long)
     ∙ sym (positions_more 0 (row v from count) (v (from + count)))
     ∙ ap (positions 0) (row_more v from count)
-
-pub none_failed : (first count : ℕ) → positions first (none_of count) ≡ []
-none_failed first zero = refl
-none_failed first (suc count) = none_failed (suc first) count
 
 -- ---- slots
 

@@ -166,7 +166,7 @@ fn downs_size(most: u32, links: u32) -> usize
 }
 
 // The failed links, where at most so many are.
-#[tactic(auto, using(crate::proofs::DecodingSteps::none_failed), unfolding(crate::specs::Failures::downs_from, crate::specs::Failures::downs_width, crate::specs::Failures::failures_from))]
+#[tactic(auto, using(crate::proofs::FailureParts::no_positions), unfolding(crate::specs::Failures::downs_from, crate::specs::Failures::downs_width, crate::specs::Failures::failures_from))]
 fn failures_at(
     alloc: Global,
     values: &[bool],
