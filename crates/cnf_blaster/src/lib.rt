@@ -2,6 +2,7 @@
 //! and a clause for each root.
 #![tactic(auto)]
 
+mod decode;
 mod gates;
 pub mod laws;
 mod lists;
@@ -16,6 +17,7 @@ ghost use Rattle.cnf_blaster.specs.Proper.{IsProper};
 ghost use Rattle.resolution_check.specs.Entries.{satisfies};
 ghost use Rattle.term_store.specs.Terms.{size};
 
+pub use crate::decode::decoded;
 use crate::gates::{put_nodes, put_roots};
 use crate::marks::{number_marked, reached_marks};
 use crate::proper::is_fit_clause;

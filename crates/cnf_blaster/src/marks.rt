@@ -18,7 +18,7 @@ pub(crate) struct Numbering {
 }
 
 /// A list in which nothing is marked.
-fn unmarked(alloc: Global, count: u64) -> Result<List<bool>, AllocError>
+pub(crate) fn unmarked(alloc: Global, count: u64) -> Result<List<bool>, AllocError>
     ensures { IfOk result (λ marks. marks ≡ replicate count false) }
 {
     let mut marks = List::new(alloc);

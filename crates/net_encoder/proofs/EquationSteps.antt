@@ -114,7 +114,8 @@ routes_end_joined [] ys = omega arith
 routes_end_joined (x ∷ xs) ys = let rest = routes_end_joined xs ys in omega (arith, rest)
 
 -- an origin of the router
-pub origin_put : (files : List File) (failures : Failures) (router : ℕ) (p : Prefix) (x : OspfInterface) (here up : Bool) →
+pub origin_put : (files : List File) (failures : Failures) (router : ℕ) (p : Prefix) (x : OspfInterface)
+    (here up : Bool) →
     (x.at.id.router == router) ≡ true → here ≡ same_prefix (advertisement x) p → up ≡ is_up files failures x.at →
     (if here && up then Some (internal_route x.cost) else None) ≡ origin_by files failures router p x
 origin_put files failures router p x here up same first second =

@@ -89,7 +89,7 @@ failures_sound files most v from few =
 
 -- ---- the positions of the marks are the failed links
 
-no_positions : (first count : ℕ) → positions first (none_of count) ≡ []
+pub no_positions : (first count : ℕ) → positions first (none_of count) ≡ []
 no_positions first zero = refl
 no_positions first (suc count) = no_positions (suc first) count
 

@@ -41,7 +41,8 @@ held_is true any f x same = same
 held_is false any f x same = refl
 
 -- no route and no own origin
-pub closed_is : (a own : Bool) (x : OspfRec) → not (a || own) ≡ (same_ospf (if a then Some x else None) None && beq own false)
+pub closed_is : (a own : Bool) (x : OspfRec) → not (a || own)
+    ≡ (same_ospf (if a then Some x else None) None && beq own false)
 closed_is true own x = refl
 closed_is false true x = refl
 closed_is false false x = refl
@@ -62,7 +63,8 @@ pub routes_at : (xs : List SymOspf) (i : ℕ) (d : SymOspf) → i < length xs �
 routes_at xs i d within = (refl, drop_more xs i d within)
 
 -- a route of a list has its nodes below the end of all
-pub route_below : (xs : List SymOspf) (i : ℕ) (d : SymOspf) → i < length xs → ospf_end (get_or xs i d) ≤ list_end ospf_end xs
+pub route_below : (xs : List SymOspf) (i : ℕ) (d : SymOspf) → i < length xs →
+    ospf_end (get_or xs i d) ≤ list_end ospf_end xs
 route_below [] i d within = absurd (omega arith)
 route_below (x ∷ xs) zero d within = omega arith
 route_below (x ∷ xs) (suc i) d within = let below = route_below xs i d (omega arith) in omega (arith, below)

@@ -17,3 +17,4 @@ pub mod HoldingSteps
 pub mod SlotSteps
 pub mod RoutingSteps
 pub mod Wanted
+pub mod DecodingSteps

@@ -1,6 +1,7 @@
 //! Questions about a network as formulas over Boolean variables.
 #![tactic(auto)]
 
+pub mod decoding;
 mod encoding;
 mod holding;
 pub mod laws;
@@ -15,4 +16,5 @@ mod tables;
 mod unknowns;
 mod widths;
 
+pub use decoding::decode;
 pub use encoding::{Encoding, encode};

@@ -70,7 +70,7 @@ fn has_no_ports(proto: u8) -> bool
 }
 
 // A port that the set fixes.
-fn known_port(proto: Option<u8>, range: (u16, u16)) -> Option<u16>
+pub fn known_port(proto: Option<u8>, range: (u16, u16)) -> Option<u16>
     ensures { result ≡ fixed_port proto range }
 {
     let portless = match proto {

@@ -13,7 +13,8 @@ loop-file-preserved c =
     let P : List StaticRoute → Type 0 = λ statics. All FitsDistance statics in
     let fits = subst P c.as_slice.ensures c.distances_fit.ensures in
     All-more (λ (file : File). All FitsDistance file.statics) c.args.files.now c.loop-file.file-index c.file-item.result
-    (omega (arith, within, last)) c.loop-file.invariant (subst (λ (file : File). All FitsDistance file.statics) c.file-item.is fits)
+    (omega (arith, within, last)) c.loop-file.invariant
+    (subst (λ (file : File). All FitsDistance file.statics) c.file-item.is fits)
 
 pub returns : goal.returns
 returns c =

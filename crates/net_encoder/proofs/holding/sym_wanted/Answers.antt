@@ -40,7 +40,8 @@ returns-clause-value c = λ w reads file process found runs bare there same.
     let own_good = c.in_ok-own_good.ensures.value w r6 in
     c.in_ok-wanted.ensures.value w r7
     ∙ ap₂ (λ a b. a && b)
-    (held ∙ ap (same_ospf part.ospf) (best ∙ ap first_best (ap (filter_map (ospf_of w)) c.as_slice-2.ensures ∙ all ∙ ap (λ rs. rs ++ offers) own)))
+    (held ∙ ap (same_ospf part.ospf) (best ∙ ap first_best (ap (filter_map (ospf_of w)) c.as_slice-2.ensures ∙ all
+    ∙ ap (λ rs. rs ++ offers) own)))
     (own_good ∙ agree_is part.own (at w c.in_ok-good.good) ∙ ap (beq part.own) (good
     ∙ ap (λ (rs : List OspfRec). option_map_or (λ h. list_any (λ o. is_as_good o h) rs) part.ospf Bool.false)
     (ap (filter_map (ospf_of w)) c.as_slice.ensures ∙ own)))

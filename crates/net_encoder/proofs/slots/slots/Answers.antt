@@ -43,12 +43,14 @@ loop-place-preserved c =
           ∙ ap (λ x. x ∷ drop (c.loop-place.place + 1) c.args.parts.now) (sym c.index-parts-place.is) in
           ap (λ xs. map (slot_read w) xs ++ rest (drop (c.loop-place.place + 1) c.args.parts.now)) put
           ∙ ap (λ xs. xs ++ rest (drop (c.loop-place.place + 1) c.args.parts.now)) (slots_push w made next)
-          ∙ append_assoc (map (slot_read w) made) (slot_read w next ∷ []) (rest (drop (c.loop-place.place + 1) c.args.parts.now))
+          ∙ append_assoc (map (slot_read w) made) (slot_read w next ∷ [])
+          (rest (drop (c.loop-place.place + 1) c.args.parts.now))
           ∙ ap (λ s. map (slot_read w) made ++ s ∷ rest (drop (c.loop-place.place + 1) c.args.parts.now))
           (c.in_ok-next.ensures.value w reads)
           ∙ ap (λ xs. map (slot_read w) made ++ xs) (sym (slots_next c.args.net.now failures d c.loop-place.place
           (open_of w part) (map (open_of w) (drop (c.loop-place.place + 1) c.args.parts.now))))
-          ∙ ap (λ parts. map (slot_read w) made ++ slots_of c.args.net.now failures d c.loop-place.place (map (open_of w) parts))
+          ∙ ap (λ parts. map (slot_read w) made
+          ++ slots_of c.args.net.now failures d c.loop-place.place (map (open_of w) parts))
           (sym left)
           ∙ c.loop-place.invariant.value w (c.slot_at_place.ensures.builds.reads w reads);
     }
