@@ -4,6 +4,8 @@
 #[cfg(test)]
 mod assignments;
 #[cfg(test)]
+mod decoding;
+#[cfg(test)]
 mod gates;
 #[cfg(test)]
 mod proper;
