@@ -3,9 +3,12 @@ pub mod Codes
 pub mod Empty
 pub mod Moves
 pub mod Shifts
+pub mod Places
 pub mod Placing
+pub mod Searching
 pub mod Settling
 pub mod Threads
+pub mod Unlinks
 pub mod Views
 pub mod Walks
 pub mod Words

@@ -1,15 +1,20 @@
 -- The clauses that are held, as a list.
-use Rattle.std.specs.Prelude.{ℕ, ◌≡◌, ◌+◌, ◌-◌, ◌*◌, ◌/◌, ◌%◌, ◌<◌, ◌≤◌, Bool, true, false, List, [], ◌∷◌, ◌++◌}
-use Rattle.std.specs.Prelude.{length, map, take, drop, refl}
+use Rattle.std.specs.Prelude.{ℕ, ◌≡◌, ◌+◌, ◌-◌, ◌*◌, ◌/◌, ◌%◌, ◌<◌, ◌≤◌, ◌≢◌, ◌==◌, Bool, true, false, not, List, [], ◌∷◌, ◌++◌}
+use Rattle.std.specs.Prelude.{length, map, filter, take, drop, refl}
 use Rattle.std.proofs.Common.{sym, ◌∙◌, ap, subst, inl, inr, arith, length-take, length-drop}
+use Rattle.std.proofs.lemmas.Bool.{cases_Bool, cases_order, eqb-false, ne_eqb}
+use Rattle.std.proofs.Math.Dec.{eqb}
+use borrow.Author.Tests.{eq-eqb}
 use Rattle.std.proofs.lemmas.List.{get_or-take, get_or-drop, map-append}
 use Rattle.std.proofs.lemmas.Grind.{same_number_lists}
 use Rattle.resolution_check.specs.declared.log.Lit.{Lit}
 use Rattle.clause_arena.specs.Links.{word, In}
-use Rattle.clause_arena.specs.Store.{IsSound, store}
+use Rattle.clause_arena.specs.Store.{IsLaid, IsSound, store}
 use Rattle.clause_arena.specs.Held.{code_of, lit_of, clauses}
 use Rattle.clause_arena.specs.Changes.{Adds}
+use Rattle.clause_arena.specs.Deleted.{others, Deletes}
 use Rattle.clause_arena.proofs.Settling.{in_end, in_front}
+use Rattle.clause_arena.proofs.Unlinks.{in_filter}
 
 -- the words from a place on, where each is known
 segment : (ws : List ℕ) (at n : ℕ) (codes : List ℕ) → at + n ≤ length ws → n ≡ length codes
@@ -44,6 +49,26 @@ map_same f g [] each = refl
 map_same f g (r ∷ rs) each = let a : f r ≡ g r = each r (inl refl) in let b : map f rs
     ≡ map g rs = map_same f g rs (λ s i. each s (inr i)) in cc
 
+-- a clause with its number
+abbrev pub clause_at : List ℕ → ℕ → (ℕ × List Lit)
+clause_at ws s = (word ws (s + 1), map lit_of (take (word ws s) (drop (s + 4) ws)))
+
+-- a clause that stands elsewhere, or in other words
+pub clause_like : (ws new : List ℕ) (s t : ℕ) → s + 4 + word ws s ≤ length ws → t + 4 + word new t ≤ length new
+    → word new t ≡ word ws s → word new (t + 1) ≡ word ws (s + 1)
+    → ((k : ℕ) → k < word ws s → word new (t + 4 + k) ≡ word ws (s + 4 + k)) → clause_at new t ≡ clause_at ws s
+clause_like ws new s t old now size number each =
+    let d : length (drop (s + 4) ws) ≡ length ws - (s + 4) = length-drop (s + 4) ws in
+    let l : word new t ≡ length (take (word ws s) (drop (s + 4) ws)) =
+    omega (arith, length-take (word ws s) (drop (s + 4) ws)) in
+    let codes : take (word new t) (drop (t + 4) new) ≡ take (word ws s) (drop (s + 4) ws) =
+    segment new (t + 4) (word new t) (take (word ws s) (drop (s + 4) ws)) now l (λ j h.
+    let low : j < word ws s = omega arith in
+    each j low ∙ sym (get_or-take (word ws s) (drop (s + 4) ws) j 0 low ∙ get_or-drop (s + 4) ws j 0)) in
+    let whole : map lit_of (take (word new t) (drop (t + 4) new))
+    ≡ map lit_of (take (word ws s) (drop (s + 4) ws)) = ap (map lit_of) codes in
+    cc
+
 -- an addition appends the clause
 pub clauses_more : (vars : ℕ) (ws refs new more : List ℕ) (r id : ℕ) (lits : List Lit) → IsSound vars ws refs
     → IsSound vars new more
@@ -56,20 +81,7 @@ clauses_more vars ws refs new more r id lits sound after adds =
     → In s more = λ s i. subst (λ (xs : List ℕ). In s xs) (sym adds.refs) (in_front s r refs i) in
     let same : (s : ℕ) → In s refs → g s ≡ f s = λ s i.
     (let k = adds.kept s i in
-    let old : s + 4 + word ws s ≤ length ws = sound.laid.inside s i in
-    let now : s + 4 + word new s ≤ length new = after.laid.inside s (held s i) in
-    let size : word new s ≡ word ws s = k.size in
-    let number : word new (s + 1) ≡ word ws (s + 1) = k.number in
-    let d : length (drop (s + 4) ws) ≡ length ws - (s + 4) = length-drop (s + 4) ws in
-    let l : word new s ≡ length (take (word ws s) (drop (s + 4) ws)) =
-    omega (arith, length-take (word ws s) (drop (s + 4) ws)) in
-    let codes : take (word new s) (drop (s + 4) new) ≡ take (word ws s) (drop (s + 4) ws) =
-    segment new (s + 4) (word new s) (take (word ws s) (drop (s + 4) ws)) now l (λ j h.
-    let low : j < word ws s = omega arith in
-    k.codes j low ∙ sym (get_or-take (word ws s) (drop (s + 4) ws) j 0 low ∙ get_or-drop (s + 4) ws j 0)) in
-    let whole : map lit_of (take (word new s) (drop (s + 4) new))
-    ≡ map lit_of (take (word ws s) (drop (s + 4) ws)) = ap (map lit_of) codes in
-    cc) in
+    clause_like ws new s s (sound.laid.inside s i) (after.laid.inside s (held s i)) k.size k.number k.codes) in
     let own : g r ≡ (id, lits) =
     (let now : r + 4 + word new r ≤ length new = after.laid.inside r
     (subst (λ (xs : List ℕ). In r xs) (sym adds.refs) (in_end r refs)) in
@@ -82,3 +94,48 @@ clauses_more vars ws refs new more r id lits sound after adds =
     let split : map g (refs ++ r ∷ []) ≡ map g refs ++ g r ∷ [] = map-append g refs (r ∷ []) in
     ap (map g) adds.refs ∙ split ∙ ap (λ (xs : List (ℕ × List Lit)). xs ++ g r ∷ []) (map_same g f refs same)
     ∙ ap (λ (x : ℕ × List Lit). map f refs ++ x ∷ []) own
+
+-- ---- without one clause
+
+-- members of a filtered list have equal images where members of the list have
+map_filter : {X : Type 0} (f g : ℕ → X) (drops : X → Bool) (r : ℕ) (refs : List ℕ)
+    → ((s : ℕ) → In s refs → drops (f s) ≡ (s == r)) → ((s : ℕ) → In s refs → s ≢ r → g s ≡ f s)
+    → map g (others r refs) ≡ filter (λ x. not (drops x)) (map f refs)
+map_filter f g drops r [] same each = refl
+map_filter f g drops r (s ∷ refs) same each =
+    let rest : map g (others r refs) ≡ filter (λ x. not (drops x)) (map f refs) =
+    map_filter f g drops r refs (λ t i. same t (inr i)) (λ t i. each t (inr i)) in
+    elim (cases_Bool (eqb s r)) [
+      | inl t ↦ rw (same s (inl refl), t) rest
+      | inr t ↦
+          (let e : g s ≡ f s = each s (inl refl) (eqb-false s r t) in
+          rw (same s (inl refl), t) (ap (λ (x : _). x ∷ map g (others r refs)) e
+          ∙ ap (λ (xs : List _). f s ∷ xs) rest))
+    ]
+
+-- numbers tell clauses apart
+number_tells : (vars len : ℕ) (f : ℕ → ℕ) (refs : List ℕ) (s r : ℕ) → IsLaid vars len f refs → In s refs → In r refs
+    → (f (s + 1) == f (r + 1)) ≡ (s == r)
+number_tells vars len f refs s r laid i j =
+    elim (cases_order s r) [
+      | inl e ↦ rw (eq-eqb s r e) (eq-eqb (f (s + 1)) (f (r + 1)) (ap (λ (u : ℕ). f (u + 1)) e))
+      | inr apart ↦ elim apart [
+        | inl lt ↦ (let h : f (s + 1) < f (r + 1) = laid.numbers s r i j lt in
+            rw (ne_eqb s r (λ e. omega arith)) (ne_eqb (f (s + 1)) (f (r + 1)) (λ e. omega arith)))
+        | inr gt ↦ (let h : f (r + 1) < f (s + 1) = laid.numbers r s j i gt in
+            rw (ne_eqb s r (λ e. omega arith)) (ne_eqb (f (s + 1)) (f (r + 1)) (λ e. omega arith)))
+      ]
+    ]
+
+-- a deletion takes the clause of this number out
+pub clauses_less : (vars : ℕ) (ws refs new : List ℕ) (r : ℕ) → IsSound vars ws refs
+    → IsSound vars new (others r refs) → In r refs
+    → Deletes (store vars ws refs) (store vars new (others r refs)) r
+    → clauses (store vars new (others r refs))
+    ≡ filter (λ k. not (k.0 == word ws (r + 1))) (clauses (store vars ws refs))
+clauses_less vars ws refs new r sound after held deletes =
+    map_filter (clause_at ws) (clause_at new) (λ k. k.0 == word ws (r + 1)) r refs
+    (λ s i. number_tells vars (length ws) (word ws) refs s r sound.laid i held)
+    (λ s i ne. (let j : In s (others r refs) = in_filter (λ q. not (q == r)) s refs i (rw (ne_eqb s r ne) refl) in
+    let k = deletes.kept s j in
+    clause_like ws new s s (sound.laid.inside s i) (after.laid.inside s j) k.size k.number k.codes))

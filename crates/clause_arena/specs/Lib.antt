@@ -4,3 +4,4 @@ pub mod Held
 pub mod Watched
 pub mod Changes
 pub mod Moved
+pub mod Deleted

@@ -1,10 +1,12 @@
 //! The arena.
 
-ghost use Rattle.std.specs.Prelude.{◌≡◌, ℕ, ◌*◌, ◌<◌, ◌≤◌, [], ◌∷◌, ◌++◌, IfOk, IfSome, OnErr, Option, Some, None, map, true, replicate};
+ghost use Rattle.std.specs.Prelude.{◌≡◌, ℕ, ◌+◌, ◌*◌, ◌<◌, ◌≤◌, ◌==◌, [], ◌∷◌, ◌++◌, IfOk, IfSome, OnErr, Option, Some, None, map, filter};
+ghost use Rattle.std.specs.Prelude.{true, not, replicate};
 ghost use Rattle.resolution_check.specs.Clauses.{is_below};
 ghost use Rattle.resolution_check.specs.Earned.{vars_differ};
 
 use crate::adding::add_in;
+use crate::deleting::delete_in;
 use crate::moving::move_in;
 use crate::names::{ClauseRef, Watch};
 use crate::reading::{code, code_in, literal, number_in, size_in};
@@ -19,17 +21,21 @@ pub struct Arena {
     words: Vec<u64>,
     // By number.
     refs: Vec<u64>,
+    // As many words, for the references after a compaction.
+    moved: Vec<u64>,
     vars: u64,
 }
 
 impl Model for Arena {
+    ghost use Rattle.std.specs.Prelude.{◌≡◌, length};
     ghost use Rattle.clause_arena.specs.Store.{Store, IsSound};
 
     ghost Value = { Store };
 
     ghost view = { λ a. record { vars = a.vars; words = a.words.items; refs = a.refs.items } };
 
-    ghost invariant = { λ a. IsSound a.vars a.words.items a.refs.items };
+    ghost invariant = { λ a. IsSound a.vars a.words.items a.refs.items
+        × (length a.moved.items ≡ length a.refs.items) };
 }
 
 /// So many words that are 0.
@@ -56,6 +62,7 @@ impl Arena {
     ghost use Rattle.clause_arena.specs.declared.names.Watch.{Watch};
     ghost use Rattle.clause_arena.specs.Changes.{Adds};
     ghost use Rattle.clause_arena.specs.Moved.{Moves};
+    ghost use Rattle.clause_arena.specs.Deleted.{Deletes};
     ghost use Rattle.clause_arena.specs.Held.{IsHeld, size_of, number_of, lit_at, clauses, code_of};
     ghost use Rattle.clause_arena.specs.Watched.{place, place_or, own, Stands, head, left};
 
@@ -69,6 +76,7 @@ impl Arena {
         Ok(Arena {
             words: no_watches(alloc, vars)?,
             refs: Vec::new(alloc),
+            moved: Vec::new(alloc),
             vars,
         })
     }
@@ -85,7 +93,14 @@ impl Arena {
         ensures clauses { IfOk result (λ _. clauses self.new ≡ clauses self.old ++ (id, lits.now) ∷ []) }
         ensures unchanged { OnErr result (self.new ≡ self.old) }
     {
-        let clause = add_in(&mut self.words, &mut self.refs, self.vars, id, lits)?;
+        let clause = add_in(
+            &mut self.words,
+            &mut self.refs,
+            &mut self.moved,
+            self.vars,
+            id,
+            lits,
+        )?;
         Ok(ClauseRef(clause))
     }
 
@@ -148,5 +163,21 @@ impl Arena {
         ensures fewer { left self.new before (own self.old w) < left self.old before (own self.old w) }
     {
         move_in(&mut self.words, &self.refs, self.vars, before, w, to)
+    }
+
+    /// Takes a clause out of the arena, and its two watches out of their lists. Other references stay.
+    pub fn delete(&mut self, c: ClauseRef)
+        requires { IsHeld self.old c }
+        ensures deletes { Deletes self.old self.new c.0 }
+        ensures clauses { clauses self.new
+            ≡ filter (λ k. not (k.0 == number_of self.old c)) (clauses self.old) }
+    {
+        delete_in(
+            &mut self.words,
+            &mut self.refs,
+            &mut self.moved,
+            self.vars,
+            c.0,
+        );
     }
 }
