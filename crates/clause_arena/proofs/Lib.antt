@@ -1,12 +1,17 @@
 pub mod Additions
 pub mod Codes
+pub mod Compaction
 pub mod Empty
 pub mod Moves
 pub mod Shifts
 pub mod Places
 pub mod Placing
+pub mod Planning
+pub mod Reasons
+pub mod Renaming
 pub mod Searching
 pub mod Settling
+pub mod Sliding
 pub mod Threads
 pub mod Unlinks
 pub mod Views

@@ -1,6 +1,6 @@
 -- The clauses that are held, as a list.
-use Rattle.std.specs.Prelude.{ℕ, ◌≡◌, ◌+◌, ◌-◌, ◌*◌, ◌/◌, ◌%◌, ◌<◌, ◌≤◌, ◌≢◌, ◌==◌, Bool, true, false, not, List, [], ◌∷◌, ◌++◌}
-use Rattle.std.specs.Prelude.{length, map, filter, take, drop, refl}
+use Rattle.std.specs.Prelude.{ℕ, suc, ◌≡◌, ◌+◌, ◌-◌, ◌*◌, ◌/◌, ◌%◌, ◌<◌, ◌≤◌, ◌≢◌, ◌==◌, List, [], ◌∷◌, ◌++◌}
+use Rattle.std.specs.Prelude.{Bool, true, false, not, length, map, filter, take, drop, refl}
 use Rattle.std.proofs.Common.{sym, ◌∙◌, ap, subst, inl, inr, arith, length-take, length-drop}
 use Rattle.std.proofs.lemmas.Bool.{cases_Bool, cases_order, eqb-false, ne_eqb}
 use Rattle.std.proofs.Math.Dec.{eqb}
@@ -12,9 +12,12 @@ use Rattle.clause_arena.specs.Links.{word, In}
 use Rattle.clause_arena.specs.Store.{IsLaid, IsSound, store}
 use Rattle.clause_arena.specs.Held.{code_of, lit_of, clauses}
 use Rattle.clause_arena.specs.Changes.{Adds}
+use Rattle.clause_arena.specs.Compacted.{renamed, Compacts}
 use Rattle.clause_arena.specs.Deleted.{others, Deletes}
 use Rattle.clause_arena.proofs.Settling.{in_end, in_front}
 use Rattle.clause_arena.proofs.Unlinks.{in_filter}
+use Rattle.clause_arena.proofs.Places.{in_at}
+use Rattle.clause_arena.proofs.Renaming.{renamed_at}
 
 -- the words from a place on, where each is known
 segment : (ws : List ℕ) (at n : ℕ) (codes : List ℕ) → at + n ≤ length ws → n ≡ length codes
@@ -139,3 +142,30 @@ clauses_less vars ws refs new r sound after held deletes =
     (λ s i ne. (let j : In s (others r refs) = in_filter (λ q. not (q == r)) s refs i (rw (ne_eqb s r ne) refl) in
     let k = deletes.kept s j in
     clause_like ws new s s (sound.laid.inside s i) (after.laid.inside s j) k.size k.number k.codes))
+
+-- ---- at new references
+
+-- two lists of references have equal images where those at equal places have
+map_along : {X : Type 0} (f g : ℕ → X) (refs new : List ℕ) → length new ≡ length refs
+    → ((j : ℕ) → j < length refs → g (word new j) ≡ f (word refs j)) → map g new ≡ map f refs
+map_along f g [] [] e each = refl
+map_along f g [] (s ∷ new) e each = absurd (omega arith)
+map_along f g (r ∷ refs) [] e each = absurd (omega arith)
+map_along f g (r ∷ refs) (s ∷ new) e each =
+    let here : g s ≡ f r = each 0 (omega arith) in
+    let rest : map g new ≡ map f refs = map_along f g refs new (omega arith) (λ j h. each (suc j) (omega arith)) in
+    cc
+
+-- a compaction leaves the clauses
+pub clauses_same : (vars : ℕ) (ws done refs new : List ℕ) → IsSound vars ws refs → IsSound vars done new
+    → Compacts (store vars ws refs) (store vars done new) → clauses (store vars done new) ≡ clauses (store vars ws refs)
+clauses_same vars ws done refs new sound after c =
+    map_along (clause_at ws) (clause_at done) refs new c.count (λ j h.
+    (let r = word refs j in
+    let i : In r refs = in_at refs j h in
+    let e : renamed refs new r ≡ word new j = renamed_at refs new j sound.laid.rising c.count h in
+    let k = c.same r i in
+    let like : clause_at done (renamed refs new r) ≡ clause_at ws r =
+    clause_like ws done r (renamed refs new r) (sound.laid.inside r i)
+    (after.laid.inside (renamed refs new r) (c.held r i)) k.size k.number k.codes in
+    ap (clause_at done) (sym e) ∙ like))

@@ -5,3 +5,4 @@ pub mod Watched
 pub mod Changes
 pub mod Moved
 pub mod Deleted
+pub mod Compacted

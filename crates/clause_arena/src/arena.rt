@@ -2,10 +2,13 @@
 
 ghost use Rattle.std.specs.Prelude.{◌≡◌, ℕ, ◌+◌, ◌*◌, ◌<◌, ◌≤◌, ◌==◌, [], ◌∷◌, ◌++◌, IfOk, IfSome, OnErr, Option, Some, None, map, filter};
 ghost use Rattle.std.specs.Prelude.{true, not, replicate};
+ghost use Rattle.std.specs.List.{All};
+ghost use Rattle.std.specs.Option.{option_map};
 ghost use Rattle.resolution_check.specs.Clauses.{is_below};
 ghost use Rattle.resolution_check.specs.Earned.{vars_differ};
 
 use crate::adding::add_in;
+use crate::compacting::compact_in;
 use crate::deleting::delete_in;
 use crate::moving::move_in;
 use crate::names::{ClauseRef, Watch};
@@ -63,6 +66,7 @@ impl Arena {
     ghost use Rattle.clause_arena.specs.Changes.{Adds};
     ghost use Rattle.clause_arena.specs.Moved.{Moves};
     ghost use Rattle.clause_arena.specs.Deleted.{Deletes};
+    ghost use Rattle.clause_arena.specs.Compacted.{Compacts, reason_renamed};
     ghost use Rattle.clause_arena.specs.Held.{IsHeld, size_of, number_of, lit_at, clauses, code_of};
     ghost use Rattle.clause_arena.specs.Watched.{place, place_or, own, Stands, head, left};
 
@@ -178,6 +182,26 @@ impl Arena {
             &mut self.moved,
             self.vars,
             c.0,
+        );
+    }
+
+    /// Moves the clauses together, so that deleted ones take no words any more. Each clause gets a new reference, and
+    /// each reason that of its clause; numbers, the order of literals and the lists of watches stay.
+    pub fn compact(&mut self, reasons: &mut [Option<ClauseRef>])
+        requires { All (λ r. IfSome r (IsHeld self.old)) reasons.old }
+        ensures compacts { Compacts self.old self.new }
+        ensures clauses { clauses self.new ≡ clauses self.old }
+        ensures reasons { reasons.new ≡ map (reason_renamed self.old.refs self.new.refs) reasons.old }
+        ensures held { All (λ r. IfSome r (IsHeld self.new)) reasons.new }
+        ensures numbers { map (option_map (number_of self.new)) reasons.new
+            ≡ map (option_map (number_of self.old)) reasons.old }
+    {
+        compact_in(
+            &mut self.words,
+            &mut self.refs,
+            &mut self.moved,
+            self.vars,
+            reasons,
         );
     }
 }

@@ -3,6 +3,7 @@
 
 mod adding;
 mod arena;
+mod compacting;
 mod deleting;
 mod moving;
 mod names;
