@@ -1,16 +1,18 @@
 -- The clauses that are held, as a list.
 use Rattle.std.specs.Prelude.{ℕ, suc, ◌≡◌, ◌+◌, ◌-◌, ◌*◌, ◌/◌, ◌%◌, ◌<◌, ◌≤◌, ◌≢◌, ◌==◌, List, [], ◌∷◌, ◌++◌}
-use Rattle.std.specs.Prelude.{Bool, true, false, not, length, map, filter, take, drop, refl}
+use Rattle.std.specs.Prelude.{Bool, true, false, not, length, map, filter, take, drop, slice_get, Some, refl}
+use Rattle.std.specs.Option.{option_map}
 use Rattle.std.proofs.Common.{sym, ◌∙◌, ap, subst, inl, inr, arith, length-take, length-drop}
 use Rattle.std.proofs.lemmas.Bool.{cases_Bool, cases_order, eqb-false, ne_eqb}
 use Rattle.std.proofs.Math.Dec.{eqb}
-use borrow.Author.Tests.{eq-eqb}
-use Rattle.std.proofs.lemmas.List.{get_or-take, get_or-drop, map-append}
+use borrow.Author.Tests.{eq-eqb, eqb-true}
+use Rattle.std.proofs.lemmas.List.{get_or-take, get_or-drop, map-append, length-map}
+use Rattle.std.proofs.lemmas.Option.{slice_get-map, slice_get-get_or}
 use Rattle.std.proofs.lemmas.Grind.{same_number_lists}
 use Rattle.resolution_check.specs.declared.log.Lit.{Lit}
 use Rattle.clause_arena.specs.Links.{word, In}
 use Rattle.clause_arena.specs.Store.{IsLaid, IsSound, store}
-use Rattle.clause_arena.specs.Held.{code_of, lit_of, clauses}
+use Rattle.clause_arena.specs.Held.{code_of, lit_of, lits_of, clauses, clause_numbered, held_in}
 use Rattle.clause_arena.specs.Changes.{Adds}
 use Rattle.clause_arena.specs.Compacted.{renamed, Compacts}
 use Rattle.clause_arena.specs.Deleted.{others, Deletes}
@@ -169,3 +171,48 @@ clauses_same vars ws done refs new sound after c =
     clause_like ws done r (renamed refs new r) (sound.laid.inside r i)
     (after.laid.inside (renamed refs new r) (c.held r i)) k.size k.number k.codes in
     ap (clause_at done) (sym e) ∙ like))
+
+-- ---- a clause as it is read
+
+-- how many literals it has
+pub lits_count : (vars : ℕ) (ws refs : List ℕ) (r : ℕ) → IsSound vars ws refs → In r refs
+    → length (lits_of (store vars ws refs) r) ≡ word ws r
+lits_count vars ws refs r sound i =
+    let h : r + 4 + word ws r ≤ length ws = sound.laid.inside r i in
+    let codes = take (word ws r) (drop (r + 4) ws) in
+    let d : length (drop (r + 4) ws) ≡ length ws - (r + 4) = length-drop (r + 4) ws in
+    let l : length codes ≡ word ws r = omega (arith, length-take (word ws r) (drop (r + 4) ws)) in
+    length-map codes lit_of ∙ l
+
+-- the literal at a place
+pub lits_listed : (vars : ℕ) (ws refs : List ℕ) (r k code : ℕ) → IsSound vars ws refs → In r refs → k < word ws r
+    → code ≡ word ws (r + 4 + k) → slice_get (lits_of (store vars ws refs) r) k ≡ Some (lit_of code)
+lits_listed vars ws refs r k code sound i h e =
+    let all : length (lits_of (store vars ws refs) r) ≡ word ws r = lits_count vars ws refs r sound i in
+    let codes = take (word ws r) (drop (r + 4) ws) in
+    let within : k < length codes = omega (arith, length-map codes lit_of) in
+    slice_get-map lit_of codes k ∙ ap (option_map lit_of) (slice_get-get_or codes k 0 within)
+    ∙ ap (λ (u : ℕ). Some (lit_of u)) (get_or-take (word ws r) (drop (r + 4) ws) k 0 h ∙ get_or-drop (r + 4) ws k 0
+    ∙ sym e)
+
+-- the clause that is held by its number
+numbered_by : (f : ℕ → (ℕ × List Lit)) (refs : List ℕ) (r : ℕ) → In r refs
+    → ((s : ℕ) → In s refs → ((f s).0 == (f r).0) ≡ (s == r))
+    → clause_numbered (map f refs) (f r).0 ≡ Some (record { lits = (f r).1 })
+numbered_by f [] r i tells = absurd i
+numbered_by f (q ∷ qs) r i tells =
+    elim (cases_Bool (eqb q r)) [
+      | inl t ↦ rw (tells q (inl refl), t)
+          (ap (λ (u : ℕ). Some (record { lits = (f u).1 })) (eqb-true q r t))
+      | inr t ↦ rw (tells q (inl refl), t) (elim i [
+        | inl e ↦ absurd (eqb-false q r t (sym e))
+        | inr j ↦ numbered_by f qs r j (λ s k. tells s (inr k))
+      ])
+    ]
+
+pub clause_held_by : (vars : ℕ) (ws refs : List ℕ) (r id : ℕ) → IsSound vars ws refs → In r refs
+    → id ≡ word ws (r + 1)
+    → held_in (store vars ws refs) id ≡ Some (record { lits = lits_of (store vars ws refs) r })
+clause_held_by vars ws refs r id sound i e =
+    ap (held_in (store vars ws refs)) e
+    ∙ numbered_by (clause_at ws) refs r i (λ s k. number_tells vars (length ws) (word ws) refs s r sound.laid k i)

@@ -1,7 +1,7 @@
 //! The arena.
 
 ghost use Rattle.std.specs.Prelude.{◌≡◌, ℕ, ◌+◌, ◌*◌, ◌<◌, ◌≤◌, ◌==◌, [], ◌∷◌, ◌++◌, IfOk, IfSome, OnErr, Option, Some, None, map, filter};
-ghost use Rattle.std.specs.Prelude.{true, not, replicate};
+ghost use Rattle.std.specs.Prelude.{true, not, length, replicate, slice_get};
 ghost use Rattle.std.specs.List.{All};
 ghost use Rattle.std.specs.Option.{option_map};
 ghost use Rattle.resolution_check.specs.Clauses.{is_below};
@@ -67,7 +67,7 @@ impl Arena {
     ghost use Rattle.clause_arena.specs.Moved.{Moves};
     ghost use Rattle.clause_arena.specs.Deleted.{Deletes};
     ghost use Rattle.clause_arena.specs.Compacted.{Compacts, reason_renamed};
-    ghost use Rattle.clause_arena.specs.Held.{IsHeld, size_of, number_of, lit_at, clauses, code_of};
+    ghost use Rattle.clause_arena.specs.Held.{IsHeld, size_of, number_of, lit_at, lits_of, clauses, held_in, code_of};
     ghost use Rattle.clause_arena.specs.Watched.{place, place_or, own, Stands, head, left};
 
     #[tactic(auto, using(crate::proofs::Empty::sound_zeros, crate::proofs::Empty::places_of_zeros))]
@@ -111,7 +111,8 @@ impl Arena {
     /// How many literals a clause has.
     pub fn size(&self, c: ClauseRef) -> u64
         requires { IsHeld self.now c }
-        ensures { result ≡ size_of self.now c }
+        ensures value { result ≡ size_of self.now c }
+        ensures count { length (lits_of self.now c.0) ≡ result }
     {
         size_in(&self.words, &self.refs, self.vars, c.0)
     }
@@ -119,7 +120,8 @@ impl Arena {
     /// A clause's number.
     pub fn id(&self, c: ClauseRef) -> u64
         requires { IsHeld self.now c }
-        ensures { result ≡ number_of self.now c }
+        ensures value { result ≡ number_of self.now c }
+        ensures numbered { held_in self.now result ≡ Some (record { lits = lits_of self.now c.0 }) }
     {
         number_in(&self.words, &self.refs, self.vars, c.0)
     }
@@ -128,7 +130,8 @@ impl Arena {
     pub fn lit(&self, c: ClauseRef, at: u64) -> Lit
         requires held { IsHeld self.now c }
         requires at { at < size_of self.now c }
-        ensures { result ≡ lit_at self.now c at }
+        ensures value { result ≡ lit_at self.now c at }
+        ensures listed { slice_get (lits_of self.now c.0) at ≡ Some result }
     {
         literal(code_in(&self.words, &self.refs, self.vars, c.0, at))
     }

@@ -31,7 +31,7 @@ overflow_add-end-in-loop-i c =
     let a = c.args in
     let p = planned_more a.vars (length a.words.now) (word a.words.now) a.refs.now c.loop-i.moved c.loop-i.end
     c.loop-i.i (c.loop-i.end + c.loop-i.end % 2) c.size_in.result c.requires.sound.laid c.loop-i.invariant.planned
-    c.loop-i-test.true refl c.size_in.ensures in
+    c.loop-i-test.true refl c.size_in.ensures.value in
     omega (arith, p.fits)
 
 pub loop-i-preserved : goal.loop-i-preserved
@@ -40,9 +40,9 @@ loop-i-preserved c =
     record {
       planned = planned_more a.vars (length a.words.now) (word a.words.now) a.refs.now c.loop-i.moved c.loop-i.end
           c.loop-i.i _ c.size_in.result c.requires.sound.laid c.loop-i.invariant.planned c.loop-i-test.true refl
-          c.size_in.ensures;
+          c.size_in.ensures.value;
       dense = packed_more (word a.words.now) a.refs.now (packed (2 * a.vars) (map (word a.words.now) a.refs.now))
-          c.loop-i.end c.loop-i.i _ c.size_in.result c.loop-i-test.true refl c.size_in.ensures
+          c.loop-i.end c.loop-i.i _ c.size_in.result c.loop-i-test.true refl c.size_in.ensures.value
           c.loop-i.invariant.dense;
     }
 

@@ -8,7 +8,7 @@ pub returns-then-size_in-lt2 : goal.returns-then-size_in-lt2
 returns-then-size_in-lt2 c =
     let a = c.args in
     freed_few a.vars (length a.words.now) (word a.words.now) a.refs.now (places a.words.now) a.clause
-    c.requires.sound.laid c.requires.sound.linked c.requires.held (omega (arith, c.size_in.ensures))
+    c.requires.sound.laid c.requires.sound.linked c.requires.held (omega (arith, c.size_in.ensures.value))
 
 pub unlink-requires-clause-apart : goal.unlink-requires-clause-apart
 unlink-requires-clause-apart c =
@@ -17,7 +17,7 @@ unlink-requires-clause-apart c =
     c.code_in-one.result c.code_in-other.result c.link_to-link.result c.link_to-other_link.result
     c.requires.sound.laid c.requires.sound.linked (held_by (word a.words.now) a.refs.now (places a.words.now) a.clause
     c.size_in.result c.code_in-one.result c.code_in-other.result c.link_to-link.result c.link_to-other_link.result
-    c.requires.held c.size_in.ensures c.if-size_in-lt2.false c.code_in-one.ensures.value
+    c.requires.held c.size_in.ensures.value c.if-size_in-lt2.false c.code_in-one.ensures.value
     c.code_in-other.ensures.value c.link_to-link.ensures.leads c.link_to-link.ensures.link
     c.link_to-other_link.ensures.leads c.link_to-other_link.ensures.link) in
     p.past
@@ -30,6 +30,6 @@ returns c =
     c.link_to-other_link.result c.requires.sound.laid c.requires.sound.linked
     (held_by (word a.words.now) a.refs.now (places a.words.now) a.clause
     c.size_in.result c.code_in-one.result c.code_in-other.result c.link_to-link.result c.link_to-other_link.result
-    c.requires.held c.size_in.ensures c.if-size_in-lt2.false c.code_in-one.ensures.value
+    c.requires.held c.size_in.ensures.value c.if-size_in-lt2.false c.code_in-one.ensures.value
     c.code_in-other.ensures.value c.link_to-link.ensures.leads c.link_to-link.ensures.link
     c.link_to-other_link.ensures.leads c.link_to-other_link.ensures.link) c.unlink.ensures

@@ -1,0 +1,5 @@
+pub mod Followed
+pub mod Marked
+pub mod Below
+pub mod Tops
+pub mod Fits
