@@ -3,3 +3,4 @@ pub mod Marked
 pub mod Below
 pub mod Tops
 pub mod Fits
+pub mod Backs

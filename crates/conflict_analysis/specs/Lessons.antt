@@ -1,8 +1,8 @@
 -- What a false clause teaches: a clause that a chain of held clauses resolves to.
 use Rattle.std.specs.Prelude.{ℕ, ◌≡◌, ◌<◌, ◌≤◌, Bool, true, false, ◌&&◌, ◌||◌, List, length, take, None, Ok}
-use Rattle.std.specs.Prelude.{is_some, slice_index_or}
+use Rattle.std.specs.Prelude.{Some, is_some, slice_get, slice_index_or}
 use Rattle.resolution_check.specs.declared.log.Lit.{Lit}
-use Rattle.resolution_check.specs.Clauses.{has, IsSameSet}
+use Rattle.resolution_check.specs.Clauses.{opposite, has, IsSameSet}
 use Rattle.resolution_check.specs.Entries.{resolved}
 use Rattle.resolution_check.specs.Earned.{vars_differ}
 use Rattle.resolution_check.specs.Trails.{value_of, fails, AllFail}
@@ -44,3 +44,14 @@ pub record IsReady (marks : List Bool) (clause_room chain_room : ℕ) : Type 0 w
   pub unmarked : (v : ℕ) → marked marks v ≡ false
   pub clause : length marks ≤ clause_room
   pub chain : length marks < chain_room
+
+-- the literal's negation is a step of this level
+pub record IsLevelOf (steps : List Lit) (levels : List ℕ) (l : Lit) (level : ℕ) : Type 0 where
+  pub at : ℕ
+  pub there : slice_get steps at ≡ Some (opposite l)
+  pub own : slice_get levels at ≡ Some level
+
+-- the level of the second literal, 0 where there is none
+pub record IsBack (steps : List Lit) (levels : List ℕ) (lits : List Lit) (level : ℕ) : Type 0 where
+  pub none : length lits < 2 → level ≡ 0
+  pub second : (l : Lit) → slice_get lits 1 ≡ Some l → IsLevelOf steps levels l level

@@ -1,10 +1,12 @@
 //! Steps that are followed back from a false clause.
 
 ghost use Rattle.std.specs.Prelude.{◌≡◌, ℕ, ◌+◌, ◌<◌, ◌≤◌, ◌==◌, ◌||◌, ◌∷◌, [], ◌++◌, true, false, Some, length, slice_get, vec_len, vec_capacity, if◌then◌else◌};
+ghost use Rattle.std.specs.Prelude.{◌⊎◌, List};
+ghost use Rattle.resolution_check.specs.declared.log.Lit.{Lit};
 ghost use Rattle.resolution_check.specs.Clauses.{opposite, is_below};
 ghost use Rattle.resolution_check.specs.Earned.{has_var};
 ghost use Rattle.clause_arena.specs.Held.{IsHeld, lits_of, number_of, held_in};
-ghost use Rattle.conflict_analysis.specs.Lessons.{marked, IsFollowed};
+ghost use Rattle.conflict_analysis.specs.Lessons.{marked, IsFollowed, IsBack};
 ghost use Rattle.conflict_analysis.specs.Steps.{IsTrail};
 
 use crate::marks::{mark_clause, set_mark};
@@ -72,6 +74,8 @@ fn follow_step(
     ensures chain_room { vec_capacity chain.new ≡ vec_capacity chain.old }
     ensures count { vec_len clause.new + vec_len chain.new ≤ vec_len clause.old + vec_len chain.old + 1 }
     ensures chain_grows { vec_len chain.old ≤ vec_len chain.new }
+    ensures kept { (l : Lit) → slice_get trail.now.lits.items at ≡ Some l
+        → (clause.new.items ≡ clause.old.items) ⊎ (clause.new.items ≡ clause.old.items ++ opposite l ∷ []) }
 {
     let lit = literal_at(trail, at);
     if !marks[lit.var as usize] {
@@ -81,6 +85,24 @@ fn follow_step(
         Some(reason) if !stays => follow_reason(marks, chain, arena, lit, reason),
         _ => keep(marks, clause, lit),
     }
+}
+
+/// The level of the second literal, where the step at this place was followed back and there were so many literals
+/// before.
+fn level_back(clause: &[Lit], before: usize, trail: &Trail, at: usize, back: u64) -> u64
+    requires at { at < length trail.now.levels.items }
+    ensures { (kept : List Lit) (t : Lit) → IsBack trail.now.lits.items trail.now.levels.items kept back
+        → length kept ≡ before → slice_get trail.now.lits.items at ≡ Some t
+        → (clause.now ≡ kept) ⊎ (clause.now ≡ kept ++ opposite t ∷ [])
+        → IsBack trail.now.lits.items trail.now.levels.items clause.now result }
+{
+    if before != 1 {
+        return back;
+    }
+    if clause.len() != 2 {
+        return back;
+    }
+    level_at(trail, at)
 }
 
 /// Follows all steps back, from the last one. Answers the level of the second literal that is kept, 0 where there is
@@ -101,17 +123,16 @@ pub(crate) fn follow_all(
     requires chain_room { length marks.old < vec_capacity chain.old }
     ensures followed { IsFollowed arena.now trail.now.lits.items (length trail.now.lits.items) (marked marks.old) clause.old.items chain.old.items
         → IsFollowed arena.now trail.now.lits.items 0 (marked marks.new) clause.new.items chain.new.items }
+    ensures back { IsBack trail.now.lits.items trail.now.levels.items clause.new.items result }
     ensures clause_room { vec_capacity clause.new ≡ vec_capacity clause.old }
     ensures chain_room { vec_capacity chain.new ≡ vec_capacity chain.old }
 {
     let mut back = 0;
     for at in (0..trail.lits.len()).rev() {
         let stays = stays(marks, trail, at, top);
-        let one = clause.len() == 1;
+        let before = clause.len();
         follow_step(marks, clause, chain, arena, trail, at, stays);
-        if one && clause.len() == 2 {
-            back = level_at(trail, at);
-        }
+        back = level_back(clause, before, trail, at, back);
     }
     back
 }

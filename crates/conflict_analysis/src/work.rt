@@ -3,7 +3,7 @@
 ghost use Rattle.std.specs.Prelude.{◌≡◌, ℕ, ◌≤◌, ◌<◌, [], true, false, length, IfOk, vec_capacity};
 ghost use Rattle.resolution_check.specs.Clauses.{is_below};
 ghost use Rattle.conflict_analysis.specs.Steps.{IsTrail, IsConflict};
-ghost use Rattle.conflict_analysis.specs.Lessons.{marked, IsReady, IsLesson};
+ghost use Rattle.conflict_analysis.specs.Lessons.{marked, IsReady, IsLesson, IsBack};
 
 use crate::following::follow_all;
 use crate::marks::mark_clause;
@@ -88,6 +88,7 @@ fn analyse_in(
     requires conflict { IsConflict arena.now trail.now.lits.items conflict }
     ensures ready { IsReady marks.new (vec_capacity clause.new) (vec_capacity chain.new) }
     ensures lesson { IsLesson arena.now trail.now.lits.items clause.new.items chain.new.items }
+    ensures back { IsBack trail.now.lits.items trail.now.levels.items clause.new.items result }
 {
     clause.clear();
     chain.clear();
@@ -105,6 +106,7 @@ pub fn analyse(work: &mut Work, arena: &Arena, trail: &Trail, conflict: ClauseRe
     requires conflict { IsConflict arena.now trail.now.lits.items conflict }
     ensures vars { work.new.vars ≡ work.old.vars }
     ensures lesson { IsLesson arena.now trail.now.lits.items work.new.lits work.new.chain }
+    ensures back { IsBack trail.now.lits.items trail.now.levels.items work.new.lits result }
 {
     analyse_in(
         &mut work.clause,

@@ -38,4 +38,5 @@ pub two_clauses : (zero one two three after : Store) (k l m : List Lit) (n : ℕ
 two_clauses zero one two three after k l m n a b c d e f =
     f ∙ ap (λ (u : ℕ). filter (λ x. not (x.0 == u)) (clauses three)) e
     ∙ ap (filter (λ x. not (x.0 == 2))) (d ∙ ap (λ (cs : List (ℕ × List Lit)). cs ++ (3, m) ∷ [])
-    (c ∙ ap (λ (cs : List (ℕ × List Lit)). cs ++ (2, l) ∷ []) (b ∙ ap (λ (cs : List (ℕ × List Lit)). cs ++ (1, k) ∷ []) a)))
+    (c ∙ ap (λ (cs : List (ℕ × List Lit)). cs ++ (2, l) ∷ [])
+    (b ∙ ap (λ (cs : List (ℕ × List Lit)). cs ++ (1, k) ∷ []) a)))

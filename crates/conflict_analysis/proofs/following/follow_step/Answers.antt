@@ -18,7 +18,8 @@ returns-then-not-marks-lit-clause-followed c = λ f.
     let ss = c.args.trail.now.lits.items in
     let t = c.literal_at-lit.result in
     followed_past ss c.args.at t c.literal_at-lit.ensures (c.requires.trail.fresh c.args.at t c.literal_at-lit.ensures)
-    c.args.arena.now (marked c.args.marks.now) (marked c.args.marks.now) c.args.clause.now.items c.args.chain.now.items f
+    c.args.arena.now (marked c.args.marks.now) (marked c.args.marks.now) c.args.clause.now.items
+    c.args.chain.now.items f
     c.if-not-marks-lit.true
 
 pub follow_reason-requires-clause-held : goal.follow_reason-requires-clause-held
@@ -44,7 +45,8 @@ returns-in-Some-clause-followed c = λ f.
     let t = c.literal_at-lit.result in
     let r = c.requires.trail.forced c.args.at t c.in-Some.reason c.literal_at-lit.ensures
     (c.reason_at.ensures ∙ ap Some c.in-Some.is) in
-    followed_forced ss c.args.at t c.literal_at-lit.ensures (c.requires.trail.fresh c.args.at t c.literal_at-lit.ensures)
+    followed_forced ss c.args.at t c.literal_at-lit.ensures
+    (c.requires.trail.fresh c.args.at t c.literal_at-lit.ensures)
     c.args.arena.now (marked c.args.marks.now) (marked c.follow_reason.new.marks) c.args.clause.now.items
     c.args.chain.now.items f (number_of c.args.arena.now c.in-Some.reason)
     (lits_of c.args.arena.now c.in-Some.reason.0) c.follow_reason.ensures.numbered r.inside r.others
