@@ -98,7 +98,7 @@ next_in f at b (q ∷ qs) t (inl e) h = inl (ap f e ∙ t.0)
 next_in f at b (q ∷ qs) t (inr i) h = inr (next_in f q b qs t.2 i h)
 
 -- what comes later in the list than its first place
-later : (b at : ℕ) (xs : List ℕ) → eqb b at ≡ false → (b ≡ at) ⊎ In b xs → In b xs
+pub later : (b at : ℕ) (xs : List ℕ) → eqb b at ≡ false → (b ≡ at) ⊎ In b xs → In b xs
 later b at xs off_it (inl e) = absurd (eqb-false b at off_it e)
 later b at xs off_it (inr i) = i
 
@@ -146,7 +146,7 @@ threads_cut f g at b (q ∷ qs) t here h gb same =
     ]
 
 -- no place behind the start leads back to it
-off_next : (f : ℕ → ℕ) (at b : ℕ) (xs : List ℕ) → Threads f at xs → (b ≡ at) ⊎ In b xs → 0 < at → f b ≡ at → ⊥
+pub off_next : (f : ℕ → ℕ) (at b : ℕ) (xs : List ℕ) → Threads f at xs → (b ≡ at) ⊎ In b xs → 0 < at → f b ≡ at → ⊥
 off_next f at b xs t here pos e =
     let h : 0 < f b = omega arith in
     off_own f at xs t (subst (λ (u : ℕ). In u xs) e (next_in f at b xs t here h))

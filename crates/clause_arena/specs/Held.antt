@@ -1,5 +1,7 @@
 -- The clauses that an arena holds.
-use Rattle.std.specs.Prelude.{ℕ, ◌+◌, ◌*◌, ◌/◌, ◌%◌, ◌==◌, if◌then◌else◌, List, map, take, drop}
+use Rattle.std.specs.Prelude.{ℕ, ◌+◌, ◌*◌, ◌/◌, ◌%◌, ◌==◌, if◌then◌else◌, List, [], ◌∷◌, map, take, drop}
+use Rattle.std.specs.Prelude.{Option, Some, None}
+use Rattle.resolution_check.specs.declared.log.Clause.{Clause}
 use Rattle.resolution_check.specs.declared.log.Lit.{Lit}
 use Rattle.clause_arena.specs.declared.names.ClauseRef.{ClauseRef}
 use Rattle.clause_arena.specs.Links.{word, In}
@@ -40,3 +42,12 @@ lits_of a r = map lit_of (take (word a.words r) (drop (r + 4) a.words))
 -- the clauses held, with their numbers
 abbrev pub clauses : Store → List (ℕ × List Lit)
 clauses a = map (λ r. (word a.words (r + 1), lits_of a r)) a.refs
+
+-- the clause of a number among these
+abbrev pub clause_numbered : List (ℕ × List Lit) → ℕ → Option Clause
+clause_numbered [] id = None
+clause_numbered (c ∷ cs) id = if c.0 == id then Some (record { lits = c.1 }) else clause_numbered cs id
+
+-- the clause held by a number
+abbrev pub held_in : Store → ℕ → Option Clause
+held_in a id = clause_numbered (clauses a) id

@@ -4,3 +4,5 @@ pub mod Held
 pub mod Watched
 pub mod Changes
 pub mod Moved
+pub mod Deleted
+pub mod Compacted

@@ -63,19 +63,22 @@ fn place_clause(words: &mut [u64], vars: u64, clause: u64, id: u64, lits: &[Lit]
     }
 }
 
-/// Adds a clause.
+/// Adds a clause. The third vector keeps a word for each reference.
 pub(crate) fn add_in(
     words: &mut Vec<u64>,
     refs: &mut Vec<u64>,
+    moved: &mut Vec<u64>,
     vars: u64,
     id: u64,
     lits: &[Lit],
 ) -> Result<u64, AllocError>
     requires sound { IsSound vars words.old.items refs.old.items }
+    requires count { length moved.old.items ≡ length refs.old.items }
     requires below { is_below vars lits.now ≡ true }
     requires differ { vars_differ lits.now ≡ true }
     requires above { (s : ℕ) → In s refs.old.items → word words.old.items (s + 1) < id }
     ensures sound { IsSound vars words.new.items refs.new.items }
+    ensures count { length moved.new.items ≡ length refs.new.items }
     ensures ok { IfOk result (λ r. Adds (store vars words.old.items refs.old.items)
         (store vars words.new.items refs.new.items) r id (map code_of lits.now)) }
     ensures clauses { IfOk result (λ _. clauses (store vars words.new.items refs.new.items)
@@ -84,9 +87,11 @@ pub(crate) fn add_in(
     ensures refs { OnErr result (refs.new.items ≡ refs.old.items) }
 {
     refs.reserve(1)?;
+    moved.reserve(1)?;
     let clause = words.len() + words.len() % 2;
     words.resize(clause + 4 + lits.len(), 0)?;
     place_clause(words, vars, clause as u64, id, lits);
     refs.push_reserved(clause as u64);
+    moved.push_reserved(0);
     Ok(clause as u64)
 }

@@ -1,10 +1,15 @@
 //! The arena.
 
-ghost use Rattle.std.specs.Prelude.{◌≡◌, ℕ, ◌*◌, ◌<◌, ◌≤◌, [], ◌∷◌, ◌++◌, IfOk, IfSome, OnErr, Option, Some, None, map, true, replicate};
+ghost use Rattle.std.specs.Prelude.{◌≡◌, ℕ, ◌+◌, ◌*◌, ◌<◌, ◌≤◌, ◌==◌, [], ◌∷◌, ◌++◌, IfOk, IfSome, OnErr, Option, Some, None, map, filter};
+ghost use Rattle.std.specs.Prelude.{true, not, length, replicate, slice_get};
+ghost use Rattle.std.specs.List.{All};
+ghost use Rattle.std.specs.Option.{option_map};
 ghost use Rattle.resolution_check.specs.Clauses.{is_below};
 ghost use Rattle.resolution_check.specs.Earned.{vars_differ};
 
 use crate::adding::add_in;
+use crate::compacting::compact_in;
+use crate::deleting::delete_in;
 use crate::moving::move_in;
 use crate::names::{ClauseRef, Watch};
 use crate::reading::{code, code_in, literal, number_in, size_in};
@@ -19,17 +24,21 @@ pub struct Arena {
     words: Vec<u64>,
     // By number.
     refs: Vec<u64>,
+    // As many words, for the references after a compaction.
+    moved: Vec<u64>,
     vars: u64,
 }
 
 impl Model for Arena {
+    ghost use Rattle.std.specs.Prelude.{◌≡◌, length};
     ghost use Rattle.clause_arena.specs.Store.{Store, IsSound};
 
     ghost Value = { Store };
 
     ghost view = { λ a. record { vars = a.vars; words = a.words.items; refs = a.refs.items } };
 
-    ghost invariant = { λ a. IsSound a.vars a.words.items a.refs.items };
+    ghost invariant = { λ a. IsSound a.vars a.words.items a.refs.items
+        × (length a.moved.items ≡ length a.refs.items) };
 }
 
 /// So many words that are 0.
@@ -56,7 +65,9 @@ impl Arena {
     ghost use Rattle.clause_arena.specs.declared.names.Watch.{Watch};
     ghost use Rattle.clause_arena.specs.Changes.{Adds};
     ghost use Rattle.clause_arena.specs.Moved.{Moves};
-    ghost use Rattle.clause_arena.specs.Held.{IsHeld, size_of, number_of, lit_at, clauses, code_of};
+    ghost use Rattle.clause_arena.specs.Deleted.{Deletes};
+    ghost use Rattle.clause_arena.specs.Compacted.{Compacts, reason_renamed};
+    ghost use Rattle.clause_arena.specs.Held.{IsHeld, size_of, number_of, lit_at, lits_of, clauses, held_in, code_of};
     ghost use Rattle.clause_arena.specs.Watched.{place, place_or, own, Stands, head, left};
 
     #[tactic(auto, using(crate::proofs::Empty::sound_zeros, crate::proofs::Empty::places_of_zeros))]
@@ -69,6 +80,7 @@ impl Arena {
         Ok(Arena {
             words: no_watches(alloc, vars)?,
             refs: Vec::new(alloc),
+            moved: Vec::new(alloc),
             vars,
         })
     }
@@ -85,14 +97,22 @@ impl Arena {
         ensures clauses { IfOk result (λ _. clauses self.new ≡ clauses self.old ++ (id, lits.now) ∷ []) }
         ensures unchanged { OnErr result (self.new ≡ self.old) }
     {
-        let clause = add_in(&mut self.words, &mut self.refs, self.vars, id, lits)?;
+        let clause = add_in(
+            &mut self.words,
+            &mut self.refs,
+            &mut self.moved,
+            self.vars,
+            id,
+            lits,
+        )?;
         Ok(ClauseRef(clause))
     }
 
     /// How many literals a clause has.
     pub fn size(&self, c: ClauseRef) -> u64
         requires { IsHeld self.now c }
-        ensures { result ≡ size_of self.now c }
+        ensures value { result ≡ size_of self.now c }
+        ensures count { length (lits_of self.now c.0) ≡ result }
     {
         size_in(&self.words, &self.refs, self.vars, c.0)
     }
@@ -100,7 +120,8 @@ impl Arena {
     /// A clause's number.
     pub fn id(&self, c: ClauseRef) -> u64
         requires { IsHeld self.now c }
-        ensures { result ≡ number_of self.now c }
+        ensures value { result ≡ number_of self.now c }
+        ensures numbered { held_in self.now result ≡ Some (record { lits = lits_of self.now c.0 }) }
     {
         number_in(&self.words, &self.refs, self.vars, c.0)
     }
@@ -109,7 +130,8 @@ impl Arena {
     pub fn lit(&self, c: ClauseRef, at: u64) -> Lit
         requires held { IsHeld self.now c }
         requires at { at < size_of self.now c }
-        ensures { result ≡ lit_at self.now c at }
+        ensures value { result ≡ lit_at self.now c at }
+        ensures listed { slice_get (lits_of self.now c.0) at ≡ Some result }
     {
         literal(code_in(&self.words, &self.refs, self.vars, c.0, at))
     }
@@ -148,5 +170,41 @@ impl Arena {
         ensures fewer { left self.new before (own self.old w) < left self.old before (own self.old w) }
     {
         move_in(&mut self.words, &self.refs, self.vars, before, w, to)
+    }
+
+    /// Takes a clause out of the arena, and its two watches out of their lists. Other references stay.
+    pub fn delete(&mut self, c: ClauseRef)
+        requires { IsHeld self.old c }
+        ensures deletes { Deletes self.old self.new c.0 }
+        ensures clauses { clauses self.new
+            ≡ filter (λ k. not (k.0 == number_of self.old c)) (clauses self.old) }
+    {
+        delete_in(
+            &mut self.words,
+            &mut self.refs,
+            &mut self.moved,
+            self.vars,
+            c.0,
+        );
+    }
+
+    /// Moves the clauses together, so that deleted ones take no words any more. Each clause gets a new reference, and
+    /// each reason that of its clause; numbers, the order of literals and the lists of watches stay.
+    pub fn compact(&mut self, reasons: &mut [Option<ClauseRef>])
+        requires { All (λ r. IfSome r (IsHeld self.old)) reasons.old }
+        ensures compacts { Compacts self.old self.new }
+        ensures clauses { clauses self.new ≡ clauses self.old }
+        ensures reasons { reasons.new ≡ map (reason_renamed self.old.refs self.new.refs) reasons.old }
+        ensures held { All (λ r. IfSome r (IsHeld self.new)) reasons.new }
+        ensures numbers { map (option_map (number_of self.new)) reasons.new
+            ≡ map (option_map (number_of self.old)) reasons.old }
+    {
+        compact_in(
+            &mut self.words,
+            &mut self.refs,
+            &mut self.moved,
+            self.vars,
+            reasons,
+        );
     }
 }

@@ -3,6 +3,8 @@
 
 mod adding;
 mod arena;
+mod compacting;
+mod deleting;
 mod moving;
 mod names;
 mod reading;

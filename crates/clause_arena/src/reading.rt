@@ -1,9 +1,9 @@
 //! Reading of clauses in words. References and the number of variables are passed for the conditions alone.
 
-ghost use Rattle.std.specs.Prelude.{◌≡◌, ◌+◌, ◌*◌, ◌<◌, length};
+ghost use Rattle.std.specs.Prelude.{◌≡◌, ◌+◌, ◌*◌, ◌<◌, Some, length, slice_get};
 ghost use Rattle.clause_arena.specs.Links.{word, In};
-ghost use Rattle.clause_arena.specs.Store.{IsSound};
-ghost use Rattle.clause_arena.specs.Held.{lit_of, code_of};
+ghost use Rattle.clause_arena.specs.Store.{IsSound, store};
+ghost use Rattle.clause_arena.specs.Held.{lit_of, code_of, lits_of, held_in};
 
 use resolution_check::Lit;
 
@@ -41,7 +41,8 @@ pub(crate) fn read(words: &[u64], at: u64) -> u64
 pub(crate) fn size_in(words: &[u64], refs: &[u64], vars: u64, clause: u64) -> u64
     requires sound { IsSound vars words.now refs.now }
     requires held { In clause refs.now }
-    ensures { result ≡ word words.now clause }
+    ensures value { result ≡ word words.now clause }
+    ensures count { length (lits_of (store vars words.now refs.now) clause) ≡ result }
 {
     read(words, clause)
 }
@@ -50,7 +51,9 @@ pub(crate) fn size_in(words: &[u64], refs: &[u64], vars: u64, clause: u64) -> u6
 pub(crate) fn number_in(words: &[u64], refs: &[u64], vars: u64, clause: u64) -> u64
     requires sound { IsSound vars words.now refs.now }
     requires held { In clause refs.now }
-    ensures { result ≡ word words.now (clause + 1) }
+    ensures value { result ≡ word words.now (clause + 1) }
+    ensures numbered { held_in (store vars words.now refs.now) result
+        ≡ Some (record { lits = lits_of (store vars words.now refs.now) clause }) }
 {
     read(words, clause + 1)
 }
@@ -62,6 +65,7 @@ pub(crate) fn code_in(words: &[u64], refs: &[u64], vars: u64, clause: u64, at: u
     requires at { at < word words.now clause }
     ensures value { result ≡ word words.now (clause + 4 + at) }
     ensures below { result < 2 * vars }
+    ensures listed { slice_get (lits_of (store vars words.now refs.now) clause) at ≡ Some (lit_of result) }
 {
     read(words, clause + 4 + at)
 }

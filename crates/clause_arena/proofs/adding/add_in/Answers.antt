@@ -11,11 +11,11 @@ use Rattle.clause_arena.proofs.Placing.{grown_word, taken_back}
 use Rattle.clause_arena.proofs.adding.add_in.Goals as goal
 
 -- the words after the addition are as long as they were made
-long : (c : goal.After-push_reserved)
+long : (c : goal.After-push_reserved-2)
     → length c.place_clause.new.words ≡ c.len.result + c.len-2.result % 2 + 4 + length c.args.lits.now
 long c = c.place_clause.auto.words ∙ c.deref_mut.ensures.len ∙ c.in_ok-resize.ensures.len
 
-whole : (c : goal.After-push_reserved)
+whole : (c : goal.After-push_reserved-2)
     → IsAdded c.args.vars c.args.words.now.items c.args.refs.now.items c.place_clause.new.words
     (c.len.result + c.len-2.result % 2) c.args.id (map code_of c.args.lits.now)
 whole c =
@@ -39,7 +39,7 @@ whole c =
     (map code_of c.args.lits.now)) c.deref_mut.ensures.value
     c.place_clause.ensures)
 
-refs_are : (c : goal.After-push_reserved)
+refs_are : (c : goal.After-push_reserved-2)
     → c.push_reserved.new.self.items ≡ c.args.refs.now.items ++ (c.len.result + c.len-2.result % 2) ∷ []
 refs_are c = c.push_reserved.ensures.items
     ∙ ap (λ (xs : List ℕ). xs ++ (c.len.result + c.len-2.result % 2) ∷ []) c.in_ok-reserve.ensures.items

@@ -1,0 +1,33 @@
+use Rattle.std.proofs.Common.{◌≡◌, ◌⊎◌, ℕ, ◌+◌, ◌-◌, ◌++◌, ◌∷◌, [], List, inl, inr, sym, ◌∙◌, subst, arith}
+use Rattle.std.proofs.lemmas.Option.{slice_get_cases}
+use Rattle.resolution_check.specs.declared.log.Lit.{Lit}
+use Rattle.resolution_check.specs.Clauses.{opposite}
+use Rattle.conflict_analysis.specs.Lessons.{marked, IsFollowed, IsBack}
+use Rattle.conflict_analysis.proofs.following.follow_all.Goals as goal
+
+pub loop-at-preserved : goal.loop-at-preserved
+loop-at-preserved c =
+    let a = c.args.arena.now in
+    let ss = c.args.trail.now.lits.items in
+    let levels = c.args.trail.now.levels.items in
+    let old = c.loop-at in
+    let new = c.follow_step.new.clause.items in
+    let at : ℕ = c.loop-at.at - 1 in
+    let up : c.loop-at.at ≡ c.loop-at.at - 1 + 1 = omega (arith, c.loop-at-test.true) in
+    record {
+      followed = λ s. c.follow_step.ensures.followed
+          (subst (λ (k : ℕ). IsFollowed a ss k (marked old.marks) old.clause.items old.chain.items) up
+          (old.invariant.followed s));
+      back = elim (slice_get_cases ss (c.loop-at.at - 1)).1 [
+        | inl x ↦ subst (λ (ls : List Lit). IsBack ss levels ls c.level_back-back.result) c.deref.ensures.value
+            (c.level_back-back.ensures old.clause.items x.0 old.invariant.back
+            (sym (c.len-before.ensures ∙ old.clause.ok.0)) x.2
+            (subst (λ (ls : List Lit). (ls ≡ old.clause.items) ⊎ (ls ≡ old.clause.items ++ opposite x.0 ∷ []))
+            (sym c.deref.ensures.value) (c.follow_step.ensures.kept x.0 x.2)))
+        | inr y ↦ absurd (omega (arith, y.0, c.loop-at-test.true, c.loop-at.auto.at, c.len-at.ensures))
+      ];
+      count = omega (arith, old.invariant.count, c.follow_step.ensures.count, c.loop-at-test.true);
+      named = omega (arith, old.invariant.named, c.follow_step.ensures.chain_grows);
+      clause_room = c.follow_step.ensures.clause_room ∙ old.invariant.clause_room;
+      chain_room = c.follow_step.ensures.chain_room ∙ old.invariant.chain_room;
+    }

@@ -1,0 +1,65 @@
+//! Which literals of a level are kept.
+
+ghost use Rattle.std.specs.Prelude.{◌≡◌, ◌≤◌, ◌<◌, true, Some, length, slice_get, slice_index};
+ghost use Rattle.resolution_check.specs.declared.log.Lit.{Lit};
+ghost use Rattle.conflict_analysis.specs.Steps.{NeverFalls, NoneMarked};
+ghost use Rattle.conflict_analysis.specs.Lessons.{marked};
+ghost use Rattle.resolution_check.specs.Clauses.{is_below};
+
+use crate::trail::{Trail, level_at, literal_at};
+
+/// Whether the variable of the step at this place is marked.
+fn is_marked(marks: &[bool], trail: &Trail, at: usize) -> bool
+    requires at { at < length trail.now.lits.items }
+    requires below { is_below (length marks.now) trail.now.lits.items ≡ true }
+    ensures { (l : Lit) → slice_get trail.now.lits.items at ≡ Some l → marked marks.now l.var ≡ result }
+{
+    marks[literal_at(trail, at).var as usize]
+}
+
+/// Whether no step before this place is marked that has this level or a higher one.
+fn is_last(marks: &[bool], trail: &Trail, at: usize, top: u64) -> bool
+    requires at { at ≤ length trail.now.lits.items }
+    requires levels { length trail.now.levels.items ≡ length trail.now.lits.items }
+    requires below { is_below (length marks.now) trail.now.lits.items ≡ true }
+    requires rising { NeverFalls trail.now.levels.items }
+    ensures { result ≡ true
+        → NoneMarked trail.now.lits.items trail.now.levels.items (marked marks.now) top 0 at }
+{
+    for earlier in (0..at).rev() {
+        if level_at(trail, earlier) < top {
+            return true;
+        }
+        if is_marked(marks, trail, earlier) {
+            return false;
+        }
+    }
+    true
+}
+
+/// Whether the literal of the step at this place is kept where it is marked: it is of a level above 0, and below the
+/// top level or the last one of it that is marked.
+pub(crate) fn stays(marks: &[bool], trail: &Trail, at: usize, top: u64) -> bool
+    requires at { at < length trail.now.lits.items }
+    requires levels { length trail.now.levels.items ≡ length trail.now.lits.items }
+    requires below { is_below (length marks.now) trail.now.lits.items ≡ true }
+    requires rising { NeverFalls trail.now.levels.items }
+    ensures { result ≡ true → top ≤ slice_index trail.now.levels.items at
+        → NoneMarked trail.now.lits.items trail.now.levels.items (marked marks.now) top 0 at }
+{
+    let level = level_at(trail, at);
+    level != 0 && (level < top || is_last(marks, trail, at, top))
+}
+
+/// The level of the last step that is marked, 0 where there is none.
+pub(crate) fn top_level(marks: &[bool], trail: &Trail) -> u64
+    requires levels { length trail.now.levels.items ≡ length trail.now.lits.items }
+    requires below { is_below (length marks.now) trail.now.lits.items ≡ true }
+{
+    for at in (0..trail.lits.len()).rev() {
+        if is_marked(marks, trail, at) {
+            return level_at(trail, at);
+        }
+    }
+    0
+}

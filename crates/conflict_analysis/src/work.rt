@@ -1,0 +1,119 @@
+//! The work space of an analysis, and the analysis.
+
+ghost use Rattle.std.specs.Prelude.{◌≡◌, ℕ, ◌≤◌, ◌<◌, [], true, false, length, IfOk, vec_capacity};
+ghost use Rattle.resolution_check.specs.Clauses.{is_below};
+ghost use Rattle.conflict_analysis.specs.Steps.{IsTrail, IsConflict};
+ghost use Rattle.conflict_analysis.specs.Lessons.{marked, IsReady, IsLesson, IsBack};
+
+use crate::following::follow_all;
+use crate::marks::mark_clause;
+use crate::staying::top_level;
+use crate::trail::Trail;
+use clause_arena::{Arena, ClauseRef};
+use resolution_check::Lit;
+use std::alloc::{AllocError, Global};
+use std::marker::Model;
+
+/// Room for a clause, its chain and a mark for each variable. An analysis takes no more memory.
+#[derive(Debug, Drop)]
+pub struct Work {
+    clause: Vec<Lit>,
+    chain: Vec<u64>,
+    // None is set between two analyses.
+    marks: Vec<bool>,
+}
+
+impl Model for Work {
+    ghost use Rattle.std.specs.Prelude.{length, vec_capacity};
+    ghost use Rattle.conflict_analysis.specs.Lessons.{Lesson, IsReady};
+
+    ghost Value = { Lesson };
+
+    ghost view = { λ w. record { vars = length w.marks.items; lits = w.clause.items; chain = w.chain.items } };
+
+    ghost invariant = { λ w. IsReady w.marks.items (vec_capacity w.clause) (vec_capacity w.chain) };
+}
+
+/// So many marks that are not set.
+fn no_marks(alloc: Global, vars: u64) -> Result<Vec<bool>, AllocError>
+    ensures count { IfOk result (λ marks. length marks.items ≡ vars) }
+    ensures none { IfOk result (λ marks. (v : ℕ) → marked marks.items v ≡ false) }
+{
+    let mut marks = Vec::new(alloc);
+    marks.resize(vars as usize, false)?;
+    Ok(marks)
+}
+
+impl Work {
+    /// Room for the variables below `vars`.
+    pub fn new(alloc: Global, vars: u64) -> Result<Work, AllocError>
+        ensures vars { IfOk result (λ work. work.vars ≡ vars) }
+        ensures lits { IfOk result (λ work. work.lits ≡ []) }
+        ensures chain { IfOk result (λ work. work.chain ≡ []) }
+    {
+        let numbers = vars.checked_add(1).ok_or(AllocError)?;
+        Ok(Work {
+            clause: Vec::with_capacity(alloc, vars as usize)?,
+            chain: Vec::with_capacity(alloc, numbers as usize)?,
+            marks: no_marks(alloc, vars)?,
+        })
+    }
+
+    /// The clause that the last analysis learnt.
+    pub fn clause(&self) -> &[Lit]
+        ensures { result.now ≡ self.now.lits }
+    {
+        &self.clause
+    }
+
+    /// The numbers of its chain.
+    pub fn chain(&self) -> &[u64]
+        ensures { result.now ≡ self.now.chain }
+    {
+        &self.chain
+    }
+}
+
+/// Analyses a conflict in vectors that have room.
+fn analyse_in(
+    clause: &mut Vec<Lit>,
+    chain: &mut Vec<u64>,
+    marks: &mut [bool],
+    arena: &Arena,
+    trail: &Trail,
+    conflict: ClauseRef,
+) -> u64
+    requires ready { IsReady marks.old (vec_capacity clause.old) (vec_capacity chain.old) }
+    requires trail { IsTrail arena.now (length marks.old) trail.now.lits.items trail.now.levels.items trail.now.reasons.items }
+    requires conflict { IsConflict arena.now trail.now.lits.items conflict }
+    ensures ready { IsReady marks.new (vec_capacity clause.new) (vec_capacity chain.new) }
+    ensures lesson { IsLesson arena.now trail.now.lits.items clause.new.items chain.new.items }
+    ensures back { IsBack trail.now.lits.items trail.now.levels.items clause.new.items result }
+{
+    clause.clear();
+    chain.clear();
+    chain.push_reserved(arena.id(conflict));
+    mark_clause(marks, arena, conflict);
+    let top = top_level(marks, trail);
+    follow_all(marks, clause, chain, arena, trail, top)
+}
+
+/// Learns from a clause all of whose literals are false on the trail. Leaves in `work` the learnt clause, its literals
+/// from the last step to the first, and the numbers of the clauses that give it when they are resolved from the front.
+/// Answers the level of the clause's second literal, 0 where there is none.
+pub fn analyse(work: &mut Work, arena: &Arena, trail: &Trail, conflict: ClauseRef) -> u64
+    requires trail { IsTrail arena.now work.old.vars trail.now.lits.items trail.now.levels.items trail.now.reasons.items }
+    requires conflict { IsConflict arena.now trail.now.lits.items conflict }
+    ensures vars { work.new.vars ≡ work.old.vars }
+    ensures lesson { IsLesson arena.now trail.now.lits.items work.new.lits work.new.chain }
+    ensures back { IsBack trail.now.lits.items trail.now.levels.items work.new.lits result }
+{
+    analyse_in(
+        &mut work.clause,
+        &mut work.chain,
+        &mut work.marks,
+        arena,
+        trail,
+        conflict,
+    )
+}
