@@ -214,9 +214,9 @@ small_inputs vars cs few below =
     weaker (λ (k : Clause). is_below vars k.lits) (λ (k : Clause). is_below _ k.lits) cs
     (λ k. below_larger vars _ k.lits few) below
 
-may_be_inputs : (vars budget : ℕ) (cs : List Clause) → vars ≤ 2 ^ 63 → length cs + budget ≤ 2 ^ 63
+may_be_inputs : (vars : ℕ) (cs : List Clause) → vars ≤ 2 ^ 63 → length cs ≤ 2 ^ 63
     → list_all (λ c. is_below vars c.lits) cs ≡ true → MayBeInputs 0 cs
-may_be_inputs vars budget cs few numbers below = record { small = small_inputs vars cs few below; few = omega arith }
+may_be_inputs vars cs few numbers below = record { small = small_inputs vars cs few below; few = omega arith }
 
 held_inputs : (before cs : List Clause) (es : List Entry) → MayBeInputs (length before) cs → IsHeld es before
     → IsHeld (es ++ input_entries (length before + 1) cs) (before ++ cs)
@@ -302,24 +302,24 @@ going_first before now cs may takes =
     }
 
 -- the clauses of a formula are written as inputs, and held
-pub going_start : (before now : Option (List ℕ)) (vars budget : ℕ) (cs written clauses : List Clause)
-    → vars ≤ 2 ^ 63 → length cs + budget ≤ 2 ^ 63 → list_all (λ c. is_below vars c.lits) cs ≡ true
+pub going_start : (before now : Option (List ℕ)) (vars : ℕ) (cs written clauses : List Clause)
+    → vars ≤ 2 ^ 63 → length cs ≤ 2 ^ 63 → list_all (λ c. is_below vars c.lits) cs ≡ true
     → written ≡ cs → clauses ≡ cs → Takes before now (log_text (input_entries 1 written))
     → IsGoing before now cs clauses 0
-going_start before now vars budget cs written clauses few numbers below same held takes =
+going_start before now vars cs written clauses few numbers below same held takes =
     let P : List Clause → Type 0 = λ ds. Takes before now (log_text (input_entries 1 ds)) in
-    let may = may_be_inputs vars budget cs few numbers below in
+    let may = may_be_inputs vars cs few numbers below in
     subst (λ ds. IsGoing before now cs ds 0) (sym held) (going_first before now cs may (subst P same takes))
 
 -- a front of the inputs is written
 pub cut_first : (before now : Option (List ℕ)) (vars budget : ℕ) (cs written : List Clause)
-    → vars ≤ 2 ^ 63 → length cs + budget ≤ 2 ^ 63 → list_all (λ c. is_below vars c.lits) cs ≡ true
+    → vars ≤ 2 ^ 63 → length cs ≤ 2 ^ 63 → list_all (λ c. is_below vars c.lits) cs ≡ true
     → written ≡ cs → TakesPart before now (log_text (input_entries 1 written)) → IsCut before now cs budget
 cut_first before now vars budget cs written few numbers below same part =
     let P : List Clause → Type 0 = λ ds. TakesPart before now (log_text (input_entries 1 ds)) in
     record {
       entries = input_entries 1 cs;
-      log = inputs_log cs (may_be_inputs vars budget cs few numbers below);
+      log = inputs_log cs (may_be_inputs vars cs few numbers below);
       within = omega (arith, inputs_count 1 cs);
       text = subst P same part;
     }

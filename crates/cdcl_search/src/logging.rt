@@ -70,13 +70,14 @@ pub(crate) fn write_inputs<L: Sink>(
     clauses: &[Clause],
 ) -> Result<(), SolveFault>
     requires small { list_all (λ c. is_below (2 ^ 63) c.lits) clauses.now ≡ true }
-    requires few { length clauses.now ≤ 2 ^ 63 }
+    ensures few { length clauses.now ≤ 2 ^ 63 }
     ensures takes { OnOk result (Takes (L.taken log.old) (L.taken log.new) (log_text (input_entries 1 clauses.now))) }
     ensures part { TakesPart (L.taken log.old) (L.taken log.new) (log_text (input_entries 1 clauses.now)) }
     ensures fault { OnLogFault result (Rose (L.faults log.old) (L.faults log.new)) }
     ensures stays { UnlessLogFault result (L.faults log.new ≡ L.faults log.old) }
     ensures later { L.faults log.old ≤ L.faults log.new }
 {
+    let _count = clauses.len();
     for (at, clause) in clauses.iter().enumerate() {
         write_input(alloc, log, at as u64 + 1, clause)?;
     }

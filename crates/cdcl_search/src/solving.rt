@@ -60,7 +60,6 @@ fn take_lesson<L: Sink>(
 ) -> Result<bool, SolveFault>
     requires vars { book.old.vars ≡ trail.old.vars }
     requires small { book.old.vars ≤ 2 ^ 63 }
-    requires room { length book.old.clauses < 2 ^ 63 }
     requires finds { Finds book.old }
     requires filled { are_filled book.old.clauses ≡ true }
     requires follows { Follows book.old.clauses trail.old.steps }
@@ -96,7 +95,6 @@ fn search<L: Sink>(
 ) -> Result<Outcome, SolveFault>
     requires vars { book.old.vars ≡ trail.old.vars }
     requires small { book.old.vars ≤ 2 ^ 63 }
-    requires room { length book.old.clauses + budget ≤ 2 ^ 63 }
     requires finds { Finds book.old }
     requires filled { are_filled book.old.clauses ≡ true }
     requires follows { Follows book.old.clauses trail.old.steps }
@@ -142,7 +140,6 @@ pub fn solve<L: Sink>(
     requires proper { IsProper cnf.now }
     requires vars { cnf.now.vars ≤ 2 ^ 63 }
     requires budget { 1 ≤ budget }
-    requires numbers { length cnf.now.clauses + budget ≤ 2 ^ 63 }
 
     ensures unsat { IfOk result (λ outcome. OnUnsat outcome (IsUnsatisfiable cnf.now.clauses)) }
     ensures sat { IfOk result (λ outcome. OnSat outcome (λ values. satisfies (truth values) cnf.now.clauses ≡ true)) }

@@ -87,11 +87,11 @@ fn first_question_that_cannot_be_answered_is_refused(rt: HostRuntime) -> Result<
     let one =
         "q1 reach from N1 to router N2 packets icmp 10.0.0.1/32 any 10.2.0.1/32 any failures 0\n!\n";
     let cases = [
-        "q2 reach from N1 to router N2 packets ip any any 10.2.0.1/32 any failures 0\n",
-        "q2 reach from N1 to router N2 packets udp 10.0.0.1/32 53 10.2.0.1/32 0-53 failures 0\n",
-        "q2 reach from N1 to router N2 packets icmp 10.0.0.1/32 1-2 10.2.0.1/32 any failures 0\n",
-        "q2 reach from N1 to router N2 packets icmp 10.0.0.1/32 any any any failures 0\n",
-        "q2 reach from N1 to router N2 packets icmp 10.0.0.1/32 any 10.2.0.1/32 any failures 8\n",
+        "q2 waypoint from N1 to router N2 via N1 packets ip any any 10.2.0.1/32 any failures 0\n",
+        "q2 reach from N1 in GigabitEthernet0/0 to router N2 packets udp any any any any failures 0\n",
+        "q2 reach from N1 to subnet 10.2.0.1/32 packets icmp any any any any failures 0\n",
+        "q2 within 3 from N1 packets icmp 10.0.0.1/32 any any any failures 0\n",
+        "q2 nostable packets icmp 10.0.0.1/32 any 10.2.0.1/32 any failures 8\n",
     ];
     for second in cases {
         let mut text = List::new(rt.alloc());

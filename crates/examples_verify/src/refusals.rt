@@ -90,7 +90,7 @@ fn first_block_that_cannot_be_answered_is_refused(rt: HostRuntime) -> Result<(),
             "refused n1.cfg:3 7 Undefined\n",
         ),
         (
-            "hostname N1\naccess-list 5 permit any\ninterface Vlan1\n ip access-group 5 out\nrouter ospf 1\n",
+            "hostname N1\naccess-list 5 permit any\ninterface Vlan1\n ip access-group 5 out\nrouter bgp 65000\n",
             "refused n1.cfg:5 3 NotBuilt\n",
         ),
         // A line that does not read comes first, wherever it stands.
@@ -177,10 +177,10 @@ fn words_that_are_no_command_print_the_usage(rt: HostRuntime) -> Result<(), Fail
 fn questions_that_cannot_be_answered_yet_are_refused(rt: HostRuntime) -> Result<(), Fail> {
     let cases = [
         "\nq1 isolate from N1 to router N2 packets icmp 10.0.0.1/32 any 10.2.0.1/32 any failures 0\n",
-        "!\nq1 reach from N1 to router N2 packets ip 10.0.0.1/32 any 10.2.0.1/32 any failures 0\n",
-        "!\nq1 reach from N1 to router N2 packets tcp 10.0.0.1/32 any 10.2.0.1/32 80 failures 0\n",
-        "!\nq1 reach from N1 to router N2 packets icmp 10.0.0.0/24 any 10.2.0.1/32 any failures 0\n",
-        "!\nq1 reach from N1 to router N2 packets icmp 10.0.0.1/32 any 10.2.0.1/32 any failures 1\n",
+        "!\nq1 isolate from N1 to router N2 packets ip 10.0.0.1/32 any 10.2.0.1/32 any failures 0\n",
+        "!\nq1 reach from N1 in GigabitEthernet0/0 to router N2 packets tcp 10.0.0.1/32 any 10.2.0.1/32 80 failures 0\n",
+        "!\nq1 reach from N1 to subnet 10.2.0.1/32 packets icmp 10.0.0.0/24 any 10.2.0.1/32 any failures 0\n",
+        "!\nq1 noloop from N1 packets icmp 10.0.0.1/32 any 10.2.0.1/32 any failures 1\n",
     ];
     for questions in cases {
         let files = [

@@ -1,7 +1,7 @@
-//! The program: it hands the words, the files of the machine and the standard output to `run`.
+//! The program: it hands the words, the files of the machine, the standard output and the log to `run`.
 #![tactic(auto)]
 
-use mw_outside::{DirFiles, NoSink, OutSink};
+use mw_outside::{DirFiles, FileSink, NoSink, OutSink, Sink};
 use mw_verify::{Status, number_of, run};
 use std::alloc::Global;
 use std::process::ExitCode;
@@ -18,16 +18,32 @@ fn words_of(rt: &(impl Env + AllocGlobal)) -> Result<Vec<String>, Status> {
     }
 }
 
+fn run_with<L: Sink>(rt: HostRuntime, words: &[String], log: &mut L) -> Status {
+    run(
+        rt.alloc(),
+        words,
+        &mut DirFiles::new(rt),
+        &mut OutSink::new(rt.stdout()),
+        log,
+    )
+}
+
+// Where the first two words are `--log NAME` the log is that file, which is created.
+fn run_words(rt: HostRuntime, words: &[String]) -> Status {
+    if words.len() < 2 || words[0].as_str() != "--log" {
+        return run_with(rt, words, &mut NoSink::new());
+    }
+    let (_, others) = words.split_at(2);
+    match FileSink::new(&rt, words[1].as_str()) {
+        Ok(mut log) => run_with(rt, others, &mut log),
+        Err(_) => Status::WriteFault,
+    }
+}
+
 fn main(rt: HostRuntime) -> ExitCode {
     let status = match words_of(&rt) {
         Err(status) => status,
-        Ok(words) => run(
-            rt.alloc(),
-            words.as_slice(),
-            &mut DirFiles::new(rt),
-            &mut OutSink::new(rt.stdout()),
-            &mut NoSink::new(),
-        ),
+        Ok(words) => run_words(rt, words.as_slice()),
     };
     ExitCode::from(number_of(status))
 }

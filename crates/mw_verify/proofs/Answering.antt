@@ -1,44 +1,26 @@
 -- Answers one after another.
 use Rattle.std.proofs.Common.{◌≡◌, ℕ, zero, suc, ◌+◌, ◌<◌, ◌≤◌, Bool, true, false, ◌||◌, List, [], ◌∷◌, ◌++◌, length}
-use Rattle.std.proofs.Common.{take, get_or, Option, Some, None, refl, ap, sym, subst, arith, ◌∙◌, append_assoc}
-use Rattle.std.proofs.lemmas.Bool.{or_from, or_parts}
+use Rattle.std.proofs.Common.{take, get_or, Option, Some, None, refl, ap, sym, subst, arith, ◌∙◌, append_assoc, inl}
+use Rattle.std.proofs.Common.{inr}
 use Rattle.std.specs.List.{list_any}
 use Rattle.std.proofs.lemmas.List.{append-nil}
-use Rattle.mw_outside.specs.Taken.{Takes, TakesPart, takes_more, part_more, part_of_all}
+use Rattle.std.proofs.lemmas.Option.{slice_get_read}
+use Rattle.mw_outside.specs.Taken.{Takes, TakesPart, takes_more, part_more, part_of_all, part_of_none}
 use Rattle.ios_ast.specs.declared.file.File.{File}
 use Rattle.question_lang.specs.declared.question.Question.{Question}
 use Rattle.mw_verify.specs.declared.answer.Verdict.{Verdict}
 use Rattle.mw_verify.specs.declared.status.Status.{Status}
-use Rattle.mw_verify.specs.declared.status.Status.TheVariants.{Good, Bad}
-use Rattle.mw_verify.specs.Due.{answering}
-use Rattle.mw_verify.specs.Loading.{IsLine, IsWhole}
-use Rattle.mw_verify.specs.Running.{PrintsPart}
-use Rattle.mw_verify.specs.Verdicts.{Answer, AreRight, IsRight, MayGoUnlogged, answers_text, is_broken}
-use Rattle.mw_verify.specs.Verdicts.{is_broken_verdict, is_unknown, is_unknown_verdict, sections_text, status_of}
-use Rattle.mw_verify.specs.Verdicts.{verdict_text}
+use Rattle.mw_verify.specs.declared.status.Status.TheVariants.{Good, Bad, Unknown, Usage, Refused, ReadFault}
+use Rattle.mw_verify.specs.declared.status.Status.TheVariants.{WriteFault, Memory}
+use Rattle.mw_verify.specs.Due.{Outcome, answering}
+use Rattle.mw_verify.specs.Answering.{IsCutShort, IsLogged, IsPut, answer_of, status_by}
+use Rattle.mw_verify.specs.Loading.{AnswersSo}
+use Rattle.mw_verify.specs.Running.{AreAnswered, AreBegun}
+use Rattle.mw_verify.specs.Verdicts.{Answer, AreRight, IsAnswer, answers_text, is_broken, is_broken_verdict}
+use Rattle.mw_verify.specs.Verdicts.{is_unknown, is_unknown_verdict, section_text, sections_text, verdict_text}
 use Rattle.mw_text.proofs.Reading.{take-read}
 
--- an answer without a section
-abbrev pub unlogged : Verdict → Answer
-unlogged verdict = record { verdict = verdict; section = None }
-
--- right answers to the first questions, and what is known of them: the lines, whether one is broken, that none is
--- unknown and none is logged
-pub record StandFor (files : List File) (all : List Question) (budget number : ℕ) (questions : List Question)
-    (answers : List Answer)
-    (broken : Bool) (text : List ℕ) : Type 0 where
-  pub right : AreRight files budget number questions answers
-  pub broken_so : broken ≡ list_any is_broken answers
-  pub none_unknown : list_any is_unknown answers ≡ false
-  pub lines : text ≡ answers_text files all questions answers
-  pub none_logged : sections_text questions answers ≡ []
-
-stand_none : (files : List File) (all : List Question) (budget number : ℕ)
-    → StandFor files all budget number [] [] false []
-stand_none files all budget number =
-    record { right = tt; broken_so = refl; none_unknown = refl; lines = refl; none_logged = refl }
-
-or-assoc : (a b c : Bool) → ((a || b) || c) ≡ (a || (b || c))
+or-assoc : (a b c : Bool) → (a || (b || c)) ≡ ((a || b) || c)
 or-assoc true b c = refl
 or-assoc false b c = refl
 
@@ -46,165 +28,206 @@ or-false : (b : Bool) → b ≡ (b || false)
 or-false true = refl
 or-false false = refl
 
--- one question
-one_stands : (files : List File) (all : List Question) (budget number n : ℕ) (question : Question) (verdict : Verdict) →
-    n ≡ number → IsRight files n question verdict → MayGoUnlogged verdict → is_unknown_verdict verdict ≡ false →
-    StandFor files all budget number (question ∷ []) (unlogged verdict ∷ []) (is_broken_verdict verdict)
-    (verdict_text files all question verdict)
-one_stands files all budget number n question verdict place right may known =
-    let R : ℕ → Type 0 = λ k. IsRight files k question verdict in record {
-      right = ((subst R place right, may), tt);
-      broken_so = or-false (is_broken_verdict verdict);
-      none_unknown = or_from (is_unknown_verdict verdict) false known refl;
-      lines = sym (append-nil (verdict_text files all question verdict));
-      none_logged = refl;
-    }
+-- a test of one answer more
+any_more : (test : Answer → Bool) (answers : List Answer) (answer : Answer) →
+    (list_any test answers || test answer) ≡ list_any test (answers ++ answer ∷ [])
+any_more test [] answer = or-false (test answer)
+any_more test (x ∷ xs) answer =
+    sym (or-assoc (test x) (list_any test xs) (test answer)) ∙ ap (λ b. test x || b) (any_more test xs answer)
 
--- an answer more
-stand-more : (files : List File) (all : List Question) (budget number : ℕ) (xs : List Question)
-    (answers : List Answer) (broken : Bool)
-    (text : List ℕ) (n : ℕ) (question : Question) (verdict : Verdict) →
-    StandFor files all budget number xs answers broken text → n ≡ number + length xs →
-    IsRight files n question verdict → MayGoUnlogged verdict → is_unknown_verdict verdict ≡ false →
-    StandFor files all budget number (xs ++ question ∷ []) (answers ++ unlogged verdict ∷ []) (broken
-    || is_broken_verdict verdict)
-    (text ++ verdict_text files all question verdict)
-stand-more files all budget number [] [] broken text n question verdict so_far place right may known =
-    let one = one_stands files all budget number n question verdict (omega (arith, place)) right may known in
-    let B : Bool → Type 0 =
-    λ b. StandFor files all budget number (question ∷ []) (unlogged verdict ∷ []) (b || is_broken_verdict verdict)
-    (text ++ verdict_text files all question verdict) in
-    let T : List ℕ → Type 0 =
-    λ t. StandFor files all budget number (question ∷ []) (unlogged verdict ∷ []) (is_broken_verdict verdict)
-    (t ++ verdict_text files all question verdict) in
-    subst B (sym so_far.broken_so) (subst T (sym so_far.lines) one)
-stand-more files all budget number [] (answer ∷ others) broken text n question verdict so_far place right may known =
-    absurd so_far.right
-stand-more files all budget number (x ∷ xs) [] broken text n question verdict so_far place right may known =
-    absurd so_far.right
-stand-more files all budget number (x ∷ xs) (answer
-    ∷ others) broken text n question verdict so_far place right may known =
-    let rest_broken : Bool = list_any is_broken others in
-    let rest_text : List ℕ = answers_text files all xs others in
-    let rest : StandFor files all budget (number + 1) xs others rest_broken rest_text = record {
-      right = so_far.right.1;
-      broken_so = refl;
-      none_unknown = (or_parts (is_unknown answer) (list_any is_unknown others) so_far.none_unknown).1;
-      lines = refl;
-      none_logged = empty_back _ _ so_far.none_logged;
-    } in
-    let deeper = stand-more files all budget (number + 1) xs others rest_broken rest_text n question verdict rest
-    (omega (arith, place)) right may known in
-    record {
-      right = (so_far.right.0, deeper.right);
-      broken_so = ap (λ b. b || is_broken_verdict verdict) so_far.broken_so
-          ∙ or-assoc (is_broken answer) rest_broken (is_broken_verdict verdict)
-          ∙ ap (λ b. is_broken answer || b) deeper.broken_so;
-      none_unknown = or_from (is_unknown answer) _
-          (or_parts (is_unknown answer) (list_any is_unknown others) so_far.none_unknown).0 deeper.none_unknown;
-      lines = ap (λ t. t ++ verdict_text files all question verdict) so_far.lines
-          ∙ append_assoc (verdict_text files all x answer.verdict) rest_text (verdict_text files all question verdict)
-          ∙ ap (λ t. verdict_text files all x answer.verdict ++ t) deeper.lines;
-      none_logged = ap (λ t. t ++ sections_text (xs ++ question ∷ []) (others ++ unlogged verdict ∷ []))
-          (empty_front _ _ so_far.none_logged)
-          ∙ deeper.none_logged;
-    }
-  where
-    empty_front : (xs ys : List ℕ) → xs ++ ys ≡ [] → xs ≡ []
-    empty_front [] ys none = refl
-    empty_front (z ∷ zs) ys none = cc
+-- one answer more is right
+right_more : (files : List File) (budget number n : ℕ) (questions : List Question) (answers : List Answer)
+    (question : Question) (answer : Answer) → AreRight files budget number questions answers →
+    n ≡ number + length questions → IsAnswer files budget n question answer →
+    AreRight files budget number (questions ++ question ∷ []) (answers ++ answer ∷ [])
+right_more files budget number n [] [] question answer right place one =
+    let P : ℕ → Type 0 = λ k. IsAnswer files budget k question answer in
+    let here : n ≡ number = omega (arith, place) in (subst P here one, tt)
+right_more files budget number n [] (b ∷ bs) question answer right place one = absurd right
+right_more files budget number n (x ∷ xs) [] question answer right place one = absurd right
+right_more files budget number n (x ∷ xs) (b ∷ bs) question answer right place one =
+    (right.0, right_more files budget (number + 1) n xs bs question answer right.1 (omega (arith, place)) one)
 
-    empty_back : (xs ys : List ℕ) → xs ++ ys ≡ [] → ys ≡ []
-    empty_back [] ys none = none
-    empty_back (z ∷ zs) ys none = cc
+-- the lines of one answer more
+lines_more : (files : List File) (all : List Question) (budget number : ℕ) (questions : List Question)
+    (answers : List Answer) (question : Question) (answer : Answer) → AreRight files budget number questions answers →
+    answers_text files all questions answers ++ verdict_text files all question answer.verdict
+    ≡ answers_text files all (questions ++ question ∷ []) (answers ++ answer ∷ [])
+lines_more files all budget number [] [] question answer right =
+    sym (append-nil (verdict_text files all question answer.verdict))
+lines_more files all budget number [] (b ∷ bs) question answer right = absurd right
+lines_more files all budget number (x ∷ xs) [] question answer right = absurd right
+lines_more files all budget number (x ∷ xs) (b ∷ bs) question answer right =
+    append_assoc (verdict_text files all x b.verdict) (answers_text files all xs bs)
+    (verdict_text files all question answer.verdict)
+    ∙ ap (λ t. verdict_text files all x b.verdict ++ t)
+    (lines_more files all budget (number + 1) xs bs question answer right.1)
 
--- the answers so far, and what has been taken of them
-abbrev pub PutSoFar : List File → List Question → ℕ → ℕ → Bool → Option (List ℕ) → Option (List ℕ) → Type 0
-PutSoFar files questions budget count broken before now =
-    (answers : List Answer) × (text : List ℕ)
-    × StandFor files questions budget 0 (take count questions) answers broken text × Takes before now text
+-- the section of one answer more
+sections_more : (files : List File) (budget number : ℕ) (questions : List Question) (answers : List Answer)
+    (question : Question) (answer : Answer) → AreRight files budget number questions answers →
+    sections_text questions answers ++ section_text question answer.section
+    ≡ sections_text (questions ++ question ∷ []) (answers ++ answer ∷ [])
+sections_more files budget number [] [] question answer right = sym (append-nil (section_text question answer.section))
+sections_more files budget number [] (b ∷ bs) question answer right = absurd right
+sections_more files budget number (x ∷ xs) [] question answer right = absurd right
+sections_more files budget number (x ∷ xs) (b ∷ bs) question answer right =
+    append_assoc (section_text x b.section) (sections_text xs bs) (section_text question answer.section)
+    ∙ ap (λ t. section_text x b.section ++ t)
+    (sections_more files budget (number + 1) xs bs question answer right.1)
+
+-- right answers to some questions stand, and which kinds of verdict are among them
+pub record PutOf (files : List File) (all : List Question) (budget : ℕ) (questions : List Question)
+    (broken unknown : Bool) (before now logged_before logged_now : Option (List ℕ)) : Type 0 where
+  pub answers : List Answer
+  pub right : AreRight files budget 0 questions answers
+  pub broken_so : broken ≡ list_any is_broken answers
+  pub unknown_so : unknown ≡ list_any is_unknown answers
+  pub text : Takes before now (answers_text files all questions answers)
+  pub logged : Takes logged_before logged_now (sections_text questions answers)
 
 -- nothing is taken
 pub takes_none : (taken : Option (List ℕ)) → Takes taken taken []
 takes_none None = tt
 takes_none (Some bytes) = ap Some (sym (append-nil bytes))
 
-pub put-none : (files : List File) (questions : List Question) (budget : ℕ) (taken : Option (List ℕ)) →
-    PutSoFar files questions budget 0 false taken taken
-put-none files [] budget taken = ([], [], stand_none files [] budget 0, takes_none taken)
-put-none files (x ∷ xs) budget taken = ([], [], stand_none files (x ∷ xs) budget 0, takes_none taken)
+pub put-none : (files : List File) (questions : List Question) (budget : ℕ) (taken logged : Option (List ℕ)) →
+    PutOf files questions budget (take 0 questions) false false taken taken logged logged
+put-none files questions budget taken logged = by_questions questions where
+  by_questions : (qs : List Question) →
+      PutOf files questions budget (take 0 qs) false false taken taken logged logged
+  by_questions [] = record {
+    answers = [];
+    right = tt;
+    broken_so = refl;
+    unknown_so = refl;
+    text = takes_none taken;
+    logged = takes_none logged;
+  }
+  by_questions (q ∷ qs) = record {
+    answers = [];
+    right = tt;
+    broken_so = refl;
+    unknown_so = refl;
+    text = takes_none taken;
+    logged = takes_none logged;
+  }
 
-length-taken : (questions : List Question) (i : ℕ) → i ≤ length questions → i ≡ 0 + length (take i questions)
+-- one answer more stands
+put_next : (files : List File) (all : List Question) (budget n : ℕ) (questions : List Question) (question : Question)
+    (verdict : Verdict) (broken unknown : Bool) (before middle now logged_before logged_middle logged_now : Option
+    (List ℕ)) →
+    PutOf files all budget questions broken unknown before middle logged_before logged_middle → n ≡ length questions →
+    IsPut files all budget n question verdict middle now logged_middle logged_now →
+    PutOf files all budget (questions ++ question ∷ []) (broken || is_broken_verdict verdict)
+    (unknown || is_unknown_verdict verdict) before now logged_before logged_now
+put_next files all budget n questions question verdict broken unknown before middle now logged_before logged_middle
+    logged_now so_far place ((section, is_right, logs), prints) =
+    let answer = answer_of verdict section in
+    let T : List ℕ → Type 0 = λ t. Takes before now t in
+    let L : List ℕ → Type 0 = λ t. Takes logged_before logged_now t in
+    record {
+      answers = so_far.answers ++ answer ∷ [];
+      right = right_more files budget 0 n questions so_far.answers question answer so_far.right (omega (arith, place))
+          is_right;
+      broken_so = ap (λ b. b || is_broken_verdict verdict) so_far.broken_so
+          ∙ any_more is_broken so_far.answers answer;
+      unknown_so = ap (λ b. b || is_unknown_verdict verdict) so_far.unknown_so
+          ∙ any_more is_unknown so_far.answers answer;
+      text = subst T (lines_more files all budget 0 questions so_far.answers question answer so_far.right)
+          (takes_more before middle now _ _ so_far.text prints);
+      logged = subst L (sections_more files budget 0 questions so_far.answers question answer so_far.right)
+          (takes_more logged_before logged_middle logged_now _ _ so_far.logged logs);
+    }
+
+length-taken : (questions : List Question) (i : ℕ) → i ≤ length questions → i ≡ length (take i questions)
 length-taken [] zero small = refl
 length-taken [] (suc i) small = absurd (omega arith)
 length-taken (x ∷ xs) zero small = refl
 length-taken (x ∷ xs) (suc i) small = let rest = length-taken xs i (omega arith) in omega (arith, rest)
 
--- one answer more stands
-stand_next : (files : List File) (questions : List Question) (budget i : ℕ) (q : Question) (answers : List Answer)
-    (broken : Bool)
-    (text : List ℕ) (verdict : Verdict) → StandFor files questions budget 0 (take i questions) answers broken text
-    → i < length questions →
-    q ≡ get_or questions i q → IsRight files i q verdict → MayGoUnlogged verdict → is_unknown_verdict verdict ≡ false →
-    StandFor files questions budget 0 (take (i + 1) questions) (answers ++ unlogged verdict ∷ []) (broken
-    || is_broken_verdict verdict)
-    (text ++ verdict_text files questions q verdict)
-stand_next files questions budget i q answers broken text verdict so_far within is right may known =
-    let P : List Question → Type 0 = λ qs. StandFor files questions budget 0 qs (answers ++ unlogged verdict ∷ [])
-    (broken || is_broken_verdict verdict) (text ++ verdict_text files questions q verdict) in
-    subst P (sym (take-read questions i q within is))
-    (stand-more files questions budget 0 (take i questions) answers broken text i q verdict so_far
-    (length-taken questions i (omega (arith, within))) right may known)
+pub put-more : (files : List File) (questions : List Question) (budget i : ℕ) (question : Question) (verdict : Verdict)
+    (broken unknown more_broken more_unknown : Bool)
+    (before middle now logged_before logged_middle logged_now : Option (List ℕ)) →
+    PutOf files questions budget (take i questions) broken unknown before middle logged_before logged_middle →
+    i < length questions → question ≡ get_or questions i question →
+    IsPut files questions budget i question verdict middle now logged_middle logged_now →
+    more_broken ≡ (broken || is_broken_verdict verdict) → more_unknown ≡ (unknown || is_unknown_verdict verdict) →
+    PutOf files questions budget (take (i + 1) questions) more_broken more_unknown before now logged_before logged_now
+put-more files questions budget i question verdict broken unknown more_broken more_unknown before middle now
+    logged_before logged_middle logged_now so_far within is put is_broken_now is_unknown_now =
+    let P : List Question → Type 0 = λ qs. PutOf files questions budget qs (broken || is_broken_verdict verdict)
+    (unknown || is_unknown_verdict verdict) before now logged_before logged_now in
+    let B : Bool → Type 0 = λ b. PutOf files questions budget (take (i + 1) questions) b
+    (unknown || is_unknown_verdict verdict) before now logged_before logged_now in
+    let U : Bool → Type 0 = λ u. PutOf files questions budget (take (i + 1) questions) more_broken u before now
+    logged_before logged_now in
+    let next : P (take (i + 1) questions) = subst P (sym (take-read questions i question within is))
+    (put_next files questions budget i (take i questions) question verdict broken unknown before middle now
+    logged_before logged_middle logged_now so_far (length-taken questions i (omega (arith, within))) put) in
+    subst U (sym is_unknown_now) (subst B (sym is_broken_now) next)
 
--- one answer was put more
-pub put-more : (files : List File) (questions : List Question) (budget i : ℕ) (q : Question) (broken more : Bool)
-    (line : List ℕ)
-    (before middle now : Option (List ℕ)) → PutSoFar files questions budget i broken before middle
-    → i < length questions →
-    q ≡ get_or questions i q → IsLine files questions i q more line → Takes middle now line →
-    PutSoFar files questions budget (i + 1) (broken || more) before now
-put-more files questions budget i q broken more line before middle now (answers, text, so_far, taken) within is
-    (verdict, right, may, is_more, known, is_line) takes =
-    let L : List ℕ → Type 0 = λ l. Takes middle now l in
-    let B : Bool → Type 0 =
-    λ b. StandFor files questions budget 0 (take (i + 1) questions) (answers ++ unlogged verdict ∷ [])
-    (broken || b) (text ++ verdict_text files questions q verdict) in (
-      answers ++ unlogged verdict ∷ [],
-      text ++ verdict_text files questions q verdict,
-      subst B (sym is_more)
-          (stand_next files questions budget i q answers broken text verdict so_far within is right may known),
-      takes_more before middle now text (verdict_text files questions q verdict) taken (subst L is_line takes),
-    )
+-- a verdict that came, of which nothing is printed
+pub cut_unprinted : (files : List File) (questions : List Question) (budget number : ℕ) (question : Question)
+    (verdict : Verdict) (taken logged_before logged_now : Option (List ℕ)) →
+    IsLogged files budget number question verdict logged_before logged_now →
+    IsCutShort files questions budget number question taken taken logged_before logged_now
+cut_unprinted files questions budget number question verdict taken logged_before logged_now logged =
+    inr (verdict, logged, part_of_none taken (verdict_text files questions question verdict))
 
--- an answer was cut
-pub put-cut : (files : List File) (questions : List Question) (budget i : ℕ) (q : Question) (broken more : Bool)
-    (line : List ℕ)
-    (before middle now : Option (List ℕ)) → PutSoFar files questions budget i broken before middle
-    → i < length questions →
-    q ≡ get_or questions i q → IsLine files questions i q more line → TakesPart middle now line →
-    PrintsPart (answering files questions budget) before now
-put-cut files questions budget i q broken more line before middle now (answers, text, so_far, taken) within is
-    (verdict, right, may, is_more, known, is_line) part =
-    let L : List ℕ → Type 0 = λ l. TakesPart middle now l in
-    let next = stand_next files questions budget i q answers broken text verdict so_far within is right may known in (
-      text ++ verdict_text files questions q verdict,
-      (i + 1, answers ++ unlogged verdict ∷ [], next.right, next.lines),
-      part_more before middle now text (verdict_text files questions q verdict) taken (subst L is_line part),
-    )
-
--- no more answers came
-pub put-stop : (files : List File) (questions : List Question) (budget i : ℕ) (broken : Bool)
-    (before now : Option (List ℕ)) →
-    PutSoFar files questions budget i broken before now → PrintsPart (answering files questions budget) before now
-put-stop files questions budget i broken before now (answers, text, so_far, taken) =
-    (text, (i, answers, so_far.right, so_far.lines), part_of_all before now text taken)
-
-status_good : (answers : List Answer) → list_any is_broken answers ≡ false → list_any is_unknown answers ≡ false
-    → Good ≡ status_of answers
-status_good answers none_broken none_unknown = rw (none_broken, none_unknown) refl
-
-status_bad : (answers : List Answer) → list_any is_broken answers ≡ true → Bad ≡ status_of answers
-status_bad answers broken = rw broken refl
+-- an answer was cut short
+pub put-cut : (files : List File) (questions : List Question) (budget i : ℕ) (question : Question) (broken unknown :
+    Bool)
+    (before middle now logged_before logged_middle logged_now : Option (List ℕ)) →
+    PutOf files questions budget (take i questions) broken unknown before middle logged_before logged_middle →
+    i < length questions → question ≡ get_or questions i question →
+    IsCutShort files questions budget i question middle now logged_middle logged_now →
+    AreBegun files questions budget before now logged_before logged_now
+put-cut files questions budget i question broken unknown before middle now logged_before logged_middle logged_now so_far
+    within is (inl (same, (text, begun, part))) =
+    let N : Option (List ℕ) → Type 0 =
+    λ o. TakesPart before o (answers_text files questions (take i questions) so_far.answers) in record {
+      count = i;
+      answers = so_far.answers;
+      right = so_far.right;
+      text = subst N (sym same) (part_of_all before middle _ so_far.text);
+      middle = logged_middle;
+      logged = so_far.logged;
+      next = text;
+      begun = inr (
+        question,
+        slice_get_read questions (length questions) i question refl within is,
+        begun,
+      );
+      part = part;
+    }
+put-cut files questions budget i question broken unknown before middle now logged_before logged_middle logged_now so_far
+    within is (inr (verdict, (section, is_right, logs), part)) =
+    let answer = answer_of verdict section in
+    let answers = so_far.answers ++ answer ∷ [] in
+    let first = take i questions in
+    let one : take (i + 1) questions ≡ first ++ question ∷ [] = take-read questions i question within is in
+    let R : List Question → Type 0 = λ qs. AreRight files budget 0 qs answers in
+    let Q : List Question → Type 0 = λ qs. TakesPart before now (answers_text files questions qs answers) in
+    let M : List Question → Type 0 = λ qs. Takes logged_before logged_now (sections_text qs answers) in
+    let T : List ℕ → Type 0 = λ t. TakesPart before now t in
+    let L : List ℕ → Type 0 = λ t. Takes logged_before logged_now t in record {
+      count = i + 1;
+      answers = answers;
+      right = subst R (sym one)
+          (right_more files budget 0 i first so_far.answers question answer so_far.right
+          (let few = length-taken questions i (omega (arith, within)) in omega (arith, few)) is_right);
+      text = subst Q (sym one)
+          (subst T (lines_more files questions budget 0 first so_far.answers question answer so_far.right)
+          (part_more before middle now _ _ so_far.text part));
+      middle = logged_now;
+      logged = subst M (sym one)
+          (subst L (sections_more files budget 0 first so_far.answers question answer so_far.right)
+          (takes_more logged_before logged_middle logged_now _ _ so_far.logged logs));
+      next = [];
+      begun = inl refl;
+      part = part_of_none logged_now [];
+    }
 
 take_all : (xs : List Question) (k : ℕ) → length xs ≤ k → take k xs ≡ xs
 take_all [] zero h = refl
@@ -212,36 +235,47 @@ take_all [] (suc k) h = refl
 take_all (x ∷ xs) zero h = absurd (omega arith)
 take_all (x ∷ xs) (suc k) h = ap (λ ys. x ∷ ys) (take_all xs k (omega arith))
 
--- all answers are put
-put-whole : (files : List File) (questions : List Question) (budget i : ℕ) (broken : Bool) (status : Status)
-    (before now : Option (List ℕ)) →
-    ((answers : List Answer) → broken ≡ list_any is_broken answers → list_any is_unknown answers ≡ false → status
-    ≡ status_of answers) →
-    PutSoFar files questions budget i broken before now → length questions ≤ i
-    → IsWhole files questions budget status before now
-put-whole files questions budget i broken status before now ends (answers, text, so_far, taken) done =
-    let P : List Question → Type 0 = λ qs. StandFor files questions budget 0 qs answers broken text in
-    let all = subst P (take_all questions i done) so_far in
-    let T : List ℕ → Type 0 = λ t. Takes before now t in record {
-      answers = answers;
+-- all answers stand
+pub put-all : (files : List File) (questions : List Question) (budget i : ℕ) (broken unknown : Bool) (status : Status)
+    (before now logged_before logged_now : Option (List ℕ)) (rose : Type 0) →
+    PutOf files questions budget (take i questions) broken unknown before now logged_before logged_now →
+    length questions ≤ i → status ≡ status_by broken unknown →
+    AnswersSo (answering files questions budget) status before now logged_before logged_now rose
+put-all files questions budget i broken unknown status before now logged_before logged_now rose so_far done is =
+    let P : List Question → Type 0 =
+    λ qs. PutOf files questions budget qs broken unknown before now logged_before logged_now in
+    let S : Status → Type 0 =
+    λ s. AnswersSo (answering files questions budget) s before now logged_before logged_now rose in
+    subst S (sym is) (by_kinds broken unknown (subst P (take_all questions i done) so_far))
+  where
+    whole : (b u : Bool) → PutOf files questions budget questions b u before now logged_before logged_now →
+        AreAnswered files questions budget (status_by b u) before now logged_before logged_now
+    whole b u all = record {
+      answers = all.answers;
       right = all.right;
-      ends = ends answers all.broken_so all.none_unknown;
-      text = subst T all.lines taken;
-      unlogged = all.none_logged;
+      ends = ap (λ x. status_by x u) all.broken_so ∙ ap (status_by (list_any is_broken all.answers)) all.unknown_so;
+      text = all.text;
+      logged = all.logged;
     }
 
-pub put-good : (files : List File) (questions : List Question) (budget i : ℕ) (broken : Bool)
-    (before now : Option (List ℕ)) →
-    PutSoFar files questions budget i broken before now → length questions ≤ i → broken ≡ false
-    → IsWhole files questions budget Good before now
-put-good files questions budget i broken before now so_far done none =
-    put-whole files questions budget i broken Good before now
-    (λ answers is known. status_good answers (sym is ∙ none) known) so_far done
+    by_kinds : (b u : Bool) → PutOf files questions budget questions b u before now logged_before logged_now →
+        AnswersSo (answering files questions budget) (status_by b u) before now logged_before logged_now rose
+    by_kinds true u all = whole true u all
+    by_kinds false true all = whole false true all
+    by_kinds false false all = whole false false all
 
-pub put-bad : (files : List File) (questions : List Question) (budget i : ℕ) (broken : Bool)
-    (before now : Option (List ℕ)) →
-    PutSoFar files questions budget i broken before now → length questions ≤ i → broken ≡ true
-    → IsWhole files questions budget Bad before now
-put-bad files questions budget i broken before now so_far done some =
-    put-whole files questions budget i broken Bad before now
-    (λ answers is known. status_bad answers (sym is ∙ some)) so_far done
+-- the same, where a fault has one cause more
+pub answers_map : (outcome : Outcome) (status : Status) (before now logged_before logged_now : Option (List ℕ))
+    (rose more : Type 0) → (rose → more) → AnswersSo outcome status before now logged_before logged_now rose →
+    AnswersSo outcome status before now logged_before logged_now more
+answers_map outcome status before now logged_before logged_now rose more from so = by_status status so where
+  by_status : (s : Status) → AnswersSo outcome s before now logged_before logged_now rose →
+      AnswersSo outcome s before now logged_before logged_now more
+  by_status Good all = all
+  by_status Bad all = all
+  by_status Unknown all = all
+  by_status Usage none = none
+  by_status Refused none = none
+  by_status ReadFault none = none
+  by_status WriteFault cut = (cut.0, from cut.1)
+  by_status Memory cut = cut

@@ -1,5 +1,6 @@
 pub mod Loading
 pub mod Deciding
+pub mod Formulas
 pub mod Answering
 pub mod Words
 pub mod ReplayAnswers

@@ -1,5 +1,6 @@
 -- What a replay answers, and what stands of it.
-use Rattle.std.proofs.Common.{◌≡◌, ◌≢◌, ℕ, ◌*◌, ◌<◌, Bool, true, false, List, [], ◌∷◌, length, get_or, Option, Some, None, Result, Ok, Err}
+use Rattle.std.proofs.Common.{◌≡◌, ◌≢◌, ℕ, ◌*◌, ◌<◌, Bool, true, false, List, [], ◌∷◌, length, get_or, Option, Some}
+use Rattle.std.proofs.Common.{None, Result, Ok, Err}
 use Rattle.std.proofs.Common.{refl, sym, subst, arith, ◌∙◌, inl, inr}
 use Rattle.std.specs.Prelude.{IfOk, is_none, slice_get}
 use Rattle.std.proofs.lemmas.Bool.{false≢true}
@@ -16,9 +17,8 @@ use Rattle.stable_replay.specs.declared.differs.ReplayNo.TheVariants as no
 use Rattle.stable_replay.specs.Replayed.{IsRefusedSo, IsReplayed}
 use Rattle.mw_verify.specs.declared.status.Status.{Status}
 use Rattle.mw_verify.specs.declared.status.Status.TheVariants.{Good, Bad}
-use Rattle.mw_verify.specs.Due.{replaying}
 use Rattle.mw_verify.specs.Replays.{AnswersReplay, IsAdmitted, IsReplayedSo, IsReplayLine, replay_status, replay_text}
-use Rattle.mw_verify.specs.Running.{PrintsPart}
+use Rattle.mw_verify.specs.Running.{IsReplayBegun}
 
 -- what the reader of counterexamples says of one that it read
 pub admitted_from : (files : List File) (questions : List Question) (cex : Counterexample) →
@@ -81,7 +81,8 @@ replay_no files questions cex question why ready is other refused untrue =
     let P : Question → Type 0 = λ q. IsRefusedSo files q cex why in
     let Q : Question → Type 0 = λ q. IsReplayed files q cex → ⊥ in
     let never = subst Q same untrue in
-    (ready.question, ready.asked, (subst P same refused, other, λ breaking. never (breaking.1.stable, breaking.1.breaks)))
+    (ready.question, ready.asked, (subst P same refused, other, λ breaking. never (breaking.1.stable,
+    breaking.1.breaks)))
 
 -- no, where memory was not wanting
 pub replay_told : {E : Type 0} (result : Result (Option ReplayNo) E) (files : List File) (questions : List Question)
@@ -103,23 +104,27 @@ status_no None is = absurd (false≢true is)
 status_no (Some why) is = refl
 
 -- the line stands
-pub replayed_yes : (files : List File) (questions : List Question) (cex : Counterexample) (is_yes : Bool) (text : List ℕ)
-    (before now : Option (List ℕ)) → IsReplayLine files questions cex is_yes text → is_yes ≡ true → Takes before now text →
+pub replayed_yes : (files : List File) (questions : List Question) (cex : Counterexample) (is_yes : Bool) (text : List
+    ℕ)
+    (before now : Option (List ℕ)) → IsReplayLine files questions cex is_yes text → is_yes ≡ true → Takes before now
+    text →
     IsReplayedSo files questions cex Good before now
 replayed_yes files questions cex is_yes text before now (answer, right, told, is) said takes =
     let T : List ℕ → Type 0 = Takes before now in
     record { answer = answer; right = right; ends = status_yes answer (sym said ∙ told); text = subst T is takes }
 
 pub replayed_no : (files : List File) (questions : List Question) (cex : Counterexample) (is_yes : Bool) (text : List ℕ)
-    (before now : Option (List ℕ)) → IsReplayLine files questions cex is_yes text → is_yes ≡ false → Takes before now text →
+    (before now : Option (List ℕ)) → IsReplayLine files questions cex is_yes text → is_yes ≡ false → Takes before now
+    text →
     IsReplayedSo files questions cex Bad before now
 replayed_no files questions cex is_yes text before now (answer, right, told, is) said takes =
     let T : List ℕ → Type 0 = Takes before now in
     record { answer = answer; right = right; ends = status_no answer (sym said ∙ told); text = subst T is takes }
 
 -- a front of the line stands
-pub replayed_cut : (files : List File) (questions : List Question) (cex : Counterexample) (is_yes : Bool) (text : List ℕ)
+pub replayed_cut : (files : List File) (questions : List Question) (cex : Counterexample) (is_yes : Bool) (text : List
+    ℕ)
     (before now : Option (List ℕ)) → IsReplayLine files questions cex is_yes text → TakesPart before now text →
-    PrintsPart (replaying files questions cex) before now
+    IsReplayBegun files questions cex before now
 replayed_cut files questions cex is_yes text before now (answer, right, told, is) part =
     (text, inr (answer, right, is), part)

@@ -1,59 +1,97 @@
 -- The words of a command.
 use Rattle.std.proofs.Common.{◌≡◌, ℕ, suc, ◌||◌, ◌<◌, ◌≤◌, Bool, true, false, ◌&&◌, not, List, [], ◌∷◌, ◌++◌, length}
-use Rattle.std.proofs.Common.{take, drop, get_or, refl, ap, map, sym, arith, ◌∙◌, nat_le, le-leb, inl, inr}
-use Rattle.std.proofs.lemmas.Bool.{or_parts}
+use Rattle.std.proofs.Common.{drop, get_or, refl, ap, map, sym, arith, ◌∙◌, nat_le, le-leb, inl, inr, cond, subst}
+use Rattle.std.proofs.Common.{Option, Some, None, Result}
+use Rattle.std.proofs.lemmas.Bool.{and_parts, or_parts}
+use Rattle.std.proofs.lemmas.Bool.Decides.{nat_tests}
 use Rattle.std.proofs.lemmas.List.{length-map}
 use Rattle.std.specs.List.{list_any}
+use Rattle.std.specs.Prelude.{IfSome, codes}
 use Rattle.mw_text.specs.Text.{same_text}
-use Rattle.std.specs.Prelude.{codes, IfSome}
-use Rattle.std.proofs.Common.{Option, Some, None, Result, cond, subst}
 use Rattle.mw_outside.specs.Contents.{Contents}
-use Rattle.mw_outside.specs.Taken.{Takes, part_of_none}
-use Rattle.ios_ast.specs.declared.file.File.{File}
-use Rattle.question_lang.specs.declared.question.Question.{Question}
+use Rattle.mw_outside.specs.Taken.{part_of_all, part_of_none}
 use Rattle.mw_verify.specs.declared.status.Status.{Status}
 use Rattle.mw_verify.specs.declared.status.Status.TheVariants.{Good, Bad, Unknown, Usage, Refused, ReadFault}
 use Rattle.mw_verify.specs.declared.status.Status.TheVariants.{WriteFault, Memory}
-use Rattle.mw_verify.specs.Due.{Outcome, usage, unread, refused, answering, replaying, due, either, files_due, is_command}
-use Rattle.mw_verify.specs.Due.{is_option, is_replay, is_verify, is_words, replay_words_due, replayed_due, verify_due}
-use Rattle.mw_verify.specs.Loading.{AnswersSo, IsAll}
-use Rattle.mw_verify.specs.Running.{AreAnswered, IsAnswered, IsDue, PrintsPart, OnAnswered, OnCut, StopsAt, in_order}
+use Rattle.mw_verify.specs.Due.{Outcome, usage, unread, refused, answering, replaying, are_names, budget_of, due}
+use Rattle.mw_verify.specs.Due.{either}
+use Rattle.mw_verify.specs.Due.{conflicts_of, count_of, files_due, is_command, is_option, is_replay, is_verify}
+use Rattle.mw_verify.specs.Due.{replay_names, replay_words_due}
+use Rattle.mw_verify.specs.Due.{replayed_due, verify_due, verify_names}
+use Rattle.mw_verify.specs.Loading.{AnswersSo}
+use Rattle.mw_verify.specs.Running.{IsAnswered, IsDue, OnAnswered, OnCut, OnUnanswered, Stands, StopsAt, in_order}
 use Rattle.mw_verify.specs.Running.{replay_order, verify_order}
-use Rattle.mw_verify.specs.Verdicts.{AreRight, answers_text}
 use Rattle.mw_verify.specs.Texts.{usage_text}
-use Rattle.mw_verify.proofs.Answering.{takes_none}
+use Rattle.mw_verify.proofs.Answering.{put-none}
+
+least_length : (count n : ℕ) → nat_le count n ≡ true → count ≤ n
+least_length count n h = grind (arith, nat_tests)
+
+long_names : {A : Type 0} (f : A → List ℕ) (count : ℕ) (names : List A) (words : List (List ℕ)) → map f names ≡ words →
+    are_names count words ≡ true → count ≤ length names
+long_names f count names words named enough =
+    let long = least_length count (length words)
+    (and_parts (nat_le count (length words)) (not (list_any is_option words)) enough).0 in
+    let same = length-map names f in
+    let as_long : length (map f names) ≡ length words = ap length named in
+    omega (arith, long, same, as_long)
 
 any-map : {A B : Type 0} (test : B → Bool) (f : A → B) (xs : List A) → list_any test (map f xs)
     ≡ list_any (λ x. test (f x)) xs
 any-map test f [] = refl
 any-map test f (x ∷ xs) = ap (λ b. test (f x) || b) (any-map test f xs)
 
--- words of which there is one at least
-pub words_are : {A : Type 0} (f : A → List ℕ) (command : List ℕ) (count : ℕ) (words : List A) (x : A) → 0 < length words →
-    x ≡ get_or words 0 x →
-    is_words command count (map f words)
-    ≡ (same_text (f x) command
-    && (nat_le count (length (drop 1 words)) && not (list_any (λ w. is_option (f w)) (drop 1 words))))
-words_are f command count [] x some is = absurd (omega arith)
-words_are f command count (y ∷ rest) x some is =
-    ap (λ w. same_text (f w) command && (nat_le count (length (map f rest)) && not (list_any is_option (map f rest)))) (sym is)
-    ∙ ap (λ n. same_text (f x) command && (nat_le count n && not (list_any is_option (map f rest)))) (length-map rest f)
-    ∙ ap (λ b. same_text (f x) command && (nat_le count (length rest) && not b)) (any-map is_option f rest)
+-- enough names
+pub names_here : {A : Type 0} (f : A → List ℕ) (count : ℕ) (names : List A) (option : Bool) → count ≤ length names →
+    option ≡ list_any (λ w. is_option (f w)) names → not option ≡ are_names count (map f names)
+names_here f count names option enough is =
+    let same = length-map names f in
+    let long : nat_le count (length (map f names)) ≡ true =
+    le-leb count (length (map f names)) (omega (arith, enough, same)) in
+    ap not is ∙ ap not (sym (any-map is_option f names))
+    ∙ ap (λ b. b && not (list_any is_option (map f names))) (sym long)
 
--- words that begin with the command, of which there are enough
-pub words_here : {A : Type 0} (f : A → List ℕ) (command : List ℕ) (count : ℕ) (words names : List A) (x : A)
-    (begins option : Bool) → 0 < length words → x ≡ get_or words 0 x → names ≡ drop 1 words →
-    begins ≡ same_text (f x) command → begins ≡ true → count ≤ length names →
-    option ≡ list_any (λ w. is_option (f w)) names → not option ≡ is_words command count (map f words)
-words_here {A} f command count words names x begins option some is are_names is_command commanded enough is_some =
-    let long : nat_le count (length names) ≡ true = le-leb count (length names) enough in
-    let P : List A → Type 0 = λ ns. not option
-    ≡ (same_text (f x) command && (nat_le count (length ns) && not (list_any (λ w. is_option (f w)) ns))) in
-    let here : P names =
-    ap not is_some
-    ∙ ap (λ b. b && not (list_any (λ w. is_option (f w)) names)) (sym long)
-    ∙ ap (λ b. b && (nat_le count (length names) && not (list_any (λ w. is_option (f w)) names))) (sym commanded ∙ is_command) in
-    subst P are_names here ∙ sym (words_are f command count words x some is)
+-- whether a limit of clauses is said
+pub conflicts_short : {A : Type 0} (f : A → List ℕ) (words : List A) → length words < 3 →
+    None ≡ conflicts_of (map f words)
+conflicts_short f [] short = refl
+conflicts_short f (x ∷ []) short = refl
+conflicts_short f (x ∷ y ∷ []) short = refl
+conflicts_short f (x ∷ y ∷ z ∷ rest) short = absurd (omega (arith, short))
+
+pub conflicts_other : {A : Type 0} (f : A → List ℕ) (words : List A) (option : A) (said : Bool) →
+    option ≡ get_or words 1 option → said ≡ same_text (f option) (codes "--conflicts") → said ≡ false →
+    3 ≤ length words → None ≡ conflicts_of (map f words)
+conflicts_other f [] option said is_option_word told other long = absurd (omega (arith, long))
+conflicts_other f (x ∷ []) option said is_option_word told other long = absurd (omega (arith, long))
+conflicts_other f (x ∷ y ∷ []) option said is_option_word told other long = absurd (omega (arith, long))
+conflicts_other f (x ∷ y ∷ z ∷ rest) option said is_option_word told other long =
+    ap (λ b. cond b (count_of (f z)) None) (sym other ∙ told)
+    ∙ ap (λ w. cond (same_text (f w) (codes "--conflicts")) (count_of (f z)) None) is_option_word
+
+pub conflicts_said : {A : Type 0} (f : A → List ℕ) (words : List A) (option count : A) (said : Bool)
+    (found : Option ℕ) → option ≡ get_or words 1 option → count ≡ get_or words 2 count →
+    said ≡ same_text (f option) (codes "--conflicts") → said ≡ true → 3 ≤ length words → found ≡ count_of (f count) →
+    found ≡ conflicts_of (map f words)
+conflicts_said f [] option count said found is_option_word is_count told same long is = absurd (omega (arith, long))
+conflicts_said f (x ∷ []) option count said found is_option_word is_count told same long is =
+    absurd (omega (arith, long))
+conflicts_said f (x ∷ y ∷ []) option count said found is_option_word is_count told same long is =
+    absurd (omega (arith, long))
+conflicts_said f (x ∷ y ∷ z ∷ rest) option count said found is_option_word is_count told same long is =
+    is ∙ ap (λ w. count_of (f w)) is_count ∙ ap (λ b. cond b (count_of (f z)) None) (sym same ∙ told)
+    ∙ ap (λ w. cond (same_text (f w) (codes "--conflicts")) (count_of (f z)) None) is_option_word
+
+-- how many names there are
+pub verify_long : {A : Type 0} (f : A → List ℕ) (words : List (List ℕ)) (names : List A) →
+    map f names ≡ verify_names words → is_verify words ≡ true → 2 ≤ length names
+verify_long f words names named command =
+    long_names f 2 names (verify_names words) named (and_parts _ (are_names 2 (verify_names words)) command).1
+
+pub replay_long : {A : Type 0} (f : A → List ℕ) (words : List (List ℕ)) (names : List A) →
+    map f names ≡ replay_names words → is_replay words ≡ true → 3 ≤ length names
+replay_long f words names named command =
+    long_names f 3 names (replay_names words) named (and_parts _ (are_names 3 (replay_names words)) command).1
 
 -- what is due for words that are a command
 pub due_for : (told : Option Contents) (words : List (List ℕ)) (outcome : Outcome) → is_command words ≡ true →
@@ -63,102 +101,112 @@ due_for told words outcome is_command said = record {
   told = said;
 }
 
--- what the words of `verify` name
-verify_words : {A : Type 0} (f : A → List ℕ) (words : List A) (x : A) (contents : Contents) → 1 < length words →
-    x ≡ get_or words 1 x → verify_due contents (map f words) ≡ either (files_due contents (f x) (map f (drop 2 words)))
-verify_words f [] x contents some is = absurd (omega arith)
-verify_words f (y ∷ []) x contents some is = absurd (omega arith)
-verify_words f (y ∷ z ∷ rest) x contents some is = ap (λ w. either (files_due contents (f w) (map f rest))) (sym is)
+-- what the names of `verify` come to
+verify_named : {A : Type 0} (f : A → List ℕ) (names : List A) (x : A) (contents : Contents) (budget : ℕ) →
+    0 < length names → x ≡ get_or names 0 x →
+    verify_due contents budget (map f names) ≡ either (files_due contents budget (f x) (map f (drop 1 names)))
+verify_named f [] x contents budget some is = absurd (omega arith)
+verify_named f (y ∷ rest) x contents budget some is =
+    ap (λ w. either (files_due contents budget (f w) (map f rest))) (sym is)
 
 -- what was read and parsed for `verify` is due
-pub verify_is_due : {A : Type 0} (f : A → List ℕ) (words : List A) (x : A) (told : Option Contents) (outcome : Outcome)
-    (wanted : Result Outcome Outcome) (name : List ℕ) (names : List A) → is_verify (map f words) ≡ true →
-    1 < length words → x ≡ get_or words 1 x → either wanted ≡ outcome → name ≡ f x → names ≡ drop 2 words →
-    IfSome told (λ contents. files_due contents name (map f names) ≡ wanted) → IsDue told (map f words) outcome
-verify_is_due {A} f words x told outcome wanted name names command some is same is_name are_names said =
-    due_for told (map f words) outcome (ap (λ b. b || is_replay (map f words)) command) (by_told told said)
+pub verify_is_due : {A : Type 0} (f : A → List ℕ) (words : List (List ℕ)) (names configs : List A) (x : A)
+    (told : Option Contents) (outcome : Outcome) (wanted : Result Outcome Outcome) (budget : ℕ) (name : List ℕ) →
+    is_verify words ≡ true → map f names ≡ verify_names words → 0 < length names → x ≡ get_or names 0 x →
+    either wanted ≡ outcome → budget ≡ budget_of words → name ≡ f x → configs ≡ drop 1 names →
+    IfSome told (λ contents. files_due contents budget name (map f configs) ≡ wanted) → IsDue told words outcome
+verify_is_due {A} f words names configs x told outcome wanted budget name command named some is same is_budget is_name
+    are_configs said =
+    due_for told words outcome (ap (λ b. b || is_replay words) command) (by_told told said)
   where
-    by_told : (o : Option Contents) → IfSome o (λ contents. files_due contents name (map f names) ≡ wanted) →
-        IfSome o (λ contents. due contents (map f words) ≡ outcome)
+    by_told : (o : Option Contents) → IfSome o (λ contents. files_due contents budget name (map f configs) ≡ wanted) →
+        IfSome o (λ contents. due contents words ≡ outcome)
     by_told None so = tt
     by_told (Some contents) so =
-        let T : List ℕ → Type 0 = λ q. files_due contents q (map f names) ≡ wanted in
-        let U : List A → Type 0 = λ ws. files_due contents (f x) (map f ws) ≡ wanted in
-        ap (λ b. cond b (verify_due contents (map f words))
-        (cond (is_replay (map f words)) (replay_words_due contents (map f words)) usage)) command
-        ∙ verify_words f words x contents some is ∙ ap either (subst U are_names (subst T is_name so)) ∙ same
+        let T : List ℕ → Type 0 = λ q. files_due contents budget q (map f configs) ≡ wanted in
+        let U : List A → Type 0 = λ ws. files_due contents budget (f x) (map f ws) ≡ wanted in
+        ap (λ b. cond b (verify_due contents (budget_of words) (verify_names words))
+        (cond (is_replay words) (replay_words_due contents (replay_names words)) usage)) command
+        ∙ ap (λ ns. verify_due contents (budget_of words) ns) (sym named)
+        ∙ ap (λ n. verify_due contents n (map f names)) (sym is_budget)
+        ∙ verify_named f names x contents budget some is ∙ ap either (subst U are_configs (subst T is_name so)) ∙ same
 
--- what the words of `replay` name
-replay_words : {A : Type 0} (f : A → List ℕ) (words : List A) (x y : A) (contents : Contents) → 2 < length words →
-    x ≡ get_or words 1 x → y ≡ get_or words 2 y →
-    replay_words_due contents (map f words) ≡ either (replayed_due contents (f x) (f y) (map f (drop 3 words)))
-replay_words f [] x y contents some is_x is_y = absurd (omega arith)
-replay_words f (a ∷ []) x y contents some is_x is_y = absurd (omega arith)
-replay_words f (a ∷ b ∷ []) x y contents some is_x is_y = absurd (omega arith)
-replay_words f (a ∷ b ∷ c ∷ rest) x y contents some is_x is_y =
-    ap (λ w. either (replayed_due contents (f w) (f c) (map f rest))) (sym is_x)
+-- what the names of `replay` come to
+replay_named : {A : Type 0} (f : A → List ℕ) (names : List A) (x y : A) (contents : Contents) → 1 < length names →
+    x ≡ get_or names 0 x → y ≡ get_or names 1 y →
+    replay_words_due contents (map f names) ≡ either (replayed_due contents (f x) (f y) (map f (drop 2 names)))
+replay_named f [] x y contents some is_x is_y = absurd (omega arith)
+replay_named f (a ∷ []) x y contents some is_x is_y = absurd (omega arith)
+replay_named f (a ∷ b ∷ rest) x y contents some is_x is_y =
+    ap (λ w. either (replayed_due contents (f w) (f b) (map f rest))) (sym is_x)
     ∙ ap (λ w. either (replayed_due contents (f x) (f w) (map f rest))) (sym is_y)
 
 -- what was read and parsed for `replay` is due
-pub replay_is_due : {A : Type 0} (f : A → List ℕ) (words : List A) (x y : A) (told : Option Contents) (outcome : Outcome)
-    (wanted : Result Outcome Outcome) (cex questions : List ℕ) (names : List A) → is_verify (map f words) ≡ false →
-    is_replay (map f words) ≡ true → 2 < length words → x ≡ get_or words 1 x → y ≡ get_or words 2 y →
-    either wanted ≡ outcome → cex ≡ f x → questions ≡ f y → names ≡ drop 3 words →
-    IfSome told (λ contents. replayed_due contents cex questions (map f names) ≡ wanted) → IsDue told (map f words) outcome
-replay_is_due {A} f words x y told outcome wanted cex questions names other command some is_x is_y same is_cex is_asked
-    are_names said =
-    due_for told (map f words) outcome (ap (λ b. b || is_replay (map f words)) other ∙ command) (by_told told said)
+pub replay_is_due : {A : Type 0} (f : A → List ℕ) (words : List (List ℕ)) (names configs : List A) (x y : A)
+    (told : Option Contents) (outcome : Outcome) (wanted : Result Outcome Outcome) (cex questions : List ℕ) →
+    is_verify words ≡ false → is_replay words ≡ true → map f names ≡ replay_names words → 1 < length names →
+    x ≡ get_or names 0 x → y ≡ get_or names 1 y → either wanted ≡ outcome → cex ≡ f x → questions ≡ f y →
+    configs ≡ drop 2 names → IfSome told (λ contents. replayed_due contents cex questions (map f configs) ≡ wanted) →
+    IsDue told words outcome
+replay_is_due {A} f words names configs x y told outcome wanted cex questions other command named some is_x is_y same
+    is_cex is_asked are_configs said =
+    due_for told words outcome (ap (λ b. b || is_replay words) other ∙ command) (by_told told said)
   where
-    by_told : (o : Option Contents) → IfSome o (λ contents. replayed_due contents cex questions (map f names) ≡ wanted) →
-        IfSome o (λ contents. due contents (map f words) ≡ outcome)
+    by_told : (o : Option Contents) →
+        IfSome o (λ contents. replayed_due contents cex questions (map f configs) ≡ wanted) →
+        IfSome o (λ contents. due contents words ≡ outcome)
     by_told None so = tt
     by_told (Some contents) so =
-        let T : List ℕ → Type 0 = λ n. replayed_due contents n questions (map f names) ≡ wanted in
-        let U : List ℕ → Type 0 = λ n. replayed_due contents (f x) n (map f names) ≡ wanted in
+        let T : List ℕ → Type 0 = λ n. replayed_due contents n questions (map f configs) ≡ wanted in
+        let U : List ℕ → Type 0 = λ n. replayed_due contents (f x) n (map f configs) ≡ wanted in
         let V : List A → Type 0 = λ ws. replayed_due contents (f x) (f y) (map f ws) ≡ wanted in
-        ap (λ b. cond b (verify_due contents (map f words))
-        (cond (is_replay (map f words)) (replay_words_due contents (map f words)) usage)) other
-        ∙ ap (λ b. cond b (replay_words_due contents (map f words)) usage) command
-        ∙ replay_words f words x y contents some is_x is_y
-        ∙ ap either (subst V are_names (subst U is_asked (subst T is_cex so))) ∙ same
+        ap (λ b. cond b (verify_due contents (budget_of words) (verify_names words))
+        (cond (is_replay words) (replay_words_due contents (replay_names words)) usage)) other
+        ∙ ap (λ b. cond b (replay_words_due contents (replay_names words)) usage) command
+        ∙ ap (λ ns. replay_words_due contents ns) (sym named)
+        ∙ replay_named f names x y contents some is_x is_y
+        ∙ ap either (subst V are_configs (subst U is_asked (subst T is_cex so))) ∙ same
 
 -- the files that the words name, in the order of work
-pub verify_order_of : {A : Type 0} (f : A → List ℕ) (words : List A) (x : A) (told : Option Contents) (last : Option (List ℕ))
-    (name : List ℕ) (names : List A) → is_verify (map f words) ≡ true → 1 < length words → x ≡ get_or words 1 x →
-    name ≡ f x → names ≡ drop 2 words → StopsAt told (map f names ++ name ∷ []) last →
-    StopsAt told (in_order (map f words)) last
-verify_order_of {A} f words x told last name names command some is is_name are_names stops =
-    let C : Bool → Type 0 = λ b. StopsAt told (cond b (verify_order (map f words)) (replay_order (map f words))) last in
-    subst C (sym command) (by_words words some is are_names)
+pub verify_order_of : {A : Type 0} (f : A → List ℕ) (words : List (List ℕ)) (names configs : List A) (x : A)
+    (told : Option Contents) (last : Option (List ℕ)) (name : List ℕ) → is_verify words ≡ true →
+    map f names ≡ verify_names words → 0 < length names → x ≡ get_or names 0 x → name ≡ f x → configs ≡ drop 1 names →
+    StopsAt told (map f configs ++ name ∷ []) last → StopsAt told (in_order words) last
+verify_order_of {A} f words names configs x told last name command named some is is_name are_configs stops =
+    let C : Bool → Type 0 =
+    λ b. StopsAt told (cond b (verify_order (verify_names words)) (replay_order (replay_names words))) last in
+    let N : List (List ℕ) → Type 0 = λ ns. StopsAt told (verify_order ns) last in
+    subst C (sym command) (subst N named (by_names names some is are_configs))
   where
-    by_words : (ws : List A) → 1 < length ws → x ≡ get_or ws 1 x → names ≡ drop 2 ws →
-        StopsAt told (verify_order (map f ws)) last
-    by_words [] some is are_names = absurd (omega arith)
-    by_words (y ∷ []) some is are_names = absurd (omega arith)
-    by_words (y ∷ z ∷ rest) some is are_names =
-        let P : List ℕ → Type 0 = λ n. StopsAt told (map f names ++ n ∷ []) last in
+    by_names : (ns : List A) → 0 < length ns → x ≡ get_or ns 0 x → configs ≡ drop 1 ns →
+        StopsAt told (verify_order (map f ns)) last
+    by_names [] some is are_configs = absurd (omega arith)
+    by_names (z ∷ rest) some is are_configs =
+        let P : List ℕ → Type 0 = λ n. StopsAt told (map f configs ++ n ∷ []) last in
         let Q : List A → Type 0 = λ ws. StopsAt told (map f ws ++ f z ∷ []) last in
-        subst Q are_names (subst P (is_name ∙ ap f is) stops)
+        subst Q are_configs (subst P (is_name ∙ ap f is) stops)
 
-pub replay_order_of : {A : Type 0} (f : A → List ℕ) (words : List A) (x y : A) (told : Option Contents)
-    (last : Option (List ℕ)) (cex questions : List ℕ) (names : List A) → is_verify (map f words) ≡ false →
-    2 < length words → x ≡ get_or words 1 x → y ≡ get_or words 2 y → cex ≡ f x → questions ≡ f y →
-    names ≡ drop 3 words → StopsAt told (map f names ++ questions ∷ cex ∷ []) last →
-    StopsAt told (in_order (map f words)) last
-replay_order_of {A} f words x y told last cex questions names other some is_x is_y is_cex is_asked are_names stops =
-    let C : Bool → Type 0 = λ b. StopsAt told (cond b (verify_order (map f words)) (replay_order (map f words))) last in
-    subst C (sym other) (by_words words some is_x is_y are_names)
+pub replay_order_of : {A : Type 0} (f : A → List ℕ) (words : List (List ℕ)) (names configs : List A) (x y : A)
+    (told : Option Contents) (last : Option (List ℕ)) (cex questions : List ℕ) → is_verify words ≡ false →
+    map f names ≡ replay_names words → 1 < length names → x ≡ get_or names 0 x → y ≡ get_or names 1 y → cex ≡ f x →
+    questions ≡ f y → configs ≡ drop 2 names → StopsAt told (map f configs ++ questions ∷ cex ∷ []) last →
+    StopsAt told (in_order words) last
+replay_order_of {A} f words names configs x y told last cex questions other named some is_x is_y is_cex is_asked
+    are_configs stops =
+    let C : Bool → Type 0 =
+    λ b. StopsAt told (cond b (verify_order (verify_names words)) (replay_order (replay_names words))) last in
+    let N : List (List ℕ) → Type 0 = λ ns. StopsAt told (replay_order ns) last in
+    subst C (sym other) (subst N named (by_names names some is_x is_y are_configs))
   where
-    by_words : (ws : List A) → 2 < length ws → x ≡ get_or ws 1 x → y ≡ get_or ws 2 y → names ≡ drop 3 ws →
-        StopsAt told (replay_order (map f ws)) last
-    by_words [] some is_x is_y are_names = absurd (omega arith)
-    by_words (a ∷ []) some is_x is_y are_names = absurd (omega arith)
-    by_words (a ∷ b ∷ []) some is_x is_y are_names = absurd (omega arith)
-    by_words (a ∷ b ∷ c ∷ rest) some is_x is_y are_names =
-        let P : List ℕ → Type 0 = λ n. StopsAt told (map f names ++ questions ∷ n ∷ []) last in
-        let Q : List ℕ → Type 0 = λ n. StopsAt told (map f names ++ n ∷ f b ∷ []) last in
-        let R : List A → Type 0 = λ ws. StopsAt told (map f ws ++ f c ∷ f b ∷ []) last in
-        subst R are_names (subst Q (is_asked ∙ ap f is_y) (subst P (is_cex ∙ ap f is_x) stops))
+    by_names : (ns : List A) → 1 < length ns → x ≡ get_or ns 0 x → y ≡ get_or ns 1 y → configs ≡ drop 2 ns →
+        StopsAt told (replay_order (map f ns)) last
+    by_names [] some is_x is_y are_configs = absurd (omega arith)
+    by_names (a ∷ []) some is_x is_y are_configs = absurd (omega arith)
+    by_names (a ∷ b ∷ rest) some is_x is_y are_configs =
+        let P : List ℕ → Type 0 = λ n. StopsAt told (map f configs ++ questions ∷ n ∷ []) last in
+        let Q : List ℕ → Type 0 = λ n. StopsAt told (map f configs ++ n ∷ f a ∷ []) last in
+        let R : List A → Type 0 = λ ws. StopsAt told (map f ws ++ f b ∷ f a ∷ []) last in
+        subst R are_configs (subst Q (is_asked ∙ ap f is_y) (subst P (is_cex ∙ ap f is_x) stops))
 
 -- words that are no command
 pub due_usage : (told : Option Contents) (words : List (List ℕ)) → is_command words ≡ false → IsDue told words usage
@@ -167,8 +215,9 @@ due_usage told words none = record { no_command = λ h. refl; told = by_told tol
   by_told None = tt
   by_told (Some contents) =
       let parts = or_parts (is_verify words) (is_replay words) none in
-      ap (λ b. cond b (verify_due contents words) (cond (is_replay words) (replay_words_due contents words) usage)) parts.0
-      ∙ ap (λ b. cond b (replay_words_due contents words) usage) parts.1
+      ap (λ b. cond b (verify_due contents (budget_of words) (verify_names words))
+      (cond (is_replay words) (replay_words_due contents (replay_names words)) usage)) parts.0
+      ∙ ap (λ b. cond b (replay_words_due contents (replay_names words)) usage) parts.1
 
 -- something is due for every words
 pub some_due : (told : Option Contents) (words : List (List ℕ)) → is_command words ≡ true →
@@ -177,54 +226,41 @@ some_due None words is_command = (unread, due_for None words unread is_command t
 some_due (Some contents) words is_command =
     (due contents words, due_for (Some contents) words (due contents words) is_command refl)
 
--- nothing was printed, which is a front of what may be
-pub nothing_cut : (outcome : Outcome) (taken : Option (List ℕ)) → PrintsPart outcome taken taken
-nothing_cut usage taken = (usage_text, refl, part_of_none taken usage_text)
-nothing_cut unread taken = ([], refl, part_of_none taken [])
-nothing_cut (refused line) taken = (line, refl, part_of_none taken line)
-nothing_cut (replaying files questions cex) taken = ([], inl refl, part_of_none taken [])
-nothing_cut (answering files questions budget) taken =
-    let right = none_right questions in ([], (0, [], right.0, right.1), part_of_none taken [])
-  where
-    none_right : (qs : List Question) → AreRight files budget 0 (take 0 qs) []
-        × ([] ≡ answers_text files questions (take 0 qs) [])
-    none_right [] = (tt, refl)
-    none_right (q ∷ qs) = (tt, refl)
-
-pub cut_nothing : (told : Option Contents) (words : List (List ℕ)) (taken : Option (List ℕ)) → is_command words ≡ true →
-    (outcome : Outcome) × IsDue told words outcome × PrintsPart outcome taken taken
-cut_nothing told words taken is_command =
-    let some = some_due told words is_command in (some.0, some.1, nothing_cut some.0 taken)
-
--- answers that stand, nothing of which is logged
-answered_all : (outcome : Outcome) (status : Status) (before now logged_before logged_now : Option (List ℕ)) →
-    logged_now ≡ logged_before → IsAll outcome status before now →
-    IsAnswered outcome status before now logged_before logged_now
-answered_all usage status before now logged_before logged_now same none = none
-answered_all unread status before now logged_before logged_now same none = none
-answered_all (refused line) status before now logged_before logged_now same none = none
-answered_all (replaying files questions cex) status before now logged_before logged_now same all = (all, same)
-answered_all (answering files questions budget) status before now logged_before logged_now same all =
-    let L : List ℕ → Type 0 = λ t. Takes logged_before logged_now t in
-    let T : Option (List ℕ) → Type 0 = λ o. Takes logged_before o [] in record {
-      answers = all.answers;
-      right = all.right;
-      ends = all.ends;
-      text = all.text;
-      logged = subst L (sym all.unlogged) (subst T (sym same) (takes_none logged_before));
+-- nothing stands, which is a front of what may
+pub nothing_stands : (outcome : Outcome) (taken logged : Option (List ℕ)) → Stands outcome taken taken logged logged
+nothing_stands usage taken logged = (part_of_none taken usage_text, refl)
+nothing_stands unread taken logged = (refl, refl)
+nothing_stands (refused line) taken logged = (part_of_none taken line, refl)
+nothing_stands (replaying files questions cex) taken logged = (([], inl refl, part_of_none taken []), refl)
+nothing_stands (answering files questions budget) taken logged =
+    let none = put-none files questions budget taken logged in record {
+      count = 0;
+      answers = none.answers;
+      right = none.right;
+      text = part_of_all taken taken _ none.text;
+      middle = logged;
+      logged = none.logged;
+      next = [];
+      begun = inl refl;
+      part = part_of_none logged [];
     }
+
+pub cut_nothing : (told : Option Contents) (words : List (List ℕ)) (taken logged : Option (List ℕ)) →
+    is_command words ≡ true → (outcome : Outcome) × IsDue told words outcome × Stands outcome taken taken logged logged
+cut_nothing told words taken logged is_command =
+    let some = some_due told words is_command in (some.0, some.1, nothing_stands some.0 taken logged)
 
 -- how a run of answers ends is how it is due
 pub answered_from : (outcome : Outcome) (status : Status) (told : Option Contents) (words : List (List ℕ))
     (before now logged_before logged_now : Option (List ℕ)) (rose : Type 0) → IsDue told words outcome →
-    logged_now ≡ logged_before → AnswersSo outcome status before now rose →
+    AnswersSo outcome status before now logged_before logged_now rose →
     OnAnswered status ((o : Outcome) × IsDue told words o × IsAnswered o status before now logged_before logged_now)
-answered_from outcome status told words before now logged_before logged_now rose is_due same so = by_status status so where
-  by_status : (s : Status) → AnswersSo outcome s before now rose →
+answered_from outcome status told words before now logged_before logged_now rose is_due so = by_status status so where
+  by_status : (s : Status) → AnswersSo outcome s before now logged_before logged_now rose →
       OnAnswered s ((o : Outcome) × IsDue told words o × IsAnswered o s before now logged_before logged_now)
-  by_status Good all = (outcome, is_due, answered_all outcome Good before now logged_before logged_now same all)
-  by_status Bad all = (outcome, is_due, answered_all outcome Bad before now logged_before logged_now same all)
-  by_status Unknown none = absurd none
+  by_status Good all = (outcome, is_due, all)
+  by_status Bad all = (outcome, is_due, all)
+  by_status Unknown all = (outcome, is_due, all)
   by_status Usage none = tt
   by_status Refused none = tt
   by_status ReadFault none = tt
@@ -232,13 +268,26 @@ answered_from outcome status told words before now logged_before logged_now rose
   by_status Memory part = tt
 
 pub cut_from : (outcome : Outcome) (status : Status) (told : Option Contents) (words : List (List ℕ))
-    (before now : Option (List ℕ)) (rose : Type 0) → IsDue told words outcome → AnswersSo outcome status before now rose →
-    OnCut status ((o : Outcome) × IsDue told words o × PrintsPart o before now)
-cut_from outcome Good told words before now rose is_due so = tt
-cut_from outcome Bad told words before now rose is_due so = tt
-cut_from outcome Unknown told words before now rose is_due so = tt
-cut_from outcome Usage told words before now rose is_due so = tt
-cut_from outcome Refused told words before now rose is_due so = tt
-cut_from outcome ReadFault told words before now rose is_due so = tt
-cut_from outcome WriteFault told words before now rose is_due so = (outcome, is_due, so.0)
-cut_from outcome Memory told words before now rose is_due so = (outcome, is_due, so)
+    (before now logged_before logged_now : Option (List ℕ)) (rose : Type 0) → IsDue told words outcome →
+    AnswersSo outcome status before now logged_before logged_now rose →
+    OnCut status ((o : Outcome) × IsDue told words o × Stands o before now logged_before logged_now)
+cut_from outcome Good told words before now logged_before logged_now rose is_due so = tt
+cut_from outcome Bad told words before now logged_before logged_now rose is_due so = tt
+cut_from outcome Unknown told words before now logged_before logged_now rose is_due so = tt
+cut_from outcome Usage told words before now logged_before logged_now rose is_due so = tt
+cut_from outcome Refused told words before now logged_before logged_now rose is_due so = tt
+cut_from outcome ReadFault told words before now logged_before logged_now rose is_due so = tt
+cut_from outcome WriteFault told words before now logged_before logged_now rose is_due so = (outcome, is_due, so.0)
+cut_from outcome Memory told words before now logged_before logged_now rose is_due so = (outcome, is_due, so)
+
+-- a run of answers ends in one of five ways
+pub not_unanswered : (outcome : Outcome) (status : Status) (before now logged_before logged_now : Option (List ℕ))
+    (rose P : Type 0) → AnswersSo outcome status before now logged_before logged_now rose → OnUnanswered status P
+not_unanswered outcome Good before now logged_before logged_now rose P so = tt
+not_unanswered outcome Bad before now logged_before logged_now rose P so = tt
+not_unanswered outcome Unknown before now logged_before logged_now rose P so = tt
+not_unanswered outcome Usage before now logged_before logged_now rose P so = absurd so
+not_unanswered outcome Refused before now logged_before logged_now rose P so = absurd so
+not_unanswered outcome ReadFault before now logged_before logged_now rose P so = absurd so
+not_unanswered outcome WriteFault before now logged_before logged_now rose P so = tt
+not_unanswered outcome Memory before now logged_before logged_now rose P so = tt

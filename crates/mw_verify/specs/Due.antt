@@ -1,6 +1,6 @@
 -- What is due for words over the contents of files: usage, a refusal, or answers to questions over a network.
 use Rattle.std.specs.Prelude.{ℕ, ◌==◌, ◌&&◌, ◌||◌, Bool, false, not, List, [], ◌∷◌, length, nat_lt, nat_le, codes}
-use Rattle.std.specs.Prelude.{slice_index, slice_get, filter, is_none, position, min, Option, Some, None}
+use Rattle.std.specs.Prelude.{slice_index, slice_get, filter, is_none, position, Option, Some, None, drop}
 use Rattle.std.specs.Prelude.{option_and_then, option_map, is_some, unwrap_or, Result, Ok, Err, if◌then◌else◌}
 use Rattle.std.specs.List.{list_all, list_any}
 use Rattle.std.specs.Option.{option_map_or}
@@ -15,13 +15,13 @@ use Rattle.ios_reader.specs.Reading.{reading}
 use Rattle.cex_json.specs.declared.counterexample.Counterexample.{Counterexample}
 use Rattle.cex_json.specs.declared.refused.CexRefused.{CexRefused}
 use Rattle.cex_json.specs.Reading.{reading as reading_cex}
-use Rattle.net_model.specs.Network.{is_plain}
 use Rattle.question_lang.specs.declared.question.Question.{Question}
 use Rattle.mw_text.specs.declared.words.Line.{Line}
 use Rattle.mw_text.specs.Words.{is_skipped, text_lines}
 use Rattle.question_lang.specs.Asking.{asking}
-use Rattle.question_lang.specs.Single.{is_reach, is_single}
-use Rattle.mw_verify.specs.declared.load.TheConstants.{DEFAULT_CONFLICTS, MOST_BYTES, MOST_CEX_BYTES}
+use Rattle.question_lang.specs.Single.{is_reach}
+use Rattle.mw_text.specs.Digits.{number_of}
+use Rattle.mw_verify.specs.declared.load.TheConstants.{DEFAULT_CONFLICTS, MOST_BYTES, MOST_CEX_BYTES, MOST_CONFLICTS}
 use Rattle.mw_verify.specs.declared.text.Text.{Text}
 use Rattle.mw_verify.specs.Texts.{cex_refusal, net_cause_text, not_built, refusal, refused_text, too_long}
 
@@ -42,19 +42,44 @@ pub data Outcome : Type 0 where
 abbrev pub is_option : List ℕ → Bool
 is_option word = nat_lt 0 (length word) && slice_index word 0 == 45
 
--- that command and at least so many names, none of which is an option
-abbrev pub is_words : List ℕ → ℕ → List (List ℕ) → Bool
-is_words command count [] = false
-is_words command count (word ∷ names) =
-    same_text word command && (nat_le count (length names) && not (list_any is_option names))
+-- that command
+abbrev pub begins : List ℕ → List (List ℕ) → Bool
+begins command [] = false
+begins command (word ∷ others) = same_text word command
 
--- verify QUESTIONS CONFIG...
+-- at least so many names, none of which is an option
+abbrev pub are_names : ℕ → List (List ℕ) → Bool
+are_names count names = nat_le count (length names) && not (list_any is_option names)
+
+-- a number from 1 to 1,000,000,000
+abbrev pub count_of : List ℕ → Option ℕ
+count_of word = option_and_then (λ count. if count == 0 then None else Some count) (number_of MOST_CONFLICTS word)
+
+-- N, where `--conflicts N` stands directly after the command
+abbrev pub conflicts_of : List (List ℕ) → Option ℕ
+conflicts_of (command ∷ option ∷ count ∷ names) = if same_text option (codes "--conflicts") then count_of count else
+    None
+conflicts_of _ = None
+
+-- how many clauses a search may learn for a question
+abbrev pub budget_of : List (List ℕ) → ℕ
+budget_of words = unwrap_or (conflicts_of words) DEFAULT_CONFLICTS
+
+-- what stands after `verify` and its option
+abbrev pub verify_names : List (List ℕ) → List (List ℕ)
+verify_names words = if is_some (conflicts_of words) then drop 3 words else drop 1 words
+
+-- verify [--conflicts N] QUESTIONS CONFIG...
 abbrev pub is_verify : List (List ℕ) → Bool
-is_verify words = is_words (codes "verify") 2 words
+is_verify words = begins (codes "verify") words && are_names 2 (verify_names words)
+
+-- what stands after `replay`
+abbrev pub replay_names : List (List ℕ) → List (List ℕ)
+replay_names words = drop 1 words
 
 -- replay CEX QUESTIONS CONFIG...
 abbrev pub is_replay : List (List ℕ) → Bool
-is_replay words = is_words (codes "replay") 3 words
+is_replay words = begins (codes "replay") words && are_names 3 (replay_names words)
 
 abbrev pub is_command : List (List ℕ) → Bool
 is_command words = is_verify words || is_replay words
@@ -87,25 +112,19 @@ name_at texts at = option_map_or (λ text. text.name) (slice_get texts at) []
 abbrev pub net_refusal : List Text → NetRefused → List ℕ
 net_refusal texts why = refused_text (name_at texts why.file) why.line (net_cause_text why.cause)
 
--- the earlier of two lines, each of which may not be there
-abbrev pub earlier : Option ℕ → Option ℕ → Option ℕ
-earlier None b = b
-earlier (Some a) None = Some a
-earlier (Some a) (Some b) = Some (min a b)
-
--- the first line of a file for which `verify` cannot answer yet: its OSPF or its BGP block
+-- the first line of a file for which `verify` cannot answer yet: its BGP block
 abbrev pub unbuilt_line : File → Option ℕ
-unbuilt_line file = earlier (option_map (λ ospf. ospf.line) file.ospf) (option_map (λ bgp. bgp.line) file.bgp)
+unbuilt_line file = option_map (λ bgp. bgp.line) file.bgp
 
 -- such a line of the file of that number
 abbrev pub unbuilt_line_at : List File → ℕ → ℕ
 unbuilt_line_at files at = unwrap_or (option_and_then unbuilt_line (slice_get files at)) 0
 
--- the first file whose router runs a routing protocol is refused at that line
+-- the first file whose router runs BGP is refused at that line
 abbrev pub unbuilt : List Text → List File → Option (List ℕ)
 unbuilt texts files =
     option_map (λ at. not_built (name_at texts at) (unbuilt_line_at files at))
-    (position (λ file. not (is_plain file)) files)
+    (position (λ file. is_some file.bgp) files)
 
 -- files that break no rule of networks, and for which `verify` can answer
 abbrev pub answered_network : List Text → List File → Result (List File) Outcome
@@ -120,9 +139,9 @@ network_of texts files =
 abbrev pub network_due : List Text → Result (List File) Outcome
 network_due texts = following (network_of texts) (each file_of texts)
 
--- what `verify` can answer today: whether one packet from a router reaches a router, while no link fails
+-- what `verify` can answer today: whether packets from a router reach a router
 abbrev pub is_answerable : Question → Bool
-is_answerable question = is_reach question.kind && ((question.failures == 0) && is_single question.packets)
+is_answerable question = is_reach question.kind
 
 -- the lines of a questions file that ask something: the k-th asks the k-th question
 abbrev pub asking_lines : List ℕ → List Line
@@ -133,27 +152,32 @@ abbrev pub line_of : List ℕ → ℕ → ℕ
 line_of bytes number = option_map_or (λ line. line.number) (slice_get (asking_lines bytes) number) 0
 
 -- the first question that cannot be answered refuses the file at its line
-abbrev pub answerable : Text → List File → List Question → Result Outcome Outcome
-answerable text files questions =
+abbrev pub answerable : Text → List Question → Result (List Question) Outcome
+answerable text questions =
     option_map_or (λ number. Err (refused (not_built text.name (line_of text.bytes number))))
-    (position (λ question. not (is_answerable question)) questions) (Ok (answering files questions DEFAULT_CONFLICTS))
+    (position (λ question. not (is_answerable question)) questions) (Ok questions)
 
 -- the questions of a text over a network
 abbrev pub asked_of : Text → List File → Result (List Question) Outcome
 asked_of text files = read_as text.name (asking files text.bytes)
 
 -- those that `verify` can answer
-abbrev pub questions_of : Text → List File → Result Outcome Outcome
-questions_of text files = following (answerable text files) (asked_of text files)
+abbrev pub questions_of : Text → List File → Result (List Question) Outcome
+questions_of text files = following (answerable text) (asked_of text files)
+
+-- the questions of a text are to be answered
+abbrev pub asked_due : ℕ → Text → List File → Result Outcome Outcome
+asked_due budget asked files = following (λ questions. Ok (answering files questions budget)) (questions_of asked files)
 
 -- what the texts of `verify` come to: each configuration is parsed, then the network, then the questions
-abbrev pub texts_due : List Text → Text → Result Outcome Outcome
-texts_due texts asked = following (questions_of asked) (following (answered_network texts) (network_due texts))
+abbrev pub texts_due : ℕ → List Text → Text → Result Outcome Outcome
+texts_due budget texts asked =
+    following (asked_due budget asked) (following (answered_network texts) (network_due texts))
 
 -- what the files of `verify` come to: all are read, the configurations first, and then their texts are parsed
-abbrev pub files_due : Contents → List ℕ → List (List ℕ) → Result Outcome Outcome
-files_due contents questions names =
-    following (λ texts. following (texts_due texts) (text_of contents questions)) (each (text_of contents) names)
+abbrev pub files_due : Contents → ℕ → List ℕ → List (List ℕ) → Result Outcome Outcome
+files_due contents budget questions names =
+    following (λ texts. following (texts_due budget texts) (text_of contents questions)) (each (text_of contents) names)
 
 -- the counterexample that a text states, or its refusal
 abbrev pub told_as : Text → List File → List Question → Result Counterexample CexRefused → Result Outcome Outcome
@@ -171,24 +195,25 @@ replay_due texts asked told =
 -- what the files of `replay` come to, read in the same order
 abbrev pub replayed_due : Contents → List ℕ → List ℕ → List (List ℕ) → Result Outcome Outcome
 replayed_due contents cex questions names =
-    following (λ texts. following (λ asked. following (replay_due texts asked) (text_within MOST_CEX_BYTES contents cex))
+    following (λ texts. following (λ asked. following (replay_due texts asked) (text_within MOST_CEX_BYTES contents
+    cex))
     (text_of contents questions)) (each (text_of contents) names)
 
 abbrev pub either : Result Outcome Outcome → Outcome
 either (Ok outcome) = outcome
 either (Err outcome) = outcome
 
--- the words after the command
-abbrev pub verify_due : Contents → List (List ℕ) → Outcome
-verify_due contents (command ∷ questions ∷ names) = either (files_due contents questions names)
-verify_due contents _ = usage
+-- what the names of a command come to
+abbrev pub verify_due : Contents → ℕ → List (List ℕ) → Outcome
+verify_due contents budget (questions ∷ names) = either (files_due contents budget questions names)
+verify_due contents budget [] = usage
 
 abbrev pub replay_words_due : Contents → List (List ℕ) → Outcome
-replay_words_due contents (command ∷ cex ∷ questions ∷ names) = either (replayed_due contents cex questions names)
+replay_words_due contents (cex ∷ questions ∷ names) = either (replayed_due contents cex questions names)
 replay_words_due contents _ = usage
 
 -- what is due
 abbrev pub due : Contents → List (List ℕ) → Outcome
 due contents words =
-    if is_verify words then verify_due contents words
-    else (if is_replay words then replay_words_due contents words else usage)
+    if is_verify words then verify_due contents (budget_of words) (verify_names words)
+    else (if is_replay words then replay_words_due contents (replay_names words) else usage)

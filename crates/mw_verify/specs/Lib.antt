@@ -5,3 +5,5 @@ pub mod Loading
 pub mod Verdicts
 pub mod Replays
 pub mod Running
+pub mod Answering
+pub mod Formulas

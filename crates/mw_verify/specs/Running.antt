@@ -1,5 +1,6 @@
 -- What a run prints and logs.
-use Rattle.std.specs.Prelude.{◌≡◌, ◌⊎◌, ℕ, false, List, [], ◌∷◌, ◌++◌, take, Option, IfSome, Ok, if◌then◌else◌}
+use Rattle.std.specs.Prelude.{◌≡◌, ◌⊎◌, ℕ, false, List, [], ◌∷◌, ◌++◌, take, slice_get, Option, Some}
+use Rattle.std.specs.Prelude.{IfSome, Ok, if◌then◌else◌}
 use Rattle.mw_text.specs.Reading.{each}
 use Rattle.mw_outside.specs.Contents.{Contents}
 use Rattle.mw_outside.specs.Taken.{Takes, TakesPart}
@@ -9,11 +10,15 @@ use Rattle.mw_verify.specs.declared.status.Status.{Status}
 use Rattle.mw_verify.specs.declared.status.Status.TheVariants.{Good, Bad, Unknown, Usage, Refused, ReadFault}
 use Rattle.mw_verify.specs.declared.status.Status.TheVariants.{WriteFault, Memory}
 use Rattle.mw_verify.specs.declared.text.Text.{Text}
-use Rattle.mw_verify.specs.Due.{Outcome, usage, unread, refused, answering, replaying, due, is_command, is_verify, text_of}
+use Rattle.resolution_check.specs.declared.log.Entry.{Entry}
+use Rattle.cex_json.specs.declared.counterexample.Counterexample.{Counterexample}
+use Rattle.mw_verify.specs.Due.{Outcome, usage, unread, refused, answering, replaying, due, is_command, is_verify}
+use Rattle.mw_verify.specs.Due.{replay_names, text_of, verify_names}
 use Rattle.mw_verify.specs.Replays.{AnswersReplay, IsReplayedSo, replay_text}
 use Rattle.stable_replay.specs.declared.differs.ReplayNo.{ReplayNo}
 use Rattle.mw_verify.specs.Texts.{usage_text}
-use Rattle.mw_verify.specs.Verdicts.{Answer, AreRight, answers_text, sections_text, status_of}
+use Rattle.mw_verify.specs.Verdicts.{Answer, AreRight, IsSearched, answers_text, opening_text, section_text}
+use Rattle.mw_verify.specs.Verdicts.{sections_text, status_of}
 
 -- what is due for the words: usage where they are no command, whatever the files hold; and what the contents come to,
 -- where these are told
@@ -31,7 +36,8 @@ pub record AreAnswered (files : List File) (questions : List Question) (budget :
   pub logged : Takes logged_before logged_now (sections_text questions answers)
 
 -- what is due is answered: all questions, or the replay, of which nothing is logged
-abbrev pub IsAnswered : Outcome → Status → Option (List ℕ) → Option (List ℕ) → Option (List ℕ) → Option (List ℕ) → Type 0
+abbrev pub IsAnswered : Outcome → Status → Option (List ℕ) → Option (List ℕ) → Option (List ℕ) → Option (List ℕ) →
+    Type 0
 IsAnswered (answering files questions budget) status before now logged_before logged_now =
     AreAnswered files questions budget status before now logged_before logged_now
 IsAnswered (replaying files questions cex) status before now logged_before logged_now =
@@ -40,21 +46,51 @@ IsAnswered usage status before now logged_before logged_now = ⊥
 IsAnswered unread status before now logged_before logged_now = ⊥
 IsAnswered (refused line) status before now logged_before logged_now = ⊥
 
--- a text that may stand when a run ends early: the line that is due, or right answers to the first questions, or the answer
--- of a replay where there was one
-abbrev pub MayPrint : Outcome → List ℕ → Type 0
-MayPrint usage text = text ≡ usage_text
-MayPrint unread text = text ≡ []
-MayPrint (refused line) text = text ≡ line
-MayPrint (answering files questions budget) text =
-    (count : ℕ) × (answers : List Answer) × AreRight files budget 0 (take count questions) answers
-    × (text ≡ answers_text files questions (take count questions) answers)
-MayPrint (replaying files questions cex) text =
-    (text ≡ []) ⊎ ((answer : Option ReplayNo) × AnswersReplay files questions cex answer × (text ≡ replay_text files answer))
+-- what a search for an answer may leave in the log where it ends early: a front of the line that opens its section,
+-- or of a section
+abbrev pub IsSectionOf : List File → ℕ → Question → List ℕ → Type 0
+IsSectionOf files budget question text =
+    (text ≡ opening_text question)
+    ⊎ ((entries : List Entry) × IsSearched files question budget entries × (text ≡ section_text question entries))
 
--- a front of such a text stands
-abbrev pub PrintsPart : Outcome → Option (List ℕ) → Option (List ℕ) → Type 0
-PrintsPart outcome before now = (text : List ℕ) × MayPrint outcome text × TakesPart before now text
+-- what may stand in the log after the sections of so many answers: nothing, or what a search for the next answer left
+abbrev pub IsBegun : List File → ℕ → List Question → ℕ → List ℕ → Type 0
+IsBegun files budget questions count text =
+    (text ≡ []) ⊎ ((question : Question) × (slice_get questions count ≡ Some question)
+    × IsSectionOf files budget question text)
+
+-- a run that ended early: right answers to the first questions. A front of their lines is printed; their sections stand
+-- whole in the log, and after them a front of what may stand there
+pub record AreBegun (files : List File) (questions : List Question) (budget : ℕ)
+    (before now logged_before logged_now : Option (List ℕ)) : Type 0 where
+  pub count : ℕ
+  pub answers : List Answer
+  pub right : AreRight files budget 0 (take count questions) answers
+  pub text : TakesPart before now (answers_text files questions (take count questions) answers)
+  pub middle : Option (List ℕ)
+  pub logged : Takes logged_before middle (sections_text (take count questions) answers)
+  pub next : List ℕ
+  pub begun : IsBegun files budget questions count next
+  pub part : TakesPart middle logged_now next
+
+-- a front of the answer of a replay, where there was one
+abbrev pub IsReplayBegun : List File → List Question → Counterexample → Option (List ℕ) → Option (List ℕ) → Type 0
+IsReplayBegun files questions cex before now =
+    (text : List ℕ)
+    × ((text ≡ [])
+    ⊎ ((answer : Option ReplayNo) × AnswersReplay files questions cex answer × (text ≡ replay_text files answer)))
+    × TakesPart before now text
+
+-- what stands when a run ends early: a front of the line that is due, or of right answers to the first questions with
+-- their sections, or of the answer of a replay
+abbrev pub Stands : Outcome → Option (List ℕ) → Option (List ℕ) → Option (List ℕ) → Option (List ℕ) → Type 0
+Stands usage before now logged_before logged_now = TakesPart before now usage_text × (logged_now ≡ logged_before)
+Stands unread before now logged_before logged_now = (now ≡ before) × (logged_now ≡ logged_before)
+Stands (refused line) before now logged_before logged_now = TakesPart before now line × (logged_now ≡ logged_before)
+Stands (answering files questions budget) before now logged_before logged_now =
+    AreBegun files questions budget before now logged_before logged_now
+Stands (replaying files questions cex) before now logged_before logged_now =
+    IsReplayBegun files questions cex before now × (logged_now ≡ logged_before)
 
 -- P where all questions were answered
 abbrev pub OnAnswered : Status → Type 0 → Type 0
@@ -78,21 +114,32 @@ OnCut ReadFault P = Unit {0}
 OnCut WriteFault P = P
 OnCut Memory P = P
 
--- the names of the files in the order in which they are read: the configurations, then the questions, and for `replay` then
--- the counterexample
+-- P where the run ended before any answer
+abbrev pub OnUnanswered : Status → Type 0 → Type 0
+OnUnanswered Good P = Unit {0}
+OnUnanswered Bad P = Unit {0}
+OnUnanswered Unknown P = Unit {0}
+OnUnanswered Usage P = P
+OnUnanswered Refused P = P
+OnUnanswered ReadFault P = P
+OnUnanswered WriteFault P = Unit {0}
+OnUnanswered Memory P = Unit {0}
+
+-- the names of the files in the order in which they are read: the configurations, then the questions, and for
+-- `replay` then the counterexample
 abbrev pub verify_order : List (List ℕ) → List (List ℕ)
-verify_order (command ∷ questions ∷ names) = names ++ questions ∷ []
-verify_order _ = []
+verify_order (questions ∷ names) = names ++ questions ∷ []
+verify_order [] = []
 
 abbrev pub replay_order : List (List ℕ) → List (List ℕ)
-replay_order (command ∷ cex ∷ questions ∷ names) = names ++ questions ∷ cex ∷ []
+replay_order (cex ∷ questions ∷ names) = names ++ questions ∷ cex ∷ []
 replay_order _ = []
 
 abbrev pub in_order : List (List ℕ) → List (List ℕ)
-in_order words = if is_verify words then verify_order words else replay_order words
+in_order words = if is_verify words then verify_order (verify_names words) else replay_order (replay_names words)
 
--- the files of these names are there, each with few enough bytes: only the last that a command names, its own, is none of
--- these
+-- the files of these names are there, each with few enough bytes: only the last that a command names, its own, is
+-- none of these
 abbrev pub AreThere : Contents → List (List ℕ) → Type 0
 AreThere files names = (texts : List Text) × (each (text_of files) names ≡ Ok texts)
 

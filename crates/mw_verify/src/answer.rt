@@ -1,20 +1,35 @@
-//! Answers one question after another.
+//! Answers one question by a search, whose log shows the answer.
 
-ghost use Rattle.std.specs.Prelude.{◌≡◌, ◌<◌, ℕ, IfOk, IfSome, None, length, true};
-ghost use Rattle.net_model.specs.Network.{runs_no_protocol};
-ghost use Rattle.question_lang.specs.Breaking.{reach_question};
-ghost use Rattle.question_lang.specs.Single.{IsReach};
-ghost use Rattle.mw_verify.specs.Due.{is_answerable};
+ghost use Rattle.std.specs.Prelude.{◌≡◌, ◌<◌, ◌≤◌, ℕ, List as ListOf, Option as OptionOf, IfOk, OnErr, OnOk, length, true};
+ghost use Rattle.cdcl_search.specs.Outcomes.{OnLogFault, OnSat, OnUnknown, OnUnsat, Shows, UnlessLogFault};
+ghost use Rattle.net_encoder.specs.Breaking.{IsBreaking};
+ghost use Rattle.net_encoder.specs.Slots.{runs_no_bgp};
+ghost use Rattle.net_encoder.specs.Worlds.{no_environment};
+ghost use Rattle.mw_outside.specs.Faults.{Rose};
+ghost use Rattle.mw_outside.specs.Taken.{Takes, TakesPart};
+ghost use Rattle.mw_verify.specs.Answering.{IsLogged, IsSearchedSo, IsUnfinished, end_text};
+ghost use Rattle.mw_verify.specs.Formulas.{IsFormula};
+ghost use Rattle.mw_verify.specs.Loading.{IsBudget};
 ghost use Rattle.mw_verify.specs.Texts.{holds_text, unknown_text};
 ghost use Rattle.mw_verify.specs.Verdicts as verdicts;
+ghost use Rattle.question_lang.specs.Breaking.{reach_question};
+ghost use Rattle.question_lang.specs.Single.{IsReach};
+ghost use Rattle.question_lang.specs.declared.walk.Walk.{Walk as WalkOf};
+ghost use Rattle.resolution_check.specs.Entries.{IsUnsatisfiable, satisfies};
+ghost use Rattle.resolution_check.specs.declared.log.Entry.{Entry};
+ghost use Rattle.term_store.specs.Terms.{truth};
 
+use crate::formula::{Formula, formula_of};
 use crate::text::append;
+use cdcl_search::{Outcome, SolveFault, solve};
 use cex_json::{Counterexample, write_cex};
+use cnf_blaster::decoded;
+use mw_outside::Sink;
 use mw_text::List;
+use net_encoder::decode;
 use net_model::Net;
-use proto_rib::tables_of;
-use question_lang::{Kind, Question, Start, Target, single_packet};
-use route_record::{Environment, Failures};
+use question_lang::{Kind, Question, Start, Target};
+use route_record::Environment;
 use std::alloc::{AllocError, Global};
 use walk_def::{World, breaking_walk};
 
@@ -29,7 +44,7 @@ pub enum Verdict {
     Unknown(u64),
 }
 
-// The routers between which the packet of the question goes.
+// The routers between which the packets of the question go.
 fn ends_of(kind: &Kind, routers: usize) -> (u32, u32)
     requires { (start : ℕ) × (target : ℕ) × (kind.now ≡ reach_question start target) × (start < routers) }
     ensures kind { kind.now ≡ reach_question result.0 result.1 }
@@ -48,34 +63,23 @@ fn ends_of(kind: &Kind, routers: usize) -> (u32, u32)
     }
 }
 
-/// The right verdict for the question of that number.
-pub fn verdict_of(
+// A counterexample of that world, in which some walk breaks the question.
+fn broken_world(
     alloc: Global,
     net: &Net,
     number: u32,
     question: &Question,
-) -> Result<Verdict, AllocError>
+    world: World,
+) -> Result<Counterexample, AllocError>
     requires reach { IsReach (length net.now) question.now }
-    requires answerable { is_answerable question.now ≡ true }
-    requires plain { runs_no_protocol net.now ≡ true }
-    ensures { IfOk result (λ verdict. verdicts.IsRight net.now number question.now verdict
-        × verdicts.MayGoUnlogged verdict) }
+    requires breaking { (walk : OptionOf WalkOf) × IsBreaking net.now question.now world no_environment walk }
+    ensures { IfOk result (verdicts.IsTrueCounterexample net.now number question.now) }
 {
-    let packet = single_packet(&question.packets);
     let (start, target) = ends_of(&question.kind, net.routers().len());
-    let tables = tables_of(alloc, net, packet.dst)?;
-    let world = World {
-        failures: Failures {
-            links: List::new(alloc),
-        },
-        packet,
-        tables,
-    };
     match breaking_walk(alloc, net, &world, start, target)? {
-        None => Ok(Verdict::Holds),
-        Some(walk) => Ok(Verdict::Broken(Counterexample {
+        Some(walk) => Ok(Counterexample {
             question: number,
-            packet,
+            packet: world.packet,
             failures: world.failures,
             env: Environment {
                 ids: List::new(alloc),
@@ -83,8 +87,152 @@ pub fn verdict_of(
             },
             tables: world.tables,
             walk: Some(walk),
-        })),
+        }),
+        None => unreachable!(),
     }
+}
+
+// The counterexample of values that satisfy the clauses of the question.
+fn counterexample_of(
+    alloc: Global,
+    net: &Net,
+    number: u32,
+    question: &Question,
+    formula: &Formula,
+    values: &[bool],
+) -> Result<Counterexample, AllocError>
+    requires reach { IsReach (length net.now) question.now }
+    requires formula { IsFormula net.now question.now formula.now }
+    requires values { length values.now ≡ formula.now.cnf.vars }
+    requires satisfied { satisfies (truth values.now) formula.now.cnf.clauses ≡ true }
+    ensures { IfOk result (verdicts.IsTrueCounterexample net.now number question.now) }
+{
+    let roots = [formula.root];
+    let row = decoded(
+        alloc,
+        &formula.terms,
+        &roots,
+        formula.cnf.node_of.as_slice(),
+        values,
+    )?;
+    let world = decode(alloc, row.as_slice(), net, question)?;
+    broken_world(alloc, net, number, question, world)
+}
+
+// The right verdict of what a search of the question's clauses found.
+fn verdict_of(
+    alloc: Global,
+    net: &Net,
+    number: u32,
+    question: &Question,
+    formula: &Formula,
+    outcome: Outcome,
+) -> Result<Verdict, AllocError>
+    requires reach { IsReach (length net.now) question.now }
+    requires formula { IsFormula net.now question.now formula.now }
+    requires unsat { OnUnsat outcome (IsUnsatisfiable formula.now.cnf.clauses) }
+    requires sat { OnSat outcome (λ values. satisfies (truth values) formula.now.cnf.clauses ≡ true) }
+    requires values { OnSat outcome (λ values. length values ≡ formula.now.cnf.vars) }
+    ensures right { IfOk result (verdicts.IsRight net.now number question.now) }
+    ensures shown { IfOk result (λ verdict. (budget : ℕ) (entries : ListOf Entry) →
+        OnUnknown outcome (λ added. added ≡ budget) → Shows budget entries outcome →
+        verdicts.ShowsVerdict budget entries verdict) }
+{
+    match outcome {
+        Outcome::Unsat => Ok(Verdict::Holds),
+        Outcome::Sat { values } => {
+            let cex = counterexample_of(alloc, net, number, question, formula, values.as_slice())?;
+            Ok(Verdict::Broken(cex))
+        }
+        Outcome::Unknown { added } => Ok(Verdict::Unknown(added)),
+    }
+}
+
+// Opens the section of a question in the log.
+fn write_opening<L: Sink>(alloc: Global, question: &Question, log: &mut L) -> Result<(), SolveFault>
+    ensures takes { OnOk result (Takes (L.taken log.old) (L.taken log.new) (verdicts.opening_text question.now)) }
+    ensures part { TakesPart (L.taken log.old) (L.taken log.new) (verdicts.opening_text question.now) }
+    ensures fault { OnLogFault result (Rose (L.faults log.old) (L.faults log.new)) }
+    ensures stays { UnlessLogFault result (L.faults log.new ≡ L.faults log.old) }
+{
+    let mut text = List::new(alloc);
+    append(&mut text, b"q ")?;
+    append(&mut text, question.name.as_slice())?;
+    append(&mut text, b"\n")?;
+    log.write(text.as_slice())?;
+    Ok(())
+}
+
+// Closes it.
+fn write_end<L: Sink>(log: &mut L) -> Result<(), SolveFault>
+    ensures takes { OnOk result (Takes (L.taken log.old) (L.taken log.new) end_text) }
+    ensures part { TakesPart (L.taken log.old) (L.taken log.new) end_text }
+    ensures fault { OnLogFault result (Rose (L.faults log.old) (L.faults log.new)) }
+    ensures stays { UnlessLogFault result (L.faults log.new ≡ L.faults log.old) }
+{
+    log.write(b"e\n")?;
+    Ok(())
+}
+
+// What a search for what breaks a question found, with the formula that was searched.
+#[derive(Drop)]
+struct Searched {
+    formula: Formula,
+    outcome: Outcome,
+}
+
+// Searches for what breaks the question, and writes the question's section of the log.
+fn search<L: Sink>(
+    alloc: Global,
+    net: &Net,
+    question: &Question,
+    budget: u64,
+    log: &mut L,
+) -> Result<Searched, SolveFault>
+    requires no_bgp { runs_no_bgp net.now ≡ true }
+    requires budget { IsBudget budget }
+    ensures formula { IfOk result (λ s. IsFormula net.now question.now s.formula) }
+    ensures unsat { IfOk result (λ s. OnUnsat s.outcome (IsUnsatisfiable s.formula.cnf.clauses)) }
+    ensures sat { IfOk result (λ s. OnSat s.outcome (λ values. satisfies (truth values) s.formula.cnf.clauses ≡ true)) }
+    ensures values { IfOk result (λ s. OnSat s.outcome (λ values. length values ≡ s.formula.cnf.vars)) }
+    ensures unknown { IfOk result (λ s. OnUnknown s.outcome (λ added. added ≡ budget)) }
+    ensures logged { IfOk result (λ s. IsSearchedSo net.now budget question.now s.outcome (L.taken log.old) (L.taken log.new)) }
+    ensures cut { OnErr result (IsUnfinished net.now budget question.now (L.taken log.old) (L.taken log.new)) }
+    ensures fault { OnLogFault result (Rose (L.faults log.old) (L.faults log.new)) }
+    ensures stays { UnlessLogFault result (L.faults log.new ≡ L.faults log.old) }
+{
+    write_opening(alloc, question, log)?;
+    let formula = formula_of(alloc, net, question)?;
+    let outcome = solve(alloc, &formula.cnf, budget, log)?;
+    write_end(log)?;
+    Ok(Searched { formula, outcome })
+}
+
+/// A right verdict for the question of that number, found by learning at most so many clauses. The section that shows it
+/// stands in the log.
+///
+/// # Errors
+/// `LogFault` where a write of the log failed; `Memory` where memory was refused and no write failed. A front of what was
+/// to be logged then stands.
+pub fn answer<L: Sink>(
+    alloc: Global,
+    net: &Net,
+    number: u32,
+    question: &Question,
+    budget: u64,
+    log: &mut L,
+) -> Result<Verdict, SolveFault>
+    requires reach { IsReach (length net.now) question.now }
+    requires no_bgp { runs_no_bgp net.now ≡ true }
+    requires budget { IsBudget budget }
+    ensures ok { IfOk result (λ verdict. IsLogged net.now budget number question.now verdict (L.taken log.old) (L.taken log.new)) }
+    ensures cut { OnErr result (IsUnfinished net.now budget question.now (L.taken log.old) (L.taken log.new)) }
+    ensures fault { OnLogFault result (Rose (L.faults log.old) (L.faults log.new)) }
+    ensures stays { UnlessLogFault result (L.faults log.new ≡ L.faults log.old) }
+{
+    let Searched { formula, outcome } = search(alloc, net, question, budget, log)?;
+    let verdict = verdict_of(alloc, net, number, question, &formula, outcome)?;
+    Ok(verdict)
 }
 
 fn holds_line(alloc: Global, question: &Question) -> Result<List<u8>, AllocError>

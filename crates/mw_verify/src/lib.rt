@@ -3,6 +3,7 @@
 #![tactic(auto)]
 
 pub mod answer;
+pub mod formula;
 pub mod load;
 pub mod replaying;
 pub mod running;

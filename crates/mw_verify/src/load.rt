@@ -7,14 +7,15 @@ ghost use Rattle.ios_ast.specs.Limits.{keeps_limits};
 ghost use Rattle.mw_text.specs.Reading.{each};
 ghost use Rattle.mw_text.specs.Words.{is_skipped};
 ghost use Rattle.mw_verify.specs.Texts as lines;
-ghost use Rattle.net_model.specs.Network.{is_plain, runs_no_protocol};
+ghost use Rattle.net_encoder.specs.Slots.{runs_no_bgp};
 ghost use Rattle.mw_outside.specs.Faults.{Rose};
 ghost use Rattle.mw_outside.specs.Contents.{TellsOnly};
 ghost use Rattle.question_lang.specs.Known.{AreKnown};
 ghost use Rattle.question_lang.specs.Single.{AreReach};
 ghost use Rattle.mw_verify.specs.Due as due;
+ghost use Rattle.mw_verify.specs.Due.{is_answerable};
 ghost use Rattle.mw_verify.specs.Running.{StopsAt};
-ghost use Rattle.mw_verify.specs.Loading.{OnStop, UnlessReadFault, AreSmall, AreAnswerable};
+ghost use Rattle.mw_verify.specs.Loading.{OnStop, UnlessReadFault, AreSmall};
 
 use crate::text::{Text, net_refused, not_built, refusal, too_long};
 use ios_ast::File;
@@ -23,7 +24,7 @@ use ios_reader::read_file;
 use mw_outside::{Files, ReadRefused, read_whole};
 use mw_text::{Line, List, lines_of, list_of, says_nothing};
 use net_model::{Net, NetCause, NetRefused};
-use question_lang::{MOST_QUESTIONS, Question, is_reach, is_single, read_questions};
+use question_lang::{MOST_QUESTIONS, Question, is_reach, read_questions};
 use std::alloc::{AllocError, AllocFailed, Global};
 
 /// How many bytes a configuration or a questions file has at most.
@@ -34,6 +35,9 @@ pub const MOST_CEX_BYTES: u64 = 16_777_216;
 
 /// How many clauses a search may learn for a question, where the words do not say it.
 pub const DEFAULT_CONFLICTS: u64 = 1_000_000;
+
+/// How many the words may say at most.
+pub const MOST_CONFLICTS: u64 = 1_000_000_000;
 
 /// Why a run ends before the answers: with the line of a refusal, at a read that failed, or for want of memory.
 #[derive(Drop)]
@@ -185,42 +189,30 @@ fn net_refusal(alloc: Global, texts: &[Text], why: NetRefused) -> Result<List<u8
     net_refused(alloc, name_at(texts, why.file as usize), &why)
 }
 
-fn earlier(a: Option<u32>, b: Option<u32>) -> Option<u32>
-    ensures { result ≡ due.earlier a b }
-{
-    match (a, b) {
-        (None, _) => b,
-        (_, None) => a,
-        (Some(a), Some(b)) => Some(a.min(b)),
-    }
-}
-
 // The first line of a file for which `verify` cannot answer yet.
 fn unbuilt_line(file: &File) -> Option<u32>
     ensures { result ≡ due.unbuilt_line file.now }
 {
-    let ospf = file.ospf.as_ref().map(|ospf| ospf.line);
-    let bgp = file.bgp.as_ref().map(|bgp| bgp.line);
-    earlier(ospf, bgp)
+    file.bgp.as_ref().map(|bgp| bgp.line)
 }
 
-fn runs_protocol(file: &File) -> bool
-    ensures { result ≡ not (is_plain file.now) }
+fn runs_bgp(file: &File) -> bool
+    ensures { result ≡ is_some file.now.bgp }
 {
-    file.ospf.is_some() || file.bgp.is_some()
+    file.bgp.is_some()
 }
 
 fn find_unbuilt(files: &[File]) -> Option<usize>
-    ensures { result ≡ position (λ file. not (is_plain file)) files.now }
+    ensures { result ≡ position (λ file. is_some file.bgp) files.now }
 {
-    files.iter().position(|file| runs_protocol(file))
+    files.iter().position(|file| runs_bgp(file))
 }
 
-// The number of the first file for which `verify` cannot answer yet. Where there is none, no router runs a routing protocol.
-#[tactic(auto, using(crate::proofs::Deciding::all_plain))]
+// The number of the first file for which `verify` cannot answer yet. Where there is none, no router runs BGP.
+#[tactic(auto, using(crate::proofs::Deciding::none_runs_bgp))]
 fn first_unbuilt(files: &[File]) -> Option<usize>
-    ensures first { result ≡ position (λ file. not (is_plain file)) files.now }
-    ensures none { result ≡ None → runs_no_protocol files.now ≡ true }
+    ensures first { result ≡ position (λ file. is_some file.bgp) files.now }
+    ensures none { result ≡ None → runs_no_bgp files.now ≡ true }
 {
     let found = find_unbuilt(files);
     found
@@ -260,7 +252,7 @@ fn stop_at_network(alloc: Global, texts: &[Text], why: NetRefused) -> Stop
 // The network, where `verify` can answer for it.
 fn answered_network(alloc: Global, texts: &[Text], net: Net) -> Result<Net, Stop>
     ensures ok { IfOk result (λ answered. due.answered_network texts.now net ≡ Ok answered) }
-    ensures plain { IfOk result (λ answered. runs_no_protocol answered ≡ true) }
+    ensures no_bgp { IfOk result (λ answered. runs_no_bgp answered ≡ true) }
     ensures stop { IfErr result (λ stop. OnStop stop (λ line. due.answered_network texts.now net ≡ Err (due.refused line)) ⊥) }
 {
     match first_unbuilt(net.routers()) {
@@ -291,11 +283,11 @@ pub fn parse_network(alloc: Global, texts: &[Text]) -> Result<Net, Stop>
     network_of(alloc, texts, files)
 }
 
-// Whether `verify` can answer the question today: whether one packet from a router reaches a router, while no link fails.
+// Whether `verify` can answer the question today: whether packets from a router reach a router.
 fn is_answerable(question: &Question) -> bool
     ensures { result ≡ due.is_answerable question.now }
 {
-    is_reach(question) && question.failures == 0 && is_single(&question.packets)
+    is_reach(question)
 }
 
 fn find_unanswerable(questions: &[Question]) -> Option<usize>
@@ -309,7 +301,7 @@ fn find_unanswerable(questions: &[Question]) -> Option<usize>
 // The number of the first question that cannot be answered.
 fn first_unanswerable(questions: &[Question]) -> Option<usize>
     ensures first { result ≡ position (λ question. not (due.is_answerable question)) questions.now }
-    ensures none { result ≡ None → AreAnswerable questions.now }
+    ensures none { result ≡ None → list_all is_answerable questions.now ≡ true }
 {
     let found = find_unanswerable(questions);
     found
@@ -368,9 +360,8 @@ pub fn read_asked(alloc: Global, asked: &Text, net: &Net) -> Result<List<Questio
 #[tactic(auto, using(crate::proofs::Deciding::are_reach))]
 fn parse_questions(alloc: Global, asked: &Text, net: &Net) -> Result<List<Question>, Stop>
     requires { length asked.now.bytes ≤ MOST_BYTES }
-    ensures ok { IfOk result (λ questions. due.questions_of asked.now net.now ≡ Ok (due.answering net.now questions DEFAULT_CONFLICTS)) }
+    ensures ok { IfOk result (λ questions. due.questions_of asked.now net.now ≡ Ok questions) }
     ensures reach { IfOk result (AreReach (length net.now)) }
-    ensures answerable { IfOk result AreAnswerable }
     ensures few { IfOk result (λ questions. length questions ≤ MOST_QUESTIONS) }
     ensures stop { IfErr result (λ stop. OnStop stop (λ line. due.questions_of asked.now net.now ≡ Err (due.refused line)) ⊥) }
 {
@@ -381,28 +372,33 @@ fn parse_questions(alloc: Global, asked: &Text, net: &Net) -> Result<List<Questi
     }
 }
 
-/// A network and the questions about it.
+/// A network, the questions about it, and how many clauses a search may learn for each.
 #[derive(Drop)]
 pub struct Loaded {
     pub net: Net,
     pub questions: List<Question>,
+    pub budget: u64,
 }
 
 // The network and the questions of the texts.
-fn parse(alloc: Global, texts: &[Text], asked: &Text) -> Result<Loaded, Stop>
+fn parse(alloc: Global, budget: u64, texts: &[Text], asked: &Text) -> Result<Loaded, Stop>
     requires texts { AreSmall texts.now }
     requires asked { length asked.now.bytes ≤ MOST_BYTES }
-    ensures ok { IfOk result (λ loaded. due.texts_due texts.now asked.now ≡ Ok (due.answering loaded.net loaded.questions DEFAULT_CONFLICTS)) }
-    ensures plain { IfOk result (λ loaded. runs_no_protocol loaded.net ≡ true) }
+    ensures ok { IfOk result (λ loaded. due.texts_due budget texts.now asked.now ≡ Ok (due.answering loaded.net loaded.questions budget)) }
+    ensures budget { IfOk result (λ loaded. loaded.budget ≡ budget) }
+    ensures no_bgp { IfOk result (λ loaded. runs_no_bgp loaded.net ≡ true) }
     ensures reach { IfOk result (λ loaded. AreReach (length loaded.net) loaded.questions) }
-    ensures answerable { IfOk result (λ loaded. AreAnswerable loaded.questions) }
     ensures few { IfOk result (λ loaded. length loaded.questions ≤ MOST_QUESTIONS) }
-    ensures stop { IfErr result (λ stop. OnStop stop (λ line. due.texts_due texts.now asked.now ≡ Err (due.refused line)) ⊥) }
+    ensures stop { IfErr result (λ stop. OnStop stop (λ line. due.texts_due budget texts.now asked.now ≡ Err (due.refused line)) ⊥) }
 {
     let net = parse_network(alloc, texts)?;
     let net = answered_network(alloc, texts, net)?;
     let questions = parse_questions(alloc, asked, &net)?;
-    Ok(Loaded { net, questions })
+    Ok(Loaded {
+        net,
+        questions,
+        budget,
+    })
 }
 
 /// Reads the configurations of these names and then the questions file, and parses them in this order. A read fault is
@@ -411,25 +407,26 @@ fn parse(alloc: Global, texts: &[Text], asked: &Text) -> Result<Loaded, Stop>
 pub fn load<F: Files>(
     alloc: Global,
     files: &mut F,
+    budget: u64,
     questions: &str,
     names: &[String],
 ) -> Result<Loaded, Stop>
     ensures kept { F.contents files.new ≡ F.contents files.old }
     ensures ok { IfOk result (λ loaded. IfSome (F.contents files.old) (λ contents.
-        due.files_due contents questions.now (map string_bytes names.now) ≡ Ok (due.answering loaded.net loaded.questions DEFAULT_CONFLICTS))) }
-    ensures plain { IfOk result (λ loaded. runs_no_protocol loaded.net ≡ true) }
+        due.files_due contents budget questions.now (map string_bytes names.now) ≡ Ok (due.answering loaded.net loaded.questions budget))) }
+    ensures budget { IfOk result (λ loaded. loaded.budget ≡ budget) }
+    ensures no_bgp { IfOk result (λ loaded. runs_no_bgp loaded.net ≡ true) }
     ensures reach { IfOk result (λ loaded. AreReach (length loaded.net) loaded.questions) }
-    ensures answerable { IfOk result (λ loaded. AreAnswerable loaded.questions) }
     ensures few { IfOk result (λ loaded. length loaded.questions ≤ MOST_QUESTIONS) }
     ensures quiet { UnlessReadFault result (F.faults files.new ≡ F.faults files.old) }
     ensures name_stays { UnlessReadFault result (F.last_failed files.new ≡ F.last_failed files.old) }
     ensures stop { IfErr result (λ stop. OnStop stop
         (λ line. IfSome (F.contents files.old) (λ contents.
-        due.files_due contents questions.now (map string_bytes names.now) ≡ Err (due.refused line)))
+        due.files_due contents budget questions.now (map string_bytes names.now) ≡ Err (due.refused line)))
         (Rose (F.faults files.old) (F.faults files.new)
         × StopsAt (F.contents files.old) (map string_bytes names.now ++ questions.now ∷ []) (F.last_failed files.new))) }
 {
     let texts = read_texts(alloc, files, names)?;
     let asked = read_text(alloc, files, questions, MOST_BYTES)?;
-    parse(alloc, texts.as_slice(), &asked)
+    parse(alloc, budget, texts.as_slice(), &asked)
 }

@@ -1,6 +1,6 @@
 //! Tests a counterexample that is told.
 
-ghost use Rattle.std.specs.Prelude.{◌≡◌, ◌≢◌, ◌≤◌, ◌++◌, ◌∷◌, [], Ok, Err, Some, IfOk, IfErr, IfSome, length, map, string_bytes};
+ghost use Rattle.std.specs.Prelude.{◌≡◌, ◌≢◌, ◌≤◌, ◌++◌, ◌∷◌, [], ℕ, List as ListOf, Option as OptionOf, Ok, Err, Some, IfOk, IfErr, IfSome, length, map, string_bytes};
 ghost use Rattle.mw_outside.specs.Faults.{Rose};
 ghost use Rattle.mw_verify.specs.Due as due;
 ghost use Rattle.mw_verify.specs.Loading.{AnswersSo, AreSmall, OnStop, UnlessReadFault};
@@ -232,8 +232,9 @@ fn replay_line(alloc: Global, told: &Told) -> Result<ReplayLine, AllocError>
 /// Prints whether the counterexample is true.
 pub fn put_replay<O: Sink>(alloc: Global, told: &Told, out: &mut O) -> Status
     requires { replays.IsAdmitted told.now.net told.now.questions told.now.cex }
-    ensures answers { AnswersSo (due.replaying told.now.net told.now.questions told.now.cex) result
-        (O.taken out.old) (O.taken out.new) (Rose (O.faults out.old) (O.faults out.new)) }
+    // Nothing of it is logged.
+    ensures answers { (logged : OptionOf (ListOf ℕ)) → AnswersSo (due.replaying told.now.net told.now.questions told.now.cex) result
+        (O.taken out.old) (O.taken out.new) logged logged (Rose (O.faults out.old) (O.faults out.new)) }
     ensures writes { result ≢ Status.WriteFault → O.faults out.new ≡ O.faults out.old }
 {
     let line = match replay_line(alloc, told) {

@@ -1,109 +1,187 @@
 //! The whole run of the program.
 
-ghost use Rattle.std.specs.Prelude.{◌≡◌, ◌≢◌, ◌≤◌, ◌⊎◌, ◌||◌, ℕ, List as ListOf, true, false, IfOk, length, map, string_bytes, codes};
-ghost use Rattle.std.specs.List.{list_any};
-ghost use Rattle.mw_text.specs.Text.{same_text};
-ghost use Rattle.ios_ast.specs.declared.file.File.{File};
+ghost use Rattle.std.specs.Prelude.{◌≡◌, ◌≢◌, ◌⊎◌, ◌||◌, ℕ, List as ListOf, true, false, IfOk, OnErr, length, map, string_bytes};
 ghost use Rattle.mw_outside.specs.Faults.{Rose};
 ghost use Rattle.mw_outside.specs.Taken.{Takes};
-ghost use Rattle.question_lang.specs.declared.question.Question.{Question as QuestionOf};
-ghost use Rattle.question_lang.specs.Single.{AreReach, IsReach};
+ghost use Rattle.question_lang.specs.Single.{IsReach};
+ghost use Rattle.net_encoder.specs.Slots.{runs_no_bgp};
+ghost use Rattle.mw_verify.specs.Answering.{IsCutShort, IsPut, OnWriteFault, UnlessWriteFault, status_seen};
 ghost use Rattle.mw_verify.specs.Due as due;
-ghost use Rattle.mw_verify.specs.Due.{Outcome, is_answerable};
-ghost use Rattle.net_model.specs.Network.{runs_no_protocol};
-ghost use Rattle.mw_verify.specs.Loading.{AnswersSo, AreAnswerable, IsLine, IsReady, outcome_of};
-ghost use Rattle.mw_verify.specs.Running.{IsAnswered, IsDue, OnAnswered, OnCut, PrintsPart, StopsAt, in_order};
+ghost use Rattle.mw_verify.specs.Due.{Outcome};
+ghost use Rattle.mw_verify.specs.Loading.{AnswersSo, IsBudget, IsReady, outcome_of};
+ghost use Rattle.mw_verify.specs.Running.{IsAnswered, IsDue, OnAnswered, OnCut, OnUnanswered, Stands, StopsAt, in_order};
 ghost use Rattle.mw_verify.specs.Texts.{usage_text};
-ghost use Rattle.mw_verify.specs.Verdicts.{is_broken_verdict};
+ghost use Rattle.mw_verify.specs.Verdicts.{is_broken_verdict, is_unknown_verdict};
 
-use crate::answer::{Verdict, verdict_lines, verdict_of};
-use crate::load::{DEFAULT_CONFLICTS, Stop};
+use crate::answer::{Verdict, answer, verdict_lines};
+use crate::load::{Loaded, Stop};
 use crate::replaying::put_replay;
 use crate::status::Status;
 use crate::work::{Work, work_of};
-use mw_outside::{Files, Sink};
-use mw_text::List;
-use net_model::Net;
-use question_lang::{MOST_QUESTIONS, Question};
+use cdcl_search::SolveFault;
+use mw_outside::{Failed, Files, Sink};
+use question_lang::Question;
 use std::alloc::{AllocError, Global};
 
 const USAGE: &[u8] = b"usage: mw_cli verify, check, replay, simulate or gen\n";
 
-fn either(a: bool, b: bool) -> bool
-    ensures { result ≡ (a || b) }
-{
-    a || b
+/// Why a run of answers ends early: at a write that failed, or for want of memory.
+#[derive(Clone, Copy, Debug, PartialEq, Eq)]
+pub enum Halt {
+    WriteFault,
+    Memory,
 }
 
-fn is_broken(verdict: &Verdict) -> bool
-    ensures { result ≡ is_broken_verdict verdict.now }
-{
-    matches!(verdict, Verdict::Broken(_))
-}
+impl From<SolveFault> for Halt {
+    ghost use Rattle.mw_verify.specs.Answering.{halt_of};
 
-// A right verdict for a question, with its lines, and whether it is `broken`.
-#[derive(Drop)]
-struct Line {
-    broken: bool,
-    text: List<u8>,
-}
+    ghost from_gives = { λ fault halt. halt ≡ halt_of fault };
 
-fn answer_line(
-    alloc: Global,
-    net: &Net,
-    questions: &[Question],
-    number: u32,
-    question: &Question,
-) -> Result<Line, AllocError>
-    requires reach { IsReach (length net.now) question.now }
-    requires answerable { is_answerable question.now ≡ true }
-    requires plain { runs_no_protocol net.now ≡ true }
-    ensures { IfOk result (λ line. IsLine net.now questions.now number question.now line.broken line.text) }
-{
-    let verdict = verdict_of(alloc, net, number, question)?;
-    let broken = is_broken(&verdict);
-    let text = verdict_lines(alloc, net, questions, question, &verdict)?;
-    Ok(Line { broken, text })
-}
-
-// Prints a right verdict for each question in turn.
-fn put_verdicts<O: Sink>(alloc: Global, net: &Net, questions: &[Question], out: &mut O) -> Status
-    requires reach { AreReach (length net.now) questions.now }
-    requires answerable { AreAnswerable questions.now }
-    requires plain { runs_no_protocol net.now ≡ true }
-    requires few { length questions.now ≤ MOST_QUESTIONS }
-    ensures answers { AnswersSo (due.answering net.now questions.now DEFAULT_CONFLICTS) result (O.taken out.old) (O.taken out.new) (Rose (O.faults out.old) (O.faults out.new)) }
-    ensures writes { result ≢ Status.WriteFault → O.faults out.new ≡ O.faults out.old }
-{
-    let mut broken = false;
-    for (at, question) in questions.iter().enumerate() {
-        let line = match answer_line(alloc, net, questions, at as u32, question) {
-            Ok(line) => line,
-            Err(_) => return Status::Memory,
-        };
-        match out.write(line.text.as_slice()) {
-            Ok(()) => broken = either(broken, line.broken),
-            Err(_) => return Status::WriteFault,
+    fn from(fault: SolveFault) -> Halt {
+        match fault {
+            SolveFault::LogFault => Halt::WriteFault,
+            SolveFault::Memory => Halt::Memory,
         }
     }
-    if broken { Status::Bad } else { Status::Good }
+}
+
+impl From<Failed> for Halt {
+    ghost use Rattle.mw_verify.specs.declared.running.Halt.TheVariants.{WriteFault};
+
+    ghost from_gives = { λ _ halt. halt ≡ WriteFault };
+
+    fn from(_error: Failed) -> Halt {
+        Halt::WriteFault
+    }
+}
+
+impl From<AllocError> for Halt {
+    ghost use Rattle.mw_verify.specs.declared.running.Halt.TheVariants.{Memory};
+
+    ghost from_gives = { λ _ halt. halt ≡ Memory };
+
+    fn from(_error: AllocError) -> Halt {
+        Halt::Memory
+    }
+}
+
+/// Which verdicts came so far.
+#[derive(Clone, Copy, Debug)]
+pub struct Seen {
+    /// Some was `broken`.
+    pub broken: bool,
+    /// Some was `unknown`.
+    pub unknown: bool,
+}
+
+impl Seen {
+    // With one verdict more.
+    fn with(self, verdict: &Verdict) -> Seen
+        ensures broken { result.broken ≡ (self.broken || is_broken_verdict verdict.now) }
+        ensures unknown { result.unknown ≡ (self.unknown || is_unknown_verdict verdict.now) }
+    {
+        match verdict {
+            Verdict::Holds => self,
+            Verdict::Broken(_) => Seen {
+                broken: true,
+                unknown: self.unknown,
+            },
+            Verdict::Unknown(_) => Seen {
+                broken: self.broken,
+                unknown: true,
+            },
+        }
+    }
+
+    fn status(self) -> Status
+        ensures { result ≡ status_seen self }
+    {
+        if self.broken {
+            Status::Bad
+        } else if self.unknown {
+            Status::Unknown
+        } else {
+            Status::Good
+        }
+    }
+}
+
+// Answers a question: its section goes into the log, and then the lines of its verdict are printed.
+fn put_verdict<O: Sink, L: Sink>(
+    alloc: Global,
+    loaded: &Loaded,
+    number: u32,
+    question: &Question,
+    out: &mut O,
+    log: &mut L,
+) -> Result<Verdict, Halt>
+    requires reach { IsReach (length loaded.now.net) question.now }
+    requires no_bgp { runs_no_bgp loaded.now.net ≡ true }
+    requires budget { IsBudget loaded.now.budget }
+    ensures ok { IfOk result (λ verdict. IsPut loaded.now.net loaded.now.questions loaded.now.budget number question.now verdict
+        (O.taken out.old) (O.taken out.new) (L.taken log.old) (L.taken log.new)) }
+    ensures cut { OnErr result (IsCutShort loaded.now.net loaded.now.questions loaded.now.budget number question.now
+        (O.taken out.old) (O.taken out.new) (L.taken log.old) (L.taken log.new)) }
+    ensures fault { OnWriteFault result (Rose (O.faults out.old) (O.faults out.new) ⊎ Rose (L.faults log.old) (L.faults log.new)) }
+    ensures writes { UnlessWriteFault result ((O.faults out.new ≡ O.faults out.old) × (L.faults log.new ≡ L.faults log.old)) }
+{
+    let verdict = answer(alloc, &loaded.net, number, question, loaded.budget, log)?;
+    let text = verdict_lines(
+        alloc,
+        &loaded.net,
+        loaded.questions.as_slice(),
+        question,
+        &verdict,
+    )?;
+    out.write(text.as_slice())?;
+    Ok(verdict)
+}
+
+// Answers each question in turn.
+fn put_verdicts<O: Sink, L: Sink>(
+    alloc: Global,
+    loaded: &Loaded,
+    out: &mut O,
+    log: &mut L,
+) -> Status
+    requires { IsReady (Work.Answer loaded.now) }
+    ensures answers { AnswersSo (outcome_of (Work.Answer loaded.now)) result
+        (O.taken out.old) (O.taken out.new) (L.taken log.old) (L.taken log.new)
+        (Rose (O.faults out.old) (O.faults out.new) ⊎ Rose (L.faults log.old) (L.faults log.new)) }
+    ensures writes { result ≢ Status.WriteFault → (O.faults out.new ≡ O.faults out.old) × (L.faults log.new ≡ L.faults log.old) }
+{
+    let mut seen = Seen {
+        broken: false,
+        unknown: false,
+    };
+    for (at, question) in loaded.questions.as_slice().iter().enumerate() {
+        match put_verdict(alloc, loaded, at as u32, question, out, log) {
+            Ok(verdict) => seen = seen.with(&verdict),
+            Err(Halt::WriteFault) => return Status::WriteFault,
+            Err(Halt::Memory) => return Status::Memory,
+        }
+    }
+    seen.status()
 }
 
 // Does the work, and prints its answers.
-fn put_answers<O: Sink>(alloc: Global, work: &Work, out: &mut O) -> Status
+fn put_answers<O: Sink, L: Sink>(alloc: Global, work: &Work, out: &mut O, log: &mut L) -> Status
     requires { IsReady work.now }
-    ensures answers { AnswersSo (outcome_of work.now) result (O.taken out.old) (O.taken out.new) (Rose (O.faults out.old) (O.faults out.new)) }
-    ensures writes { result ≢ Status.WriteFault → O.faults out.new ≡ O.faults out.old }
+    ensures answers { AnswersSo (outcome_of work.now) result
+        (O.taken out.old) (O.taken out.new) (L.taken log.old) (L.taken log.new)
+        (Rose (O.faults out.old) (O.faults out.new) ⊎ Rose (L.faults log.old) (L.faults log.new)) }
+    ensures writes { result ≢ Status.WriteFault → (O.faults out.new ≡ O.faults out.old) × (L.faults log.new ≡ L.faults log.old) }
 {
     match work {
-        Work::Answer(loaded) => put_verdicts(alloc, &loaded.net, loaded.questions.as_slice(), out),
+        Work::Answer(loaded) => put_verdicts(alloc, loaded, out, log),
         Work::Replay(told) => put_replay(alloc, told, out),
     }
 }
 
-/// The whole run: reads the words and the files that they name, and prints the answers. For `verify QUESTIONS CONFIG...`
-/// they are a verdict for each question; for `replay CEX QUESTIONS CONFIG...` whether the counterexample is true of the
-/// network, and else why not. Nothing is logged yet.
+/// The whole run: reads the words and the files that they name, and prints the answers. For
+/// `verify [--conflicts N] QUESTIONS CONFIG...` they are a verdict for each question, found by learning at most N clauses,
+/// 1,000,000 where the words do not say it; for `replay CEX QUESTIONS CONFIG...` whether the counterexample is true of the
+/// network, and else why not. The log takes what shows each verdict.
 pub fn run<F: Files, O: Sink, L: Sink>(
     alloc: Global,
     words: &[String],
@@ -136,17 +214,16 @@ pub fn run<F: Files, O: Sink, L: Sink>(
     ensures write_fault { result ≡ Status.WriteFault → Rose (O.faults out.old) (O.faults out.new) ⊎ Rose (L.faults log.old) (L.faults log.new) }
     ensures writes { result ≢ Status.WriteFault → (O.faults out.new ≡ O.faults out.old) × (L.faults log.new ≡ L.faults log.old) }
 
-    // With 6 or 7 a front stands of the line that is due, or of right verdicts for the first questions.
+    // With 6 or 7 a front stands of the line that is due, or of right verdicts for the first questions with their sections.
     ensures cut { OnCut result ((outcome : Outcome) × IsDue (F.contents files.old) (map string_bytes words.now) outcome
-        × PrintsPart outcome (O.taken out.old) (O.taken out.new)) }
+        × Stands outcome (O.taken out.old) (O.taken out.new) (L.taken log.old) (L.taken log.new)) }
 
-    // Today no verdict is unknown, and nothing is logged.
-    ensures decided { result ≢ Status.Unknown }
+    // With 3, 4 or 5 nothing is logged.
+    ensures not_logged { OnUnanswered result (log.new ≡ log.old) }
     ensures kept { F.contents files.new ≡ F.contents files.old }
-    ensures not_logged { log.new ≡ log.old }
 {
     match work_of(alloc, files, words) {
-        Ok(Some(work)) => put_answers(alloc, &work, out),
+        Ok(Some(work)) => put_answers(alloc, &work, out, log),
         Ok(None) => match out.write(USAGE) {
             Ok(()) => Status::Usage,
             Err(_) => Status::WriteFault,

@@ -1,16 +1,17 @@
 //! The work that a command asks for.
 
-ghost use Rattle.std.specs.Prelude.{◌≡◌, ◌≤◌, ◌+◌, true, false, IfOk, IfErr, IfSome, None, length, map, string_bytes, codes};
+ghost use Rattle.std.specs.Prelude.{◌≡◌, true, false, IfOk, IfErr, IfSome, None, drop, map, string_bytes, codes};
 ghost use Rattle.std.specs.List.{list_any};
 ghost use Rattle.mw_text.specs.Text.{same_text};
 ghost use Rattle.mw_outside.specs.Faults.{Rose};
 ghost use Rattle.mw_verify.specs.Due as due;
-ghost use Rattle.mw_verify.specs.Loading.{IsReady, OnStop, UnlessReadFault, outcome_of};
+ghost use Rattle.mw_verify.specs.Loading.{IsBudget, IsReady, OnStop, UnlessReadFault, outcome_of};
 ghost use Rattle.mw_verify.specs.Running.{IsDue, StopsAt, in_order};
 
-use crate::load::{Loaded, Stop, load};
+use crate::load::{DEFAULT_CONFLICTS, Loaded, MOST_CONFLICTS, Stop, load};
 use crate::replaying::{Told, load_replay};
 use mw_outside::Files;
+use mw_text::read_number;
 use std::alloc::Global;
 
 /// What a command asks for, read and parsed.
@@ -34,43 +35,102 @@ fn has_option(words: &[String]) -> bool
     words.iter().any(|word| is_option(word))
 }
 
-fn is_word(word: &String, command: &str) -> bool
-    ensures { result ≡ same_text (string_bytes word.now) command.now }
+fn is_word(word: &String, wanted: &str) -> bool
+    ensures { result ≡ same_text (string_bytes word.now) wanted.now }
 {
-    word.as_str() == command
+    word.as_str() == wanted
 }
 
-// Whether the words are that command and so many names or more, none of them an option.
-fn is_words(words: &[String], command: &str, count: usize) -> bool
-    ensures value { result ≡ due.is_words command.now count (map string_bytes words.now) }
-    ensures long { result ≡ true → count + 1 ≤ length words.now }
+// Whether the words begin with that command.
+fn begins(words: &[String], command: &str) -> bool
+    ensures { result ≡ due.begins command.now (map string_bytes words.now) }
 {
-    if words.is_empty() {
-        return false;
+    match words {
+        [] => false,
+        [word, ..] => is_word(word, command),
     }
-    let (_, names) = words.split_at(1);
-    is_word(&words[0], command) && names.len() >= count && !has_option(names)
 }
 
-// Whether the words are `verify QUESTIONS CONFIG...`.
-fn is_verify(words: &[String]) -> bool
-    ensures value { result ≡ due.is_verify (map string_bytes words.now) }
-    ensures long { result ≡ true → 3 ≤ length words.now }
+// Whether these are so many names or more, none of them an option.
+fn are_names(names: &[String], count: usize) -> bool
+    ensures { result ≡ due.are_names count (map string_bytes names.now) }
 {
-    is_words(words, "verify", 2)
+    names.len() >= count && !has_option(names)
+}
+
+// A number of clauses from 1 to 1,000,000,000.
+fn count_of(word: &String) -> Option<u64>
+    ensures value { result ≡ due.count_of (string_bytes word.now) }
+    ensures budget { IfSome result IsBudget }
+{
+    match read_number(word.as_bytes(), MOST_CONFLICTS) {
+        Some(0) => None,
+        count => count,
+    }
+}
+
+// How many clauses a search may learn, where `--conflicts` stands directly after the command.
+#[tactic(auto, using(crate::proofs::Words::conflicts_short, crate::proofs::Words::conflicts_other, crate::proofs::Words::conflicts_said))]
+fn conflicts_of(words: &[String]) -> Option<u64>
+    ensures value { result ≡ due.conflicts_of (map string_bytes words.now) }
+    ensures budget { IfSome result IsBudget }
+{
+    if words.len() < 3 {
+        return None;
+    }
+    if is_word(&words[1], "--conflicts") {
+        count_of(&words[2])
+    } else {
+        None
+    }
+}
+
+fn budget_of(words: &[String]) -> u64
+    ensures value { result ≡ due.budget_of (map string_bytes words.now) }
+    ensures budget { IsBudget result }
+{
+    match conflicts_of(words) {
+        Some(count) => count,
+        None => DEFAULT_CONFLICTS,
+    }
+}
+
+// The words after the first ones.
+fn after(words: &[String], count: usize) -> &[String]
+    ensures { map string_bytes result.now ≡ drop count (map string_bytes words.now) }
+{
+    if words.len() < count {
+        return &[];
+    }
+    words.split_at(count).1
+}
+
+// The words after `verify` and its option.
+fn verify_names(words: &[String]) -> &[String]
+    ensures { map string_bytes result.now ≡ due.verify_names (map string_bytes words.now) }
+{
+    match conflicts_of(words) {
+        Some(_) => after(words, 3),
+        None => after(words, 1),
+    }
+}
+
+// Whether the words are `verify [--conflicts N] QUESTIONS CONFIG...`.
+fn is_verify(words: &[String]) -> bool
+    ensures { result ≡ due.is_verify (map string_bytes words.now) }
+{
+    begins(words, "verify") && are_names(verify_names(words), 2)
 }
 
 // Whether the words are `replay CEX QUESTIONS CONFIG...`.
 fn is_replay(words: &[String]) -> bool
-    ensures value { result ≡ due.is_replay (map string_bytes words.now) }
-    ensures long { result ≡ true → 4 ≤ length words.now }
+    ensures { result ≡ due.is_replay (map string_bytes words.now) }
 {
-    is_words(words, "replay", 3)
+    begins(words, "replay") && are_names(after(words, 1), 3)
 }
 
 fn verify_work<F: Files>(alloc: Global, files: &mut F, words: &[String]) -> Result<Work, Stop>
     requires command { due.is_verify (map string_bytes words.now) ≡ true }
-    requires long { 3 ≤ length words.now }
     ensures kept { F.contents files.new ≡ F.contents files.old }
     ensures due { IfOk result (λ work. IsDue (F.contents files.old) (map string_bytes words.now) (outcome_of work)) }
     ensures ready { IfOk result IsReady }
@@ -81,15 +141,15 @@ fn verify_work<F: Files>(alloc: Global, files: &mut F, words: &[String]) -> Resu
         (Rose (F.faults files.old) (F.faults files.new)
         × StopsAt (F.contents files.old) (in_order (map string_bytes words.now)) (F.last_failed files.new))) }
 {
-    let (_, names) = words.split_at(2);
-    let loaded = load(alloc, files, words[1].as_str(), names)?;
+    let names = verify_names(words);
+    let (_, configs) = names.split_at(1);
+    let loaded = load(alloc, files, budget_of(words), names[0].as_str(), configs)?;
     Ok(Work::Answer(loaded))
 }
 
 fn replay_work<F: Files>(alloc: Global, files: &mut F, words: &[String]) -> Result<Work, Stop>
     requires other { due.is_verify (map string_bytes words.now) ≡ false }
     requires command { due.is_replay (map string_bytes words.now) ≡ true }
-    requires long { 4 ≤ length words.now }
     ensures kept { F.contents files.new ≡ F.contents files.old }
     ensures due { IfOk result (λ work. IsDue (F.contents files.old) (map string_bytes words.now) (outcome_of work)) }
     ensures ready { IfOk result IsReady }
@@ -100,8 +160,9 @@ fn replay_work<F: Files>(alloc: Global, files: &mut F, words: &[String]) -> Resu
         (Rose (F.faults files.old) (F.faults files.new)
         × StopsAt (F.contents files.old) (in_order (map string_bytes words.now)) (F.last_failed files.new))) }
 {
-    let (_, names) = words.split_at(3);
-    let told = load_replay(alloc, files, words[1].as_str(), words[2].as_str(), names)?;
+    let names = after(words, 1);
+    let (_, configs) = names.split_at(2);
+    let told = load_replay(alloc, files, names[0].as_str(), names[1].as_str(), configs)?;
     Ok(Work::Replay(told))
 }
 

@@ -1,5 +1,6 @@
 use Rattle.resolution_check.specs.Clauses.{is_below}
-use Rattle.std.proofs.Common.{◌∙◌, ap, sym, subst}
+use Rattle.std.proofs.Common.{◌≡◌, ◌≤◌, ◌∙◌, List, ap, length, sym, subst}
+use Rattle.std.specs.Prelude.{◌^◌}
 use Rattle.std.specs.List.{list_all}
 use Rattle.resolution_check.specs.declared.log.Clause.{Clause}
 use Rattle.cdcl_search.specs.Trails.{Follows}
@@ -13,6 +14,10 @@ use Rattle.cdcl_search.proofs.Levels.{full_none}
 use Rattle.cdcl_search.specs.Levels.{AreFull}
 use Rattle.cdcl_search.proofs.solving.solve.Goals as goal
 
+-- as many clauses as were written
+few_of : {written cs : List Clause} → written ≡ cs → length written ≤ 2 ^ 63 → length cs ≤ 2 ^ 63
+few_of same few = subst (λ (ds : List Clause). length ds ≤ 2 ^ 63) same few
+
 pub write_inputs-requires-clause-small : goal.write_inputs-requires-clause-small
 write_inputs-requires-clause-small g c =
     let cnf = c.args.cnf.now in
@@ -22,21 +27,24 @@ write_inputs-requires-clause-small g c =
 pub returns-in_err-write_inputs-clause-cut : goal.returns-in_err-write_inputs-clause-cut
 returns-in_err-write_inputs-clause-cut g c =
     let cnf = c.args.cnf.now in
-    on_err _ (cut_first _ _ cnf.vars c.args.budget cnf.clauses _ c.requires.vars c.requires.numbers
+    on_err _ (cut_first _ _ cnf.vars c.args.budget cnf.clauses _ c.requires.vars (few_of c.as_slice.ensures
+    c.write_inputs.ensures.few)
     c.requires.proper.below
     c.as_slice.ensures c.write_inputs.ensures.part)
 
 pub returns-in_err-book-clause-cut : goal.returns-in_err-book-clause-cut
 returns-in_err-book-clause-cut g c =
     let cnf = c.args.cnf.now in
-    on_err _ (cut_first _ _ cnf.vars c.args.budget cnf.clauses _ c.requires.vars c.requires.numbers
+    on_err _ (cut_first _ _ cnf.vars c.args.budget cnf.clauses _ c.requires.vars (few_of c.as_slice.ensures
+    c.write_inputs.ensures.few)
     c.requires.proper.below
     c.as_slice.ensures (part_of_all _ _ _ c.in_ok-write_inputs.ensures.takes))
 
 pub returns-in_err-trail-clause-cut : goal.returns-in_err-trail-clause-cut
 returns-in_err-trail-clause-cut g c =
     let cnf = c.args.cnf.now in
-    on_err _ (cut_first _ _ cnf.vars c.args.budget cnf.clauses _ c.requires.vars c.requires.numbers
+    on_err _ (cut_first _ _ cnf.vars c.args.budget cnf.clauses _ c.requires.vars (few_of c.as_slice.ensures
+    c.write_inputs.ensures.few)
     c.requires.proper.below
     c.as_slice.ensures (part_of_all _ _ _ c.in_ok-write_inputs.ensures.takes))
 
@@ -51,7 +59,8 @@ returns-clause-logged g c =
     let middle = g.L.Sink.taken c.write_inputs.new.log in
     let cnf = c.args.cnf.now in
     let going : IsGoing before middle cnf.clauses c.in_ok-book.book.clauses 0 =
-    going_start before middle cnf.vars c.args.budget cnf.clauses _ _ c.requires.vars c.requires.numbers
+    going_start before middle cnf.vars cnf.clauses _ _ c.requires.vars (few_of c.as_slice.ensures
+    c.write_inputs.ensures.few)
     c.requires.proper.below
     c.as_slice.ensures (c.in_ok-book.ensures.clauses ∙ c.as_slice-2.ensures) c.in_ok-write_inputs.ensures.takes in
     ok_then c.search.result c.search.ensures.logged (λ o logs. logs before cnf.clauses going)
@@ -71,7 +80,8 @@ returns-clause-cut g c =
     let middle = g.L.Sink.taken c.write_inputs.new.log in
     let cnf = c.args.cnf.now in
     let going : IsGoing before middle cnf.clauses c.in_ok-book.book.clauses 0 =
-    going_start before middle cnf.vars c.args.budget cnf.clauses _ _ c.requires.vars c.requires.numbers
+    going_start before middle cnf.vars cnf.clauses _ _ c.requires.vars (few_of c.as_slice.ensures
+    c.write_inputs.ensures.few)
     c.requires.proper.below
     c.as_slice.ensures (c.in_ok-book.ensures.clauses ∙ c.as_slice-2.ensures) c.in_ok-write_inputs.ensures.takes in
     err_then c.search.result c.search.ensures.cut (λ cuts. cuts before cnf.clauses going)

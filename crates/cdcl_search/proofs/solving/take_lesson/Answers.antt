@@ -26,7 +26,7 @@ write_lesson-requires g c =
     let number = c.len.result + 1 in
     let next = next_lesson old c.args.trail.now.vars steps lits chain number c.in_ok-lesson.ensures.lesson
     c.requires.filled c.requires.full c.steps_are_fresh.ensures (ap (λ n. n + 1) c.len.ensures.len)
-    (omega arith) c.requires.room c.in_ok-lesson.ensures.below in
+    (omega arith) (omega (arith, c.len.ensures.small, c.len.ensures.len)) c.in_ok-lesson.ensures.below in
     next.text
 
 pub returns-in_err-clause-clause-cut : goal.returns-in_err-clause-clause-cut
@@ -40,7 +40,7 @@ returns-in_err-clause-clause-cut g c =
     let number = c.len.result + 1 in
     let next = next_lesson old c.args.trail.now.vars steps lits chain number c.in_ok-lesson.ensures.lesson
     c.requires.filled c.requires.full c.steps_are_fresh.ensures (ap (λ n. n + 1) c.len.ensures.len)
-    (omega arith) c.requires.room c.in_ok-lesson.ensures.below in
+    (omega arith) (omega (arith, c.len.ensures.small, c.len.ensures.len)) c.in_ok-lesson.ensures.below in
     let cuts : Cuts middle now old =
     λ before ins added going. cut_more before middle ins old added going steps lits chain number next now
     c.write_lesson.ensures.part in
@@ -57,7 +57,7 @@ returns-then-has_none-clause-refuted g c =
     let number = c.len.result + 1 in
     let next = next_lesson old c.args.trail.now.vars steps lits chain number c.in_ok-lesson.ensures.lesson
     c.requires.filled c.requires.full c.steps_are_fresh.ensures (ap (λ n. n + 1) c.len.ensures.len)
-    (omega arith) c.requires.room c.in_ok-lesson.ensures.below in
+    (omega arith) (omega (arith, c.len.ensures.small, c.len.ensures.len)) c.in_ok-lesson.ensures.below in
     let none : is_empty lits ≡ true =
     ap is_empty (sym c.in_ok-clause.ensures.clause) ∙ ap is_empty (sym c.as_slice-2.ensures) ∙ sym c.has_none.ensures
     ∙ c.if-has_none.true in
@@ -75,7 +75,7 @@ returns-in_err-add-clause-cut g c =
     let number = c.len.result + 1 in
     let next = next_lesson old c.args.trail.now.vars steps lits chain number c.in_ok-lesson.ensures.lesson
     c.requires.filled c.requires.full c.steps_are_fresh.ensures (ap (λ n. n + 1) c.len.ensures.len)
-    (omega arith) c.requires.room c.in_ok-lesson.ensures.below in
+    (omega arith) (omega (arith, c.len.ensures.small, c.len.ensures.len)) c.in_ok-lesson.ensures.below in
     let cuts : Cuts middle now old = λ before ins added going.
     cut_more before middle ins old added going steps lits chain number next now
     (part_of_all middle now _ c.in_ok-clause.ensures.takes) in
@@ -125,7 +125,7 @@ returns-clause-going g c =
     let number = c.len.result + 1 in
     let next = next_lesson old c.args.trail.now.vars steps lits chain number c.in_ok-lesson.ensures.lesson
     c.requires.filled c.requires.full c.steps_are_fresh.ensures (ap (λ n. n + 1) c.len.ensures.len)
-    (omega arith) c.requires.room c.in_ok-lesson.ensures.below in
+    (omega arith) (omega (arith, c.len.ensures.small, c.len.ensures.len)) c.in_ok-lesson.ensures.below in
     let full : is_empty lits ≡ false =
     ap is_empty (sym c.in_ok-clause.ensures.clause) ∙ ap is_empty (sym c.as_slice-2.ensures) ∙ sym c.has_none.ensures
     ∙ c.if-has_none.false in

@@ -1,10 +1,13 @@
-use Rattle.std.proofs.Common.{◌≡◌}
-use Rattle.mw_verify.specs.declared.load.TheConstants.{DEFAULT_CONFLICTS}
-use Rattle.mw_verify.proofs.Answering.{PutSoFar}
+use Rattle.std.proofs.Common.{◌≡◌, take}
+use Rattle.mw_verify.proofs.Answering.{PutOf}
 use Rattle.mw_verify.proofs.running.put_verdicts.Given as goal
 
--- a right answer to each question so far is put, and no write failed
+-- a right answer to each question so far stands, and no write failed
 abbrev pub invariant-loop-at : goal.invariant-loop-at
-invariant-loop-at g l =
-    PutSoFar l.net l.questions DEFAULT_CONFLICTS l.at l.broken (g.O.Sink.taken l.initial.out) (g.O.Sink.taken l.out) ×
-    (g.O.Sink.faults l.out ≡ g.O.Sink.faults l.initial.out)
+invariant-loop-at g l = record {
+  put : PutOf l.loaded.net l.loaded.questions l.loaded.budget (take l.at l.loaded.questions) l.seen.broken
+      l.seen.unknown
+      (g.O.Sink.taken l.initial.out) (g.O.Sink.taken l.out) (g.L.Sink.taken l.initial.log) (g.L.Sink.taken l.log);
+  prints : g.O.Sink.faults l.out ≡ g.O.Sink.faults l.initial.out;
+  logs : g.L.Sink.faults l.log ≡ g.L.Sink.faults l.initial.log;
+}

@@ -1,0 +1,194 @@
+-- What the clauses of a question say of what breaks it.
+use Rattle.std.proofs.Common.{◌≡◌, ◌↔◌, ℕ, ◌+◌, ◌<◌, ◌≤◌, Bool, true, false, List, [], ◌∷◌, ◌++◌, length, Option, Some}
+use Rattle.std.proofs.Common.{None, refl, ap, sym, subst, arith, ◌∙◌, append_assoc, inl, inr}
+use Rattle.std.proofs.Common.{Result, Ok, Err}
+use Rattle.std.specs.Prelude.{OnErr}
+use Rattle.std.proofs.lemmas.Bool.{and_from, and_parts}
+use Rattle.std.proofs.lemmas.Grind.{flat_map-append}
+use Rattle.mw_outside.specs.Taken.{Takes, TakesPart, takes_more, part_more, part_of_all, part_stops}
+use Rattle.term_store.specs.Terms.{truth, value_of}
+use Rattle.resolution_check.specs.declared.log.Clause.{Clause}
+use Rattle.resolution_check.specs.declared.log.Entry.{Entry}
+use Rattle.resolution_check.specs.declared.log.Entry.TheVariants.{End}
+use Rattle.resolution_check.specs.Entries.{IsUnsatisfiable, addition_count, satisfies}
+use Rattle.resolution_check.specs.Text.{line_of, log_text}
+use Rattle.cnf_blaster.specs.Cnf.{clauses_of}
+use Rattle.cnf_blaster.specs.Meaning.{CanBeTrue, roots_value}
+use Rattle.cdcl_search.specs.declared.outcome.Outcome.{Outcome}
+use Rattle.cdcl_search.specs.declared.outcome.Outcome.TheVariants as found
+use Rattle.cdcl_search.specs.Outcomes.{IsCut, IsLogged as IsLoggedBySearch, IsSearchLog, OnUnknown, Shows}
+use Rattle.ios_ast.specs.declared.file.File.{File}
+use Rattle.route_record.specs.declared.Environment.{Environment}
+use Rattle.route_record.specs.declared.World.{World}
+use Rattle.question_lang.specs.Breaking.{Breaks, reach_question}
+use Rattle.question_lang.specs.declared.question.Kind.{Kind}
+use Rattle.question_lang.specs.declared.question.Question.{Question}
+use Rattle.question_lang.specs.declared.walk.Walk.{Walk}
+use Rattle.cex_json.specs.declared.counterexample.Counterexample.{Counterexample}
+use Rattle.stable_replay.specs.Replayed.{world_of}
+use Rattle.net_encoder.specs.Breaking.{IsBreakable, IsBreaking}
+use Rattle.net_encoder.specs.Worlds.{no_environment, world_bits, world_from}
+use Rattle.mw_verify.specs.declared.answer.Verdict.{Verdict}
+use Rattle.mw_verify.specs.declared.formula.Formula.{Formula}
+use Rattle.mw_verify.specs.Answering.{IsLogged, IsSearchedSo, IsUnfinished, answer_of, end_text}
+use Rattle.mw_verify.specs.Formulas.{IsFormula}
+use Rattle.mw_verify.specs.Running.{IsSectionOf}
+use Rattle.mw_verify.specs.Verdicts.{IsRight, IsSearched, IsTrueCounterexample, IsUnbroken, ShowsVerdict, opening_text}
+use Rattle.mw_verify.specs.Verdicts.{section_text}
+
+-- what is said of an error
+pub on_err : {A E P : Type 0} (r : Result A E) → P → OnErr r P
+on_err (Ok x) p = tt
+on_err (Err e) p = p
+
+-- the root can be true exactly where something breaks the question
+pub encodes : (files : List File) (question : Question) (formula : Formula) → IsFormula files question formula →
+    CanBeTrue formula.terms.nodes (formula.root ∷ []) ↔ IsBreakable files question
+encodes files question formula is = (
+  λ (can : CanBeTrue formula.terms.nodes (formula.root ∷ [])).
+      let breaking = is.sound can.0 (and_parts _ _ can.1).0 in
+      (world_from files question (truth can.0) 0, no_environment, breaking.0, breaking.1),
+  λ (b : IsBreakable files question).
+      (world_bits files question b.0, and_from _ _ (is.complete b.0 b.1 b.2 b.3) refl),
+)
+
+-- nothing breaks a question whose clauses cannot be satisfied
+pub unsat_holds : (files : List File) (question : Question) (formula : Formula) → IsFormula files question formula →
+    IsUnsatisfiable formula.cnf.clauses → IsUnbroken files question
+unsat_holds files question formula is never world environment walk breaking =
+    let can : CanBeTrue formula.terms.nodes (formula.root ∷ []) =
+    (world_bits files question world, and_from _ _ (is.complete world environment walk breaking) refl) in
+    let some = is.equal.1 can in
+    let clash : true ≡ false = sym some.1 ∙ never some.0 in absurd cc
+
+-- values that satisfy the clauses stand for what breaks the question
+pub sat_breaks : (files : List File) (question : Question) (formula : Formula) (values row : List Bool)
+    (world : World) → IsFormula files question formula → satisfies (truth values) formula.cnf.clauses ≡ true →
+    (satisfies (truth values) (clauses_of formula.terms.nodes (formula.root ∷ [])) ≡ true →
+    roots_value formula.terms.nodes (formula.root ∷ []) row ≡ true) →
+    world ≡ world_from files question (truth row) 0 →
+    (walk : Option Walk) × IsBreaking files question world no_environment walk
+sat_breaks files question formula values row world is satisfied roots same =
+    let S : List Clause → Type 0 = λ cs. satisfies (truth values) cs ≡ true in
+    let true_root = (and_parts _ _ (roots (subst S is.clauses satisfied))).0 in
+    let W : World → Type 0 = λ w. (walk : Option Walk) × IsBreaking files question w no_environment walk in
+    subst W (sym same) (is.sound row true_root)
+
+-- a walk that breaks the question in such a world makes a true counterexample
+pub true_from : (files : List File) (number : ℕ) (question : Question) (world : World) (environment : Environment)
+    (kind : Kind) (walk : Walk) → (other : Option Walk) × IsBreaking files question world no_environment other →
+    question.kind ≡ kind → environment ≡ no_environment → Breaks files world kind (Some walk) →
+    IsTrueCounterexample files number question (record {
+      question = number;
+      packet = world.packet;
+      failures = world.failures;
+      env = environment;
+      tables = world.tables;
+      walk = Some walk;
+    })
+true_from files number question world environment kind walk (other, breaking) is_kind none breaks =
+    let K : Kind → Type 0 = λ k. Breaks files world k (Some walk) in
+    let E : Environment → Type 0 = λ e. IsBreaking files question world e (Some walk) in
+    let here : E no_environment = record {
+      packet = breaking.packet;
+      environment_fits = breaking.environment_fits;
+      failures = breaking.failures;
+      stable = breaking.stable;
+      breaks = subst K (sym is_kind) breaks;
+    } in
+    (refl, subst E (sym none) here)
+
+-- what shows an outcome shows its verdict
+few_shown : (budget : ℕ) (entries : List Entry) (outcome : Outcome) → Shows budget entries outcome →
+    addition_count entries ≤ budget
+few_shown budget entries found.Unsat shows = shows.1
+few_shown budget entries (found.Sat values) shows = let few = shows.1 in omega (arith, few)
+few_shown budget entries (found.Unknown added) shows = let all = shows.1 in omega (arith, all)
+
+-- the entries of a search for the clauses of a question
+searched_from : (files : List File) (question : Question) (formula : Formula) (budget : ℕ) (entries : List Entry) →
+    IsFormula files question formula → IsSearchLog formula.cnf.clauses entries → addition_count entries ≤ budget →
+    IsSearched files question budget entries
+searched_from files question formula budget entries is log within =
+    let L : List Clause → Type 0 = λ cs. IsSearchLog cs entries in record {
+      nodes = formula.terms.nodes;
+      root = formula.root;
+      encodes = encodes files question formula is;
+      log = subst L is.clauses log;
+      within = within;
+    }
+
+-- opened, filled and closed, a section stands
+section_is : (question : Question) (entries : List Entry) →
+    opening_text question ++ (log_text entries ++ end_text) ≡ section_text question entries
+section_is question entries =
+    ap (λ t. opening_text question ++ t) (sym (flat_map-append line_of entries (End ∷ [])))
+
+pub section_stands : (files : List File) (question : Question) (formula : Formula) (budget : ℕ) (outcome : Outcome)
+    (before opened filled now : Option (List ℕ)) → IsFormula files question formula →
+    Takes before opened (opening_text question) → IsLoggedBySearch opened filled formula.cnf.clauses budget outcome →
+    Takes filled now end_text → IsSearchedSo files budget question outcome before now
+section_stands files question formula budget outcome before opened filled now is opens fills closes =
+    let T : List ℕ → Type 0 = Takes before now in (
+      fills.entries,
+      searched_from files question formula budget fills.entries is fills.log
+          (few_shown budget fills.entries outcome fills.shows),
+      fills.shows,
+      subst T (section_is question fills.entries)
+          (takes_more before opened now _ _ opens (takes_more opened filled now _ _ fills.text closes)),
+    )
+
+-- a section that was opened and filled in part
+pub section_filled : (files : List File) (question : Question) (formula : Formula) (budget : ℕ)
+    (before opened now : Option (List ℕ)) → IsFormula files question formula →
+    Takes before opened (opening_text question) → IsCut opened now formula.cnf.clauses budget →
+    IsUnfinished files budget question before now
+section_filled files question formula budget before opened now is opens cut =
+    let T : List ℕ → Type 0 = TakesPart before now in (
+      section_text question cut.entries,
+      inr (cut.entries, searched_from files question formula budget cut.entries is cut.log cut.within, refl),
+      subst T (section_is question cut.entries)
+          (part_more before opened now _ _ opens
+          (part_stops opened now (log_text cut.entries) end_text cut.text)),
+    )
+
+-- one that was opened and filled, and closed in part
+pub section_closed : (files : List File) (question : Question) (formula : Formula) (budget : ℕ) (outcome : Outcome)
+    (before opened filled now : Option (List ℕ)) → IsFormula files question formula →
+    Takes before opened (opening_text question) → IsLoggedBySearch opened filled formula.cnf.clauses budget outcome →
+    TakesPart filled now end_text → IsUnfinished files budget question before now
+section_closed files question formula budget outcome before opened filled now is opens fills part =
+    let T : List ℕ → Type 0 = TakesPart before now in (
+      section_text question fills.entries,
+      inr (
+        fills.entries,
+        searched_from files question formula budget fills.entries is fills.log
+            (few_shown budget fills.entries outcome fills.shows),
+        refl,
+      ),
+      subst T (section_is question fills.entries)
+          (part_more before opened now _ _ opens (part_more opened filled now _ _ fills.text part)),
+    )
+
+-- one that was opened
+pub section_opened : (files : List File) (question : Question) (budget : ℕ) (before now : Option (List ℕ)) →
+    TakesPart before now (opening_text question) → IsUnfinished files budget question before now
+section_opened files question budget before now part = (opening_text question, inl refl, part)
+
+-- a whole one, of which no verdict came
+pub section_whole : (files : List File) (question : Question) (budget : ℕ) (outcome : Outcome)
+    (before now : Option (List ℕ)) → IsSearchedSo files budget question outcome before now →
+    IsUnfinished files budget question before now
+section_whole files question budget outcome before now (entries, searched, shows, takes) =
+    (section_text question entries, inr (entries, searched, refl), part_of_all before now _ takes)
+
+-- a right verdict, and the section that shows it
+pub verdict_logged : (files : List File) (budget number : ℕ) (question : Question) (outcome : Outcome) (verdict :
+    Verdict)
+    (before now : Option (List ℕ)) → IsSearchedSo files budget question outcome before now →
+    OnUnknown outcome (λ added. added ≡ budget) → IsRight files number question verdict →
+    ((most : ℕ) (entries : List Entry) → OnUnknown outcome (λ added. added ≡ most) → Shows most entries outcome →
+    ShowsVerdict most entries verdict) → IsLogged files budget number question verdict before now
+verdict_logged files budget number question outcome verdict before now (entries, searched, shows, takes) after right
+    shown =
+    (entries, (right, record { search = searched; shows = shown budget entries after shows }), takes)
