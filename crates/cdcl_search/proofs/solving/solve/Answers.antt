@@ -18,11 +18,13 @@ use Rattle.cdcl_search.proofs.solving.solve.Goals as goal
 few_of : {written cs : List Clause} → written ≡ cs → length written ≤ 2 ^ 63 → length cs ≤ 2 ^ 63
 few_of same few = subst (λ (ds : List Clause). length ds ≤ 2 ^ 63) same few
 
-pub write_inputs-requires-clause-small : goal.write_inputs-requires-clause-small
-write_inputs-requires-clause-small g c =
+pub write_inputs-requires : goal.write_inputs-requires
+write_inputs-requires g c =
     let cnf = c.args.cnf.now in
-    ap (list_all (λ (k : Clause). is_below _ k.lits)) c.as_slice.ensures
-    ∙ small_inputs cnf.vars cnf.clauses c.requires.vars c.requires.proper.below
+    record {
+      small = ap (list_all (λ (k : Clause). is_below _ k.lits)) c.as_slice.ensures
+          ∙ small_inputs cnf.vars cnf.clauses c.requires.vars c.requires.proper.below;
+    }
 
 pub returns-in_err-write_inputs-clause-cut : goal.returns-in_err-write_inputs-clause-cut
 returns-in_err-write_inputs-clause-cut g c =
