@@ -39,7 +39,25 @@ ended "0, a counterexample is true" 0 "yes"
 run replay "$network/unstable.json" "$@"
 ended "1, a counterexample is not true" 1 'no differs E2 24 bgp held null wanted [{"clusters":[],"communities":[],"from":"10.255.0.1","localpref":100,"med":0,"nexthop":"10.255.0.1","origin":"igp","path":[65001],"weight":0}]'
 
-# Status 2 is kept for verdicts that are neither: none comes today.
+triangle="$top/examples/ospf-triangle"
+set -- "$triangle/k1.cfg" "$triangle/k2.cfg" "$triangle/k3.cfg"
+run verify "$triangle/one-failure.txt" "$@"
+ended "0, a question about any failed link holds" 0 "holds q1"
+run verify --conflicts 1 "$triangle/one-failure.txt" "$@"
+ended "2, some verdict is unknown" 2 "unknown q1 after 1 conflicts"
+run verify "$triangle/two-failures.txt" "$@"
+ended "1, a question about any two failed links is broken" 1 "broken q1"
+tail -n 1 printed >counterexample.json
+run replay counterexample.json "$triangle/two-failures.txt" "$@"
+ended "0, that counterexample is true" 0 "yes"
+run --log log.txt verify "$triangle/one-failure.txt" "$@"
+ended "0, with a log" 0 "holds q1"
+if [ "$(head -n 1 log.txt)" = "q q1" ] && [ "$(tail -n 1 log.txt)" = "e" ] && grep -q '^a [0-9]* 0 ' log.txt; then
+    echo "ok: the log has the section of the question, and the empty clause in it"
+else
+    echo "FAILED: the log has no such section"
+    failed=1
+fi
 
 run
 ended "3, no words" 3 "usage: mw_cli verify, check, replay, simulate or gen"
