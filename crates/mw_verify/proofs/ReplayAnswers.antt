@@ -80,9 +80,18 @@ replay_no files questions cex question why ready is other refused untrue =
     let same = is ∙ get_or_from_slice_get questions cex.question ready.question question ready.asked in
     let P : Question → Type 0 = λ q. IsRefusedSo files q cex why in
     let Q : Question → Type 0 = λ q. IsReplayed files q cex → ⊥ in
-    let never = subst Q same untrue in
-    (ready.question, ready.asked, (subst P same refused, other, λ breaking. never (breaking.1.stable,
-    breaking.1.breaks)))
+    let never = subst Q same untrue in (
+      ready.question,
+      ready.asked,
+      (
+        subst P same refused,
+        other,
+        λ breaking. never (
+          breaking.1.stable,
+          breaking.1.breaks,
+        ),
+      ),
+    )
 
 -- no, where memory was not wanting
 pub replay_told : {E : Type 0} (result : Result (Option ReplayNo) E) (files : List File) (questions : List Question)
