@@ -1,0 +1,48 @@
+#!/bin/sh
+# Times the proved program on a question about any one failed link, over rings of 4 to 64 routers and grids of 3 by 3 and 4
+# by 4 that run OSPF. A run longer than two minutes is cut. Needs the proved program (.ci/run or ./mw --proved), Python 3
+# and GNU time.
+set -eu
+top=$(cd -P -- "$(dirname -- "$0")/.." && pwd -P)
+program=${PROGRAM:-$top/crates/mw_cli/out/mw_cli}
+[ -x "$program" ] || { echo "prove the program first: ./mw --proved" >&2; exit 1; }
+dir=$(mktemp -d)
+trap 'rm -rf "$dir"' EXIT
+python3 - "$dir" <<'END'
+import os
+import sys
+
+top = sys.argv[1]
+
+def network(name, ends, last):
+    """Routers with a loopback each, and a link of cost 1 for each pair of routers."""
+    os.mkdir(os.path.join(top, name))
+    interfaces = {}
+    for link, (a, b) in enumerate(ends):
+        interfaces.setdefault(a, []).append((link, 1))
+        interfaces.setdefault(b, []).append((link, 2))
+    for router, held in interfaces.items():
+        lines = [f"hostname R{router}"]
+        for at, (link, side) in enumerate(held):
+            lines.append(f"interface GigabitEthernet0/{at}")
+            lines.append(f" ip address 10.200.{link}.{side} 255.255.255.252")
+        lines += ["interface Loopback0", f" ip address 10.100.{router}.1 255.255.255.255"]
+        lines += ["router ospf 1", " network 10.0.0.0 0.255.255.255 area 0"]
+        with open(os.path.join(top, name, f"r{router:02}.cfg"), "w") as file:
+            file.write("\n".join(lines) + "\n")
+    with open(os.path.join(top, name, "questions.txt"), "w") as file:
+        file.write(f"g1 reach from R0 to router R{last} packets ip any any 10.100.{last}.1/32 any failures 1\n")
+
+for count in (4, 8, 16, 32, 64):
+    network(f"ring-{count:02}", [(r, (r + 1) % count) for r in range(count)], count // 2)
+for side in (3, 4):
+    right = [(side * y + x, side * y + x + 1) for y in range(side) for x in range(side - 1)]
+    down = [(side * y + x, side * y + x + side) for y in range(side - 1) for x in range(side)]
+    network(f"grid-{side}x{side}", right + down, side * side - 1)
+END
+for network in "$dir"/*; do
+    printf '%s: ' "$(basename "$network")"
+    timeout 120 /usr/bin/time -f '%e s, %M KB' "$program" --log "$network/log" verify "$network/questions.txt" \
+        "$network"/*.cfg 2>&1 | tr '\n' ' '
+    echo "$(grep -c '^i' "$network/log") clauses, $(grep -c '^a' "$network/log") learnt"
+done
