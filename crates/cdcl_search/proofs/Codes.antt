@@ -7,7 +7,7 @@ use Rattle.resolution_check.specs.declared.log.Lit.{Lit}
 use Rattle.resolution_check.specs.Clauses.{has, is_same, is_inside, is_below}
 use Rattle.resolution_check.specs.Earned.{has_var, vars_differ}
 use Rattle.resolution_check.proofs.Literals.{all_at, all_from, same_lit}
-use Rattle.cdcl_search.proofs.Followed.{has_var_from}
+use Rattle.resolution_check.proofs.Variables.{has_var_from}
 
 abbrev chosen : Bool → Bool → ℕ
 chosen plain negated = cond plain 1 (cond negated 2 0)

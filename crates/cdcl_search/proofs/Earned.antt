@@ -17,7 +17,7 @@ use Rattle.cdcl_search.specs.Books.{are_filled}
 use Rattle.cdcl_search.specs.Trails.{value_of, holds, AreFresh}
 use Rattle.cdcl_search.specs.Levels.{IsSettled, AllSettled, IsDecision, AreFull, IsNegated}
 use Rattle.mw_text.proofs.Lists as lists
-use Rattle.cdcl_search.proofs.Places as places
+use Rattle.resolution_check.proofs.Variables.{take_at}
 use Rattle.cdcl_search.proofs.Trails.{value_of-keeps, value_of-last}
 
 -- ---- the last decision
@@ -74,7 +74,7 @@ module _ (ss : List Step) (fresh : AreFresh ss) (at : ℕ) where
   passed : (i : ℕ) (s : Step) → slice_get ss i ≡ Some s → i < at
       → value_of (take at ss) s.lit.var ≡ Some (not s.lit.negated)
   passed i s there before =
-      let front : take (i + 1) ss ≡ take i ss ++ s ∷ [] = places.take_at ss i s there in
+      let front : take (i + 1) ss ≡ take i ss ++ s ∷ [] = take_at ss i s there in
       let here : value_of (take (i + 1) ss) s.lit.var ≡ Some (not s.lit.negated) =
       ap (λ l. value_of l s.lit.var) front ∙ value_of-last (take i ss) s (fresh i s there) in
       let split : take (i + 1) ss ++ drop (i + 1) (take at ss) ≡ take at ss =

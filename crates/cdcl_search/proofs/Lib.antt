@@ -7,6 +7,5 @@ pub mod Kept
 pub mod Levels
 pub mod Logs
 pub mod Places
-pub mod Results
 pub mod Trails
 pub mod Values

@@ -38,8 +38,8 @@ use Rattle.cdcl_search.specs.declared.outcome.Outcome.{Outcome}
 use Rattle.cdcl_search.specs.declared.outcome.Outcome.TheVariants.{Unsat, Sat, Unknown}
 use Rattle.cdcl_search.specs.Outcomes.{input_entries, adds_or_deletes, IsSearchLog, IsCut, IsLogged, OnUnsat}
 use Rattle.cdcl_search.specs.Going.{IsGoing, IsRefuted}
-use Rattle.cdcl_search.proofs.Places.{take_at, all_push}
-use Rattle.cdcl_search.proofs.Followed.{same_bool}
+use Rattle.cdcl_search.proofs.Places.{all_push}
+use Rattle.resolution_check.proofs.Variables.{same_bool, take_at}
 
 -- ---- what has a text
 

@@ -55,13 +55,3 @@ pub all_push : {X : Type 0} (p : X → Bool) (xs : List X) (x : X) → list_all 
     → list_all p (xs ++ x ∷ []) ≡ true
 all_push p [] x all h = and_from _ _ h refl
 all_push p (z ∷ xs) x all h = and_from _ _ (and_parts _ _ all).0 (all_push p xs x (and_parts _ _ all).1 h)
-
--- the first items and the one behind them
-pub take_at : {X : Type 0} (xs : List X) (i : ℕ) (x : X) → slice_get xs i ≡ Some x
-    → take (i + 1) xs ≡ take i xs ++ x ∷ []
-take_at {X} xs i x h = ap (λ n. take n xs) (add-one i) ∙ by xs i h
-  where
-    by : (ys : List X) (k : ℕ) → slice_get ys k ≡ Some x → take (suc k) ys ≡ take k ys ++ x ∷ []
-    by [] k g = absurd cc
-    by (y ∷ ys) zero g = let e : y ≡ x = cc in ap (λ z. z ∷ []) e
-    by (y ∷ ys) (suc k) g = ap (λ l. y ∷ l) (by ys k g)

@@ -1,6 +1,6 @@
 -- Assignments of the clauses' variables and valuations of the terms' variables.
 use Rattle.std.proofs.Common.{◌≡◌, ℕ, zero, suc, ◌<◌, Bool, true, false, cond, List, [], ◌∷◌, map, slice_get, get_or}
-use Rattle.resolution_check.proofs.Literals.{beq-true}
+use Rattle.mw_text.proofs.Lists.{beq-true}
 use Rattle.std.proofs.Common.{Option, Some, None, inl, inr, ◌↔◌, refl, sym, ap, subst, ◌∙◌, arith, zero-add, eqb}
 use Rattle.std.specs.List.{list_all, range_with_len}
 use Rattle.std.specs.Option.{option_map_or}

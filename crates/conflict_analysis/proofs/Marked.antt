@@ -8,7 +8,7 @@ use Rattle.resolution_check.specs.Clauses.{is_same, has, is_below}
 use Rattle.resolution_check.specs.Earned.{has_var}
 use Rattle.resolution_check.proofs.Literals.{same_refl}
 use Rattle.resolution_check.proofs.Values.{below_at}
-use Rattle.conflict_analysis.proofs.Followed.{take_at}
+use Rattle.resolution_check.proofs.Variables.{take_at}
 
 -- what stands at a place of a clause is one of its literals
 pub has_at : (c : List Lit) (k : ℕ) (l : Lit) → slice_get c k ≡ Some l → has c l ≡ true

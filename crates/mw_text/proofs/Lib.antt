@@ -1,3 +1,4 @@
 pub mod Lists
 pub mod Reading
+pub mod Results
 pub mod WordCounts

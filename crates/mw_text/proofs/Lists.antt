@@ -1,10 +1,11 @@
 -- Lists by their places, for the loops of the crates above.
 use Rattle.std.proofs.Common.{◌≡◌, ℕ, zero, suc, ◌+◌, ◌<◌, Bool, true, false, eqb, List, [], ◌∷◌, ◌++◌, length}
 use Rattle.std.proofs.Common.{drop, get_or, Some, refl, ap, sym, arith, add-one, subst, ◌∙◌}
-use Rattle.std.specs.Prelude.{All, filter, nat_lt, slice_get}
+use Rattle.std.specs.Prelude.{All, filter, flat_map, nat_lt, slice_get}
+use Rattle.std.specs.Bool.{beq}
 use Rattle.std.specs.List.{AllByRecursion, list_all, list_any}
 use Rattle.std.proofs.lemmas.Bool.{and_parts, lt-ltb, ltb-true, or_parts}
-use Rattle.std.proofs.lemmas.List.Elements.{All-head, All-tail}
+use Rattle.std.proofs.lemmas.List.Elements.{All-append, All-head, All-nil, All-tail}
 use Rattle.std.proofs.Math.Seq.{drop-cons}
 
 -- the items from a place on begin with the item that was read there
@@ -64,3 +65,30 @@ filter_none p (x ∷ xs) none =
 -- a number below one that is below a third is below it
 pub below_below : (a b c : ℕ) → nat_lt a b ≡ true → nat_lt b c ≡ true → nat_lt a c ≡ true
 below_below a b c first then = lt-ltb a c (omega (arith, ltb-true a b first, ltb-true b c then))
+
+-- an item of a list of which all have a fact
+pub all_found : {A : Type 0} (P : A → Type 0) (xs : List A) (k : ℕ) (x : A) → All P xs → slice_get xs k ≡ Some x → P x
+all_found P [] k x all found = absurd cc
+all_found P (y ∷ ys) zero x all found =
+    let same : y ≡ x = cc in
+    subst P same (All-head P y ys all)
+all_found P (y ∷ ys) (suc k) x all found = all_found P ys k x (All-tail P y ys all) found
+
+-- what holds of each list that is joined holds of the whole
+pub all_flat_map : {X Y : Type 0} (P : X → Type 0) (Q : Y → Type 0) (f : X → List Y) (xs : List X) →
+    ((x : X) → P x → All Q (f x)) → All P xs → All Q (flat_map f xs)
+all_flat_map P Q f [] gives all = All-nil Q
+all_flat_map P Q f (x ∷ xs) gives all =
+    All-append Q (f x) (flat_map f xs) (gives x (All-head P x xs all))
+    (all_flat_map P Q f xs gives (All-tail P x xs all))
+
+-- signs that are the same are equal
+pub beq-true : (a b : Bool) → beq a b ≡ true → a ≡ b
+beq-true true true h = refl
+beq-true true false h = sym h
+beq-true false true h = h
+beq-true false false h = refl
+
+pub beq-refl : (a : Bool) → beq a a ≡ true
+beq-refl true = refl
+beq-refl false = refl

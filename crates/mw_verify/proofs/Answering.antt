@@ -3,6 +3,7 @@ use Rattle.std.proofs.Common.{◌≡◌, ℕ, zero, suc, ◌+◌, ◌<◌, ◌�
 use Rattle.std.proofs.Common.{take, get_or, Option, Some, None, refl, ap, sym, subst, arith, ◌∙◌, append_assoc, inl}
 use Rattle.std.proofs.Common.{inr}
 use Rattle.std.specs.List.{list_any}
+use Rattle.std.proofs.Math.Bool.{or_assoc, or-false}
 use Rattle.std.proofs.lemmas.List.{append-nil}
 use Rattle.std.proofs.lemmas.Option.{slice_get_read}
 use Rattle.mw_outside.specs.Taken.{Takes, TakesPart, takes_more, part_more, part_of_all, part_of_none}
@@ -20,20 +21,12 @@ use Rattle.mw_verify.specs.Verdicts.{Answer, AreRight, IsAnswer, answers_text, i
 use Rattle.mw_verify.specs.Verdicts.{is_unknown, is_unknown_verdict, section_text, sections_text, verdict_text}
 use Rattle.mw_text.proofs.Reading.{take-read}
 
-or-assoc : (a b c : Bool) → (a || (b || c)) ≡ ((a || b) || c)
-or-assoc true b c = refl
-or-assoc false b c = refl
-
-or-false : (b : Bool) → b ≡ (b || false)
-or-false true = refl
-or-false false = refl
-
 -- a test of one answer more
 any_more : (test : Answer → Bool) (answers : List Answer) (answer : Answer) →
     (list_any test answers || test answer) ≡ list_any test (answers ++ answer ∷ [])
-any_more test [] answer = or-false (test answer)
+any_more test [] answer = sym (or-false (test answer))
 any_more test (x ∷ xs) answer =
-    sym (or-assoc (test x) (list_any test xs) (test answer)) ∙ ap (λ b. test x || b) (any_more test xs answer)
+    or_assoc (test x) (list_any test xs) (test answer) ∙ ap (λ b. test x || b) (any_more test xs answer)
 
 -- one answer more is right
 right_more : (files : List File) (budget number n : ℕ) (questions : List Question) (answers : List Answer)

@@ -36,11 +36,6 @@ use Rattle.mw_verify.specs.Running.{IsSectionOf}
 use Rattle.mw_verify.specs.Verdicts.{IsRight, IsSearched, IsTrueCounterexample, IsUnbroken, ShowsVerdict, opening_text}
 use Rattle.mw_verify.specs.Verdicts.{section_text}
 
--- what is said of an error
-pub on_err : {A E P : Type 0} (r : Result A E) → P → OnErr r P
-on_err (Ok x) p = tt
-on_err (Err e) p = p
-
 -- the root can be true exactly where something breaks the question
 pub encodes : (files : List File) (question : Question) (formula : Formula) → IsFormula files question formula →
     CanBeTrue formula.terms.nodes (formula.root ∷ []) ↔ IsBreakable files question

@@ -6,7 +6,7 @@ use Rattle.std.specs.Bool.{beq}
 use Rattle.std.specs.Option.{option_map_or}
 use Rattle.std.proofs.lemmas.Bool.{and_from}
 use Rattle.std.proofs.lemmas.Option.{slice_get_within}
-use Rattle.mw_text.proofs.Lists.{item_there}
+use Rattle.mw_text.proofs.Lists.{beq-refl, item_there}
 use Rattle.mw_text.specs.declared.address.Addr.{Addr}
 use Rattle.mw_text.specs.Address.{prefix_at}
 use Rattle.ios_ast.specs.declared.file.File.{File}
@@ -23,7 +23,7 @@ use Rattle.net_model.specs.Stable.{IsDecided, Stable, held_ospf}
 use Rattle.net_encoder.specs.Slots.{all_hold, bare, entry_of, is_wanted, runs_no_bgp, same_ospf, slot_holds, slot_of}
 use Rattle.net_encoder.specs.Slots.{slots_of, tables_of, unknown_of, unknowns_of}
 use Rattle.net_encoder.specs.Unknowns.{Unknown}
-use Rattle.net_encoder.proofs.Stability.{beq-same, entry_bare, no_bgp_at, same_ospf-same}
+use Rattle.net_encoder.proofs.Stability.{entry_bare, no_bgp_at, same_ospf-same}
 
 -- the three equations of a slot without a BGP route
 pub record Meets (files : List File) (failures : Failures) (d : Addr) (tables : Tables) (router len : ℕ)
@@ -76,7 +76,7 @@ open_holds files failures d tables router len slot meets =
         let good = own_there files failures d router len slot meets.file meets.there
         ∙ ap (own_is_as_good files failures router meets.file (prefix_at d len))
         (sym (slot_again files failures d tables router len slot meets)) in
-        subst (λ b. beq u.own b ≡ true) good (beq-same u.own)
+        subst (λ b. beq u.own b ≡ true) good (beq-refl u.own)
 
 -- each slot from a place on meets its equations
 abbrev AllMeet : List File → Failures → Addr → Tables → ℕ → List Slot → Type 0

@@ -16,6 +16,7 @@ use Rattle.std.proofs.lemmas.Option.{option_and_then_some, same_Some}
 use Rattle.mw_text.specs.declared.address.Addr.{Addr}
 use Rattle.mw_text.specs.declared.address.Prefix.{Prefix}
 use Rattle.mw_text.specs.Address.{block, covers, prefix_at, same_prefix}
+use Rattle.mw_text.proofs.Lists.{all_flat_map, all_found}
 use Rattle.ios_ast.specs.declared.file.File.{File}
 use Rattle.ios_ast.specs.declared.ospf.Ospf.{Ospf}
 use Rattle.route_record.specs.declared.Environment.{Environment}
@@ -36,6 +37,7 @@ use Rattle.net_model.specs.Connected.{overlap}
 use Rattle.net_model.specs.Origins.{redistributed}
 use Rattle.net_model.specs.Stable.{Stable}
 use Rattle.net_model.specs.World.{is_up}
+use Rattle.net_model.proofs.Defined.{none_here}
 use Rattle.net_encoder.specs.Rooms.{greatest_cost, has_room, is_advertised, most_cost, some_take}
 use Rattle.net_encoder.specs.Rooms.{takes_routes, width_from, widths_of}
 use Rattle.net_encoder.specs.Supported.{AreOrigins}
@@ -74,12 +76,6 @@ all_within (x ∷ xs) most =
 pub interfaces_within : (files : List File) → All (λ x. x.cost ≤ greatest_cost files) (ospf_interfaces files)
 interfaces_within files = all_within (ospf_interfaces files) 0
 
-all_flat : {X Y : Type 0} (P : X → Type 0) (Q : Y → Type 0) (f : X → List Y) (xs : List X) →
-    ((x : X) → P x → All Q (f x)) → All P xs → All Q (flat_map f xs)
-all_flat P Q f [] gives all = All-nil Q
-all_flat P Q f (x ∷ xs) gives all =
-    All-append Q (f x) (flat_map f xs) (gives x (All-head P x xs all)) (all_flat P Q f xs gives (All-tail P x xs all))
-
 all_of : {X : Type 0} (P : X → Type 0) (xs : List X) → ((x : X) → P x) → All P xs
 all_of P [] each = All-nil P
 all_of P (x ∷ xs) each = All-cons P x xs (each x) (all_of P xs each)
@@ -88,7 +84,7 @@ all_of P (x ∷ xs) each = All-cons P x xs (each x) (all_of P xs each)
 pub adjacencies_within : (files : List File) → All (λ a. a.cost ≤ greatest_cost files) (adjacencies files)
 unfolding adjacencies
 adjacencies_within files =
-    all_flat (λ x. x.cost ≤ greatest_cost files) (λ a. a.cost ≤ greatest_cost files)
+    all_flat_map (λ x. x.cost ≤ greatest_cost files) (λ a. a.cost ≤ greatest_cost files)
     (λ x. map (adjacency x) (filter (are_adjacent x) (ospf_interfaces files))) (ospf_interfaces files)
     (λ x within. All-map (λ a. a.cost ≤ greatest_cost files) (adjacency x)
     (filter (are_adjacent x) (ospf_interfaces files)) (all_of _ _ (λ y. within))) (interfaces_within files)
@@ -99,11 +95,6 @@ all_from_in : {X : Type 0} (P : X → Type 0) (xs : List X) → ((x : X) → In 
 all_from_in P [] each = All-nil P
 all_from_in P (x ∷ xs) each =
     All-cons P x xs (each x (inl refl)) (all_from_in P xs (λ y there. each y (inr there)))
-
-all_there : {X : Type 0} (P : X → Type 0) (xs : List X) (k : ℕ) (x : X) → All P xs → slice_get xs k ≡ Some x → P x
-all_there P [] k x all there = cc
-all_there P (y ∷ ys) zero x all there = subst P (same_Some y x there) (All-head P y ys all)
-all_there P (y ∷ ys) (suc k) x all there = all_there P ys k x (All-tail P y ys all) there
 
 any_none : {X : Type 0} (p : X → Bool) (xs : List X) (k : ℕ) (x : X) → list_any p xs ≡ false →
     slice_get xs k ≡ Some x → p x ≡ false
@@ -133,16 +124,12 @@ no_items : {X : Type 0} (xs : List X) → not (length xs == 0) ≡ false → xs 
 no_items [] none = refl
 no_items (x ∷ xs) none = absurd (false≢true (sym none ∙ ap not (eqb-suc-zero (length xs))))
 
-none_there : {X : Type 0} (o : Option X) → is_some o ≡ false → o ≡ None
-none_there None none = refl
-none_there (Some x) none = absurd (false≢true (sym none))
-
 nothing_taken : (file : File) (process : Ospf) (p : Prefix) (slot : Slot) → takes_routes process ≡ false →
     redistributed file process p slot ≡ []
 unfolding redistributed
 nothing_taken file process p slot none =
     let both = or_parts (not (length process.redistribute == 0)) (is_some process.default) none in
-    rw (no_items process.redistribute both.0, none_there process.default both.1) refl
+    rw (no_items process.redistribute both.0, none_here process.default both.1) refl
 
 abbrev origin_by : OspfInterface → OspfRec
 origin_by x = record { kind = Internal; metric = 0; cost = x.cost }
@@ -282,7 +269,7 @@ module _ (files : List File) (destinations : Prefix) (d : Addr) (failures : Fail
   width_there router len slot h short here holds = by (some_take files) refl where
     fits : FitsOspf h
     fits =
-        let whole : FitsSlot slot = all_there FitsSlot tables.slots (LENGTHS * router + len) slot stable.fits here in
+        let whole : FitsSlot slot = all_found FitsSlot tables.slots (LENGTHS * router + len) slot stable.fits here in
         subst (λ o. IfSome o FitsOspf) holds whole.ospf
 
     small_rank : (kind : OspfKind) → kind_rank kind < 2 ^ 2

@@ -11,6 +11,7 @@ use Rattle.question_lang.specs.declared.question.Question.{Question}
 use Rattle.term_store.specs.declared.NodeId.{NodeId}
 use Rattle.term_store.specs.Terms.{Reading, at}
 use Rattle.term_arith.specs.Bits.{bits}
+use Rattle.term_arith.proofs.CountLemmas.{not_more}
 use Rattle.sym_policy.specs.Held.{positions}
 use Rattle.net_encoder.specs.Packets.{is_in_set}
 use Rattle.net_encoder.specs.Slots.{all_hold, slots_of}
@@ -18,16 +19,8 @@ use Rattle.net_encoder.specs.Unknowns.{Unknown}
 use Rattle.net_encoder.specs.Worlds.{is_routing, opens_from, world_from}
 
 -- a number that is not below another is at least it, and one that is not above it at most
-not_below : (n m : ℕ) → not (nat_lt n m) ≡ nat_le m n
-not_below n m = by_test (nat_lt n m) refl (nat_le m n) refl where
-  by_test : (a : Bool) → nat_lt n m ≡ a → (b : Bool) → nat_le m n ≡ b → not a ≡ b
-  by_test true less true most = grind (arith, nat_tests)
-  by_test true less false most = refl
-  by_test false less true most = refl
-  by_test false less false most = grind (arith, nat_tests)
-
 pub at_least : (port first range : ℕ) → first ≡ range → not (nat_lt port first) ≡ nat_le range port
-at_least port first range same = not_below port first ∙ ap (λ n. nat_le n port) same
+at_least port first range same = not_more port first ∙ ap (λ n. nat_le n port) same
 
 pub at_greatest : (port last range : ℕ) → last ≡ range → not (nat_lt last port) ≡ nat_le port range
 at_greatest port last range same = not_below last port ∙ ap (nat_le port) same

@@ -7,7 +7,7 @@ use Rattle.std.specs.Option.{option_map_or, option_to_list}
 use Rattle.std.proofs.lemmas.Bool.{and_from, and_parts, eqb-true, eq-eqb, false≢true}
 use Rattle.std.proofs.lemmas.List.Elements.{All-append, All-cons, All-filter, All-head, All-map, All-nil, All-tail}
 use Rattle.std.proofs.lemmas.Option.{same_Some}
-use Rattle.mw_text.proofs.Lists.{all_at}
+use Rattle.mw_text.proofs.Lists.{all_at, beq-refl, beq-true}
 use Rattle.mw_text.specs.declared.address.Addr.{Addr}
 use Rattle.mw_text.specs.declared.address.Prefix.{Prefix}
 use Rattle.mw_text.specs.Address.{prefix_at}
@@ -35,16 +35,6 @@ use Rattle.net_encoder.specs.Slots.{slots_of, tables_of}
 use Rattle.net_encoder.specs.Unknowns.{Unknown}
 
 -- ---- the tests of equality
-
-beq-is : (a b : Bool) → beq a b ≡ true → a ≡ b
-beq-is true true same = refl
-beq-is true false same = absurd (false≢true same)
-beq-is false true same = absurd (false≢true same)
-beq-is false false same = refl
-
-pub beq-same : (a : Bool) → beq a a ≡ true
-beq-same true = refl
-beq-same false = refl
 
 rank_is : (a b : OspfKind) → kind_rank a ≡ kind_rank b → a ≡ b
 rank_is Internal Internal same = refl
@@ -230,7 +220,7 @@ stable_sound files d failures environment us none distances long fit hold = reco
       ap (λ o. option_map_or (is_wanted files failures d tables router len u) o false) (sym there) ∙ holds in
       let both = and_parts (same_ospf u.ospf (held_ospf files failures tables router file
       (prefix_at d len))) _ wanted in
-      let own = beq-is u.own _ both.1 in
+      let own = beq-true u.own _ both.1 in
       let bgp = no_bgp_at files router file none there in
       record {
         ospf = same_ospf-is u.ospf _ both.0;

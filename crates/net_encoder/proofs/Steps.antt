@@ -67,10 +67,6 @@ grows_grown first next = record {
   keeps = λ i n stands. next.keeps i n (first.keeps i n stands);
 }
 
-pub ids_end_above : (low high : List NodeId) → ids_end (low ++ high) ≡ max (ids_end low) (ids_end high)
-ids_end_above [] high = omega arith
-ids_end_above (id ∷ low) high = let rest = ids_end_above low high in omega (arith, rest)
-
 -- the first bits of an address fit the width that is left
 pub high_bits : (a len : ℕ) → a < 2 ^ 32 → a / 2 ^ (32 - len) < 2 ^ (32 - (32 - len))
 high_bits a len small =

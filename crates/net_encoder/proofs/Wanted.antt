@@ -26,14 +26,6 @@ use Rattle.net_encoder.specs.Equations.{offers_by, originates, origins_by}
 use Rattle.net_encoder.specs.Slots.{is_wanted, same_ospf, slot_of}
 use Rattle.net_encoder.specs.Unknowns.{Unknown}
 
--- an item of a list of which all have a fact
-pub all_found : {A : Type 0} (P : A → Type 0) (xs : List A) (k : ℕ) (x : A) → All P xs → slice_get xs k ≡ Some x → P x
-all_found P [] k x all found = absurd cc
-all_found P (y ∷ ys) zero x all found =
-    let same : y ≡ x = cc in
-    subst P same (All-head P y ys all)
-all_found P (y ∷ ys) (suc k) x all found = all_found P ys k x (All-tail P y ys all) found
-
 pub some_same : {A : Type 0} (x y : A) → Some x ≡ Some y → x ≡ y
 some_same x y same = cc
 

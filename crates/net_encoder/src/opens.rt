@@ -26,7 +26,7 @@ pub struct SymOpen {
 }
 
 // A number of new variables, whose bits from `width` on are 0.
-#[tactic(auto, using(crate::proofs::Steps::grows_built, crate::proofs::Steps::grows_grown, crate::proofs::Steps::number_fresh, crate::proofs::Steps::number_above, crate::proofs::Steps::ids_end_above, crate::proofs::Steps::nothing_above))]
+#[tactic(auto, using(crate::proofs::Steps::grows_built, crate::proofs::Steps::grows_grown, crate::proofs::Steps::number_fresh, crate::proofs::Steps::number_above, sym_policy::proofs::NetworkBits::joined_ends, crate::proofs::Steps::nothing_above))]
 fn padded(alloc: Global, terms: &mut Terms, width: u8, whole: u8) -> Result<Bits, AllocError>
     requires whole { whole ≤ 64 }
     requires fits { width ≤ whole }

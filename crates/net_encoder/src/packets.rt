@@ -47,7 +47,7 @@ pub fn above(low: Bits, high: &Bits) -> Result<Bits, AllocError>
 }
 
 // An address under a prefix: its lowest bits are new, and the others the prefix's.
-#[tactic(auto, using(crate::proofs::Steps::grows_built, crate::proofs::Steps::grows_grown, crate::proofs::Steps::number_fresh, crate::proofs::Steps::number_above, crate::proofs::Steps::ids_end_above, crate::proofs::Steps::high_bits))]
+#[tactic(auto, using(crate::proofs::Steps::grows_built, crate::proofs::Steps::grows_grown, crate::proofs::Steps::number_fresh, crate::proofs::Steps::number_above, sym_policy::proofs::NetworkBits::joined_ends, crate::proofs::Steps::high_bits))]
 fn address(alloc: Global, terms: &mut Terms, prefix: &Prefix) -> Result<Bits, AllocError>
     requires addr { prefix.now.addr.0 < 2 ^ 32 }
     ensures grows { Grows terms.old terms.new }

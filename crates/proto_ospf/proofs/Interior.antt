@@ -20,7 +20,7 @@ use Rattle.net_model.specs.Distances.{distance_within, interior_distance, least,
 use Rattle.net_model.specs.Interfaces.{addressed, addressed_from, addressed_iface, addressed_routers}
 use Rattle.net_model.specs.World.{is_up}
 use Rattle.mw_text.specs.Address.{same_prefix}
-use Rattle.mw_text.proofs.Lists.{filter_none}
+use Rattle.mw_text.proofs.Lists.{all_flat_map, filter_none}
 use Rattle.net_model.specs.Ospf.{adjacencies, adjacencies_of, adjacency, advertisement, are_adjacent}
 use Rattle.net_model.specs.Ospf.{is_up_at, ospf_at, ospf_interfaces, up_adjacencies}
 use Rattle.net_model.proofs.LeastWalks.{ospf_at-same}
@@ -28,13 +28,6 @@ use Rattle.proto_ospf.specs.Rounds.{everywhere, interior_distances, lower, neare
 use Rattle.proto_ospf.proofs.Bounds.{all_filter_map}
 
 -- ---- what holds of each member
-
-all_flat_map : {X Y : Type 0} (P : X → Type 0) (Q : Y → Type 0) (f : X → List Y) (xs : List X) →
-    ((x : X) → P x → All Q (f x)) → All P xs → All Q (flat_map f xs)
-all_flat_map P Q f [] gives all = All-nil Q
-all_flat_map P Q f (x ∷ xs) gives all =
-    All-append Q (f x) (flat_map f xs) (gives x (All-head P x xs all))
-    (all_flat_map P Q f xs gives (All-tail P x xs all))
 
 map_agree : {X Y : Type 0} (f g : X → Y) (xs : List X) → ((x : X) → f x ≡ g x) → map f xs ≡ map g xs
 map_agree f g [] same = refl

@@ -10,3 +10,4 @@ pub mod Lines
 pub mod LogLines
 pub mod Written
 pub mod Resolvents
+pub mod Variables

@@ -7,19 +7,9 @@ use Rattle.std.proofs.lemmas.Bool.{cases_Bool, and_parts, eqb-true, eq-eqb, cond
 use Rattle.std.proofs.lemmas.Bool.{or_cases, and_from, and_left}
 use Rattle.std.proofs.Math.Bool.{not-not}
 use Rattle.std.proofs.lemmas.List.Folds.{list_any-append}
+use Rattle.mw_text.proofs.Lists.{beq-refl, beq-true}
 use Rattle.resolution_check.specs.declared.log.Lit.{Lit}
 use Rattle.resolution_check.specs.Clauses.{opposite, is_same, has, the_one}
-
--- signs that are the same are equal
-pub beq-true : (a b : Bool) → beq a b ≡ true → a ≡ b
-beq-true true true h = refl
-beq-true true false h = sym h
-beq-true false true h = h
-beq-true false false h = refl
-
-beq-refl : (a : Bool) → beq a a ≡ true
-beq-refl true = refl
-beq-refl false = refl
 
 -- literals that are the same are equal
 pub same_lit : (k l : Lit) → is_same k l ≡ true → k ≡ l

@@ -28,4 +28,7 @@ network_number w low ids k h long =
     number-zero_low w low (drop k ids) h ∙ ap (λ n. number w (drop k ids) * 2 ^ n) long
     ∙ ap (λ q. q * 2 ^ k) (number_high w ids k)
 
+-- where joined numbers of nodes end
+pub ruleset joined_ends = (ids_end-append)
+
 pub ruleset network_steps = (network_number, ids_end-append, ids_end_drop, length-append, length-drop)

@@ -2,7 +2,7 @@ use Rattle.std.proofs.Common.{◌<◌, length}
 use Rattle.std.proofs.lemmas.Option.{slice_get_within}
 use Rattle.cnf_blaster.specs.Laws.{marked}
 use Rattle.cdcl_search.proofs.Followed.{forced_at, followed_past, followed_decision, followed_forced, numbers_push}
-use Rattle.cdcl_search.proofs.Results.{ok_both}
+use Rattle.mw_text.proofs.Results.{ok_both}
 use Rattle.cdcl_search.proofs.learning.trace.Goals as goal
 
 pub returns-then-not-marks-step-clause-followed : goal.returns-then-not-marks-step-clause-followed

@@ -4,7 +4,7 @@ use Rattle.cdcl_search.specs.Trails.{value_of}
 use Rattle.cdcl_search.specs.Levels.{Goes, AllSeen}
 use Rattle.cdcl_search.proofs.Trails.{value_of-last}
 use Rattle.cdcl_search.proofs.Levels.{goes_then, goes_push, goes_same, seen_since}
-use Rattle.cdcl_search.proofs.Results.{if_ok_any}
+use Rattle.mw_text.proofs.Results.{if_ok_any}
 use Rattle.cdcl_search.proofs.search.decide_free.Goals as goal
 
 pub returns-in_err-push-clause-goes : goal.returns-in_err-push-clause-goes

@@ -3,7 +3,7 @@ use Rattle.std.proofs.Common.{rules, ◌≡◌, ◌∙◌, ◌++◌, ◌∷◌, 
 use Rattle.std.proofs.lemmas.Option.{slice_get_read}
 use Rattle.resolution_check.specs.declared.log.Clause.{Clause}
 use Rattle.mw_text.proofs.Lists.{all_at}
-use Rattle.cdcl_search.proofs.Places.{take_at}
+use Rattle.resolution_check.proofs.Variables.{take_at}
 use Rattle.cdcl_search.proofs.solving.book_of.Goals as goal
 
 pub add-requires : goal.add-requires

@@ -6,7 +6,7 @@ use Rattle.std.specs.List.{list_all}
 use Rattle.cdcl_search.specs.Outcomes.{IsCut}
 use Rattle.cdcl_search.specs.Going.{IsGoing}
 use Rattle.cdcl_search.proofs.Logs.{cut_here, cut_within, logged_sat, logged_unsat, logged_unknown}
-use Rattle.cdcl_search.proofs.Results.{on_err}
+use Rattle.mw_text.proofs.Results.{on_err}
 use Rattle.cdcl_search.proofs.Values.{all_hold, all_true, all_hold_settled}
 use Rattle.cdcl_search.proofs.solving.search.Goals as goal
 

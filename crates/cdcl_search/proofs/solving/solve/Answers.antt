@@ -9,7 +9,7 @@ use Rattle.cdcl_search.specs.Going.{IsGoing}
 use Rattle.cdcl_search.proofs.Trails.{follows_none}
 use Rattle.cdcl_search.proofs.Logs.{small_inputs, going_start, cut_first, unsat_shown}
 use Rattle.cdcl_search.proofs.Bound.{unknown_within}
-use Rattle.cdcl_search.proofs.Results.{on_err, err_then, ok_then}
+use Rattle.mw_text.proofs.Results.{on_err, err_then, ok_then}
 use Rattle.cdcl_search.proofs.Levels.{full_none}
 use Rattle.cdcl_search.specs.Levels.{AreFull}
 use Rattle.cdcl_search.proofs.solving.solve.Goals as goal

@@ -8,7 +8,7 @@ use Rattle.resolution_check.specs.Entries.{is_empty, satisfies}
 use Rattle.cdcl_search.specs.Trails.{Follows}
 use Rattle.cdcl_search.specs.Going.{IsGoing, Cuts}
 use Rattle.cdcl_search.proofs.Logs.{next_lesson, cut_more, refuted_more, going_more}
-use Rattle.cdcl_search.proofs.Results.{on_err}
+use Rattle.mw_text.proofs.Results.{on_err}
 use Rattle.cdcl_search.proofs.Levels.{IsCutBack, cut_back}
 use Rattle.cdcl_search.proofs.Places.{all_push}
 use Rattle.resolution_check.specs.Clauses.{has}

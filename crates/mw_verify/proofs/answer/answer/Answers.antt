@@ -1,4 +1,5 @@
-use Rattle.mw_verify.proofs.Formulas.{on_err, section_whole, verdict_logged}
+use Rattle.mw_text.proofs.Results.{on_err}
+use Rattle.mw_verify.proofs.Formulas.{section_whole, verdict_logged}
 use Rattle.mw_verify.proofs.answer.answer.Goals as goal
 
 pub returns-in_err-verdict-clause-cut : goal.returns-in_err-verdict-clause-cut

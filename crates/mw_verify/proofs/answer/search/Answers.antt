@@ -1,4 +1,5 @@
-use Rattle.mw_verify.proofs.Formulas.{on_err, section_closed, section_filled, section_stands}
+use Rattle.mw_text.proofs.Results.{on_err}
+use Rattle.mw_verify.proofs.Formulas.{section_closed, section_filled, section_stands}
 use Rattle.mw_verify.proofs.answer.search.Goals as goal
 
 pub returns-in_err-outcome-clause-cut : goal.returns-in_err-outcome-clause-cut

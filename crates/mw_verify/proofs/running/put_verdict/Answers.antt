@@ -3,7 +3,7 @@ use Rattle.mw_outside.specs.Taken.{TakesPart}
 use Rattle.question_lang.specs.declared.question.Question.{Question}
 use Rattle.mw_verify.specs.Verdicts.{verdict_text}
 use Rattle.mw_verify.proofs.Answering.{cut_unprinted}
-use Rattle.mw_verify.proofs.Formulas.{on_err}
+use Rattle.mw_text.proofs.Results.{on_err}
 use Rattle.mw_verify.proofs.running.put_verdict.Goals as goal
 
 pub returns-in_err-text-clause-cut : goal.returns-in_err-text-clause-cut

@@ -8,7 +8,8 @@ use Rattle.sym_walk.specs.Worlds.{slot_of as slot_read}
 use Rattle.sym_walk.proofs.OfferedHops.{slot_read as read_at}
 use Rattle.net_encoder.specs.Slots.{slot_of}
 use Rattle.net_encoder.specs.Symbols.{open_of}
-use Rattle.net_encoder.proofs.Wanted.{all_found, some_same}
+use Rattle.mw_text.proofs.Lists.{all_found}
+use Rattle.net_encoder.proofs.Wanted.{some_same}
 use Rattle.net_encoder.proofs.holding.sym_runs.Goals as goal
 
 pub returns-in_ok-made-in-Some-clause-value : goal.returns-in_ok-made-in-Some-clause-value

@@ -1,7 +1,7 @@
 use Rattle.std.proofs.Common.{OnOk, length, subst}
 use Rattle.cdcl_search.specs.Books.{Shelf, Finds}
 use Rattle.cdcl_search.proofs.Books.{finds-put}
-use Rattle.cdcl_search.proofs.Results.{ok_both}
+use Rattle.mw_text.proofs.Results.{ok_both}
 use Rattle.cdcl_search.proofs.book.Book.add.Goals as goal
 
 pub returns-clause-finds : goal.returns-clause-finds
