@@ -4,17 +4,10 @@ use Rattle.std.proofs.Common.{Option, Some, None, refl, ap, sym, subst, arith, �
 use Rattle.std.proofs.lemmas.Bool.{cases_Bool, lt-ltb}
 use Rattle.std.proofs.lemmas.Bool.Decides.{nat_tests}
 use Rattle.std.proofs.lemmas.Grind.{common_steps}
-use Rattle.std.proofs.lemmas.List.Sums.{AllPass-from_list_all}
-use Rattle.std.proofs.lemmas.Option.{get_or_from_slice_get, slice_get_within}
 use Rattle.std.specs.Prelude.{is_some, nat_lt, position}
 use Rattle.std.specs.List.{list_all, prefix_len}
 use Rattle.ios_ast.specs.declared.file.File.{File}
-use Rattle.question_lang.proofs.Reaching.{reach_known}
-use Rattle.question_lang.specs.Known.{AreKnown, IsKnown}
-use Rattle.question_lang.specs.Single.{AreReach}
-use Rattle.question_lang.specs.declared.question.Question.{Question}
 use Rattle.net_encoder.specs.Slots.{runs_no_bgp}
-use Rattle.mw_verify.specs.Due.{is_answerable}
 
 past_end : (k n : ℕ) → nat_lt (1 + k) (suc n) ≡ false → nat_lt k n ≡ false
 past_end k n h = grind (arith, nat_tests, common_steps)
@@ -41,29 +34,8 @@ all_pass : {A : Type 0} (f p : A → Bool) → ((x : A) → f x ≡ false → p 
 all_pass f p link xs none =
     all-front f p link xs (found_none (nat_lt (prefix_len (λ x. not (f x)) xs) (length xs)) _ none)
 
-not_false : (b : Bool) → not b ≡ false → b ≡ true
-not_false true h = refl
-not_false false h = sym h
-
--- where none is found that cannot be answered, all can be
-pub all_answerable : (questions : List Question) → position (λ q. not (is_answerable q)) questions ≡ None →
-    list_all is_answerable questions ≡ true
-all_answerable questions none =
-    all_pass (λ q. not (is_answerable q)) is_answerable (λ q h. not_false (is_answerable q) h) questions none
-
 -- where no router is found that runs BGP, none does
 pub none_runs_bgp : (files : List File) → position (λ file. is_some file.bgp) files ≡ None → runs_no_bgp files ≡ true
 none_runs_bgp files none =
     all_pass (λ (file : File). is_some file.bgp) (λ (file : File). not (is_some file.bgp)) (λ file h. ap not h) files
     none
-
--- questions that can be answered, all of which name what is there
-pub are_reach : (files : List File) (questions : List Question) → list_all is_answerable questions ≡ true →
-    AreKnown files questions → AreReach (length files) questions
-are_reach files questions can known k question there =
-    let within = slice_get_within questions k question there in
-    let same = get_or_from_slice_get questions k question question there in
-    let P : Question → Type 0 = λ q. IsKnown files q.kind in
-    let Q : Question → Type 0 = λ q. is_answerable q ≡ true in
-    let answerable = subst Q same (AllPass-from_list_all is_answerable questions can k question within) in
-    reach_known files question answerable (subst P same (known k question within))

@@ -1,6 +1,6 @@
 -- What is due for words over the contents of files: usage, a refusal, or answers to questions over a network.
 use Rattle.std.specs.Prelude.{ℕ, ◌==◌, ◌&&◌, ◌||◌, Bool, false, not, List, [], ◌∷◌, length, nat_lt, nat_le, codes}
-use Rattle.std.specs.Prelude.{slice_index, slice_get, filter, is_none, position, Option, Some, None, drop}
+use Rattle.std.specs.Prelude.{slice_index, slice_get, is_none, position, Option, Some, None, drop}
 use Rattle.std.specs.Prelude.{option_and_then, option_map, is_some, unwrap_or, Result, Ok, Err, if◌then◌else◌}
 use Rattle.std.specs.List.{list_all, list_any}
 use Rattle.std.specs.Option.{option_map_or}
@@ -16,10 +16,7 @@ use Rattle.cex_json.specs.declared.counterexample.Counterexample.{Counterexample
 use Rattle.cex_json.specs.declared.refused.CexRefused.{CexRefused}
 use Rattle.cex_json.specs.Reading.{reading as reading_cex}
 use Rattle.question_lang.specs.declared.question.Question.{Question}
-use Rattle.mw_text.specs.declared.words.Line.{Line}
-use Rattle.mw_text.specs.Words.{is_skipped, text_lines}
 use Rattle.question_lang.specs.Asking.{asking}
-use Rattle.question_lang.specs.Single.{is_reach}
 use Rattle.mw_text.specs.Digits.{number_of}
 use Rattle.mw_verify.specs.declared.load.TheConstants.{DEFAULT_CONFLICTS, MOST_BYTES, MOST_CEX_BYTES, MOST_CONFLICTS}
 use Rattle.mw_verify.specs.declared.text.Text.{Text}
@@ -139,35 +136,13 @@ network_of texts files =
 abbrev pub network_due : List Text → Result (List File) Outcome
 network_due texts = following (network_of texts) (each file_of texts)
 
--- what `verify` can answer today: whether packets from a router reach a router
-abbrev pub is_answerable : Question → Bool
-is_answerable question = is_reach question.kind
-
--- the lines of a questions file that ask something: the k-th asks the k-th question
-abbrev pub asking_lines : List ℕ → List Line
-asking_lines bytes = filter (λ line. not (is_skipped line.words)) (text_lines bytes)
-
--- the line of the question of that number
-abbrev pub line_of : List ℕ → ℕ → ℕ
-line_of bytes number = option_map_or (λ line. line.number) (slice_get (asking_lines bytes) number) 0
-
--- the first question that cannot be answered refuses the file at its line
-abbrev pub answerable : Text → List Question → Result (List Question) Outcome
-answerable text questions =
-    option_map_or (λ number. Err (refused (not_built text.name (line_of text.bytes number))))
-    (position (λ question. not (is_answerable question)) questions) (Ok questions)
-
 -- the questions of a text over a network
 abbrev pub asked_of : Text → List File → Result (List Question) Outcome
 asked_of text files = read_as text.name (asking files text.bytes)
 
--- those that `verify` can answer
-abbrev pub questions_of : Text → List File → Result (List Question) Outcome
-questions_of text files = following (answerable text) (asked_of text files)
-
 -- the questions of a text are to be answered
 abbrev pub asked_due : ℕ → Text → List File → Result Outcome Outcome
-asked_due budget asked files = following (λ questions. Ok (answering files questions budget)) (questions_of asked files)
+asked_due budget asked files = following (λ questions. Ok (answering files questions budget)) (asked_of asked files)
 
 -- what the texts of `verify` come to: each configuration is parsed, then the network, then the questions
 abbrev pub texts_due : ℕ → List Text → Text → Result Outcome Outcome

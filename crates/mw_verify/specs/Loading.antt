@@ -7,7 +7,6 @@ use Rattle.mw_verify.specs.declared.load.Stop.TheVariants as stop
 use Rattle.mw_verify.specs.declared.load.TheConstants.{MOST_BYTES, MOST_CONFLICTS}
 use Rattle.mw_verify.specs.declared.work.Work.{Work}
 use Rattle.mw_verify.specs.declared.work.Work.TheVariants.{Answer, Replay}
-use Rattle.question_lang.specs.Single.{AreReach}
 use Rattle.question_lang.specs.declared.reader.TheConstants.{MOST_QUESTIONS}
 use Rattle.net_encoder.specs.Slots.{runs_no_bgp}
 use Rattle.mw_verify.specs.declared.text.Text.{Text}
@@ -61,9 +60,8 @@ abbrev pub outcome_of : Work → Outcome
 outcome_of (Answer loaded) = answering loaded.net loaded.questions loaded.budget
 outcome_of (Replay told) = replaying told.net told.questions told.cex
 
--- the work can be done: the questions are among those that are answered today, or the counterexample is admitted
+-- the work can be done: no router runs BGP and the questions are few, or the counterexample is admitted
 abbrev pub IsReady : Work → Type 0
 IsReady (Answer loaded) =
-    (runs_no_bgp loaded.net ≡ true) × AreReach (length loaded.net) loaded.questions
-    × (length loaded.questions ≤ MOST_QUESTIONS) × IsBudget loaded.budget
+    (runs_no_bgp loaded.net ≡ true) × (length loaded.questions ≤ MOST_QUESTIONS) × IsBudget loaded.budget
 IsReady (Replay told) = IsAdmitted told.net told.questions told.cex

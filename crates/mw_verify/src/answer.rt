@@ -12,8 +12,6 @@ ghost use Rattle.mw_verify.specs.Formulas.{IsFormula};
 ghost use Rattle.mw_verify.specs.Loading.{IsBudget};
 ghost use Rattle.mw_verify.specs.Texts.{holds_text, unknown_text};
 ghost use Rattle.mw_verify.specs.Verdicts as verdicts;
-ghost use Rattle.question_lang.specs.Breaking.{reach_question};
-ghost use Rattle.question_lang.specs.Single.{IsReach};
 ghost use Rattle.question_lang.specs.declared.walk.Walk.{Walk as WalkOf};
 ghost use Rattle.resolution_check.specs.Entries.{IsUnsatisfiable, satisfies};
 ghost use Rattle.resolution_check.specs.declared.log.Entry.{Entry};
@@ -28,10 +26,11 @@ use mw_outside::Sink;
 use mw_text::List;
 use net_encoder::decode;
 use net_model::Net;
-use question_lang::{Kind, Question, Start, Target};
+use question_lang::Question;
 use route_record::Environment;
 use std::alloc::{AllocError, Global};
-use walk_def::{World, breaking_walk};
+use walk_def::World;
+use walk_finder::find_walk;
 
 /// What is found out of a question.
 #[derive(Drop)]
@@ -44,26 +43,7 @@ pub enum Verdict {
     Unknown(u64),
 }
 
-// The routers between which the packets of the question go.
-fn ends_of(kind: &Kind, routers: usize) -> (u32, u32)
-    requires { (start : ℕ) × (target : ℕ) × (kind.now ≡ reach_question start target) × (start < routers) }
-    ensures kind { kind.now ≡ reach_question result.0 result.1 }
-    ensures within { result.0 < routers }
-{
-    let _count = routers;
-    match kind {
-        Kind::Reach(
-            Start {
-                router,
-                iface: None,
-            },
-            Target::Router(target),
-        ) => (*router, *target),
-        _ => unreachable!(),
-    }
-}
-
-// A counterexample of that world, in which some walk breaks the question.
+// A counterexample of that world, which something breaks.
 fn broken_world(
     alloc: Global,
     net: &Net,
@@ -71,25 +51,21 @@ fn broken_world(
     question: &Question,
     world: World,
 ) -> Result<Counterexample, AllocError>
-    requires reach { IsReach (length net.now) question.now }
     requires breaking { (walk : OptionOf WalkOf) × IsBreaking net.now question.now world no_environment walk }
     ensures { IfOk result (verdicts.IsTrueCounterexample net.now number question.now) }
 {
-    let (start, target) = ends_of(&question.kind, net.routers().len());
-    match breaking_walk(alloc, net, &world, start, target)? {
-        Some(walk) => Ok(Counterexample {
-            question: number,
-            packet: world.packet,
-            failures: world.failures,
-            env: Environment {
-                ids: List::new(alloc),
-                announced: List::new(alloc),
-            },
-            tables: world.tables,
-            walk: Some(walk),
-        }),
-        None => unreachable!(),
-    }
+    let walk = find_walk(alloc, net, &world, &question.kind)?;
+    Ok(Counterexample {
+        question: number,
+        packet: world.packet,
+        failures: world.failures,
+        env: Environment {
+            ids: List::new(alloc),
+            announced: List::new(alloc),
+        },
+        tables: world.tables,
+        walk,
+    })
 }
 
 // The counterexample of values that satisfy the clauses of the question.
@@ -101,7 +77,6 @@ fn counterexample_of(
     formula: &Formula,
     values: &[bool],
 ) -> Result<Counterexample, AllocError>
-    requires reach { IsReach (length net.now) question.now }
     requires formula { IsFormula net.now question.now formula.now }
     requires values { length values.now ≡ formula.now.cnf.vars }
     requires satisfied { satisfies (truth values.now) formula.now.cnf.clauses ≡ true }
@@ -128,7 +103,6 @@ fn verdict_of(
     formula: &Formula,
     outcome: Outcome,
 ) -> Result<Verdict, AllocError>
-    requires reach { IsReach (length net.now) question.now }
     requires formula { IsFormula net.now question.now formula.now }
     requires unsat { OnUnsat outcome (IsUnsatisfiable formula.now.cnf.clauses) }
     requires sat { OnSat outcome (λ values. satisfies (truth values) formula.now.cnf.clauses ≡ true) }
@@ -222,7 +196,6 @@ pub fn answer<L: Sink>(
     budget: u64,
     log: &mut L,
 ) -> Result<Verdict, SolveFault>
-    requires reach { IsReach (length net.now) question.now }
     requires no_bgp { runs_no_bgp net.now ≡ true }
     requires budget { IsBudget budget }
     ensures ok { IfOk result (λ verdict. IsLogged net.now budget number question.now verdict (L.taken log.old) (L.taken log.new)) }

@@ -1,19 +1,15 @@
 //! Reads and parses the files that the words name.
 
-ghost use Rattle.std.specs.Prelude.{◌≡◌, ◌≢◌, ◌≤◌, ◌++◌, ◌∷◌, [], Ok, Err, None, true, IfOk, IfErr, IfSome, filter, is_some, length, map, not, position, slice_get, string_bytes};
+ghost use Rattle.std.specs.Prelude.{◌≡◌, ◌≢◌, ◌≤◌, ◌++◌, ◌∷◌, [], Ok, Err, None, true, IfOk, IfErr, IfSome, is_some, length, map, position, string_bytes};
 ghost use Rattle.std.specs.List.{list_all};
-ghost use Rattle.std.specs.Option.{option_map_or};
 ghost use Rattle.ios_ast.specs.Limits.{keeps_limits};
 ghost use Rattle.mw_text.specs.Reading.{each};
-ghost use Rattle.mw_text.specs.Words.{is_skipped};
 ghost use Rattle.mw_verify.specs.Texts as lines;
 ghost use Rattle.net_encoder.specs.Slots.{runs_no_bgp};
 ghost use Rattle.mw_outside.specs.Faults.{Rose};
 ghost use Rattle.mw_outside.specs.Contents.{TellsOnly};
 ghost use Rattle.question_lang.specs.Known.{AreKnown};
-ghost use Rattle.question_lang.specs.Single.{AreReach};
 ghost use Rattle.mw_verify.specs.Due as due;
-ghost use Rattle.mw_verify.specs.Due.{is_answerable};
 ghost use Rattle.mw_verify.specs.Running.{StopsAt};
 ghost use Rattle.mw_verify.specs.Loading.{OnStop, UnlessReadFault, AreSmall};
 
@@ -22,9 +18,9 @@ use ios_ast::File;
 use ios_policy_reader::{Cause, Refused};
 use ios_reader::read_file;
 use mw_outside::{Files, ReadRefused, read_whole};
-use mw_text::{Line, List, lines_of, list_of, says_nothing};
+use mw_text::{List, list_of};
 use net_model::{Net, NetCause, NetRefused};
-use question_lang::{MOST_QUESTIONS, Question, is_reach, read_questions};
+use question_lang::{MOST_QUESTIONS, Question, read_questions};
 use std::alloc::{AllocError, AllocFailed, Global};
 
 /// How many bytes a configuration or a questions file has at most.
@@ -283,65 +279,6 @@ pub fn parse_network(alloc: Global, texts: &[Text]) -> Result<Net, Stop>
     network_of(alloc, texts, files)
 }
 
-// Whether `verify` can answer the question today: whether packets from a router reach a router.
-fn is_answerable(question: &Question) -> bool
-    ensures { result ≡ due.is_answerable question.now }
-{
-    is_reach(question)
-}
-
-fn find_unanswerable(questions: &[Question]) -> Option<usize>
-    ensures { result ≡ position (λ question. not (due.is_answerable question)) questions.now }
-{
-    questions
-        .iter()
-        .position(|question| !is_answerable(question))
-}
-
-// The number of the first question that cannot be answered.
-fn first_unanswerable(questions: &[Question]) -> Option<usize>
-    ensures first { result ≡ position (λ question. not (due.is_answerable question)) questions.now }
-    ensures none { result ≡ None → list_all is_answerable questions.now ≡ true }
-{
-    let found = find_unanswerable(questions);
-    found
-}
-
-fn asks(line: &Line) -> bool
-    ensures { result ≡ not (is_skipped line.now.words) }
-{
-    !says_nothing(line.words.as_slice())
-}
-
-// The line of the question of that number: the lines that are not skipped ask the questions in their order.
-fn line_of(lines: &[Line], number: usize) -> u32
-    ensures { result ≡ option_map_or (λ line. line.number) (slice_get (filter (λ line. not (is_skipped line.words)) lines.now) number) 0 }
-{
-    let mut left = number;
-    for line in lines {
-        if asks(line) {
-            if left == 0 {
-                return line.number;
-            }
-            left -= 1;
-        }
-    }
-    0
-}
-
-// The line of a question that cannot be answered.
-fn unanswerable(alloc: Global, asked: &Text, number: usize) -> Result<List<u8>, AllocError>
-    requires { length asked.now.bytes ≤ MOST_BYTES }
-    ensures { IfOk result (λ line. line ≡ lines.not_built asked.now.name (due.line_of asked.now.bytes number)) }
-{
-    let lines = lines_of(alloc, asked.bytes.as_slice())?;
-    not_built(
-        alloc,
-        asked.name.as_slice(),
-        line_of(lines.as_slice(), number),
-    )
-}
-
 /// The questions of the text over the network.
 pub fn read_asked(alloc: Global, asked: &Text, net: &Net) -> Result<List<Question>, Stop>
     requires { length asked.now.bytes ≤ MOST_BYTES }
@@ -353,22 +290,6 @@ pub fn read_asked(alloc: Global, asked: &Text, net: &Net) -> Result<List<Questio
     match read_questions(alloc, asked.bytes.as_slice(), net) {
         Ok(questions) => Ok(questions),
         Err(refused) => Err(stop_at(alloc, asked.name.as_slice(), &refused)),
-    }
-}
-
-// The questions of the text over the network, all of which can be answered.
-#[tactic(auto, using(crate::proofs::Deciding::are_reach))]
-fn parse_questions(alloc: Global, asked: &Text, net: &Net) -> Result<List<Question>, Stop>
-    requires { length asked.now.bytes ≤ MOST_BYTES }
-    ensures ok { IfOk result (λ questions. due.questions_of asked.now net.now ≡ Ok questions) }
-    ensures reach { IfOk result (AreReach (length net.now)) }
-    ensures few { IfOk result (λ questions. length questions ≤ MOST_QUESTIONS) }
-    ensures stop { IfErr result (λ stop. OnStop stop (λ line. due.questions_of asked.now net.now ≡ Err (due.refused line)) ⊥) }
-{
-    let questions = read_asked(alloc, asked, net)?;
-    match first_unanswerable(questions.as_slice()) {
-        None => Ok(questions),
-        Some(number) => Err(stop_with(unanswerable(alloc, asked, number))),
     }
 }
 
@@ -387,13 +308,12 @@ fn parse(alloc: Global, budget: u64, texts: &[Text], asked: &Text) -> Result<Loa
     ensures ok { IfOk result (λ loaded. due.texts_due budget texts.now asked.now ≡ Ok (due.answering loaded.net loaded.questions budget)) }
     ensures budget { IfOk result (λ loaded. loaded.budget ≡ budget) }
     ensures no_bgp { IfOk result (λ loaded. runs_no_bgp loaded.net ≡ true) }
-    ensures reach { IfOk result (λ loaded. AreReach (length loaded.net) loaded.questions) }
     ensures few { IfOk result (λ loaded. length loaded.questions ≤ MOST_QUESTIONS) }
     ensures stop { IfErr result (λ stop. OnStop stop (λ line. due.texts_due budget texts.now asked.now ≡ Err (due.refused line)) ⊥) }
 {
     let net = parse_network(alloc, texts)?;
     let net = answered_network(alloc, texts, net)?;
-    let questions = parse_questions(alloc, asked, &net)?;
+    let questions = read_asked(alloc, asked, &net)?;
     Ok(Loaded {
         net,
         questions,
@@ -402,8 +322,8 @@ fn parse(alloc: Global, budget: u64, texts: &[Text], asked: &Text) -> Result<Loa
 }
 
 /// Reads the configurations of these names and then the questions file, and parses them in this order. A read fault is
-/// answered only where a read of one of these files failed in this call, and a refusal is the first in this order. Files,
-/// network and questions are read whole; then the first question that `verify` cannot answer yet is refused.
+/// answered only where a read of one of these files failed in this call, and a refusal is the first in this order. The
+/// network must run no BGP.
 pub fn load<F: Files>(
     alloc: Global,
     files: &mut F,
@@ -416,7 +336,6 @@ pub fn load<F: Files>(
         due.files_due contents budget questions.now (map string_bytes names.now) ≡ Ok (due.answering loaded.net loaded.questions budget))) }
     ensures budget { IfOk result (λ loaded. loaded.budget ≡ budget) }
     ensures no_bgp { IfOk result (λ loaded. runs_no_bgp loaded.net ≡ true) }
-    ensures reach { IfOk result (λ loaded. AreReach (length loaded.net) loaded.questions) }
     ensures few { IfOk result (λ loaded. length loaded.questions ≤ MOST_QUESTIONS) }
     ensures quiet { UnlessReadFault result (F.faults files.new ≡ F.faults files.old) }
     ensures name_stays { UnlessReadFault result (F.last_failed files.new ≡ F.last_failed files.old) }

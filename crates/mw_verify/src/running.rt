@@ -3,7 +3,6 @@
 ghost use Rattle.std.specs.Prelude.{◌≡◌, ◌≢◌, ◌⊎◌, ◌||◌, ℕ, List as ListOf, true, false, IfOk, OnErr, length, map, string_bytes};
 ghost use Rattle.mw_outside.specs.Faults.{Rose};
 ghost use Rattle.mw_outside.specs.Taken.{Takes};
-ghost use Rattle.question_lang.specs.Single.{IsReach};
 ghost use Rattle.net_encoder.specs.Slots.{runs_no_bgp};
 ghost use Rattle.mw_verify.specs.Answering.{IsCutShort, IsPut, OnWriteFault, UnlessWriteFault, status_seen};
 ghost use Rattle.mw_verify.specs.Due as due;
@@ -115,7 +114,6 @@ fn put_verdict<O: Sink, L: Sink>(
     out: &mut O,
     log: &mut L,
 ) -> Result<Verdict, Halt>
-    requires reach { IsReach (length loaded.now.net) question.now }
     requires no_bgp { runs_no_bgp loaded.now.net ≡ true }
     requires budget { IsBudget loaded.now.budget }
     ensures ok { IfOk result (λ verdict. IsPut loaded.now.net loaded.now.questions loaded.now.budget number question.now verdict
