@@ -1,31 +1,19 @@
 //! Runs a script over files in memory. `%file NAME` begins a file, whose lines follow; `%run WORDS` runs these words over
-//! the files so far, and prints the status and what the run printed; `%clear` forgets all files; `% TEXT` is printed.
+//! the files so far, and prints the status and what the run printed; `%verify NAMES` runs `verify` over these files, and
+//! prints the verdicts, what `replay` answers to each counterexample and what the checker of logs answers to each section;
+//! `%clear` forgets all files; `% TEXT` is printed.
 #![tactic(auto)]
 
-use mw_outside::{NoSink, TestFile, TestFiles, TestSink};
-use mw_text::{List, list_of};
+mod files;
+mod verifying;
+
+use crate::files::{add_line, begin_file, readable, words_of};
+use crate::verifying::show_verify;
+use mw_outside::{NoSink, TestFile, TestSink};
+use mw_text::List;
 use mw_verify::{number_of, run};
-use std::alloc::{AllocError, Global};
+use std::alloc::Global;
 use std::io;
-
-fn copy_files(alloc: Global, files: &[TestFile]) -> Result<List<TestFile>, AllocError> {
-    let mut all = List::new(alloc);
-    for file in files {
-        all.items.push(TestFile {
-            name: list_of(alloc, file.name.as_slice())?,
-            bytes: list_of(alloc, file.bytes.as_slice())?,
-        })?;
-    }
-    Ok(all)
-}
-
-fn words_of(alloc: Global, line: &str) -> Result<Vec<String>, AllocError> {
-    let mut all = Vec::new(alloc);
-    for word in line.split(' ') {
-        all.push(String::from_str(alloc, word)?)?;
-    }
-    Ok(all)
-}
 
 fn show_bytes(rt: &impl Print, bytes: &[u8]) -> io::Result<()> {
     match std::str::from_utf8(bytes) {
@@ -36,38 +24,18 @@ fn show_bytes(rt: &impl Print, bytes: &[u8]) -> io::Result<()> {
 
 fn show_run(rt: &(impl Print + AllocGlobal), files: &[TestFile], line: &str) -> io::Result<()> {
     let alloc = rt.alloc();
-    let none: List<u64> = List::new(alloc);
-    let mut files = TestFiles::new(alloc, copy_files(alloc, files)?, none);
+    let mut contents = readable(alloc, files)?;
     let mut out = TestSink::new(alloc, 1_000_000, List::new(alloc))?;
     let words = words_of(alloc, line)?;
     let status = run(
         alloc,
         words.as_slice(),
-        &mut files,
+        &mut contents,
         &mut out,
         &mut NoSink::new(),
     );
     println!(rt; "{line}: status {}", number_of(status))?;
     show_bytes(rt, out.taken())
-}
-
-fn begin_file(alloc: Global, files: &mut List<TestFile>, name: &str) -> Result<(), AllocError> {
-    files
-        .items
-        .retain(|file| file.name.as_slice() != name.as_bytes());
-    files.items.push(TestFile {
-        name: list_of(alloc, name.as_bytes())?,
-        bytes: List::new(alloc),
-    })?;
-    Ok(())
-}
-
-fn add_line(files: &mut List<TestFile>, line: &str) -> Result<(), AllocError> {
-    if let Some(file) = files.items.last_mut() {
-        file.bytes.items.extend_from_slice(line.as_bytes())?;
-        file.bytes.items.extend_from_slice(b"\n")?;
-    }
-    Ok(())
 }
 
 fn take_line(
@@ -81,6 +49,9 @@ fn take_line(
     }
     if let Some(words) = line.strip_prefix("%run ") {
         return show_run(rt, files.as_slice(), words);
+    }
+    if let Some(names) = line.strip_prefix("%verify ") {
+        return show_verify(rt, files, names);
     }
     if line == "%clear" {
         files.items.clear();
