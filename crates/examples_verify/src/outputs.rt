@@ -1,6 +1,6 @@
-//! Outputs that fail, many questions, and which question is refused.
+//! Outputs and logs that fail, and many questions.
 
-use crate::running::{N1, N2, Ran, run_over, run_with};
+use crate::running::{N1, N2, Ran, run_logged, run_over, run_with};
 use mw_text::List;
 use mw_verify::{Status, number_of};
 use std::alloc::{AllocError, Global};
@@ -18,6 +18,15 @@ fn asked(alloc: Global, questions: &[u8], fail_writes: &[u64]) -> Result<Ran, Al
         ("q", questions),
     ];
     run_with(alloc, &files, &WORDS, &[], fail_writes)
+}
+
+fn logged(alloc: Global, questions: &[u8], fail_logs: &[u64]) -> Result<Ran, AllocError> {
+    let files = [
+        ("n1.cfg", N1.as_bytes()),
+        ("n2.cfg", N2.as_bytes()),
+        ("q", questions),
+    ];
+    run_logged(alloc, &files, &WORDS, fail_logs)
 }
 
 #[test]
@@ -83,28 +92,20 @@ fn sixty_four_questions_are_answered_in_their_order(rt: HostRuntime) -> Result<(
 }
 
 #[test]
-fn first_question_that_cannot_be_answered_is_refused(rt: HostRuntime) -> Result<(), Fail> {
-    let one =
-        "q1 reach from N1 to router N2 packets icmp 10.0.0.1/32 any 10.2.0.1/32 any failures 0\n!\n";
-    let cases = [
-        "q2 waypoint from N1 to router N2 via N1 packets ip any any 10.2.0.1/32 any failures 0\n",
-        "q2 reach from N1 in GigabitEthernet0/0 to router N2 packets udp any any any any failures 0\n",
-        "q2 reach from N1 to subnet 10.2.0.1/32 packets icmp any any any any failures 0\n",
-        "q2 within 3 from N1 packets icmp 10.0.0.1/32 any any any failures 0\n",
-        "q2 nostable packets icmp 10.0.0.1/32 any 10.2.0.1/32 any failures 8\n",
-    ];
-    for second in cases {
-        let mut text = List::new(rt.alloc());
-        put(&mut text, one.as_bytes())?;
-        put(&mut text, second.as_bytes())?;
-        let ran = asked(rt.alloc(), text.as_slice(), &[])?;
-        assert_eq!(rt;
-            ran.text.as_slice(),
-            "refused q:3 3 NotBuilt\n".as_bytes(),
-            "at {second:?}"
-        );
-        assert_eq!(rt; ran.status, Status::Refused);
-    }
+fn first_write_of_the_log_that_fails_prints_nothing(rt: HostRuntime) -> Result<(), Fail> {
+    let ran = logged(rt.alloc(), TWO.as_bytes(), &[1])?;
+    assert_eq!(rt; ran.status, Status::WriteFault);
+    assert_eq!(rt; ran.text.as_slice(), "".as_bytes());
+    assert_eq!(rt; ran.log.as_slice(), "".as_bytes());
+    Ok(())
+}
+
+#[test]
+fn log_that_fails_within_a_section_leaves_its_front(rt: HostRuntime) -> Result<(), Fail> {
+    let ran = logged(rt.alloc(), TWO.as_bytes(), &[2])?;
+    assert_eq!(rt; ran.status, Status::WriteFault);
+    assert_eq!(rt; ran.text.as_slice(), "".as_bytes());
+    assert_eq!(rt; ran.log.as_slice(), "q q1\n".as_bytes());
     Ok(())
 }
 

@@ -172,29 +172,3 @@ fn words_that_are_no_command_print_the_usage(rt: HostRuntime) -> Result<(), Fail
     }
     Ok(())
 }
-
-#[test]
-fn questions_that_cannot_be_answered_yet_are_refused(rt: HostRuntime) -> Result<(), Fail> {
-    let cases = [
-        "\nq1 isolate from N1 to router N2 packets icmp 10.0.0.1/32 any 10.2.0.1/32 any failures 0\n",
-        "!\nq1 isolate from N1 to router N2 packets ip 10.0.0.1/32 any 10.2.0.1/32 any failures 0\n",
-        "!\nq1 reach from N1 in GigabitEthernet0/0 to router N2 packets tcp 10.0.0.1/32 any 10.2.0.1/32 80 failures 0\n",
-        "!\nq1 reach from N1 to subnet 10.2.0.1/32 packets icmp 10.0.0.0/24 any 10.2.0.1/32 any failures 0\n",
-        "!\nq1 noloop from N1 packets icmp 10.0.0.1/32 any 10.2.0.1/32 any failures 1\n",
-    ];
-    for questions in cases {
-        let files = [
-            ("n1.cfg", N1.as_bytes()),
-            ("n2.cfg", N2.as_bytes()),
-            ("q", questions.as_bytes()),
-        ];
-        let ran = run_over(rt.alloc(), &files, &WORDS, &[])?;
-        assert_eq!(rt;
-            ran.text.as_slice(),
-            "refused q:2 3 NotBuilt\n".as_bytes(),
-            "at {questions:?}"
-        );
-        assert_eq!(rt; ran.status, Status::Refused);
-    }
-    Ok(())
-}

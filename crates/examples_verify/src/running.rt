@@ -1,6 +1,6 @@
 //! A run over files in memory.
 
-use mw_outside::{NoSink, TestFile, TestFiles, TestSink};
+use mw_outside::{TestFile, TestFiles, TestSink};
 use mw_text::{List, list_of};
 use mw_verify::{Status, run};
 use std::alloc::{AllocError, Global};
@@ -17,11 +17,12 @@ pub const N1: &str =
 pub const N2: &str =
     "hostname N2\ninterface GigabitEthernet0/0\n ip address 10.0.0.2 255.255.255.252\ninterface Loopback0\n ip address 10.2.0.1 255.255.255.255\n";
 
-/// How a run ended, and what it printed.
+/// How a run ended, what it printed, and what it logged.
 #[derive(Drop)]
 pub struct Ran {
     pub status: Status,
     pub text: List<u8>,
+    pub log: List<u8>,
 }
 
 fn files_of(alloc: Global, files: &[(&str, &[u8])]) -> Result<List<TestFile>, AllocError> {
@@ -61,22 +62,40 @@ pub fn run_with(
     fail: &[u64],
     fail_writes: &[u64],
 ) -> Result<Ran, AllocError> {
-    let failing = List {
-        items: Vec::from_slice(alloc, fail)?,
-    };
-    let failing_writes = List {
-        items: Vec::from_slice(alloc, fail_writes)?,
-    };
-    let mut files = TestFiles::new(alloc, files_of(alloc, files)?, failing);
-    let mut out = TestSink::new(alloc, 100_000, failing_writes)?;
+    let contents = TestFiles::new(alloc, files_of(alloc, files)?, numbers(alloc, fail)?);
+    run_on(alloc, contents, words, fail_writes, &[])
+}
+
+/// The same, over a log of whose writes those of these numbers fail.
+pub fn run_logged(
+    alloc: Global,
+    files: &[(&str, &[u8])],
+    words: &[&str],
+    fail_logs: &[u64],
+) -> Result<Ran, AllocError> {
+    let contents = TestFiles::new(alloc, files_of(alloc, files)?, List::new(alloc));
+    run_on(alloc, contents, words, &[], fail_logs)
+}
+
+fn numbers(alloc: Global, items: &[u64]) -> Result<List<u64>, AllocError> {
+    Ok(List {
+        items: Vec::from_slice(alloc, items)?,
+    })
+}
+
+fn run_on(
+    alloc: Global,
+    contents: TestFiles,
+    words: &[&str],
+    fail_writes: &[u64],
+    fail_logs: &[u64],
+) -> Result<Ran, AllocError> {
+    let mut contents = contents;
+    let mut out = TestSink::new(alloc, 100_000, numbers(alloc, fail_writes)?)?;
+    let mut log = TestSink::new(alloc, 100_000, numbers(alloc, fail_logs)?)?;
     let words = words_of(alloc, words)?;
-    let status = run(
-        alloc,
-        words.as_slice(),
-        &mut files,
-        &mut out,
-        &mut NoSink::new(),
-    );
+    let status = run(alloc, words.as_slice(), &mut contents, &mut out, &mut log);
     let text = list_of(alloc, out.taken())?;
-    Ok(Ran { status, text })
+    let log = list_of(alloc, log.taken())?;
+    Ok(Ran { status, text, log })
 }
