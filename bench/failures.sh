@@ -1,7 +1,7 @@
 #!/bin/sh
 # Times the proved program on a question about any one failed link, over rings of 4 to 64 routers and grids of 3 by 3 and 4
-# by 4 that run OSPF. A run longer than two minutes is cut. Needs the proved program (.ci/run or ./mw --proved), Python 3
-# and GNU time.
+# by 4 that run OSPF, and minisat, cadical and z3, those that are there, on the same clauses. A run longer than two minutes
+# is cut. Needs the proved program (.ci/run or ./mw --proved), Python 3 and GNU time.
 set -eu
 top=$(cd -P -- "$(dirname -- "$0")/.." && pwd -P)
 program=${PROGRAM:-$top/crates/mw_cli/out/mw_cli}
@@ -40,9 +40,30 @@ for side in (3, 4):
     down = [(side * y + x, side * y + x + side) for y in range(side - 1) for x in range(side)]
     network(f"grid-{side}x{side}", right + down, side * side - 1)
 END
+# The clauses of a log, in the form that other solvers read.
+clauses() {
+    awk '/^i / { count++; for (at = 3; at < NF; at++) { v = $at < 0 ? -$at : $at; if (v > vars) vars = v }
+            $1 = ""; $2 = ""; lines[count] = substr($0, 3) }
+        END { print "p cnf " vars, count; for (at = 1; at <= count; at++) print lines[at] }' "$1"
+}
+
+# The seconds that a solver takes for the clauses.
+solved() {
+    if command -v "$1" >/dev/null; then
+        timeout 120 /usr/bin/time -o "$dir/time" -f '%e s' "$@" >/dev/null 2>&1 || true
+        printf ', %s %s' "$1" "$(tail -n 1 "$dir/time")"
+    fi
+}
+
 for network in "$dir"/*; do
     printf '%s: ' "$(basename "$network")"
     timeout 120 /usr/bin/time -f '%e s, %M KB' "$program" --log "$network/log" verify "$network/questions.txt" \
         "$network"/*.cfg 2>&1 | tr '\n' ' '
-    echo "$(grep -c '^i' "$network/log") clauses, $(grep -c '^a' "$network/log") learnt"
+    printf '%s clauses, %s learnt' "$(grep -c '^i' "$network/log")" "$(grep -c '^a' "$network/log")"
+    clauses "$network/log" >"$network/cnf"
+    solved minisat "$network/cnf"
+    solved cadical -q "$network/cnf"
+    solved z3 -dimacs "$network/cnf"
+    echo
+    rm "$network/log"
 done
