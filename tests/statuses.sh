@@ -50,6 +50,15 @@ ended "1, a question about any two failed links is broken" 1 "broken q1"
 tail -n 1 printed >counterexample.json
 run replay counterexample.json "$triangle/two-failures.txt" "$@"
 ended "0, that counterexample is true" 0 "yes"
+run verify "$triangle/kinds.txt" "$@"
+verdicts=$(grep -v '^{' printed | tr '\n' ' ')
+ended "1, questions of other kinds" 1 "holds q1"
+if [ "$verdicts" = "holds q1 broken q2 broken q3 holds q4 holds q5 holds q6 " ]; then
+    echo "ok: each has its verdict"
+else
+    echo "FAILED: the verdicts are $verdicts"
+    failed=1
+fi
 run --log log.txt verify "$triangle/one-failure.txt" "$@"
 ended "0, with a log" 0 "holds q1"
 if [ "$(head -n 1 log.txt)" = "q q1" ] && [ "$(tail -n 1 log.txt)" = "e" ] && grep -q '^a [0-9]* 0 ' log.txt; then
