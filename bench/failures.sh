@@ -1,7 +1,8 @@
 #!/bin/sh
-# Times the proved program on a question about any one failed link, over rings of 4 to 64 routers and grids of 3 by 3 and 4
-# by 4 that run OSPF, and minisat, cadical and z3, those that are there, on the same clauses. A run longer than two minutes
-# is cut. Needs the proved program (.ci/run or ./mw --proved), Python 3 and GNU time.
+# Times the proved program on a question about any one failed link, over rings of 4 to 64 routers, a full mesh of 8, and grids
+# of 3 by 3 and 4 by 4 that run OSPF; the same with one learnt clause at most, which is the encoding; and minisat, cadical
+# and z3, those that are there, on the same clauses. A run longer than two minutes is cut. Needs the proved program (.ci/run
+# or ./mw --proved), Python 3 and GNU time.
 set -eu
 top=$(cd -P -- "$(dirname -- "$0")/.." && pwd -P)
 program=${PROGRAM:-$top/crates/mw_cli/out/mw_cli}
@@ -35,6 +36,7 @@ def network(name, ends, last):
 
 for count in (4, 8, 16, 32, 64):
     network(f"ring-{count:02}", [(r, (r + 1) % count) for r in range(count)], count // 2)
+network("mesh-08", [(a, b) for a in range(8) for b in range(a + 1, 8)], 7)
 for side in (3, 4):
     right = [(side * y + x, side * y + x + 1) for y in range(side) for x in range(side - 1)]
     down = [(side * y + x, side * y + x + side) for y in range(side - 1) for x in range(side)]
@@ -59,6 +61,9 @@ for network in "$dir"/*; do
     printf '%s: ' "$(basename "$network")"
     timeout 120 /usr/bin/time -f '%e s, %M KB' "$program" --log "$network/log" verify "$network/questions.txt" \
         "$network"/*.cfg 2>&1 | tr '\n' ' '
+    /usr/bin/time -o "$dir/time" -f '%e s' "$program" verify --conflicts 1 "$network/questions.txt" "$network"/*.cfg \
+        >/dev/null || true
+    printf 'encoded in %s, ' "$(tail -n 1 "$dir/time")"
     printf '%s clauses, %s learnt' "$(grep -c '^i' "$network/log")" "$(grep -c '^a' "$network/log")"
     clauses "$network/log" >"$network/cnf"
     solved minisat "$network/cnf"
