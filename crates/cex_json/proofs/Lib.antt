@@ -12,3 +12,10 @@ pub mod WrittenPackets
 pub mod WrittenLists
 pub mod WrittenRoutes
 pub mod WrittenSlots
+pub mod Places
+pub mod Named
+pub mod Orders
+pub mod WrittenTables
+pub mod WrittenLinks
+pub mod WrittenSenders
+pub mod WrittenWalks
