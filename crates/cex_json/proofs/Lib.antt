@@ -19,3 +19,4 @@ pub mod WrittenTables
 pub mod WrittenLinks
 pub mod WrittenSenders
 pub mod WrittenWalks
+pub mod WrittenWhole
