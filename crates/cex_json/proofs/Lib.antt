@@ -20,3 +20,7 @@ pub mod WrittenLinks
 pub mod WrittenSenders
 pub mod WrittenWalks
 pub mod WrittenWhole
+pub mod TextBack
+pub mod Fielded
+pub mod Textual
+pub mod TextualWhole
