@@ -123,7 +123,8 @@ surroundings_links files limits d around same =
     let ids = bound (ids_in files format.0 d) _ around packet.2 in
     links.1 ∙ ap (λ (s : Surroundings). Ok s.links) (same_ok _ around ids.2)
 
-limit_of : (questions : List Question) (d : Data) (place : ℕ) (question : Question) → asked_place questions d
+-- the limits that a question sets
+pub limit_of : (questions : List Question) (d : Data) (place : ℕ) (question : Question) → asked_place questions d
     ≡ Some place →
     slice_get questions place ≡ Some question → (limits questions d).failures ≡ Some question.failures
 unfolding limits

@@ -157,7 +157,8 @@ surroundings_packet files limits set d around same is =
     let P : Surroundings → Type 0 = λ s. IsInSet set s.packet in
     subst P (same_ok _ around ids.2) (packet_fits set (codes "packet/") part.0 packet.0 read)
 
-set_of : (questions : List Question) (d : Data) (place : ℕ) (question : Question) → asked_place questions d
+-- the packets that a question speaks of
+pub set_of : (questions : List Question) (d : Data) (place : ℕ) (question : Question) → asked_place questions d
     ≡ Some place →
     slice_get questions place ≡ Some question → (limits questions d).packets ≡ Some question.packets
 unfolding limits

@@ -12,3 +12,15 @@ pub mod WrittenPackets
 pub mod WrittenLists
 pub mod WrittenRoutes
 pub mod WrittenSlots
+pub mod Places
+pub mod Named
+pub mod Orders
+pub mod WrittenTables
+pub mod WrittenLinks
+pub mod WrittenSenders
+pub mod WrittenWalks
+pub mod WrittenWhole
+pub mod TextBack
+pub mod Fielded
+pub mod Textual
+pub mod TextualWhole

@@ -39,7 +39,8 @@ number_small most found n same =
     leb-true n most (passed (λ k. nat_le k most)
     (option_and_then (λ v. option_and_then as_u64 (as_number v)) found) n same).1
 
-filled_length : (so_far : List Slot) (place : ℕ) → length (filled so_far place) ≡ length so_far
+-- how many slots there are up to a place
+pub filled_length : (so_far : List Slot) (place : ℕ) → length (filled so_far place) ≡ length so_far
     + (place - length so_far)
 filled_length so_far place =
     length-append so_far (replicate (place - length so_far) empty_slot)

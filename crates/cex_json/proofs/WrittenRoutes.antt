@@ -47,12 +47,12 @@ read_addrs : (at name : List ℕ) (d : Data) (xs : List Addr) → get name d ≡
 unfolding addrs_in
 read_addrs at name d xs there small = rw there (addrs_back at name xs small)
 
-read_ascending : (at name : List ℕ) (d : Data) (xs : List ℕ) → get name d ≡ Some (array_of (map number_of xs)) →
+pub read_ascending : (at name : List ℕ) (d : Data) (xs : List ℕ) → get name d ≡ Some (array_of (map number_of xs)) →
     EachSplit (λ before n. (is_above before n ≡ true) × (n ≤ greatest)) xs → ascending_in at name d ≡ Ok xs
 unfolding ascending_in
 read_ascending at name d xs there fits = rw there (ascending_back at name xs fits)
 
-read_path : (at name : List ℕ) (d : Data) (xs : List ℕ) → get name d ≡ Some (array_of (map number_of xs)) →
+pub read_path : (at name : List ℕ) (d : Data) (xs : List ℕ) → get name d ≡ Some (array_of (map number_of xs)) →
     EachSplit (λ _ n. (0 < n) × (n ≤ greatest)) xs → path_in at name d ≡ Ok xs
 unfolding path_in
 read_path at name d xs there fits = rw there (path_back at name xs fits)

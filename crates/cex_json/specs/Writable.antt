@@ -1,18 +1,35 @@
 -- Records whose text can be read back.
-use Rattle.std.specs.Prelude.{◌≡◌, ◌<◌, ◌≤◌, ◌^◌, ℕ, true, List, ◌∷◌, ◌++◌, length, IfSome, Some}
+use Rattle.std.specs.Prelude.{◌≡◌, ◌<◌, ◌≤◌, ◌^◌, ◌*◌, ◌/◌, ◌==◌, ℕ, Bool, true, false, List, ◌∷◌, ◌++◌, length, All}
+use Rattle.std.specs.Prelude.{IfSome, Option, Some, None, option_map, slice_get}
 use Rattle.std.specs.List.{list_any}
+use Rattle.std.specs.Str.{IsUtf8}
 use Rattle.std.specs.Str.Lossy.{utf8_lossy}
 use Rattle.mw_text.specs.declared.address.Addr.{Addr}
+use Rattle.mw_text.specs.declared.address.Prefix.{Prefix}
+use Rattle.mw_text.specs.Address.{prefix_at}
+use Rattle.ios_ast.specs.declared.bgp.Neighbour.{Neighbour}
 use Rattle.ios_ast.specs.declared.file.File.{File}
 use Rattle.route_record.specs.declared.BgpRec.{BgpRec}
 use Rattle.route_record.specs.declared.Learnt.{Learnt}
 use Rattle.route_record.specs.declared.Learnt.TheVariants.{Local, Peer}
 use Rattle.route_record.specs.declared.Slot.{Slot}
-use Rattle.net_model.specs.Sessions.{ends_of}
+use Rattle.route_record.specs.declared.TheConstants.{LENGTHS}
+use Rattle.net_model.specs.declared.sessions.SessionEnd.{SessionEnd}
+use Rattle.net_model.specs.Sessions.{ends_of, neighbour_of}
+use Rattle.net_model.specs.World.{IsEnvironment, IsFailureSet, links_of}
+use Rattle.question_lang.specs.declared.question.Question.{Question}
+use Rattle.question_lang.specs.declared.question.Start.{Start}
+use Rattle.question_lang.specs.declared.walk.End.{End}
+use Rattle.question_lang.specs.declared.walk.End.TheVariants.{Delivered, Left, NoRoute, Discarded, DeniedIn, DeniedOut}
+use Rattle.question_lang.specs.declared.walk.End.TheVariants.{Loop, Open}
+use Rattle.question_lang.specs.declared.walk.Walk.{Walk}
 use Rattle.question_lang.specs.Asking.{router_named}
+use Rattle.question_lang.specs.Packets.{IsInSet}
+use Rattle.cex_json.specs.declared.counterexample.Counterexample.{Counterexample}
 use Rattle.cex_json.specs.Entries.{is_end_of}
 use Rattle.cex_json.specs.Fields.{greatest, is_above}
 use Rattle.cex_json.specs.Parts.{router_name}
+use Rattle.cex_json.specs.Standings.{asks_walk}
 
 -- P of each member of a list and of those before it
 abbrev pub EachSplit : {A : Type 0} → (List A → A → Type 0) → List A → Type 0
@@ -50,3 +67,94 @@ pub record IsWritableSlot (files : List File) (router : ℕ) (slot : Slot) : Typ
   pub bgp : IfSome slot.bgp (IsWritable files router)
   pub ospf : IfSome slot.ospf (λ held. (held.cost ≤ greatest) × (held.metric ≤ greatest))
   pub rib : IfSome slot.rib (λ entry. entry.distance ≤ 255)
+
+-- ---- a network that a text can speak of
+
+-- no two members have the same key
+abbrev pub AreApart : {A B : Type 0} → (A → B) → List A → Type 0
+AreApart {A = A} key xs =
+    (i j : ℕ) (x y : A) → slice_get xs i ≡ Some x → slice_get xs j ≡ Some y → key x ≡ key y → i ≡ j
+
+-- texts that are UTF-8, each once, so many at most that a number of 32 bits names each place
+pub record AreTexts {A : Type 0} (text : A → List ℕ) (xs : List A) : Type 0 where
+  pub utf8 : All (λ x. IsUtf8 (text x)) xs
+  pub once : AreApart text xs
+  pub few : length xs ≤ 2 ^ 32
+
+-- a prefix (RFC 4632, section 3.1): the bits past its length are 0
+pub record IsPrefix (p : Prefix) : Type 0 where
+  pub addr : IsAddress p.addr
+  pub len : p.len ≤ 32
+  pub cleared : prefix_at p.addr p.len ≡ p
+
+-- a neighbour whose address and AS number fit their types
+abbrev pub IsNeighbour : Neighbour → Type 0
+IsNeighbour neighbour = IsAddress neighbour.addr × (neighbour.asn ≤ greatest)
+
+-- the router of an end and the address of its neighbour
+abbrev pub end_key : List File → SessionEnd → ℕ × Option Addr
+end_key files end = (end.router, option_map (λ neighbour. neighbour.addr) (neighbour_of files end))
+
+-- host names without blanks (32) and names of interfaces are told apart, links are prefixes, and no router has two
+-- sessions with one address
+pub record IsWritableNet (files : List File) : Type 0 where
+  pub routers : AreTexts (λ file. file.hostname) files
+  pub words : All (λ file. list_any (λ b. b == 32) file.hostname ≡ false) files
+  pub ifaces : All (λ file. AreTexts (λ iface. iface.name) file.interfaces) files
+  pub links : All (λ link. IsPrefix link.prefix) (links_of files)
+  pub few_links : length (links_of files) ≤ 2 ^ 32
+  pub neighbours : All (λ end. IfSome (neighbour_of files end) IsNeighbour) (ends_of files)
+  pub ends : AreApart (end_key files) (ends_of files)
+  pub few_ends : length (ends_of files) ≤ 2 ^ 32
+
+-- ---- a counterexample
+
+-- the interface at that place of a router
+abbrev pub IsIfaceThere : List File → ℕ → ℕ → Type 0
+IsIfaceThere files router at = (file : File) × (slice_get files router ≡ Some file) × (at < length file.interfaces)
+
+-- where a packet stands
+abbrev pub IsHopThere : List File → Start → Type 0
+IsHopThere files hop = (hop.router < length files) × IfSome hop.iface (IsIfaceThere files hop.router)
+
+-- how a walk ends
+abbrev pub IsEndThere : List File → End → Type 0
+IsEndThere files Delivered = Unit {0}
+IsEndThere files (Left a) = IsAddress a
+IsEndThere files NoRoute = Unit {0}
+IsEndThere files Discarded = Unit {0}
+IsEndThere files (DeniedIn id) = IsIfaceThere files id.router id.at
+IsEndThere files DeniedOut = Unit {0}
+IsEndThere files Loop = Unit {0}
+IsEndThere files Open = Unit {0}
+
+pub record IsWritableWalk (files : List File) (walk : Walk) : Type 0 where
+  pub hops : All (IsHopThere files) walk.hops
+  pub end : IsEndThere files walk.end
+
+-- a walk stands exactly where the question asks for one
+abbrev pub IsAskedWalk : List File → Bool → Option Walk → Type 0
+IsAskedWalk files false walk = walk ≡ None
+IsAskedWalk files true walk = (shown : Walk) × (walk ≡ Some shown) × IsWritableWalk files shown
+
+-- what a counterexample shows of a question: a packet of its set, failed links, at most as many as it allows, and a
+-- walk where it asks for one
+pub record IsShownFor (files : List File) (question : Question) (cex : Counterexample) : Type 0 where
+  pub packet : IsInSet question.packets cex.packet
+  pub failures : IsFailureSet files question.failures cex.failures
+  pub walk : IsAskedWalk files (asks_walk question.kind) cex.walk
+
+-- tables with a slot for each router and length
+pub record AreWritableTables (files : List File) (held : List Slot) : Type 0 where
+  pub size : length held ≡ LENGTHS * length files
+  pub slots : (place : ℕ) (slot : Slot) → slice_get held place ≡ Some slot
+      → IsWritableSlot files (place / LENGTHS) slot
+
+-- a counterexample to one of the questions about a network
+pub record IsWritableCex (files : List File) (questions : List Question) (cex : Counterexample) : Type 0 where
+  pub net : IsWritableNet files
+  pub names : AreTexts (λ question. question.name) questions
+  pub question : (question : Question) × (slice_get questions cex.question ≡ Some question)
+      × IsShownFor files question cex
+  pub env : IsEnvironment files cex.env
+  pub tables : AreWritableTables files cex.tables.slots

@@ -13,12 +13,16 @@ ghost use Rattle.route_record.specs.declared.RibEntry.{RibEntry};
 ghost use Rattle.route_record.specs.declared.Slot.{Slot};
 ghost use Rattle.route_record.specs.declared.TheConstants.{LENGTHS};
 ghost use Rattle.question_lang.specs.declared.question.PacketSet.{PacketSet};
+ghost use Rattle.question_lang.specs.declared.question.Question.{Question};
 ghost use Rattle.question_lang.specs.Packets.{IsInSet};
+ghost use Rattle.cex_json.specs.declared.counterexample.Counterexample.{Counterexample};
 ghost use Rattle.cex_json.specs.Entries.{bgp_in, filled, ospf_in, rib_in, slot_at};
 ghost use Rattle.cex_json.specs.Fields.{greatest};
 ghost use Rattle.cex_json.specs.Parts.{addr_text, bgp_data, ospf_data, packet_data, parts_data, rib_data};
+ghost use Rattle.cex_json.specs.Reading.{cex_in, reading};
 ghost use Rattle.cex_json.specs.Surroundings.{packet_at};
-ghost use Rattle.cex_json.specs.Writable.{AreNamed, IsWritable, IsWritableSlot};
+ghost use Rattle.cex_json.specs.Text.{cex_data, cex_text};
+ghost use Rattle.cex_json.specs.Writable.{AreNamed, IsWritable, IsWritableCex, IsWritableSlot};
 ghost use Rattle.cex_json.specs.Worlds.{prefix_text};
 
 /// Addresses and prefixes are read back from their texts; bits past a prefix's length are not.
@@ -39,4 +43,10 @@ pub fn parts_law()
 /// A slot that is written for a place is read back behind those before it, with the empty slots between.
 pub fn slot_law()
     ensures { (files : List File) (place : ℕ) (slot : Slot) (so_far : List Slot) (at : List ℕ) → AreNamed files → place < LENGTHS * length files → length so_far ≤ place → IsWritableSlot files (place / LENGTHS) slot → slot_at files at so_far (parts_data files place slot) ≡ Ok (filled so_far place ++ slot ∷ []) }
+{}
+
+/// A counterexample that was written is read back as it was: from its JSON value, and from its text.
+pub fn counterexample_law()
+    ensures value { (files : List File) (questions : List Question) (cex : Counterexample) → IsWritableCex files questions cex → cex_in files questions (cex_data files questions cex) ≡ Ok cex }
+    ensures text { (files : List File) (questions : List Question) (cex : Counterexample) → IsWritableCex files questions cex → reading files questions (cex_text files questions cex) ≡ Ok cex }
 {}
