@@ -3,6 +3,7 @@ use Rattle.std.proofs.Common.{◌≡◌, ℕ, ◌-◌, ◌<◌, ◌==◌, ◌&&�
 use Rattle.std.proofs.Common.{length, nat_lt, Option, Some, None, inl, inr, refl, ap, sym, ◌∙◌}
 use Rattle.std.proofs.lemmas.Bool.{and_from, and_parts, eq-eqb, lt-ltb}
 use Rattle.std.proofs.lemmas.Option.{slice_get_within}
+use Rattle.std.proofs.Math.Bool.{or-true}
 use Rattle.std.specs.List.{list_all}
 use Rattle.std.specs.Option.{option_map_or}
 use Rattle.std.specs.Prelude.{AllPairs, slice_get}
@@ -39,15 +40,11 @@ ascending_split xs up before rest n is =
 
 -- ---- announcements
 
-or_true : (b : Bool) → (b || true) ≡ true
-or_true true = refl
-or_true false = refl
-
 earlier_test : (last one : Announcement) → IsEarlier last one →
     (nat_lt last.end one.end || ((last.end == one.end) && nat_lt last.len one.len)) ≡ true
 earlier_test last one (inl before) = rw (lt-ltb last.end one.end before) refl
 earlier_test last one (inr both) =
-    rw (eq-eqb last.end one.end both.0) (rw (lt-ltb last.len one.len both.1) (or_true (nat_lt last.end one.end)))
+    rw (eq-eqb last.end one.end both.0) (rw (lt-ltb last.len one.len both.1) (or-true (nat_lt last.end one.end)))
 
 -- each announcement is later than the last before it
 pub later_split : (xs : List Announcement) → AllPairs IsEarlier xs →

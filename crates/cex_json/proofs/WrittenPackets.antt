@@ -1,6 +1,7 @@
 -- A packet that was written is read back.
 use Rattle.std.proofs.Common.{◌≡◌, ◌≢◌, ℕ, ◌^◌, ◌<◌, ◌≤◌, ◌==◌, ◌&&◌, ◌||◌, Bool, true, false, cond, List, nat_eq}
 use Rattle.std.proofs.Common.{Option, Some, None, Ok, refl, ap, sym, ◌∙◌, arith}
+use Rattle.std.proofs.Math.Bool.{or-true}
 use Rattle.std.specs.Prelude.{codes, nat_le}
 use Rattle.std.specs.Option.{option_map_or}
 use Rattle.std.proofs.lemmas.Bool.{le-leb, eq-eqb, eqb-false}
@@ -36,10 +37,6 @@ proto_back set packet inside =
     let small : packet.proto < 2 ^ 8 = inside.ranges.proto in
     rw (le-leb packet.proto 255 (omega arith)) (rw (fits_proto set.proto packet.proto inside.proto) refl)
 
-or_true : (b : Bool) → (b || true) ≡ true
-or_true true = refl
-or_true false = refl
-
 -- without TCP and UDP a port is 0
 portless : (proto n : ℕ) → (proto ≢ 6 → proto ≢ 17 → n ≡ 0) → ((n == 0) || has_ports (Some proto)) ≡ true
 portless proto n zero = by (nat_eq proto 6) refl (nat_eq proto 17) refl
@@ -47,8 +44,8 @@ portless proto n zero = by (nat_eq proto 6) refl (nat_eq proto 17) refl
     by : (tcp : Bool) → nat_eq proto 6 ≡ tcp → (udp : Bool) → nat_eq proto 17 ≡ udp →
         ((n == 0) || has_ports (Some proto)) ≡ true
     by false tcp false udp = rw (zero (eqb-false proto 6 tcp) (eqb-false proto 17 udp)) refl
-    by false tcp true udp = rw tcp (rw udp (or_true (n == 0)))
-    by true tcp udp is = rw tcp (or_true (n == 0))
+    by false tcp true udp = rw tcp (rw udp (or-true (n == 0)))
+    by true tcp udp is = rw tcp (or-true (n == 0))
 
 port_back : (proto n : ℕ) (range : ℕ × ℕ) → n < 2 ^ 16 → (range.0 ≤ n) × (n ≤ range.1) →
     (proto ≢ 6 → proto ≢ 17 → n ≡ 0) → port_in (Some proto) (Some range) (Some (number_of n)) ≡ Some n

@@ -17,6 +17,7 @@ use Rattle.cex_json.specs.Fields.{◌>>=◌, in_order, object_in, required}
 use Rattle.cex_json.specs.Json.{array_of}
 use Rattle.cex_json.specs.Parts.{has_part, parts_data, slots_from}
 use Rattle.cex_json.specs.Writable.{AreNamed, AreWritableTables, IsWritableSlot}
+use Rattle.net_model.proofs.Defined.{none_here}
 use Rattle.cex_json.proofs.Filling.{one_more}
 use Rattle.cex_json.proofs.Sizes.{filled_length}
 use Rattle.cex_json.proofs.WrittenSlots.{slot_back}
@@ -28,18 +29,14 @@ entry_object : (files : List File) (place : ℕ) (slot : Slot) →
 unfolding parts_data
 entry_object files place slot = refl
 
-absent : {A : Type 0} (part : Option A) → is_some part ≡ false → part ≡ None
-absent None none = refl
-absent (Some x) none = absurd cc
-
 -- a slot that is not written is empty
 no_part : (slot : Slot) → has_part slot ≡ false → slot ≡ empty_slot
 no_part slot none =
     let bgp = or_parts (is_some slot.bgp) (is_some slot.ospf || is_some slot.rib) none in
     let others = or_parts (is_some slot.ospf) (is_some slot.rib) bgp.1 in
-    let b = absent slot.bgp bgp.0 in
-    let o = absent slot.ospf others.0 in
-    let r = absent slot.rib others.1 in λ i. record { ospf = o i; bgp = b i; rib = r i }
+    let b = none_here slot.bgp bgp.0 in
+    let o = none_here slot.ospf others.0 in
+    let r = none_here slot.rib others.1 in λ i. record { ospf = o i; bgp = b i; rib = r i }
 
 step_back : (files : List File) (place : ℕ) (slot : Slot) (so_far : List Slot) (i : ℕ) → AreNamed files →
     place < LENGTHS * length files → length so_far ≤ place → IsWritableSlot files (place / LENGTHS) slot →

@@ -4,9 +4,9 @@ use Rattle.std.proofs.Common.{inr, refl, sym, ap, ◌∙◌, subst, arith, lengt
 use Rattle.resolution_check.specs.declared.log.Lit.{Lit}
 use Rattle.resolution_check.specs.Clauses.{opposite}
 use Rattle.resolution_check.proofs.Literals.{opposite_twice}
-use Rattle.conflict_analysis.specs.Lessons.{IsBack}
+use Rattle.conflict_analysis.specs.Lessons.{IsSecond}
 
-pub back_none : (steps : List Lit) (levels : List ℕ) → IsBack steps levels [] 0
+pub back_none : (steps : List Lit) (levels : List ℕ) → IsSecond steps levels [] 0
 back_none steps levels = record { none = λ h. refl; second = λ l h. absurd (cc) }
 
 -- the second literal of a longer list
@@ -27,14 +27,14 @@ no_second (k ∷ ks) p l h e = absurd (omega arith)
 
 -- one literal more, where it is not the second
 pub back_other : (steps : List Lit) (levels : List ℕ) (kept more : List Lit) (back at : ℕ) (t : Lit)
-    → IsBack steps levels kept back → (more ≡ kept) ⊎ (more ≡ kept ++ opposite t ∷ [])
-    → (length kept ≡ 1 → length more ≡ 2 → ⊥) → IsBack steps levels more back
+    → IsSecond steps levels kept back → (more ≡ kept) ⊎ (more ≡ kept ++ opposite t ∷ [])
+    → (length kept ≡ 1 → length more ≡ 2 → ⊥) → IsSecond steps levels more back
 back_other steps levels kept more back at t b (inl e) not_second =
-    subst (λ (ls : List Lit). IsBack steps levels ls back) (sym e) b
+    subst (λ (ls : List Lit). IsSecond steps levels ls back) (sym e) b
 back_other steps levels kept more back at t b (inr e) not_second =
     let l : length (kept ++ opposite t ∷ []) ≡ length kept + 1 = length-append kept (opposite t ∷ []) in
     let n : length more ≡ length kept + 1 = ap length e ∙ l in
-    subst (λ (ls : List Lit). IsBack steps levels ls back) (sym e) (record {
+    subst (λ (ls : List Lit). IsSecond steps levels ls back) (sym e) (record {
       none = λ h. b.none (omega arith);
       second = λ m h. elim (few (length kept)) [
         | inl z ↦ absurd (no_second kept (opposite t) m z h)
@@ -54,7 +54,7 @@ back_other steps levels kept more back at t b (inr e) not_second =
 pub back_second : (steps : List Lit) (levels : List ℕ) (kept more : List Lit) (old back at : ℕ) (t : Lit)
     → slice_get steps at ≡ Some t → slice_get levels at ≡ Some back
     → (more ≡ kept) ⊎ (more ≡ kept ++ opposite t ∷ []) → length kept ≡ 1 → length more ≡ 2
-    → IsBack steps levels more back
+    → IsSecond steps levels more back
 back_second steps levels kept more old back at t there level (inl e) one two =
     let l : length more ≡ length kept = ap length e in absurd (omega arith)
 back_second steps levels kept more old back at t there level (inr e) one two = record {

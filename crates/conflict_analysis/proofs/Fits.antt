@@ -18,7 +18,7 @@ var_of l = l.var
 abbrev Fresh : List Lit → Type 0
 Fresh ss = (at : ℕ) (l : Lit) → slice_get ss at ≡ Some l → value_of (take at ss) l.var ≡ None
 
-other_var : (x l : Lit) (rest : Option Bool) → cond (x.var == l.var) (Some (not x.negated)) rest ≡ None
+pub other_var : (x l : Lit) (rest : Option Bool) → cond (x.var == l.var) (Some (not x.negated)) rest ≡ None
     → ((x.var == l.var) ≡ false) × (rest ≡ None)
 other_var x l rest h =
     elim (cases_Bool (x.var == l.var)) [

@@ -48,13 +48,13 @@ module _ (ss : List Lit) (at : ℕ) (t : Lit) (there : slice_get ss at ≡ Some 
   own_next : value_of (take (at + 1) ss) t.var ≡ Some (not t.negated)
   own_next = ap (λ l. value_of l t.var) (take_at ss at t there) ∙ value_of-last (take at ss) t fresh
 
-  own_fails : fails ss (opposite t) ≡ true
+  pub own_fails : fails ss (opposite t) ≡ true
   own_fails =
       ap (λ o. is_value o (not t.negated)) (front_value ss (at + 1) t.var (not t.negated) own_next)
       ∙ itself (not t.negated)
 
   -- every other variable has the same value before the step
-  nearer : (v : ℕ) → (t.var == v) ≡ false → value_of (take (at + 1) ss) v ≡ value_of (take at ss) v
+  pub nearer : (v : ℕ) → (t.var == v) ≡ false → value_of (take (at + 1) ss) v ≡ value_of (take at ss) v
   nearer v other = ap (λ l. value_of l v) (take_at ss at t there) ∙ value_of-other (take at ss) t v other
 
   pub none_before : (v : ℕ) → value_of (take (at + 1) ss) v ≡ None → value_of (take at ss) v ≡ None
@@ -87,7 +87,7 @@ module _ (ss : List Lit) (at : ℕ) (t : Lit) (there : slice_get ss at ≡ Some 
   module _ (a : Store) (marks marks' : ℕ → Bool) (lits : List Lit) (chain : List ℕ)
       (f : IsFollowed a ss (at + 1) marks lits chain) where
     -- the literal that is followed stands in the resolvent
-    stands : marks t.var ≡ true → has f.clause (opposite t) ≡ true
+    pub stands : marks t.var ≡ true → has f.clause (opposite t) ≡ true
     stands marked = f.parts (opposite t) ∙ or_right (has lits (opposite t)) _ (and_from _ _ marked own_fails)
 
     all_false : (l : Lit) → has f.clause l ≡ true → fails ss l ≡ true

@@ -3,4 +3,7 @@ pub mod Marked
 pub mod Below
 pub mod Tops
 pub mod Fits
+pub mod Levels
 pub mod Backs
+pub mod Points
+pub mod Earned

@@ -1,11 +1,13 @@
--- Which steps of the top level are marked.
-use Rattle.std.proofs.Common.{◌≡◌, ℕ, ◌+◌, ◌<◌, ◌≤◌, Bool, false, List, length, slice_get, Some, inl, inr}
-use Rattle.std.proofs.Common.{subst, arith}
-use Rattle.std.proofs.lemmas.Bool.{cases_eq, cases_lt}
+-- Which steps of the top level are marked, and which level that is.
+use Rattle.std.proofs.Common.{◌≡◌, ℕ, ◌+◌, ◌<◌, ◌≤◌, Bool, true, false, List, length, slice_get, Some, inl, inr}
+use Rattle.std.proofs.Common.{refl, sym, ◌∙◌, subst, arith}
+use Rattle.std.proofs.lemmas.Bool.{cases_eq, cases_lt, false≢true, true≢false}
 use Rattle.std.proofs.lemmas.Option.{slice_get_within, get_or_from_slice_get}
+use Rattle.mw_text.proofs.Lists.{item_there}
 use Rattle.resolution_check.specs.declared.log.Lit.{Lit}
 use Rattle.clause_arena.specs.Links.{word}
 use Rattle.conflict_analysis.specs.Steps.{NeverFalls, NoneMarked}
+use Rattle.conflict_analysis.specs.Levels.{HasMarked, Stays, IsTop}
 
 pub none_more : (lits : List Lit) (levels : List ℕ) (marks : ℕ → Bool) (top at next high : ℕ) → next ≡ at + 1
     → NoneMarked lits levels marks top next high
@@ -38,3 +40,82 @@ none_yet lits levels marks top high = record { none = λ j l low h there up. abs
 pub none_all : (lits : List Lit) (levels : List ℕ) (marks : ℕ → Bool) (top low high : ℕ) → low ≡ 0
     → NoneMarked lits levels marks top low high → NoneMarked lits levels marks top 0 high
 none_all lits levels marks top low high e n = subst (λ (u : ℕ). NoneMarked lits levels marks top u high) e n
+
+-- ---- whether a marked step is kept
+
+pub kept_never : (lits : List Lit) (levels : List ℕ) (marks : ℕ → Bool) (top at : ℕ) → slice_get levels at ≡ Some 0
+    → Stays lits levels marks top at false
+kept_never lits levels marks top at is =
+    let v : word levels at ≡ 0 = get_or_from_slice_get levels at 0 0 is in
+    record {
+      ground = λ z. refl;
+      lower = λ h low. absurd (omega arith);
+      last = λ h. absurd (false≢true h);
+      another = λ e h. absurd (omega arith);
+    }
+
+pub kept_always : (lits : List Lit) (levels : List ℕ) (marks : ℕ → Bool) (top at level : ℕ)
+    → slice_get levels at ≡ Some level → (level ≡ 0 → ⊥) → level < top → Stays lits levels marks top at true
+kept_always lits levels marks top at level is above low =
+    let v : word levels at ≡ level = get_or_from_slice_get levels at level 0 is in
+    record {
+      ground = λ z. absurd (above (omega arith));
+      lower = λ h less. refl;
+      last = λ h high. absurd (omega arith);
+      another = λ e. absurd (true≢false e);
+    }
+
+pub kept_last : (lits : List Lit) (levels : List ℕ) (marks : ℕ → Bool) (top at level : ℕ) (kept : Bool)
+    → slice_get levels at ≡ Some level → (level ≡ 0 → ⊥) → top ≤ level
+    → (kept ≡ true → NoneMarked lits levels marks top 0 at) → (kept ≡ false → HasMarked lits levels marks top at)
+    → Stays lits levels marks top at kept
+kept_last lits levels marks top at level kept is above high last another =
+    let v : word levels at ≡ level = get_or_from_slice_get levels at level 0 is in
+    record {
+      ground = λ z. absurd (above (omega arith));
+      lower = λ h less. absurd (omega arith);
+      last = λ h reached. last h;
+      another = λ e h. another e;
+    }
+
+-- a marked step of the top level was found
+pub found_marked : (lits : List Lit) (levels : List ℕ) (marks : ℕ → Bool) (top at high level : ℕ)
+    → at < length lits → at < high → slice_get levels at ≡ Some level → top ≤ level
+    → ((l : Lit) → slice_get lits at ≡ Some l → marks l.var ≡ true) → HasMarked lits levels marks top high
+found_marked lits levels marks top at high level within before is reached here =
+    let there = item_there lits at within in
+    let v : word levels at ≡ level = get_or_from_slice_get levels at level 0 is in
+    record {
+      at = at;
+      lit = there.0;
+      before = before;
+      there = there.1;
+      reached = omega arith;
+      is_marked = here there.0 there.1;
+    }
+
+-- ---- the top level
+
+pub top_found : (lits : List Lit) (levels : List ℕ) (marks : ℕ → Bool) (at next level : ℕ) → NeverFalls levels
+    → length levels ≡ length lits → next ≡ at + 1 → at < length lits → slice_get levels at ≡ Some level
+    → NoneMarked lits levels marks 0 next (length lits)
+    → ((l : Lit) → slice_get lits at ≡ Some l → marks l.var ≡ true) → IsTop lits levels marks level
+top_found lits levels marks at next level rising len e within is n here =
+    let v : word levels at ≡ level = get_or_from_slice_get levels at level 0 is in
+    record {
+      none_higher = λ j l there m. elim (cases_lt at j) [
+        | inl later ↦ absurd (false≢true
+            (sym (n.none j l (omega arith) (slice_get_within lits j l there) there (omega arith)) ∙ m))
+        | inr before ↦
+            let low : word levels j ≤ word levels at = rising j at before (omega arith) in omega arith
+      ];
+      reached = λ h. found_marked lits levels marks level at (length lits) level within within is (omega arith) here;
+    }
+
+pub top_none : (lits : List Lit) (levels : List ℕ) (marks : ℕ → Bool) (low : ℕ) → low ≡ 0
+    → NoneMarked lits levels marks 0 low (length lits) → IsTop lits levels marks 0
+top_none lits levels marks low e n = record {
+  none_higher = λ j l there m. absurd (false≢true
+      (sym (n.none j l (omega arith) (slice_get_within lits j l there) there (omega arith)) ∙ m));
+  reached = λ h. absurd (omega arith);
+}

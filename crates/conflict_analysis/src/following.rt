@@ -6,7 +6,7 @@ ghost use Rattle.resolution_check.specs.declared.log.Lit.{Lit};
 ghost use Rattle.resolution_check.specs.Clauses.{opposite, is_below};
 ghost use Rattle.resolution_check.specs.Earned.{has_var};
 ghost use Rattle.clause_arena.specs.Held.{IsHeld, lits_of, number_of, held_in};
-ghost use Rattle.conflict_analysis.specs.Lessons.{marked, IsFollowed, IsBack};
+ghost use Rattle.conflict_analysis.specs.Lessons.{marked, IsOnWay, IsSecond};
 ghost use Rattle.conflict_analysis.specs.Steps.{IsTrail};
 
 use crate::marks::{mark_clause, set_mark};
@@ -62,14 +62,14 @@ fn follow_step(
     arena: &Arena,
     trail: &Trail,
     at: usize,
-    stays: bool,
+    top: u64,
 )
     requires trail { IsTrail arena.now (length marks.old) trail.now.lits.items trail.now.levels.items trail.now.reasons.items }
     requires at { at < length trail.now.lits.items }
     requires clause_room { vec_len clause.old < vec_capacity clause.old }
     requires chain_room { vec_len chain.old < vec_capacity chain.old }
-    ensures followed { IsFollowed arena.now trail.now.lits.items (at + 1) (marked marks.old) clause.old.items chain.old.items
-        → IsFollowed arena.now trail.now.lits.items at (marked marks.new) clause.new.items chain.new.items }
+    ensures way { IsOnWay arena.now trail.now.lits.items trail.now.levels.items top (at + 1) (marked marks.old) clause.old.items chain.old.items
+        → IsOnWay arena.now trail.now.lits.items trail.now.levels.items top at (marked marks.new) clause.new.items chain.new.items }
     ensures clause_room { vec_capacity clause.new ≡ vec_capacity clause.old }
     ensures chain_room { vec_capacity chain.new ≡ vec_capacity chain.old }
     ensures count { vec_len clause.new + vec_len chain.new ≤ vec_len clause.old + vec_len chain.old + 1 }
@@ -81,6 +81,7 @@ fn follow_step(
     if !marks[lit.var as usize] {
         return;
     }
+    let stays = stays(marks, trail, at, top);
     match reason_at(trail, at) {
         Some(reason) if !stays => follow_reason(marks, chain, arena, lit, reason),
         _ => keep(marks, clause, lit),
@@ -91,10 +92,10 @@ fn follow_step(
 /// before.
 fn level_back(clause: &[Lit], before: usize, trail: &Trail, at: usize, back: u64) -> u64
     requires at { at < length trail.now.levels.items }
-    ensures { (kept : List Lit) (t : Lit) → IsBack trail.now.lits.items trail.now.levels.items kept back
+    ensures { (kept : List Lit) (t : Lit) → IsSecond trail.now.lits.items trail.now.levels.items kept back
         → length kept ≡ before → slice_get trail.now.lits.items at ≡ Some t
         → (clause.now ≡ kept) ⊎ (clause.now ≡ kept ++ opposite t ∷ [])
-        → IsBack trail.now.lits.items trail.now.levels.items clause.now result }
+        → IsSecond trail.now.lits.items trail.now.levels.items clause.now result }
 {
     if before != 1 {
         return back;
@@ -121,17 +122,16 @@ pub(crate) fn follow_all(
     requires chain { vec_len chain.old ≡ 1 }
     requires clause_room { length marks.old ≤ vec_capacity clause.old }
     requires chain_room { length marks.old < vec_capacity chain.old }
-    ensures followed { IsFollowed arena.now trail.now.lits.items (length trail.now.lits.items) (marked marks.old) clause.old.items chain.old.items
-        → IsFollowed arena.now trail.now.lits.items 0 (marked marks.new) clause.new.items chain.new.items }
-    ensures back { IsBack trail.now.lits.items trail.now.levels.items clause.new.items result }
+    ensures way { IsOnWay arena.now trail.now.lits.items trail.now.levels.items top (length trail.now.lits.items) (marked marks.old) clause.old.items chain.old.items
+        → IsOnWay arena.now trail.now.lits.items trail.now.levels.items top 0 (marked marks.new) clause.new.items chain.new.items }
+    ensures second { IsSecond trail.now.lits.items trail.now.levels.items clause.new.items result }
     ensures clause_room { vec_capacity clause.new ≡ vec_capacity clause.old }
     ensures chain_room { vec_capacity chain.new ≡ vec_capacity chain.old }
 {
     let mut back = 0;
     for at in (0..trail.lits.len()).rev() {
-        let stays = stays(marks, trail, at, top);
         let before = clause.len();
-        follow_step(marks, clause, chain, arena, trail, at, stays);
+        follow_step(marks, clause, chain, arena, trail, at, top);
         back = level_back(clause, before, trail, at, back);
     }
     back

@@ -1,8 +1,9 @@
 //! Which literals of a level are kept.
 
-ghost use Rattle.std.specs.Prelude.{◌≡◌, ◌≤◌, ◌<◌, true, Some, length, slice_get, slice_index};
+ghost use Rattle.std.specs.Prelude.{◌≡◌, ◌≤◌, ◌<◌, true, false, Some, length, slice_get};
 ghost use Rattle.resolution_check.specs.declared.log.Lit.{Lit};
 ghost use Rattle.conflict_analysis.specs.Steps.{NeverFalls, NoneMarked};
+ghost use Rattle.conflict_analysis.specs.Levels.{HasMarked, Stays, IsTop};
 ghost use Rattle.conflict_analysis.specs.Lessons.{marked};
 ghost use Rattle.resolution_check.specs.Clauses.{is_below};
 
@@ -23,8 +24,10 @@ fn is_last(marks: &[bool], trail: &Trail, at: usize, top: u64) -> bool
     requires levels { length trail.now.levels.items ≡ length trail.now.lits.items }
     requires below { is_below (length marks.now) trail.now.lits.items ≡ true }
     requires rising { NeverFalls trail.now.levels.items }
-    ensures { result ≡ true
+    ensures last { result ≡ true
         → NoneMarked trail.now.lits.items trail.now.levels.items (marked marks.now) top 0 at }
+    ensures another { result ≡ false
+        → HasMarked trail.now.lits.items trail.now.levels.items (marked marks.now) top at }
 {
     for earlier in (0..at).rev() {
         if level_at(trail, earlier) < top {
@@ -44,17 +47,24 @@ pub(crate) fn stays(marks: &[bool], trail: &Trail, at: usize, top: u64) -> bool
     requires levels { length trail.now.levels.items ≡ length trail.now.lits.items }
     requires below { is_below (length marks.now) trail.now.lits.items ≡ true }
     requires rising { NeverFalls trail.now.levels.items }
-    ensures { result ≡ true → top ≤ slice_index trail.now.levels.items at
-        → NoneMarked trail.now.lits.items trail.now.levels.items (marked marks.now) top 0 at }
+    ensures { Stays trail.now.lits.items trail.now.levels.items (marked marks.now) top at result }
 {
     let level = level_at(trail, at);
-    level != 0 && (level < top || is_last(marks, trail, at, top))
+    if level == 0 {
+        return false;
+    }
+    if level < top {
+        return true;
+    }
+    is_last(marks, trail, at, top)
 }
 
-/// The level of the last step that is marked, 0 where there is none.
+/// The highest level of a step that is marked, 0 where there is none.
 pub(crate) fn top_level(marks: &[bool], trail: &Trail) -> u64
     requires levels { length trail.now.levels.items ≡ length trail.now.lits.items }
     requires below { is_below (length marks.now) trail.now.lits.items ≡ true }
+    requires rising { NeverFalls trail.now.levels.items }
+    ensures { IsTop trail.now.lits.items trail.now.levels.items (marked marks.now) result }
 {
     for at in (0..trail.lits.len()).rev() {
         if is_marked(marks, trail, at) {

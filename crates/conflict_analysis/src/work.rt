@@ -1,9 +1,10 @@
 //! The work space of an analysis, and the analysis.
 
-ghost use Rattle.std.specs.Prelude.{◌≡◌, ℕ, ◌≤◌, ◌<◌, [], true, false, length, IfOk, vec_capacity};
-ghost use Rattle.resolution_check.specs.Clauses.{is_below};
+ghost use Rattle.std.specs.Prelude.{◌≡◌, ℕ, [], false, length, IfOk, vec_capacity, vec_len};
 ghost use Rattle.conflict_analysis.specs.Steps.{IsTrail, IsConflict};
-ghost use Rattle.conflict_analysis.specs.Lessons.{marked, IsReady, IsLesson, IsBack};
+ghost use Rattle.clause_arena.specs.Held.{lits_of};
+ghost use Rattle.conflict_analysis.specs.Levels.{AreFilled, AreFull, ContainsNone};
+ghost use Rattle.conflict_analysis.specs.Lessons.{marked, IsBegun, IsReady, IsOnWay, IsLesson, IsPointed, IsBack};
 
 use crate::following::follow_all;
 use crate::marks::mark_clause;
@@ -74,6 +75,32 @@ impl Work {
     }
 }
 
+/// Names the false clause and marks its variables. Answers the highest of their levels.
+fn begin(
+    clause: &mut Vec<Lit>,
+    chain: &mut Vec<u64>,
+    marks: &mut [bool],
+    arena: &Arena,
+    trail: &Trail,
+    conflict: ClauseRef,
+) -> u64
+    requires ready { IsReady marks.old (vec_capacity clause.old) (vec_capacity chain.old) }
+    requires trail { IsTrail arena.now (length marks.old) trail.now.lits.items trail.now.levels.items trail.now.reasons.items }
+    requires conflict { IsConflict arena.now trail.now.lits.items conflict }
+    ensures begun { IsBegun trail.now.lits.items trail.now.levels.items (lits_of arena.now conflict.0) (marked marks.new) result }
+    ensures way { IsOnWay arena.now trail.now.lits.items trail.now.levels.items result (length trail.now.lits.items) (marked marks.new) clause.new.items chain.new.items }
+    ensures none { vec_len clause.new ≡ 0 }
+    ensures one { vec_len chain.new ≡ 1 }
+    ensures clause_room { vec_capacity clause.new ≡ vec_capacity clause.old }
+    ensures chain_room { vec_capacity chain.new ≡ vec_capacity chain.old }
+{
+    clause.clear();
+    chain.clear();
+    chain.push_reserved(arena.id(conflict));
+    mark_clause(marks, arena, conflict);
+    top_level(marks, trail)
+}
+
 /// Analyses a conflict in vectors that have room.
 fn analyse_in(
     clause: &mut Vec<Lit>,
@@ -88,24 +115,28 @@ fn analyse_in(
     requires conflict { IsConflict arena.now trail.now.lits.items conflict }
     ensures ready { IsReady marks.new (vec_capacity clause.new) (vec_capacity chain.new) }
     ensures lesson { IsLesson arena.now trail.now.lits.items clause.new.items chain.new.items }
+    ensures point { IsPointed arena.now trail.now.lits.items trail.now.levels.items (lits_of arena.now conflict.0) clause.new.items chain.new.items }
+    ensures earned { AreFilled arena.now → AreFull arena.now trail.now.lits.items trail.now.levels.items
+        → ContainsNone arena.now clause.new.items }
     ensures back { IsBack trail.now.lits.items trail.now.levels.items clause.new.items result }
 {
-    clause.clear();
-    chain.clear();
-    chain.push_reserved(arena.id(conflict));
-    mark_clause(marks, arena, conflict);
-    let top = top_level(marks, trail);
+    let top = begin(clause, chain, marks, arena, trail, conflict);
     follow_all(marks, clause, chain, arena, trail, top)
 }
 
-/// Learns from a clause all of whose literals are false on the trail. Leaves in `work` the learnt clause, its literals
-/// from the last step to the first, and the numbers of the clauses that give it when they are resolved from the front.
-/// Answers the level of the clause's second literal, 0 where there is none.
+/// Learns from a clause all of whose literals are false on the trail. Leaves in `work` the learnt clause, the first
+/// unique implication point first, its literals from the last step to the first, and the numbers of the clauses that
+/// give it when they are resolved from the front. Where everything was propagated before each decision the learnt clause
+/// contains no clause that is held. Answers the lowest level at which all its literals but one are false, 0 where it has
+/// fewer than two.
 pub fn analyse(work: &mut Work, arena: &Arena, trail: &Trail, conflict: ClauseRef) -> u64
     requires trail { IsTrail arena.now work.old.vars trail.now.lits.items trail.now.levels.items trail.now.reasons.items }
     requires conflict { IsConflict arena.now trail.now.lits.items conflict }
     ensures vars { work.new.vars ≡ work.old.vars }
     ensures lesson { IsLesson arena.now trail.now.lits.items work.new.lits work.new.chain }
+    ensures point { IsPointed arena.now trail.now.lits.items trail.now.levels.items (lits_of arena.now conflict.0) work.new.lits work.new.chain }
+    ensures earned { AreFilled arena.now → AreFull arena.now trail.now.lits.items trail.now.levels.items
+        → ContainsNone arena.now work.new.lits }
     ensures back { IsBack trail.now.lits.items trail.now.levels.items work.new.lits result }
 {
     analyse_in(

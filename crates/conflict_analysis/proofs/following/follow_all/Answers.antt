@@ -2,7 +2,7 @@ use Rattle.std.proofs.Common.{◌≡◌, ◌⊎◌, ℕ, ◌+◌, ◌-◌, ◌++
 use Rattle.std.proofs.lemmas.Option.{slice_get_cases}
 use Rattle.resolution_check.specs.declared.log.Lit.{Lit}
 use Rattle.resolution_check.specs.Clauses.{opposite}
-use Rattle.conflict_analysis.specs.Lessons.{marked, IsFollowed, IsBack}
+use Rattle.conflict_analysis.specs.Lessons.{marked, IsOnWay, IsSecond}
 use Rattle.conflict_analysis.proofs.following.follow_all.Goals as goal
 
 pub loop-at-preserved : goal.loop-at-preserved
@@ -15,12 +15,12 @@ loop-at-preserved c =
     let at : ℕ = c.loop-at.at - 1 in
     let up : c.loop-at.at ≡ c.loop-at.at - 1 + 1 = omega (arith, c.loop-at-test.true) in
     record {
-      followed = λ s. c.follow_step.ensures.followed
-          (subst (λ (k : ℕ). IsFollowed a ss k (marked old.marks) old.clause.items old.chain.items) up
-          (old.invariant.followed s));
-      back = elim (slice_get_cases ss (c.loop-at.at - 1)).1 [
-        | inl x ↦ subst (λ (ls : List Lit). IsBack ss levels ls c.level_back-back.result) c.deref.ensures.value
-            (c.level_back-back.ensures old.clause.items x.0 old.invariant.back
+      way = λ s. c.follow_step.ensures.way
+          (subst (λ (k : ℕ). IsOnWay a ss levels c.args.top k (marked old.marks) old.clause.items old.chain.items) up
+          (old.invariant.way s));
+      second = elim (slice_get_cases ss (c.loop-at.at - 1)).1 [
+        | inl x ↦ subst (λ (ls : List Lit). IsSecond ss levels ls c.level_back-back.result) c.deref.ensures.value
+            (c.level_back-back.ensures old.clause.items x.0 old.invariant.second
             (sym (c.len-before.ensures ∙ old.clause.ok.0)) x.2
             (subst (λ (ls : List Lit). (ls ≡ old.clause.items) ⊎ (ls ≡ old.clause.items ++ opposite x.0 ∷ []))
             (sym c.deref.ensures.value) (c.follow_step.ensures.kept x.0 x.2)))

@@ -1,5 +1,5 @@
 use Rattle.std.proofs.Common.{◌-◌, ◌∙◌, arith}
-use Rattle.conflict_analysis.proofs.Tops.{none_more, none_below, none_yet, none_all}
+use Rattle.conflict_analysis.proofs.Tops.{none_more, none_below, none_yet, none_all, found_marked}
 use Rattle.conflict_analysis.specs.Lessons.{marked}
 use Rattle.conflict_analysis.proofs.staying.is_last.Goals as goal
 
@@ -13,13 +13,21 @@ loop-earlier-preserved c =
     (c.loop-earlier.earlier - 1) c.loop-earlier.earlier c.args.at (omega (arith, c.loop-earlier-test.true))
     c.loop-earlier.invariant (λ l h. c.is_marked.ensures l h ∙ c.if-is_marked.false)
 
-pub returns-then-level_at-top : goal.returns-then-level_at-top
-returns-then-level_at-top c = λ t.
+pub returns-then-level_at-top-clause-last : goal.returns-then-level_at-top-clause-last
+returns-then-level_at-top-clause-last c = λ t.
     none_below c.args.trail.now.lits.items c.args.trail.now.levels.items (marked c.args.marks.now) c.args.top
     (c.loop-earlier.earlier - 1) c.loop-earlier.earlier c.args.at c.level_at.result c.requires.rising
     (omega (arith, c.loop-earlier-test.true)) c.level_at.ensures c.if-level_at-top.true c.loop-earlier.invariant
 
-pub returns : goal.returns
-returns c = λ t.
+pub returns-then-is_marked-clause-another : goal.returns-then-is_marked-clause-another
+returns-then-is_marked-clause-another c = λ f.
+    found_marked c.args.trail.now.lits.items c.args.trail.now.levels.items (marked c.args.marks.now) c.args.top
+    (c.loop-earlier.earlier - 1) c.args.at c.level_at.result
+    (omega (arith, c.loop-earlier-test.true, c.loop-earlier.auto.earlier, c.requires.at))
+    (omega (arith, c.loop-earlier-test.true, c.loop-earlier.auto.earlier)) c.level_at.ensures c.if-level_at-top.false
+    (λ l h. c.is_marked.ensures l h ∙ c.if-is_marked.true)
+
+pub returns-clause-last : goal.returns-clause-last
+returns-clause-last c = λ t.
     none_all c.args.trail.now.lits.items c.args.trail.now.levels.items (marked c.args.marks.now) c.args.top
     c.loop-earlier.earlier c.args.at (omega (arith, c.loop-earlier-test.false)) c.loop-earlier.invariant

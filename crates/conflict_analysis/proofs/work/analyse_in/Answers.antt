@@ -1,18 +1,11 @@
-use Rattle.std.proofs.Common.{ℕ, ◌||◌, ◌++◌, ◌∷◌, [], List, ap, sym, subst, ◌∙◌, arith, length}
-use Rattle.std.proofs.Math.Bool.{or-false}
-use Rattle.resolution_check.specs.declared.log.Lit.{Lit}
-use Rattle.resolution_check.specs.Earned.{has_var}
+use Rattle.std.proofs.Common.{arith, length}
 use Rattle.clause_arena.specs.Held.{lits_of}
-use Rattle.conflict_analysis.specs.Lessons.{marked, IsFollowed}
-use Rattle.conflict_analysis.proofs.Below.{false_below}
+use Rattle.conflict_analysis.specs.Lessons.{marked}
+use Rattle.conflict_analysis.proofs.Earned.{contains_none, goes_back}
 use Rattle.conflict_analysis.proofs.Fits.{trail_fits}
-use Rattle.conflict_analysis.proofs.Followed.{followed_first, unmarked, lesson_from}
+use Rattle.conflict_analysis.proofs.Followed.{unmarked, lesson_from}
+use Rattle.conflict_analysis.proofs.Points.{pointed}
 use Rattle.conflict_analysis.proofs.work.analyse_in.Goals as goal
-
-pub mark_clause-requires-clause-below : goal.mark_clause-requires-clause-below
-mark_clause-requires-clause-below c =
-    false_below (length c.args.marks.now) c.args.trail.now.lits.items
-    (lits_of c.args.arena.now c.args.conflict.0) c.requires.trail.below c.requires.conflict.1
 
 pub follow_all-requires-clause-few : goal.follow_all-requires-clause-few
 follow_all-requires-clause-few c =
@@ -20,57 +13,59 @@ follow_all-requires-clause-few c =
       arith,
       trail_fits (length c.args.marks.now) c.args.trail.now.lits.items c.requires.trail.below
           c.requires.trail.fresh,
-      c.mark_clause.auto.marks,
+      c.begin-top.auto.marks,
     )
 
 pub returns-clause-ready : goal.returns-clause-ready
 returns-clause-ready c =
     let a = c.args.arena.now in
     let ss = c.args.trail.now.lits.items in
-    let lits = lits_of a c.args.conflict.0 in
-    let marks = marked c.mark_clause.new.marks in
-    let started = subst (λ (ids : List ℕ). IsFollowed a ss (length ss) marks c.clear.new.self.items ids)
-    (sym (c.push_reserved.ensures.items ∙ ap (λ (ids : List ℕ). ids ++ c.id.result ∷ []) c.clear-2.ensures.items))
-    (subst (λ (kept : List Lit). IsFollowed a ss (length ss) marks kept (c.id.result ∷ []))
-    (sym c.clear.ensures.items)
-    (followed_first a ss lits c.id.result marks c.id.ensures.numbered c.requires.conflict.1
-    (λ v. c.mark_clause.ensures v ∙ ap (λ b. has_var lits v || b) (c.requires.ready.unmarked v)
-    ∙ or-false (has_var lits v)))) in
-    let done = c.follow_all.ensures.followed started in
+    let w = c.follow_all.ensures.way c.begin-top.ensures.way in
     record {
       unmarked = unmarked a ss (marked c.follow_all.new.marks) c.follow_all.new.clause.items
-          c.follow_all.new.chain.items done;
+          c.follow_all.new.chain.items w.followed;
       clause = omega (
         arith,
         c.requires.ready.clause,
-        c.clear.ensures.capacity,
+        c.begin-top.ensures.clause_room,
         c.follow_all.ensures.clause_room,
-        c.mark_clause.auto.marks,
+        c.begin-top.auto.marks,
         c.follow_all.auto.marks,
       );
       chain = omega (
         arith,
         c.requires.ready.chain,
-        c.clear-2.ensures.capacity,
-        c.push_reserved.ensures.capacity,
+        c.begin-top.ensures.chain_room,
         c.follow_all.ensures.chain_room,
-        c.mark_clause.auto.marks,
+        c.begin-top.auto.marks,
         c.follow_all.auto.marks,
       );
     }
 
 pub returns-clause-lesson : goal.returns-clause-lesson
 returns-clause-lesson c =
-    let a = c.args.arena.now in
-    let ss = c.args.trail.now.lits.items in
-    let lits = lits_of a c.args.conflict.0 in
-    let marks = marked c.mark_clause.new.marks in
-    let started = subst (λ (ids : List ℕ). IsFollowed a ss (length ss) marks c.clear.new.self.items ids)
-    (sym (c.push_reserved.ensures.items ∙ ap (λ (ids : List ℕ). ids ++ c.id.result ∷ []) c.clear-2.ensures.items))
-    (subst (λ (kept : List Lit). IsFollowed a ss (length ss) marks kept (c.id.result ∷ []))
-    (sym c.clear.ensures.items)
-    (followed_first a ss lits c.id.result marks c.id.ensures.numbered c.requires.conflict.1
-    (λ v. c.mark_clause.ensures v ∙ ap (λ b. has_var lits v || b) (c.requires.ready.unmarked v)
-    ∙ or-false (has_var lits v)))) in
-    let done = c.follow_all.ensures.followed started in
-    lesson_from a ss (marked c.follow_all.new.marks) c.follow_all.new.clause.items c.follow_all.new.chain.items done
+    let w = c.follow_all.ensures.way c.begin-top.ensures.way in
+    lesson_from c.args.arena.now c.args.trail.now.lits.items (marked c.follow_all.new.marks)
+    c.follow_all.new.clause.items c.follow_all.new.chain.items w.followed
+
+pub returns-clause-point : goal.returns-clause-point
+returns-clause-point c =
+    pointed c.args.arena.now c.args.trail.now.lits.items c.args.trail.now.levels.items c.begin-top.result
+    c.requires.trail.level_count c.requires.trail.rising c.requires.trail.fresh
+    (lits_of c.args.arena.now c.args.conflict.0) (marked c.begin-top.new.marks) c.requires.conflict.1
+    c.begin-top.ensures.begun.same c.begin-top.ensures.begun.highest (marked c.follow_all.new.marks)
+    c.follow_all.new.clause.items c.follow_all.new.chain.items (c.follow_all.ensures.way c.begin-top.ensures.way)
+
+pub returns-clause-earned : goal.returns-clause-earned
+returns-clause-earned c = λ filled full.
+    contains_none c.args.arena.now c.args.trail.now.lits.items c.args.trail.now.levels.items c.begin-top.result
+    c.requires.trail.level_count c.requires.trail.rising c.requires.trail.fresh (marked c.follow_all.new.marks)
+    c.follow_all.new.clause.items c.follow_all.new.chain.items (c.follow_all.ensures.way c.begin-top.ensures.way)
+    filled full
+
+pub returns-clause-back : goal.returns-clause-back
+returns-clause-back c =
+    goes_back c.args.arena.now c.args.trail.now.lits.items c.args.trail.now.levels.items c.begin-top.result
+    c.requires.trail.level_count c.requires.trail.rising c.requires.trail.fresh (marked c.follow_all.new.marks)
+    c.follow_all.new.clause.items c.follow_all.new.chain.items (c.follow_all.ensures.way c.begin-top.ensures.way)
+    c.follow_all.result c.follow_all.ensures.second
