@@ -24,3 +24,6 @@ pub mod TextBack
 pub mod Fielded
 pub mod Textual
 pub mod TextualWhole
+pub mod Subnets
+pub mod EndsApart
+pub mod WritableFiles

@@ -49,7 +49,8 @@ pub record IsFarEnd (files : List File) (end : SessionEnd) (neighbour : Neighbou
 abbrev IsKnown : List File → SessionEnd → Type 0
 IsKnown files end = (neighbour : Neighbour) × IsFarEnd files end neighbour
 
-some_item : {A : Type 0} (o : Option A) → IsSome o → (x : A) × (o ≡ Some x)
+-- what is there
+pub some_item : {A : Type 0} (o : Option A) → IsSome o → (x : A) × (o ≡ Some x)
 some_item None none = absurd (false≢true none)
 some_item (Some x) is = (x, refl)
 

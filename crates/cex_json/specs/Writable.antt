@@ -7,14 +7,17 @@ use Rattle.std.specs.Str.Lossy.{utf8_lossy}
 use Rattle.mw_text.specs.declared.address.Addr.{Addr}
 use Rattle.mw_text.specs.declared.address.Prefix.{Prefix}
 use Rattle.mw_text.specs.Address.{prefix_at}
+use Rattle.ios_ast.specs.declared.bgp.Bgp.{Bgp}
 use Rattle.ios_ast.specs.declared.bgp.Neighbour.{Neighbour}
 use Rattle.ios_ast.specs.declared.file.File.{File}
+use Rattle.ios_ast.specs.declared.file.IfAddr.{IfAddr}
 use Rattle.route_record.specs.declared.BgpRec.{BgpRec}
 use Rattle.route_record.specs.declared.Learnt.{Learnt}
 use Rattle.route_record.specs.declared.Learnt.TheVariants.{Local, Peer}
 use Rattle.route_record.specs.declared.Slot.{Slot}
 use Rattle.route_record.specs.declared.TheConstants.{LENGTHS}
 use Rattle.net_model.specs.declared.sessions.SessionEnd.{SessionEnd}
+use Rattle.net_model.specs.Network.{IsNetwork}
 use Rattle.net_model.specs.Sessions.{ends_of, neighbour_of}
 use Rattle.net_model.specs.World.{IsEnvironment, IsFailureSet, links_of}
 use Rattle.question_lang.specs.declared.question.Question.{Question}
@@ -106,6 +109,35 @@ pub record IsWritableNet (files : List File) : Type 0 where
   pub neighbours : All (λ end. IfSome (neighbour_of files end) IsNeighbour) (ends_of files)
   pub ends : AreApart (end_key files) (ends_of files)
   pub few_ends : length (ends_of files) ≤ 2 ^ 32
+
+-- an address of an interface with its length
+abbrev pub IsOwnAddress : IfAddr → Type 0
+IsOwnAddress own = IsAddress own.addr × (own.len ≤ 32)
+
+-- neighbour lines, each with an address of its own
+abbrev pub AreNeighbours : Bgp → Type 0
+AreNeighbours bgp = All IsNeighbour bgp.neighbours × AreApart (λ neighbour. neighbour.addr) bgp.neighbours
+
+-- the host name of a file is UTF-8 and has no blank
+abbrev pub IsHostName : File → Type 0
+IsHostName file = IsUtf8 file.hostname × (list_any (λ b. b == 32) file.hostname ≡ false)
+
+-- the names of its interfaces are UTF-8, each once
+abbrev pub HasIfaceNames : File → Type 0
+HasIfaceNames file =
+    All (λ iface. IsUtf8 iface.name) file.interfaces × AreApart (λ iface. iface.name) file.interfaces
+
+-- the addresses of its interfaces fit their types
+abbrev pub HasAddresses : File → Type 0
+HasAddresses file = All (λ iface. IfSome iface.address IsOwnAddress) file.interfaces
+
+-- files that are such a network
+pub record AreWritableFiles (files : List File) : Type 0 where
+  pub network : IsNetwork files
+  pub names : All IsHostName files
+  pub ifaces : All HasIfaceNames files
+  pub addresses : All HasAddresses files
+  pub neighbours : All (λ file. IfSome file.bgp AreNeighbours) files
 
 -- ---- a counterexample
 

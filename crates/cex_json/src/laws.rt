@@ -22,7 +22,8 @@ ghost use Rattle.cex_json.specs.Parts.{addr_text, bgp_data, ospf_data, packet_da
 ghost use Rattle.cex_json.specs.Reading.{cex_in, reading};
 ghost use Rattle.cex_json.specs.Surroundings.{packet_at};
 ghost use Rattle.cex_json.specs.Text.{cex_data, cex_text};
-ghost use Rattle.cex_json.specs.Writable.{AreNamed, IsWritable, IsWritableCex, IsWritableSlot};
+ghost use Rattle.cex_json.specs.Writable.{AreNamed, AreWritableFiles, IsWritable, IsWritableCex, IsWritableNet};
+ghost use Rattle.cex_json.specs.Writable.{IsWritableSlot};
 ghost use Rattle.cex_json.specs.Worlds.{prefix_text};
 
 /// Addresses and prefixes are read back from their texts; bits past a prefix's length are not.
@@ -43,6 +44,12 @@ pub fn parts_law()
 /// A slot that is written for a place is read back behind those before it, with the empty slots between.
 pub fn slot_law()
     ensures { (files : List File) (place : ℕ) (slot : Slot) (so_far : List Slot) (at : List ℕ) → AreNamed files → place < LENGTHS * length files → length so_far ≤ place → IsWritableSlot files (place / LENGTHS) slot → slot_at files at so_far (parts_data files place slot) ≡ Ok (filled so_far place ++ slot ∷ []) }
+{}
+
+/// A network is one that a text can speak of where its names are UTF-8, its host names have no blanks, no two
+/// interfaces of a router have one name and no two of its neighbour lines one address, and all numbers fit their types.
+pub fn network_law()
+    ensures { (files : List File) → AreWritableFiles files → IsWritableNet files }
 {}
 
 /// A counterexample that was written is read back as it was: from its JSON value, and from its text.
