@@ -1,20 +1,19 @@
 -- Walks that were followed break the question, for each kind.
-use Rattle.std.proofs.Common.{◌≡◌, ◌≢◌, ℕ, ◌+◌, Bool, true, false, ◌&&◌, ◌||◌, not, List, [], ◌∷◌, ◌++◌, length, ◌⊎◌}
-use Rattle.std.proofs.Common.{inl, inr, Option, Some, None, refl, sym, ap, subst, arith, ◌∙◌}
-use Rattle.std.specs.Prelude.{All}
+use Rattle.std.proofs.Common.{◌≡◌, ◌≢◌, ℕ, ◌+◌, Bool, true, ◌&&◌, ◌||◌, List, [], length, ◌⊎◌}
+use Rattle.std.proofs.Common.{inl, inr, Some, refl, sym, ap, subst, arith, ◌∙◌}
 use Rattle.std.proofs.lemmas.Bool.{and_parts, or_cases}
 use Rattle.ios_ast.specs.declared.file.File.{File}
 use Rattle.route_record.specs.declared.World.{World}
 use Rattle.question_lang.specs.declared.question.Kind.{Kind}
-use Rattle.question_lang.specs.declared.question.Kind.TheVariants.{Reach, Isolate, Waypoint, NoLoop, NoBlackHole}
-use Rattle.question_lang.specs.declared.question.Kind.TheVariants.{Within, Alike}
+use Rattle.question_lang.specs.declared.question.Kind.TheVariants.{Reach, Isolate, NoLoop, NoBlackHole}
+use Rattle.question_lang.specs.declared.question.Kind.TheVariants.{Within}
 use Rattle.question_lang.specs.declared.question.Start.{Start}
 use Rattle.question_lang.specs.declared.question.Target.{Target}
 use Rattle.question_lang.specs.declared.question.Target.TheVariants.{Router, Subnet, Peer}
 use Rattle.question_lang.specs.declared.walk.End.{End}
 use Rattle.question_lang.specs.declared.walk.End.TheVariants.{Loop, Open}
 use Rattle.question_lang.specs.declared.walk.Walk.{Walk}
-use Rattle.question_lang.specs.Breaking.{BeginsAt, Breaks, EndsAt, NoneArrives, at_router, start_of}
+use Rattle.question_lang.specs.Breaking.{BeginsAt, Breaks, EndsAt, start_of}
 use Rattle.question_lang.specs.Hops.{next_hops}
 use Rattle.question_lang.specs.Walks.{GoesOn, IsWalk, IsWalkOver, MayBegin}
 use Rattle.walk_def.proofs.Arrivals.{at_target, from_target}
@@ -22,7 +21,7 @@ use Rattle.walk_def.proofs.Members.{last-same}
 use Rattle.walk_def.specs.Arriving.{LastIn, target_end}
 use Rattle.walk_def.specs.Safety.{is_end, known}
 use Rattle.sym_walk.specs.Beginnings.{begins_at}
-use Rattle.sym_walk.specs.Layers.{Beginning, arrives, going, loops}
+use Rattle.sym_walk.specs.Layers.{arrives, going, loops}
 use Rattle.sym_walk.specs.Forwardings.{IsAtTarget, IsDenied, IsSought}
 use Rattle.sym_walk.proofs.Starts.{begins}
 use Rattle.walk_finder.specs.declared.rows.Row.{Row}
@@ -59,16 +58,11 @@ proper_end files world kind rows start walk are arrives =
     let (front, last, same, (row, found, is)) = arrives.last in
     (((rows_over files world kind rows are) last.router row found).ends walk.end is).0
 
--- at the target
-pub at_last : (files : List File) (world : World) (target : Target) (walk : Walk) →
-    LastIn (λ r. IsAtTarget files world target r walk.end) walk.hops → EndsAt files world target walk
-at_last files world target walk (front, last, same, (is, holds)) =
-    at_target files world target walk is (front, last, same, holds)
-
--- elsewhere
-missed_last : (files : List File) (world : World) (target : Target) (walk : Walk) →
-    LastIn (λ r. IsAtTarget files world target r walk.end → ⊥) walk.hops → EndsAt files world target walk → ⊥
-missed_last files world target walk (front, last, same, missed) ends =
+-- elsewhere, where it looks for that
+reach_misses : (files : List File) (world : World) (start : Start) (target : Target) (rows : List Row) (walk : Walk) →
+    AreRows files world (Reach start target) rows → Arrives rows start walk → EndsAt files world target walk → ⊥
+reach_misses files world start target rows walk are arrives ends =
+    let (front, last, same, missed) = sought_last files world (Reach start target) rows start walk are arrives in
     let (is, (other, there, as_well, holds)) = from_target files world target walk ends in
     let one : there ≡ last = last-same other front there last (sym as_well ∙ same) in
     let P : Start → Type 0 = λ s. IsAtTarget files world target s.router walk.end in
@@ -123,7 +117,7 @@ reach_breaks files world start target rows walk are may (inl arrives) =
       (
         begun,
         never_open walk.end (proper_end files world kind rows start walk are arrives),
-        missed_last files world target walk (sought_last files world kind rows start walk are arrives),
+        reach_misses files world start target rows walk are arrives,
       ),
     )
 reach_breaks files world start target rows walk are may (inr (follows, loop)) =
@@ -146,7 +140,8 @@ pub isolate_breaks : (files : List File) (world : World) (start : Start) (target
 isolate_breaks files world start target rows walk are may arrives =
     let kind : Kind = Isolate start target in
     let (walks, begun) = is_walk files world kind rows start walk are may arrives.follows in
-    (walks, (begun, at_last files world target walk (sought_last files world kind rows start walk are arrives)))
+    let (front, last, same, (is, holds)) = sought_last files world kind rows start walk are arrives in
+    (walks, (begun, at_target files world target walk is (front, last, same, holds)))
 
 -- ---- back to where it stood
 

@@ -1,7 +1,6 @@
 -- What was found breaks the question, or nothing was.
 use Rattle.std.proofs.Common.{◌≡◌, Bool, true, false, List, Option, Some, None, refl}
 use Rattle.std.specs.Prelude.{IfSome}
-use Rattle.std.specs.Option.{is_some}
 use Rattle.ios_ast.specs.declared.file.File.{File}
 use Rattle.route_record.specs.declared.World.{World}
 use Rattle.question_lang.specs.declared.question.Kind.{Kind}
@@ -17,10 +16,6 @@ found_breaks files world kind (Some walk) some breaks none = breaks walk some
 pub not_both : (b : Bool) → b ≡ true → b ≡ false → ⊥
 not_both true marked unmarked = cc
 not_both false marked unmarked = cc
-
-pub is_none : {A : Type 0} (o : Option A) → is_some o ≡ false → o ≡ None
-is_none None none = refl
-is_none (Some x) none = cc
 
 pub both_some : {A : Type 0} (P Q : A → Type 0) (found : Option A) → IfSome found P → IfSome found Q →
     IfSome found (λ x. P x × Q x)

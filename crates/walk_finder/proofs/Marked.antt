@@ -133,13 +133,13 @@ going_all rows router marked =
 -- ---- layers that are pushed
 
 -- the layers so far
-abbrev pub AreSoFar : Bool → List Row → ℕ → List (List Bool) → Type 0
-AreSoFar to_ends rows at layers =
+abbrev pub AreSoFar : Bool → ℕ → List Row → List (List Bool) → Type 0
+AreSoFar to_ends at rows layers =
     (length layers ≡ at + 1)
     × ((k : ℕ) (marks : List Bool) → slice_get layers k ≡ Some marks → marks ≡ layer to_ends (table_of rows) k)
 
 pub layers_begin : (to_ends : Bool) (rows : List Row) (first : List Bool) (all : List (List Bool)) →
-    first ≡ map (first_mark to_ends) rows → all ≡ first ∷ [] → AreSoFar to_ends rows 0 all
+    first ≡ map (first_mark to_ends) rows → all ≡ first ∷ [] → AreSoFar to_ends 0 rows all
 layers_begin to_ends rows first all made one =
     let long : length all ≡ length (first ∷ []) = ap length one in (
       omega (arith, long),
@@ -149,9 +149,9 @@ layers_begin to_ends rows first all made one =
     )
 
 pub layers_more : (to_ends : Bool) (rows : List Row) (at : ℕ) (before read more : List (List Bool))
-    (next : List Bool) → AreSoFar to_ends rows at before → read ≡ before →
+    (next : List Bool) → AreSoFar to_ends at rows before → read ≡ before →
     ((marks : List Bool) → slice_get read at ≡ Some marks → next ≡ map (next_mark to_ends marks) rows) →
-    more ≡ before ++ next ∷ [] → AreSoFar to_ends rows (at + 1) more
+    more ≡ before ++ next ∷ [] → AreSoFar to_ends (at + 1) rows more
 layers_more to_ends rows at before read more next (long, each) same made pushed =
     let (marks, found) = item_there before at (omega (arith, long)) in
     let last : marks ≡ layer to_ends (table_of rows) at = each at marks found in

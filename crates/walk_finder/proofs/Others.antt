@@ -1,9 +1,8 @@
 -- Walks that pass a waypoint by, and walks from the one of two routers.
-use Rattle.std.proofs.Common.{◌≡◌, ◌≢◌, ℕ, zero, suc, Bool, true, false, cond, ◌&&◌, ◌||◌, not, List, [], ◌∷◌, ◌⊎◌}
-use Rattle.std.proofs.Common.{inl, inr, Option, Some, None, refl, sym, ap, subst, arith, ◌∙◌, eqb, eq-eqb, set}
-use Rattle.std.specs.Prelude.{All, Contains, slice_get}
-use Rattle.std.specs.List.{AllByRecursion}
-use Rattle.std.proofs.lemmas.Bool.{and_from, and_parts, eqb-true, or_cases}
+use Rattle.std.proofs.Common.{◌≡◌, ◌≢◌, ℕ, zero, suc, Bool, true, false, cond, ◌&&◌, ◌||◌, not, List, [], ◌∷◌}
+use Rattle.std.proofs.Common.{inl, inr, Some, None, refl, sym, ap, subst, arith, ◌∙◌, eqb, eq-eqb, set}
+use Rattle.std.specs.Prelude.{All, slice_get}
+use Rattle.std.proofs.lemmas.Bool.{eqb-true}
 use Rattle.std.proofs.lemmas.List.{map-set}
 use Rattle.std.proofs.lemmas.List.Elements.{All-from_recursion}
 use Rattle.ios_ast.specs.declared.file.File.{File}
@@ -14,14 +13,13 @@ use Rattle.question_lang.specs.declared.question.Start.{Start}
 use Rattle.question_lang.specs.declared.question.Target.{Target}
 use Rattle.question_lang.specs.declared.walk.End.{End}
 use Rattle.question_lang.specs.declared.walk.Hop.{Hop}
-use Rattle.question_lang.specs.declared.walk.Hop.TheVariants.{Ends}
 use Rattle.question_lang.specs.declared.walk.Walk.{Walk}
-use Rattle.question_lang.specs.Breaking.{BeginsAt, Breaks, NoneArrives, at_router, start_of}
+use Rattle.question_lang.specs.Breaking.{Breaks, NoneArrives, at_router, start_of}
 use Rattle.question_lang.specs.Hops.{next_hops}
 use Rattle.question_lang.specs.Walks.{GoesOn, IsWalkOver, MayBegin}
+use Rattle.walk_def.proofs.Arrivals.{at_target}
 use Rattle.walk_def.specs.Arriving.{LastIn}
 use Rattle.walk_def.specs.Safety.{is_end}
-use Rattle.sym_walk.specs.Beginnings.{begins_at}
 use Rattle.sym_walk.specs.Layers.{arrives, silent}
 use Rattle.sym_walk.specs.Forwardings.{IsAtTarget}
 use Rattle.sym_walk.proofs.Passing.{passes, without}
@@ -29,7 +27,7 @@ use Rattle.walk_finder.specs.declared.rows.Row.{Row}
 use Rattle.walk_finder.specs.Following.{Arrives}
 use Rattle.walk_finder.specs.Rows.{AreRowsOf, IsRowOf, forwarding_of, silent_row, table_of}
 use Rattle.walk_finder.specs.Sought.{AreRows, IsBroken}
-use Rattle.walk_finder.proofs.ByKind.{at_last, is_walk, may_begin, sought_last}
+use Rattle.walk_finder.proofs.ByKind.{is_walk, may_begin, sought_last}
 use Rattle.walk_finder.proofs.Tables.{broken_two, rows_over, table_broken}
 
 -- ---- rows without the one of a router
@@ -117,7 +115,7 @@ waypoint_breaks files world start target via rows others walk are is_set may end
     let hops : ℕ → List Hop = next_hops files world in
     let A : List Row → Type 0 = λ rs. Arrives rs start walk in
     let arrived = subst A is_set ends in
-    let (proper, last) = others_last files world start target via rows walk are arrived in
+    let (proper, (front, last, ended, (is, holds))) = others_last files world start target via rows walk are arrived in
     let (rest, same) = arrived.follows.begins in
     let on = arrived.follows.goes (without via hops)
     (others_over hops rows via (rows_over files world (Waypoint start target via) rows are)) in
@@ -127,7 +125,7 @@ waypoint_breaks files world start target via rows others walk are is_set may end
     let B : List Start → Type 0 = λ hs. start_of hs walk.end ≡ Some start in
     let V : List Start → Type 0 = λ hs. All (λ s. s.router ≢ via) hs in (
       subst W (sym same) (may, goes),
-      (subst B (sym same) refl, at_last files world target walk last, subst V (sym same) avoids),
+      (subst B (sym same) refl, at_target files world target walk is (front, last, ended, holds), subst V (sym same) avoids),
     )
 
 -- ---- from the one router, and not from the other
@@ -175,11 +173,12 @@ pub first_breaks : (files : List File) (world : World) (a b : ℕ) (target : Tar
 first_breaks files world a b target rows walk are broken ends marked =
     let kind : Kind = Alike a b target in
     let (walks, begun) = is_walk files world kind rows (at_router a) walk are tt ends.follows in
+    let (front, last, same, (is, holds)) = sought_last files world kind rows (at_router a) walk are ends in
     let unmarked = one_alone (arrives (table_of rows) a) (arrives (table_of rows) b)
     (broken_two files world a b target rows are broken) marked in (
       walks,
       (
-        at_last files world target walk (sought_last files world kind rows (at_router a) walk are ends),
+        at_target files world target walk is (front, last, same, holds),
         inl (begun, none_arrives files world a b b target rows are unmarked),
       ),
     )
@@ -189,10 +188,11 @@ pub second_breaks : (files : List File) (world : World) (a b : ℕ) (target : Ta
     arrives (table_of rows) a ≡ false → Breaks files world (Alike a b target) (Some walk)
 second_breaks files world a b target rows walk are ends unmarked =
     let kind : Kind = Alike a b target in
-    let (walks, begun) = is_walk files world kind rows (at_router b) walk are tt ends.follows in (
+    let (walks, begun) = is_walk files world kind rows (at_router b) walk are tt ends.follows in
+    let (front, last, same, (is, holds)) = sought_last files world kind rows (at_router b) walk are ends in (
       walks,
       (
-        at_last files world target walk (sought_last files world kind rows (at_router b) walk are ends),
+        at_target files world target walk is (front, last, same, holds),
         inr (begun, none_arrives files world a b a target rows are unmarked),
       ),
     )

@@ -1,7 +1,7 @@
 -- The rows of a question are the forwarding table of its world.
-use Rattle.std.proofs.Common.{◌≡◌, ℕ, zero, suc, ◌<◌, true, false, ◌&&◌, ◌||◌, not, List, [], ◌∷◌, length, map, inl, inr}
+use Rattle.std.proofs.Common.{◌≡◌, ℕ, zero, suc, true, false, ◌&&◌, ◌||◌, not, List, [], ◌∷◌, length, map, inl, inr}
 use Rattle.std.proofs.Common.{Option, Some, None, refl, sym, ap, subst, arith, ◌∙◌, eq-eqb}
-use Rattle.std.specs.Prelude.{Contains, slice_get}
+use Rattle.std.specs.Prelude.{Contains}
 use Rattle.std.specs.List.{list_any}
 use Rattle.std.specs.Option.{is_some}
 use Rattle.std.proofs.lemmas.Bool.{eqb-true, or_cases, or_left, or_right}
@@ -18,14 +18,12 @@ use Rattle.question_lang.specs.declared.question.Target.{Target}
 use Rattle.question_lang.specs.declared.walk.End.{End}
 use Rattle.question_lang.specs.declared.walk.Hop.{Hop}
 use Rattle.question_lang.specs.declared.walk.Hop.TheVariants.{To, Ends}
-use Rattle.question_lang.specs.declared.walk.Walk.{Walk}
-use Rattle.question_lang.specs.Breaking.{Breaks}
 use Rattle.question_lang.specs.Hops.{next_hops}
 use Rattle.walk_def.proofs.Inside.{next_hops_inside}
 use Rattle.walk_def.proofs.Members.{test-of_item}
 use Rattle.walk_def.specs.Safety.{is_inside}
 use Rattle.sym_walk.specs.Beginnings.{begins_at}
-use Rattle.sym_walk.specs.Layers.{Beginning, Forwarding, arrives, is_broken}
+use Rattle.sym_walk.specs.Layers.{Forwarding, arrives, is_broken}
 use Rattle.sym_walk.specs.Forwardings.{AreForwarding, IsBeginning, IsBeginningOf, IsForwarding, IsSought}
 use Rattle.sym_walk.specs.Forwardings.{sends_to, start_asked}
 use Rattle.sym_walk.proofs.BreakingWalks.{broken_all}

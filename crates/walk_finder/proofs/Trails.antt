@@ -1,7 +1,7 @@
 -- Following hops along the layers gives walks.
-use Rattle.std.proofs.Common.{◌≡◌, ℕ, suc, ◌+◌, ◌-◌, ◌*◌, ◌<◌, ◌≤◌, Bool, true, false, List, [], ◌∷◌, ◌++◌, length, get_or}
+use Rattle.std.proofs.Common.{◌≡◌, ℕ, ◌+◌, ◌-◌, ◌*◌, ◌<◌, ◌≤◌, Bool, true, false, List, [], ◌∷◌, ◌++◌, length, get_or}
 use Rattle.std.proofs.Common.{Some, refl, sym, ap, subst, arith, ◌∙◌, cond}
-use Rattle.std.specs.Prelude.{Any, Contains, replicate, slice_get}
+use Rattle.std.specs.Prelude.{Any, replicate, slice_get}
 use Rattle.std.specs.List.{list_any}
 use Rattle.std.specs.Option.{is_some}
 use Rattle.std.proofs.lemmas.List.Folds.{sum_by-replicate}
@@ -10,13 +10,12 @@ use Rattle.question_lang.specs.declared.question.Start.{Start}
 use Rattle.question_lang.specs.declared.walk.End.{End}
 use Rattle.question_lang.specs.declared.walk.End.TheVariants.{Loop, Open}
 use Rattle.question_lang.specs.declared.walk.Hop.{Hop}
-use Rattle.question_lang.specs.declared.walk.Hop.TheVariants.{Ends}
 use Rattle.question_lang.specs.declared.walk.Walk.{Walk}
 use Rattle.question_lang.specs.Walks.{GoesOn, LeadsTo, MayEnd}
 use Rattle.walk_def.proofs.Following.{Begun, Followed, begun-step, followed-step}
 use Rattle.walk_def.proofs.Known.{unknown_count}
 use Rattle.walk_def.specs.Arriving.{leads_to_known}
-use Rattle.walk_def.specs.Safety.{is_end, known}
+use Rattle.walk_def.specs.Safety.{known}
 use Rattle.sym_walk.specs.Layers.{Forwarding, arriving, going}
 use Rattle.sym_walk.proofs.Arriving.{may_end}
 use Rattle.walk_finder.specs.declared.rows.Row.{Row}

@@ -5,11 +5,12 @@ use Rattle.question_lang.specs.declared.question.Kind.TheVariants.{Alike}
 use Rattle.question_lang.specs.declared.question.Start.{Start}
 use Rattle.question_lang.specs.Breaking.{at_router}
 use Rattle.sym_walk.specs.Layers.{arrives}
+use Rattle.net_model.proofs.Defined.{none_here}
 use Rattle.walk_finder.specs.declared.rows.Row.{Row}
 use Rattle.walk_finder.specs.Following.{Arrives}
 use Rattle.walk_finder.specs.Rows.{table_of}
 use Rattle.walk_finder.specs.Sought.{AreRows}
-use Rattle.walk_finder.proofs.Founds.{both_some, found_breaks, is_none, not_both}
+use Rattle.walk_finder.proofs.Founds.{both_some, found_breaks, not_both}
 use Rattle.walk_finder.proofs.Leading.{some_none}
 use Rattle.walk_finder.proofs.Others.{alike_marks, first_breaks, second_breaks}
 use Rattle.walk_finder.proofs.finding.alike_walk.Goals as goal
@@ -36,7 +37,7 @@ returns c =
     let rows = c.in_ok-rows.rows in
     let found = c.in_ok-second.second in
     let kind : Kind = Alike c.args.a c.args.b c.args.target in
-    let none = is_none c.in_ok-first.first (sym c.is_some.ensures ∙ c.if-is_some.false) in
+    let none = none_here c.in_ok-first.first (sym c.is_some.ensures ∙ c.if-is_some.false) in
     let unmarked : arrives (table_of rows) c.args.a ≡ false =
     ap (λ rs. arrives (table_of rs) c.args.a) (sym c.as_slice.ensures)
     ∙ ap (λ s. arrives (table_of c.as_slice.result.now) s.router) (sym c.at_router.ensures)

@@ -1,9 +1,10 @@
 use Rattle.std.proofs.Common.{List, sym, subst, ◌∙◌}
 use Rattle.question_lang.specs.declared.question.Kind.TheVariants.{Reach}
+use Rattle.net_model.proofs.Defined.{none_here}
 use Rattle.walk_finder.specs.declared.rows.Row.{Row}
 use Rattle.walk_finder.specs.Sought.{AreRows}
 use Rattle.walk_finder.proofs.ByKind.{reach_begins, reach_breaks}
-use Rattle.walk_finder.proofs.Founds.{found_breaks, is_none}
+use Rattle.walk_finder.proofs.Founds.{found_breaks}
 use Rattle.walk_finder.proofs.Leading.{some_none}
 use Rattle.walk_finder.proofs.finding.reach_walk.Goals as goal
 
@@ -18,7 +19,7 @@ end_or_round-requires c =
     let P : List Row → Type 0 =
     λ rs. AreRows c.args.net.now c.args.world.now (Reach c.args.start c.args.target) rs in
     let are = subst P (sym c.as_slice.ensures) c.in_ok-rows.ensures in
-    let none = is_none c.in_ok-denied.denied (sym c.is_some.ensures ∙ c.if-is_some.false) in
+    let none = none_here c.in_ok-denied.denied (sym c.is_some.ensures ∙ c.if-is_some.false) in
     (reach_begins c.args.net.now c.args.world.now c.args.start c.args.target c.as_slice.result.now are c.requires
     (c.in_ok-denied.ensures.none none)).1
 
@@ -28,7 +29,7 @@ returns c =
     let P : List Row → Type 0 =
     λ rs. AreRows c.args.net.now c.args.world.now (Reach c.args.start c.args.target) rs in
     let are = subst P (sym c.as_slice.ensures) c.in_ok-rows.ensures in
-    let none = is_none c.in_ok-denied.denied (sym c.is_some.ensures ∙ c.if-is_some.false) in
+    let none = none_here c.in_ok-denied.denied (sym c.is_some.ensures ∙ c.if-is_some.false) in
     let may = (reach_begins c.args.net.now c.args.world.now c.args.start c.args.target rows are c.requires
     (c.in_ok-denied.ensures.none none)).0 in
     reach_breaks c.args.net.now c.args.world.now c.args.start c.args.target rows c.in_ok-walk.walk are may

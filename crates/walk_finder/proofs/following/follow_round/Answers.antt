@@ -1,10 +1,10 @@
-use Rattle.std.proofs.Common.{◌≡◌, ℕ, ◌-◌, ◌<◌, ◌≤◌, length, List, [], ◌∷◌, ◌++◌, true, false, sym, ap, subst, arith, ◌∙◌, set}
+use Rattle.std.proofs.Common.{◌≡◌, ℕ, ◌-◌, length, List, true, sym, subst, arith, set}
 use Rattle.std.specs.Prelude.{Any}
 use Rattle.std.proofs.Math.ListN.{length-set}
 use Rattle.question_lang.specs.declared.question.Start.{Start}
 use Rattle.question_lang.specs.declared.walk.Hop.{Hop}
 use Rattle.walk_def.proofs.Following.{Begun, Followed, begun-start, followed-start}
-use Rattle.walk_def.proofs.Known.{fewer, known-from_read, seen-marked, unknown_count, unmarked, unmarked-length}
+use Rattle.walk_def.proofs.Known.{fewer, known-from_read, seen-marked, unmarked, unmarked-length}
 use Rattle.walk_def.specs.Safety.{known}
 use Rattle.walk_finder.specs.Rows.{AreRowsOf}
 use Rattle.walk_finder.proofs.Marked.{going_all, going_within}
