@@ -125,7 +125,11 @@ waypoint_breaks files world start target via rows others walk are is_set may end
     let B : List Start → Type 0 = λ hs. start_of hs walk.end ≡ Some start in
     let V : List Start → Type 0 = λ hs. All (λ s. s.router ≢ via) hs in (
       subst W (sym same) (may, goes),
-      (subst B (sym same) refl, at_target files world target walk is (front, last, ended, holds), subst V (sym same) avoids),
+      (
+        subst B (sym same) refl,
+        at_target files world target walk is (front, last, ended, holds),
+        subst V (sym same) avoids,
+      ),
     )
 
 -- ---- from the one router, and not from the other

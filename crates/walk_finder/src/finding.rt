@@ -64,7 +64,7 @@ fn find_denied(
     }
 }
 
-// A walk that ends as looked for, else one that comes back to where it stood.
+// A walk that ends as looked for, or else one that comes back to where it stood.
 fn end_or_round(alloc: Global, rows: &[Row], start: Start) -> Result<Walk, AllocError>
     requires { (arrives (table_of rows.now) start.router ≡ true) ⊎ (loops (table_of rows.now) start.router ≡ true) }
     ensures { IfOk result (EndsOrLoops rows.now start) }
@@ -76,7 +76,7 @@ fn end_or_round(alloc: Global, rows: &[Row], start: Start) -> Result<Walk, Alloc
     Ok(walk)
 }
 
-// It ends, and not at the target.
+// A walk that ends, and not at the target.
 fn reach_walk(
     alloc: Global,
     net: &Net,
@@ -96,7 +96,7 @@ fn reach_walk(
     Ok(Some(walk))
 }
 
-// It ends at the target.
+// A walk that ends at the target.
 fn isolate_walk(
     alloc: Global,
     net: &Net,
@@ -112,7 +112,7 @@ fn isolate_walk(
     Ok(found)
 }
 
-// These rows, where the one of that router has no hops.
+// These rows, where that router does nothing with the packet.
 fn without(alloc: Global, rows: List<Row>, via: u32) -> List<Row>
     ensures { result ≡ set rows via silent_row }
 {
@@ -126,7 +126,7 @@ fn without(alloc: Global, rows: List<Row>, via: u32) -> List<Row>
     rows
 }
 
-// It ends at the target and does not stand at the waypoint.
+// A walk that ends at the target and does not stand at the waypoint.
 fn waypoint_walk(
     alloc: Global,
     net: &Net,
@@ -144,7 +144,7 @@ fn waypoint_walk(
     Ok(found)
 }
 
-// It comes back to where it stood.
+// A walk that comes back to where it stood.
 fn loop_walk(
     alloc: Global,
     net: &Net,
@@ -159,7 +159,7 @@ fn loop_walk(
     Ok(Some(walk))
 }
 
-// It ends without a route or at Null0.
+// A walk that ends without a route or at Null0.
 fn lost_walk(
     alloc: Global,
     net: &Net,
@@ -174,7 +174,7 @@ fn lost_walk(
     Ok(found)
 }
 
-// It has one hop more than allowed.
+// A walk that has one hop more than allowed.
 fn long_walk(
     alloc: Global,
     net: &Net,
@@ -200,7 +200,7 @@ fn at_router(router: u32) -> Start
     }
 }
 
-// It ends at the target from one of the two routers, and none from the other does.
+// A walk that ends at the target from one of the two routers, where none from the other does.
 fn alike_walk(
     alloc: Global,
     net: &Net,
@@ -221,8 +221,8 @@ fn alike_walk(
     Ok(second)
 }
 
-/// What breaks a question of that kind in a world in which something does: a walk of the world's packet, or none where the
-/// question asks for no stable routing.
+/// What breaks a question of that kind in a world in which something does: a walk of the world's packet, or none where
+/// the question asks for no stable routing.
 pub fn find_walk(
     alloc: Global,
     net: &Net,

@@ -1,6 +1,7 @@
 //! Follows hops from a start along the layers of marks.
 
-ghost use Rattle.std.specs.Prelude.{◌≡◌, ◌<◌, ◌+◌, ◌++◌, ◌∷◌, [], ℕ, List as ListOf, Some, true, false, Contains, IfOk, IfSome, OnOk, None, length, slice_get};
+ghost use Rattle.std.specs.Prelude.{◌≡◌, ◌<◌, ◌+◌, ◌++◌, ◌∷◌, [], ℕ, List as ListOf, None, Some, true, false};
+ghost use Rattle.std.specs.Prelude.{Contains, IfOk, IfSome, OnOk, length, slice_get};
 ghost use Rattle.std.specs.List.{find, list_any};
 ghost use Rattle.std.specs.Option.{is_some, option_copied};
 ghost use Rattle.question_lang.specs.declared.walk.End.{End as EndOf};
@@ -67,9 +68,11 @@ fn next_in(own: &[Hop], marks: &[bool]) -> IfaceId
 // One hop on, to a router that is marked.
 fn step(trail: &mut Trail, rows: &[Row], marks: &[bool]) -> Result<(), AllocError>
     requires within { trail.old.now.router < length rows.now }
-    requires leads { (row : RowOf) → slice_get rows.now trail.old.now.router ≡ Some row → list_any (leads_to_known marks.now) row.hops ≡ true }
+    requires leads { (row : RowOf) → slice_get rows.now trail.old.now.router ≡ Some row →
+        list_any (leads_to_known marks.now) row.hops ≡ true }
     ensures stood { OnOk result (trail.new.stood ≡ trail.old.stood ++ trail.old.now ∷ []) }
-    ensures led { OnOk result ((hops : ℕ → ListOf HopOf) → AreRowsOf hops rows.now → LeadsTo hops trail.old.now trail.new.now) }
+    ensures led { OnOk result ((hops : ℕ → ListOf HopOf) → AreRowsOf hops rows.now →
+        LeadsTo hops trail.old.now trail.new.now) }
     ensures marked { OnOk result (known marks.now trail.new.now.router ≡ true) }
 {
     let i = next_in(rows[trail.now.router as usize].hops.as_slice(), marks);
@@ -111,7 +114,8 @@ fn arrive(trail: Trail, rows: &[Row]) -> Result<Walk, AllocError>
     requires within { trail.now.router < length rows.now }
     requires has { (row : RowOf) → slice_get rows.now trail.now.router ≡ Some row → is_some row.end ≡ true }
     ensures hops { IfOk result (λ walk. walk.hops ≡ trail.stood ++ trail.now ∷ []) }
-    ensures end { IfOk result (λ walk. (row : RowOf) → slice_get rows.now trail.now.router ≡ Some row → row.end ≡ Some walk.end) }
+    ensures end { IfOk result (λ walk. (row : RowOf) → slice_get rows.now trail.now.router ≡ Some row →
+        row.end ≡ Some walk.end) }
 {
     match end_at(rows, trail.now.router) {
         None => unreachable!(),

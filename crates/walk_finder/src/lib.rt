@@ -4,7 +4,7 @@
 mod finding;
 mod following;
 mod layers;
-pub mod rows;
+mod rows;
 mod sought;
 
 pub use finding::find_walk;

@@ -62,7 +62,7 @@ fn is_at_target(net: &Net, world: &World, target: &Target, router: u32, end: &En
     is_same_end(end, &target_end(target)) && is_target_router(net, world, target, router)
 }
 
-// Without a route or at Null0.
+// Whether the packet is lost: without a route or at Null0.
 fn is_lost(end: &End) -> bool
     ensures yes { result ≡ true → (end.now ≡ End.NoRoute) ⊎ (end.now ≡ End.Discarded) }
     ensures no { result ≡ false → (end.now ≡ End.NoRoute) ⊎ (end.now ≡ End.Discarded) → ⊥ }
@@ -107,7 +107,8 @@ fn sought_here(net: &Net, world: &World, kind: &Kind, router: u32, hop: &Hop) ->
 
 // The first end among the hops of a router that the question looks for.
 fn sought_end(net: &Net, world: &World, kind: &Kind, router: u32, own: &[Hop]) -> Option<End>
-    ensures some { IfSome result (λ end. Contains own.now (Hop.Ends end) × IsSought net.now world.now kind.now router end) }
+    ensures some { IfSome result (λ end. Contains own.now (Hop.Ends end)
+        × IsSought net.now world.now kind.now router end) }
     ensures none { result ≡ None → (end : EndOf) → Contains own.now (Hop.Ends end) →
         IsSought net.now world.now kind.now router end → ⊥ }
 {

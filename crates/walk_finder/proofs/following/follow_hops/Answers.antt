@@ -10,7 +10,8 @@ use Rattle.walk_finder.proofs.following.follow_hops.Goals as goal
 pub walk-init : goal.walk-init
 walk-init c =
     let none : length c.new.result ≡ 0 = ap length c.new.ensures in
-    let P : List Start → Type 0 = λ hs. (hops : ℕ → List Hop) → AreRowsOf hops c.args.rows.now → Followed hops hs c.args.start in
+    let P : List Start → Type 0 =
+    λ hs. (hops : ℕ → List Hop) → AreRowsOf hops c.args.rows.now → Followed hops hs c.args.start in
     let Q : List Start → Type 0 = λ hs. Begun c.args.start hs c.args.start in (
       omega (arith, none),
       c.requires.marked,

@@ -12,7 +12,8 @@ loop-at-preserved c =
     let world = c.args.world.now in
     let kind = c.args.kind.now in
     let pushed : c.push.new.self.items ≡ before ++ row ∷ [] = c.in_ok-push.ensures.items in
-    let longer : length c.push.new.self.items ≡ length before + 1 = ap length pushed ∙ length-append before (row ∷ []) in
+    let longer : length c.push.new.self.items ≡ length before + 1 =
+    ap length pushed ∙ length-append before (row ∷ []) in
     let P : ℕ → Type 0 = λ at. IsRow files world kind at row in (
       omega (arith, longer, c.loop-at.invariant.0),
       λ k other found. each_place-push (IsRow files world kind) before row c.loop-at.invariant.1

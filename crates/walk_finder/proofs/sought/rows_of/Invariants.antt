@@ -8,4 +8,5 @@ use Rattle.walk_finder.proofs.sought.rows_of.Given as goal
 abbrev pub invariant-loop-at : goal.invariant-loop-at
 invariant-loop-at l =
     (length l.rows-inside.items.items ≡ l.at)
-    × ((router : ℕ) (row : Row) → slice_get l.rows-inside.items.items router ≡ Some row → IsRow l.net l.world l.kind router row)
+    × ((router : ℕ) (row : Row) → slice_get l.rows-inside.items.items router ≡ Some row →
+    IsRow l.net l.world l.kind router row)
