@@ -73,7 +73,14 @@ fn show_log(rt: &(impl Print + AllocGlobal), log: &str) -> io::Result<()> {
         } else if !take_entry(rt.alloc(), &mut checker, line) {
             println!(rt; "refused at {line}")?;
         } else if line == "e" {
-            println!(rt; "{}", if checker.refuted() { "refuted" } else { "not refuted" })?;
+            println!(rt;
+                "{}",
+                if checker.refuted() {
+                    "refuted"
+                } else {
+                    "not refuted"
+                }
+            )?;
         }
     }
     Ok(())
@@ -92,13 +99,7 @@ pub fn show_verify(
     let mut contents = readable(alloc, files.as_slice())?;
     let mut out = TestSink::new(alloc, 1_000_000, List::new(alloc))?;
     let mut log = TestSink::new(alloc, 10_000_000, List::new(alloc))?;
-    let status = run(
-        alloc,
-        words.as_slice(),
-        &mut contents,
-        &mut out,
-        &mut log,
-    );
+    let status = run(alloc, words.as_slice(), &mut contents, &mut out, &mut log);
     println!(rt; "verify {names}: status {}", number_of(status))?;
     if let Ok(text) = std::str::from_utf8(out.taken()) {
         show_verdicts(rt, files, names, text)?;

@@ -20,8 +20,7 @@ use Rattle.cdcl_search.specs.Outcomes.{IsCut, IsLogged as IsLoggedBySearch, IsSe
 use Rattle.ios_ast.specs.declared.file.File.{File}
 use Rattle.route_record.specs.declared.Environment.{Environment}
 use Rattle.route_record.specs.declared.World.{World}
-use Rattle.question_lang.specs.Breaking.{Breaks, reach_question}
-use Rattle.question_lang.specs.declared.question.Kind.{Kind}
+use Rattle.question_lang.specs.Breaking.{Breaks}
 use Rattle.question_lang.specs.declared.question.Question.{Question}
 use Rattle.question_lang.specs.declared.walk.Walk.{Walk}
 use Rattle.cex_json.specs.declared.counterexample.Counterexample.{Counterexample}
@@ -69,27 +68,26 @@ sat_breaks files question formula values row world is satisfied roots same =
     let W : World → Type 0 = λ w. (walk : Option Walk) × IsBreaking files question w no_environment walk in
     subst W (sym same) (is.sound row true_root)
 
--- a walk that breaks the question in such a world makes a true counterexample
+-- what breaks the question in such a world makes a true counterexample
 pub true_from : (files : List File) (number : ℕ) (question : Question) (world : World) (environment : Environment)
-    (kind : Kind) (walk : Walk) → (other : Option Walk) × IsBreaking files question world no_environment other →
-    question.kind ≡ kind → environment ≡ no_environment → Breaks files world kind (Some walk) →
+    (walk : Option Walk) → (other : Option Walk) × IsBreaking files question world no_environment other →
+    environment ≡ no_environment → Breaks files world question.kind walk →
     IsTrueCounterexample files number question (record {
       question = number;
       packet = world.packet;
       failures = world.failures;
       env = environment;
       tables = world.tables;
-      walk = Some walk;
+      walk = walk;
     })
-true_from files number question world environment kind walk (other, breaking) is_kind none breaks =
-    let K : Kind → Type 0 = λ k. Breaks files world k (Some walk) in
-    let E : Environment → Type 0 = λ e. IsBreaking files question world e (Some walk) in
+true_from files number question world environment walk (other, breaking) none breaks =
+    let E : Environment → Type 0 = λ e. IsBreaking files question world e walk in
     let here : E no_environment = record {
       packet = breaking.packet;
       environment_fits = breaking.environment_fits;
       failures = breaking.failures;
       stable = breaking.stable;
-      breaks = subst K (sym is_kind) breaks;
+      breaks = breaks;
     } in
     (refl, subst E (sym none) here)
 

@@ -23,7 +23,7 @@ pub at_least : (port first range : ℕ) → first ≡ range → not (nat_lt port
 at_least port first range same = not_more port first ∙ ap (λ n. nat_le n port) same
 
 pub at_greatest : (port last range : ℕ) → last ≡ range → not (nat_lt last port) ≡ nat_le port range
-at_greatest port last range same = not_below last port ∙ ap (nat_le port) same
+at_greatest port last range same = not_more last port ∙ ap (nat_le port) same
 
 -- as many links fail as their nodes are true
 counted : (w : Reading) (ids : List NodeId) (first : ℕ) → length (positions first (bits w ids)) ≡ count_by (at w) ids

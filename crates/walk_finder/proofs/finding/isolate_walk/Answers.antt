@@ -1,0 +1,23 @@
+use Rattle.std.proofs.Common.{List, sym, subst}
+use Rattle.question_lang.specs.declared.question.Kind.{Kind}
+use Rattle.question_lang.specs.declared.question.Kind.TheVariants.{Isolate}
+use Rattle.sym_walk.specs.Layers.{arrives}
+use Rattle.walk_finder.specs.declared.rows.Row.{Row}
+use Rattle.walk_finder.specs.Rows.{table_of}
+use Rattle.walk_finder.specs.Sought.{AreRows}
+use Rattle.walk_finder.proofs.ByKind.{isolate_begins, isolate_breaks}
+use Rattle.walk_finder.proofs.Founds.{found_breaks, not_both}
+use Rattle.walk_finder.proofs.finding.isolate_walk.Goals as goal
+
+pub returns : goal.returns
+returns c =
+    let files = c.args.net.now in
+    let world = c.args.world.now in
+    let rows = c.as_slice.result.now in
+    let kind : Kind = Isolate c.args.start c.args.target in
+    let P : List Row → Type 0 = λ rs. AreRows files world kind rs in
+    let are = subst P (sym c.as_slice.ensures) c.in_ok-rows.ensures in
+    let (may, marked) = isolate_begins files world c.args.start c.args.target rows are c.requires in
+    found_breaks files world kind c.in_ok-found.found c.in_ok-found.ensures.some
+    (λ walk ends. isolate_breaks files world c.args.start c.args.target rows walk are may ends)
+    (λ none. not_both (arrives (table_of rows) c.args.start.router) marked (c.in_ok-found.ensures.none none))

@@ -1,0 +1,23 @@
+use Rattle.std.proofs.Common.{◌≡◌, ℕ, ◌<◌, ◌≤◌, List, length, true}
+use Rattle.std.specs.Prelude.{Any}
+use Rattle.question_lang.specs.declared.walk.Hop.{Hop}
+use Rattle.sym_walk.specs.Layers.{going}
+use Rattle.walk_def.proofs.Following.{Begun, Followed}
+use Rattle.walk_def.proofs.Known.{unknown_count}
+use Rattle.walk_def.specs.Safety.{known}
+use Rattle.walk_finder.specs.Rows.{AreRowsOf, table_of}
+use Rattle.walk_finder.proofs.following.follow_round.Given as goal
+
+-- the present router has a walk of the hops that are left, and no more routers than that are not seen; those that are
+-- seen were stood at; the standings so far were followed from the start
+abbrev pub invariant-walk : goal.invariant-walk
+invariant-walk l =
+    (l.left ≤ length l.rows) × (known (going (table_of l.rows) l.left) l.trail.now.router ≡ true)
+    × ((hops : ℕ → List Hop) → AreRowsOf hops l.rows → Followed hops l.trail.stood l.trail.now)
+    × Begun l.fn.start l.trail.stood l.trail.now
+    × (l.trail.now.router < length l.rows) × (length l.seen.items ≡ length l.rows)
+    × (unknown_count l.seen.items ≤ l.left)
+    × ((router : ℕ) → known l.seen.items router ≡ true → Any (λ s. s.router ≡ router) l.trail.stood)
+
+abbrev pub decreases-walk : goal.decreases-walk
+decreases-walk l = l.left

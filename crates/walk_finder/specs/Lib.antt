@@ -1,0 +1,4 @@
+pub mod Rows
+pub mod Layers
+pub mod Following
+pub mod Sought
