@@ -144,7 +144,7 @@ value_high (s ∷ ss) (n ∷ levels) level v same high = elim (cases_Bool (leb n
 ]
 
 -- the steps up to a level are of no higher one
-count_low : (levels : List ℕ) (level j : ℕ) → j < count_to levels level → word levels j ≤ level
+pub count_low : (levels : List ℕ) (level j : ℕ) → j < count_to levels level → word levels j ≤ level
 count_low [] level j low = absurd (omega arith)
 count_low (n ∷ levels) level zero low = elim (cases_Bool (leb n level)) [
   | inl within ↦ leb-true n level within

@@ -2,5 +2,7 @@
 #![tactic(auto)]
 
 mod assigned;
+mod laws;
 
 pub use assigned::Assigned;
+pub use laws::watches_settle;
