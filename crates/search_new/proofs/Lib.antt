@@ -1,3 +1,4 @@
 pub mod Places
 pub mod Trails
+pub mod Steps
 pub mod Settled

@@ -29,7 +29,8 @@ front_of xs x =
     let n : length (xs ++ x ∷ []) - 1 ≡ length xs = omega arith in
     ap (λ k. take k (xs ++ x ∷ [])) n ∙ take-append_seam xs (x ∷ [])
 
-fresh_push : (ls : List Lit) (l : Lit) → value_of ls l.var ≡ None
+-- no literal was given a value before
+pub fresh_push : (ls : List Lit) (l : Lit) → value_of ls l.var ≡ None
     → ((at : ℕ) (k : Lit) → slice_get ls at ≡ Some k → value_of (take at ls) k.var ≡ None)
     → (at : ℕ) (k : Lit) → slice_get (ls ++ l ∷ []) at ≡ Some k → value_of (take at (ls ++ l ∷ [])) k.var ≡ None
 fresh_push ls l free fresh =

@@ -1,9 +1,13 @@
 -- What a search keeps of its trail, and the values that it gives.
-use Rattle.std.specs.Prelude.{ℕ, ◌≡◌, ◌<◌, ◌≤◌, Bool, true, false, List, [], ◌∷◌, length, take, Option, Some, None, slice_get}
+use Rattle.std.specs.Prelude.{ℕ, ◌≡◌, ◌⊎◌, ◌-◌, ◌<◌, ◌≤◌, Bool, true, false, List, ◌++◌, length, take, Option, Some, None}
+use Rattle.std.specs.Prelude.{slice_get}
 use Rattle.resolution_check.specs.declared.log.Lit.{Lit}
 use Rattle.resolution_check.specs.Clauses.{is_below}
 use Rattle.resolution_check.specs.Trails.{value_of}
 use Rattle.clause_arena.specs.declared.names.ClauseRef.{ClauseRef}
+use Rattle.clause_arena.specs.Links.{word, In}
+use Rattle.clause_arena.specs.Store.{Store}
+use Rattle.conflict_analysis.specs.Steps.{IsForcedBy}
 use Rattle.deciders.specs.declared.decider.Value.{Value}
 use Rattle.deciders.specs.declared.decider.Value.TheVariants.{Free, False, True}
 
@@ -38,6 +42,30 @@ pub record HasRoom (vars lit_room level_room reason_room : ℕ) : Type 0 where
 
 -- the level of the last literal, 0 where there is none
 abbrev pub last_level : List ℕ → ℕ
-last_level [] = 0
-last_level (n ∷ []) = n
-last_level (n ∷ m ∷ levels) = last_level (m ∷ levels)
+last_level levels = word levels (length levels - 1)
+
+-- a literal that may be made true next: it is chosen and opens a level
+pub record IsChosen (levels : List ℕ) (level : ℕ) (reason : Option ClauseRef) : Type 0 where
+  pub none : reason ≡ None
+  pub higher : last_level levels < level
+
+-- or a clause forces it at the last level
+pub record IsForced (a : Store) (lits : List Lit) (levels : List ℕ) (l : Lit) (level : ℕ) (reason : Option ClauseRef)
+    : Type 0 where
+  pub clause : ClauseRef
+  pub is : reason ≡ Some clause
+  pub forced : IsForcedBy a lits l clause
+  pub same_level : level ≡ last_level levels
+
+abbrev pub MayFollow : Store → List Lit → List ℕ → Lit → ℕ → Option ClauseRef → Type 0
+MayFollow a lits levels l level reason = IsChosen levels level reason ⊎ IsForced a lits levels l level reason
+
+-- More literals at the last level: none of them opens one.
+pub record Grows (old new : Assigned) : Type 0 where
+  pub vars : new.vars ≡ old.vars
+  pub more : List Lit
+  pub lits : new.lits ≡ old.lits ++ more
+  pub later : List ℕ
+  pub levels : new.levels ≡ old.levels ++ later
+  pub same_length : length later ≡ length more
+  pub none_opened : (n : ℕ) → In n later → n ≡ last_level old.levels

@@ -3,6 +3,8 @@
 
 mod assigned;
 mod laws;
+mod stepping;
 
 pub use assigned::Assigned;
 pub use laws::watches_settle;
+pub use stepping::assign;

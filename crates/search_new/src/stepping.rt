@@ -1,0 +1,32 @@
+//! Steps of a trail: one more, and back to a level. The arena is passed for the conditions alone.
+
+ghost use Rattle.std.specs.Prelude.{◌≡◌, ◌<◌, [], ◌∷◌, ◌++◌, None};
+ghost use Rattle.resolution_check.specs.Trails.{value_of};
+ghost use Rattle.conflict_analysis.specs.Steps.{IsTrail};
+ghost use Rattle.search_new.specs.Trails.{MayFollow};
+
+use crate::assigned::Assigned;
+use clause_arena::{Arena, ClauseRef};
+use resolution_check::Lit;
+
+/// Makes a literal true that was chosen, or that a clause forces at the last level.
+pub fn assign(
+    arena: &Arena,
+    assigned: &mut Assigned,
+    lit: Lit,
+    level: u64,
+    reason: Option<ClauseRef>,
+)
+    requires trail { IsTrail arena.now assigned.old.vars assigned.old.lits assigned.old.levels assigned.old.reasons }
+    requires below { lit.var < assigned.old.vars }
+    requires free { value_of assigned.old.lits lit.var ≡ None }
+    requires may { MayFollow arena.now assigned.old.lits assigned.old.levels lit level reason }
+    ensures trail { IsTrail arena.now assigned.new.vars assigned.new.lits assigned.new.levels assigned.new.reasons }
+    ensures lits { assigned.new.lits ≡ assigned.old.lits ++ lit ∷ [] }
+    ensures levels { assigned.new.levels ≡ assigned.old.levels ++ level ∷ [] }
+    ensures reasons { assigned.new.reasons ≡ assigned.old.reasons ++ reason ∷ [] }
+    ensures vars { assigned.new.vars ≡ assigned.old.vars }
+{
+    let _arena = arena;
+    assigned.push(lit, level, reason);
+}
