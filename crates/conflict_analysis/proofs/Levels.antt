@@ -163,7 +163,7 @@ count_low (n ∷ levels) level (suc j) low = elim (cases_Bool (leb n level)) [
 ]
 
 -- the first step behind them is of a higher one
-count_next : (levels : List ℕ) (level : ℕ) → count_to levels level < length levels
+pub count_next : (levels : List ℕ) (level : ℕ) → count_to levels level < length levels
     → level < word levels (count_to levels level)
 count_next [] level within = absurd (omega arith)
 count_next (n ∷ levels) level within = elim (cases_Bool (leb n level)) [

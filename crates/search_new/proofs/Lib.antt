@@ -1,4 +1,5 @@
 pub mod Places
 pub mod Trails
 pub mod Steps
+pub mod Back
 pub mod Settled

@@ -7,4 +7,4 @@ mod stepping;
 
 pub use assigned::Assigned;
 pub use laws::watches_settle;
-pub use stepping::assign;
+pub use stepping::{assign, back_to};

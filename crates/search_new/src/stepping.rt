@@ -2,8 +2,10 @@
 
 ghost use Rattle.std.specs.Prelude.{◌≡◌, ◌<◌, [], ◌∷◌, ◌++◌, None};
 ghost use Rattle.resolution_check.specs.Trails.{value_of};
-ghost use Rattle.conflict_analysis.specs.Steps.{IsTrail};
-ghost use Rattle.search_new.specs.Trails.{MayFollow};
+ghost use Rattle.conflict_analysis.specs.Steps.{IsTrail, NeverFalls};
+ghost use Rattle.conflict_analysis.specs.Levels.{count_to, steps_to};
+ghost use Rattle.search_new.specs.Trails.{MayFollow, last_level};
+ghost use Rattle.search_new.specs.Watches.{IsKept};
 
 use crate::assigned::Assigned;
 use clause_arena::{Arena, ClauseRef};
@@ -29,4 +31,34 @@ pub fn assign(
 {
     let _arena = arena;
     assigned.push(lit, level, reason);
+}
+
+/// How many steps there are up to a level.
+fn count_up_to(levels: &[u64], level: u64) -> usize
+    requires { NeverFalls levels.now }
+    ensures { result ≡ count_to levels.now level }
+{
+    for at in (0..levels.len()).rev() {
+        if levels[at] <= level {
+            return at + 1;
+        }
+    }
+    0
+}
+
+/// Takes back the steps of levels above this one, of which there are some. Answers how many are left.
+pub fn back_to(arena: &Arena, assigned: &mut Assigned, head: usize, level: u64) -> usize
+    requires trail { IsTrail arena.now assigned.old.vars assigned.old.lits assigned.old.levels assigned.old.reasons }
+    requires kept { IsKept arena.now assigned.old.lits assigned.old.levels head }
+    requires some { level < last_level assigned.old.levels }
+    ensures trail { IsTrail arena.now assigned.new.vars assigned.new.lits assigned.new.levels assigned.new.reasons }
+    ensures kept { IsKept arena.now assigned.new.lits assigned.new.levels result }
+    ensures lits { assigned.new.lits ≡ steps_to assigned.old.lits assigned.old.levels level }
+    ensures vars { assigned.new.vars ≡ assigned.old.vars }
+{
+    let _arena = arena;
+    let _head = head;
+    let left = count_up_to(&assigned.trail().levels, level);
+    assigned.cut(left);
+    left
 }
