@@ -1,18 +1,16 @@
 -- The first steps of a trail alone, up to a level.
-use Rattle.std.proofs.Common.{◌≡◌, ◌⊎◌, ℕ, zero, suc, ◌+◌, ◌-◌, ◌<◌, ◌≤◌, Bool, true, false, cond, leb, List, [], ◌∷◌}
+use Rattle.std.proofs.Common.{◌≡◌, ℕ, zero, suc, ◌-◌, ◌<◌, ◌≤◌, Bool, true, cond, leb, List, [], ◌∷◌}
 use Rattle.std.proofs.Common.{length, length-take, min, take, slice_get, Option, Some, None, inl, inr, refl, sym, ap}
 use Rattle.std.proofs.Common.{subst, ◌∙◌, arith, le-leb, leb-true}
 use Rattle.std.specs.Prelude.{nat_lt}
 use Rattle.std.specs.List.{list_all}
 use Rattle.std.proofs.lemmas.Bool.{cases_Bool, cases_lt, and_parts, and_from}
-use Rattle.std.proofs.lemmas.Option.{slice_get_within, slice_get-get_or, get_or_from_slice_get}
+use Rattle.std.proofs.lemmas.Option.{slice_get_within}
 use Rattle.std.proofs.lemmas.List.{take-take, take_all, get_or-take}
-use Rattle.mw_text.proofs.Lists.{item_there}
 use Rattle.resolution_check.specs.declared.log.Lit.{Lit}
-use Rattle.resolution_check.specs.Clauses.{is_below}
-use Rattle.resolution_check.specs.Trails.{value_of, holds, fails}
+use Rattle.resolution_check.specs.Trails.{value_of, holds}
 use Rattle.clause_arena.specs.declared.names.ClauseRef.{ClauseRef}
-use Rattle.clause_arena.specs.Links.{word, In}
+use Rattle.clause_arena.specs.Links.{word}
 use Rattle.clause_arena.specs.Store.{Store}
 use Rattle.conflict_analysis.specs.Steps.{IsForcedBy, IsTrail, NeverFalls, OpensLevel}
 use Rattle.conflict_analysis.specs.Levels.{count_to, steps_to}
@@ -111,7 +109,7 @@ module _ (a : Store) (vars : ℕ) (lits : List Lit) (levels : List ℕ) (reasons
 -- ---- watches that were kept before a step that opened a level
 
 -- no more steps are counted than there are
-count_within : (ns : List ℕ) (m : ℕ) → count_to ns m ≤ length ns
+pub count_within : (ns : List ℕ) (m : ℕ) → count_to ns m ≤ length ns
 count_within [] m = omega arith
 count_within (n ∷ ns) m =
     let rest : count_to ns m ≤ length ns = count_within ns m in

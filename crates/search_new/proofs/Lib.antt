@@ -3,3 +3,4 @@ pub mod Trails
 pub mod Steps
 pub mod Back
 pub mod Settled
+pub mod Visits

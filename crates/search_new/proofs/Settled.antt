@@ -1,11 +1,9 @@
 -- Two watched literals: what is watched so is neither false nor unit.
-use Rattle.std.proofs.Common.{◌≡◌, ◌≢◌, ◌⊎◌, ℕ, zero, suc, ◌+◌, ◌-◌, ◌*◌, ◌/◌, ◌%◌, ◌<◌, ◌≤◌, ◌==◌, Bool, true, false, not}
-use Rattle.std.proofs.Common.{List, [], ◌∷◌, map, length, take, slice_get, Option, Some, None, is_some, inl, inr, refl}
+use Rattle.std.proofs.Common.{◌≡◌, ℕ, ◌+◌, ◌/◌, ◌%◌, ◌<◌, ◌≤◌, ◌==◌, Bool, true, false, not}
+use Rattle.std.proofs.Common.{List, [], ◌∷◌, map, length, take, Option, Some, None, inl, inr, refl}
 use Rattle.std.proofs.Common.{sym, ap, subst, ◌∙◌, cond, arith}
 use Rattle.std.proofs.lemmas.Bool.{cases_Bool, cases_lt, eqb-true, false≢true, true≢false}
-use Rattle.std.proofs.lemmas.Bool.Decides.{nat_tests}
 use Rattle.std.proofs.lemmas.List.{take-take, take_all}
-use Rattle.std.specs.Bool.{beq}
 use Rattle.resolution_check.specs.declared.log.Lit.{Lit}
 use Rattle.resolution_check.specs.declared.log.Clause.{Clause}
 use Rattle.resolution_check.specs.Clauses.{opposite, is_same, has}
@@ -17,7 +15,7 @@ use Rattle.clause_arena.specs.Store.{Store, IsSound}
 use Rattle.clause_arena.specs.Held.{lit_of, lits_of, held_in, clause_numbered}
 use Rattle.clause_arena.proofs.Views.{lits_listed}
 use Rattle.conflict_analysis.specs.Steps.{OpensLevel}
-use Rattle.conflict_analysis.specs.Levels.{count_to, steps_to, AreFilled, AreFull}
+use Rattle.conflict_analysis.specs.Levels.{count_to, AreFilled, AreFull}
 use Rattle.conflict_analysis.proofs.Followed.{front_fails}
 use Rattle.conflict_analysis.proofs.Levels.{count_low}
 use Rattle.conflict_analysis.proofs.Marked.{has_at}
@@ -69,7 +67,7 @@ same_code x y e =
     ]
 
 -- a literal that is neither true nor false has no value
-free_of : (ls : List Lit) (l : Lit) → fails ls l ≡ false → holds ls l ≡ false → value_of ls l.var ≡ None
+pub free_of : (ls : List Lit) (l : Lit) → fails ls l ≡ false → holds ls l ≡ false → value_of ls l.var ≡ None
 free_of ls l f h = by (value_of ls l.var) l.negated f h
   where
     by : (o : Option Bool) (n : Bool) → is_value o n ≡ false → is_value o (not n) ≡ false → o ≡ None

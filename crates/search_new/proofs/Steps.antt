@@ -1,22 +1,20 @@
 -- Trails by levels and reasons: one step more, and the first steps alone.
-use Rattle.std.proofs.Common.{◌≡◌, ◌⊎◌, ℕ, zero, suc, ◌+◌, ◌-◌, ◌<◌, ◌≤◌, Bool, true, false, List, [], ◌∷◌, ◌++◌, length}
-use Rattle.std.proofs.Common.{length-append, length-take, min, take, slice_get, Option, Some, None, inl, inr, refl, sym}
+use Rattle.std.proofs.Common.{◌≡◌, ℕ, zero, suc, ◌+◌, ◌-◌, ◌<◌, ◌≤◌, List, [], ◌∷◌, ◌++◌, length}
+use Rattle.std.proofs.Common.{length-append, take, slice_get, Option, Some, None, inl, inr, refl, sym}
 use Rattle.std.proofs.Common.{ap, subst, ◌∙◌, arith}
 use Rattle.std.specs.Prelude.{nat_lt}
-use Rattle.std.specs.List.{list_all}
-use Rattle.std.proofs.lemmas.Bool.{cases_lt, and_parts, and_from, lt-ltb}
+use Rattle.std.proofs.lemmas.Bool.{cases_lt, lt-ltb}
 use Rattle.std.proofs.lemmas.Option.{slice_get_within, get_or_from_slice_get, same_Some}
-use Rattle.std.proofs.lemmas.List.{take-append-le, take-take, get_or_append_left, get_or-take}
+use Rattle.std.proofs.lemmas.List.{take-append-le, get_or_append_left}
 use Rattle.std.proofs.Math.Seq.{take-append_seam}
 use Rattle.resolution_check.specs.declared.log.Lit.{Lit}
-use Rattle.resolution_check.specs.Clauses.{is_below}
 use Rattle.resolution_check.specs.Trails.{value_of}
 use Rattle.clause_arena.specs.declared.names.ClauseRef.{ClauseRef}
 use Rattle.clause_arena.specs.Links.{word}
 use Rattle.clause_arena.specs.Store.{Store}
 use Rattle.conflict_analysis.specs.Steps.{IsForcedBy, IsTrail, NeverFalls, OpensLevel}
 use Rattle.search_new.specs.Trails.{last_level, MayFollow}
-use Rattle.search_new.proofs.Places.{slice_get-front, slice_get-seam, slice_get-take, all_push}
+use Rattle.search_new.proofs.Places.{slice_get-front, slice_get-seam, all_push}
 use Rattle.search_new.proofs.Trails.{fresh_push}
 
 -- an item of the first ones

@@ -1,12 +1,15 @@
 -- Two watched literals: what propagation owes of each clause.
-use Rattle.std.specs.Prelude.{ℕ, ◌≡◌, ◌+◌, ◌-◌, ◌<◌, ◌≤◌, true, List, length, take}
+use Rattle.std.specs.Prelude.{ℕ, ◌≡◌, ◌+◌, ◌-◌, ◌<◌, ◌≤◌, true, false, List, ◌++◌, length, take, Option, Some, None}
 use Rattle.resolution_check.specs.declared.log.Lit.{Lit}
-use Rattle.resolution_check.specs.Trails.{holds, fails}
+use Rattle.resolution_check.specs.Trails.{holds, fails, AllFail}
+use Rattle.clause_arena.specs.declared.names.Watch.{Watch}
 use Rattle.clause_arena.specs.Links.{word, In}
 use Rattle.clause_arena.specs.Store.{Store}
-use Rattle.clause_arena.specs.Held.{lit_of}
+use Rattle.clause_arena.specs.Held.{lit_of, lits_of}
 use Rattle.conflict_analysis.specs.Steps.{OpensLevel}
 use Rattle.conflict_analysis.specs.Levels.{steps_to}
+use Rattle.search_new.specs.declared.visiting.Visited.{Visited}
+use Rattle.search_new.specs.declared.visiting.Visited.TheVariants.{Stays, Moves, Conflict}
 
 -- the literal of the clause at a reference, at a place
 abbrev pub literal : Store → ℕ → ℕ → Lit
@@ -25,3 +28,22 @@ pub record IsKept (a : Store) (steps : List Lit) (levels : List ℕ) (head : ℕ
   pub ones : (r : ℕ) → In r a.refs → word a.words r ≡ 1 → holds (steps_to steps levels 0) (literal a r 0) ≡ true
   pub before : (at : ℕ) → at < length levels → OpensLevel levels at → AreWatched a (take at steps) (take at steps)
   pub now : AreWatched a (take head steps) steps
+
+-- the later steps begin with the earlier ones
+pub record Extends (old new : List Lit) : Type 0 where
+  pub more : List Lit
+  pub is : new ≡ old ++ more
+
+-- ---- a watch whose literal is false
+
+-- a literal of the clause from place 2 on that is not false, or none is there
+abbrev pub IsReplacement : Store → List Lit → ℕ → Option ℕ → Type 0
+IsReplacement a steps r None =
+    (k : ℕ) → 2 ≤ k → k < word a.words r → fails steps (literal a r k) ≡ true
+IsReplacement a steps r (Some at) = (2 ≤ at) × (at < word a.words r) × (fails steps (literal a r at) ≡ false)
+
+-- what was found: the other watch is true, the literal at a place is not false, or all literals are false
+abbrev pub IsFound : Store → List Lit → Watch → Visited → Type 0
+IsFound a steps w Stays = holds steps (literal a w.clause.0 (1 - w.side)) ≡ true
+IsFound a steps w (Moves to) = IsReplacement a steps w.clause.0 (Some to)
+IsFound a steps w Conflict = AllFail steps (lits_of a w.clause.0)

@@ -3,7 +3,7 @@
 ghost use Rattle.std.specs.Prelude.{◌≡◌, ◌<◌, ◌-◌, ◌^◌, [], ◌∷◌, ◌++◌, replicate, Some, None, IfOk, length, take, slice_get, vec_capacity};
 ghost use Rattle.resolution_check.specs.Trails.{value_of, holds, fails};
 ghost use Rattle.deciders.specs.declared.decider.Value.TheVariants.{Free};
-ghost use Rattle.search_new.specs.Trails.{IsSound, HasRoom, shown};
+ghost use Rattle.search_new.specs.Trails.{IsSound, HasRoom, last_level, shown};
 
 use clause_arena::ClauseRef;
 use conflict_analysis::Trail;
@@ -83,6 +83,16 @@ fn take_back(trail: &mut Trail, values: &mut [Value])
     }
 }
 
+/// The last number, 0 where there is none.
+fn last_of(levels: &[u64]) -> u64
+    ensures { result ≡ last_level levels.now }
+{
+    if levels.len() == 0 {
+        return 0;
+    }
+    levels[levels.len() - 1]
+}
+
 impl Assigned {
     /// No literal so far. All memory is taken here.
     pub fn new(alloc: Global, vars: u64) -> Result<Assigned, AllocError>
@@ -126,6 +136,13 @@ impl Assigned {
         ensures below { result.var < self.now.vars }
     {
         self.trail.lits[at]
+    }
+
+    /// The level of the last literal, 0 where there is none.
+    pub fn level(&self) -> u64
+        ensures { result ≡ last_level self.now.levels }
+    {
+        last_of(&self.trail.levels)
     }
 
     /// The value of a variable.

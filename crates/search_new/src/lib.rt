@@ -4,7 +4,9 @@
 mod assigned;
 mod laws;
 mod stepping;
+mod visiting;
 
 pub use assigned::Assigned;
 pub use laws::watches_settle;
 pub use stepping::{assign, back_to};
+pub use visiting::{Visited, visit};

@@ -1,4 +1,4 @@
-use Rattle.std.proofs.Common.{◌≡◌, ℕ, ◌+◌, ◌-◌, ◌<◌, ◌≤◌, length, arith}
+use Rattle.std.proofs.Common.{◌≡◌, ℕ, ◌+◌, ◌-◌, ◌≤◌, arith}
 use Rattle.clause_arena.specs.Links.{word}
 use Rattle.search_new.proofs.Back.{count_is}
 use Rattle.search_new.proofs.stepping.count_up_to.Goals as goal

@@ -1,0 +1,97 @@
+//! Visits of watches whose literals have become false.
+
+ghost use Rattle.std.specs.Prelude.{◌≡◌, ◌<◌, ◌≤◌, true, length};
+ghost use Rattle.resolution_check.specs.Trails.{holds, fails, IsUnit};
+ghost use Rattle.clause_arena.specs.Held.{IsHeld, lits_of, size_of};
+ghost use Rattle.clause_arena.specs.Watched.{Stands, own};
+ghost use Rattle.conflict_analysis.specs.Steps.{IsTrail};
+ghost use Rattle.search_new.specs.Watches.{literal, Extends, IsFound, IsKept, IsReplacement};
+
+use crate::assigned::Assigned;
+use crate::stepping::assign;
+use clause_arena::{Arena, ClauseRef, Watch};
+use resolution_check::Lit;
+
+/// What was found at a watch.
+#[derive(Clone, Copy, Debug)]
+pub enum Visited {
+    /// The other watch is true.
+    Stays,
+    /// The literal at this place is not false.
+    Moves(u64),
+    /// All literals are false.
+    Conflict,
+}
+
+/// The literal of a clause at a place.
+fn literal_of(arena: &Arena, clause: ClauseRef, at: u64) -> Lit
+    requires held { IsHeld arena.now clause }
+    requires at { at < size_of arena.now clause }
+    ensures value { result ≡ literal arena.now clause.0 at }
+    ensures below { result.var < arena.now.vars }
+{
+    arena.words_are_sound();
+    arena.lit(clause, at)
+}
+
+/// The place of a literal that is not false, from place 2 on.
+fn replacement(arena: &Arena, assigned: &Assigned, clause: ClauseRef) -> Option<u64>
+    requires vars { assigned.now.vars ≡ arena.now.vars }
+    requires held { IsHeld arena.now clause }
+    ensures { IsReplacement arena.now assigned.now.lits clause.0 result }
+{
+    for at in 2..arena.size(clause) {
+        if !assigned.is_false(literal_of(arena, clause, at)) {
+            return Some(at);
+        }
+    }
+    None
+}
+
+/// Makes the literal true that a clause forces.
+fn force(arena: &Arena, assigned: &mut Assigned, head: usize, clause: ClauseRef, lit: Lit)
+    requires trail { IsTrail arena.now assigned.old.vars assigned.old.lits assigned.old.levels assigned.old.reasons }
+    requires kept { IsKept arena.now assigned.old.lits assigned.old.levels head }
+    requires head { head ≤ length assigned.old.lits }
+    requires held { IsHeld arena.now clause }
+    requires unit { IsUnit assigned.old.lits (lits_of arena.now clause.0) lit }
+    requires below { lit.var < assigned.old.vars }
+    ensures trail { IsTrail arena.now assigned.new.vars assigned.new.lits assigned.new.levels assigned.new.reasons }
+    ensures kept { IsKept arena.now assigned.new.lits assigned.new.levels head }
+    ensures extends { Extends assigned.old.lits assigned.new.lits }
+    ensures vars { assigned.new.vars ≡ assigned.old.vars }
+    ensures holds { holds assigned.new.lits lit ≡ true }
+{
+    let _head = head;
+    let level = assigned.level();
+    assign(arena, assigned, lit, level, Some(clause));
+}
+
+/// Looks at a watch whose literal is false, and makes the other watch true where it is forced.
+pub fn visit(arena: &Arena, assigned: &mut Assigned, head: usize, w: Watch) -> Visited
+    requires vars { assigned.old.vars ≡ arena.now.vars }
+    requires trail { IsTrail arena.now assigned.old.vars assigned.old.lits assigned.old.levels assigned.old.reasons }
+    requires kept { IsKept arena.now assigned.old.lits assigned.old.levels head }
+    requires head { head ≤ length assigned.old.lits }
+    requires stands { Stands arena.now (own arena.now w) w }
+    requires is_false { fails assigned.old.lits (literal arena.now w.clause.0 w.side) ≡ true }
+    ensures trail { IsTrail arena.now assigned.new.vars assigned.new.lits assigned.new.levels assigned.new.reasons }
+    ensures kept { IsKept arena.now assigned.new.lits assigned.new.levels head }
+    ensures extends { Extends assigned.old.lits assigned.new.lits }
+    ensures vars { assigned.new.vars ≡ assigned.old.vars }
+    ensures found { IsFound arena.now assigned.new.lits w result }
+{
+    arena.words_are_sound();
+    let other = literal_of(arena, w.clause, 1 - u64::from(w.side));
+    if assigned.is_true(other) {
+        return Visited::Stays;
+    }
+    if let Some(to) = replacement(arena, assigned, w.clause) {
+        return Visited::Moves(to);
+    }
+    if assigned.is_false(other) {
+        return Visited::Conflict;
+    }
+    force(arena, assigned, head, w.clause, other);
+    Visited::Stays
+}
