@@ -4,3 +4,5 @@ pub mod Steps
 pub mod Back
 pub mod Settled
 pub mod Visits
+pub mod Moved
+pub mod Walks

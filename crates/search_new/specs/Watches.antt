@@ -1,9 +1,10 @@
 -- Two watched literals: what propagation owes of each clause.
-use Rattle.std.specs.Prelude.{ℕ, ◌≡◌, ◌+◌, ◌-◌, ◌<◌, ◌≤◌, true, false, List, ◌++◌, length, take, Option, Some, None}
+use Rattle.std.specs.Prelude.{ℕ, ◌≡◌, ◌⊎◌, ◌+◌, ◌-◌, ◌<◌, ◌≤◌, true, false, List, ◌++◌, length, take, Option, Some, None}
 use Rattle.resolution_check.specs.declared.log.Lit.{Lit}
 use Rattle.resolution_check.specs.Trails.{holds, fails, AllFail}
 use Rattle.clause_arena.specs.declared.names.Watch.{Watch}
-use Rattle.clause_arena.specs.Links.{word, In}
+use Rattle.clause_arena.specs.Links.{word, In, places}
+use Rattle.clause_arena.specs.Watched.{rest}
 use Rattle.clause_arena.specs.Store.{Store}
 use Rattle.clause_arena.specs.Held.{lit_of, lits_of}
 use Rattle.conflict_analysis.specs.Steps.{OpensLevel}
@@ -47,3 +48,19 @@ abbrev pub IsFound : Store → List Lit → Watch → Visited → Type 0
 IsFound a steps w Stays = holds steps (literal a w.clause.0 (1 - w.side)) ≡ true
 IsFound a steps w (Moves to) = IsReplacement a steps w.clause.0 (Some to)
 IsFound a steps w Conflict = AllFail steps (lits_of a w.clause.0)
+
+-- ---- walks along the list of a literal that became false
+
+-- the other watch of the watch at a place is true
+abbrev pub OtherTrue : Store → List Lit → ℕ → Type 0
+OtherTrue a steps p =
+    (r side : ℕ) → In r a.refs → 2 ≤ word a.words r → side < 2 → p ≡ r + 2 + side
+    → holds steps (literal a r (1 - side)) ≡ true
+
+-- each watch in the list of a code is still to come, or its other watch is true
+pub record IsWalked (a : Store) (steps : List Lit) (before : Option Watch) (n : ℕ) : Type 0 where
+  pub walked : (p : ℕ) → In p (places a.words n) → In p (rest a before n) ⊎ OtherTrue a steps p
+
+-- each watch in the list of a code has its other watch true
+pub record AllTrue (a : Store) (steps : List Lit) (n : ℕ) : Type 0 where
+  pub other : (p : ℕ) → In p (places a.words n) → OtherTrue a steps p

@@ -5,8 +5,10 @@ mod assigned;
 mod laws;
 mod stepping;
 mod visiting;
+mod walking;
 
 pub use assigned::Assigned;
 pub use laws::watches_settle;
 pub use stepping::{assign, back_to};
-pub use visiting::{Visited, visit};
+pub use visiting::{Visited, move_watch, visit};
+pub use walking::visit_watches;

@@ -1,9 +1,10 @@
 //! Visits of watches whose literals have become false.
 
-ghost use Rattle.std.specs.Prelude.{◌≡◌, ◌<◌, ◌≤◌, true, length};
+ghost use Rattle.std.specs.Prelude.{◌≡◌, ◌<◌, ◌≤◌, true, Some, IfSome, length};
 ghost use Rattle.resolution_check.specs.Trails.{holds, fails, IsUnit};
 ghost use Rattle.clause_arena.specs.Held.{IsHeld, lits_of, size_of};
-ghost use Rattle.clause_arena.specs.Watched.{Stands, own};
+ghost use Rattle.clause_arena.specs.Moved.{Moves};
+ghost use Rattle.clause_arena.specs.Watched.{Stands, head, left, own, place, place_or};
 ghost use Rattle.conflict_analysis.specs.Steps.{IsTrail};
 ghost use Rattle.search_new.specs.Watches.{literal, Extends, IsFound, IsKept, IsReplacement};
 
@@ -49,34 +50,34 @@ fn replacement(arena: &Arena, assigned: &Assigned, clause: ClauseRef) -> Option<
 }
 
 /// Makes the literal true that a clause forces.
-fn force(arena: &Arena, assigned: &mut Assigned, head: usize, clause: ClauseRef, lit: Lit)
+fn force(arena: &Arena, assigned: &mut Assigned, looked_at: usize, clause: ClauseRef, lit: Lit)
     requires trail { IsTrail arena.now assigned.old.vars assigned.old.lits assigned.old.levels assigned.old.reasons }
-    requires kept { IsKept arena.now assigned.old.lits assigned.old.levels head }
-    requires head { head ≤ length assigned.old.lits }
+    requires kept { IsKept arena.now assigned.old.lits assigned.old.levels looked_at }
+    requires within { looked_at ≤ length assigned.old.lits }
     requires held { IsHeld arena.now clause }
     requires unit { IsUnit assigned.old.lits (lits_of arena.now clause.0) lit }
     requires below { lit.var < assigned.old.vars }
     ensures trail { IsTrail arena.now assigned.new.vars assigned.new.lits assigned.new.levels assigned.new.reasons }
-    ensures kept { IsKept arena.now assigned.new.lits assigned.new.levels head }
+    ensures kept { IsKept arena.now assigned.new.lits assigned.new.levels looked_at }
     ensures extends { Extends assigned.old.lits assigned.new.lits }
     ensures vars { assigned.new.vars ≡ assigned.old.vars }
     ensures holds { holds assigned.new.lits lit ≡ true }
 {
-    let _head = head;
+    let _looked_at = looked_at;
     let level = assigned.level();
     assign(arena, assigned, lit, level, Some(clause));
 }
 
 /// Looks at a watch whose literal is false, and makes the other watch true where it is forced.
-pub fn visit(arena: &Arena, assigned: &mut Assigned, head: usize, w: Watch) -> Visited
+pub fn visit(arena: &Arena, assigned: &mut Assigned, looked_at: usize, w: Watch) -> Visited
     requires vars { assigned.old.vars ≡ arena.now.vars }
     requires trail { IsTrail arena.now assigned.old.vars assigned.old.lits assigned.old.levels assigned.old.reasons }
-    requires kept { IsKept arena.now assigned.old.lits assigned.old.levels head }
-    requires head { head ≤ length assigned.old.lits }
+    requires kept { IsKept arena.now assigned.old.lits assigned.old.levels looked_at }
+    requires within { looked_at ≤ length assigned.old.lits }
     requires stands { Stands arena.now (own arena.now w) w }
     requires is_false { fails assigned.old.lits (literal arena.now w.clause.0 w.side) ≡ true }
     ensures trail { IsTrail arena.now assigned.new.vars assigned.new.lits assigned.new.levels assigned.new.reasons }
-    ensures kept { IsKept arena.now assigned.new.lits assigned.new.levels head }
+    ensures kept { IsKept arena.now assigned.new.lits assigned.new.levels looked_at }
     ensures extends { Extends assigned.old.lits assigned.new.lits }
     ensures vars { assigned.new.vars ≡ assigned.old.vars }
     ensures found { IsFound arena.now assigned.new.lits w result }
@@ -92,6 +93,36 @@ pub fn visit(arena: &Arena, assigned: &mut Assigned, head: usize, w: Watch) -> V
     if assigned.is_false(other) {
         return Visited::Conflict;
     }
-    force(arena, assigned, head, w.clause, other);
+    force(arena, assigned, looked_at, w.clause, other);
     Visited::Stays
+}
+
+/// Moves a watch whose literal is false to one that is not. Answers what came after it in its list.
+pub fn move_watch(
+    arena: &mut Arena,
+    assigned: &Assigned,
+    looked_at: usize,
+    before: Option<Watch>,
+    w: Watch,
+    to: u64,
+) -> Option<Watch>
+    requires trail { IsTrail arena.old assigned.now.vars assigned.now.lits assigned.now.levels assigned.now.reasons }
+    requires kept { IsKept arena.old assigned.now.lits assigned.now.levels looked_at }
+    requires stands { Stands arena.old (own arena.old w) w }
+    requires before { head arena.old before (own arena.old w) ≡ place w }
+    requires is_false { fails assigned.now.lits (literal arena.old w.clause.0 w.side) ≡ true }
+    requires not_false { IsReplacement arena.old assigned.now.lits w.clause.0 (Some to) }
+    ensures trail { IsTrail arena.new assigned.now.vars assigned.now.lits assigned.now.levels assigned.now.reasons }
+    ensures kept { IsKept arena.new assigned.now.lits assigned.now.levels looked_at }
+    ensures moves { Moves arena.old arena.new before w to }
+    ensures head { place_or result ≡ head arena.new before (own arena.old w) }
+    ensures stands { IfSome result (Stands arena.new (own arena.old w)) }
+    ensures fewer { left arena.new before (own arena.old w) < left arena.old before (own arena.old w) }
+{
+    let _count = assigned.len();
+    let _looked_at = looked_at;
+    arena.words_are_sound();
+    let next = arena.watch_move(before, w, to);
+    arena.words_are_sound();
+    next
 }

@@ -9,10 +9,10 @@ pub returns-clause-kept : goal.returns-clause-kept
 returns-clause-kept c =
     let a = c.args.arena.now in
     let old = c.args.assigned.now in
-    subst (λ (xs : List Lit). IsKept a xs c.assign.new.assigned.levels c.args.head) (sym c.assign.ensures.lits)
-    (subst (λ (xs : List ℕ). IsKept a (old.lits ++ c.args.lit ∷ []) xs c.args.head) (sym c.assign.ensures.levels)
-    (kept_push a old.lits old.levels c.args.head c.args.lit c.level-level.result c.requires.trail.level_count
-    c.requires.head c.level-level.ensures c.requires.kept))
+    subst (λ (xs : List Lit). IsKept a xs c.assign.new.assigned.levels c.args.looked_at) (sym c.assign.ensures.lits)
+    (subst (λ (xs : List ℕ). IsKept a (old.lits ++ c.args.lit ∷ []) xs c.args.looked_at) (sym c.assign.ensures.levels)
+    (kept_push a old.lits old.levels c.args.looked_at c.args.lit c.level-level.result c.requires.trail.level_count
+    c.requires.within c.level-level.ensures c.requires.kept))
 
 pub returns-clause-holds : goal.returns-clause-holds
 returns-clause-holds c =

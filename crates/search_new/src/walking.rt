@@ -1,0 +1,49 @@
+//! Walks along the list of a literal that became false, and propagation.
+
+ghost use Rattle.std.specs.Prelude.{◌≡◌, ◌<◌, ◌≤◌, true, None, IfSome, length};
+ghost use Rattle.resolution_check.specs.Trails.{fails};
+ghost use Rattle.clause_arena.specs.Held.{code_of};
+ghost use Rattle.conflict_analysis.specs.Steps.{IsConflict, IsTrail};
+ghost use Rattle.search_new.specs.Watches.{AllTrue, Extends, IsKept};
+
+use crate::assigned::Assigned;
+use crate::visiting::{Visited, move_watch, visit};
+use clause_arena::{Arena, ClauseRef, Watch};
+use resolution_check::Lit;
+
+/// Looks at each watch of a literal that is false. Answers a clause that is false, if there is one.
+pub fn visit_watches(
+    arena: &mut Arena,
+    assigned: &mut Assigned,
+    looked_at: usize,
+    lit: Lit,
+) -> Option<ClauseRef>
+    requires vars { assigned.old.vars ≡ arena.old.vars }
+    requires trail { IsTrail arena.old assigned.old.vars assigned.old.lits assigned.old.levels assigned.old.reasons }
+    requires kept { IsKept arena.old assigned.old.lits assigned.old.levels looked_at }
+    requires within { looked_at ≤ length assigned.old.lits }
+    requires below { lit.var < arena.old.vars }
+    requires is_false { fails assigned.old.lits lit ≡ true }
+    ensures vars { assigned.new.vars ≡ assigned.old.vars }
+    ensures arena_vars { arena.new.vars ≡ arena.old.vars }
+    ensures trail { IsTrail arena.new assigned.new.vars assigned.new.lits assigned.new.levels assigned.new.reasons }
+    ensures kept { IsKept arena.new assigned.new.lits assigned.new.levels looked_at }
+    ensures extends { Extends assigned.old.lits assigned.new.lits }
+    ensures conflict { IfSome result (IsConflict arena.new assigned.new.lits) }
+    ensures walked { result ≡ None → AllTrue arena.new assigned.new.lits (code_of lit) }
+{
+    let mut before: Option<Watch> = None;
+    let mut at = arena.first_watch(lit);
+    while let Some(w) = at {
+        match visit(arena, assigned, looked_at, w) {
+            Visited::Conflict => return Some(w.clause),
+            Visited::Moves(to) => at = move_watch(arena, assigned, looked_at, before, w, to),
+            Visited::Stays => {
+                before = at;
+                at = arena.next_watch(w);
+            }
+        }
+    }
+    arena.words_are_sound();
+    None
+}
