@@ -1,6 +1,6 @@
 -- Walks along the list of a literal that became false.
 use Rattle.std.proofs.Common.{◌≡◌, ◌≢◌, ◌⊎◌, ℕ, ◌+◌, ◌-◌, ◌*◌, ◌%◌, ◌<◌, ◌≤◌, ◌==◌, Bool, true, false, cond, List, []}
-use Rattle.std.proofs.Common.{◌∷◌, Option, Some, None, inl, inr, refl, sym, ap, subst, ◌∙◌, arith}
+use Rattle.std.proofs.Common.{◌++◌, ◌/◌, length, length-append, append-nil, append_assoc, ◌∷◌, Option, Some, None, inl, inr, refl, sym, ap, subst, ◌∙◌, arith}
 use Rattle.std.proofs.lemmas.Bool.{cases_Bool, cases_eq, eq-eqb}
 use Rattle.resolution_check.specs.declared.log.Lit.{Lit}
 use Rattle.resolution_check.specs.Trails.{holds, fails}
@@ -8,12 +8,17 @@ use Rattle.resolution_check.proofs.Values.{not_both}
 use Rattle.clause_arena.specs.declared.names.Watch.{Watch}
 use Rattle.clause_arena.specs.Links.{word, In, Threads, places, after, cut, first}
 use Rattle.clause_arena.specs.Store.{Store, IsSound}
+use Rattle.std.specs.Prelude.{IfSome}
+use Rattle.resolution_check.specs.Clauses.{opposite}
+use Rattle.resolution_check.proofs.Literals.{opposite_twice}
+use Rattle.clause_arena.specs.Held.{lit_of, code_of}
 use Rattle.clause_arena.specs.Moved.{Moves}
 use Rattle.clause_arena.specs.Watched.{place, own, Stands, rest, head, link_of}
 use Rattle.clause_arena.proofs.Threads.{threads_one, after_threads}
 use Rattle.clause_arena.proofs.Walks.{followed}
-use Rattle.search_new.specs.Watches.{literal, OtherTrue, IsWalked, AllTrue}
+use Rattle.search_new.specs.Watches.{literal, AllTrue, Extends, IsWalked, OtherTrue}
 use Rattle.search_new.proofs.Moved.{still}
+use Rattle.search_new.proofs.Visits.{holds_append}
 
 -- ---- lists
 
@@ -219,3 +224,54 @@ module _ (old new : Store) (before : Option Watch) (w : Watch) (to n : ℕ) (sou
                 ]
               ]);
         }
+
+-- ---- what a walk keeps
+
+-- a literal is that of its code
+pub lit_back : (l : Lit) → lit_of (code_of l) ≡ l
+lit_back l = by l.negated refl
+  where
+    by : (b : Bool) → l.negated ≡ b → lit_of (code_of l) ≡ l
+    by true e =
+        let code : code_of l ≡ 2 * l.var + 1 = ap (λ (c : Bool). 2 * l.var + cond c 1 0) e in
+        let half : code_of l / 2 ≡ l.var = omega arith in
+        let odd : code_of l % 2 ≡ 1 = omega arith in
+        let sign : (code_of l % 2 == 1) ≡ l.negated = eq-eqb (code_of l % 2) 1 odd ∙ sym e in
+        λ i. record { var = half i; negated = sign i }
+    by false e =
+        let code : code_of l ≡ 2 * l.var + 0 = ap (λ (c : Bool). 2 * l.var + cond c 1 0) e in
+        let half : code_of l / 2 ≡ l.var = omega arith in
+        let even : code_of l % 2 ≡ 0 = omega arith in
+        let sign : (code_of l % 2 == 1) ≡ l.negated = ap (λ (k : ℕ). k == 1) even ∙ sym e in
+        λ i. record { var = half i; negated = sign i }
+
+fails_append : (ls ms : List Lit) (l : Lit) → fails ls l ≡ true → fails (ls ++ ms) l ≡ true
+fails_append ls ms l h =
+    subst (λ (k : Lit). fails (ls ++ ms) k ≡ true) (opposite_twice l)
+    (holds_append ls ms (opposite l) (subst (λ (k : Lit). fails ls k ≡ true) (sym (opposite_twice l)) h))
+
+pub more_false : (old new : List Lit) (l : Lit) → Extends old new → fails old l ≡ true → fails new l ≡ true
+more_false old new l x h = subst (λ (ls : List Lit). fails ls l ≡ true) (sym x.is) (fails_append old x.more l h)
+
+pub more_true : (old new : List Lit) (l : Lit) → Extends old new → holds old l ≡ true → holds new l ≡ true
+more_true old new l x h = subst (λ (ls : List Lit). holds ls l ≡ true) (sym x.is) (holds_append old x.more l h)
+
+pub extends_same : (ls : List Lit) → Extends ls ls
+extends_same ls = record { more = []; is = sym (append-nil ls) }
+
+pub extends_then : (old middle new : List Lit) → Extends old middle → Extends middle new → Extends old new
+extends_then old middle new x y = record {
+  more = x.more ++ y.more;
+  is = y.is ∙ ap (λ (ls : List Lit). ls ++ y.more) x.is ∙ append_assoc old x.more y.more;
+}
+
+pub extends_within : (old new : List Lit) (n : ℕ) → Extends old new → n ≤ length old → n ≤ length new
+extends_within old new n x low =
+    let e : length new ≡ length old + length x.more = ap length x.is ∙ length-append old x.more in omega arith
+
+-- the watch that was found stands in the list
+pub stands_at : (a : Store) (n : ℕ) (o : Option Watch) (w : Watch) → o ≡ Some w → IfSome o (Stands a n) → Stands a n w
+stands_at a n o w e h = subst (λ (p : Option Watch). IfSome p (Stands a n)) e h
+
+pub own_literal : (a : Store) (l : Lit) (w : Watch) → Stands a (code_of l) w → literal a w.clause.0 w.side ≡ l
+own_literal a l w st = ap lit_of st.code ∙ lit_back l

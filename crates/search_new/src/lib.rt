@@ -10,5 +10,5 @@ mod walking;
 pub use assigned::Assigned;
 pub use laws::watches_settle;
 pub use stepping::{assign, back_to};
-pub use visiting::{Visited, move_watch, visit};
+pub use visiting::{Visited, move_watch, pass_watch, visit};
 pub use walking::visit_watches;

@@ -1,12 +1,14 @@
 //! Visits of watches whose literals have become false.
 
-ghost use Rattle.std.specs.Prelude.{◌≡◌, ◌<◌, ◌≤◌, true, Some, IfSome, length};
+ghost use Rattle.std.specs.Prelude.{◌≡◌, ◌<◌, ◌≤◌, true, Option, Some, IfSome, length};
 ghost use Rattle.resolution_check.specs.Trails.{holds, fails, IsUnit};
 ghost use Rattle.clause_arena.specs.Held.{IsHeld, lits_of, size_of};
+ghost use Rattle.clause_arena.specs.declared.names.Watch.{Watch};
 ghost use Rattle.clause_arena.specs.Moved.{Moves};
+ghost use Rattle.search_new.specs.declared.visiting.Visited.TheVariants.{Stays};
 ghost use Rattle.clause_arena.specs.Watched.{Stands, head, left, own, place, place_or};
 ghost use Rattle.conflict_analysis.specs.Steps.{IsTrail};
-ghost use Rattle.search_new.specs.Watches.{literal, Extends, IsFound, IsKept, IsReplacement};
+ghost use Rattle.search_new.specs.Watches.{literal, Extends, IsFound, IsKept, IsReplacement, IsWalked};
 
 use crate::assigned::Assigned;
 use crate::stepping::assign;
@@ -118,6 +120,8 @@ pub fn move_watch(
     ensures head { place_or result ≡ head arena.new before (own arena.old w) }
     ensures stands { IfSome result (Stands arena.new (own arena.old w)) }
     ensures fewer { left arena.new before (own arena.old w) < left arena.old before (own arena.old w) }
+    ensures walked { IsWalked arena.old assigned.now.lits before (own arena.old w)
+        → IsWalked arena.new assigned.now.lits before (own arena.old w) }
 {
     let _count = assigned.len();
     let _looked_at = looked_at;
@@ -125,4 +129,21 @@ pub fn move_watch(
     let next = arena.watch_move(before, w, to);
     arena.words_are_sound();
     next
+}
+
+/// Passes a watch that stays, since the other one is true. Answers what comes after it in its list.
+pub fn pass_watch(arena: &Arena, assigned: &Assigned, w: Watch) -> Option<Watch>
+    requires stands { Stands arena.now (own arena.now w) w }
+    requires other { IsFound arena.now assigned.now.lits w Stays }
+    ensures head { place_or result ≡ head arena.now (Some w) (own arena.now w) }
+    ensures stands { IfSome result (Stands arena.now (own arena.now w)) }
+    ensures fewer { (before : Option Watch) → head arena.now before (own arena.now w) ≡ place w
+        → left arena.now (Some w) (own arena.now w) < left arena.now before (own arena.now w) }
+    ensures walked { (before : Option Watch) → head arena.now before (own arena.now w) ≡ place w
+        → IsWalked arena.now assigned.now.lits before (own arena.now w)
+        → IsWalked arena.now assigned.now.lits (Some w) (own arena.now w) }
+{
+    let _count = assigned.len();
+    arena.words_are_sound();
+    arena.next_watch(w)
 }

@@ -7,7 +7,7 @@ ghost use Rattle.conflict_analysis.specs.Steps.{IsConflict, IsTrail};
 ghost use Rattle.search_new.specs.Watches.{AllTrue, Extends, IsKept};
 
 use crate::assigned::Assigned;
-use crate::visiting::{Visited, move_watch, visit};
+use crate::visiting::{Visited, move_watch, pass_watch, visit};
 use clause_arena::{Arena, ClauseRef, Watch};
 use resolution_check::Lit;
 
@@ -32,6 +32,7 @@ pub fn visit_watches(
     ensures conflict { IfSome result (IsConflict arena.new assigned.new.lits) }
     ensures walked { result ≡ None → AllTrue arena.new assigned.new.lits (code_of lit) }
 {
+    arena.words_are_sound();
     let mut before: Option<Watch> = None;
     let mut at = arena.first_watch(lit);
     while let Some(w) = at {
@@ -39,8 +40,8 @@ pub fn visit_watches(
             Visited::Conflict => return Some(w.clause),
             Visited::Moves(to) => at = move_watch(arena, assigned, looked_at, before, w, to),
             Visited::Stays => {
-                before = at;
-                at = arena.next_watch(w);
+                before = Some(w);
+                at = pass_watch(arena, assigned, w);
             }
         }
     }

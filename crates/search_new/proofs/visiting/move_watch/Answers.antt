@@ -1,4 +1,6 @@
 use Rattle.search_new.proofs.Moved.{trail_moved, kept_moved}
+use Rattle.search_new.proofs.Walks.{walk_moved}
+use Rattle.clause_arena.specs.Watched.{own}
 use Rattle.search_new.proofs.visiting.move_watch.Goals as goal
 
 pub returns-clause-trail : goal.returns-clause-trail
@@ -17,3 +19,10 @@ returns-clause-kept c =
     c.words_are_sound.ensures c.words_are_sound-2.ensures c.watch_move-next.ensures.moves s.held s.low
     c.requires.not_false.0 c.requires.not_false.1 ls.lits c.requires.is_false c.requires.not_false.2 ls.levels
     c.args.looked_at c.requires.kept
+
+pub returns-clause-walked : goal.returns-clause-walked
+returns-clause-walked c = λ walk.
+    walk_moved c.args.arena.now c.watch_move-next.new.self c.args.before c.args.w c.args.to
+    (own c.args.arena.now c.args.w) c.words_are_sound.ensures c.words_are_sound-2.ensures
+    c.watch_move-next.ensures.moves c.requires.stands c.requires.not_false.0 c.requires.not_false.1 c.requires.before
+    c.args.assigned.now.lits c.requires.is_false walk
