@@ -1,5 +1,5 @@
 -- The move of a watch to a literal that is not false: the trail follows as before, and the watches are kept.
-use Rattle.std.proofs.Common.{◌≡◌, ◌≢◌, ℕ, ◌+◌, ◌-◌, ◌<◌, ◌≤◌, Bool, true, false, List, length, take, Option, inl, inr}
+use Rattle.std.proofs.Common.{◌≡◌, ◌≢◌, ℕ, ◌-◌, ◌<◌, ◌≤◌, true, false, List, take, Option, inl, inr}
 use Rattle.std.proofs.Common.{refl, sym, ap, subst, ◌∙◌, arith}
 use Rattle.std.proofs.lemmas.Bool.{cases_eq, false≢true}
 use Rattle.resolution_check.specs.declared.log.Lit.{Lit}
@@ -13,8 +13,8 @@ use Rattle.clause_arena.specs.Links.{word, In}
 use Rattle.clause_arena.specs.Store.{Store, IsSound}
 use Rattle.clause_arena.specs.Held.{lit_of, lits_of}
 use Rattle.clause_arena.specs.Moved.{Moves}
-use Rattle.conflict_analysis.specs.Steps.{IsForcedBy, IsTrail, OpensLevel}
-use Rattle.conflict_analysis.specs.Levels.{count_to, steps_to}
+use Rattle.conflict_analysis.specs.Steps.{IsForcedBy, IsTrail}
+use Rattle.conflict_analysis.specs.Levels.{steps_to}
 use Rattle.conflict_analysis.proofs.Followed.{front_fails}
 use Rattle.search_new.specs.Watches.{literal, AreWatched, IsKept}
 use Rattle.search_new.proofs.Visits.{literal_at, literal_in}

@@ -44,7 +44,7 @@ numbered_at f (r ∷ refs) id c h = elim (cases_Bool ((f r).0 == id)) [
 ]
 
 -- two codes of one literal are one
-same_code : (x y : ℕ) → lit_of x ≡ lit_of y → x ≡ y
+pub same_code : (x y : ℕ) → lit_of x ≡ lit_of y → x ≡ y
 same_code x y e =
     let half : x / 2 ≡ y / 2 = ap (λ (l : Lit). l.var) e in
     let sign : (x % 2 == 1) ≡ (y % 2 == 1) = ap (λ (l : Lit). l.negated) e in

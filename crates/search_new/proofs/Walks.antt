@@ -1,10 +1,15 @@
 -- Walks along the list of a literal that became false.
-use Rattle.std.proofs.Common.{◌≡◌, ◌≢◌, ◌⊎◌, ℕ, ◌+◌, ◌-◌, ◌*◌, ◌%◌, ◌<◌, ◌≤◌, ◌==◌, Bool, true, false, cond, List, []}
+use Rattle.std.proofs.Common.{◌≡◌, ◌⊎◌, ℕ, ◌+◌, ◌-◌, ◌*◌, ◌%◌, ◌<◌, ◌≤◌, ◌==◌, Bool, true, false, cond, List, []}
 use Rattle.std.proofs.Common.{◌++◌, ◌/◌, length, length-append, append-nil, append_assoc, ◌∷◌, Option, Some, None, inl, inr, refl, sym, ap, subst, ◌∙◌, arith}
-use Rattle.std.proofs.lemmas.Bool.{cases_Bool, cases_eq, eq-eqb}
+use Rattle.std.proofs.Common.{not, take, slice_get}
+use Rattle.std.specs.Bool.{beq}
+use Rattle.std.proofs.lemmas.Bool.{cases_Bool, cases_eq, eq-eqb, eqb-true}
+use Rattle.std.proofs.lemmas.List.{take-take}
+use Rattle.mw_text.proofs.Lists.{beq-true}
 use Rattle.resolution_check.specs.declared.log.Lit.{Lit}
-use Rattle.resolution_check.specs.Trails.{holds, fails}
-use Rattle.resolution_check.proofs.Values.{not_both}
+use Rattle.resolution_check.specs.Trails.{value_of, is_value, holds, fails}
+use Rattle.resolution_check.proofs.Values.{not_both, value_of-keeps, value_of-last, value_of-other}
+use Rattle.resolution_check.proofs.Variables.{take_at}
 use Rattle.clause_arena.specs.declared.names.Watch.{Watch}
 use Rattle.clause_arena.specs.Links.{word, In, Threads, places, after, cut, first}
 use Rattle.clause_arena.specs.Store.{Store, IsSound}
@@ -13,12 +18,15 @@ use Rattle.resolution_check.specs.Clauses.{opposite}
 use Rattle.resolution_check.proofs.Literals.{opposite_twice}
 use Rattle.clause_arena.specs.Held.{lit_of, code_of}
 use Rattle.clause_arena.specs.Moved.{Moves}
-use Rattle.clause_arena.specs.Watched.{place, own, Stands, rest, head, link_of}
+use Rattle.clause_arena.specs.Watched.{place, Stands, rest, head, link_of}
 use Rattle.clause_arena.proofs.Threads.{threads_one, after_threads}
 use Rattle.clause_arena.proofs.Walks.{followed}
-use Rattle.search_new.specs.Watches.{literal, AllTrue, Extends, IsWalked, OtherTrue}
+use Rattle.search_new.specs.Watches.{literal, AllTrue, Extends, IsKept, IsWalked, OtherTrue}
 use Rattle.search_new.proofs.Moved.{still}
+use Rattle.search_new.proofs.Places.{slice_get-front}
+use Rattle.search_new.proofs.Settled.{same_code}
 use Rattle.search_new.proofs.Visits.{holds_append}
+use Rattle.conflict_analysis.proofs.Followed.{front_fails}
 
 -- ---- lists
 
@@ -275,3 +283,69 @@ stands_at a n o w e h = subst (λ (p : Option Watch). IfSome p (Stands a n)) e h
 
 pub own_literal : (a : Store) (l : Lit) (w : Watch) → Stands a (code_of l) w → literal a w.clause.0 w.side ≡ l
 own_literal a l w st = ap lit_of st.code ∙ lit_back l
+
+-- ---- one literal more was looked at
+
+-- what is false by one step more was so before, or is its negation
+fails_more : (ls : List Lit) (t x : Lit) → fails (ls ++ t ∷ []) x ≡ true → (fails ls x ≡ true) ⊎ (x ≡ opposite t)
+fails_more ls t x h = by (value_of ls x.var) refl
+  where
+    flip : (a b : Bool) → beq (not a) b ≡ true → b ≡ not a
+    flip a b g = sym (beq-true (not a) b g)
+
+    by : (o : Option Bool) → value_of ls x.var ≡ o → (fails ls x ≡ true) ⊎ (x ≡ opposite t)
+    by (Some b) e = inl (ap (λ o. is_value o x.negated) e
+        ∙ sym (ap (λ o. is_value o x.negated) (value_of-keeps ls (t ∷ []) x.var b e)) ∙ h)
+    by None e = elim (cases_Bool (t.var == x.var)) [
+      | inr other ↦ inl (ap (λ o. is_value o x.negated) (sym (value_of-other ls t x.var other)) ∙ h)
+      | inl here ↦
+          let v : x.var ≡ t.var = sym (eqb-true t.var x.var here) in
+          let value : value_of (ls ++ t ∷ []) x.var ≡ Some (not t.negated) =
+          ap (value_of (ls ++ t ∷ [])) v ∙ value_of-last ls t (ap (value_of ls) (sym v) ∙ e) in
+          let sign : x.negated ≡ not t.negated =
+          flip t.negated x.negated (sym (ap (λ o. is_value o x.negated) value) ∙ h) in
+          inr (λ i. record { var = v i; negated = sign i })
+    ]
+
+pub looked_more : (a : Store) (lits : List Lit) (levels : List ℕ) (at : ℕ) (t : Lit) → IsSound a.vars a.words a.refs
+    → slice_get lits at ≡ Some t → AllTrue a lits (code_of (opposite t)) → IsKept a lits levels at
+    → IsKept a lits levels (at + 1)
+looked_more a lits levels at t sound there all k = record {
+  filled = k.filled;
+  ones = k.ones;
+  before = k.before;
+  now = λ r side i two low falls.
+      elim (fails_more (take at lits) t (literal a r side)
+      (sym (ap (λ ls. fails ls (literal a r side)) (take_at lits at t there)) ∙ falls)) [
+        | inl was ↦ k.now r side i two low was
+        | inr is ↦
+            let code : word a.words (r + 4 + side) ≡ code_of (opposite t) =
+            same_code (word a.words (r + 4 + side)) (code_of (opposite t)) (is ∙ sym (lit_back (opposite t))) in
+            all.other (r + 2 + side)
+            (subst (λ (n : ℕ). In (r + 2 + side) (places a.words n)) code (sound.linked.listed r side i two low))
+            r side i two low refl
+      ];
+}
+
+pub looked_less : (a : Store) (lits : List Lit) (levels : List ℕ) (n at : ℕ) → n ≤ at → IsKept a lits levels at
+    → IsKept a lits levels n
+looked_less a lits levels n at low k = record {
+  filled = k.filled;
+  ones = k.ones;
+  before = k.before;
+  now = λ r side i two small falls.
+      k.now r side i two small
+      (front_fails (take at lits) n (literal a r side)
+      (ap (λ ls. fails ls (literal a r side)) (take-take n at lits low) ∙ falls));
+}
+
+-- all literals were looked at
+pub looked_all : (a : Store) (lits : List Lit) (levels : List ℕ) (at : ℕ) → at ≤ length lits → length lits ≤ at
+    → IsKept a lits levels at → IsKept a lits levels (length lits)
+looked_all a lits levels at low high k =
+    let e : at ≡ length lits = omega arith in subst (IsKept a lits levels) e k
+
+pub still_there : (old new : List Lit) (at : ℕ) (t : Lit) → Extends old new → slice_get old at ≡ Some t
+    → slice_get new at ≡ Some t
+still_there old new at t x there =
+    subst (λ (ls : List Lit). slice_get ls at ≡ Some t) (sym x.is) (slice_get-front old x.more at t there)

@@ -11,4 +11,4 @@ pub use assigned::Assigned;
 pub use laws::watches_settle;
 pub use stepping::{assign, back_to};
 pub use visiting::{Visited, move_watch, pass_watch, visit};
-pub use walking::visit_watches;
+pub use walking::{propagate, visit_watches};

@@ -48,3 +48,34 @@ pub fn visit_watches(
     arena.words_are_sound();
     None
 }
+
+/// Propagates: looks at the literals from one on, and at those that are forced on the way. Answers a clause that is false,
+/// if there is one.
+pub fn propagate(arena: &mut Arena, assigned: &mut Assigned, from: usize) -> Option<ClauseRef>
+    requires vars { assigned.old.vars ≡ arena.old.vars }
+    requires trail { IsTrail arena.old assigned.old.vars assigned.old.lits assigned.old.levels assigned.old.reasons }
+    requires kept { IsKept arena.old assigned.old.lits assigned.old.levels from }
+    requires within { from ≤ length assigned.old.lits }
+    ensures vars { assigned.new.vars ≡ assigned.old.vars }
+    ensures arena_vars { arena.new.vars ≡ arena.old.vars }
+    ensures trail { IsTrail arena.new assigned.new.vars assigned.new.lits assigned.new.levels assigned.new.reasons }
+    ensures kept { IsKept arena.new assigned.new.lits assigned.new.levels from }
+    ensures extends { Extends assigned.old.lits assigned.new.lits }
+    ensures conflict { IfSome result (IsConflict arena.new assigned.new.lits) }
+    ensures full { result ≡ None → IsKept arena.new assigned.new.lits assigned.new.levels (length assigned.new.lits) }
+{
+    for at in from..usize::MAX {
+        if at >= assigned.len() {
+            return None;
+        }
+        let falsified = assigned.lit(at).opposite();
+        let found = visit_watches(arena, assigned, at, falsified);
+        if found.is_some() {
+            return found;
+        }
+        arena.words_are_sound();
+    }
+    // No trail is so long.
+    let _count = assigned.len();
+    None
+}

@@ -1,4 +1,3 @@
-use Rattle.std.proofs.Common.{◌*◌, ◌<◌, arith}
 use Rattle.clause_arena.specs.Watched.{own}
 use Rattle.clause_arena.proofs.Walks.{code_below}
 use Rattle.search_new.proofs.Walks.{walk_past}

@@ -1,9 +1,9 @@
-use Rattle.std.proofs.Common.{◌≡◌, ◌<◌, ℕ, true, Option, Some, refl, sym, ap, subst, ◌∙◌}
+use Rattle.std.proofs.Common.{◌≡◌, ◌<◌, ℕ, true, Some, refl, sym, ap, subst, ◌∙◌}
 use Rattle.std.specs.Prelude.{IfSome}
 use Rattle.resolution_check.specs.declared.log.Lit.{Lit}
 use Rattle.resolution_check.specs.Trails.{fails}
 use Rattle.clause_arena.specs.Held.{code_of}
-use Rattle.clause_arena.specs.Watched.{Stands, own, place, place_or, head}
+use Rattle.clause_arena.specs.Watched.{Stands, place, place_or, head}
 use Rattle.clause_arena.proofs.Codes.{code_low}
 use Rattle.search_new.specs.Watches.{IsWalked}
 use Rattle.search_new.proofs.Walks.{walk_begins, walk_ends, walk_later, more_false, more_true, extends_same}

@@ -1,4 +1,4 @@
-use Rattle.std.proofs.Common.{◌≡◌, ◌<◌, ◌≤◌, true, length}
+use Rattle.std.proofs.Common.{◌≡◌, ◌≤◌, true, length}
 use Rattle.std.specs.Prelude.{IfSome}
 use Rattle.resolution_check.specs.Trails.{fails}
 use Rattle.clause_arena.specs.Held.{code_of}
