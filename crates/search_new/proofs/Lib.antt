@@ -6,3 +6,4 @@ pub mod Settled
 pub mod Visits
 pub mod Moved
 pub mod Walks
+pub mod Learnt

@@ -36,7 +36,7 @@ last_item xs x y i past h =
 word_front : (levels : List ℕ) (n j : ℕ) → j < length levels → word (levels ++ n ∷ []) j ≡ word levels j
 word_front levels n j low = get_or_append_left levels (n ∷ []) 0 j low
 
-word_last : (levels : List ℕ) (n : ℕ) → word (levels ++ n ∷ []) (length levels) ≡ n
+pub word_last : (levels : List ℕ) (n : ℕ) → word (levels ++ n ∷ []) (length levels) ≡ n
 word_last levels n =
     get_or_from_slice_get (levels ++ n ∷ []) (length levels) n 0 (slice_get-seam levels n [])
 
@@ -66,7 +66,7 @@ module _ (levels : List ℕ) (n : ℕ) where
         let under : word levels i < word levels j = o.first i less in omega arith;
   }
 
-  rising_push : NeverFalls levels → last_level levels ≤ n → NeverFalls (levels ++ n ∷ [])
+  pub rising_push : NeverFalls levels → last_level levels ≤ n → NeverFalls (levels ++ n ∷ [])
   rising_push rising high j k low within = elim (cases_lt k (length levels)) [
     | inl front ↦
         let front_j : word (levels ++ n ∷ []) j ≡ word levels j = word_front levels n j (omega arith) in

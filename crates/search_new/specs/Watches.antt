@@ -1,14 +1,15 @@
 -- Two watched literals: what propagation owes of each clause.
-use Rattle.std.specs.Prelude.{ℕ, ◌≡◌, ◌⊎◌, ◌+◌, ◌-◌, ◌<◌, ◌≤◌, true, false, List, ◌++◌, length, take, Option, Some, None}
+use Rattle.std.specs.Prelude.{ℕ, ◌≡◌, ◌⊎◌, ◌+◌, ◌-◌, ◌<◌, ◌≤◌, true, false, List, ◌++◌, length, take, Option, Some, None, slice_get}
 use Rattle.resolution_check.specs.declared.log.Lit.{Lit}
-use Rattle.resolution_check.specs.Trails.{holds, fails, AllFail}
+use Rattle.resolution_check.specs.Trails.{holds, fails, AllFail, IsUnit}
 use Rattle.clause_arena.specs.declared.names.Watch.{Watch}
 use Rattle.clause_arena.specs.Links.{word, In, places}
 use Rattle.clause_arena.specs.Watched.{rest}
 use Rattle.clause_arena.specs.Store.{Store}
 use Rattle.clause_arena.specs.Held.{lit_of, lits_of}
 use Rattle.conflict_analysis.specs.Steps.{OpensLevel}
-use Rattle.conflict_analysis.specs.Levels.{steps_to}
+use Rattle.conflict_analysis.specs.Levels.{level_of, steps_to}
+use Rattle.search_new.specs.Trails.{last_level}
 use Rattle.search_new.specs.declared.visiting.Visited.{Visited}
 use Rattle.search_new.specs.declared.visiting.Visited.TheVariants.{Stays, Moves, Conflict}
 
@@ -64,3 +65,14 @@ pub record IsWalked (a : Store) (steps : List Lit) (before : Option Watch) (n : 
 -- each watch in the list of a code has its other watch true
 pub record AllTrue (a : Store) (steps : List Lit) (n : ℕ) : Type 0 where
   pub other : (p : ℕ) → In p (places a.words n) → OtherTrue a steps p
+
+-- ---- a clause that was learnt, once the steps above its second literal were taken back
+
+-- The first literal is the only one that is not false, and has no value; the second is of the last level, and where there
+-- is none that level is 0.
+pub record IsAsserting (steps : List Lit) (levels : List ℕ) (clause : List Lit) : Type 0 where
+  pub first : Lit
+  pub there : slice_get clause 0 ≡ Some first
+  pub unit : IsUnit steps clause first
+  pub second : (l : Lit) → slice_get clause 1 ≡ Some l → level_of steps levels l.var ≡ last_level levels
+  pub alone : length clause ≡ 1 → last_level levels ≡ 0

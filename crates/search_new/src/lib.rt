@@ -2,12 +2,14 @@
 #![tactic(auto)]
 
 mod assigned;
+mod holding;
 mod laws;
 mod stepping;
 mod visiting;
 mod walking;
 
 pub use assigned::Assigned;
+pub use holding::hold;
 pub use laws::watches_settle;
 pub use stepping::{assign, back_to};
 pub use visiting::{Visited, move_watch, pass_watch, visit};
