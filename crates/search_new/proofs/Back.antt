@@ -44,7 +44,7 @@ all_take p [] (suc n) all = refl
 all_take p (x ∷ xs) (suc n) all =
     let both = and_parts (p x) (list_all p xs) all in and_from _ _ both.0 (all_take p xs n both.1)
 
-slice_take : {X : Type 0} (xs : List X) (n i : ℕ) (x : X) → i < n → slice_get xs i ≡ Some x
+pub slice_take : {X : Type 0} (xs : List X) (n i : ℕ) (x : X) → i < n → slice_get xs i ≡ Some x
     → slice_get (take n xs) i ≡ Some x
 slice_take [] n i x low h = absurd (cc)
 slice_take (z ∷ xs) zero i x low h = absurd (omega arith)
@@ -52,7 +52,7 @@ slice_take (z ∷ xs) (suc n) zero x low h = h
 slice_take (z ∷ xs) (suc n) (suc i) x low h = slice_take xs n i x (omega arith) h
 
 module _ (levels : List ℕ) (n : ℕ) where
-  word_take : (j : ℕ) → j < n → word (take n levels) j ≡ word levels j
+  pub word_take : (j : ℕ) → j < n → word (take n levels) j ≡ word levels j
   word_take j low = get_or-take n levels j 0 low
 
   pub opens_whole : (at : ℕ) → at < n → OpensLevel (take n levels) at → OpensLevel levels at

@@ -1,15 +1,15 @@
 -- A learnt clause is held: the trail follows as before, and with its first literal the watches are kept.
-use Rattle.std.proofs.Common.{◌≡◌, ◌⊎◌, ℕ, zero, suc, ◌+◌, ◌-◌, ◌<◌, ◌≤◌, Bool, true, false, List, [], ◌∷◌, ◌++◌, map}
+use Rattle.std.proofs.Common.{◌≡◌, ◌⊎◌, ℕ, zero, suc, ◌+◌, ◌-◌, ◌<◌, ◌≤◌, true, List, [], ◌∷◌, ◌++◌, map}
 use Rattle.std.proofs.Common.{length, length-append, take, drop, take-append-drop, slice_get, Option, Some, None}
 use Rattle.std.proofs.Common.{is_some, inl, inr, refl, sym, ap, subst, ◌∙◌, arith}
-use Rattle.std.proofs.lemmas.Bool.{cases_eq, cases_lt, false≢true}
+use Rattle.std.proofs.lemmas.Bool.{cases_lt, false≢true}
 use Rattle.std.proofs.lemmas.List.{same_from_push, take-append-le, take_all}
-use Rattle.std.proofs.lemmas.Option.{get_or_from_slice_get, slice_get_within}
+use Rattle.std.proofs.lemmas.Option.{slice_get_within}
 use Rattle.std.proofs.Math.Seq.{take-append_seam}
 use Rattle.mw_text.proofs.Lists.{item_there}
 use Rattle.resolution_check.specs.declared.log.Lit.{Lit}
 use Rattle.resolution_check.specs.Clauses.{has}
-use Rattle.resolution_check.specs.Trails.{value_of, holds, fails, IsUnit}
+use Rattle.resolution_check.specs.Trails.{value_of, holds, fails}
 use Rattle.resolution_check.proofs.Values.{some_value, value_of-none}
 use Rattle.clause_arena.specs.declared.names.ClauseRef.{ClauseRef}
 use Rattle.clause_arena.specs.Links.{word, In}
@@ -21,7 +21,7 @@ use Rattle.conflict_analysis.specs.Steps.{IsForcedBy, IsTrail, OpensLevel}
 use Rattle.conflict_analysis.specs.Levels.{count_to, level_of, steps_to}
 use Rattle.conflict_analysis.proofs.Levels.{step_of, level_there}
 use Rattle.search_new.specs.Trails.{last_level}
-use Rattle.search_new.specs.Watches.{literal, AreWatched, IsAsserting, IsKept}
+use Rattle.search_new.specs.Watches.{literal, IsAsserting, IsKept}
 use Rattle.search_new.proofs.Back.{count_is}
 use Rattle.search_new.proofs.Steps.{last_highest, no_opening, opens_front, rising_push, word_last}
 use Rattle.search_new.proofs.Visits.{holds_last, kept_push}

@@ -7,3 +7,4 @@ pub mod Visits
 pub mod Moved
 pub mod Walks
 pub mod Learnt
+pub mod Asserts

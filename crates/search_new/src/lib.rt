@@ -4,6 +4,7 @@
 mod assigned;
 mod holding;
 mod laws;
+mod learning;
 mod stepping;
 mod visiting;
 mod walking;
@@ -11,6 +12,7 @@ mod walking;
 pub use assigned::Assigned;
 pub use holding::hold;
 pub use laws::watches_settle;
+pub use learning::{assert_clause, learn};
 pub use stepping::{assign, back_to};
 pub use visiting::{Visited, move_watch, pass_watch, visit};
 pub use walking::{propagate, visit_watches};

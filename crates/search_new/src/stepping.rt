@@ -1,6 +1,6 @@
 //! Steps of a trail: one more, and back to a level. The arena is passed for the conditions alone.
 
-ghost use Rattle.std.specs.Prelude.{◌≡◌, ◌<◌, [], ◌∷◌, ◌++◌, None};
+ghost use Rattle.std.specs.Prelude.{◌≡◌, ◌<◌, [], ◌∷◌, ◌++◌, None, length, take};
 ghost use Rattle.resolution_check.specs.Trails.{value_of};
 ghost use Rattle.conflict_analysis.specs.Steps.{IsTrail, NeverFalls};
 ghost use Rattle.conflict_analysis.specs.Levels.{count_to, steps_to};
@@ -54,6 +54,8 @@ pub fn back_to(arena: &Arena, assigned: &mut Assigned, head: usize, level: u64) 
     ensures trail { IsTrail arena.now assigned.new.vars assigned.new.lits assigned.new.levels assigned.new.reasons }
     ensures kept { IsKept arena.now assigned.new.lits assigned.new.levels result }
     ensures lits { assigned.new.lits ≡ steps_to assigned.old.lits assigned.old.levels level }
+    ensures levels { assigned.new.levels ≡ take (count_to assigned.old.levels level) assigned.old.levels }
+    ensures all { result ≡ length assigned.new.lits }
     ensures vars { assigned.new.vars ≡ assigned.old.vars }
 {
     let _arena = arena;

@@ -1,8 +1,7 @@
-use Rattle.std.proofs.Common.{◌≡◌, ℕ, ◌++◌, ◌∷◌, [], List, Some, false, length, inr, refl, sym, ap, subst, ◌∙◌}
+use Rattle.std.proofs.Common.{ℕ, ◌++◌, ◌∷◌, [], List, false, length, inr, refl, sym, ap, subst, ◌∙◌}
 use Rattle.std.proofs.lemmas.Option.{get_or_from_slice_get}
 use Rattle.resolution_check.specs.declared.log.Lit.{Lit}
 use Rattle.conflict_analysis.specs.Steps.{IsForcedBy}
-use Rattle.search_new.specs.Trails.{last_level, MayFollow}
 use Rattle.search_new.specs.Watches.{IsKept}
 use Rattle.search_new.proofs.Learnt.{trail_added, forced_first, kept_learnt}
 use Rattle.search_new.proofs.holding.hold.Goals as goal

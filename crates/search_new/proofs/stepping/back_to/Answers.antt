@@ -1,10 +1,10 @@
-use Rattle.std.proofs.Common.{◌≡◌, ℕ, List, Option, take, sym, subst, ap, ◌∙◌}
+use Rattle.std.proofs.Common.{◌≡◌, ◌≤◌, ℕ, List, Option, length, length-take, min, take, sym, subst, ap, ◌∙◌, arith}
 use Rattle.resolution_check.specs.declared.log.Lit.{Lit}
 use Rattle.clause_arena.specs.declared.names.ClauseRef.{ClauseRef}
 use Rattle.conflict_analysis.specs.Steps.{IsTrail}
 use Rattle.conflict_analysis.specs.Levels.{count_to}
 use Rattle.search_new.specs.Watches.{IsKept}
-use Rattle.search_new.proofs.Back.{trail_cut, kept_back, some_behind}
+use Rattle.search_new.proofs.Back.{count_within, trail_cut, kept_back, some_behind}
 use Rattle.search_new.proofs.stepping.back_to.Goals as goal
 
 pub returns-clause-trail : goal.returns-clause-trail
@@ -37,3 +37,14 @@ returns-clause-kept c =
     (take (count_to old.levels c.args.level) old.levels) k) (sym e)
     (kept_back a old.lits old.levels c.args.level c.args.head c.requires.trail.level_count c.requires.trail.rising
     c.requires.kept (some_behind old.levels c.args.level c.requires.some))))
+
+pub returns-clause-all : goal.returns-clause-all
+returns-clause-all c =
+    let e : c.count_up_to-left.result ≡ count_to c.args.assigned.now.levels c.args.level =
+    c.count_up_to-left.ensures
+    ∙ ap (λ (ns : List ℕ). count_to ns c.args.level) (c.deref.ensures.value ∙ c.trail.ensures.levels) in
+    let within : count_to c.args.assigned.now.levels c.args.level ≤ length c.args.assigned.now.levels =
+    count_within c.args.assigned.now.levels c.args.level in
+    let short : length c.cut.new.self.lits ≡ min c.count_up_to-left.result (length c.args.assigned.now.lits) =
+    ap length c.cut.ensures.lits ∙ length-take c.count_up_to-left.result c.args.assigned.now.lits in
+    omega (arith, c.requires.trail.level_count)
