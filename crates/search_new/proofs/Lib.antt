@@ -8,3 +8,4 @@ pub mod Moved
 pub mod Walks
 pub mod Learnt
 pub mod Asserts
+pub mod Decided

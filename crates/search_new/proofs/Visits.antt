@@ -121,7 +121,7 @@ holds_append ls ms l h = by (value_of ls l.var) refl h
 pub holds_last : (ls : List Lit) (l : Lit) → value_of ls l.var ≡ None → holds (ls ++ l ∷ []) l ≡ true
 holds_last ls l free = ap (λ o. is_value o (not l.negated)) (value_of-last ls l free) ∙ itself (not l.negated)
 
-count_push : (levels : List ℕ) (n : ℕ) → count_to levels 0 ≤ count_to (levels ++ n ∷ []) 0
+pub count_push : (levels : List ℕ) (n : ℕ) → count_to levels 0 ≤ count_to (levels ++ n ∷ []) 0
 count_push [] n = omega arith
 count_push (m ∷ levels) n = elim (cases_Bool (leb m 0)) [
   | inl is ↦

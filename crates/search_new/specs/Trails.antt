@@ -69,3 +69,8 @@ pub record Grows (old new : Assigned) : Type 0 where
   pub levels : new.levels ≡ old.levels ++ later
   pub same_length : length later ≡ length more
   pub none_opened : (n : ℕ) → In n later → n ≡ last_level old.levels
+
+-- the literal's variable is one, and has no value
+pub record IsFree (vars : ℕ) (steps : List Lit) (l : Lit) : Type 0 where
+  pub below : l.var < vars
+  pub free : value_of steps l.var ≡ None

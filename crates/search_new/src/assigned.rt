@@ -145,6 +145,20 @@ impl Assigned {
         last_of(&self.trail.levels)
     }
 
+    /// How many variables there are.
+    pub fn vars(&self) -> u64
+        ensures { result ≡ self.now.vars }
+    {
+        self.values.len() as u64
+    }
+
+    /// The values of all variables, as deciders see them.
+    pub fn values(&self) -> &[Value]
+        ensures { length result.now ≡ self.now.vars }
+    {
+        &self.values
+    }
+
     /// The value of a variable.
     pub fn value(&self, var: u64) -> Value
         requires { var < self.now.vars }

@@ -2,6 +2,7 @@
 #![tactic(auto)]
 
 mod assigned;
+mod deciding;
 mod holding;
 mod laws;
 mod learning;
@@ -10,6 +11,7 @@ mod visiting;
 mod walking;
 
 pub use assigned::Assigned;
+pub use deciding::{choose, decide, restart};
 pub use holding::hold;
 pub use laws::watches_settle;
 pub use learning::{assert_clause, learn};

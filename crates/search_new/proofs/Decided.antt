@@ -1,0 +1,67 @@
+-- Decisions: a literal more that opens a level, and variables without a value.
+use Rattle.std.proofs.Common.{◌≡◌, ℕ, ◌+◌, ◌-◌, ◌<◌, ◌≤◌, Bool, true, false, List, [], ◌∷◌, ◌++◌, length, length-append, take}
+use Rattle.std.proofs.Common.{Option, Some, None, is_some, inl, inr, refl, sym, ap, subst, ◌∙◌, arith}
+use Rattle.std.proofs.lemmas.Bool.{cases_lt}
+use Rattle.std.proofs.lemmas.List.{take-append-le, take_all}
+use Rattle.std.proofs.Math.Seq.{take-append_seam}
+use Rattle.resolution_check.specs.declared.log.Lit.{Lit}
+use Rattle.resolution_check.specs.Trails.{value_of, holds, fails, IsTotal}
+use Rattle.clause_arena.specs.Store.{Store}
+use Rattle.conflict_analysis.specs.Steps.{OpensLevel}
+use Rattle.conflict_analysis.specs.Levels.{count_to}
+use Rattle.deciders.specs.declared.decider.Value.{Value}
+use Rattle.deciders.specs.declared.decider.Value.TheVariants.{Free, False, True}
+use Rattle.search_new.specs.Trails.{shown}
+use Rattle.search_new.specs.Watches.{literal, AreWatched, IsKept}
+use Rattle.search_new.proofs.Back.{count_within}
+use Rattle.search_new.proofs.Settled.{holds_more}
+use Rattle.search_new.proofs.Steps.{opens_front}
+use Rattle.search_new.proofs.Visits.{count_push, holds_append}
+
+-- a variable that is shown free has no value
+pub free_shown : (o : Option Bool) → shown o ≡ Free → o ≡ None
+free_shown None h = refl
+free_shown (Some true) h = absurd (cc)
+free_shown (Some false) h = absurd (cc)
+
+-- and one that is not has one
+pub some_shown : (o : Option Bool) → (shown o ≡ Free → ⊥) → is_some o ≡ true
+some_shown None h = absurd (h refl)
+some_shown (Some b) h = refl
+
+pub total_more : (n : ℕ) (ls : List Lit) → IsTotal n ls → is_some (value_of ls n) ≡ true → IsTotal (n + 1) ls
+total_more n ls total here var below = elim (cases_lt var n) [
+  | inl less ↦ total var less
+  | inr last ↦ (let e : n ≡ var = omega arith in subst (λ (v : ℕ). is_some (value_of ls v) ≡ true) e here)
+]
+
+pub kept_decided : (a : Store) (lits : List Lit) (levels : List ℕ) (l : Lit) (level : ℕ)
+    → length levels ≡ length lits → IsKept a lits levels (length lits)
+    → IsKept a (lits ++ l ∷ []) (levels ++ level ∷ []) (length lits)
+kept_decided a lits levels l level len k =
+    let whole : take (length lits) lits ≡ lits = take_all (length lits) lits (omega arith) in
+    let now : AreWatched a lits lits = subst (λ (ls : List Lit). AreWatched a ls lits) whole k.now in
+    record {
+      filled = k.filled;
+      ones = λ r i one.
+          (let count : count_to levels 0 ≤ length levels = count_within levels 0 in
+          holds_more (count_to levels 0) (count_to (levels ++ level ∷ []) 0) (lits ++ l ∷ []) (literal a r 0)
+          (count_push levels level)
+          (ap (λ ls. holds ls (literal a r 0)) (take-append-le (count_to levels 0) lits (l ∷ []) (omega arith))
+          ∙ k.ones r i one));
+      before = λ at low o.
+          (let more : length (levels ++ level ∷ []) ≡ length levels + 1 = length-append levels (level ∷ []) in
+          elim (cases_lt at (length levels)) [
+            | inl front ↦ subst (λ (ls : List Lit). AreWatched a ls ls)
+                (sym (take-append-le at lits (l ∷ []) (omega arith)))
+                (k.before at front (opens_front levels level at front o))
+            | inr last ↦
+                let e : at ≡ length lits = omega arith in
+                subst (λ (ls : List Lit). AreWatched a ls ls)
+                (sym (ap (λ n. take n (lits ++ l ∷ [])) e ∙ take-append_seam lits (l ∷ []))) now
+          ]);
+      now = λ r side i two low falls.
+          holds_append lits (l ∷ []) (literal a r (1 - side))
+          (now r side i two low (ap (λ ls. fails ls (literal a r side)) (sym (take-append_seam lits (l ∷ [])))
+          ∙ falls));
+    }
