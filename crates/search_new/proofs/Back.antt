@@ -1,5 +1,5 @@
 -- The first steps of a trail alone, up to a level.
-use Rattle.std.proofs.Common.{◌≡◌, ℕ, zero, suc, ◌-◌, ◌<◌, ◌≤◌, Bool, true, cond, leb, List, [], ◌∷◌}
+use Rattle.std.proofs.Common.{◌+◌, ◌≡◌, ℕ, zero, suc, ◌-◌, ◌<◌, ◌≤◌, Bool, true, cond, leb, List, [], ◌∷◌}
 use Rattle.std.proofs.Common.{length, length-take, min, take, slice_get, Option, Some, None, inl, inr, refl, sym, ap}
 use Rattle.std.proofs.Common.{subst, ◌∙◌, arith, le-leb, leb-true}
 use Rattle.std.specs.Prelude.{nat_lt}
@@ -162,6 +162,10 @@ module _ (a : Store) (lits : List Lit) (levels : List ℕ) (level head : ℕ) (l
   pub kept_back : n < length levels → IsKept a (steps_to lits levels level) (take n levels) n
   kept_back less = record {
     filled = k.filled;
+    low = λ at within.
+        (let short : length (take n levels) ≡ min n (length levels) = length-take n levels in
+        let e : word (take n levels) at ≡ word levels at = word_take levels n at (omega arith) in
+        let h : word levels at ≤ at + 1 = k.low at (omega arith) in omega arith);
     ones = λ r i one.
         subst (λ (ls : List Lit). holds ls (literal a r 0) ≡ true)
         (sym (ap (λ m. take m (take n lits)) same_ground

@@ -1,44 +1,25 @@
 -- Decisions: a literal more that opens a level, and variables without a value.
-use Rattle.std.proofs.Common.{◌≡◌, ℕ, ◌+◌, ◌-◌, ◌<◌, ◌≤◌, Bool, true, false, List, [], ◌∷◌, ◌++◌, length, length-append, take}
-use Rattle.std.proofs.Common.{Option, Some, None, is_some, inl, inr, refl, sym, ap, subst, ◌∙◌, arith}
+use Rattle.std.proofs.Common.{◌≡◌, ℕ, ◌+◌, ◌-◌, ◌≤◌, List, [], ◌∷◌, ◌++◌, length, length-append, take}
+use Rattle.std.proofs.Common.{inl, inr, sym, ap, subst, ◌∙◌, arith}
 use Rattle.std.proofs.lemmas.Bool.{cases_lt}
 use Rattle.std.proofs.lemmas.List.{take-append-le, take_all}
 use Rattle.std.proofs.Math.Seq.{take-append_seam}
 use Rattle.resolution_check.specs.declared.log.Lit.{Lit}
-use Rattle.resolution_check.specs.Trails.{value_of, holds, fails, IsTotal}
+use Rattle.resolution_check.specs.Trails.{holds, fails}
 use Rattle.clause_arena.specs.Store.{Store}
-use Rattle.conflict_analysis.specs.Steps.{OpensLevel}
 use Rattle.conflict_analysis.specs.Levels.{count_to}
-use Rattle.deciders.specs.declared.decider.Value.{Value}
-use Rattle.deciders.specs.declared.decider.Value.TheVariants.{Free, False, True}
-use Rattle.search_new.specs.Trails.{shown}
+use Rattle.search_new.specs.Trails.{last_level}
 use Rattle.search_new.specs.Watches.{literal, AreWatched, IsKept}
 use Rattle.search_new.proofs.Back.{count_within}
 use Rattle.search_new.proofs.Settled.{holds_more}
-use Rattle.search_new.proofs.Steps.{opens_front}
+use Rattle.search_new.proofs.Steps.{last_small, low_push, opens_front}
 use Rattle.search_new.proofs.Visits.{count_push, holds_append}
 
--- a variable that is shown free has no value
-pub free_shown : (o : Option Bool) → shown o ≡ Free → o ≡ None
-free_shown None h = refl
-free_shown (Some true) h = absurd (cc)
-free_shown (Some false) h = absurd (cc)
-
--- and one that is not has one
-pub some_shown : (o : Option Bool) → (shown o ≡ Free → ⊥) → is_some o ≡ true
-some_shown None h = absurd (h refl)
-some_shown (Some b) h = refl
-
-pub total_more : (n : ℕ) (ls : List Lit) → IsTotal n ls → is_some (value_of ls n) ≡ true → IsTotal (n + 1) ls
-total_more n ls total here var below = elim (cases_lt var n) [
-  | inl less ↦ total var less
-  | inr last ↦ (let e : n ≡ var = omega arith in subst (λ (v : ℕ). is_some (value_of ls v) ≡ true) e here)
-]
-
+-- the watches are kept where all steps were looked at, and before the decision they were so
 pub kept_decided : (a : Store) (lits : List Lit) (levels : List ℕ) (l : Lit) (level : ℕ)
-    → length levels ≡ length lits → IsKept a lits levels (length lits)
+    → length levels ≡ length lits → level ≡ last_level levels + 1 → IsKept a lits levels (length lits)
     → IsKept a (lits ++ l ∷ []) (levels ++ level ∷ []) (length lits)
-kept_decided a lits levels l level len k =
+kept_decided a lits levels l level len next k =
     let whole : take (length lits) lits ≡ lits = take_all (length lits) lits (omega arith) in
     let now : AreWatched a lits lits = subst (λ (ls : List Lit). AreWatched a ls lits) whole k.now in
     record {
@@ -60,6 +41,8 @@ kept_decided a lits levels l level len k =
                 subst (λ (ls : List Lit). AreWatched a ls ls)
                 (sym (ap (λ n. take n (lits ++ l ∷ [])) e ∙ take-append_seam lits (l ∷ []))) now
           ]);
+      low = low_push levels level k.low
+          (let h : last_level levels ≤ length levels = last_small levels k.low in omega arith);
       now = λ r side i two low falls.
           holds_append lits (l ∷ []) (literal a r (1 - side))
           (now r side i two low (ap (λ ls. fails ls (literal a r side)) (sym (take-append_seam lits (l ∷ [])))

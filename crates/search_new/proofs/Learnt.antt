@@ -214,6 +214,7 @@ module _ (old new : Store) (r id : ℕ) (clause : List Lit) (sound : IsSound old
                 ∙ ap (holds (lits ++ asserts.first ∷ [])) is_first
                 ∙ holds_last lits asserts.first asserts.unit.free
           ];
+          low = kp.low;
           before = λ at less o s side i two low falls.
               elim (in_either s r old.refs (subst (λ (rs : List ℕ). In s rs) ad.refs i)) [
                 | inl j ↦

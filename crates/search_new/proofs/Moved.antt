@@ -186,6 +186,7 @@ module _ (old new : Store) (before : Option Watch) (w : Watch) (to : ℕ) (sound
       before = λ at less o.
           watched_moved (take at lits) (take at lits) (λ l h. front_fails lits at l h)
           (λ l h. front_fails lits at (opposite l) h) (k.before at less o);
+      low = k.low;
       now = watched_moved (take looked_at lits) lits (λ l h. front_fails lits looked_at l h) (λ l h. h) k.now;
     }
       where

@@ -45,6 +45,26 @@ pub last_highest : (levels : List ℕ) (j : ℕ) → NeverFalls levels → j < l
     → word levels j ≤ last_level levels
 last_highest levels j rising low = rising j (length levels - 1) (omega arith) (omega arith)
 
+-- the last level is no higher than there are steps
+pub last_small : (levels : List ℕ) → ((at : ℕ) → at < length levels → word levels at ≤ at + 1)
+    → last_level levels ≤ length levels
+last_small [] low = omega arith
+last_small (m ∷ ms) low =
+    let h : word (m ∷ ms) (length (m ∷ ms) - 1) ≤ length (m ∷ ms) - 1 + 1 =
+    low (length (m ∷ ms) - 1) (omega arith) in omega arith
+
+pub low_push : (levels : List ℕ) (n : ℕ) → ((at : ℕ) → at < length levels → word levels at ≤ at + 1)
+    → n ≤ length levels + 1 → (at : ℕ) → at < length (levels ++ n ∷ []) → word (levels ++ n ∷ []) at ≤ at + 1
+low_push levels n low small at within = elim (cases_lt at (length levels)) [
+  | inl front ↦
+      let e : word (levels ++ n ∷ []) at ≡ word levels at = word_front levels n at front in
+      let h : word levels at ≤ at + 1 = low at front in omega arith
+  | inr last ↦
+      let more : length (levels ++ n ∷ []) ≡ length levels + 1 = length-append levels (n ∷ []) in
+      let e : at ≡ length levels = omega arith in
+      let own : word (levels ++ n ∷ []) at ≡ n = ap (word (levels ++ n ∷ [])) e ∙ word_last levels n in omega arith
+]
+
 -- ---- one step more
 
 module _ (levels : List ℕ) (n : ℕ) where

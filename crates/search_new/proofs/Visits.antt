@@ -23,7 +23,7 @@ use Rattle.search_new.specs.Trails.{last_level}
 use Rattle.search_new.specs.Watches.{literal, AreWatched, IsKept, IsReplacement}
 use Rattle.search_new.proofs.Back.{count_within}
 use Rattle.search_new.proofs.Settled.{holds_more, free_of}
-use Rattle.search_new.proofs.Steps.{opens_front, no_opening}
+use Rattle.search_new.proofs.Steps.{last_small, low_push, opens_front, no_opening}
 
 -- ---- the literals of a clause by their places
 
@@ -155,6 +155,8 @@ kept_push a lits levels head l level len within same k = record {
             let e : at ≡ length levels = omega arith in
             absurd (no_opening levels level same (subst (OpensLevel (levels ++ level ∷ [])) e o))
       ]);
+  low = low_push levels level k.low
+      (let h : last_level levels ≤ length levels = last_small levels k.low in omega arith);
   now = λ r side i two low falls.
       holds_append lits (l ∷ []) (literal a r (1 - side))
       (k.now r side i two low

@@ -314,6 +314,7 @@ looked_more a lits levels at t sound there all k = record {
   filled = k.filled;
   ones = k.ones;
   before = k.before;
+  low = k.low;
   now = λ r side i two low falls.
       elim (fails_more (take at lits) t (literal a r side)
       (sym (ap (λ ls. fails ls (literal a r side)) (take_at lits at t there)) ∙ falls)) [
@@ -333,6 +334,7 @@ looked_less a lits levels n at low k = record {
   filled = k.filled;
   ones = k.ones;
   before = k.before;
+  low = k.low;
   now = λ r side i two small falls.
       k.now r side i two small
       (front_fails (take at lits) n (literal a r side)

@@ -24,12 +24,14 @@ AreWatched a looked_at steps =
     → holds steps (literal a r (1 - side)) ≡ true
 
 -- No clause is empty, and the literal of each clause of one is true at level 0. Before each step that opens a level, and
--- now for the steps before the head, a watched literal is false only where the other one is true.
+-- now for the steps before the head, a watched literal is false only where the other one is true. A level is no higher
+-- than there are steps up to its first one.
 pub record IsKept (a : Store) (steps : List Lit) (levels : List ℕ) (head : ℕ) : Type 0 where
   pub filled : (r : ℕ) → In r a.refs → 1 ≤ word a.words r
   pub ones : (r : ℕ) → In r a.refs → word a.words r ≡ 1 → holds (steps_to steps levels 0) (literal a r 0) ≡ true
   pub before : (at : ℕ) → at < length levels → OpensLevel levels at → AreWatched a (take at steps) (take at steps)
   pub now : AreWatched a (take head steps) steps
+  pub low : (at : ℕ) → at < length levels → word levels at ≤ at + 1
 
 -- the later steps begin with the earlier ones
 pub record Extends (old new : List Lit) : Type 0 where

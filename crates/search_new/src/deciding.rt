@@ -1,9 +1,9 @@
 //! Decisions and restarts.
 
-ghost use Rattle.std.specs.Prelude.{◌≡◌, ◌+◌, ◌<◌, ◌≤◌, ◌^◌, None, IfSome, length};
+ghost use Rattle.std.specs.Prelude.{◌≡◌, ◌≤◌, None, IfSome, length};
 ghost use Rattle.resolution_check.specs.Trails.{value_of, IsTotal};
 ghost use Rattle.conflict_analysis.specs.Steps.{IsTrail};
-ghost use Rattle.search_new.specs.Trails.{IsFree, last_level};
+ghost use Rattle.search_new.specs.Trails.{IsFree};
 ghost use Rattle.search_new.specs.Watches.{Extends, IsKept};
 
 use crate::assigned::Assigned;
@@ -60,12 +60,12 @@ pub fn decide(arena: &Arena, assigned: &mut Assigned, lit: Lit)
     requires trail { IsTrail arena.now assigned.old.vars assigned.old.lits assigned.old.levels assigned.old.reasons }
     requires kept { IsKept arena.now assigned.old.lits assigned.old.levels (length assigned.old.lits) }
     requires free { IsFree assigned.old.vars assigned.old.lits lit }
-    requires room { last_level assigned.old.levels + 1 < 2 ^ 64 }
     ensures trail { IsTrail arena.now assigned.new.vars assigned.new.lits assigned.new.levels assigned.new.reasons }
     ensures kept { IsKept arena.now assigned.new.lits assigned.new.levels (length assigned.old.lits) }
     ensures within { length assigned.old.lits ≤ length assigned.new.lits }
     ensures vars { assigned.new.vars ≡ assigned.old.vars }
 {
+    let _count = assigned.len();
     let level = assigned.level();
     assign(arena, assigned, lit, level + 1, None);
 }

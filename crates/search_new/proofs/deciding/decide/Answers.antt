@@ -1,4 +1,4 @@
-use Rattle.std.proofs.Common.{ℕ, ◌++◌, ◌∷◌, [], List, length, sym, subst}
+use Rattle.std.proofs.Common.{ℕ, ◌+◌, ap, ◌++◌, ◌∷◌, [], List, length, sym, subst}
 use Rattle.resolution_check.specs.declared.log.Lit.{Lit}
 use Rattle.search_new.specs.Watches.{IsKept}
 use Rattle.search_new.proofs.Decided.{kept_decided}
@@ -12,4 +12,5 @@ returns-clause-kept c =
     (sym c.assign.ensures.lits)
     (subst (λ (ns : List ℕ). IsKept a (s.lits ++ c.args.lit ∷ []) ns (length c.args.assigned.now.lits))
     (sym c.assign.ensures.levels)
-    (kept_decided a s.lits s.levels c.args.lit _ c.requires.trail.level_count c.requires.kept))
+    (kept_decided a s.lits s.levels c.args.lit _ c.requires.trail.level_count
+    (ap (λ (n : ℕ). n + 1) c.level-level.ensures) c.requires.kept))
