@@ -1,6 +1,6 @@
 //! Decisions and restarts.
 
-ghost use Rattle.std.specs.Prelude.{◌≡◌, ◌≤◌, None, IfSome, length};
+ghost use Rattle.std.specs.Prelude.{◌≡◌, ◌+◌, ◌≤◌, None, IfSome, length};
 ghost use Rattle.resolution_check.specs.Trails.{value_of, IsTotal};
 ghost use Rattle.conflict_analysis.specs.Steps.{IsTrail};
 ghost use Rattle.search_new.specs.Trails.{IsFree};
@@ -62,7 +62,7 @@ pub fn decide(arena: &Arena, assigned: &mut Assigned, lit: Lit)
     requires free { IsFree assigned.old.vars assigned.old.lits lit }
     ensures trail { IsTrail arena.now assigned.new.vars assigned.new.lits assigned.new.levels assigned.new.reasons }
     ensures kept { IsKept arena.now assigned.new.lits assigned.new.levels (length assigned.old.lits) }
-    ensures within { length assigned.old.lits ≤ length assigned.new.lits }
+    ensures longer { length assigned.new.lits ≡ length assigned.old.lits + 1 }
     ensures vars { assigned.new.vars ≡ assigned.old.vars }
 {
     let _count = assigned.len();
