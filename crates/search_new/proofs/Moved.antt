@@ -16,8 +16,19 @@ use Rattle.clause_arena.specs.Moved.{Moves}
 use Rattle.conflict_analysis.specs.Steps.{IsForcedBy, IsTrail}
 use Rattle.conflict_analysis.specs.Levels.{steps_to}
 use Rattle.conflict_analysis.proofs.Followed.{front_fails}
-use Rattle.search_new.specs.Watches.{literal, AreWatched, IsKept}
+use Rattle.search_new.specs.Watches.{literal, AreWatched, IsKept, IsSameView}
 use Rattle.search_new.proofs.Visits.{literal_at, literal_in}
+
+pub view_same : (a : Store) → IsSameView a a
+view_same a = record { vars = refl; refs = refl; numbers = λ r i. refl; literals = λ r l i. refl }
+
+pub view_then : (old middle new : Store) → IsSameView old middle → IsSameView middle new → IsSameView old new
+view_then old middle new first second = record {
+  vars = second.vars ∙ first.vars;
+  refs = second.refs ∙ first.refs;
+  numbers = λ r i. second.numbers r (subst (λ (rs : List ℕ). In r rs) (sym first.refs) i) ∙ first.numbers r i;
+  literals = λ r l i. second.literals r l (subst (λ (rs : List ℕ). In r rs) (sym first.refs) i) ∙ first.literals r l i;
+}
 
 -- the literal at a place is one of those before
 pub record IsFrom (old new : Store) (r j : ℕ) : Type 0 where
@@ -115,6 +126,14 @@ module _ (old new : Store) (before : Option Watch) (w : Watch) (to : ℕ) (sound
       let less : is.0 < word old.words r = is.1 in
       subst (λ (k : Lit). has (lits_of new r) k ≡ true) (is.2 ∙ at.2)
       (literal_in new sound_new r (in_new r i) is.0 (omega arith)))
+
+  pub view_moved : IsSameView old new
+  view_moved = record {
+    vars = mv.vars;
+    refs = mv.refs;
+    numbers = mv.numbers;
+    literals = same_literals;
+  }
 
   forced_moved : (ls : List Lit) (l : Lit) (c : ClauseRef) → IsForcedBy old ls l c → IsForcedBy new ls l c
   forced_moved ls l c f = record {

@@ -1,6 +1,7 @@
 -- Two watched literals: what propagation owes of each clause.
 use Rattle.std.specs.Prelude.{ℕ, ◌≡◌, ◌⊎◌, ◌+◌, ◌-◌, ◌<◌, ◌≤◌, true, false, List, ◌++◌, length, take, Option, Some, None, slice_get}
 use Rattle.resolution_check.specs.declared.log.Lit.{Lit}
+use Rattle.resolution_check.specs.Clauses.{has}
 use Rattle.resolution_check.specs.Trails.{holds, fails, AllFail, IsUnit}
 use Rattle.clause_arena.specs.declared.names.Watch.{Watch}
 use Rattle.clause_arena.specs.Links.{word, In, places}
@@ -78,3 +79,12 @@ pub record IsAsserting (steps : List Lit) (levels : List ℕ) (clause : List Lit
   pub unit : IsUnit steps clause first
   pub second : (l : Lit) → slice_get clause 1 ≡ Some l → level_of steps levels l.var ≡ last_level levels
   pub alone : length clause ≡ 1 → last_level levels ≡ 0
+
+-- ---- the clauses that are held, while their watches move
+
+-- the same clauses are held under the same references and numbers, each with the same literals
+pub record IsSameView (old new : Store) : Type 0 where
+  pub vars : new.vars ≡ old.vars
+  pub refs : new.refs ≡ old.refs
+  pub numbers : (r : ℕ) → In r old.refs → word new.words (r + 1) ≡ word old.words (r + 1)
+  pub literals : (r : ℕ) (l : Lit) → In r old.refs → has (lits_of new r) l ≡ has (lits_of old r) l

@@ -3,7 +3,7 @@
 ghost use Rattle.std.specs.Prelude.{◌≡◌, ◌≤◌, None, IfSome, length};
 ghost use Rattle.resolution_check.specs.Trails.{IsTotal};
 ghost use Rattle.conflict_analysis.specs.Steps.{IsConflict, IsTrail};
-ghost use Rattle.search_new.specs.Watches.{IsKept};
+ghost use Rattle.search_new.specs.Watches.{IsKept, IsSameView};
 
 use crate::assigned::Assigned;
 use crate::deciding::{choose, decide};
@@ -24,7 +24,7 @@ pub fn find_conflict<D: Decider>(
     requires kept { IsKept arena.old assigned.old.lits assigned.old.levels from }
     requires within { from ≤ length assigned.old.lits }
     ensures vars { assigned.new.vars ≡ assigned.old.vars }
-    ensures arena_vars { arena.new.vars ≡ arena.old.vars }
+    ensures view { IsSameView arena.old arena.new }
     ensures trail { IsTrail arena.new assigned.new.vars assigned.new.lits assigned.new.levels assigned.new.reasons }
     ensures kept { IsKept arena.new assigned.new.lits assigned.new.levels 0 }
     ensures conflict { IfSome result (IsConflict arena.new assigned.new.lits) }

@@ -8,7 +8,7 @@ ghost use Rattle.clause_arena.specs.Moved.{Moves};
 ghost use Rattle.search_new.specs.declared.visiting.Visited.TheVariants.{Stays};
 ghost use Rattle.clause_arena.specs.Watched.{Stands, head, left, own, place, place_or};
 ghost use Rattle.conflict_analysis.specs.Steps.{IsTrail};
-ghost use Rattle.search_new.specs.Watches.{literal, Extends, IsFound, IsKept, IsReplacement, IsWalked};
+ghost use Rattle.search_new.specs.Watches.{literal, Extends, IsFound, IsKept, IsReplacement, IsSameView, IsWalked};
 
 use crate::assigned::Assigned;
 use crate::stepping::assign;
@@ -117,6 +117,7 @@ pub fn move_watch(
     ensures trail { IsTrail arena.new assigned.now.vars assigned.now.lits assigned.now.levels assigned.now.reasons }
     ensures kept { IsKept arena.new assigned.now.lits assigned.now.levels looked_at }
     ensures moves { Moves arena.old arena.new before w to }
+    ensures view { IsSameView arena.old arena.new }
     ensures head { place_or result ≡ head arena.new before (own arena.old w) }
     ensures stands { IfSome result (Stands arena.new (own arena.old w)) }
     ensures fewer { left arena.new before (own arena.old w) < left arena.old before (own arena.old w) }

@@ -4,7 +4,7 @@ ghost use Rattle.std.specs.Prelude.{◌≡◌, ◌<◌, ◌≤◌, true, None, I
 ghost use Rattle.resolution_check.specs.Trails.{fails};
 ghost use Rattle.clause_arena.specs.Held.{code_of};
 ghost use Rattle.conflict_analysis.specs.Steps.{IsConflict, IsTrail};
-ghost use Rattle.search_new.specs.Watches.{AllTrue, Extends, IsKept};
+ghost use Rattle.search_new.specs.Watches.{AllTrue, Extends, IsKept, IsSameView};
 
 use crate::assigned::Assigned;
 use crate::visiting::{Visited, move_watch, pass_watch, visit};
@@ -25,7 +25,7 @@ pub fn visit_watches(
     requires below { lit.var < arena.old.vars }
     requires is_false { fails assigned.old.lits lit ≡ true }
     ensures vars { assigned.new.vars ≡ assigned.old.vars }
-    ensures arena_vars { arena.new.vars ≡ arena.old.vars }
+    ensures view { IsSameView arena.old arena.new }
     ensures trail { IsTrail arena.new assigned.new.vars assigned.new.lits assigned.new.levels assigned.new.reasons }
     ensures kept { IsKept arena.new assigned.new.lits assigned.new.levels looked_at }
     ensures extends { Extends assigned.old.lits assigned.new.lits }
@@ -57,7 +57,7 @@ pub fn propagate(arena: &mut Arena, assigned: &mut Assigned, from: usize) -> Opt
     requires kept { IsKept arena.old assigned.old.lits assigned.old.levels from }
     requires within { from ≤ length assigned.old.lits }
     ensures vars { assigned.new.vars ≡ assigned.old.vars }
-    ensures arena_vars { arena.new.vars ≡ arena.old.vars }
+    ensures view { IsSameView arena.old arena.new }
     ensures trail { IsTrail arena.new assigned.new.vars assigned.new.lits assigned.new.levels assigned.new.reasons }
     ensures kept { IsKept arena.new assigned.new.lits assigned.new.levels from }
     ensures extends { Extends assigned.old.lits assigned.new.lits }

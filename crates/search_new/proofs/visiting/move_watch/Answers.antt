@@ -1,4 +1,4 @@
-use Rattle.search_new.proofs.Moved.{trail_moved, kept_moved}
+use Rattle.search_new.proofs.Moved.{trail_moved, kept_moved, view_moved}
 use Rattle.search_new.proofs.Walks.{walk_moved}
 use Rattle.clause_arena.specs.Watched.{own}
 use Rattle.search_new.proofs.visiting.move_watch.Goals as goal
@@ -26,3 +26,9 @@ returns-clause-walked c = λ walk.
     (own c.args.arena.now c.args.w) c.words_are_sound.ensures c.words_are_sound-2.ensures
     c.watch_move-next.ensures.moves c.requires.stands c.requires.not_false.0 c.requires.not_false.1 c.requires.before
     c.args.assigned.now.lits c.requires.is_false walk
+
+pub returns-clause-view : goal.returns-clause-view
+returns-clause-view c =
+    view_moved c.args.arena.now c.watch_move-next.new.self c.args.before c.args.w c.args.to c.words_are_sound.ensures
+    c.words_are_sound-2.ensures c.watch_move-next.ensures.moves c.requires.stands.held c.requires.stands.low
+    c.requires.not_false.0 c.requires.not_false.1

@@ -7,6 +7,7 @@ use Rattle.clause_arena.specs.declared.names.ClauseRef.{ClauseRef}
 use Rattle.clause_arena.specs.Held.{code_of}
 use Rattle.conflict_analysis.proofs.Followed.{own_fails}
 use Rattle.search_new.specs.Watches.{AllTrue}
+use Rattle.search_new.proofs.Moved.{view_then}
 use Rattle.search_new.proofs.Walks.{extends_then, extends_within, looked_less, looked_more, still_there}
 use Rattle.search_new.proofs.walking.propagate.Goals as goal
 
@@ -47,8 +48,8 @@ loop-at-preserved c =
     let low : c.loop-at.at + 1 ≤ length c.loop-at.assigned.lits =
     omega (arith, c.if-at-len.false, c.len.ensures.len) in
     record {
-      vars = v.ensures.vars ∙ i.vars ∙ sym v.ensures.arena_vars;
-      arena_vars = v.ensures.arena_vars ∙ i.arena_vars;
+      vars = v.ensures.vars ∙ i.vars ∙ sym v.ensures.view.vars;
+      view = view_then c.args.arena.now c.loop-at.arena b i.view v.ensures.view;
       trail = v.ensures.trail;
       kept = looked_more b more c.visit_watches-found.new.assigned.levels c.loop-at.at c.lit.result
           c.words_are_sound.ensures

@@ -1,12 +1,12 @@
 use Rattle.std.proofs.Common.{◌≡◌, ◌≤◌, length}
 use Rattle.conflict_analysis.specs.Steps.{IsTrail}
-use Rattle.search_new.specs.Watches.{Extends, IsKept}
+use Rattle.search_new.specs.Watches.{Extends, IsKept, IsSameView}
 use Rattle.search_new.proofs.walking.propagate.Given as goal
 
 abbrev pub invariant-loop-at : goal.invariant-loop-at
 invariant-loop-at l = record {
   vars : l.assigned.vars ≡ l.arena.vars;
-  arena_vars : l.arena.vars ≡ l.fn.arena.vars;
+  view : IsSameView l.fn.arena l.arena;
   trail : IsTrail l.arena l.assigned.vars l.assigned.lits l.assigned.levels l.assigned.reasons;
   kept : IsKept l.arena l.assigned.lits l.assigned.levels l.at;
   above : l.from ≤ l.at;

@@ -1,4 +1,4 @@
-use Rattle.std.proofs.Common.{◌≡◌, ◌<◌, ℕ, true, Some, refl, sym, ap, subst, ◌∙◌}
+use Rattle.std.proofs.Common.{◌≡◌, ◌<◌, ℕ, true, Some, sym, ap, subst, ◌∙◌}
 use Rattle.std.specs.Prelude.{IfSome}
 use Rattle.resolution_check.specs.declared.log.Lit.{Lit}
 use Rattle.resolution_check.specs.Trails.{fails}
@@ -6,6 +6,7 @@ use Rattle.clause_arena.specs.Held.{code_of}
 use Rattle.clause_arena.specs.Watched.{Stands, place, place_or, head}
 use Rattle.clause_arena.proofs.Codes.{code_low}
 use Rattle.search_new.specs.Watches.{IsWalked}
+use Rattle.search_new.proofs.Moved.{view_same, view_then}
 use Rattle.search_new.proofs.Walks.{walk_begins, walk_ends, walk_later, more_false, more_true, extends_same}
 use Rattle.search_new.proofs.Walks.{extends_then, extends_within, stands_at, own_literal}
 use Rattle.search_new.proofs.walking.visit_watches.Goals as goal
@@ -15,7 +16,7 @@ loop-at-init c =
     let a = c.args.arena.now in
     record {
       vars = c.requires.vars;
-      arena_vars = refl;
+      view = view_same a;
       trail = c.requires.trail;
       kept = c.requires.kept;
       within = c.requires.within;
@@ -49,7 +50,7 @@ loop-at-preserved-in-Moves c =
     let st = stands_at a n c.loop-at.at w c.in-Some.is i.stands in
     record {
       vars = c.visit.ensures.vars ∙ i.vars ∙ sym c.move_watch-at.ensures.moves.vars;
-      arena_vars = c.move_watch-at.ensures.moves.vars ∙ i.arena_vars;
+      view = view_then c.args.arena.now a b i.view c.move_watch-at.ensures.view;
       trail = c.move_watch-at.ensures.trail;
       kept = c.move_watch-at.ensures.kept;
       within = extends_within ls more c.args.looked_at x i.within;
@@ -76,7 +77,7 @@ loop-at-preserved c =
     let at_w : head a c.loop-at.before n ≡ place w = sym i.at_head ∙ ap place_or c.in-Some.is in
     record {
       vars = c.visit.ensures.vars ∙ i.vars;
-      arena_vars = i.arena_vars;
+      view = i.view;
       trail = c.visit.ensures.trail;
       kept = c.visit.ensures.kept;
       within = extends_within ls more c.args.looked_at x i.within;
@@ -97,6 +98,6 @@ returns-clause-walked c = λ none.
     let a = c.loop-at.arena in
     let i = c.loop-at.invariant in
     walk_ends a c.words_are_sound-2.ensures (code_of c.args.lit)
-    (code_low a.vars c.args.lit (subst (λ (k : ℕ). c.args.lit.var < k) (sym i.arena_vars)
+    (code_low a.vars c.args.lit (subst (λ (k : ℕ). c.args.lit.var < k) (sym i.view.vars)
     c.requires.below)) c.loop-at.assigned.lits c.loop-at.before
     (ap place_or (sym c.in_default.is) ∙ i.at_head) i.walked

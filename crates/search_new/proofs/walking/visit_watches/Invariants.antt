@@ -4,7 +4,7 @@ use Rattle.resolution_check.specs.Trails.{fails}
 use Rattle.clause_arena.specs.Held.{code_of}
 use Rattle.clause_arena.specs.Watched.{Stands, head, left, place_or}
 use Rattle.conflict_analysis.specs.Steps.{IsTrail}
-use Rattle.search_new.specs.Watches.{Extends, IsKept, IsWalked}
+use Rattle.search_new.specs.Watches.{Extends, IsKept, IsSameView, IsWalked}
 use Rattle.search_new.proofs.walking.visit_watches.Given as goal
 
 abbrev pub decreases-loop-at : goal.decreases-loop-at
@@ -13,7 +13,7 @@ decreases-loop-at l = left l.arena l.before (code_of l.fn.lit)
 abbrev pub invariant-loop-at : goal.invariant-loop-at
 invariant-loop-at l = record {
   vars : l.assigned.vars ≡ l.arena.vars;
-  arena_vars : l.arena.vars ≡ l.fn.arena.vars;
+  view : IsSameView l.fn.arena l.arena;
   trail : IsTrail l.arena l.assigned.vars l.assigned.lits l.assigned.levels l.assigned.reasons;
   kept : IsKept l.arena l.assigned.lits l.assigned.levels l.looked_at;
   within : l.looked_at ≤ length l.assigned.lits;
