@@ -116,7 +116,8 @@ module _ (old new : Store) (r id : ℕ) (clause : List Lit) (sound : IsSound old
     pub forced_first : (c : ClauseRef) → c.0 ≡ r → IsForcedBy new lits asserts.first c
     forced_first c e = record {
       held = subst (λ (s : ℕ). In s new.refs) (sym e) held_new;
-      inside = ap (λ s. has (lits_of new s) asserts.first) e ∙ ap (λ d. has d asserts.first) new_lits ∙ asserts.unit.inside;
+      inside = ap (λ s. has (lits_of new s) asserts.first) e ∙ ap (λ d. has d asserts.first) new_lits
+          ∙ asserts.unit.inside;
       others = λ l h. asserts.unit.others l
           (sym (ap (λ s. has (lits_of new s) l) e ∙ ap (λ d. has d l) new_lits) ∙ h);
     }
@@ -188,7 +189,8 @@ module _ (old new : Store) (r id : ℕ) (clause : List Lit) (sound : IsSound old
     kept_learnt =
         let x = asserts.first in
         let n = last_level levels in
-        let kp = kept_push old lits levels (length lits) asserts.first (last_level levels) t.level_count (omega arith) refl k in
+        let kp = kept_push old lits levels (length lits) asserts.first (last_level levels) t.level_count (omega arith)
+        refl k in
         let size : word new.words r ≡ length clause = new_size in
         let some : 0 < length clause = slice_get_within clause 0 asserts.first asserts.there in
         record {

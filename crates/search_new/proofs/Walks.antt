@@ -1,6 +1,7 @@
 -- Walks along the list of a literal that became false.
 use Rattle.std.proofs.Common.{◌≡◌, ◌⊎◌, ℕ, ◌+◌, ◌-◌, ◌*◌, ◌%◌, ◌<◌, ◌≤◌, ◌==◌, Bool, true, false, cond, List, []}
-use Rattle.std.proofs.Common.{◌++◌, ◌/◌, length, length-append, append-nil, append_assoc, ◌∷◌, Option, Some, None, inl, inr, refl, sym, ap, subst, ◌∙◌, arith}
+use Rattle.std.proofs.Common.{◌++◌, ◌/◌, length, length-append, append-nil, append_assoc, ◌∷◌, Option, Some}
+use Rattle.std.proofs.Common.{None, inl, inr, refl, sym, ap, subst, ◌∙◌, arith}
 use Rattle.std.proofs.Common.{not, take, slice_get}
 use Rattle.std.specs.Bool.{beq}
 use Rattle.std.proofs.lemmas.Bool.{cases_Bool, cases_eq, eq-eqb, eqb-true}
@@ -107,7 +108,8 @@ module _ (a : Store) (sound : IsSound a.vars a.words a.refs) (n : ℕ) (below : 
           let watch = sound.linked.watch n q below there in
           let at : q ≡ watch.ref + 2 + watch.side = watch.place in absurd (omega arith)
 
-  module _ (steps : List Lit) (before : Option Watch) (w : Watch) (st : Stands a n w) (at_w : head a before n ≡ place w)
+  module _ (steps : List Lit) (before : Option Watch) (w : Watch) (st : Stands a n w)
+      (at_w : head a before n ≡ place w)
       (walk : IsWalked a steps before n) where
     -- what is to come is the watch, and what is to come behind it
     split : (p : ℕ) → In p (rest a before n) → (p ≡ place w) ⊎ In p (rest a (Some w) n)

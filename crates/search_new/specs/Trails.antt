@@ -1,5 +1,6 @@
 -- What a search keeps of its trail, and the values that it gives.
-use Rattle.std.specs.Prelude.{ℕ, ◌≡◌, ◌⊎◌, ◌-◌, ◌<◌, ◌≤◌, Bool, true, false, List, ◌++◌, length, take, Option, Some, None}
+use Rattle.std.specs.Prelude.{ℕ, ◌≡◌, ◌⊎◌, ◌-◌, ◌<◌, ◌≤◌, Bool, true, false, List, ◌++◌, length, take, Option}
+use Rattle.std.specs.Prelude.{Some, None}
 use Rattle.std.specs.Prelude.{slice_get}
 use Rattle.resolution_check.specs.declared.log.Lit.{Lit}
 use Rattle.resolution_check.specs.Clauses.{is_below}
@@ -17,8 +18,8 @@ shown None = Free
 shown (Some true) = True
 shown (Some false) = False
 
--- what contracts see of a trail with values: how many variables there are, the literals made true in their order, their
--- levels and their reasons
+-- what contracts see of a trail with values: how many variables there are, the literals made true in their order,
+-- their levels and their reasons
 pub record Assigned : Type 0 where
   pub vars : ℕ
   pub lits : List Lit

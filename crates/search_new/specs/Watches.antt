@@ -1,5 +1,6 @@
 -- Two watched literals: what propagation owes of each clause.
-use Rattle.std.specs.Prelude.{ℕ, ◌≡◌, ◌⊎◌, ◌+◌, ◌-◌, ◌<◌, ◌≤◌, true, false, List, ◌++◌, length, take, Option, Some, None, slice_get}
+use Rattle.std.specs.Prelude.{ℕ, ◌≡◌, ◌⊎◌, ◌+◌, ◌-◌, ◌<◌, ◌≤◌, true, false, List, ◌++◌, length, take, Option}
+use Rattle.std.specs.Prelude.{Some, None, slice_get}
 use Rattle.resolution_check.specs.declared.log.Lit.{Lit}
 use Rattle.resolution_check.specs.Clauses.{has}
 use Rattle.resolution_check.specs.Trails.{holds, fails, AllFail, IsUnit}
@@ -18,15 +19,16 @@ use Rattle.search_new.specs.declared.visiting.Visited.TheVariants.{Stays, Moves,
 abbrev pub literal : Store → ℕ → ℕ → Lit
 literal a r k = lit_of (word a.words (r + 4 + k))
 
--- of each clause of two or more literals: where a watched literal is false by these steps, the other one is true by those
+-- of each clause of two or more literals: where a watched literal is false by these steps, the other one is true by
+-- those
 abbrev pub AreWatched : Store → (looked_at steps : List Lit) → Type 0
 AreWatched a looked_at steps =
     (r side : ℕ) → In r a.refs → 2 ≤ word a.words r → side < 2 → fails looked_at (literal a r side) ≡ true
     → holds steps (literal a r (1 - side)) ≡ true
 
--- No clause is empty, and the literal of each clause of one is true at level 0. Before each step that opens a level, and
--- now for the steps before the head, a watched literal is false only where the other one is true. A level is no higher
--- than there are steps up to its first one.
+-- No clause is empty, and the literal of each clause of one is true at level 0. Before each step that opens a level,
+-- and now for the steps before the head, a watched literal is false only where the other one is true. A level is no
+-- higher than there are steps up to its first one.
 pub record IsKept (a : Store) (steps : List Lit) (levels : List ℕ) (head : ℕ) : Type 0 where
   pub filled : (r : ℕ) → In r a.refs → 1 ≤ word a.words r
   pub ones : (r : ℕ) → In r a.refs → word a.words r ≡ 1 → holds (steps_to steps levels 0) (literal a r 0) ≡ true
@@ -71,8 +73,8 @@ pub record AllTrue (a : Store) (steps : List Lit) (n : ℕ) : Type 0 where
 
 -- ---- a clause that was learnt, once the steps above its second literal were taken back
 
--- The first literal is the only one that is not false, and has no value; the second is of the last level, and where there
--- is none that level is 0.
+-- The first literal is the only one that is not false, and has no value; the second is of the last level, and where
+-- there is none that level is 0.
 pub record IsAsserting (steps : List Lit) (levels : List ℕ) (clause : List Lit) : Type 0 where
   pub first : Lit
   pub there : slice_get clause 0 ≡ Some first
