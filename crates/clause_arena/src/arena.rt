@@ -63,6 +63,7 @@ impl Arena {
     ghost use Rattle.clause_arena.specs.Links.{places};
     ghost use Rattle.clause_arena.specs.declared.names.ClauseRef.{ClauseRef};
     ghost use Rattle.clause_arena.specs.declared.names.Watch.{Watch};
+    ghost use Rattle.clause_arena.specs.Store.{IsSound};
     ghost use Rattle.clause_arena.specs.Changes.{Adds};
     ghost use Rattle.clause_arena.specs.Moved.{Moves};
     ghost use Rattle.clause_arena.specs.Deleted.{Deletes};
@@ -106,6 +107,13 @@ impl Arena {
             lits,
         )?;
         Ok(ClauseRef(clause))
+    }
+
+    /// A law, with no effect: clauses stand one behind another, and each literal's list has exactly its watches.
+    pub fn words_are_sound(&self)
+        ensures { IsSound self.now.vars self.now.words self.now.refs }
+    {
+        let _ = &self.words;
     }
 
     /// How many literals a clause has.

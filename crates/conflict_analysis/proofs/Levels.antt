@@ -144,7 +144,7 @@ value_high (s ∷ ss) (n ∷ levels) level v same high = elim (cases_Bool (leb n
 ]
 
 -- the steps up to a level are of no higher one
-count_low : (levels : List ℕ) (level j : ℕ) → j < count_to levels level → word levels j ≤ level
+pub count_low : (levels : List ℕ) (level j : ℕ) → j < count_to levels level → word levels j ≤ level
 count_low [] level j low = absurd (omega arith)
 count_low (n ∷ levels) level zero low = elim (cases_Bool (leb n level)) [
   | inl within ↦ leb-true n level within
@@ -163,7 +163,7 @@ count_low (n ∷ levels) level (suc j) low = elim (cases_Bool (leb n level)) [
 ]
 
 -- the first step behind them is of a higher one
-count_next : (levels : List ℕ) (level : ℕ) → count_to levels level < length levels
+pub count_next : (levels : List ℕ) (level : ℕ) → count_to levels level < length levels
     → level < word levels (count_to levels level)
 count_next [] level within = absurd (omega arith)
 count_next (n ∷ levels) level within = elim (cases_Bool (leb n level)) [

@@ -1,0 +1,11 @@
+pub mod Places
+pub mod Trails
+pub mod Steps
+pub mod Back
+pub mod Settled
+pub mod Visits
+pub mod Moved
+pub mod Walks
+pub mod Learnt
+pub mod Asserts
+pub mod Decided

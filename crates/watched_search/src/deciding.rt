@@ -1,0 +1,87 @@
+//! Decisions and restarts.
+
+ghost use Rattle.std.specs.Prelude.{◌≡◌, ◌+◌, ◌≤◌, None, IfSome, length};
+ghost use Rattle.resolution_check.specs.Trails.{value_of, IsTotal};
+ghost use Rattle.conflict_analysis.specs.Steps.{IsTrail};
+ghost use Rattle.watched_search.specs.Trails.{IsFree};
+ghost use Rattle.watched_search.specs.Watches.{Extends, IsKept};
+
+use crate::assigned::Assigned;
+use crate::stepping::{assign, back_to};
+use clause_arena::Arena;
+use deciders::{Choice, Decider, Value};
+use resolution_check::Lit;
+
+/// The least variable without a value, to be false.
+fn least_free(assigned: &Assigned) -> Option<Lit>
+    ensures some { IfSome result (IsFree assigned.now.vars assigned.now.lits) }
+    ensures none { result ≡ None → IsTotal assigned.now.vars assigned.now.lits }
+{
+    for var in 0..assigned.vars() {
+        if assigned.value(var) == Value::Free {
+            return Some(Lit { var, negated: true });
+        }
+    }
+    None
+}
+
+/// The literal of a choice, where its variable is one and has no value.
+fn literal_of_choice(assigned: &Assigned, choice: Choice) -> Option<Lit>
+    ensures { IfSome result (IsFree assigned.now.vars assigned.now.lits) }
+{
+    if choice.var >= assigned.vars() {
+        return None;
+    }
+    if assigned.value(choice.var) != Value::Free {
+        return None;
+    }
+    Some(Lit {
+        var: choice.var,
+        negated: !choice.positive,
+    })
+}
+
+/// The literal to decide next: the decider's choice, and where that is none the least free variable, false first. None
+/// where every variable has a value.
+pub fn choose<D: Decider>(decider: &mut D, assigned: &Assigned) -> Option<Lit>
+    ensures some { IfSome result (IsFree assigned.now.vars assigned.now.lits) }
+    ensures none { result ≡ None → IsTotal assigned.now.vars assigned.now.lits }
+    ensures told { D.told decider.new ≡ D.told decider.old }
+{
+    let choice = decider.pick(assigned.values());
+    if let Some(lit) = literal_of_choice(assigned, choice) {
+        return Some(lit);
+    }
+    least_free(assigned)
+}
+
+/// Decides a literal, where all literals were looked at.
+pub fn decide(arena: &Arena, assigned: &mut Assigned, lit: Lit)
+    requires trail { IsTrail arena.now assigned.old.vars assigned.old.lits assigned.old.levels assigned.old.reasons }
+    requires kept { IsKept arena.now assigned.old.lits assigned.old.levels (length assigned.old.lits) }
+    requires free { IsFree assigned.old.vars assigned.old.lits lit }
+    ensures trail { IsTrail arena.now assigned.new.vars assigned.new.lits assigned.new.levels assigned.new.reasons }
+    ensures kept { IsKept arena.now assigned.new.lits assigned.new.levels (length assigned.old.lits) }
+    ensures longer { length assigned.new.lits ≡ length assigned.old.lits + 1 }
+    ensures vars { assigned.new.vars ≡ assigned.old.vars }
+{
+    let _count = assigned.len();
+    let level = assigned.level();
+    assign(arena, assigned, lit, level + 1, None);
+}
+
+/// Goes back to level 0. Answers from which literal on is to be propagated.
+pub fn restart(arena: &Arena, assigned: &mut Assigned, looked_at: usize) -> usize
+    requires trail { IsTrail arena.now assigned.old.vars assigned.old.lits assigned.old.levels assigned.old.reasons }
+    requires kept { IsKept arena.now assigned.old.lits assigned.old.levels looked_at }
+    requires within { looked_at ≤ length assigned.old.lits }
+    ensures trail { IsTrail arena.now assigned.new.vars assigned.new.lits assigned.new.levels assigned.new.reasons }
+    ensures kept { IsKept arena.now assigned.new.lits assigned.new.levels result }
+    ensures within { result ≤ length assigned.new.lits }
+    ensures vars { assigned.new.vars ≡ assigned.old.vars }
+{
+    if assigned.level() == 0 {
+        return looked_at;
+    }
+    back_to(arena, assigned, looked_at, 0)
+}

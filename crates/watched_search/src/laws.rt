@@ -1,0 +1,25 @@
+//! What watches promise, for the functions that rely on it.
+
+ghost use Rattle.std.specs.Prelude.{◌≡◌, ℕ, ◌≤◌, Some, length};
+ghost use Rattle.resolution_check.specs.declared.log.Clause.{Clause};
+ghost use Rattle.resolution_check.specs.Trails.{IsSettled};
+ghost use Rattle.clause_arena.specs.Held.{held_in};
+ghost use Rattle.conflict_analysis.specs.Levels.{AreFilled, AreFull};
+ghost use Rattle.watched_search.specs.Watches.{IsKept};
+
+use crate::assigned::Assigned;
+use clause_arena::Arena;
+
+/// A law, with no effect: where the watches are kept, no clause is empty, each was settled before each decision, and each
+/// is settled now where all literals were looked at.
+pub fn watches_settle(arena: &Arena, assigned: &Assigned, head: usize)
+    requires { IsKept arena.now assigned.now.lits assigned.now.levels head }
+    ensures filled { AreFilled arena.now }
+    ensures full { AreFull arena.now assigned.now.lits assigned.now.levels }
+    ensures settled { length assigned.now.lits ≤ head → (id : ℕ) (c : Clause) → held_in arena.now id ≡ Some c
+        → IsSettled assigned.now.lits c.lits }
+{
+    arena.words_are_sound();
+    let _len = assigned.len();
+    let _head = head;
+}

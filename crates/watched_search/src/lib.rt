@@ -1,0 +1,22 @@
+//! A conflict-driven search over watched clauses: what it keeps, and propagation.
+#![tactic(auto)]
+
+mod assigned;
+mod deciding;
+mod holding;
+mod laws;
+mod learning;
+mod searching;
+mod stepping;
+mod visiting;
+mod walking;
+
+pub use assigned::Assigned;
+pub use deciding::{choose, decide, restart};
+pub use holding::hold;
+pub use laws::watches_settle;
+pub use learning::{assert_clause, learn};
+pub use searching::find_conflict;
+pub use stepping::{assign, back_to};
+pub use visiting::{Visited, move_watch, pass_watch, visit};
+pub use walking::{propagate, visit_watches};
