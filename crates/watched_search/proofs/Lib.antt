@@ -9,3 +9,5 @@ pub mod Walks
 pub mod Learnt
 pub mod Asserts
 pub mod Decided
+pub mod Starts
+pub mod Sets

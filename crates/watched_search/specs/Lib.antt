@@ -1,2 +1,4 @@
 pub mod Trails
 pub mod Watches
+pub mod Starts
+pub mod Sets

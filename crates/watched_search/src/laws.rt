@@ -1,11 +1,14 @@
 //! What watches promise, for the functions that rely on it.
 
-ghost use Rattle.std.specs.Prelude.{◌≡◌, ℕ, ◌≤◌, Some, length};
+ghost use Rattle.std.specs.Prelude.{◌≡◌, ℕ, ◌≤◌, List, [], ◌∷◌, ◌++◌, Option, Some, length};
+ghost use Rattle.resolution_check.specs.declared.log.Lit.{Lit};
 ghost use Rattle.resolution_check.specs.declared.log.Clause.{Clause};
 ghost use Rattle.resolution_check.specs.Trails.{IsSettled};
-ghost use Rattle.clause_arena.specs.Held.{held_in};
+ghost use Rattle.clause_arena.specs.Store.{Store};
+ghost use Rattle.clause_arena.specs.Held.{clause_numbered, held_in};
 ghost use Rattle.conflict_analysis.specs.Levels.{AreFilled, AreFull};
-ghost use Rattle.watched_search.specs.Watches.{IsKept};
+ghost use Rattle.watched_search.specs.Watches.{IsKept, IsSameView};
+ghost use Rattle.watched_search.specs.Sets.{AreSameSets, IsAddition};
 
 use crate::assigned::Assigned;
 use clause_arena::Arena;
@@ -23,3 +26,14 @@ pub fn watches_settle(arena: &Arena, assigned: &Assigned, head: usize)
     let _len = assigned.len();
     let _head = head;
 }
+
+/// A law, with no effect: what a search adds to clauses it adds to the same clauses in another order of literals, and while
+/// watches move the same clauses are held.
+pub fn additions_are_of_sets()
+    ensures addition { (old new : ℕ → Option Clause) (lits : List Lit) (chain : List ℕ) → AreSameSets old new
+        → IsAddition old lits chain → IsAddition new lits chain }
+    ensures view { (old new : Store) → IsSameView old new → AreSameSets (held_in old) (held_in new) }
+    ensures more { (xs ys : List (ℕ × List Lit)) (id : ℕ) (lits : List Lit)
+        → AreSameSets (clause_numbered xs) (clause_numbered ys)
+        → AreSameSets (clause_numbered (xs ++ (id, lits) ∷ [])) (clause_numbered (ys ++ (id, lits) ∷ [])) }
+{}

@@ -1,0 +1,11 @@
+use Rattle.watched_search.proofs.Sets.{addition_set, sets_push, view_sets}
+use Rattle.watched_search.proofs.laws.additions_are_of_sets.Goals as goal
+
+pub returns-clause-addition : goal.returns-clause-addition
+returns-clause-addition c = addition_set
+
+pub returns-clause-view : goal.returns-clause-view
+returns-clause-view c = view_sets
+
+pub returns-clause-more : goal.returns-clause-more
+returns-clause-more c = sets_push
