@@ -11,3 +11,4 @@ pub mod Asserts
 pub mod Decided
 pub mod Starts
 pub mod Sets
+pub mod Histories

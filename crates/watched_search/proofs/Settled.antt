@@ -29,7 +29,7 @@ pub record IsAt (refs : List ℕ) (f : ℕ → (ℕ × List Lit)) (c : Clause) :
   pub held : In ref refs
   pub same : c ≡ record { lits = (f ref).1 }
 
-numbered_at : (f : ℕ → (ℕ × List Lit)) (refs : List ℕ) (id : ℕ) (c : Clause)
+pub numbered_at : (f : ℕ → (ℕ × List Lit)) (refs : List ℕ) (id : ℕ) (c : Clause)
     → clause_numbered (map f refs) id ≡ Some c → IsAt refs f c
 numbered_at f [] id c h = absurd (cc)
 numbered_at f (r ∷ refs) id c h = elim (cases_Bool ((f r).0 == id)) [

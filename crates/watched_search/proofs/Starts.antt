@@ -1,6 +1,7 @@
 -- Input clauses are held before the first decision: what is kept at level 0, and the numbers that are held.
 use Rattle.std.proofs.Common.{◌≡◌, ◌⊎◌, ℕ, zero, suc, ◌+◌, ◌-◌, ◌<◌, ◌≤◌, true, false, List, [], ◌∷◌, ◌++◌, map}
-use Rattle.std.proofs.Common.{min, length, length-append, length-take, take, slice_get, Option, Some, None, is_some, inl, inr, refl, sym}
+use Rattle.std.proofs.Common.{min, length, length-append, length-take, take, slice_get, Option, Some, None, is_some}
+use Rattle.std.proofs.Common.{inl, inr, refl, sym}
 use Rattle.std.proofs.Common.{ap, subst, ◌∙◌, arith}
 use Rattle.std.proofs.lemmas.Bool.{false≢true, or_cases}
 use Rattle.std.proofs.lemmas.List.{take_all}
@@ -23,7 +24,7 @@ use Rattle.conflict_analysis.specs.Levels.{AreFull, count_to, level_of}
 use Rattle.conflict_analysis.specs.Lessons.{IsPointed}
 use Rattle.conflict_analysis.proofs.Levels.{level_there, step_there}
 use Rattle.conflict_analysis.proofs.Marked.{has_at}
-use Rattle.std.specs.Prelude.{slice_index_or}
+use Rattle.std.specs.Prelude.{⊤, slice_index_or}
 use Rattle.watched_search.specs.Trails.{last_level}
 use Rattle.watched_search.specs.Watches.{literal, Extends, IsKept, IsSameView}
 use Rattle.watched_search.specs.Starts.{AreBelow, OnesHold, numbered_from}
@@ -209,3 +210,35 @@ numbered_next cs at c there =
 pub none_found : (o : Option ClauseRef) → is_some o ≡ false → o ≡ None
 none_found None h = refl
 none_found (Some x) h = absurd (false≢true (sym h))
+
+-- each number is below this one
+abbrev AllUnder : ℕ → List (ℕ × List Lit) → Type 0
+AllUnder n [] = ⊤
+AllUnder n (x ∷ xs) = (x.0 < n) × AllUnder n xs
+
+under_from : (f : ℕ → (ℕ × List Lit)) (refs : List ℕ) (n : ℕ) → ((r : ℕ) → In r refs → (f r).0 < n)
+    → AllUnder n (map f refs)
+under_from f [] n low = tt
+under_from f (r ∷ refs) n low = (low r (inl refl), under_from f refs n (λ s i. low s (inr i)))
+
+under_at : (f : ℕ → (ℕ × List Lit)) (refs : List ℕ) (n r : ℕ) → AllUnder n (map f refs) → In r refs → (f r).0 < n
+under_at f [] n r all i = absurd i
+under_at f (s ∷ refs) n r all (inl e) = subst (λ (k : ℕ). (f k).0 < n) (sym e) all.0
+under_at f (s ∷ refs) n r all (inr i) = under_at f refs n r all.1 i
+
+under_push : (xs : List (ℕ × List Lit)) (n : ℕ) (lits : List Lit) → AllUnder n xs
+    → AllUnder (n + 1) (xs ++ (n, lits) ∷ [])
+under_push [] n lits all = (omega arith, tt)
+under_push (x ∷ xs) n lits all = ((let h : x.0 < n = all.0 in omega arith), under_push xs n lits all.1)
+
+-- one clause more under this number
+pub below_grown : (old new : Store) (id : ℕ) (lits : List Lit) → clauses new ≡ clauses old ++ (id, lits) ∷ []
+    → AreBelow old id → AreBelow new (id + 1)
+below_grown old new id lits grown below c i =
+    let f : ℕ → (ℕ × List Lit) = λ s. (word old.words (s + 1), lits_of old s) in
+    let g : ℕ → (ℕ × List Lit) = λ s. (word new.words (s + 1), lits_of new s) in
+    under_at (λ (s : ℕ). (word new.words (s + 1), lits_of new s)) new.refs (id + 1) c.0
+    (subst (λ (xs : List (ℕ × List Lit)). AllUnder (id + 1) xs) (sym grown)
+    (under_push (clauses old) id lits
+    (under_from (λ (s : ℕ). (word old.words (s + 1), lits_of old s)) old.refs id
+    (λ r j. below (record { 0 = r }) j)))) i

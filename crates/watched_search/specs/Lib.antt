@@ -2,3 +2,4 @@ pub mod Trails
 pub mod Watches
 pub mod Starts
 pub mod Sets
+pub mod Histories

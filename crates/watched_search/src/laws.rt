@@ -3,7 +3,7 @@
 ghost use Rattle.std.specs.Prelude.{◌≡◌, ℕ, ◌≤◌, List, [], ◌∷◌, ◌++◌, Option, Some, length};
 ghost use Rattle.resolution_check.specs.declared.log.Lit.{Lit};
 ghost use Rattle.resolution_check.specs.declared.log.Clause.{Clause};
-ghost use Rattle.resolution_check.specs.Trails.{IsSettled};
+ghost use Rattle.resolution_check.specs.Trails.{HasTrue, IsSettled, IsTotal};
 ghost use Rattle.clause_arena.specs.Store.{Store};
 ghost use Rattle.clause_arena.specs.Held.{clause_numbered, held_in};
 ghost use Rattle.conflict_analysis.specs.Levels.{AreFilled, AreFull};
@@ -37,3 +37,15 @@ pub fn additions_are_of_sets()
         → AreSameSets (clause_numbered xs) (clause_numbered ys)
         → AreSameSets (clause_numbered (xs ++ (id, lits) ∷ [])) (clause_numbered (ys ++ (id, lits) ∷ [])) }
 {}
+
+/// A law, with no effect: where every literal was looked at and every variable has a value, each clause that is held has a
+/// true literal.
+pub fn totals_hold(arena: &Arena, assigned: &Assigned)
+    requires vars { assigned.now.vars ≡ arena.now.vars }
+    requires kept { IsKept arena.now assigned.now.lits assigned.now.levels (length assigned.now.lits) }
+    requires total { IsTotal assigned.now.vars assigned.now.lits }
+    ensures { (id : ℕ) (c : Clause) → held_in arena.now id ≡ Some c → HasTrue assigned.now.lits c.lits }
+{
+    arena.words_are_sound();
+    let _len = assigned.len();
+}
