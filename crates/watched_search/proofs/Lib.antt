@@ -12,3 +12,4 @@ pub mod Decided
 pub mod Starts
 pub mod Sets
 pub mod Histories
+pub mod Solved

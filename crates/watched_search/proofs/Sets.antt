@@ -173,7 +173,7 @@ view_sets old new v =
 
 -- ---- one clause more
 
-numbered_last : (xs : List (ℕ × List Lit)) (id : ℕ) (lits : List Lit) (k : ℕ)
+pub numbered_last : (xs : List (ℕ × List Lit)) (id : ℕ) (lits : List Lit) (k : ℕ)
     → clause_numbered (xs ++ (id, lits) ∷ []) k
     ≡ option_or (clause_numbered xs k) (cond (id == k) (Some (record { lits = lits })) None)
 numbered_last [] id lits k = refl

@@ -3,3 +3,4 @@ pub mod Watches
 pub mod Starts
 pub mod Sets
 pub mod Histories
+pub mod Solved
