@@ -1,6 +1,6 @@
 -- What a search has added so far, and what that says at its end.
-use Rattle.std.proofs.Common.{◌≡◌, ℕ, ◌+◌, ◌<◌, true, false, not, List, [], ◌∷◌, ◌++◌, length, length-append, Option, Some}
-use Rattle.std.proofs.Common.{◌==◌, cond, None, is_some, inl, inr, refl, sym, ap, subst, ◌∙◌, arith, append_assoc}
+use Rattle.std.proofs.Common.{◌≡◌, ℕ, ◌+◌, ◌<◌, true, false, not, List, [], ◌∷◌, ◌++◌, length, length-append, Option}
+use Rattle.std.proofs.Common.{Some, ◌==◌, cond, None, is_some, inl, inr, refl, sym, ap, subst, ◌∙◌, arith, append_assoc}
 use Rattle.std.proofs.lemmas.Bool.{cases_Bool, false≢true}
 use Rattle.std.proofs.lemmas.List.{append-nil}
 use Rattle.resolution_check.specs.declared.log.Lit.{Lit}
@@ -17,8 +17,8 @@ use Rattle.watched_search.specs.Histories.{IsGoing, IsSearched}
 use Rattle.watched_search.specs.declared.rounds.Ending.TheVariants.{Refuted, Satisfied, Stopped}
 use Rattle.watched_search.proofs.Places.{all_push}
 use Rattle.watched_search.proofs.Settled.{numbered_at, settled_now}
-use Rattle.watched_search.proofs.Sets.{addition_set, additions_numbered, additions_push, sets_back, sets_push, sets_same}
-use Rattle.watched_search.proofs.Sets.{sets_then, view_sets}
+use Rattle.watched_search.proofs.Sets.{addition_set, additions_numbered, additions_push, sets_back, sets_push}
+use Rattle.watched_search.proofs.Sets.{sets_same, sets_then, view_sets}
 use Rattle.watched_search.proofs.Visits.{literal_at, literal_below}
 
 -- ---- where every variable has a value
@@ -52,7 +52,8 @@ going_none a id = record {
   each = tt;
   filled = refl;
   count_is = refl;
-  same = subst (λ (xs : List (ℕ × List Lit)). AreSameSets (clause_numbered xs) (held_in a)) (sym (append-nil (clauses a)))
+  same = subst (λ (xs : List (ℕ × List Lit)). AreSameSets (clause_numbered xs) (held_in a))
+      (sym (append-nil (clauses a)))
       (sets_same (held_in a));
 }
 

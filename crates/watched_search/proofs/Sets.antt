@@ -10,9 +10,12 @@ use Rattle.resolution_check.specs.declared.log.Clause.{Clause}
 use Rattle.resolution_check.specs.declared.log.Bad.{Bad}
 use Rattle.resolution_check.specs.declared.log.Bad.TheVariants.{NoPivot, UnknownId}
 use Rattle.resolution_check.specs.Clauses.{has, is_inside, resolvent, IsSameSet}
+use Rattle.resolution_check.specs.declared.log.Entry.{Entry}
+use Rattle.resolution_check.specs.Earned.{IsEarnedAddition}
+use Rattle.resolution_check.specs.Entries.{clause_held, has_ended, is_given}
 use Rattle.resolution_check.specs.Entries.{and_then, resolved, resolved_next, resolved_from}
 use Rattle.resolution_check.proofs.Literals.{all_at, all_from}
-use Rattle.resolution_check.proofs.Resolvents.{same_resolvent}
+use Rattle.resolution_check.proofs.Resolvents.{inside-same, same_resolvent}
 use Rattle.clause_arena.specs.Links.{word, In}
 use Rattle.clause_arena.specs.Store.{Store}
 use Rattle.clause_arena.specs.Held.{clause_numbered, held_in, lits_of}
@@ -236,3 +239,23 @@ additions_numbered id (x ∷ xs) lits chain =
     ap (λ rest. (id, x.0) ∷ rest)
     (additions_numbered (id + 1) xs lits chain
     ∙ ap (λ k. numbered_additions (id + 1) xs ++ (k, lits) ∷ []) n)
+
+-- ---- the log
+
+-- an addition to the clauses that a list of entries holds is an earned one, under a number not given
+pub earned_addition : (es : List Entry) (held : ℕ → Option Clause) (id : ℕ) (clause : Clause) (chain : List ℕ)
+    → has_ended es ≡ false → is_given es id ≡ false → AreSameSets held (clause_held es)
+    → IsAddition held clause.lits chain → IsEarnedAddition es id clause chain
+earned_addition es held id clause chain going new same one =
+    let a = addition_set held (clause_held es) clause.lits chain same one in
+    record {
+      good = (going, (new, a.clause, a.resolves, inside-same a.clause clause.lits a.same));
+      exact = (
+        a.clause,
+        a.resolves,
+        inside-same a.clause clause.lits a.same,
+        inside-same clause.lits a.clause (λ l. sym (a.same l)),
+      );
+      once = a.once;
+      smallest = a.smallest;
+    }

@@ -88,7 +88,8 @@ addition_true v held lits chain each a =
 true_push : (v : ℕ → Bool) (held : List (ℕ × List Lit)) (id : ℕ) (lits : List Lit)
     → ((k : ℕ) (c : Clause) → clause_numbered held k ≡ Some c → TrueUnder v c.lits) → TrueUnder v lits
     → (k : ℕ) (c : Clause) → clause_numbered (held ++ (id, lits) ∷ []) k ≡ Some c → TrueUnder v c.lits
-true_push v held id lits each one k c h = by (clause_numbered held k) refl (id == k) (sym (numbered_last held id lits k) ∙ h)
+true_push v held id lits each one k c h =
+    by (clause_numbered held k) refl (id == k) (sym (numbered_last held id lits k) ∙ h)
   where
     by : (o : Option Clause) → clause_numbered held k ≡ o → (b : Bool)
         → option_or o (cond b (Some (record { lits = lits })) None) ≡ Some c → TrueUnder v c.lits
@@ -120,8 +121,8 @@ inputs_true v id (d ∷ cs) all k c h =
           let m : record { lits = d.lits } ≡ c = cc in
           subst (λ (x : Clause). TrueUnder v x.lits) m (true_under v d.lits both.0)
       | inr other ↦ inputs_true v (id + 1) cs both.1 k c
-          (sym (ap (λ b. cond b (Some (record { lits = d.lits })) (clause_numbered (numbered_from (id + 1) cs) k)) other)
-          ∙ h)
+          (sym (ap (λ b. cond b (Some (record { lits = d.lits })) (clause_numbered (numbered_from (id + 1) cs) k))
+          other) ∙ h)
     ]
 
 -- a search that adds the empty clause shows that no assignment satisfies the inputs
@@ -159,7 +160,8 @@ clause_given f steps c agrees t =
     (lit_given f t.lit (agrees t.lit.var (not t.lit.negated) (value_given (value_of steps t.lit.var) _ t.is_true)))
 
 -- numbers go upwards, so the first clause is that of its number
-number_later : (id k : ℕ) (cs : List Clause) (c : Clause) → k < id → clause_numbered (numbered_from id cs) k ≡ Some c → ⊥
+number_later : (id k : ℕ) (cs : List Clause) (c : Clause) → k < id
+    → clause_numbered (numbered_from id cs) k ≡ Some c → ⊥
 number_later id k [] c low h = absurd (cc)
 number_later id k (d ∷ cs) c low h = elim (cases_Bool (id == k)) [
   | inl here ↦ (let e : id ≡ k = eqb-true id k here in absurd (omega arith))
@@ -197,7 +199,8 @@ satisfied_holds inputs id budget steps f agrees s = hold_all f steps 1 inputs ag
 
 -- ---- refuted before the first decision
 
-front_numbered : (id k n : ℕ) (cs : List Clause) (c : Clause) → clause_numbered (numbered_from id (take n cs)) k ≡ Some c
+front_numbered : (id k n : ℕ) (cs : List Clause) (c : Clause)
+    → clause_numbered (numbered_from id (take n cs)) k ≡ Some c
     → clause_numbered (numbered_from id cs) k ≡ Some c
 front_numbered id k zero cs c h = absurd (cc)
 front_numbered id k (suc n) [] c h = absurd (cc)
@@ -217,7 +220,8 @@ some_left : (lits : List Lit) → is_empty lits ≡ false → is_inside lits [] 
 some_left [] h = absurd (false≢true (sym h))
 some_left (l ∷ lits) h = refl
 
-filled_numbered : (id k : ℕ) (cs : List Clause) (c : Clause) → list_all (λ (d : Clause). not (is_empty d.lits)) cs ≡ true
+filled_numbered : (id k : ℕ) (cs : List Clause) (c : Clause)
+    → list_all (λ (d : Clause). not (is_empty d.lits)) cs ≡ true
     → clause_numbered (numbered_from id cs) k ≡ Some c → is_empty c.lits ≡ false
 filled_numbered id k [] c all h = absurd (cc)
 filled_numbered id k (d ∷ cs) c all h =
@@ -230,8 +234,8 @@ filled_numbered id k (d ∷ cs) c all h =
           let m : record { lits = d.lits } ≡ c = cc in
           subst (λ (x : Clause). is_empty x.lits ≡ false) m (not-true _ both.0)
       | inr other ↦ filled_numbered (id + 1) k cs c both.1
-          (sym (ap (λ b. cond b (Some (record { lits = d.lits })) (clause_numbered (numbered_from (id + 1) cs) k)) other)
-          ∙ h)
+          (sym (ap (λ b. cond b (Some (record { lits = d.lits })) (clause_numbered (numbered_from (id + 1) cs) k))
+          other) ∙ h)
     ]
 
 -- a clause that is false at level 0 refutes all inputs, of which the first ones are held

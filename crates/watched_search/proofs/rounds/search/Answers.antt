@@ -52,7 +52,8 @@ loop-added-preserved g c =
     let grown : clauses c.take_lesson.new.arena
     ≡ clauses c.find_conflict.new.arena ++ (c.in_ok-id.id, c.take_lesson.new.work.lits) ∷ [] =
     subst (λ (o : Option ℕ). IfSome o (λ n. clauses c.take_lesson.new.arena
-    ≡ clauses c.find_conflict.new.arena ++ (c.in_ok-id.id, c.take_lesson.new.work.lits) ∷ [])) c.in-Some-2.is t.clauses in
+    ≡ clauses c.find_conflict.new.arena ++ (c.in_ok-id.id, c.take_lesson.new.work.lits) ∷ []))
+    c.in-Some-2.is t.clauses in
     let above : AreBelow c.take_lesson.new.arena (c.in_ok-id.id + 1) =
     subst (λ (o : Option ℕ). IfSome o (λ n. AreBelow c.take_lesson.new.arena (c.in_ok-id.id + 1))) c.in-Some-2.is
     t.above in
