@@ -1,8 +1,9 @@
 //! From conflict to conflict, until an outcome.
 
-ghost use Rattle.std.specs.Prelude.{◌≡◌, ℕ, ◌+◌, ◌<◌, ◌≤◌, ◌++◌, ◌∷◌, [], None, IfOk, IfSome, length};
+ghost use Rattle.std.specs.Prelude.{◌≡◌, ℕ, ◌+◌, ◌%◌, ◌<◌, ◌≤◌, ◌==◌, ◌++◌, ◌∷◌, [], false, None, IfOk, IfSome, length};
 ghost use Rattle.clause_arena.specs.Held.{clauses, held_in};
 ghost use Rattle.conflict_analysis.specs.Steps.{IsConflict, IsTrail};
+ghost use Rattle.watched_search.specs.Trails.{last_level};
 ghost use Rattle.watched_search.specs.Watches.{IsKept};
 ghost use Rattle.watched_search.specs.Starts.{AreBelow};
 ghost use Rattle.watched_search.specs.Sets.{IsAddition};
@@ -76,6 +77,9 @@ fn turn(arena: &Arena, assigned: &mut Assigned, from: usize, added: u64) -> usiz
     ensures kept { IsKept arena.now assigned.new.lits assigned.new.levels result }
     ensures within { result ≤ length assigned.new.lits }
     ensures vars { assigned.new.vars ≡ assigned.old.vars }
+    ensures round { added % 256 ≡ 0 → last_level assigned.new.levels ≡ 0 }
+    ensures stays { (added % 256 == 0) ≡ false → assigned.new.lits ≡ assigned.old.lits }
+    ensures stands { (added % 256 == 0) ≡ false → result ≡ from }
 {
     if added % ROUND != 0 {
         return from;
