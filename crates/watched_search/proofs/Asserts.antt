@@ -1,5 +1,5 @@
 -- What an analysis leaves asserts its first literal, once the steps above its level were taken back.
-use Rattle.std.proofs.Common.{◌≡◌, ℕ, zero, suc, ◌-◌, ◌<◌, ◌≤◌, List, length, length-take, min, take}
+use Rattle.std.proofs.Common.{◌≡◌, ℕ, ◌-◌, ◌<◌, ◌≤◌, List, length, length-take, min, take}
 use Rattle.std.proofs.Common.{slice_get, Some, None, is_some, inl, inr, refl, sym, ap, ◌∙◌, arith}
 use Rattle.std.proofs.lemmas.Bool.{cases_lt, false≢true}
 use Rattle.std.proofs.lemmas.List.{take-take, take_all}
@@ -12,11 +12,11 @@ use Rattle.clause_arena.specs.Links.{word}
 use Rattle.conflict_analysis.specs.Steps.{NeverFalls}
 use Rattle.conflict_analysis.specs.Levels.{count_to, level_of, steps_to}
 use Rattle.conflict_analysis.specs.Lessons.{IsBack, IsLevelOf}
-use Rattle.conflict_analysis.proofs.Levels.{count_low, count_next, level_there}
+use Rattle.conflict_analysis.proofs.Levels.{count_next, level_there}
 use Rattle.conflict_analysis.proofs.Points.{first_has}
 use Rattle.watched_search.specs.Trails.{last_level}
 use Rattle.watched_search.specs.Watches.{IsAsserting}
-use Rattle.watched_search.proofs.Back.{count_is, count_within, slice_take, word_take}
+use Rattle.watched_search.proofs.Back.{count_is, count_within, last_taken, slice_take, word_take}
 use Rattle.watched_search.proofs.Steps.{last_highest}
 
 module _ (lits : List Lit) (levels : List ℕ) (clause : List Lit) (back : ℕ) (first : Lit)
@@ -38,19 +38,8 @@ module _ (lits : List Lit) (levels : List ℕ) (clause : List Lit) (back : ℕ) 
         absurd (false≢true (sym (ap is_some free) ∙ some_value _ _ (falls first (first_has clause first there))))
   ]
 
-  -- the last level that is left is no higher
   last_low : last_level (take (count_to levels back) levels) ≤ back
-  last_low = by (count_to levels back) refl
-    where
-      by : (n : ℕ) → n ≡ count_to levels back → last_level (take n levels) ≤ back
-      by zero e = omega arith
-      by (suc n) e =
-          let within : count_to levels back ≤ length levels = count_within levels back in
-          let short : length (take (suc n) levels) ≡ min (suc n) (length levels) = length-take (suc n) levels in
-          let at : length (take (suc n) levels) - 1 ≡ n = omega arith in
-          let own : last_level (take (suc n) levels) ≡ word levels n =
-          ap (word (take (suc n) levels)) at ∙ word_take levels (suc n) n (omega arith) in
-          let low : word levels n ≤ back = count_low levels back n (omega arith) in omega arith
+  last_low = last_taken levels back
 
   module _ (l : Lit) (is : slice_get clause 1 ≡ Some l) where
     -- the second literal's step is left

@@ -190,3 +190,17 @@ some_behind (m ∷ ms) level low =
           count_low (m ∷ ms) level (length (m ∷ ms) - 1) (omega arith) in
           absurd (omega arith)
     ]
+
+-- the last level that is left is no higher
+pub last_taken : (levels : List ℕ) (level : ℕ) → last_level (take (count_to levels level) levels) ≤ level
+last_taken levels level = by (count_to levels level) refl
+  where
+    by : (n : ℕ) → n ≡ count_to levels level → last_level (take n levels) ≤ level
+    by zero e = omega arith
+    by (suc n) e =
+        let within : count_to levels level ≤ length levels = count_within levels level in
+        let short : length (take (suc n) levels) ≡ min (suc n) (length levels) = length-take (suc n) levels in
+        let at : length (take (suc n) levels) - 1 ≡ n = omega arith in
+        let own : last_level (take (suc n) levels) ≡ word levels n =
+        ap (word (take (suc n) levels)) at ∙ word_take levels (suc n) n (omega arith) in
+        let low : word levels n ≤ level = count_low levels level n (omega arith) in omega arith

@@ -55,14 +55,14 @@ module _ (old new : Store) (r id : ℕ) (clause : List Lit) (sound : IsSound old
   held_new = subst (λ (rs : List ℕ). In r rs) (sym ad.refs) (in_last r old.refs)
 
   -- a clause that was held is the same
-  same_lits : (s : ℕ) → In s old.refs → lits_of new s ≡ lits_of old s
+  pub same_lits : (s : ℕ) → In s old.refs → lits_of new s ≡ lits_of old s
   same_lits s i =
       let same = ad.kept s i in
       ap (λ (c : ℕ × List Lit). c.1)
       (clause_like old.words new.words s s (sound.laid.inside s i) (sound_new.laid.inside s (held_still s i)) same.size
       same.number same.codes)
 
-  same_literal : (s k : ℕ) → In s old.refs → k < word old.words s → literal new s k ≡ literal old s k
+  pub same_literal : (s k : ℕ) → In s old.refs → k < word old.words s → literal new s k ≡ literal old s k
   same_literal s k i low = ap lit_of ((ad.kept s i).codes k low)
 
   -- the new one has these literals
@@ -78,10 +78,10 @@ module _ (old new : Store) (r id : ℕ) (clause : List Lit) (sound : IsSound old
       (same_from_push (map (λ (s : ℕ). (word new.words (s + 1), lits_of new s)) old.refs) (clauses old)
       (word new.words (r + 1), lits_of new r) (id, clause) all).1
 
-  new_size : word new.words r ≡ length clause
+  pub new_size : word new.words r ≡ length clause
   new_size = sym (lits_count new.vars new.words new.refs r sound_new held_new) ∙ ap length new_lits
 
-  new_literal : (k : ℕ) (l : Lit) → slice_get clause k ≡ Some l → literal new r k ≡ l
+  pub new_literal : (k : ℕ) (l : Lit) → slice_get clause k ≡ Some l → literal new r k ≡ l
   new_literal k l there =
       let within : k < length clause = slice_get_within clause k l there in
       let size : word new.words r ≡ length clause = new_size in

@@ -9,3 +9,7 @@ pub mod Walks
 pub mod Learnt
 pub mod Asserts
 pub mod Decided
+pub mod Starts
+pub mod Sets
+pub mod Histories
+pub mod Solved

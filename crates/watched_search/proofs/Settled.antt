@@ -29,7 +29,7 @@ pub record IsAt (refs : List ℕ) (f : ℕ → (ℕ × List Lit)) (c : Clause) :
   pub held : In ref refs
   pub same : c ≡ record { lits = (f ref).1 }
 
-numbered_at : (f : ℕ → (ℕ × List Lit)) (refs : List ℕ) (id : ℕ) (c : Clause)
+pub numbered_at : (f : ℕ → (ℕ × List Lit)) (refs : List ℕ) (id : ℕ) (c : Clause)
     → clause_numbered (map f refs) id ≡ Some c → IsAt refs f c
 numbered_at f [] id c h = absurd (cc)
 numbered_at f (r ∷ refs) id c h = elim (cases_Bool ((f r).0 == id)) [
@@ -143,6 +143,21 @@ module _ (a : Store) (sound : IsSound a.vars a.words a.refs) (st : List Lit)
             is_true at.ref 0 at.held (omega arith) (ones at.ref at.held e)
       ])
 
+-- no clause that is held is empty
+pub all_filled : (a : Store) → IsSound a.vars a.words a.refs → ((r : ℕ) → In r a.refs → 1 ≤ word a.words r)
+    → AreFilled a
+all_filled a sound filled id c held =
+    let at = numbered_at (λ r. (word a.words (r + 1), lits_of a r)) a.refs id c held in
+    let some : 1 ≤ word a.words at.ref = filled at.ref at.held in
+    subst (λ (d : Clause). is_empty d.lits ≡ false) (sym at.same)
+    (not_empty (lits_of a at.ref) (literal a at.ref 0)
+    (has_at (lits_of a at.ref) 0 (literal a at.ref 0)
+    (lits_listed a.vars a.words a.refs at.ref 0 (word a.words (at.ref + 4 + 0)) sound at.held (omega arith) refl)))
+  where
+    not_empty : (ls : List Lit) (l : Lit) → has ls l ≡ true → is_empty ls ≡ false
+    not_empty [] l h = absurd (false≢true h)
+    not_empty (x ∷ ls) l h = refl
+
 module _ (a : Store) (sound : IsSound a.vars a.words a.refs) (steps : List Lit) (levels : List ℕ) (head : ℕ)
     (k : IsKept a steps levels head) where
   -- a step that opens a level comes behind level 0
@@ -170,16 +185,5 @@ module _ (a : Store) (sound : IsSound a.vars a.words a.refs) (steps : List Lit) 
       (λ r side i two low falls. k.now r side i two low
       (ap (λ ls. fails ls (literal a r side)) all ∙ falls)) id c held
 
-  -- no clause that is held is empty
   pub none_empty : AreFilled a
-  none_empty id c held =
-      let at = numbered_at (λ r. (word a.words (r + 1), lits_of a r)) a.refs id c held in
-      let some : 1 ≤ word a.words at.ref = k.filled at.ref at.held in
-      subst (λ (d : Clause). is_empty d.lits ≡ false) (sym at.same)
-      (not_empty (lits_of a at.ref) (literal a at.ref 0)
-      (has_at (lits_of a at.ref) 0 (literal a at.ref 0)
-      (lits_listed a.vars a.words a.refs at.ref 0 (word a.words (at.ref + 4 + 0)) sound at.held (omega arith) refl)))
-    where
-      not_empty : (ls : List Lit) (l : Lit) → has ls l ≡ true → is_empty ls ≡ false
-      not_empty [] l h = absurd (false≢true h)
-      not_empty (x ∷ ls) l h = refl
+  none_empty = all_filled a sound k.filled

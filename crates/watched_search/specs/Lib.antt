@@ -1,2 +1,6 @@
 pub mod Trails
 pub mod Watches
+pub mod Starts
+pub mod Sets
+pub mod Histories
+pub mod Solved

@@ -3,7 +3,7 @@
 ghost use Rattle.std.specs.Prelude.{◌≡◌, ◌+◌, ◌≤◌, None, IfSome, length};
 ghost use Rattle.resolution_check.specs.Trails.{value_of, IsTotal};
 ghost use Rattle.conflict_analysis.specs.Steps.{IsTrail};
-ghost use Rattle.watched_search.specs.Trails.{IsFree};
+ghost use Rattle.watched_search.specs.Trails.{IsFree, last_level};
 ghost use Rattle.watched_search.specs.Watches.{Extends, IsKept};
 
 use crate::assigned::Assigned;
@@ -78,6 +78,7 @@ pub fn restart(arena: &Arena, assigned: &mut Assigned, looked_at: usize) -> usiz
     ensures trail { IsTrail arena.now assigned.new.vars assigned.new.lits assigned.new.levels assigned.new.reasons }
     ensures kept { IsKept arena.now assigned.new.lits assigned.new.levels result }
     ensures within { result ≤ length assigned.new.lits }
+    ensures ground { last_level assigned.new.levels ≡ 0 }
     ensures vars { assigned.new.vars ≡ assigned.old.vars }
 {
     if assigned.level() == 0 {
