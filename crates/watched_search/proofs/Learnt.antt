@@ -20,26 +20,12 @@ use Rattle.clause_arena.proofs.Views.{clause_like, lits_listed, lits_count}
 use Rattle.conflict_analysis.specs.Steps.{IsForcedBy, IsTrail, OpensLevel}
 use Rattle.conflict_analysis.specs.Levels.{count_to, level_of, steps_to}
 use Rattle.conflict_analysis.proofs.Levels.{step_of, level_there}
+use Rattle.clause_arena.proofs.Settling.{in_end, in_front, in_split}
 use Rattle.watched_search.specs.Trails.{last_level}
 use Rattle.watched_search.specs.Watches.{literal, IsAsserting, IsKept}
 use Rattle.watched_search.proofs.Back.{count_is}
 use Rattle.watched_search.proofs.Steps.{last_highest, no_opening, opens_front, rising_push, word_last}
 use Rattle.watched_search.proofs.Visits.{holds_last, kept_push}
-
-in_front : (r s : ℕ) (rs : List ℕ) → In r rs → In r (rs ++ s ∷ [])
-in_front r s [] i = absurd i
-in_front r s (q ∷ rs) (inl e) = inl e
-in_front r s (q ∷ rs) (inr i) = inr (in_front r s rs i)
-
-in_last : (s : ℕ) (rs : List ℕ) → In s (rs ++ s ∷ [])
-in_last s [] = inl refl
-in_last s (q ∷ rs) = inr (in_last s rs)
-
-in_either : (r s : ℕ) (rs : List ℕ) → In r (rs ++ s ∷ []) → In r rs ⊎ (r ≡ s)
-in_either r s [] (inl e) = inr e
-in_either r s [] (inr i) = absurd i
-in_either r s (q ∷ rs) (inl e) = inl (inl e)
-in_either r s (q ∷ rs) (inr i) = elim (in_either r s rs i) [ inl j ↦ inl (inr j) | inr e ↦ inr e ]
 
 map_push : {X Y : Type 0} (f : X → Y) (xs : List X) (x : X) → map f (xs ++ x ∷ []) ≡ map f xs ++ f x ∷ []
 map_push f [] x = refl
@@ -52,7 +38,7 @@ module _ (old new : Store) (r id : ℕ) (clause : List Lit) (sound : IsSound old
   held_still s i = subst (λ (rs : List ℕ). In s rs) (sym ad.refs) (in_front s r old.refs i)
 
   pub held_new : In r new.refs
-  held_new = subst (λ (rs : List ℕ). In r rs) (sym ad.refs) (in_last r old.refs)
+  held_new = subst (λ (rs : List ℕ). In r rs) (sym ad.refs) (in_end r old.refs)
 
   -- a clause that was held is the same
   pub same_lits : (s : ℕ) → In s old.refs → lits_of new s ≡ lits_of old s
@@ -194,13 +180,13 @@ module _ (old new : Store) (r id : ℕ) (clause : List Lit) (sound : IsSound old
         let size : word new.words r ≡ length clause = new_size in
         let some : 0 < length clause = slice_get_within clause 0 asserts.first asserts.there in
         record {
-          filled = λ s i. elim (in_either s r old.refs (subst (λ (rs : List ℕ). In s rs) ad.refs i)) [
+          filled = λ s i. elim (in_split s r old.refs (subst (λ (rs : List ℕ). In s rs) ad.refs i)) [
             | inl j ↦
                 let same : word new.words s ≡ word old.words s = (ad.kept s j).size in
                 let h : 1 ≤ word old.words s = kp.filled s j in omega arith
             | inr e ↦ subst (λ (q : ℕ). 1 ≤ word new.words q) (sym e) (omega arith)
           ];
-          ones = λ s i one. elim (in_either s r old.refs (subst (λ (rs : List ℕ). In s rs) ad.refs i)) [
+          ones = λ s i one. elim (in_split s r old.refs (subst (λ (rs : List ℕ). In s rs) ad.refs i)) [
             | inl j ↦
                 let same : word new.words s ≡ word old.words s = (ad.kept s j).size in
                 ap (holds (steps_to (lits ++ asserts.first ∷ []) (levels ++ last_level levels ∷ []) 0))
@@ -218,7 +204,7 @@ module _ (old new : Store) (r id : ℕ) (clause : List Lit) (sound : IsSound old
           ];
           low = kp.low;
           before = λ at less o s side i two low falls.
-              elim (in_either s r old.refs (subst (λ (rs : List ℕ). In s rs) ad.refs i)) [
+              elim (in_split s r old.refs (subst (λ (rs : List ℕ). In s rs) ad.refs i)) [
                 | inl j ↦
                     let same : word new.words s ≡ word old.words s = (ad.kept s j).size in
                     ap (holds (take at (lits ++ asserts.first ∷ []))) (same_literal s (1 - side) j (omega arith))
@@ -228,7 +214,7 @@ module _ (old new : Store) (r id : ℕ) (clause : List Lit) (sound : IsSound old
                 | inr e ↦ absurd (early at less o s side e two low falls)
               ];
           now = λ s side i two low falls.
-              elim (in_either s r old.refs (subst (λ (rs : List ℕ). In s rs) ad.refs i)) [
+              elim (in_split s r old.refs (subst (λ (rs : List ℕ). In s rs) ad.refs i)) [
                 | inl j ↦
                     let same : word new.words s ≡ word old.words s = (ad.kept s j).size in
                     ap (holds (lits ++ asserts.first ∷ [])) (same_literal s (1 - side) j (omega arith))

@@ -1,13 +1,12 @@
-use Rattle.std.proofs.Common.{◌≡◌, ◌+◌, ◌≤◌, true, false, Option, Some, None, is_some, length, refl, sym}
+use Rattle.std.proofs.Common.{◌≡◌, ◌+◌, ◌≤◌, true, false, length, refl, sym}
 use Rattle.std.proofs.Common.{subst, ◌∙◌, arith}
-use Rattle.std.proofs.lemmas.Bool.{true≢false}
 use Rattle.resolution_check.specs.declared.log.Lit.{Lit}
 use Rattle.resolution_check.specs.Trails.{fails}
-use Rattle.clause_arena.specs.declared.names.ClauseRef.{ClauseRef}
 use Rattle.clause_arena.specs.Held.{code_of}
 use Rattle.conflict_analysis.proofs.Followed.{own_fails}
 use Rattle.watched_search.specs.Watches.{AllTrue}
 use Rattle.watched_search.proofs.Moved.{view_then}
+use Rattle.watched_search.proofs.Starts.{none_found}
 use Rattle.watched_search.proofs.Walks.{extends_then, extends_within, looked_less, looked_more, still_there}
 use Rattle.watched_search.proofs.walking.propagate.Goals as goal
 
@@ -30,11 +29,6 @@ returns-then-is_some-clause-kept c =
     looked_less c.visit_watches-found.new.arena c.visit_watches-found.new.assigned.lits
     c.visit_watches-found.new.assigned.levels c.args.from c.loop-at.at c.loop-at.invariant.above
     c.visit_watches-found.ensures.kept
-
--- what is not there is none
-none_found : (o : Option ClauseRef) → is_some o ≡ false → o ≡ None
-none_found None h = refl
-none_found (Some x) h = absurd (true≢false h)
 
 pub loop-at-preserved : goal.loop-at-preserved
 loop-at-preserved c =
