@@ -7,13 +7,13 @@ use Rattle.std.proofs.Math.Bool.{or-true}
 use Rattle.std.specs.List.{list_all}
 use Rattle.std.specs.Option.{option_map_or}
 use Rattle.std.specs.Prelude.{AllPairs, slice_get}
-use Rattle.mw_text.proofs.Lists.{all_at}
+use Rattle.mw_text.proofs.Lists.{all_at, item_before}
 use Rattle.route_record.specs.declared.Announcement.{Announcement}
 use Rattle.net_model.specs.World.{IsEarlier, ascends}
 use Rattle.cex_json.specs.Fields.{is_above}
 use Rattle.cex_json.specs.Surroundings.{is_later}
 use Rattle.cex_json.specs.Writable.{EachSplit}
-use Rattle.cex_json.proofs.Places.{item_before, item_behind, pair_at}
+use Rattle.cex_json.proofs.Places.{item_behind, pair_at}
 
 -- ---- numbers
 

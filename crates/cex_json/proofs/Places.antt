@@ -19,13 +19,6 @@ pub item_behind : {A : Type 0} (front rest : List A) (x : A) → slice_get (fron
 item_behind [] rest x = refl
 item_behind (y ∷ front) rest x = item_behind front rest x
 
--- an item of a front
-pub item_before : {A : Type 0} (front rest : List A) (k : ℕ) (x : A) → slice_get front k ≡ Some x →
-    slice_get (front ++ rest) k ≡ Some x
-item_before [] rest k x there = absurd cc
-item_before (y ∷ front) rest zero x there = there
-item_before (y ∷ front) rest (suc k) x there = item_before front rest k x there
-
 -- what holds of all members
 pub all_split : {A : Type 0} (P : A → Type 0) (xs : List A) → All P xs → EachSplit (λ _ x. P x) xs
 all_split P xs all before rest x is =

@@ -11,7 +11,7 @@ use Rattle.std.specs.List.{list_all, list_any}
 use Rattle.std.specs.Option.{option_map_or, option_or}
 use Rattle.std.specs.Prelude.{slice_get}
 use Rattle.std.specs.Str.{IsUtf8}
-use Rattle.mw_text.proofs.Lists.{all_at}
+use Rattle.mw_text.proofs.Lists.{all_at, none_passes}
 use Rattle.mw_text.specs.Text.{same_text}
 use Rattle.ios_ast.specs.declared.file.File.{File}
 use Rattle.net_model.specs.declared.refusals.NetCause.TheVariants.{SameName}
@@ -25,7 +25,7 @@ use Rattle.net_model.specs.Refusals.{refused_by_uses}
 use Rattle.net_model.specs.Refusals.{same_address, same_name, same_name_line, second_area_number, subnet_clash}
 use Rattle.net_model.specs.Refusals.{undefined}
 use Rattle.net_model.specs.Sessions.{end_of, ends_of, sessions}
-use Rattle.net_model.proofs.Few.{few_files}
+use Rattle.net_model.proofs.Few.{few_files, no_line}
 use Rattle.net_model.proofs.FewLinks.{few_links}
 use Rattle.net_model.proofs.Peers.{few_sessions}
 use Rattle.cex_json.specs.Writable.{AreApart, AreTexts, AreWritableFiles, HasIfaceNames, IsHostName, IsWritableNet}
@@ -37,10 +37,6 @@ use Rattle.cex_json.proofs.Subnets.{links_fit}
 left_none : {A : Type 0} (a b : Option A) → option_or a b ≡ None → a ≡ None
 left_none None b none = refl
 left_none (Some x) b none = none
-
-no_line : (broken : Bool) (line : ℕ) → line_if broken line ≡ None → broken ≡ false
-no_line false line none = refl
-no_line true line none = cc
 
 first_none : (at : ℕ) (line : Option ℕ) (later : Option NetRefused) →
     option_map_or (λ n. Some (refused_at SameName at n)) line later ≡ None → (line ≡ None) × (later ≡ None)
@@ -81,13 +77,6 @@ taken [] i j x less there = absurd cc
 taken (y ∷ rest) i zero x less there = absurd (omega arith)
 taken (y ∷ rest) zero (suc j) x less there = there
 taken (y ∷ rest) (suc i) (suc j) x less there = taken rest i j x (omega arith) there
-
-none_passes : {A : Type 0} (p : A → Bool) (xs : List A) (i : ℕ) (x : A) → list_any p xs ≡ false →
-    slice_get xs i ≡ Some x → p x ≡ false
-none_passes p [] i x none there = absurd cc
-none_passes p (y ∷ rest) zero x none there =
-    let same : y ≡ x = cc in ap p (sym same) ∙ (or_parts (p y) (list_any p rest) none).0
-none_passes p (y ∷ rest) (suc i) x none there = none_passes p rest i x (or_parts (p y) (list_any p rest) none).1 there
 
 -- an earlier file has another host name
 other_name : (files : List File) (i j : ℕ) (x y : File) → first_refusal files ≡ None → i < j →

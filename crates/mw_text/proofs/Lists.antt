@@ -92,3 +92,20 @@ beq-true false false h = refl
 pub beq-refl : (a : Bool) → beq a a ≡ true
 beq-refl true = refl
 beq-refl false = refl
+
+-- ---- items at places
+
+-- an item stays where it is when more are put last
+pub item_before : {A : Type 0} (front rest : List A) (k : ℕ) (x : A) → slice_get front k ≡ Some x →
+    slice_get (front ++ rest) k ≡ Some x
+item_before [] rest k x there = absurd cc
+item_before (y ∷ front) rest zero x there = there
+item_before (y ∷ front) rest (suc k) x there = item_before front rest k x there
+
+-- where none passes a test, the item at a place does not
+pub none_passes : {A : Type 0} (p : A → Bool) (xs : List A) (k : ℕ) (x : A) → list_any p xs ≡ false →
+    slice_get xs k ≡ Some x → p x ≡ false
+none_passes p [] k x none there = absurd cc
+none_passes p (y ∷ rest) zero x none there =
+    let same : y ≡ x = cc in ap p (sym same) ∙ (or_parts (p y) (list_any p rest) none).0
+none_passes p (y ∷ rest) (suc k) x none there = none_passes p rest k x (or_parts (p y) (list_any p rest) none).1 there

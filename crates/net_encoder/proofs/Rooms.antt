@@ -16,7 +16,7 @@ use Rattle.std.proofs.lemmas.Option.{option_and_then_some, same_Some}
 use Rattle.mw_text.specs.declared.address.Addr.{Addr}
 use Rattle.mw_text.specs.declared.address.Prefix.{Prefix}
 use Rattle.mw_text.specs.Address.{block, covers, prefix_at, same_prefix}
-use Rattle.mw_text.proofs.Lists.{all_flat_map, all_found}
+use Rattle.mw_text.proofs.Lists.{all_flat_map, all_found, none_passes}
 use Rattle.ios_ast.specs.declared.file.File.{File}
 use Rattle.ios_ast.specs.declared.ospf.Ospf.{Ospf}
 use Rattle.route_record.specs.declared.Environment.{Environment}
@@ -96,13 +96,6 @@ all_from_in P [] each = All-nil P
 all_from_in P (x ∷ xs) each =
     All-cons P x xs (each x (inl refl)) (all_from_in P xs (λ y there. each y (inr there)))
 
-any_none : {X : Type 0} (p : X → Bool) (xs : List X) (k : ℕ) (x : X) → list_any p xs ≡ false →
-    slice_get xs k ≡ Some x → p x ≡ false
-any_none p [] k x none there = cc
-any_none p (y ∷ ys) zero x none there =
-    ap p (sym (same_Some y x there)) ∙ (or_parts (p y) (list_any p ys) none).0
-any_none p (y ∷ ys) (suc k) x none there = any_none p ys k x (or_parts (p y) (list_any p ys) none).1 there
-
 any_in : {X : Type 0} (p : X → Bool) (xs : List X) (x : X) → In x xs → p x ≡ true → list_any p xs ≡ true
 any_in p [] x there passes = absurd there
 any_in p (y ∷ ys) x (inl same) passes = rw (sym (ap p same) ∙ passes) refl
@@ -163,7 +156,7 @@ none_takes : (files : List File) (router : ℕ) (file : File) (process : Ospf) �
     slice_get files router ≡ Some file → file.ospf ≡ Some process → takes_routes process ≡ false
 none_takes files router file process none there runs =
     ap (λ o. option_map_or takes_routes o false) (sym runs)
-    ∙ any_none (λ f. option_map_or takes_routes f.ospf false) files router file none there
+    ∙ none_passes (λ f. option_map_or takes_routes f.ospf false) files router file none there
 
 -- what is true of the origins of interfaces is true of all origins
 origins_are : (files : List File) (failures : Failures) (tables : Tables) (p : Prefix) (P : OspfRec → Type 0) →

@@ -25,7 +25,8 @@ earlier_none None b none = refl
 earlier_none (Some x) None none = cc
 earlier_none (Some x) (Some y) none = cc
 
-no_line : (broken : Bool) (line : ℕ) → line_if broken line ≡ None → broken ≡ false
+-- where no line is named, nothing is broken
+pub no_line : (broken : Bool) (line : ℕ) → line_if broken line ≡ None → broken ≡ false
 no_line false line none = refl
 no_line true line none = cc
 
