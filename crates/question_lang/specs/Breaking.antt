@@ -61,10 +61,6 @@ abbrev pub NoneArrives : List File → World → Start → Target → Type 0
 NoneArrives files world start target =
     (walk : Walk) → IsWalk files world walk → BeginsAt start walk → EndsAt files world target walk → ⊥
 
--- that packets from a router reach a router
-abbrev pub reach_question : ℕ → ℕ → Kind
-reach_question start target = Reach (at_router start) (Router target)
-
 -- what a walk has to be, to break a question
 abbrev pub BreaksBy : List File → World → Kind → Walk → Type 0
 -- it ends, and not at the target; a loop is an end

@@ -6,5 +6,4 @@ pub mod Grammar
 pub mod Naming
 pub mod Known
 pub mod Asking
-pub mod Single
 pub mod Worked

@@ -5,14 +5,12 @@ pub mod asking;
 pub mod forms;
 pub mod laws;
 pub mod named;
-pub mod packet;
 pub mod packets;
 pub mod question;
 pub mod reader;
 pub mod table;
 pub mod walk;
 
-pub use packet::{is_reach, is_single, single_packet};
 pub use question::{Kind, PacketSet, Question, Start, Target};
 pub use reader::{MOST_QUESTIONS, read_questions};
 pub use table::{MOST_FAILURES, MOST_HOPS};

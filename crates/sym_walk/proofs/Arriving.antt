@@ -16,7 +16,7 @@ use Rattle.question_lang.specs.declared.walk.Hop.TheVariants.{To, Ends}
 use Rattle.question_lang.specs.Walks.{GoesOn, MayEnd}
 use Rattle.walk_def.proofs.Members.{last-same}
 use Rattle.walk_def.specs.Arriving.{LastIn}
-use Rattle.walk_def.specs.Safety.{is_end, known}
+use Rattle.walk_def.specs.Marks.{is_end, known}
 use Rattle.sym_walk.specs.Layers.{Forwarding, arrives, arriving, ends_or_sends, sends_on}
 use Rattle.sym_walk.proofs.Edges.{Stands, leading, led, sends_below}
 use Rattle.sym_walk.proofs.Marks.{Below, count, count_most, known_mapped, mapped_known, same_or_more}

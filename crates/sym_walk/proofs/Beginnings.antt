@@ -21,7 +21,7 @@ use Rattle.question_lang.specs.Hops.{all_up, hops_over, next_hops}
 use Rattle.question_lang.specs.Walks.{GoesOn, IsTestedIn, IsWalk, IsWalkOver, MayBegin}
 use Rattle.walk_def.proofs.Inside.{next_hops_inside}
 use Rattle.walk_def.proofs.Members.{test-of_item}
-use Rattle.walk_def.specs.Safety.{is_inside}
+use Rattle.walk_def.specs.Marks.{is_inside}
 use Rattle.sym_walk.specs.Layers.{Forwarding}
 use Rattle.sym_walk.specs.Forwardings.{AreForwarding, IsDenied, IsSought}
 use Rattle.sym_walk.proofs.Edges.{Stands}

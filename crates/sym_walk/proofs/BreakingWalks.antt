@@ -26,7 +26,7 @@ use Rattle.walk_def.proofs.Arrivals.{at_target, from_target}
 use Rattle.walk_def.proofs.Lasts.{no_last}
 use Rattle.walk_def.proofs.Members.{last-same}
 use Rattle.walk_def.specs.Arriving.{LastIn, target_end}
-use Rattle.walk_def.specs.Safety.{is_end, known}
+use Rattle.walk_def.specs.Marks.{is_end, known}
 use Rattle.sym_walk.specs.Layers.{Beginning, Forwarding, arrives, going, is_broken, loops, silent}
 use Rattle.sym_walk.specs.Forwardings.{AreForwarding, IsAtTarget, IsBeginning, IsBeginningOf, IsSought}
 use Rattle.sym_walk.proofs.Arriving.{arrival, arrives_from}

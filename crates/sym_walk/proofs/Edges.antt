@@ -10,7 +10,7 @@ use Rattle.question_lang.specs.declared.walk.End.{End}
 use Rattle.question_lang.specs.declared.walk.Hop.{Hop}
 use Rattle.question_lang.specs.declared.walk.Hop.TheVariants.{To}
 use Rattle.net_model.specs.declared.interfaces.IfaceId.{IfaceId}
-use Rattle.walk_def.specs.Safety.{is_inside, known}
+use Rattle.walk_def.specs.Marks.{is_inside, known}
 use Rattle.sym_walk.specs.Layers.{Edge, Forwarding, leads, sends_on}
 use Rattle.sym_walk.specs.Forwardings.{IsForwarding, sends_to}
 use Rattle.sym_walk.proofs.Marks.{Below}

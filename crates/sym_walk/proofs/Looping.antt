@@ -20,7 +20,7 @@ use Rattle.question_lang.specs.declared.walk.End.TheVariants.{Loop, Open}
 use Rattle.question_lang.specs.declared.walk.Hop.{Hop}
 use Rattle.question_lang.specs.declared.walk.Hop.TheVariants.{To}
 use Rattle.question_lang.specs.Walks.{GoesOn}
-use Rattle.walk_def.specs.Safety.{known}
+use Rattle.walk_def.specs.Marks.{known}
 use Rattle.sym_walk.specs.Layers.{Forwarding, going, loops, sends_on}
 use Rattle.sym_walk.proofs.Edges.{Stands, leading, led}
 use Rattle.sym_walk.proofs.Marks.{known_mapped, mapped_known}

@@ -2,7 +2,7 @@
 use Rattle.std.proofs.Common.{◌≡◌, ℕ, zero, suc, ◌<◌, ◌≤◌, Bool, true, false, List, [], ◌∷◌, length, map}
 use Rattle.std.proofs.Common.{◌⊎◌, inl, inr, Some, refl, ap, arith, ◌∙◌}
 use Rattle.std.specs.Prelude.{slice_get}
-use Rattle.walk_def.specs.Safety.{known}
+use Rattle.walk_def.specs.Marks.{known}
 
 -- what a mark says of the item at its place
 pub known_mapped : {A : Type 0} (test : A → Bool) (xs : List A) (k : ℕ) → known (map test xs) k ≡ true →

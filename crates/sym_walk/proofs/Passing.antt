@@ -11,7 +11,7 @@ use Rattle.question_lang.specs.declared.walk.End.{End}
 use Rattle.question_lang.specs.declared.walk.Hop.{Hop}
 use Rattle.question_lang.specs.declared.walk.Hop.TheVariants.{To, Ends}
 use Rattle.question_lang.specs.Walks.{GoesOn}
-use Rattle.walk_def.specs.Safety.{is_end, is_inside}
+use Rattle.walk_def.specs.Marks.{is_end, is_inside}
 use Rattle.sym_walk.specs.Layers.{Forwarding, silent}
 use Rattle.sym_walk.specs.Forwardings.{IsForwarding}
 use Rattle.sym_walk.proofs.Arriving.{may_end, must_end}

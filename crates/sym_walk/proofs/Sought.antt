@@ -19,7 +19,7 @@ use Rattle.question_lang.specs.declared.walk.End.TheVariants.{Loop, Open}
 use Rattle.question_lang.specs.declared.walk.Hop.{Hop}
 use Rattle.question_lang.specs.declared.walk.Hop.TheVariants.{To, Ends}
 use Rattle.walk_def.specs.Arriving.{IsTargetRouter, target_end}
-use Rattle.walk_def.specs.Safety.{is_delivered}
+use Rattle.walk_def.specs.Marks.{is_delivered}
 use Rattle.sym_walk.specs.Layers.{Forwarding}
 use Rattle.sym_walk.specs.Forwardings.{IsAtTarget, IsForwarding, IsSought}
 use Rattle.sym_walk.specs.Twins.{IsTwin, ends_as, is_lost, is_sought, is_target_end, leads_to, leaves_to}

@@ -9,7 +9,7 @@ use Rattle.term_store.specs.Terms.{Reading, at}
 use Rattle.term_arith.specs.Bits.{bits}
 use Rattle.term_arith.proofs.NumberLemmas.{ids_end_at, ids_end_push, node_steps}
 use Rattle.sym_policy.proofs.Rows.{with_push}
-use Rattle.walk_def.specs.Safety.{known}
+use Rattle.walk_def.specs.Marks.{known}
 use Rattle.sym_walk.specs.declared.forwarding.SymEdge.{SymEdge}
 use Rattle.sym_walk.specs.declared.forwarding.SymForwarding.{SymForwarding}
 use Rattle.sym_walk.specs.Layers.{Forwarding, arrives, arriving, going, loops}

@@ -11,7 +11,7 @@ use Rattle.question_lang.specs.declared.walk.End.TheVariants.{Delivered, Left, N
 use Rattle.question_lang.specs.declared.walk.End.TheVariants.{Loop, Open}
 use Rattle.question_lang.specs.declared.walk.Hop.{Hop}
 use Rattle.question_lang.specs.declared.walk.Hop.TheVariants.{To, Ends}
-use Rattle.walk_def.specs.Safety.{is_delivered}
+use Rattle.walk_def.specs.Marks.{is_delivered}
 use Rattle.sym_walk.specs.Layers.{Forwarding}
 use Rattle.sym_walk.specs.Forwardings.{sends_to}
 

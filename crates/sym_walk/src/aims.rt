@@ -8,7 +8,7 @@ ghost use Rattle.sym_walk.specs.Aims.{sought_by};
 ghost use Rattle.term_store.specs.Terms.{Reading, size, at};
 ghost use Rattle.term_store.specs.Reading.{Reads, Builds, Gives};
 ghost use Rattle.term_arith.specs.Bits.{number, ids_end};
-ghost use Rattle.walk_def.specs.Safety as safety;
+ghost use Rattle.walk_def.specs.Marks.{is_delivered};
 
 use mw_text::Addr;
 use question_lang::{End, Kind, Target};
@@ -25,7 +25,7 @@ pub struct SymAim {
 }
 
 fn is_delivered(end: End) -> bool
-    ensures { result ≡ safety.is_delivered end }
+    ensures { result ≡ is_delivered end }
 {
     matches!(end, End::Delivered)
 }

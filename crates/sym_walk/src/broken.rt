@@ -8,7 +8,7 @@ ghost use Rattle.question_lang.specs.declared.walk.Walk.{Walk as WalkOf};
 ghost use Rattle.question_lang.specs.Breaking.{Breaks};
 ghost use Rattle.term_store.specs.Terms.{Reading, size, at};
 ghost use Rattle.term_store.specs.Reading.{Reads, Builds, Gives};
-ghost use Rattle.walk_def.specs.Safety.{known};
+ghost use Rattle.walk_def.specs.Marks.{known};
 ghost use Rattle.sym_walk.specs.Forwardings.{AreForwarding, IsBeginningOf};
 ghost use Rattle.sym_walk.specs.Layers.{arrives, going, loops, is_broken, silent};
 ghost use Rattle.sym_walk.specs.Symbolic.{beginning_of, beginning_end, forwarding_of, table_of, table_end};

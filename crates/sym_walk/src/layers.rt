@@ -7,7 +7,7 @@ ghost use Rattle.std.specs.Option.{option_map_or};
 ghost use Rattle.term_store.specs.Terms.{Reading, size, at};
 ghost use Rattle.term_store.specs.Reading.{Reads, Builds, Gives};
 ghost use Rattle.term_arith.specs.Bits.{bits, ids_end};
-ghost use Rattle.walk_def.specs.Safety.{known};
+ghost use Rattle.walk_def.specs.Marks.{known};
 ghost use Rattle.sym_walk.specs.Layers.{Edge, Forwarding, leads, sends_on, going, arriving, arrives, loops};
 ghost use Rattle.sym_walk.specs.Symbolic.{edge_of, edges_of, edges_end, forwarding_of, forwarding_end, table_of};
 ghost use Rattle.sym_walk.specs.Symbolic.{table_end, marked_on, marked_first, layered};

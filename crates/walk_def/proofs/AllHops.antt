@@ -6,7 +6,7 @@ use Rattle.route_record.specs.declared.World.{World}
 use Rattle.question_lang.specs.declared.walk.Hop.{Hop}
 use Rattle.question_lang.specs.Hops.{next_hops}
 use Rattle.walk_def.proofs.Inside.{next_hops_inside}
-use Rattle.walk_def.specs.Safety.{is_inside}
+use Rattle.walk_def.specs.Marks.{is_inside}
 
 -- the hops of the router, which stay inside
 abbrev pub IsSent : List File → World → ℕ → List Hop → Type 0

@@ -25,7 +25,7 @@ use Rattle.walk_def.proofs.Members.{last-same}
 use Rattle.walk_def.proofs.Worlds.{begun}
 use Rattle.walk_def.specs.Arriving.{Arrives, lands, goes, AreArriving, AreLanding, AreShut, IsLandingMark}
 use Rattle.walk_def.specs.Arriving.{IsTargetRouter, Lands, LastIn, leads_to_known, target_end}
-use Rattle.walk_def.specs.Safety.{known}
+use Rattle.walk_def.specs.Marks.{known}
 use Rattle.walk_def.specs.Sending.{AreSent}
 
 -- ---- ends at a target

@@ -36,7 +36,7 @@ use Rattle.question_lang.specs.declared.walk.Hop.TheVariants.{To, Ends}
 use Rattle.question_lang.specs.Hops.{all_up, arrive, bgp_hops, connected_hops, depart, entry_hops, hops_over}
 use Rattle.question_lang.specs.Hops.{longest_below, next_hops, ospf_hops, owner_on, permits_in, permits_out}
 use Rattle.question_lang.specs.Hops.{send_adjacent, send_over, send_to, static_hops}
-use Rattle.walk_def.specs.Safety.{is_inside, is_end}
+use Rattle.walk_def.specs.Marks.{is_inside, is_end}
 
 inside_if : (bound : ℕ) (b : Bool) (hop other : Hop) → is_inside bound hop ≡ true → is_inside bound other ≡ true →
     is_inside bound (cond b hop other) ≡ true

@@ -1,15 +1,13 @@
--- Which routers are known to be safe, or were seen, as a list of Booleans.
+-- Which routers are marked, as a list of Booleans.
 use Rattle.std.proofs.Common.{◌≡◌, ℕ, zero, suc, ◌<◌, Bool, true, false, List, [], ◌∷◌, ◌++◌, length, get_or, set}
 use Rattle.std.proofs.Common.{Some, None, refl, ap, arith, ◌∙◌, sym, cond}
 use Rattle.std.specs.Prelude.{sum_by, replicate, slice_get, unwrap_or, Any}
 use Rattle.std.proofs.lemmas.Option.{slice_get_read}
+use Rattle.std.proofs.lemmas.List.Kept.{Any-cons}
 use Rattle.std.proofs.lemmas.List.Quantifiers.{Any-push}
 use Rattle.std.proofs.lemmas.List.Sums.{sum_by-set}
-use Rattle.mw_text.proofs.Lists.{item_there}
 use Rattle.question_lang.specs.declared.question.Start.{Start}
-use Rattle.question_lang.specs.declared.walk.Hop.{Hop}
-use Rattle.walk_def.proofs.SafeWalks.{safe-harmless}
-use Rattle.walk_def.specs.Safety.{known, first_harmful, AreSafe, Safe}
+use Rattle.walk_def.specs.Marks.{known}
 
 -- how many are not known
 abbrev pub unknown_count : List Bool → ℕ
@@ -69,26 +67,11 @@ pub known-from_read : (xs : List Bool) (at : ℕ) (x : Bool) → at < length xs 
 known-from_read xs at x within is marked =
     ap (λ o. unwrap_or o false) (slice_get_read xs (length xs) at x refl within is) ∙ marked
 
--- a router that was found to have harmless hops alone may be marked
-pub marked_safe : (all : List (List Hop)) (target at : ℕ) (safe read : List Bool) → read ≡ safe → at < length all →
-    ((own : List Hop) → slice_get all at ≡ Some own → first_harmful read target at own ≡ None) →
-    AreSafe all target safe → AreSafe all target (set safe at true)
-marked_safe all target at safe read same within harmless sound hops lists router marked =
-    let own = item_there all at within in
-    let none : first_harmful safe target at (hops at) ≡ None =
-    ap (λ xs. first_harmful xs target at (hops at)) (sym same)
-    ∙ ap (first_harmful read target at) (sym (lists at own.0 own.1)) ∙ harmless own.0 own.1 in
-    known-set (λ r. Safe hops target r) safe at router (safe-harmless hops target safe at (sound hops lists) none)
-    (sound hops lists router) marked
-
-any-later : {A : Type 0} (P : A → Type 0) (y : A) (xs : List A) → Any P xs → Any P (y ∷ xs)
-any-later P y xs (k, x, within, is, holds) = (suc k, x, omega arith, is, holds)
-
 any-front : {A : Type 0} (P : A → Type 0) (xs ys : List A) → Any P xs → Any P (xs ++ ys)
 any-front P [] ys (k, x, within, is, holds) = absurd (omega arith)
 any-front P (y ∷ xs) ys (zero, x, within, is, holds) = (zero, x, omega arith, is, holds)
 any-front P (y ∷ xs) ys (suc k, x, within, is, holds) =
-    any-later P y (xs ++ ys) (any-front P xs ys (k, x, omega arith, is, holds))
+    Any-cons P y (xs ++ ys) (any-front P xs ys (k, x, omega arith, is, holds))
 
 -- a router that was stood at is seen
 pub seen-marked : (seen : List Bool) (stood : List Start) (now : Start) →

@@ -18,18 +18,6 @@ test-of_item test (y ∷ ys) x all (suc k, within, is) =
       tail true b h = h
       tail false b h = cc
 
--- where no item fails the test, each passes
-one_more : {A : Type 0} (b : Bool) (x : A) (o : Option A) (rest : Bool) → (o ≡ None → rest ≡ true) →
-    cond (not b) (Some x) o ≡ None → (b && rest) ≡ true
-one_more true x o rest others h = others h
-one_more false x o rest others h = cc
-
-pub all-none_found : {A : Type 0} (test : A → Bool) (xs : List A) → find (λ x. not (test x)) xs ≡ None
-    → list_all test xs ≡ true
-all-none_found test [] none = refl
-all-none_found test (x ∷ xs) none =
-    one_more (test x) x (find (λ y. not (test y)) xs) (list_all test xs) (all-none_found test xs) none
-
 -- what is found is an item, and passes
 found_here : {A : Type 0} (wanted : A → Bool) (b : Bool) (y x : A) (ys : List A) → wanted y ≡ b →
     (find wanted ys ≡ Some x → Contains ys x × (wanted x ≡ true)) → cond b (Some y) (find wanted ys) ≡ Some x →

@@ -1,17 +1,15 @@
--- A walk that breaks that a router is reached, in a world.
+-- A walk from a router, in a world.
 use Rattle.std.specs.Prelude.{option_and_then}
-use Rattle.std.proofs.Common.{◌≡◌, ℕ, zero, suc, arith, List, [], ◌∷◌, Option, Some, None, refl, sym, ap, subst}
+use Rattle.std.proofs.Common.{◌≡◌, ℕ, zero, suc, arith, List, [], ◌∷◌, Some, None, ap}
 use Rattle.ios_ast.specs.declared.file.File.{File}
 use Rattle.route_record.specs.declared.World.{World}
 use Rattle.question_lang.specs.declared.question.Start.{Start}
 use Rattle.question_lang.specs.declared.walk.End.{End}
 use Rattle.question_lang.specs.declared.walk.End.TheVariants.{Delivered, Left, NoRoute, Discarded, DeniedIn, DeniedOut}
 use Rattle.question_lang.specs.declared.walk.End.TheVariants.{Loop, Open}
-use Rattle.question_lang.specs.declared.walk.Walk.{Walk}
 use Rattle.question_lang.specs.Hops.{next_hops}
 use Rattle.question_lang.specs.Walks.{GoesOn, IsWalkOver}
-use Rattle.question_lang.specs.Breaking.{Breaks, at_router, denied_start, reach_question, start_of}
-use Rattle.walk_def.specs.Safety.{GoesWrong}
+use Rattle.question_lang.specs.Breaking.{at_router, denied_start, start_of}
 
 some_none : (n : ℕ) → Some n ≡ None → ⊥
 some_none n h = absurd (let e : zero ≡ suc zero = cc in omega (arith, e))
@@ -36,20 +34,3 @@ pub begun : (files : List File) (world : World) (hops : List Start) (end : End) 
 begun files world [] end start walk begins = absurd (no_start end start begins)
 begun files world (first ∷ rest) end start walk begins =
     let same : first ≡ at_router start = cc in (walk.1, (rest, ap (λ s. s ∷ rest) same))
-
-pub to_wrong : (files : List File) (world : World) (start target : ℕ) (walk : Option Walk) →
-    Breaks files world (reach_question start target) walk →
-    (broken : Walk) × GoesWrong (next_hops files world) (at_router start) target broken
-to_wrong files world start target None breaks = cc
-to_wrong files world start target (Some walk) breaks =
-    let from = begun files world walk.hops walk.end start breaks.0 breaks.1.0 in
-    (walk, (from.0, (from.1, breaks.1.1, breaks.1.2)))
-
-pub from_wrong : (files : List File) (world : World) (start target : ℕ) (walk : Walk) →
-    GoesWrong (next_hops files world) (at_router start) target walk
-    → Breaks files world (reach_question start target) (Some walk)
-from_wrong files world start target walk (goes, (begins, closed, missed)) =
-    let W : List Start → Type 0 = λ hs. GoesOn (next_hops files world) [] hs walk.end
-    → IsWalkOver files world hs walk.end in
-    let B : List Start → Type 0 = λ hs. start_of hs walk.end ≡ Some (at_router start) in
-    (subst W (sym begins.1) (λ on. (tt, on)) goes, (subst B (sym begins.1) refl, closed, missed))

@@ -13,7 +13,7 @@ use Rattle.question_lang.specs.declared.walk.Hop.{Hop}
 use Rattle.question_lang.specs.declared.walk.Hop.TheVariants.{To, Ends}
 use Rattle.question_lang.specs.Breaking.{IsOnSubnet}
 use Rattle.question_lang.specs.Hops.{next_hops}
-use Rattle.walk_def.specs.Safety.{known}
+use Rattle.walk_def.specs.Marks.{known}
 
 -- how a walk to the target ends
 abbrev pub target_end : Target → End

@@ -1,4 +1,4 @@
 pub mod Sending
-pub mod Safety
+pub mod Marks
 pub mod Going
 pub mod Arriving

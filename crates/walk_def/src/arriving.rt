@@ -6,12 +6,12 @@ ghost use Rattle.question_lang.specs.declared.walk.Hop.{Hop as HopOf};
 ghost use Rattle.question_lang.specs.Breaking.{IsOnSubnet, NoneArrives, at_router};
 ghost use Rattle.question_lang.specs.Hops.{next_hops};
 ghost use Rattle.walk_def.specs.Arriving as arriving;
-ghost use Rattle.walk_def.specs.Safety.{known};
+ghost use Rattle.walk_def.specs.Marks.{known};
 ghost use Rattle.walk_def.specs.Sending.{AreSent};
 
+use crate::hops::all_hops;
+use crate::marks::is_known;
 use crate::once::stands_in;
-use crate::safety::is_known;
-use crate::verdict::all_hops;
 use mw_text::{List, Prefix, contains};
 use net_model::Net;
 use question_lang::{End, Hop, Target};
@@ -85,7 +85,8 @@ fn landing(
     Ok(marks)
 }
 
-fn leads_to_known(marks: &[bool], hop: &Hop) -> bool
+/// Whether the hop leads to a router that is marked.
+pub fn leads_to_known(marks: &[bool], hop: &Hop) -> bool
     ensures { result ≡ arriving.leads_to_known marks.now hop.now }
 {
     match hop {
@@ -94,7 +95,8 @@ fn leads_to_known(marks: &[bool], hop: &Hop) -> bool
     }
 }
 
-fn some_leads(marks: &[bool], own: &[Hop]) -> bool
+/// Whether one of the hops leads to a router that is marked.
+pub fn some_leads(marks: &[bool], own: &[Hop]) -> bool
     ensures { result ≡ list_any (arriving.leads_to_known marks.now) own.now }
 {
     own.iter().any(|hop| leads_to_known(marks, hop))

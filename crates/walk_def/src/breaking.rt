@@ -20,7 +20,8 @@ fn is_same_start(a: &Start, b: &Start) -> bool
     a.router == b.router && a.iface == b.iface
 }
 
-fn is_same_end(a: &End, b: &End) -> bool
+/// Whether two ends are one.
+pub fn is_same_end(a: &End, b: &End) -> bool
     ensures yes { result ≡ true → a.now ≡ b.now }
     ensures no { result ≡ false → a.now ≢ b.now }
 {
@@ -134,8 +135,8 @@ fn is_loop_from(start: &Start, walk: &Walk) -> bool
     begins_at(start, walk) && is_same_end(&walk.end, &End::Loop)
 }
 
-// Without a route or at Null0.
-fn is_black_hole(end: &End) -> bool
+/// Whether the packet is lost: without a route or at Null0.
+pub fn is_black_hole(end: &End) -> bool
     ensures yes { result ≡ true → (end.now ≡ End.NoRoute) ⊎ (end.now ≡ End.Discarded) }
     ensures no { result ≡ false → (end.now ≡ End.NoRoute) ⊎ (end.now ≡ End.Discarded) → ⊥ }
 {

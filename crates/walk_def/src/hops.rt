@@ -1,6 +1,6 @@
 //! The next hops of a router.
 
-ghost use Rattle.std.specs.Prelude.{◌≡◌, ◌==◌, ◌&&◌, ◌++◌, ◌∷◌, [], filter, map, IfOk, OnOk, if◌then◌else◌, option_map, slice_get};
+ghost use Rattle.std.specs.Prelude.{◌≡◌, ◌<◌, ◌^◌, ◌==◌, ◌&&◌, ◌++◌, ◌∷◌, [], filter, length, map, IfOk, OnOk, if◌then◌else◌, option_map, slice_get};
 ghost use Rattle.std.specs.List.{find, flat_map, list_any};
 ghost use Rattle.std.specs.Option.{option_copied, option_map_or};
 ghost use Rattle.mw_text.specs.Address.{covers, same_prefix};
@@ -8,6 +8,7 @@ ghost use Rattle.net_model.specs.Routing.{static_routes};
 ghost use Rattle.net_model.specs.Sending.{sent_towards};
 ghost use Rattle.proto_ospf.specs.Reached.{all_reached};
 ghost use Rattle.question_lang.specs.Hops as hops;
+ghost use Rattle.walk_def.specs.Sending.{AreSent};
 
 use crate::adjacent::{held_hops_of, hops_towards};
 use crate::filters::{arrive, depart};
@@ -16,7 +17,7 @@ use ios_ast::{File, StaticRoute, Via};
 use mw_text::{Addr, List, Prefix, contains, prefix_of};
 use net_model::routing::route_counts;
 use net_model::{Addressed, IfaceId, Net};
-use proto_ospf::Reached;
+use proto_ospf::{Reached, all_distances};
 use question_lang::{End, Hop};
 use route_record::{LENGTHS, Packet, RibEntry, RibSource, Slot, Tables, World};
 use std::alloc::{AllocError, Global};
@@ -370,4 +371,18 @@ pub fn list_hops(
             file,
         ),
     }
+}
+
+/// The next hops of each router.
+pub fn all_hops(alloc: Global, net: &Net, world: &World) -> Result<List<List<Hop>>, AllocError>
+    ensures len { IfOk result (λ hops. length hops ≡ length net.now) }
+    ensures few { IfOk result (λ hops. length hops < 2 ^ 32) }
+    ensures sent { IfOk result (λ hops. AreSent net.now world.now hops) }
+{
+    let distances = all_distances(alloc, net, &world.failures)?;
+    let mut hops = List::new(alloc);
+    for at in 0..net.routers().len() {
+        hops.items.push(list_hops(alloc, net, world, distances.as_slice(), at as u32)?)?;
+    }
+    Ok(hops)
 }

@@ -19,7 +19,7 @@ use Rattle.question_lang.specs.Walks.{GoesOn, IsWalk, IsWalkOver, MayBegin}
 use Rattle.walk_def.proofs.Arrivals.{at_target, from_target}
 use Rattle.walk_def.proofs.Members.{last-same}
 use Rattle.walk_def.specs.Arriving.{LastIn, target_end}
-use Rattle.walk_def.specs.Safety.{is_end, known}
+use Rattle.walk_def.specs.Marks.{is_end, known}
 use Rattle.sym_walk.specs.Beginnings.{begins_at}
 use Rattle.sym_walk.specs.Layers.{arrives, going, loops}
 use Rattle.sym_walk.specs.Forwardings.{IsAtTarget, IsDenied, IsSought}

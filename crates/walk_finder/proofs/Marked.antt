@@ -11,7 +11,7 @@ use Rattle.mw_text.proofs.Lists.{each_place-push, item_there}
 use Rattle.question_lang.specs.declared.walk.Hop.{Hop}
 use Rattle.question_lang.specs.declared.walk.Hop.TheVariants.{To, Ends}
 use Rattle.walk_def.specs.Arriving.{leads_to_known}
-use Rattle.walk_def.specs.Safety.{known}
+use Rattle.walk_def.specs.Marks.{known}
 use Rattle.sym_walk.specs.Layers.{Forwarding, arrives, arriving, ends_or_sends, going, leads, loops, sends_on}
 use Rattle.sym_walk.proofs.Marks.{known_mapped}
 use Rattle.walk_finder.specs.declared.rows.Row.{Row}

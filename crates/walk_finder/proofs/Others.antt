@@ -19,7 +19,7 @@ use Rattle.question_lang.specs.Hops.{next_hops}
 use Rattle.question_lang.specs.Walks.{GoesOn, IsWalkOver, MayBegin}
 use Rattle.walk_def.proofs.Arrivals.{at_target}
 use Rattle.walk_def.specs.Arriving.{LastIn}
-use Rattle.walk_def.specs.Safety.{is_end}
+use Rattle.walk_def.specs.Marks.{is_end}
 use Rattle.sym_walk.specs.Layers.{arrives, silent}
 use Rattle.sym_walk.specs.Forwardings.{IsAtTarget}
 use Rattle.sym_walk.proofs.Passing.{passes, without}

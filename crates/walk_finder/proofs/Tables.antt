@@ -21,7 +21,7 @@ use Rattle.question_lang.specs.declared.walk.Hop.TheVariants.{To, Ends}
 use Rattle.question_lang.specs.Hops.{next_hops}
 use Rattle.walk_def.proofs.Inside.{next_hops_inside}
 use Rattle.walk_def.proofs.Members.{test-of_item}
-use Rattle.walk_def.specs.Safety.{is_inside}
+use Rattle.walk_def.specs.Marks.{is_inside}
 use Rattle.sym_walk.specs.Beginnings.{begins_at}
 use Rattle.sym_walk.specs.Layers.{Forwarding, arrives, is_broken}
 use Rattle.sym_walk.specs.Forwardings.{AreForwarding, IsBeginning, IsBeginningOf, IsForwarding, IsSought}

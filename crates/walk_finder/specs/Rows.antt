@@ -4,7 +4,7 @@ use Rattle.std.specs.Option.{is_some}
 use Rattle.question_lang.specs.declared.walk.End.{End}
 use Rattle.question_lang.specs.declared.walk.Hop.{Hop}
 use Rattle.question_lang.specs.declared.walk.Hop.TheVariants.{To, Ends}
-use Rattle.walk_def.specs.Safety.{is_end}
+use Rattle.walk_def.specs.Marks.{is_end}
 use Rattle.sym_walk.specs.Layers.{Edge, Forwarding}
 use Rattle.walk_finder.specs.declared.rows.Row.{Row}
 

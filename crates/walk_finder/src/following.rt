@@ -9,19 +9,20 @@ ghost use Rattle.question_lang.specs.declared.walk.Hop.{Hop as HopOf};
 ghost use Rattle.question_lang.specs.Walks.{LeadsTo};
 ghost use Rattle.sym_walk.specs.Layers.{arrives, going, loops};
 ghost use Rattle.walk_def.specs.Arriving.{leads_to_known};
-ghost use Rattle.walk_def.specs.Safety.{known};
+ghost use Rattle.walk_def.specs.Marks.{known};
 ghost use Rattle.walk_finder.specs.declared.rows.Row.{Row as RowOf};
 ghost use Rattle.walk_finder.specs.Following.{Arrives, Follows};
 ghost use Rattle.walk_finder.specs.Layers.{AreLayers};
 ghost use Rattle.walk_finder.specs.Rows.{AreRowsOf, table_of};
 
-use crate::layers::{layers, leads};
+use crate::layers::layers;
 use crate::rows::Row;
 use mw_text::List;
 use net_model::IfaceId;
 use question_lang::{End, Hop, Start, Walk};
 use std::alloc::{AllocError, Global};
-use walk_def::safety::{is_known, no_marks};
+use walk_def::arriving::leads_to_known;
+use walk_def::marks::{is_known, no_marks};
 
 /// Where a walk stood, and where it stands now.
 #[derive(Drop)]
@@ -33,7 +34,7 @@ struct Trail {
 fn find_leading<'a>(own: &'a [Hop], marks: &[bool]) -> Option<&'a Hop>
     ensures { option_copied result ≡ find (leads_to_known marks.now) own.now }
 {
-    own.iter().find(|hop| leads(marks, hop))
+    own.iter().find(|hop| leads_to_known(marks, hop))
 }
 
 fn first_leading(own: &[Hop], marks: &[bool]) -> Option<Hop>

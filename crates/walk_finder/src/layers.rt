@@ -1,32 +1,13 @@
 //! From which routers a walk of so many hops ends as looked for, or goes on.
 
 ghost use Rattle.std.specs.Prelude.{◌≡◌, ◌<◌, Bool, List as ListOf, Some, map, IfOk, length, slice_get};
-ghost use Rattle.std.specs.List.{list_any};
-ghost use Rattle.walk_def.specs.Arriving.{leads_to_known};
 ghost use Rattle.walk_finder.specs.Layers as layers;
 ghost use Rattle.walk_finder.specs.Rows.{table_of};
 
 use crate::rows::Row;
 use mw_text::List;
-use question_lang::Hop;
 use std::alloc::{AllocError, Global};
-use walk_def::safety::is_known;
-
-/// Whether the hop leads to a router that is marked.
-pub fn leads(marks: &[bool], hop: &Hop) -> bool
-    ensures { result ≡ leads_to_known marks.now hop.now }
-{
-    match hop {
-        Hop::To(i) => is_known(marks, i.router),
-        Hop::Ends(_) => false,
-    }
-}
-
-fn some_leads(marks: &[bool], own: &[Hop]) -> bool
-    ensures { result ≡ list_any (leads_to_known marks.now) own.now }
-{
-    own.iter().any(|hop| leads(marks, hop))
-}
+use walk_def::arriving::some_leads;
 
 fn first_mark(to_ends: bool, row: &Row) -> bool
     ensures { result ≡ layers.first_mark to_ends row.now }

@@ -2,7 +2,7 @@ use Rattle.std.proofs.Common.{arith, length, ap, ◌∙◌}
 use Rattle.std.proofs.Math.ListN.{length-set}
 use Rattle.walk_def.proofs.Arrivals.{first_arrive, known_stays, marked_arrives}
 use Rattle.walk_def.proofs.Known.{fewer_known}
-use Rattle.walk_def.specs.Safety.{known}
+use Rattle.walk_def.specs.Marks.{known}
 use Rattle.walk_def.proofs.arriving.arriving_from.Goals as goal
 
 pub rounds-smaller : goal.rounds-smaller

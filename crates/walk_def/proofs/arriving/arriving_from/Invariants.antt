@@ -1,7 +1,7 @@
 use Rattle.std.proofs.Common.{◌≡◌, ℕ, true, length}
 use Rattle.walk_def.proofs.Known.{unknown_count}
 use Rattle.walk_def.specs.Arriving.{AreArriving}
-use Rattle.walk_def.specs.Safety.{known}
+use Rattle.walk_def.specs.Marks.{known}
 use Rattle.walk_def.proofs.arriving.arriving_from.Given as goal
 
 -- a mark for each router; from each marked one hops lead to a first mark, and these are marked

@@ -3,7 +3,7 @@ use Rattle.std.proofs.lemmas.Bool.{not-false, not-true}
 use Rattle.question_lang.specs.declared.walk.Hop.{Hop}
 use Rattle.walk_def.proofs.Arrivals.{no_arrival, some_arrives}
 use Rattle.walk_def.specs.Arriving.{AreArriving, AreLanding, AreShut}
-use Rattle.walk_def.specs.Safety.{known}
+use Rattle.walk_def.specs.Marks.{known}
 use Rattle.walk_def.proofs.arriving.none_arrives.Goals as goal
 
 pub returns-clause-yes : goal.returns-clause-yes

@@ -5,7 +5,7 @@ use Rattle.question_lang.specs.declared.question.Start.{Start}
 use Rattle.question_lang.specs.declared.walk.Hop.{Hop}
 use Rattle.walk_def.proofs.Following.{Begun, Followed, begun-start, followed-start}
 use Rattle.walk_def.proofs.Known.{fewer, known-from_read, seen-marked, unmarked, unmarked-length}
-use Rattle.walk_def.specs.Safety.{known}
+use Rattle.walk_def.specs.Marks.{known}
 use Rattle.walk_finder.specs.Rows.{AreRowsOf}
 use Rattle.walk_finder.proofs.Marked.{going_all, going_within}
 use Rattle.walk_finder.proofs.Trails.{begun_on, followed, followed_on, hops_lead, hops_marked, loop_end, unset_most}

@@ -2,7 +2,7 @@ use Rattle.std.proofs.Common.{◌≡◌, ℕ, List, Some, length}
 use Rattle.std.specs.Prelude.{slice_get}
 use Rattle.question_lang.specs.declared.walk.Hop.{Hop}
 use Rattle.walk_def.proofs.AllHops.{IsSent}
-use Rattle.walk_def.proofs.verdict.all_hops.Given as goal
+use Rattle.walk_def.proofs.hops.all_hops.Given as goal
 
 -- the hops of each router so far
 abbrev pub invariant-loop-at : goal.invariant-loop-at

@@ -2,7 +2,7 @@ use Rattle.std.proofs.Common.{rules, length, sym, ap, ◌∙◌}
 use Rattle.std.specs.Prelude.{slice_get}
 use Rattle.mw_text.proofs.Lists.{each_place-push}
 use Rattle.walk_def.proofs.AllHops.{IsSent, sent_here}
-use Rattle.walk_def.proofs.verdict.all_hops.Goals as goal
+use Rattle.walk_def.proofs.hops.all_hops.Goals as goal
 
 pub loop-at-preserved : goal.loop-at-preserved
 loop-at-preserved c =
