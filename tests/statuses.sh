@@ -59,6 +59,8 @@ else
     echo "FAILED: the verdicts are $verdicts"
     failed=1
 fi
+run verify "$top/examples/ring-of-four/questions.txt" "$top"/examples/ring-of-four/g*.cfg
+ended "0, a ring with access lists" 0 "holds g1"
 run --log log.txt verify "$triangle/one-failure.txt" "$@"
 ended "0, with a log" 0 "holds q1"
 if [ "$(head -n 1 log.txt)" = "q q1" ] && [ "$(tail -n 1 log.txt)" = "e" ] && grep -q '^a [0-9]* 0 ' log.txt; then
