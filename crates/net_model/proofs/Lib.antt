@@ -10,3 +10,4 @@ pub mod Few
 pub mod Ids
 pub mod Costs
 pub mod Equations
+pub mod InOrder

@@ -14,6 +14,7 @@ pub mod OspfRoutes
 pub mod Exports
 pub mod Tracked
 pub mod Refusals
+pub mod Apart
 pub mod Decisions
 pub mod Entries
 pub mod Sending

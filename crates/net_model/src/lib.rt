@@ -2,6 +2,7 @@
 #![tactic(auto)]
 
 pub mod adjacencies;
+mod apart;
 pub mod clashes;
 pub mod connected;
 pub mod connections;

@@ -1,9 +1,11 @@
 //! Which files form no network, at which line and by which rule.
 
-ghost use Rattle.std.specs.Prelude.{◌≡◌, IfOk, drop, take};
+ghost use Rattle.std.specs.Prelude.{◌≡◌, IfOk, Some, drop, slice_get, take, true};
 ghost use Rattle.std.specs.Option.{option_or};
+ghost use Rattle.net_model.specs.Apart.{KeptAbroad};
 ghost use Rattle.net_model.specs.Refusals as refusals;
 
+use crate::apart::are_apart;
 use crate::clashes::{same_address_line, same_name_line, subnet_clash_line};
 use crate::connections::{internal_peer_line, second_area_line, unconnected_line};
 use crate::tracking::limit_line;
@@ -93,6 +95,34 @@ fn refused_at(cause: NetCause, file: usize, line: u32) -> NetRefused
     }
 }
 
+// Whether the rule is kept between files, where a fast test tells.
+fn is_kept_abroad(alloc: Global, cause: NetCause, files: &[File]) -> Result<bool, AllocError>
+    ensures { IfOk result (λ kept. kept ≡ true → KeptAbroad cause files.now) }
+{
+    match cause {
+        NetCause::SameAddress | NetCause::SubnetClash => are_apart(alloc, files),
+        _ => Ok(false),
+    }
+}
+
+// The first line of the file of that number that breaks the rule. Earlier files are not looked at where it is kept abroad.
+fn broken_line_at(
+    alloc: Global,
+    cause: NetCause,
+    files: &[File],
+    at: usize,
+    file: &File,
+    kept_abroad: bool,
+) -> Result<Option<u32>, AllocError>
+    requires there { slice_get files.now at ≡ Some file.now }
+    requires abroad { kept_abroad ≡ true → KeptAbroad cause files.now }
+    ensures { IfOk result (λ line. line ≡ refusals.broken_line cause files.now (take at files.now) file.now) }
+{
+    let first = if kept_abroad { 0 } else { at };
+    let (before, _) = files.split_at(first);
+    broken_line(alloc, cause, files, before, file)
+}
+
 /// The first file that breaks the rule, and its first line that does. None exactly where the files keep it.
 #[tactic(auto, unfolding(crate::specs::Refusals::first_broken))]
 pub fn first_broken(
@@ -102,9 +132,9 @@ pub fn first_broken(
 ) -> Result<Option<NetRefused>, AllocError>
     ensures { IfOk result (λ found. found ≡ refusals.first_broken cause files.now) }
 {
+    let kept_abroad = is_kept_abroad(alloc, cause, files)?;
     for (at, file) in files.iter().enumerate() {
-        let (before, _) = files.split_at(at);
-        if let Some(line) = broken_line(alloc, cause, files, before, file)? {
+        if let Some(line) = broken_line_at(alloc, cause, files, at, file, kept_abroad)? {
             return Ok(Some(refused_at(cause, at, line)));
         }
     }
