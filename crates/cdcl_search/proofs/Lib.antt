@@ -1,11 +1,4 @@
-pub mod Books
 pub mod Bound
 pub mod Codes
-pub mod Earned
-pub mod Followed
-pub mod Kept
-pub mod Levels
 pub mod Logs
-pub mod Places
-pub mod Trails
-pub mod Values
+pub mod Ready

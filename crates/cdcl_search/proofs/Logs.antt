@@ -1,45 +1,45 @@
 -- The log of a search: its entries and their lines.
 use Rattle.resolution_check.proofs.Values.{below_larger}
-use Rattle.std.proofs.Common.{◌≡◌, ℕ, zero, suc, ◌+◌, ◌<◌, ◌≤◌, ◌^◌, ◌==◌, Bool, true, false, cond, ◌||◌, List, []}
+use Rattle.std.proofs.Common.{◌≡◌, ℕ, ◌+◌, ◌<◌, ◌≤◌, ◌^◌, ◌==◌, Bool, true, false, cond, ◌||◌, List, []}
 use Rattle.std.proofs.Common.{◌∷◌, ◌++◌, length, take, drop, slice_get, Option, Some, None, is_some, Result, Ok, Err}
 use Rattle.std.proofs.Common.{IfOk, refl, sym, ap, ap₂, subst, ◌∙◌, arith, inl, inr, add-zero, append_assoc}
-use Rattle.std.proofs.Common.{length-append, take-append-drop}
+use Rattle.std.proofs.Common.{take-append-drop}
 use Rattle.cnf_blaster.proofs.Properness.{weaker}
-use Rattle.std.specs.Option.{option_or}
+use Rattle.std.specs.Option.{option_or, option_map_or, ok_or}
 use Rattle.std.specs.List.{list_all, AllByRecursion}
-use Rattle.std.proofs.lemmas.Bool.{and_parts, ltb-true, leb-true, cases_Bool, eqb-true, eq-eqb, false≢true}
+use Rattle.std.proofs.lemmas.Bool.{and_parts, ltb-true, cases_Bool, eqb-true, false≢true}
 use Rattle.std.proofs.lemmas.Bool.{false_from_ne_true}
 use Rattle.std.proofs.lemmas.List.{append-nil, length-take}
 use Rattle.std.proofs.lemmas.Option.{slice_get_within}
 use Rattle.std.proofs.lemmas.Grind.{flat_map-append}
-use Rattle.std.proofs.Math.Path.{fun_ext}
 use Rattle.mw_outside.specs.Taken.{Takes, TakesPart, takes_more, part_of_all, part_stops, part_more}
 use Rattle.resolution_check.specs.declared.log.Lit.{Lit}
 use Rattle.resolution_check.specs.declared.log.Clause.{Clause}
 use Rattle.resolution_check.specs.declared.log.Entry.{Entry}
 use Rattle.resolution_check.specs.declared.log.Entry.TheVariants.{Input, Add, Delete, End}
-use Rattle.resolution_check.specs.Entries.{clause_by, deletes, is_end, is_empty, is_refutation, clause_given, is_given}
-use Rattle.resolution_check.specs.Entries.{is_deleted, clause_held, has_ended, adds_empty, addition_count, inputs}
-use Rattle.resolution_check.specs.Entries.{resolved, KeepsGood, IsGood, IsUnsatisfiable}
+use Rattle.resolution_check.specs.declared.log.Bad.{Bad}
+use Rattle.resolution_check.specs.declared.log.Bad.TheVariants.{NoPivot, UnknownId}
+use Rattle.resolution_check.specs.Entries.{and_then, clause_by, deletes, is_end, is_empty, is_refutation, clause_given}
+use Rattle.resolution_check.specs.Entries.{is_given, is_deleted, clause_held, has_ended, adds_empty, addition_count}
+use Rattle.resolution_check.specs.Entries.{inputs, resolved, resolved_next, resolved_from, KeepsGood, IsGood}
+use Rattle.resolution_check.specs.Entries.{IsUnsatisfiable}
 use Rattle.resolution_check.proofs.Truth.{unsatisfiable}
-use Rattle.resolution_check.specs.Earned.{AllEarned, IsEarned, IsSpaced, MayFollow, IsAscending, GoesUp, IsAbove}
-use Rattle.resolution_check.specs.Clauses.{is_inside, is_below}
-use Rattle.cdcl_search.specs.declared.trail.Step.{Step}
+use Rattle.resolution_check.specs.Earned.{AllEarned, IsEarned, IsEarnedAddition, IsSpaced, MayFollow, IsAscending}
+use Rattle.resolution_check.specs.Earned.{GoesUp, IsAbove}
+use Rattle.resolution_check.specs.Clauses.{is_below, resolvent}
 use Rattle.resolution_check.specs.Text.{line_of, log_text, HasText}
-use Rattle.resolution_check.proofs.Goods.{each_push, clause_given-push, any-push}
+use Rattle.resolution_check.proofs.Goods.{each_push, clause_given-push, any-push, given_from_deleted}
 use Rattle.resolution_check.proofs.Accepted.{count-push}
-use Rattle.resolution_check.proofs.Resolvents.{inside-same}
-use Rattle.cdcl_search.specs.Books.{are_filled}
-use Rattle.cdcl_search.specs.Trails.{AreFresh}
-use Rattle.cdcl_search.specs.Levels.{AreFull}
-use Rattle.cdcl_search.proofs.Earned.{smallest}
-use Rattle.cdcl_search.specs.Learning.{numbered, are_numbers, IsLesson}
+use Rattle.clause_arena.specs.Held.{clause_numbered}
+use Rattle.watched_search.specs.Sets.{AreSameSets, IsAddition}
+use Rattle.watched_search.specs.Starts.{numbered_from}
+use Rattle.watched_search.proofs.Places.{all_push}
+use Rattle.watched_search.proofs.Sets.{earned_addition, sets_more}
 use Rattle.cdcl_search.specs.declared.outcome.Outcome.{Outcome}
 use Rattle.cdcl_search.specs.declared.outcome.Outcome.TheVariants.{Unsat, Sat, Unknown}
 use Rattle.cdcl_search.specs.Outcomes.{input_entries, adds_or_deletes, IsSearchLog, IsCut, IsLogged, OnUnsat}
 use Rattle.cdcl_search.specs.Going.{IsGoing, IsRefuted}
-use Rattle.cdcl_search.proofs.Places.{all_push}
-use Rattle.resolution_check.proofs.Variables.{same_bool, take_at}
+use Rattle.resolution_check.proofs.Variables.{take_at}
 
 -- ---- what has a text
 
@@ -47,14 +47,56 @@ pub below_each : (limit : ℕ) (c : List Lit) → is_below limit c ≡ true → 
 below_each limit [] h = tt
 below_each limit (l ∷ c) h = (ltb-true l.var limit (and_parts _ _ h).0, below_each limit c (and_parts _ _ h).1)
 
-pub numbers_each : (count limit : ℕ) (ids : List ℕ) → count ≤ limit → are_numbers count ids ≡ true
-    → AllByRecursion (λ n. (0 < n) × (n ≤ limit)) ids
-numbers_each count limit [] within h = tt
-numbers_each count limit (id ∷ ids) within h =
-    let here = and_parts _ _ (and_parts _ _ h).0 in
-    let above : 0 < id = ltb-true 0 id here.0 in
-    let known : id ≤ count = leb-true id count here.1 in
-    ((above, omega arith), numbers_each count limit ids within (and_parts _ _ h).1)
+-- numbers that a log may name
+abbrev MayBeNamed : ℕ → Type 0
+MayBeNamed n = (0 < n) × (n ≤ 2 ^ 63)
+
+-- a chain that resolves names clauses that are held
+module _ (held : ℕ → Option Clause) (each : (n : ℕ) (c : Clause) → held n ≡ Some c → MayBeNamed n) where
+  chain_next : (r : List Lit) (at id : ℕ) (t : List Lit) → resolved_next held r at id ≡ Ok t → MayBeNamed id
+  chain_next r at id t e = by (held id) refl e
+    where
+      by : (o : Option Clause) → held id ≡ o
+          → option_map_or (λ c. ok_or (resolvent r c.lits) (NoPivot at)) o (Err (UnknownId id)) ≡ Ok t
+          → MayBeNamed id
+      by None there f = absurd (cc)
+      by (Some c) there f = each id c there
+
+  chain_rest : (ids : List ℕ) (at : ℕ) (t : List Lit) (id : ℕ) (answer : Result (List Lit) Bad)
+      → ((v : List Lit) → answer ≡ Ok v → MayBeNamed id)
+      → ((v : List Lit) → resolved_from held v (at + 1) ids ≡ Ok t → AllByRecursion MayBeNamed ids)
+      → and_then answer (λ v. resolved_from held v (at + 1) ids) ≡ Ok t → AllByRecursion MayBeNamed (id ∷ ids)
+  chain_rest ids at t id (Ok v) here later e = (here v refl, later v e)
+  chain_rest ids at t id (Err bad) here later e = absurd (cc)
+
+  chain_from : (ids : List ℕ) (r : List Lit) (at : ℕ) (t : List Lit) → resolved_from held r at ids ≡ Ok t
+      → AllByRecursion MayBeNamed ids
+  chain_from [] r at t e = tt
+  chain_from (id ∷ ids) r at t e =
+      chain_rest ids at t id (resolved_next held r at id) (λ v f. chain_next r at id v f)
+      (λ v f. chain_from ids v (at + 1) t f) e
+
+  chain_named : (chain : List ℕ) (t : List Lit) → resolved held chain ≡ Ok t → AllByRecursion MayBeNamed chain
+  chain_named [] t e = absurd (cc)
+  chain_named (id ∷ ids) t e = by (held id) refl e
+    where
+      by : (o : Option Clause) → held id ≡ o
+          → option_map_or (λ c. resolved_from held c.lits 1 ids) o (Err (UnknownId id)) ≡ Ok t
+          → AllByRecursion MayBeNamed (id ∷ ids)
+      by None there f = absurd (cc)
+      by (Some c) there f = (each id c there, chain_from ids c.lits 1 t f)
+
+-- an addition to clauses of numbers below its own has a text
+pub addition_text : (held : ℕ → Option Clause) (vars id : ℕ) (lits : List Lit) (chain : List ℕ) → 0 < id → id ≤ 2 ^ 63
+    → vars ≤ 2 ^ 63 → is_below vars lits ≡ true
+    → ((n : ℕ) (c : Clause) → held n ≡ Some c → (0 < n) × (n < id)) → IsAddition held lits chain
+    → HasText (Add id (record { lits = lits }) chain)
+addition_text held vars id lits chain some few small below each one = (
+  (some, few),
+  below_each _ lits (below_larger vars _ lits small below),
+  chain_named held (λ n c h. (let e = each n c h in (e.0, let low : n < id = e.1 in omega arith))) chain one.clause
+      one.resolves,
+)
 
 -- ---- inputs and their lines
 
@@ -113,100 +155,64 @@ inputs_part before middle now cs at c there first second =
     (part_stops before now (log_text (input_entries 1 front)) (log_text (input_entries (1 + length front) rest))
     (subst P (sym (text_next cs at c there)) (part_more before middle now _ _ first second)))
 
--- ---- good lists that give exactly these clauses
+-- ---- lists of entries so far, and the next number
 
-pub record IsHeld (es : List Entry) (clauses : List Clause) : Type 0 where
+pub record IsWritten (es : List Entry) (next : ℕ) : Type 0 where
   pub good : IsGood es
-  pub given : (id : ℕ) → clause_given es id ≡ numbered clauses id
-  pub kept : (id : ℕ) → is_deleted es id ≡ false
   pub not_ended : has_ended es ≡ false
   pub earned : AllEarned es
   pub spaced : IsSpaced es
   pub ascending : IsAscending es
   pub texts : AllByRecursion HasText es
+  pub above : IsAbove es next
 
--- the next number is above those given
-next_is_above : (es : List Entry) (clauses : List Clause) → IsHeld es clauses → IsAbove es (length clauses + 1)
-next_is_above es clauses h zero given = omega arith
-next_is_above es clauses h (suc place) given =
-    by (slice_get clauses place) refl (sym (ap is_some (h.given (suc place))) ∙ given)
-  where
-    by : (o : Option Clause) → slice_get clauses place ≡ o → is_some o ≡ true → suc place < length clauses + 1
-    by None there some = absurd (false≢true some)
-    by (Some c) there some = let within = slice_get_within clauses place c there in omega arith
-
--- so it is not given yet
-next_is_new : (es : List Entry) (clauses : List Clause) → IsHeld es clauses → is_given es (length clauses + 1) ≡ false
-next_is_new es clauses h =
-    false_from_ne_true _ (λ given. let above = next_is_above es clauses h (length clauses + 1) given in omega arith)
-
-same_test : (m n j k : ℕ) → (m ≡ n → j ≡ k) → (j ≡ k → m ≡ n) → (m == n) ≡ (j == k)
-same_test m n j k there back =
-    same_bool (m == n) (j == k) (λ h. eq-eqb j k (there (eqb-true m n h))) (λ h. eq-eqb m n (back (eqb-true j k h)))
-
-no_test : (m n : ℕ) → (m ≡ n → ⊥) → (m == n) ≡ false
-no_test m n h = elim (cases_Bool (m == n)) [ inl e ↦ absurd (h (eqb-true m n e)) | inr e ↦ e ]
-
-numbered-push : (cs : List Clause) (c : Clause) (id : ℕ)
-    → numbered (cs ++ c ∷ []) id ≡ option_or (numbered cs id) (cond (length cs + 1 == id) (Some c) None)
-numbered-push cs c zero = ap (λ b. cond b (Some c) None) (sym (no_test (length cs + 1) 0 (λ h. omega arith)))
-numbered-push cs c (suc k) =
-    by cs k
-    ∙ ap (λ b. option_or (slice_get cs k) (cond b (Some c) None))
-    (same_test (length cs) k (length cs + 1) (suc k) (λ h. omega arith) (λ h. omega arith))
-  where
-    by : (ds : List Clause) (j : ℕ)
-        → slice_get (ds ++ c ∷ []) j ≡ option_or (slice_get ds j) (cond (length ds == j) (Some c) None)
-    by [] zero = refl
-    by [] (suc j) = ap (λ b. cond b (Some c) None) (sym (no_test 0 (suc j) (λ h. omega arith)))
-    by (d ∷ ds) zero = refl
-    by (d ∷ ds) (suc j) =
-        by ds j
-        ∙ ap (λ b. option_or (slice_get ds j) (cond b (Some c) None))
-        (same_test (length ds) j (length (d ∷ ds)) (suc j) (λ h. omega arith) (λ h. omega arith))
+-- the next number is not given yet
+next_is_new : (es : List Entry) (next : ℕ) → IsAbove es next → is_given es next ≡ false
+next_is_new es next above = false_from_ne_true _ (λ given. let h : next < next = above next given in omega arith)
 
 texts_push : (es : List Entry) (e : Entry) → AllByRecursion HasText es → HasText e
     → AllByRecursion HasText (es ++ e ∷ [])
 texts_push [] e h k = (k, tt)
 texts_push (d ∷ es) e h k = (h.0, texts_push es e h.1 k)
 
+-- the numbers given are below the one after the next
+above_next : (es : List Entry) (e : Entry) (next : ℕ) (c : Clause) → IsAbove es next
+    → ((id : ℕ) → clause_by id e ≡ cond (next == id) (Some c) None) → IsAbove (es ++ e ∷ []) (next + 1)
+above_next es e next c above gives_it other given =
+    by (clause_given es other) refl (next == other) refl
+    (sym (ap is_some (clause_given-push es e other ∙ ap (option_or (clause_given es other)) (gives_it other))) ∙ given)
+  where
+    by : (o : Option Clause) → clause_given es other ≡ o → (b : Bool) → (next == other) ≡ b
+        → is_some (option_or o (cond b (Some c) None)) ≡ true → other < next + 1
+    by (Some d) e b f h = let low : other < next = above other (ap is_some e) in omega arith
+    by None e true f h = let same : next ≡ other = eqb-true next other f in omega arith
+    by None e false f h = absurd (false≢true h)
+
 -- one entry more, which gives the next number
-pub held_more : (es : List Entry) (e : Entry) (clauses : List Clause) (c : Clause) → IsHeld es clauses
+written_more : (es : List Entry) (e : Entry) (next : ℕ) (c : Clause) → IsWritten es next
     → KeepsGood es e → IsEarned es e → MayFollow es e → GoesUp es e → HasText e
-    → ((id : ℕ) → clause_by id e ≡ cond (length clauses + 1 == id) (Some c) None) → ((id : ℕ) → deletes id e ≡ false)
-    → is_end e ≡ false
-    → IsHeld (es ++ e ∷ []) (clauses ++ c ∷ [])
-held_more es e clauses c h good earned may up text gives_it keeps goes_on = record {
-  good = each_push KeepsGood es e h.good good;
-  given = λ id. clause_given-push es e id ∙ ap₂ option_or (h.given id) (gives_it id) ∙ sym (numbered-push clauses c id);
-  kept = λ id. any-push (deletes id) es e ∙ ap₂ (λ a b. a || b) (h.kept id) (keeps id);
-  not_ended = any-push is_end es e ∙ ap₂ (λ a b. a || b) h.not_ended goes_on;
-  earned = each_push IsEarned es e h.earned earned;
-  spaced = each_push MayFollow es e h.spaced may;
-  ascending = each_push GoesUp es e h.ascending up;
-  texts = texts_push es e h.texts text;
+    → ((id : ℕ) → clause_by id e ≡ cond (next == id) (Some c) None) → is_end e ≡ false
+    → IsWritten (es ++ e ∷ []) (next + 1)
+written_more es e next c w good earned may up text gives_it goes_on = record {
+  good = each_push KeepsGood es e w.good good;
+  not_ended = any-push is_end es e ∙ ap₂ (λ a b. a || b) w.not_ended goes_on;
+  earned = each_push IsEarned es e w.earned earned;
+  spaced = each_push MayFollow es e w.spaced may;
+  ascending = each_push GoesUp es e w.ascending up;
+  texts = texts_push es e w.texts text;
+  above = above_next es e next c w.above gives_it;
 }
 
-pub held_none : IsHeld [] []
-held_none = record {
+written_none : IsWritten [] 1
+written_none = record {
   good = tt;
-  given = none;
-  kept = λ id. refl;
   not_ended = refl;
   earned = tt;
   spaced = tt;
   ascending = tt;
   texts = tt;
+  above = λ other given. absurd (false≢true given);
 }
-  where
-    none : (id : ℕ) → clause_given [] id ≡ numbered [] id
-    none zero = refl
-    none (suc k) = refl
-
--- clauses that a log may have as inputs
-pub record MayBeInputs (count : ℕ) (cs : List Clause) : Type 0 where
-  pub small : list_all (λ c. is_below (2 ^ 63) c.lits) cs ≡ true
-  pub few : count + length cs ≤ 2 ^ 63
 
 pub small_inputs : (vars : ℕ) (cs : List Clause) → vars ≤ 2 ^ 63 → list_all (λ c. is_below vars c.lits) cs ≡ true
     → list_all (λ c. is_below (2 ^ 63) c.lits) cs ≡ true
@@ -214,37 +220,28 @@ small_inputs vars cs few below =
     weaker (λ (k : Clause). is_below vars k.lits) (λ (k : Clause). is_below _ k.lits) cs
     (λ k. below_larger vars _ k.lits few) below
 
-may_be_inputs : (vars : ℕ) (cs : List Clause) → vars ≤ 2 ^ 63 → length cs ≤ 2 ^ 63
-    → list_all (λ c. is_below vars c.lits) cs ≡ true → MayBeInputs 0 cs
-may_be_inputs vars cs few numbers below = record { small = small_inputs vars cs few below; few = omega arith }
+-- inputs under the next numbers
+written_inputs : (next : ℕ) (cs : List Clause) (es : List Entry) → 0 < next → next + length cs ≤ 2 ^ 63 + 1
+    → list_all (λ c. is_below (2 ^ 63) c.lits) cs ≡ true → IsWritten es next
+    → IsWritten (es ++ input_entries next cs) (next + length cs)
+written_inputs next [] es some few small w =
+    subst (IsWritten (es ++ [])) (sym (add-zero next)) (subst (λ l. IsWritten l next) (sym (append-nil es)) w)
+written_inputs next (c ∷ cs) es some few small w =
+    let e = Input next c in
+    let both = and_parts (is_below (2 ^ 63) c.lits) (list_all (λ (d : Clause). is_below (2 ^ 63) d.lits) cs) small in
+    let long : next + length (c ∷ cs) ≡ (next + 1) + length cs = omega arith in
+    let text : HasText e = ((some, omega arith), below_each _ c.lits both.0) in
+    let one : IsWritten (es ++ e ∷ []) (next + 1) =
+    written_more es e next c w (w.not_ended, next_is_new es next w.above) tt tt w.above text (λ id. refl) refl in
+    let rest = written_inputs (next + 1) cs (es ++ e ∷ []) (omega arith) (omega arith) both.1 one in
+    subst (λ l. IsWritten l (next + length (c ∷ cs))) (append_assoc es (e ∷ []) (input_entries (next + 1) cs))
+    (subst (IsWritten ((es ++ e ∷ []) ++ input_entries (next + 1) cs)) (sym long) rest)
 
-held_inputs : (before cs : List Clause) (es : List Entry) → MayBeInputs (length before) cs → IsHeld es before
-    → IsHeld (es ++ input_entries (length before + 1) cs) (before ++ cs)
-held_inputs before [] es may h =
-    let P : List Entry → Type 0 = λ l. IsHeld l (before ++ []) in
-    subst P (sym (append-nil es)) (subst (λ ds. IsHeld es ds) (sym (append-nil before)) h)
-held_inputs before (c ∷ cs) es may h =
-    let e = Input (length before + 1) c in
-    let small = and_parts _ _ may.small in
-    let few : length before + 1 + length cs ≤ 2 ^ 63 = omega (arith, may.few) in
-    let text : HasText e = ((omega arith, omega arith), below_each _ c.lits small.0) in
-    let one : IsHeld (es ++ e ∷ []) (before ++ c ∷ []) =
-    held_more es e before c h (h.not_ended, next_is_new es before h) tt tt (next_is_above es before h) text
-    (λ id. refl) (λ id. refl) refl in
-    let longer : length (before ++ c ∷ []) ≡ length before + 1 = length-append before (c ∷ []) in
-    let rest =
-    held_inputs (before ++ c ∷ []) cs (es ++ e ∷ [])
-    (record { small = small.1; few = subst (λ n. n + length cs ≤ 2 ^ 63) (sym longer) few }) one in
-    let number : length (before ++ c ∷ []) + 1 ≡ (length before + 1) + 1 = ap (λ n. n + 1) longer in
-    let P : List Entry → Type 0 = λ l. IsHeld l (before ++ c ∷ cs) in
-    let Q : List Clause → Type 0 =
-    λ ds. IsHeld ((es ++ e ∷ []) ++ input_entries (length (before ++ c ∷ []) + 1) cs) ds in
-    subst P (ap (λ k. (es ++ e ∷ []) ++ input_entries k cs) number
-    ∙ append_assoc es (e ∷ []) (input_entries ((length before + 1) + 1) cs))
-    (subst Q (append_assoc before (c ∷ []) cs) rest)
-
-inputs_held : (cs : List Clause) → MayBeInputs 0 cs → IsHeld (input_entries 1 cs) cs
-inputs_held cs may = held_inputs [] cs [] may held_none
+-- the inputs of a formula, from number 1 on
+inputs_written : (vars : ℕ) (cs : List Clause) → vars ≤ 2 ^ 63 → length cs ≤ 2 ^ 63
+    → list_all (λ c. is_below vars c.lits) cs ≡ true → IsWritten (input_entries 1 cs) (1 + length cs)
+inputs_written vars cs few numbers below =
+    written_inputs 1 cs [] (omega arith) (omega arith) (small_inputs vars cs few below) written_none
 
 inputs_count : (id : ℕ) (cs : List Clause) → addition_count (input_entries id cs) ≡ 0
 inputs_count id [] = refl
@@ -253,6 +250,26 @@ inputs_count id (c ∷ cs) = inputs_count (id + 1) cs
 inputs_empty : (id : ℕ) (cs : List Clause) → adds_empty (input_entries id cs) ≡ false
 inputs_empty id [] = refl
 inputs_empty id (c ∷ cs) = inputs_empty (id + 1) cs
+
+-- the inputs are the clauses that the log holds
+inputs_held : (id : ℕ) (cs : List Clause) (k : ℕ)
+    → clause_numbered (numbered_from id cs) k ≡ clause_held (input_entries id cs) k
+inputs_held id cs k = by id cs ∙ sym (ap (λ b. cond b None (clause_given (input_entries id cs) k)) (none id cs))
+  where
+    none : (n : ℕ) (ds : List Clause) → is_deleted (input_entries n ds) k ≡ false
+    none n [] = refl
+    none n (d ∷ ds) = none (n + 1) ds
+
+    by : (n : ℕ) (ds : List Clause) → clause_numbered (numbered_from n ds) k ≡ clause_given (input_entries n ds) k
+    by n [] = refl
+    by n (d ∷ ds) = elim (cases_Bool (n == k)) [
+      | inl here ↦
+          ap (λ b. cond b (Some d) (clause_numbered (numbered_from (n + 1) ds) k)) here
+          ∙ sym (ap (λ b. option_or (cond b (Some d) None) (clause_given (input_entries (n + 1) ds) k)) here)
+      | inr other ↦
+          ap (λ b. cond b (Some d) (clause_numbered (numbered_from (n + 1) ds) k)) other ∙ by (n + 1) ds
+          ∙ sym (ap (λ b. option_or (cond b (Some d) None) (clause_given (input_entries (n + 1) ds) k)) other)
+    ]
 
 -- the inputs of a search's log are its clauses
 pub inputs_of : (cs : List Clause) (es : List Entry) → IsSearchLog cs es → inputs es ≡ cs
@@ -271,58 +288,60 @@ inputs_of cs es log = ap inputs log.order ∙ by 1 cs
 
 -- ---- a search that goes on
 
-inputs_log : (cs : List Clause) → MayBeInputs 0 cs → IsSearchLog cs (input_entries 1 cs)
-inputs_log cs may =
-    let h = inputs_held cs may in
+inputs_log : (vars : ℕ) (cs : List Clause) → vars ≤ 2 ^ 63 → length cs ≤ 2 ^ 63
+    → list_all (λ c. is_below vars c.lits) cs ≡ true → IsSearchLog cs (input_entries 1 cs)
+inputs_log vars cs few numbers below =
+    let w = inputs_written vars cs few numbers below in
     record {
       learnt = [];
       order = sym (append-nil (input_entries 1 cs));
       only = refl;
-      good = h.good;
-      earned = h.earned;
-      spaced = h.spaced;
-      ascending = h.ascending;
-      texts = h.texts;
+      good = w.good;
+      earned = w.earned;
+      spaced = w.spaced;
+      ascending = w.ascending;
+      texts = w.texts;
     }
 
--- the inputs are written
-going_first : (before now : Option (List ℕ)) (cs : List Clause) → MayBeInputs 0 cs
-    → Takes before now (log_text (input_entries 1 cs)) → IsGoing before now cs cs 0
-going_first before now cs may takes =
-    let h = inputs_held cs may in
+-- the clauses of a formula were written as inputs
+pub going_start : (before now : Option (List ℕ)) (vars : ℕ) (cs : List Clause) (next : ℕ)
+    → vars ≤ 2 ^ 63 → length cs ≤ 2 ^ 63 → list_all (λ c. is_below vars c.lits) cs ≡ true → next ≡ length cs + 1
+    → Takes before now (log_text (input_entries 1 cs))
+    → IsGoing before now cs (clause_numbered (numbered_from 1 cs)) next 0
+going_start before now vars cs next few numbers below is_next takes =
+    let w = inputs_written vars cs few numbers below in
+    let n : 1 + length cs ≡ next = omega (arith, is_next) in
     record {
       entries = input_entries 1 cs;
-      log = inputs_log cs may;
+      log = inputs_log vars cs few numbers below;
       text = takes;
-      given = h.given;
-      kept = h.kept;
-      not_ended = h.not_ended;
+      same = record {
+        there = λ k c h. (c, sym (inputs_held 1 cs k) ∙ h, λ l. refl);
+        back = λ k c h. (c, inputs_held 1 cs k ∙ h, λ l. refl);
+      };
+      not_ended = w.not_ended;
+      above = subst (IsAbove (input_entries 1 cs)) n w.above;
       count = inputs_count 1 cs;
       not_empty = inputs_empty 1 cs;
     }
 
--- the clauses of a formula are written as inputs, and held
-pub going_start : (before now : Option (List ℕ)) (vars : ℕ) (cs written clauses : List Clause)
-    → vars ≤ 2 ^ 63 → length cs ≤ 2 ^ 63 → list_all (λ c. is_below vars c.lits) cs ≡ true
-    → written ≡ cs → clauses ≡ cs → Takes before now (log_text (input_entries 1 written))
-    → IsGoing before now cs clauses 0
-going_start before now vars cs written clauses few numbers below same held takes =
-    let P : List Clause → Type 0 = λ ds. Takes before now (log_text (input_entries 1 ds)) in
-    let may = may_be_inputs vars cs few numbers below in
-    subst (λ ds. IsGoing before now cs ds 0) (sym held) (going_first before now cs may (subst P same takes))
-
 -- a front of the inputs is written
-pub cut_first : (before now : Option (List ℕ)) (vars budget : ℕ) (cs written : List Clause)
+pub cut_first : (before now : Option (List ℕ)) (vars budget : ℕ) (cs : List Clause)
     → vars ≤ 2 ^ 63 → length cs ≤ 2 ^ 63 → list_all (λ c. is_below vars c.lits) cs ≡ true
-    → written ≡ cs → TakesPart before now (log_text (input_entries 1 written)) → IsCut before now cs budget
-cut_first before now vars budget cs written few numbers below same part =
-    let P : List Clause → Type 0 = λ ds. TakesPart before now (log_text (input_entries 1 ds)) in
-    record {
-      entries = input_entries 1 cs;
-      log = inputs_log cs (may_be_inputs vars cs few numbers below);
-      within = omega (arith, inputs_count 1 cs);
-      text = subst P same part;
-    }
+    → TakesPart before now (log_text (input_entries 1 cs)) → IsCut before now cs budget
+cut_first before now vars budget cs few numbers below part = record {
+  entries = input_entries 1 cs;
+  log = inputs_log vars cs few numbers below;
+  within = omega (arith, inputs_count 1 cs);
+  text = part;
+}
+
+-- the inputs are written, and no more
+pub cut_inputs : (now : Option (List ℕ)) (vars budget : ℕ) (cs : List Clause)
+    → vars ≤ 2 ^ 63 → length cs < 2 ^ 63 → list_all (λ c. is_below vars c.lits) cs ≡ true
+    → (before : Option (List ℕ)) → Takes before now (log_text (input_entries 1 cs)) → IsCut before now cs budget
+cut_inputs now vars budget cs few numbers below before takes =
+    cut_first before now vars budget cs few (omega arith) below (part_of_all before now _ takes)
 
 -- a log that is cut may have more additions
 pub cut_within : (before now : Option (List ℕ)) (cs : List Clause) (few many : ℕ) → few ≤ many
@@ -330,43 +349,26 @@ pub cut_within : (before now : Option (List ℕ)) (cs : List Clause) (few many :
 cut_within before now cs few many more cut =
     record { entries = cut.entries; log = cut.log; within = omega (arith, cut.within); text = cut.text }
 
--- what is learnt under a full trail, and the number and text of its addition
-pub record IsNextLesson (clauses : List Clause) (steps : List Step) (lits : List Lit) (chain : List ℕ)
-    (number : ℕ) : Type 0 where
-  pub lesson : IsLesson clauses steps lits chain
-  pub smallest : (place : ℕ) (c : Clause) → slice_get clauses place ≡ Some c → is_inside c.lits lits ≡ false
-  pub is_next : number ≡ length clauses + 1
-  pub text : HasText (Add number (record { lits = lits }) chain)
+-- what a list holds after an addition under a new number
+held-push : (es : List Entry) (id : ℕ) (clause : Clause) (chain : List ℕ) → IsGood es → is_given es id ≡ false
+    → (k : ℕ) → clause_held (es ++ Add id clause chain ∷ []) k
+    ≡ option_or (clause_held es k) (cond (id == k) (Some clause) None)
+held-push es id clause chain good new k = elim (cases_Bool (is_deleted es k)) [
+  | inl gone ↦
+      let other : (id == k) ≡ false =
+      false_from_ne_true _ (λ e. false≢true (sym new ∙ ap (is_given es) (eqb-true id k e)
+      ∙ given_from_deleted es good k gone)) in
+      ap (λ b. cond b None (clause_given (es ++ Add id clause chain ∷ []) k))
+      (any-push (deletes k) es (Add id clause chain) ∙ ap (λ b. b || false) gone)
+      ∙ sym (ap₂ (λ b d. option_or (cond b None (clause_given es k)) (cond d (Some clause) None)) gone other)
+  | inr still ↦
+      ap₂ (λ b o. cond b None o) (any-push (deletes k) es (Add id clause chain) ∙ ap (λ b. b || false) still)
+      (clause_given-push es (Add id clause chain) k)
+      ∙ sym (ap (λ b. option_or (cond b None (clause_given es k)) (cond (id == k) (Some clause) None)) still)
+]
 
-pub next_lesson : (clauses : List Clause) (vars : ℕ) (steps : List Step) (lits : List Lit) (chain : List ℕ) (number : ℕ)
-    → IsLesson clauses steps lits chain
-    → are_filled clauses ≡ true → AreFull clauses steps → AreFresh steps → number ≡ length clauses + 1
-    → vars ≤ 2 ^ 63 → length clauses < 2 ^ 63 → is_below vars lits ≡ true → IsNextLesson clauses steps lits chain number
-next_lesson clauses vars steps lits chain number lesson filled full fresh is_next few room below = record {
-  lesson = lesson;
-  smallest = smallest clauses steps lits filled full fresh lesson.negated;
-  is_next = is_next;
-  text = (
-    (omega arith, omega arith),
-    below_each _ lits (below_larger vars _ lits few below),
-    numbers_each (length clauses) _ chain (omega arith) lesson.numbers,
-  );
-}
-
-module _ (before middle : Option (List ℕ)) (ins clauses : List Clause) (added : ℕ)
-    (g : IsGoing before middle ins clauses added) where
-  abbrev held : IsHeld g.entries clauses
-  held = record {
-    good = g.log.good;
-    given = g.given;
-    kept = g.kept;
-    not_ended = g.not_ended;
-    earned = g.log.earned;
-    spaced = g.log.spaced;
-    ascending = g.log.ascending;
-    texts = g.log.texts;
-  }
-
+module _ (before middle : Option (List ℕ)) (ins : List Clause) (held : ℕ → Option Clause) (next added : ℕ)
+    (g : IsGoing before middle ins held next added) where
   -- the log is written as far as it goes
   pub cut_here : (budget : ℕ) → added ≤ budget → (now : Option (List ℕ)) → now ≡ middle → IsCut before now ins budget
   cut_here budget few now e = record {
@@ -376,48 +378,44 @@ module _ (before middle : Option (List ℕ)) (ins clauses : List Clause) (added 
     text = part_of_all before now (log_text g.entries) (rw e g.text);
   }
 
-  module _ (steps : List Step) (lits : List Lit) (chain : List ℕ) (number : ℕ)
-      (l : IsNextLesson clauses steps lits chain number) where
+  -- the same clauses are held in another order of literals
+  pub going_same : (more : ℕ → Option Clause) → AreSameSets more (clause_held g.entries)
+      → IsGoing before middle ins more next added
+  going_same more same = record {
+    entries = g.entries;
+    log = g.log;
+    text = g.text;
+    same = same;
+    not_ended = g.not_ended;
+    above = g.above;
+    count = g.count;
+    not_empty = g.not_empty;
+  }
+
+  module _ (lits : List Lit) (chain : List ℕ) (one : IsAddition held lits chain)
+      (text : HasText (Add next (record { lits = lits }) chain)) where
     abbrev addition : Entry
-    addition = Add number (record { lits = lits }) chain
+    addition = Add next (record { lits = lits }) chain
 
-    holds : clause_held g.entries ≡ numbered clauses
-    holds = fun_ext (λ id. ap₂ (λ b o. cond b None o) (g.kept id) (g.given id))
+    is_new : is_given g.entries next ≡ false
+    is_new = next_is_new g.entries next g.above
 
-    resolves : resolved (clause_held g.entries) chain ≡ Ok l.lesson.clause
-    resolves = ap (λ h. resolved h chain) holds ∙ l.lesson.resolves
+    is_earned : IsEarnedAddition g.entries next (record { lits = lits }) chain
+    is_earned = earned_addition g.entries held next (record { lits = lits }) chain g.not_ended is_new g.same one
 
-    is_new : is_given g.entries number ≡ false
-    is_new = ap (is_given g.entries) l.is_next ∙ next_is_new g.entries clauses held
-
-    keeps_good : KeepsGood g.entries addition
-    keeps_good = (g.not_ended, (is_new, l.lesson.clause, resolves, inside-same l.lesson.clause lits l.lesson.same))
-
-    contains_none : (other : ℕ) (c : Clause) → numbered clauses other ≡ Some c → is_inside c.lits lits ≡ false
-    contains_none zero c h = absurd cc
-    contains_none (suc place) c h = l.smallest place c h
-
-    is_earned : IsEarned g.entries addition
-    is_earned = record {
-      good = keeps_good;
-      exact = (
-        l.lesson.clause,
-        resolves,
-        inside-same l.lesson.clause lits l.lesson.same,
-        inside-same lits l.lesson.clause (λ k. sym (l.lesson.same k)),
-      );
-      once = l.lesson.once;
-      smallest = λ other c h. contains_none other c (sym (ap (λ f. f other) holds) ∙ h);
-    }
-
-    goes_up : IsAbove g.entries number
-    goes_up = subst (IsAbove g.entries) (sym l.is_next) (next_is_above g.entries clauses held)
-
-    held_then : IsHeld (g.entries ++ addition ∷ []) (clauses ++ record { lits = lits } ∷ [])
-    held_then =
-        let clause : Clause = record { lits = lits } in
-        held_more g.entries addition clauses clause held keeps_good is_earned tt goes_up l.text
-        (λ id. ap (λ n. cond (n == id) (Some clause) None) l.is_next) (λ id. refl) refl
+    written_then : IsWritten (g.entries ++ addition ∷ []) (next + 1)
+    written_then =
+        written_more g.entries addition next (record { lits = lits })
+        (record {
+          good = g.log.good;
+          not_ended = g.not_ended;
+          earned = g.log.earned;
+          spaced = g.log.spaced;
+          ascending = g.log.ascending;
+          texts = g.log.texts;
+          above = g.above;
+        })
+        is_earned.good is_earned tt g.above text (λ id. refl) refl
 
     log_more : IsSearchLog ins (g.entries ++ addition ∷ [])
     log_more = record {
@@ -425,11 +423,11 @@ module _ (before middle : Option (List ℕ)) (ins clauses : List Clause) (added 
       order = ap (λ es. es ++ addition ∷ []) g.log.order
           ∙ append_assoc (input_entries 1 ins) g.log.learnt (addition ∷ []);
       only = all_push adds_or_deletes g.log.learnt addition g.log.only refl;
-      good = held_then.good;
-      earned = held_then.earned;
-      spaced = held_then.spaced;
-      ascending = held_then.ascending;
-      texts = held_then.texts;
+      good = written_then.good;
+      earned = written_then.earned;
+      spaced = written_then.spaced;
+      ascending = written_then.ascending;
+      texts = written_then.texts;
     }
 
     counted : addition_count (g.entries ++ addition ∷ []) ≡ added + 1
@@ -441,16 +439,18 @@ module _ (before middle : Option (List ℕ)) (ins clauses : List Clause) (added 
         subst (λ t. Takes before now t) (sym (text-push g.entries addition))
         (takes_more before middle now _ _ g.text takes)
 
-    -- a clause that is not empty was added
-    pub going_more : (now : Option (List ℕ)) → is_empty lits ≡ false → Takes middle now (line_of addition)
-        → IsGoing before now ins (clauses ++ record { lits = lits } ∷ []) (added + 1)
-    going_more now full takes = record {
+    -- a clause that is not empty was added, and is held
+    pub going_more : (now : Option (List ℕ)) (more : ℕ → Option Clause)
+        → ((k : ℕ) → more k ≡ option_or (held k) (cond (next == k) (Some (record { lits = lits })) None))
+        → is_empty lits ≡ false → Takes middle now (line_of addition) → IsGoing before now ins more (next + 1) (added + 1)
+    going_more now more grown full takes = record {
       entries = g.entries ++ addition ∷ [];
       log = log_more;
       text = taken_more now takes;
-      given = held_then.given;
-      kept = held_then.kept;
-      not_ended = held_then.not_ended;
+      same = sets_more held (clause_held g.entries) more (clause_held (g.entries ++ addition ∷ [])) next lits grown
+          (held-push g.entries next (record { lits = lits }) chain g.log.good is_new) g.same;
+      not_ended = written_then.not_ended;
+      above = written_then.above;
       count = counted;
       not_empty = any-push is_refutation g.entries addition ∙ ap₂ (λ a b. a || b) g.not_empty full;
     }
@@ -478,18 +478,20 @@ module _ (before middle : Option (List ℕ)) (ins clauses : List Clause) (added 
 
 -- ---- the outcomes
 
-pub logged_sat : (before now : Option (List ℕ)) (ins clauses : List Clause) (added budget : ℕ) (values : List Bool)
-    → added < budget → IsGoing before now ins clauses added → IsLogged before now ins budget (Sat values)
-logged_sat before now ins clauses added budget values few g = record {
+pub logged_sat : (before now : Option (List ℕ)) (ins : List Clause) (held : ℕ → Option Clause) (next added budget : ℕ)
+    (values : List Bool) → added < budget → IsGoing before now ins held next added
+    → IsLogged before now ins budget (Sat values)
+logged_sat before now ins held next added budget values few g = record {
   entries = g.entries;
   log = g.log;
   shows = (g.not_empty, omega (arith, g.count));
   text = g.text;
 }
 
-pub logged_unknown : (before now : Option (List ℕ)) (ins clauses : List Clause) (added budget : ℕ) → added ≡ budget
-    → IsGoing before now ins clauses added → IsLogged before now ins budget (Unknown budget)
-logged_unknown before now ins clauses added budget e g =
+pub logged_unknown : (before now : Option (List ℕ)) (ins : List Clause) (held : ℕ → Option Clause)
+    (next added budget : ℕ) → added ≡ budget → IsGoing before now ins held next added
+    → IsLogged before now ins budget (Unknown budget)
+logged_unknown before now ins held next added budget e g =
     record { entries = g.entries; log = g.log; shows = (g.not_empty, g.count ∙ e); text = g.text }
 
 pub logged_unsat : (before now : Option (List ℕ)) (ins : List Clause) (added budget : ℕ) → added ≤ budget

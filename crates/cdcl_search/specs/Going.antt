@@ -1,25 +1,30 @@
--- What a search has logged while it goes on.
-use Rattle.std.specs.Prelude.{ℕ, ◌≡◌, ◌+◌, ◌<◌, Bool, true, false, List, length, Option}
+-- What a search has logged while it goes on, and what it keeps.
+use Rattle.std.specs.Prelude.{ℕ, ◌≡◌, ◌+◌, ◌^◌, ◌≤◌, true, false, List, length, Option, None}
 use Rattle.mw_outside.specs.Taken.{Takes}
 use Rattle.resolution_check.specs.declared.log.Clause.{Clause}
 use Rattle.resolution_check.specs.declared.log.Entry.{Entry}
-use Rattle.resolution_check.specs.Entries.{adds_empty, addition_count, clause_given, is_deleted, has_ended, satisfies}
+use Rattle.resolution_check.specs.Entries.{adds_empty, addition_count, clause_held, has_ended}
+use Rattle.resolution_check.specs.Earned.{IsAbove}
 use Rattle.resolution_check.specs.Text.{log_text}
+use Rattle.clause_arena.specs.Store.{Store}
+use Rattle.clause_arena.specs.Held.{clauses, held_in}
+use Rattle.conflict_analysis.specs.Steps.{IsTrail}
+use Rattle.watched_search.specs.Sets.{AreSameSets}
+use Rattle.watched_search.specs.Starts.{AreBelow}
+use Rattle.watched_search.specs.Trails.{Assigned}
+use Rattle.watched_search.specs.Watches.{IsKept}
 use Rattle.cdcl_search.specs.Outcomes.{IsSearchLog, IsCut}
-use Rattle.cdcl_search.specs.Books.{Shelf, Finds, are_filled}
-use Rattle.cdcl_search.specs.Trails.{Assigned, Follows}
-use Rattle.cdcl_search.specs.Levels.{AreFull, IsSettledAt}
-use Rattle.cdcl_search.specs.Learning.{numbered}
 
--- between these two moments the log of a search for the inputs was written so far: it gives exactly these clauses by
--- their numbers, deletes none, and has so many additions, none empty
-pub record IsGoing (before now : Option (List ℕ)) (inputs clauses : List Clause) (added : ℕ) : Type 0 where
+-- between these two moments the log of a search for the inputs was written so far: it holds exactly these clauses, each
+-- up to the order of its literals, the numbers given are below the next one, and it has so many additions, none empty
+pub record IsGoing (before now : Option (List ℕ)) (inputs : List Clause) (held : ℕ → Option Clause) (next added : ℕ)
+    : Type 0 where
   pub entries : List Entry
   pub log : IsSearchLog inputs entries
   pub text : Takes before now (log_text entries)
-  pub given : (id : ℕ) → clause_given entries id ≡ numbered clauses id
-  pub kept : (id : ℕ) → is_deleted entries id ≡ false
+  pub same : AreSameSets held (clause_held entries)
   pub not_ended : has_ended entries ≡ false
+  pub above : IsAbove entries next
   pub count : addition_count entries ≡ added
   pub not_empty : adds_empty entries ≡ false
 
@@ -31,32 +36,33 @@ pub record IsRefuted (before now : Option (List ℕ)) (inputs : List Clause) (ad
   pub count : addition_count entries ≡ added
   pub empty : adds_empty entries ≡ true
 
--- ---- from one moment to a later one, while these clauses became those
+-- ---- from one moment to a later one, where an addition under the next number was logged
 
-abbrev pub GoesOn : (old new : Option (List ℕ)) → (clauses more : List Clause) → Type 0
-GoesOn old new clauses more =
-    (before : Option (List ℕ)) (ins : List Clause) (added : ℕ) → IsGoing before old ins clauses added
-    → IsGoing before new ins more (added + 1)
+abbrev pub GoesOn : (old new : Option (List ℕ)) → (held more : ℕ → Option Clause) → (next : ℕ) → Type 0
+GoesOn old new held more next =
+    (before : Option (List ℕ)) (ins : List Clause) (added : ℕ) → IsGoing before old ins held next added
+    → IsGoing before new ins more (next + 1) (added + 1)
 
-abbrev pub Refutes : (old new : Option (List ℕ)) → (clauses : List Clause) → Type 0
-Refutes old new clauses =
-    (before : Option (List ℕ)) (ins : List Clause) (added : ℕ) → IsGoing before old ins clauses added
+abbrev pub Refutes : (old new : Option (List ℕ)) → (held : ℕ → Option Clause) → (next : ℕ) → Type 0
+Refutes old new held next =
+    (before : Option (List ℕ)) (ins : List Clause) (added : ℕ) → IsGoing before old ins held next added
     → IsRefuted before new ins (added + 1)
 
-abbrev pub Cuts : (old new : Option (List ℕ)) → (clauses : List Clause) → Type 0
-Cuts old new clauses =
-    (before : Option (List ℕ)) (ins : List Clause) (added : ℕ) → IsGoing before old ins clauses added
+abbrev pub Cuts : (old new : Option (List ℕ)) → (held : ℕ → Option Clause) → (next : ℕ) → Type 0
+Cuts old new held next =
+    (before : Option (List ℕ)) (ins : List Clause) (added : ℕ) → IsGoing before old ins held next added
     → IsCut before new ins (added + 1)
 
--- One clause more is held and can be found, none is empty. The trail follows from the clauses and was full before each
--- decision; the clauses held before are settled under it. What satisfies the clauses satisfied those before.
-pub record IsNext (old new : Shelf) (trail : Assigned) : Type 0 where
-  pub longer : length new.clauses ≡ length old.clauses + 1
-  pub vars : new.vars ≡ old.vars
-  pub finds : Finds new
-  pub filled : are_filled new.clauses ≡ true
-  pub trail_vars : trail.vars ≡ new.vars
-  pub follows : Follows new.clauses trail.steps
-  pub full : AreFull new.clauses trail.steps
-  pub settled : (place : ℕ) → place < length old.clauses → IsSettledAt new.clauses trail.steps place
-  pub weaker : (v : ℕ → Bool) → satisfies v new.clauses ≡ true → satisfies v old.clauses ≡ true
+-- ---- what a search keeps from one addition to the next
+
+-- The trail follows from the clauses held, and the watches are kept for the steps before a place. The clauses have the
+-- numbers from 1 to the next one.
+pub record IsReady (a : Store) (now : Assigned) (next from : ℕ) : Type 0 where
+  pub vars : now.vars ≡ a.vars
+  pub trail : IsTrail a now.vars now.lits now.levels now.reasons
+  pub kept : IsKept a now.lits now.levels from
+  pub within : from ≤ length now.lits
+  pub below : AreBelow a next
+  pub above : held_in a 0 ≡ None
+  pub number : next ≡ length (clauses a) + 1
+  pub few : next ≤ 2 ^ 63

@@ -1,211 +1,86 @@
-//! What a false clause teaches: the decisions on which it rests cannot all stand together.
+//! What a false clause teaches is logged, and then held.
 
-ghost use Rattle.std.specs.Prelude.{◌≡◌, ℕ, ◌+◌, ◌<◌, ◌∷◌, [], ◌++◌, ◌==◌, ◌||◌, true, false, Some, IfOk, OnOk, length, take, slice_get, replicate, if◌then◌else◌};
-ghost use Rattle.resolution_check.specs.declared.log.Clause.{Clause};
-ghost use Rattle.resolution_check.specs.Clauses.{opposite, is_below};
-ghost use Rattle.resolution_check.specs.Earned.{has_var};
-ghost use Rattle.cnf_blaster.specs.Laws.{marked};
-ghost use Rattle.cdcl_search.specs.Trails.{Follows, IsFalseAt};
-ghost use Rattle.cdcl_search.specs.Levels.{IsDecision, IsSettled};
-ghost use Rattle.cdcl_search.specs.Learning.{are_numbers, IsFollowed, IsLesson};
+ghost use Rattle.std.specs.Prelude.{◌≡◌, ◌+◌, ◌≤◌, ◌^◌, [], None, IfOk, OnOk, OnErr, IfSome};
+ghost use Rattle.mw_outside.specs.Faults.{Rose};
+ghost use Rattle.mw_outside.specs.Taken.{Takes, TakesPart};
+ghost use Rattle.resolution_check.specs.declared.log.Entry.{Entry};
+ghost use Rattle.resolution_check.specs.Text.{line_of, HasText};
+ghost use Rattle.clause_arena.specs.Held.{held_in};
+ghost use Rattle.conflict_analysis.specs.Steps.{IsConflict};
+ghost use Rattle.watched_search.specs.Sets.{GivesSets};
+ghost use Rattle.cdcl_search.specs.Outcomes.{OnLogFault, UnlessLogFault};
+ghost use Rattle.cdcl_search.specs.Going.{Cuts, GoesOn, IsReady, Refutes};
 
-use crate::book::Book;
-use crate::trail::Trail;
-use mw_text::List;
-use resolution_check::{Lit, has_literal};
-use std::alloc::{AllocError, Global};
+use crate::logging::write_addition;
+use crate::outcome::SolveFault;
+use clause_arena::{Arena, ClauseRef};
+use conflict_analysis::Work;
+use deciders::Decider;
+use mw_outside::Sink;
+use resolution_check::Lit;
+use std::alloc::Global;
+use watched_search::{Assigned, assert_clause, learn};
 
-/// A learnt clause: the negated decisions, the last one first; and the numbers of the clauses that give it when they are
-/// resolved from the front.
-#[derive(Debug, Drop)]
-pub(crate) struct Lesson {
-    pub(crate) lits: List<Lit>,
-    pub(crate) chain: List<u64>,
-}
-
-/// Marks a variable, or takes its mark.
-fn set_mark(marks: &mut [bool], var: u64, mark: bool)
-    requires { var < length marks.old }
-    ensures { (v : ℕ) → marked marks.new v ≡ (if var == v then mark else marked marks.old v) }
-{
-    marks[var as usize] = mark;
-}
-
-/// Marks the variables of these literals.
-fn mark_all(marks: &mut [bool], lits: &[Lit])
-    requires { is_below (length marks.old) lits.now ≡ true }
-    ensures { (v : ℕ) → marked marks.new v ≡ (has_var lits.now v || marked marks.old v) }
-{
+/// Tells a decider of an addition: its variables in their order, and that it was one.
+fn tell<D: Decider>(decider: &mut D, lits: &[Lit]) {
     for lit in lits {
-        set_mark(marks, lit.var, true);
+        decider.bump(lit.var);
     }
+    decider.decay();
 }
 
-/// Follows a forced literal back to the other literals of its clause.
-fn trace_forced(
-    marks: &mut [bool],
-    book: &Book,
-    lit: Lit,
-    place: u64,
-    chain: &mut List<u64>,
-) -> Result<(), AllocError>
-    requires place { place < length book.now.clauses }
-    requires vars { book.now.vars ≡ length marks.old }
-    requires below { lit.var < length marks.old }
-    ensures chain { OnOk result (chain.new ≡ chain.old ++ (place + 1) ∷ []) }
-    ensures marks { OnOk result ((c : Clause) → slice_get book.now.clauses place ≡ Some c → (v : ℕ) →
-        marked marks.new v ≡ (if lit.var == v then false else (has_var c.lits v || marked marks.old v))) }
+/// Logs what was learnt under this number, and tells the decider of it.
+pub(crate) fn log_lesson<L: Sink, D: Decider>(
+    alloc: Global,
+    log: &mut L,
+    decider: &mut D,
+    id: u64,
+    work: &Work,
+) -> Result<(), SolveFault>
+    requires { HasText (Entry.Add id (record { lits = work.now.lits }) work.now.chain) }
+    ensures takes { OnOk result (Takes (L.taken log.old) (L.taken log.new) (line_of (Entry.Add id (record { lits = work.now.lits }) work.now.chain))) }
+    ensures part { TakesPart (L.taken log.old) (L.taken log.new) (line_of (Entry.Add id (record { lits = work.now.lits }) work.now.chain)) }
+    ensures fault { OnLogFault result (Rose (L.faults log.old) (L.faults log.new)) }
+    ensures stays { UnlessLogFault result (L.faults log.new ≡ L.faults log.old) }
+    ensures later { L.faults log.old ≤ L.faults log.new }
 {
-    chain.items.push(book.number(place))?;
-    mark_all(marks, book.lits(place));
-    set_mark(marks, lit.var, false);
+    write_addition(alloc, log, id, work.clause(), work.chain())?;
+    tell(decider, work.clause());
     Ok(())
 }
 
-/// Puts the negation of a decision into the learnt clause.
-fn trace_decision(marks: &mut [bool], lit: Lit, lits: &mut List<Lit>) -> Result<(), AllocError>
-    requires { lit.var < length marks.old }
-    ensures lits { OnOk result (lits.new ≡ lits.old ++ opposite lit ∷ []) }
-    ensures marks { OnOk result ((v : ℕ) → marked marks.new v ≡ (if lit.var == v then false else marked marks.old v)) }
-{
-    lits.items.push(lit.opposite())?;
-    set_mark(marks, lit.var, false);
-    Ok(())
-}
-
-/// Follows the step at a place back, where its variable is marked.
-fn trace(
-    marks: &mut [bool],
-    trail: &Trail,
-    book: &Book,
-    at: usize,
-    lesson: &mut Lesson,
-) -> Result<(), AllocError>
-    requires at { at < length trail.now.steps }
-    requires book { book.now.vars ≡ length marks.old }
-    requires trail { trail.now.vars ≡ length marks.old }
-    requires follows { Follows book.now.clauses trail.now.steps }
-    ensures followed { OnOk result (
-        IsFollowed book.now.clauses trail.now.steps (at + 1) (marked marks.old) lesson.old.lits lesson.old.chain
-        → IsFollowed book.now.clauses trail.now.steps at (marked marks.new) lesson.new.lits lesson.new.chain) }
-    ensures numbers { OnOk result (are_numbers (length book.now.clauses) lesson.old.chain ≡ true
-        → are_numbers (length book.now.clauses) lesson.new.chain ≡ true) }
-    ensures below { OnOk result (is_below trail.now.vars lesson.old.lits ≡ true → is_below trail.now.vars lesson.new.lits ≡ true) }
-{
-    let step = trail.step(at);
-    if !marks[step.lit.var as usize] {
-        return Ok(());
-    }
-    match step.reason {
-        Some(place) => trace_forced(marks, book, step.lit, place, &mut lesson.chain),
-        None => trace_decision(marks, step.lit, &mut lesson.lits),
-    }
-}
-
-/// The clause at this place, marked and as the front of a chain.
-fn first_lesson(
+/// Learns from a false clause, logs the addition under this number, and holds it. Answers from which literal on is to be
+/// propagated; none where the addition is empty, which is not held.
+pub(crate) fn take_lesson<L: Sink, D: Decider>(
     alloc: Global,
-    marks: &mut [bool],
-    book: &Book,
-    conflict: u64,
-) -> Result<Lesson, AllocError>
-    requires place { conflict < length book.now.clauses }
-    requires vars { book.now.vars ≡ length marks.old }
-    ensures lits { IfOk result (λ lesson. lesson.lits ≡ []) }
-    ensures chain { IfOk result (λ lesson. lesson.chain ≡ (conflict + 1) ∷ []) }
-    ensures marks { (c : Clause) → slice_get book.now.clauses conflict ≡ Some c → (v : ℕ) →
-        marked marks.new v ≡ (has_var c.lits v || marked marks.old v) }
+    log: &mut L,
+    decider: &mut D,
+    work: &mut Work,
+    arena: &mut Arena,
+    assigned: &mut Assigned,
+    id: u64,
+    conflict: ClauseRef,
+) -> Result<Option<usize>, SolveFault>
+    requires work_vars { work.old.vars ≡ assigned.old.vars }
+    requires small { assigned.old.vars ≤ 2 ^ 63 }
+    requires ready { IsReady arena.old assigned.old id 0 }
+    requires conflict { IsConflict arena.old assigned.old.lits conflict }
+    ensures work_vars { work.new.vars ≡ work.old.vars }
+    ensures vars { IfOk result (λ _. assigned.new.vars ≡ assigned.old.vars) }
+    ensures ready { IfOk result (λ next. IfSome next (IsReady arena.new assigned.new (id + 1))) }
+    ensures gives { IfOk result (λ next. IfSome next (λ _. GivesSets (held_in arena.old) (held_in arena.new))) }
+    ensures going { IfOk result (λ next. IfSome next (λ _. GoesOn (L.taken log.old) (L.taken log.new) (held_in arena.old) (held_in arena.new) id)) }
+    ensures refuted { IfOk result (λ next. next ≡ None → Refutes (L.taken log.old) (L.taken log.new) (held_in arena.old) id) }
+    ensures cut { OnErr result (Cuts (L.taken log.old) (L.taken log.new) (held_in arena.old) id) }
+    ensures fault { OnLogFault result (Rose (L.faults log.old) (L.faults log.new)) }
+    ensures stays { UnlessLogFault result (L.faults log.new ≡ L.faults log.old) }
+    ensures later { L.faults log.old ≤ L.faults log.new }
 {
-    mark_all(marks, book.lits(conflict));
-    let mut chain = List::new(alloc);
-    chain.items.push(book.number(conflict))?;
-    Ok(Lesson {
-        lits: List::new(alloc),
-        chain,
-    })
-}
-
-/// Follows all steps back, from the last one.
-fn trace_all(
-    marks: &mut [bool],
-    trail: &Trail,
-    book: &Book,
-    lesson: &mut Lesson,
-) -> Result<(), AllocError>
-    requires book { book.now.vars ≡ length marks.old }
-    requires trail { trail.now.vars ≡ length marks.old }
-    requires follows { Follows book.now.clauses trail.now.steps }
-    ensures followed { OnOk result (
-        IsFollowed book.now.clauses trail.now.steps (length trail.now.steps) (marked marks.old) lesson.old.lits lesson.old.chain
-        → IsFollowed book.now.clauses trail.now.steps 0 (marked marks.new) lesson.new.lits lesson.new.chain) }
-    ensures numbers { OnOk result (are_numbers (length book.now.clauses) lesson.old.chain ≡ true
-        → are_numbers (length book.now.clauses) lesson.new.chain ≡ true) }
-    ensures below { OnOk result (is_below trail.now.vars lesson.old.lits ≡ true → is_below trail.now.vars lesson.new.lits ≡ true) }
-{
-    for at in (0..trail.len()).rev() {
-        trace(marks, trail, book, at, lesson)?;
+    let back = learn(work, arena, assigned, 0, conflict);
+    log_lesson(alloc, log, decider, id, work)?;
+    if work.clause().len() == 0 {
+        return Ok(None);
     }
-    Ok(())
-}
-
-/// What the clause at this place teaches, all of whose literals are false, where nothing is marked.
-fn learn_by(
-    alloc: Global,
-    marks: &mut [bool],
-    trail: &Trail,
-    book: &Book,
-    conflict: u64,
-) -> Result<Lesson, AllocError>
-    requires marks { length marks.old ≡ trail.now.vars }
-    requires none { (v : ℕ) → marked marks.old v ≡ false }
-    requires vars { book.now.vars ≡ trail.now.vars }
-    requires follows { Follows book.now.clauses trail.now.steps }
-    requires conflict { IsFalseAt book.now.clauses trail.now.steps conflict }
-    ensures lesson { IfOk result (λ lesson. IsLesson book.now.clauses trail.now.steps lesson.lits lesson.chain) }
-    ensures below { IfOk result (λ lesson. is_below trail.now.vars lesson.lits ≡ true) }
-{
-    let mut lesson = first_lesson(alloc, marks, book, conflict)?;
-    trace_all(marks, trail, book, &mut lesson)?;
-    Ok(lesson)
-}
-
-/// What the clause at this place teaches, all of whose literals are false.
-pub(crate) fn learn(
-    alloc: Global,
-    trail: &Trail,
-    book: &Book,
-    conflict: u64,
-) -> Result<Lesson, AllocError>
-    requires vars { book.now.vars ≡ trail.now.vars }
-    requires follows { Follows book.now.clauses trail.now.steps }
-    requires conflict { IsFalseAt book.now.clauses trail.now.steps conflict }
-    ensures lesson { IfOk result (λ lesson. IsLesson book.now.clauses trail.now.steps lesson.lits lesson.chain) }
-    ensures below { IfOk result (λ lesson. is_below trail.now.vars lesson.lits ≡ true) }
-{
-    let mut marks = vec![in alloc; false; trail.vars() as usize]?;
-    learn_by(alloc, &mut marks, trail, book, conflict)
-}
-
-/// How many steps to keep so that before each decision that is kept two of the negated decisions have no value: those
-/// before the decision that follows the last but one of them.
-pub(crate) fn kept_steps(trail: &Trail, lits: &[Lit]) -> usize
-    ensures settled { (at : ℕ) → at < result → IsDecision trail.now.steps at → IsSettled (take at trail.now.steps) lits.now }
-    ensures decision { (at : ℕ) → IsDecision trail.now.steps at → IsDecision trail.now.steps result }
-{
-    let mut kept = trail.len();
-    let mut last: Option<Lit> = None;
-    for at in (0..trail.len()).rev() {
-        let step = trail.step(at);
-        if step.reason.is_none() {
-            let negated = step.lit.opposite();
-            if has_literal(lits, negated) {
-                if last.is_some() {
-                    return kept;
-                }
-                last = Some(negated);
-            }
-            kept = at;
-        }
-    }
-    kept
+    let from = assert_clause(work, arena, assigned, 0, id, back)?;
+    Ok(Some(from))
 }

@@ -2,16 +2,12 @@
 //! clauses that anybody can check.
 #![tactic(auto)]
 
-mod book;
 pub mod laws;
 mod learning;
 mod logging;
 mod outcome;
-mod propagation;
-mod search;
+mod searching;
 mod solving;
-mod standing;
-mod trail;
 
 pub use outcome::{Outcome, SolveFault};
 pub use solving::solve;

@@ -1,20 +1,25 @@
 //! The log of a search: one line for each entry.
 
 ghost use Rattle.resolution_check.specs.Clauses.{is_below};
-ghost use Rattle.std.specs.Prelude.{◌≡◌, ◌≤◌, ◌^◌, true, IfOk, OnOk, length};
+ghost use Rattle.std.specs.Prelude.{◌≡◌, ◌<◌, ◌≤◌, ◌^◌, true, IfOk, OnOk, length};
 ghost use Rattle.std.specs.List.{list_all};
 ghost use Rattle.mw_outside.specs.Faults.{Rose};
 ghost use Rattle.mw_outside.specs.Taken.{Takes, TakesPart};
 ghost use Rattle.resolution_check.specs.Text.{line_of, log_text, HasText};
 ghost use Rattle.cdcl_search.specs.Outcomes.{OnLogFault, UnlessLogFault, input_entries};
 
-use crate::book::copy_of;
-use crate::learning::Lesson;
 use crate::outcome::SolveFault;
 use mw_outside::Sink;
 use mw_text::List;
-use resolution_check::{Clause, Entry, write_entry};
+use resolution_check::{Clause, Entry, Lit, write_entry};
 use std::alloc::{AllocError, Global};
+
+/// The same clause once more.
+fn copy_of(clause: &Clause) -> Result<Clause, AllocError>
+    ensures { IfOk result (λ copy. copy ≡ clause.now) }
+{
+    clause.clone()
+}
 
 /// The line of an entry.
 fn line_text(alloc: Global, entry: &Entry) -> Result<List<u8>, AllocError>
@@ -70,7 +75,7 @@ pub(crate) fn write_inputs<L: Sink>(
     clauses: &[Clause],
 ) -> Result<(), SolveFault>
     requires small { list_all (λ c. is_below (2 ^ 63) c.lits) clauses.now ≡ true }
-    ensures few { length clauses.now ≤ 2 ^ 63 }
+    ensures few { length clauses.now < 2 ^ 63 }
     ensures takes { OnOk result (Takes (L.taken log.old) (L.taken log.new) (log_text (input_entries 1 clauses.now))) }
     ensures part { TakesPart (L.taken log.old) (L.taken log.new) (log_text (input_entries 1 clauses.now)) }
     ensures fault { OnLogFault result (Rose (L.faults log.old) (L.faults log.new)) }
@@ -84,27 +89,37 @@ pub(crate) fn write_inputs<L: Sink>(
     Ok(())
 }
 
-/// Writes the addition of a learnt clause under this number, and answers the clause.
+/// The entry that adds a clause by a chain.
+fn addition_of(alloc: Global, id: u64, lits: &[Lit], chain: &[u64]) -> Result<Entry, AllocError>
+    ensures { IfOk result (λ entry. entry ≡ Entry.Add id (record { lits = lits.now }) chain.now) }
+{
+    let clause = Clause {
+        lits: List {
+            items: Vec::from_slice(alloc, lits)?,
+        },
+    };
+    let chain = List {
+        items: Vec::from_slice(alloc, chain)?,
+    };
+    Ok(Entry::Add { id, clause, chain })
+}
+
+/// Writes the addition of a learnt clause under this number.
 #[tactic(auto, using(mw_outside::specs::Taken::parts))]
-pub(crate) fn write_lesson<L: Sink>(
+pub(crate) fn write_addition<L: Sink>(
     alloc: Global,
     log: &mut L,
     id: u64,
-    lesson: Lesson,
-) -> Result<Clause, SolveFault>
-    requires { HasText (Entry.Add id (record { lits = lesson.lits }) lesson.chain) }
-    ensures clause { IfOk result (λ clause. clause.lits ≡ lesson.lits) }
-    ensures takes { OnOk result (Takes (L.taken log.old) (L.taken log.new) (line_of (Entry.Add id (record { lits = lesson.lits }) lesson.chain))) }
-    ensures part { TakesPart (L.taken log.old) (L.taken log.new) (line_of (Entry.Add id (record { lits = lesson.lits }) lesson.chain)) }
+    lits: &[Lit],
+    chain: &[u64],
+) -> Result<(), SolveFault>
+    requires { HasText (Entry.Add id (record { lits = lits.now }) chain.now) }
+    ensures takes { OnOk result (Takes (L.taken log.old) (L.taken log.new) (line_of (Entry.Add id (record { lits = lits.now }) chain.now))) }
+    ensures part { TakesPart (L.taken log.old) (L.taken log.new) (line_of (Entry.Add id (record { lits = lits.now }) chain.now)) }
     ensures fault { OnLogFault result (Rose (L.faults log.old) (L.faults log.new)) }
     ensures stays { UnlessLogFault result (L.faults log.new ≡ L.faults log.old) }
     ensures later { L.faults log.old ≤ L.faults log.new }
 {
-    let Lesson { lits, chain } = lesson;
-    let clause = Clause {
-        lits: lits.clone()?,
-    };
-    let addition = Entry::Add { id, clause, chain };
-    write_line(alloc, log, &addition)?;
-    Ok(Clause { lits })
+    let addition = addition_of(alloc, id, lits, chain)?;
+    write_line(alloc, log, &addition)
 }

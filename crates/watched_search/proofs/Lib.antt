@@ -11,5 +11,6 @@ pub mod Asserts
 pub mod Decided
 pub mod Starts
 pub mod Sets
-pub mod Histories
-pub mod Solved
+pub mod Totals
+pub mod Inputs
+pub mod Counts

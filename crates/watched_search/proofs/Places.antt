@@ -19,13 +19,6 @@ slice_get-set_other (x ∷ xs) zero (suc j) y h = refl
 slice_get-set_other (x ∷ xs) (suc i) zero y h = refl
 slice_get-set_other (x ∷ xs) (suc i) (suc j) y h = slice_get-set_other xs i j y (λ e. h (ap suc e))
 
--- an item stays where it is when more are put last
-pub slice_get-front : {X : Type 0} (xs ys : List X) (i : ℕ) (x : X) → slice_get xs i ≡ Some x
-    → slice_get (xs ++ ys) i ≡ Some x
-slice_get-front [] ys i x h = absurd cc
-slice_get-front (z ∷ xs) ys zero x h = h
-slice_get-front (z ∷ xs) ys (suc i) x h = slice_get-front xs ys i x h
-
 -- the item behind the first ones
 pub slice_get-seam : {X : Type 0} (xs : List X) (x : X) (ys : List X) → slice_get (xs ++ x ∷ ys) (length xs) ≡ Some x
 slice_get-seam [] x ys = refl

@@ -1,10 +1,9 @@
 -- Clauses as sets: what a chain resolves to depends on the literals of the clauses, not on their order.
-use Rattle.std.proofs.Common.{◌≡◌, ℕ, ◌+◌, ◌==◌, true, false, cond, List, [], ◌∷◌, ◌++◌, map, length, Option, Some}
+use Rattle.std.proofs.Common.{◌≡◌, ℕ, ◌+◌, ◌==◌, true, false, cond, List, [], ◌∷◌, ◌++◌, map, Option, Some}
 use Rattle.std.proofs.Common.{None}
-use Rattle.std.proofs.Common.{append_assoc, Result, Ok, Err, inl, inr, refl, sym, ap, subst, ◌∙◌, arith}
+use Rattle.std.proofs.Common.{Result, Ok, Err, inl, inr, refl, sym, ap, subst, ◌∙◌}
 use Rattle.std.specs.Option.{option_map_or, option_or, ok_or}
 use Rattle.std.proofs.lemmas.Bool.{cases_Bool, true≢false}
-use Rattle.std.proofs.lemmas.List.{append-nil}
 use Rattle.resolution_check.specs.declared.log.Lit.{Lit}
 use Rattle.resolution_check.specs.declared.log.Clause.{Clause}
 use Rattle.resolution_check.specs.declared.log.Bad.{Bad}
@@ -20,7 +19,7 @@ use Rattle.clause_arena.specs.Links.{word, In}
 use Rattle.clause_arena.specs.Store.{Store}
 use Rattle.clause_arena.specs.Held.{clause_numbered, held_in, lits_of}
 use Rattle.watched_search.specs.Watches.{IsSameView}
-use Rattle.watched_search.specs.Sets.{GivesSets, AreSameSets, IsAddition, AreAdditions, numbered_additions}
+use Rattle.watched_search.specs.Sets.{GivesSets, AreSameSets, IsAddition}
 
 module _ (old new : ℕ → Option Clause) (gives : GivesSets old new) where
   next_set : (r s : List Lit) (at id : ℕ) (t : List Lit) → IsSameSet r s → resolved_next old r at id ≡ Ok t
@@ -114,7 +113,7 @@ addition_set old new lits chain s a =
 pub sets_same : (held : ℕ → Option Clause) → AreSameSets held held
 sets_same held = record { there = λ id c h. (c, h, λ l. refl); back = λ id c h. (c, h, λ l. refl) }
 
-gives_then : (old middle new : ℕ → Option Clause) → GivesSets old middle → GivesSets middle new → GivesSets old new
+pub gives_then : (old middle new : ℕ → Option Clause) → GivesSets old middle → GivesSets middle new → GivesSets old new
 gives_then old middle new f g id c h =
     let d = f id c h in
     let e = g id d.0 d.1 in
@@ -185,60 +184,44 @@ numbered_last (x ∷ xs) id lits k = elim (cases_Bool (x.0 == k)) [
   | inr other ↦ rw other (numbered_last xs id lits k)
 ]
 
-gives_push : (xs ys : List (ℕ × List Lit)) (id : ℕ) (lits : List Lit)
-    → AreSameSets (clause_numbered xs) (clause_numbered ys)
-    → GivesSets (clause_numbered (xs ++ (id, lits) ∷ [])) (clause_numbered (ys ++ (id, lits) ∷ []))
-gives_push xs ys id lits s k c h =
-    by (clause_numbered xs k) (clause_numbered ys k) refl refl (sym (numbered_last xs id lits k) ∙ h)
-  where
-    own : Option Clause
-    own = cond (id == k) (Some (record { lits = lits })) None
+module _ (f g f_more g_more : ℕ → Option Clause) (id : ℕ) (lits : List Lit)
+    (f_is : (k : ℕ) → f_more k ≡ option_or (f k) (cond (id == k) (Some (record { lits = lits })) None))
+    (g_is : (k : ℕ) → g_more k ≡ option_or (g k) (cond (id == k) (Some (record { lits = lits })) None)) where
+  gives_more : AreSameSets f g → GivesSets f_more g_more
+  gives_more s k c h = by (f k) (g k) refl refl (sym (f_is k) ∙ h)
+    where
+      own : Option Clause
+      own = cond (id == k) (Some (record { lits = lits })) None
 
-    by : (o p : Option Clause) → clause_numbered xs k ≡ o → clause_numbered ys k ≡ p
-        → option_or o own ≡ Some c
-        → (d : Clause) × (clause_numbered (ys ++ (id, lits) ∷ []) k ≡ Some d) × IsSameSet c.lits d.lits
-    by (Some d) p e f g =
-        let m : d ≡ c = cc in
-        let t = s.there k d e in (
-          t.0,
-          numbered_last ys id lits k ∙ ap (λ o. option_or o own) t.1,
-          subst (λ (x : Clause). IsSameSet x.lits t.0.lits) m t.2,
-        )
-    by None None e f g = (c, numbered_last ys id lits k ∙ ap (λ o. option_or o own) f ∙ g, λ l. refl)
-    by None (Some d) e f g = let t = s.back k d f in let z = t.1 in absurd (cc)
+      by : (o p : Option Clause) → f k ≡ o → g k ≡ p → option_or o own ≡ Some c
+          → (d : Clause) × (g_more k ≡ Some d) × IsSameSet c.lits d.lits
+      by (Some d) p e m q =
+          let n : d ≡ c = cc in
+          let t = s.there k d e in (
+            t.0,
+            g_is k ∙ ap (λ o. option_or o own) t.1,
+            subst (λ (x : Clause). IsSameSet x.lits t.0.lits) n t.2,
+          )
+      by None None e m q = (c, g_is k ∙ ap (λ o. option_or o own) m ∙ q, λ l. refl)
+      by None (Some d) e m q = let t = s.back k d m in let z = t.1 in absurd (cc)
 
--- the same clauses with the same one more
+-- the same clauses with the same one more behind them
+pub sets_more : (f g f_more g_more : ℕ → Option Clause) (id : ℕ) (lits : List Lit)
+    → ((k : ℕ) → f_more k ≡ option_or (f k) (cond (id == k) (Some (record { lits = lits })) None))
+    → ((k : ℕ) → g_more k ≡ option_or (g k) (cond (id == k) (Some (record { lits = lits })) None))
+    → AreSameSets f g → AreSameSets f_more g_more
+sets_more f g f_more g_more id lits f_is g_is s = record {
+  there = gives_more f g f_more g_more id lits f_is g_is s;
+  back = gives_more g f g_more f_more id lits g_is f_is (sets_back f g s);
+}
+
+-- so with lists of clauses
 pub sets_push : (xs ys : List (ℕ × List Lit)) (id : ℕ) (lits : List Lit)
     → AreSameSets (clause_numbered xs) (clause_numbered ys)
     → AreSameSets (clause_numbered (xs ++ (id, lits) ∷ [])) (clause_numbered (ys ++ (id, lits) ∷ []))
-sets_push xs ys id lits s = record {
-  there = gives_push xs ys id lits s;
-  back = gives_push ys xs id lits (record { there = s.back; back = s.there });
-}
-
--- ---- additions, one more
-
-pub additions_push : (held : List (ℕ × List Lit)) (id : ℕ) (xs : List (List Lit × List ℕ)) (lits : List Lit)
-    (chain : List ℕ) → AreAdditions held id xs
-    → IsAddition (clause_numbered (held ++ numbered_additions id xs)) lits chain
-    → AreAdditions held id (xs ++ (lits, chain) ∷ [])
-additions_push held id [] lits chain all one =
-    (subst (λ (ys : List (ℕ × List Lit)). IsAddition (clause_numbered ys) lits chain) (append-nil held) one, tt)
-additions_push held id (x ∷ xs) lits chain all one = (
-  all.0,
-  additions_push (held ++ (id, x.0) ∷ []) (id + 1) xs lits chain all.1
-      (subst (λ (ys : List (ℕ × List Lit)). IsAddition (clause_numbered ys) lits chain)
-      (sym (append_assoc held ((id, x.0) ∷ []) (numbered_additions (id + 1) xs))) one),
-)
-
-pub additions_numbered : (id : ℕ) (xs : List (List Lit × List ℕ)) (lits : List Lit) (chain : List ℕ)
-    → numbered_additions id (xs ++ (lits, chain) ∷ []) ≡ numbered_additions id xs ++ (id + length xs, lits) ∷ []
-additions_numbered id [] lits chain = ap (λ n. (n, lits) ∷ []) (omega arith)
-additions_numbered id (x ∷ xs) lits chain =
-    let n : id + 1 + length xs ≡ id + length (x ∷ xs) = omega arith in
-    ap (λ rest. (id, x.0) ∷ rest)
-    (additions_numbered (id + 1) xs lits chain
-    ∙ ap (λ k. numbered_additions (id + 1) xs ++ (k, lits) ∷ []) n)
+sets_push xs ys id lits s =
+    sets_more (clause_numbered xs) (clause_numbered ys) (clause_numbered (xs ++ (id, lits) ∷ []))
+    (clause_numbered (ys ++ (id, lits) ∷ [])) id lits (numbered_last xs id lits) (numbered_last ys id lits) s
 
 -- ---- the log
 

@@ -1,9 +1,9 @@
 -- Input clauses are held before the first decision: what is kept at level 0, and the numbers that are held.
 use Rattle.std.proofs.Common.{◌≡◌, ◌⊎◌, ℕ, zero, suc, ◌+◌, ◌-◌, ◌<◌, ◌≤◌, true, false, List, [], ◌∷◌, ◌++◌, map}
 use Rattle.std.proofs.Common.{min, length, length-append, length-take, take, slice_get, Option, Some, None, is_some}
-use Rattle.std.proofs.Common.{inl, inr, refl, sym}
+use Rattle.std.proofs.Common.{inl, inr, refl, sym, cond, ◌==◌, eqb-true}
 use Rattle.std.proofs.Common.{ap, subst, ◌∙◌, arith}
-use Rattle.std.proofs.lemmas.Bool.{false≢true, or_cases}
+use Rattle.std.proofs.lemmas.Bool.{cases_Bool, false≢true, or_cases}
 use Rattle.std.proofs.lemmas.List.{take_all}
 use Rattle.std.proofs.lemmas.Option.{slice_get_within}
 use Rattle.resolution_check.specs.declared.log.Lit.{Lit}
@@ -16,7 +16,7 @@ use Rattle.resolution_check.proofs.Variables.{take_at}
 use Rattle.clause_arena.specs.declared.names.ClauseRef.{ClauseRef}
 use Rattle.clause_arena.specs.Links.{word, In}
 use Rattle.clause_arena.specs.Store.{Store, IsSound}
-use Rattle.clause_arena.specs.Held.{lits_of, code_of, clauses}
+use Rattle.clause_arena.specs.Held.{clause_numbered, lits_of, code_of, clauses, held_in}
 use Rattle.clause_arena.specs.Changes.{Adds}
 use Rattle.clause_arena.proofs.Settling.{in_split}
 use Rattle.conflict_analysis.specs.Steps.{IsTrail, NeverFalls, OpensLevel}
@@ -242,3 +242,29 @@ below_grown old new id lits grown below c i =
     (under_push (clauses old) id lits
     (under_from (λ (s : ℕ). (word old.words (s + 1), lits_of old s)) old.refs id
     (λ r j. below (record { 0 = r }) j)))) i
+
+under_numbered : (xs : List (ℕ × List Lit)) (n k : ℕ) (c : Clause) → AllUnder n xs → clause_numbered xs k ≡ Some c
+    → k < n
+under_numbered [] n k c all h = absurd (cc)
+under_numbered (x ∷ xs) n k c all h = elim (cases_Bool (x.0 == k)) [
+  | inl here ↦ (let e : x.0 ≡ k = eqb-true x.0 k here in let low : x.0 < n = all.0 in omega arith)
+  | inr other ↦ under_numbered xs n k c all.1
+      (sym (ap (λ b. cond b (Some (record { lits = x.1 })) (clause_numbered xs k)) other) ∙ h)
+]
+
+-- the number of a clause that is held is below the next one
+pub held_below : (a : Store) (next k : ℕ) (c : Clause) → AreBelow a next → held_in a k ≡ Some c → k < next
+held_below a next k c below h =
+    under_numbered (clauses a) next k c
+    (under_from (λ (s : ℕ). (word a.words (s + 1), lits_of a s)) a.refs next (λ r j. below (record { 0 = r }) j)) h
+
+-- the number of an input is at most their count
+pub input_below : (id k : ℕ) (cs : List Clause) (c : Clause) → clause_numbered (numbered_from id cs) k ≡ Some c
+    → k < id + length cs
+input_below id k cs c h = under_numbered (numbered_from id cs) (id + length cs) k c (each id cs) h
+  where
+    each : (n : ℕ) (ds : List Clause) → AllUnder (n + length ds) (numbered_from n ds)
+    each n [] = tt
+    each n (d ∷ ds) =
+        let long : (n + 1) + length ds ≡ n + length (d ∷ ds) = omega arith in
+        (omega arith, subst (λ (m : ℕ). AllUnder m (numbered_from (n + 1) ds)) long (each (n + 1) ds))

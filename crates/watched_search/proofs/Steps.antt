@@ -14,7 +14,8 @@ use Rattle.clause_arena.specs.Links.{word}
 use Rattle.clause_arena.specs.Store.{Store}
 use Rattle.conflict_analysis.specs.Steps.{IsForcedBy, IsTrail, NeverFalls, OpensLevel}
 use Rattle.watched_search.specs.Trails.{last_level, MayFollow}
-use Rattle.watched_search.proofs.Places.{slice_get-front, slice_get-seam, all_push}
+use Rattle.mw_text.proofs.Lists.{item_before}
+use Rattle.watched_search.proofs.Places.{slice_get-seam, all_push}
 use Rattle.watched_search.proofs.Trails.{fresh_push}
 
 -- an item of the first ones
@@ -204,7 +205,7 @@ module _ (a : Store) (vars : ℕ) (lits : List Lit) (levels : List ℕ) (reasons
         chosen = λ at low o. elim (cases_lt at (length lits)) [
           | inl front ↦ (let is : slice_get reasons at ≡ Some None =
               t.chosen at front (opens_front levels level at (omega arith) o) in
-              slice_get-front reasons (reason ∷ []) at None is)
+              item_before reasons (reason ∷ []) at None is)
           | inr past ↦
               let e : at ≡ length levels = omega arith in
               let none : reason ≡ None = chosen_own (subst (OpensLevel (levels ++ level ∷ [])) e o) in

@@ -7,7 +7,7 @@ use Rattle.std.proofs.lemmas.Bool.{cases_Bool, eqb-true, eq-eqb, false≢true, a
 use Rattle.std.proofs.lemmas.Option.{slice_get_within}
 use Rattle.std.proofs.lemmas.List.{length-set, take-append-le}
 use Rattle.std.proofs.Math.Seq.{take-append_seam}
-use Rattle.mw_text.proofs.Lists.{each_place-push}
+use Rattle.mw_text.proofs.Lists.{each_place-push, item_before}
 use Rattle.resolution_check.specs.declared.log.Lit.{Lit}
 use Rattle.resolution_check.specs.Clauses.{is_below}
 use Rattle.resolution_check.specs.Trails.{value_of}
@@ -17,7 +17,7 @@ use Rattle.conflict_analysis.proofs.Fits.{trail_fits}
 use Rattle.deciders.specs.declared.decider.Value.{Value}
 use Rattle.deciders.specs.declared.decider.Value.TheVariants.{Free}
 use Rattle.watched_search.specs.Trails.{IsSound, shown}
-use Rattle.watched_search.proofs.Places.{slice_get-set_same, slice_get-set_other, slice_get-front, slice_get-seam, all_push}
+use Rattle.watched_search.proofs.Places.{slice_get-set_same, slice_get-set_other, slice_get-seam, all_push}
 
 unlike : (m n : ℕ) → (m == n) ≡ false → n ≢ m
 unlike m n h e = false≢true (sym h ∙ eq-eqb m n (sym e))
@@ -112,7 +112,7 @@ module _ (ls : List Lit) (levels : List ℕ) (reasons : List (Option ClauseRef))
         below = subst (λ (n : ℕ). is_below n ls ≡ true) (sym long) parts.0;
         fresh = λ i k h. (let w : i < length ls = slice_get_within ls i k h in
             ap (λ ms. value_of ms k.var) (sym (take-append-le i ls (l ∷ []) (omega arith)))
-            ∙ sound.fresh i k (slice_get-front ls (l ∷ []) i k h));
+            ∙ sound.fresh i k (item_before ls (l ∷ []) i k h));
         level_count = omega (arith, length-take (length ls) levels);
         reason_count = omega (arith, length-take (length ls) reasons);
       }

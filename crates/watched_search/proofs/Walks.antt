@@ -24,7 +24,7 @@ use Rattle.clause_arena.proofs.Threads.{threads_one, after_threads}
 use Rattle.clause_arena.proofs.Walks.{followed}
 use Rattle.watched_search.specs.Watches.{literal, AllTrue, Extends, IsKept, IsWalked, OtherTrue}
 use Rattle.watched_search.proofs.Moved.{still}
-use Rattle.watched_search.proofs.Places.{slice_get-front}
+use Rattle.mw_text.proofs.Lists.{item_before}
 use Rattle.watched_search.proofs.Settled.{same_code}
 use Rattle.watched_search.proofs.Visits.{holds_append}
 use Rattle.conflict_analysis.proofs.Followed.{front_fails}
@@ -352,4 +352,4 @@ looked_all a lits levels at low high k =
 pub still_there : (old new : List Lit) (at : ℕ) (t : Lit) → Extends old new → slice_get old at ≡ Some t
     → slice_get new at ≡ Some t
 still_there old new at t x there =
-    subst (λ (ls : List Lit). slice_get ls at ≡ Some t) (sym x.is) (slice_get-front old x.more at t there)
+    subst (λ (ls : List Lit). slice_get ls at ≡ Some t) (sym x.is) (item_before old x.more at t there)

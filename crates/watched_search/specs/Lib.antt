@@ -2,5 +2,4 @@ pub mod Trails
 pub mod Watches
 pub mod Starts
 pub mod Sets
-pub mod Histories
-pub mod Solved
+pub mod Values

@@ -1,11 +1,10 @@
 -- Clauses as sets, by their numbers, and what a search adds to them.
-use Rattle.std.specs.Prelude.{ℕ, ◌≡◌, ◌+◌, true, false, List, [], ◌∷◌, ◌++◌, ⊤, Option, Some, Ok}
+use Rattle.std.specs.Prelude.{ℕ, ◌≡◌, true, false, List, Option, Some, Ok}
 use Rattle.resolution_check.specs.declared.log.Lit.{Lit}
 use Rattle.resolution_check.specs.declared.log.Clause.{Clause}
 use Rattle.resolution_check.specs.Clauses.{is_inside, IsSameSet}
 use Rattle.resolution_check.specs.Entries.{resolved}
 use Rattle.resolution_check.specs.Earned.{vars_differ}
-use Rattle.clause_arena.specs.Held.{clause_numbered}
 
 -- each clause of the first is one of the second under the same number, with the same literals
 abbrev pub GivesSets : (old new : ℕ → Option Clause) → Type 0
@@ -25,14 +24,3 @@ pub record IsAddition (held : ℕ → Option Clause) (lits : List Lit) (chain : 
   pub same : IsSameSet clause lits
   pub once : vars_differ lits ≡ true
   pub smallest : (id : ℕ) (c : Clause) → held id ≡ Some c → is_inside c.lits lits ≡ false
-
--- the literals of additions and the numbers of their chains, numbered upwards from a number
-abbrev pub numbered_additions : ℕ → List (List Lit × List ℕ) → List (ℕ × List Lit)
-numbered_additions id [] = []
-numbered_additions id (x ∷ xs) = (id, x.0) ∷ numbered_additions (id + 1) xs
-
--- each is an addition to the clauses held and those added before it
-abbrev pub AreAdditions : List (ℕ × List Lit) → ℕ → List (List Lit × List ℕ) → Type 0
-AreAdditions held id [] = ⊤
-AreAdditions held id (x ∷ xs) =
-    IsAddition (clause_numbered held) x.0 x.1 × AreAdditions (held ++ (id, x.0) ∷ []) (id + 1) xs

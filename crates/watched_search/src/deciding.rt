@@ -1,6 +1,6 @@
-//! Decisions and restarts.
+//! Decisions, restarts and rounds.
 
-ghost use Rattle.std.specs.Prelude.{◌≡◌, ◌+◌, ◌≤◌, None, IfSome, length};
+ghost use Rattle.std.specs.Prelude.{◌≡◌, ◌+◌, ◌%◌, ◌==◌, ◌≤◌, false, None, IfSome, length};
 ghost use Rattle.resolution_check.specs.Trails.{value_of, IsTotal};
 ghost use Rattle.conflict_analysis.specs.Steps.{IsTrail};
 ghost use Rattle.watched_search.specs.Trails.{IsFree, last_level};
@@ -85,4 +85,26 @@ pub fn restart(arena: &Arena, assigned: &mut Assigned, looked_at: usize) -> usiz
         return looked_at;
     }
     back_to(arena, assigned, looked_at, 0)
+}
+
+/// After so many additions a search goes back to level 0.
+pub const ROUND: u64 = 256;
+
+/// Goes back to level 0 where a round of additions is over. Answers from which literal on is to be propagated.
+pub fn end_round(arena: &Arena, assigned: &mut Assigned, from: usize, added: u64) -> usize
+    requires trail { IsTrail arena.now assigned.old.vars assigned.old.lits assigned.old.levels assigned.old.reasons }
+    requires kept { IsKept arena.now assigned.old.lits assigned.old.levels from }
+    requires within { from ≤ length assigned.old.lits }
+    ensures trail { IsTrail arena.now assigned.new.vars assigned.new.lits assigned.new.levels assigned.new.reasons }
+    ensures kept { IsKept arena.now assigned.new.lits assigned.new.levels result }
+    ensures within { result ≤ length assigned.new.lits }
+    ensures vars { assigned.new.vars ≡ assigned.old.vars }
+    ensures round { added % 256 ≡ 0 → last_level assigned.new.levels ≡ 0 }
+    ensures stays { (added % 256 == 0) ≡ false → assigned.new.lits ≡ assigned.old.lits }
+    ensures stands { (added % 256 == 0) ≡ false → result ≡ from }
+{
+    if added % ROUND != 0 {
+        return from;
+    }
+    restart(arena, assigned, from)
 }

@@ -1,6 +1,6 @@
 //! Learnt clauses that are held, and make their first literals true.
 
-ghost use Rattle.std.specs.Prelude.{◌≡◌, ◌<◌, ◌++◌, ◌∷◌, [], true, IfOk, length};
+ghost use Rattle.std.specs.Prelude.{◌≡◌, ◌<◌, ◌≤◌, ◌^◌, ◌++◌, ◌∷◌, [], true, IfOk, length};
 ghost use Rattle.resolution_check.specs.Clauses.{is_below};
 ghost use Rattle.resolution_check.specs.Earned.{vars_differ};
 ghost use Rattle.clause_arena.specs.declared.names.ClauseRef.{ClauseRef};
@@ -32,6 +32,7 @@ pub fn hold(
     ensures vars { IfOk result (λ _. assigned.new.vars ≡ assigned.old.vars) }
     ensures arena_vars { IfOk result (λ _. arena.new.vars ≡ arena.old.vars) }
     ensures clauses { IfOk result (λ _. clauses arena.new ≡ clauses arena.old ++ (id, clause.now) ∷ []) }
+    ensures few { IfOk result (λ _. length (clauses arena.new) ≤ 2 ^ 62) }
     ensures kept { IfOk result (λ _. IsKept arena.new assigned.new.lits assigned.new.levels (length assigned.old.lits)) }
     ensures trail { IfOk result (λ _. IsTrail arena.new assigned.new.vars assigned.new.lits assigned.new.levels assigned.new.reasons) }
 {

@@ -1,6 +1,6 @@
 //! What a false clause teaches, and the way back from it.
 
-ghost use Rattle.std.specs.Prelude.{◌≡◌, ◌<◌, ◌≤◌, [], ◌∷◌, ◌++◌, IfOk, length};
+ghost use Rattle.std.specs.Prelude.{◌≡◌, ◌<◌, ◌≤◌, ◌^◌, [], ◌∷◌, ◌++◌, IfOk, length};
 ghost use Rattle.clause_arena.specs.declared.names.ClauseRef.{ClauseRef};
 ghost use Rattle.clause_arena.specs.Held.{IsHeld, clauses, number_of};
 ghost use Rattle.conflict_analysis.specs.Steps.{IsConflict, IsTrail};
@@ -57,6 +57,7 @@ pub fn assert_clause(
     ensures vars { IfOk result (λ _. assigned.new.vars ≡ assigned.old.vars) }
     ensures arena_vars { IfOk result (λ _. arena.new.vars ≡ arena.old.vars) }
     ensures clauses { IfOk result (λ _. clauses arena.new ≡ clauses arena.old ++ (id, work.now.lits) ∷ []) }
+    ensures few { IfOk result (λ _. length (clauses arena.new) ≤ 2 ^ 62) }
     ensures trail { IfOk result (λ _. IsTrail arena.new assigned.new.vars assigned.new.lits assigned.new.levels assigned.new.reasons) }
     ensures kept { IfOk result (λ from. IsKept arena.new assigned.new.lits assigned.new.levels from) }
     ensures within { IfOk result (λ from. from ≤ length assigned.new.lits) }

@@ -1,8 +1,9 @@
-use Rattle.std.proofs.Common.{ℕ, ◌++◌, ◌∷◌, [], List, false, length, inr, refl, sym, ap, subst, ◌∙◌}
+use Rattle.std.proofs.Common.{ℕ, ◌++◌, ◌∷◌, [], List, false, length, inr, refl, sym, ap, subst, ◌∙◌, arith}
 use Rattle.std.proofs.lemmas.Option.{get_or_from_slice_get}
 use Rattle.resolution_check.specs.declared.log.Lit.{Lit}
 use Rattle.conflict_analysis.specs.Steps.{IsForcedBy}
 use Rattle.watched_search.specs.Watches.{IsKept}
+use Rattle.watched_search.proofs.Counts.{few_held}
 use Rattle.watched_search.proofs.Learnt.{trail_added, forced_first, kept_learnt}
 use Rattle.watched_search.proofs.holding.hold.Goals as goal
 
@@ -44,3 +45,8 @@ returns-clause-kept c =
     (kept_learnt c.args.arena.now b c.in_ok-reference.reference.0 c.args.id c.args.clause.now c.words_are_sound.ensures
     c.words_are_sound-2.ensures c.in_ok-reference.ensures.ok c.in_ok-reference.ensures.clauses s.vars s.lits s.levels
     s.reasons c.requires.trail c.requires.kept asserts))
+
+pub returns-clause-few : goal.returns-clause-few
+returns-clause-few c =
+    few_held c.args.arena.now c.add.new.self c.in_ok-reference.reference.0 c.args.id _ c.words_are_sound-2.ensures
+    c.in_ok-reference.ensures.ok (omega arith)

@@ -1,4 +1,4 @@
-use Rattle.watched_search.proofs.Histories.{totals}
+use Rattle.watched_search.proofs.Totals.{totals}
 use Rattle.watched_search.proofs.laws.totals_hold.Goals as goal
 
 pub returns : goal.returns

@@ -1,0 +1,129 @@
+use Rattle.std.proofs.Common.{◌≡◌, ℕ, ◌+◌, ◌∙◌, List, Option, refl, sym, subst, arith, add-zero}
+use Rattle.std.specs.Prelude.{IfSome}
+use Rattle.term_store.specs.Terms.{truth}
+use Rattle.resolution_check.specs.declared.log.Clause.{Clause}
+use Rattle.mw_text.proofs.Results.{on_err}
+use Rattle.clause_arena.specs.Held.{held_in}
+use Rattle.watched_search.specs.Sets.{GivesSets}
+use Rattle.watched_search.proofs.Inputs.{clause_given}
+use Rattle.watched_search.proofs.Sets.{gives_then, view_sets}
+use Rattle.cdcl_search.specs.Outcomes.{IsCut}
+use Rattle.cdcl_search.specs.Going.{GoesOn, IsGoing, IsReady}
+use Rattle.cdcl_search.proofs.Logs.{cut_here, cut_within, logged_sat, logged_unknown, logged_unsat}
+use Rattle.cdcl_search.proofs.Ready.{going_view, ready_round, ready_same, values_agree}
+use Rattle.cdcl_search.proofs.searching.search.Goals as goal
+
+pub loop-added-init : goal.loop-added-init
+loop-added-init g c =
+    let n : c.args.first ≡ c.args.first + 0 = sym (add-zero c.args.first) in
+    record {
+      work_vars = c.requires.work_vars;
+      same_vars = refl;
+      ready = subst (λ k. IsReady c.args.arena.now c.args.assigned.now k 0) n c.requires.ready;
+      gives = λ k d h. (d, h, λ l. refl);
+      going = λ before ins h.
+          subst (λ k. IsGoing before (g.L.Sink.taken c.args.log.now) ins (held_in c.args.arena.now) k 0) n h;
+      stays = refl;
+    }
+
+pub returns-in_err-values-clause-cut : goal.returns-in_err-values-clause-cut
+returns-in_err-values-clause-cut g c =
+    let cuts : (before : Option (List ℕ)) (ins : List Clause)
+    → IsGoing before (g.L.Sink.taken c.args.log.now) ins (held_in c.args.arena.now) c.args.first 0
+    → IsCut before (g.L.Sink.taken c.loop-added.log) ins c.args.budget =
+    λ before ins going.
+    cut_here before (g.L.Sink.taken c.loop-added.log) ins (held_in c.loop-added.arena)
+    (c.args.first + c.loop-added.added) c.loop-added.added (c.loop-added.invariant.going before ins going)
+    c.args.budget (omega (arith, c.loop-added-test.true)) (g.L.Sink.taken c.loop-added.log) refl in
+    on_err _ cuts
+
+pub returns-in_default-clause-logged : goal.returns-in_default-clause-logged
+returns-in_default-clause-logged g c = λ before ins going.
+    logged_sat before (g.L.Sink.taken c.loop-added.log) ins (held_in c.loop-added.arena)
+    (c.args.first + c.loop-added.added) c.loop-added.added c.args.budget c.in_ok-values.values
+    (omega (arith, c.loop-added-test.true)) (c.loop-added.invariant.going before ins going)
+
+pub returns-in_default-clause-sat : goal.returns-in_default-clause-sat
+returns-in_default-clause-sat g c = λ id k h.
+    let s = c.find_conflict.new.assigned in
+    let f = c.find_conflict.ensures in
+    let d = c.loop-added.invariant.gives id k h in
+    let e = (view_sets c.loop-added.arena c.find_conflict.new.arena f.view).there id d.0 d.1 in
+    let t = c.totals_hold.ensures id e.0 e.1 in
+    clause_given (truth c.in_ok-values.values) s.lits k.lits
+    (values_agree s.vars s.lits c.in_ok-values.values f.trail.below c.in_ok-values.ensures.values)
+    (record { lit = t.lit; inside = d.2 t.lit ∙ e.2 t.lit ∙ t.inside; is_true = t.is_true })
+
+pub take_lesson-requires-clause-ready : goal.take_lesson-requires-clause-ready
+take_lesson-requires-clause-ready g c =
+    let f = c.find_conflict.ensures in
+    ready_same c.loop-added.arena c.find_conflict.new.arena c.loop-added.assigned c.find_conflict.new.assigned
+    (c.args.first + c.loop-added.added) c.loop-added.from c.loop-added.invariant.ready f.view f.vars f.trail f.kept
+
+pub returns-in_err-next-clause-cut : goal.returns-in_err-next-clause-cut
+returns-in_err-next-clause-cut g c =
+    let cuts : (before : Option (List ℕ)) (ins : List Clause)
+    → IsGoing before (g.L.Sink.taken c.args.log.now) ins (held_in c.args.arena.now) c.args.first 0
+    → IsCut before (g.L.Sink.taken c.take_lesson.new.log) ins c.args.budget =
+    λ before ins going. cut_within before (g.L.Sink.taken c.take_lesson.new.log) ins
+    (c.loop-added.added + 1) c.args.budget (omega (arith, c.loop-added-test.true))
+    (c.in_err-next.ensures.cut before ins c.loop-added.added
+    (going_view before (g.L.Sink.taken c.loop-added.log) ins c.loop-added.arena c.find_conflict.new.arena
+    (c.args.first + c.loop-added.added) c.loop-added.added c.find_conflict.ensures.view
+    (c.loop-added.invariant.going before ins going))) in
+    on_err _ cuts
+
+pub returns-in_default-2-clause-logged : goal.returns-in_default-2-clause-logged
+returns-in_default-2-clause-logged g c = λ before ins going.
+    logged_unsat before (g.L.Sink.taken c.take_lesson.new.log) ins (c.loop-added.added + 1) c.args.budget
+    (omega (arith, c.loop-added-test.true))
+    (c.in_ok-next.ensures.refuted c.in_default-2.is before ins c.loop-added.added
+    (going_view before (g.L.Sink.taken c.loop-added.log) ins c.loop-added.arena c.find_conflict.new.arena
+    (c.args.first + c.loop-added.added) c.loop-added.added c.find_conflict.ensures.view
+    (c.loop-added.invariant.going before ins going)))
+
+pub loop-added-preserved : goal.loop-added-preserved
+loop-added-preserved g c =
+    let i = c.loop-added.invariant in
+    let f = c.find_conflict.ensures in
+    let t = c.in_ok-next.ensures in
+    let e = c.end_round-from.ensures in
+    let id = c.args.first + c.loop-added.added in
+    let old = g.L.Sink.taken c.loop-added.log in
+    let new = g.L.Sink.taken c.take_lesson.new.log in
+    let a = c.find_conflict.new.arena in
+    let b = c.take_lesson.new.arena in
+    let n : c.args.first + c.loop-added.added + 1 ≡ c.args.first + (c.loop-added.added + 1) = omega arith in
+    let ready : IsReady b c.take_lesson.new.assigned (c.args.first + c.loop-added.added + 1) c.in-Some-2.next =
+    subst (λ (o : Option ℕ). IfSome o (IsReady c.take_lesson.new.arena c.take_lesson.new.assigned
+    (c.args.first + c.loop-added.added + 1))) c.in-Some-2.is t.ready in
+    let gives : GivesSets (held_in a) (held_in b) =
+    subst (λ (o : Option ℕ). IfSome o (λ k. GivesSets (held_in c.find_conflict.new.arena)
+    (held_in c.take_lesson.new.arena))) c.in-Some-2.is t.gives in
+    let goes : GoesOn old new (held_in a) (held_in b) (c.args.first + c.loop-added.added) =
+    subst (λ (o : Option ℕ). IfSome o (λ k. GoesOn (g.L.Sink.taken c.loop-added.log)
+    (g.L.Sink.taken c.take_lesson.new.log) (held_in c.find_conflict.new.arena) (held_in c.take_lesson.new.arena)
+    (c.args.first + c.loop-added.added))) c.in-Some-2.is t.going in
+    record {
+      work_vars = t.work_vars ∙ i.work_vars ∙ sym (e.vars ∙ t.vars ∙ f.vars);
+      same_vars = e.vars ∙ t.vars ∙ f.vars ∙ i.same_vars;
+      ready = subst (λ k. IsReady c.take_lesson.new.arena c.end_round-from.new.assigned k c.end_round-from.result) n
+          (ready_round b c.take_lesson.new.assigned c.end_round-from.new.assigned
+          (c.args.first + c.loop-added.added + 1) c.in-Some-2.next c.end_round-from.result ready e.vars e.trail e.kept
+          e.within);
+      gives = gives_then (held_in c.args.arena.now) (held_in c.loop-added.arena) (held_in b) i.gives
+          (gives_then (held_in c.loop-added.arena) (held_in a) (held_in b)
+          (view_sets c.loop-added.arena a f.view).there gives);
+      going = λ before ins h.
+          subst (λ k. IsGoing before (g.L.Sink.taken c.take_lesson.new.log) ins (held_in c.take_lesson.new.arena) k
+          (c.loop-added.added + 1)) n
+          (goes before ins c.loop-added.added (going_view before old ins c.loop-added.arena a
+          (c.args.first + c.loop-added.added) c.loop-added.added f.view (i.going before ins h)));
+      stays = t.stays ∙ i.stays;
+    }
+
+pub returns-clause-logged : goal.returns-clause-logged
+returns-clause-logged g c = λ before ins going.
+    logged_unknown before (g.L.Sink.taken c.loop-added.log) ins (held_in c.loop-added.arena)
+    (c.args.first + c.loop-added.added) c.loop-added.added c.args.budget
+    (omega (arith, c.loop-added-test.false, c.loop-added.auto)) (c.loop-added.invariant.going before ins going)
