@@ -8,6 +8,7 @@ mod logging;
 mod outcome;
 mod searching;
 mod solving;
+mod turns;
 
 pub use outcome::{Outcome, SolveFault};
 pub use solving::solve;
