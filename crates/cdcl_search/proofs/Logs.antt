@@ -1,6 +1,6 @@
 -- The log of a search: its entries and their lines.
 use Rattle.resolution_check.proofs.Values.{below_larger}
-use Rattle.std.proofs.Common.{◌≡◌, ℕ, ◌+◌, ◌<◌, ◌≤◌, ◌^◌, ◌==◌, Bool, true, false, cond, ◌||◌, List, []}
+use Rattle.std.proofs.Common.{◌*◌, ◌≡◌, ℕ, ◌+◌, ◌<◌, ◌≤◌, ◌^◌, ◌==◌, Bool, true, false, cond, ◌||◌, List, []}
 use Rattle.std.proofs.Common.{◌∷◌, ◌++◌, length, take, drop, slice_get, Option, Some, None, is_some, Result, Ok, Err}
 use Rattle.std.proofs.Common.{IfOk, refl, sym, ap, ap₂, subst, ◌∙◌, arith, inl, inr, add-zero, append_assoc}
 use Rattle.std.proofs.Common.{take-append-drop}
@@ -12,7 +12,7 @@ use Rattle.std.proofs.lemmas.Bool.{false_from_ne_true}
 use Rattle.std.proofs.lemmas.List.{append-nil, length-take}
 use Rattle.std.proofs.lemmas.Option.{slice_get_within}
 use Rattle.std.proofs.lemmas.Grind.{flat_map-append}
-use Rattle.mw_outside.specs.Taken.{Takes, TakesPart, takes_more, part_of_all, part_stops, part_more}
+use Rattle.mw_outside.specs.Taken.{Takes, TakesPart, takes_more, part_of_all, part_of_none, part_stops, part_more}
 use Rattle.resolution_check.specs.declared.log.Lit.{Lit}
 use Rattle.resolution_check.specs.declared.log.Clause.{Clause}
 use Rattle.resolution_check.specs.declared.log.Entry.{Entry}
@@ -339,6 +339,17 @@ cut_first before now vars budget cs few numbers below part = record {
   within = omega (arith, inputs_count 1 cs);
   text = part;
 }
+
+-- as many clauses as a slice in memory has
+pub few_of : {slice cs : List Clause} → slice ≡ cs → length slice * 24 < 2 ^ 63 → length cs < 2 ^ 63
+few_of same few = subst (λ (ds : List Clause). length ds < 2 ^ 63) same (omega arith)
+
+-- nothing is written yet
+pub cut_none : (now : Option (List ℕ)) (vars budget : ℕ) (cs slice : List Clause) → vars ≤ 2 ^ 63
+    → list_all (λ c. is_below vars c.lits) cs ≡ true → slice ≡ cs → length slice * 24 < 2 ^ 63 → IsCut now now cs budget
+cut_none now vars budget cs slice small below same few =
+    cut_first now now vars budget cs small (let h : length cs < 2 ^ 63 = few_of same few in omega arith) below
+    (part_of_none now (log_text (input_entries 1 cs)))
 
 -- the inputs are written, and no more
 pub cut_inputs : (now : Option (List ℕ)) (vars budget : ℕ) (cs : List Clause)
