@@ -1,6 +1,6 @@
 -- The log of a search: its entries and their lines.
 use Rattle.resolution_check.proofs.Values.{below_larger}
-use Rattle.std.proofs.Common.{◌≡◌, ℕ, ◌+◌, ◌<◌, ◌≤◌, ◌^◌, ◌==◌, Bool, true, false, cond, ◌||◌, List, []}
+use Rattle.std.proofs.Common.{◌*◌, ◌≡◌, ℕ, ◌+◌, ◌<◌, ◌≤◌, ◌^◌, ◌==◌, Bool, true, false, cond, ◌||◌, List, []}
 use Rattle.std.proofs.Common.{◌∷◌, ◌++◌, length, take, drop, slice_get, Option, Some, None, is_some, Result, Ok, Err}
 use Rattle.std.proofs.Common.{IfOk, refl, sym, ap, ap₂, subst, ◌∙◌, arith, inl, inr, add-zero, append_assoc}
 use Rattle.std.proofs.Common.{take-append-drop}
@@ -12,7 +12,7 @@ use Rattle.std.proofs.lemmas.Bool.{false_from_ne_true}
 use Rattle.std.proofs.lemmas.List.{append-nil, length-take}
 use Rattle.std.proofs.lemmas.Option.{slice_get_within}
 use Rattle.std.proofs.lemmas.Grind.{flat_map-append}
-use Rattle.mw_outside.specs.Taken.{Takes, TakesPart, takes_more, part_of_all, part_stops, part_more}
+use Rattle.mw_outside.specs.Taken.{Takes, TakesPart, takes_more, part_of_all, part_of_none, part_stops, part_more}
 use Rattle.resolution_check.specs.declared.log.Lit.{Lit}
 use Rattle.resolution_check.specs.declared.log.Clause.{Clause}
 use Rattle.resolution_check.specs.declared.log.Entry.{Entry}
@@ -38,7 +38,10 @@ use Rattle.watched_search.proofs.Sets.{earned_addition, sets_more}
 use Rattle.cdcl_search.specs.declared.outcome.Outcome.{Outcome}
 use Rattle.cdcl_search.specs.declared.outcome.Outcome.TheVariants.{Unsat, Sat, Unknown}
 use Rattle.cdcl_search.specs.Outcomes.{input_entries, adds_or_deletes, IsSearchLog, IsCut, IsLogged, OnUnsat}
-use Rattle.cdcl_search.specs.Going.{IsGoing, IsRefuted}
+use Rattle.cdcl_search.specs.Going.{IsDone, IsGoing, IsRefuted}
+use Rattle.cdcl_search.specs.Told.{IsTold}
+use Rattle.cdcl_search.specs.Turns.{AreUntold, IsTurn, TellBumps, TellsAt, vars_of}
+use Rattle.cdcl_search.proofs.Bumps.{bumps_more, untold_inputs}
 use Rattle.resolution_check.proofs.Variables.{take_at}
 
 -- ---- what has a text
@@ -306,9 +309,9 @@ inputs_log vars cs few numbers below =
 -- the clauses of a formula were written as inputs
 pub going_start : (before now : Option (List ℕ)) (vars : ℕ) (cs : List Clause) (next : ℕ)
     → vars ≤ 2 ^ 63 → length cs ≤ 2 ^ 63 → list_all (λ c. is_below vars c.lits) cs ≡ true → next ≡ length cs + 1
-    → Takes before now (log_text (input_entries 1 cs))
-    → IsGoing before now cs (clause_numbered (numbered_from 1 cs)) next 0
-going_start before now vars cs next few numbers below is_next takes =
+    → (tolds : List (Option (List ℕ))) → AreUntold tolds → Takes before now (log_text (input_entries 1 cs))
+    → IsGoing before now cs (clause_numbered (numbered_from 1 cs)) next 0 tolds
+going_start before now vars cs next few numbers below is_next tolds untold takes =
     let w = inputs_written vars cs few numbers below in
     let n : 1 + length cs ≡ next = omega (arith, is_next) in
     record {
@@ -323,6 +326,7 @@ going_start before now vars cs next few numbers below is_next takes =
       above = subst (IsAbove (input_entries 1 cs)) n w.above;
       count = inputs_count 1 cs;
       not_empty = inputs_empty 1 cs;
+      bumps = untold_inputs tolds untold 1 cs;
     }
 
 -- a front of the inputs is written
@@ -335,6 +339,17 @@ cut_first before now vars budget cs few numbers below part = record {
   within = omega (arith, inputs_count 1 cs);
   text = part;
 }
+
+-- as many clauses as a slice in memory has
+pub few_of : {slice cs : List Clause} → slice ≡ cs → length slice * 24 < 2 ^ 63 → length cs < 2 ^ 63
+few_of same few = subst (λ (ds : List Clause). length ds < 2 ^ 63) same (omega arith)
+
+-- nothing is written yet
+pub cut_none : (now : Option (List ℕ)) (vars budget : ℕ) (cs slice : List Clause) → vars ≤ 2 ^ 63
+    → list_all (λ c. is_below vars c.lits) cs ≡ true → slice ≡ cs → length slice * 24 < 2 ^ 63 → IsCut now now cs budget
+cut_none now vars budget cs slice small below same few =
+    cut_first now now vars budget cs small (let h : length cs < 2 ^ 63 = few_of same few in omega arith) below
+    (part_of_none now (log_text (input_entries 1 cs)))
 
 -- the inputs are written, and no more
 pub cut_inputs : (now : Option (List ℕ)) (vars budget : ℕ) (cs : List Clause)
@@ -368,7 +383,7 @@ held-push es id clause chain good new k = elim (cases_Bool (is_deleted es k)) [
 ]
 
 module _ (before middle : Option (List ℕ)) (ins : List Clause) (held : ℕ → Option Clause) (next added : ℕ)
-    (g : IsGoing before middle ins held next added) where
+    (tolds : List (Option (List ℕ))) (g : IsGoing before middle ins held next added tolds) where
   -- the log is written as far as it goes
   pub cut_here : (budget : ℕ) → added ≤ budget → (now : Option (List ℕ)) → now ≡ middle → IsCut before now ins budget
   cut_here budget few now e = record {
@@ -380,7 +395,7 @@ module _ (before middle : Option (List ℕ)) (ins : List Clause) (held : ℕ →
 
   -- the same clauses are held in another order of literals
   pub going_same : (more : ℕ → Option Clause) → AreSameSets more (clause_held g.entries)
-      → IsGoing before middle ins more next added
+      → IsGoing before middle ins more next added tolds
   going_same more same = record {
     entries = g.entries;
     log = g.log;
@@ -390,6 +405,7 @@ module _ (before middle : Option (List ℕ)) (ins : List Clause) (held : ℕ →
     above = g.above;
     count = g.count;
     not_empty = g.not_empty;
+    bumps = g.bumps;
   }
 
   module _ (lits : List Lit) (chain : List ℕ) (one : IsAddition held lits chain)
@@ -439,11 +455,20 @@ module _ (before middle : Option (List ℕ)) (ins : List Clause) (held : ℕ →
         subst (λ t. Takes before now t) (sym (text-push g.entries addition))
         (takes_more before middle now _ _ g.text takes)
 
+    module _ (turn : ℕ) (is_turn : IsTurn (length tolds) added turn) (more_tolds : List (Option (List ℕ)))
+        (tells : TellsAt tolds more_tolds turn (vars_of lits)) where
+      bumps_then : TellBumps more_tolds (g.entries ++ addition ∷ [])
+      bumps_then =
+          bumps_more tolds more_tolds g.entries next (record { lits = lits }) chain turn
+          (subst (λ n. IsTurn (length tolds) n turn) (sym g.count) is_turn) tells g.bumps
+
     -- a clause that is not empty was added, and is held
-    pub going_more : (now : Option (List ℕ)) (more : ℕ → Option Clause)
+    pub going_more : (turn : ℕ) → IsTurn (length tolds) added turn → (more_tolds : List (Option (List ℕ)))
+        → TellsAt tolds more_tolds turn (vars_of lits) → (now : Option (List ℕ)) (more : ℕ → Option Clause)
         → ((k : ℕ) → more k ≡ option_or (held k) (cond (next == k) (Some (record { lits = lits })) None))
-        → is_empty lits ≡ false → Takes middle now (line_of addition) → IsGoing before now ins more (next + 1) (added + 1)
-    going_more now more grown full takes = record {
+        → is_empty lits ≡ false → Takes middle now (line_of addition)
+        → IsGoing before now ins more (next + 1) (added + 1) more_tolds
+    going_more turn is_turn more_tolds tells now more grown full takes = record {
       entries = g.entries ++ addition ∷ [];
       log = log_more;
       text = taken_more now takes;
@@ -453,17 +478,20 @@ module _ (before middle : Option (List ℕ)) (ins : List Clause) (held : ℕ →
       above = written_then.above;
       count = counted;
       not_empty = any-push is_refutation g.entries addition ∙ ap₂ (λ a b. a || b) g.not_empty full;
+      bumps = bumps_then turn is_turn more_tolds tells;
     }
 
     -- the empty clause was added
-    pub refuted_more : (now : Option (List ℕ)) → is_empty lits ≡ true → Takes middle now (line_of addition)
-        → IsRefuted before now ins (added + 1)
-    refuted_more now none takes = record {
+    pub refuted_more : (turn : ℕ) → IsTurn (length tolds) added turn → (more_tolds : List (Option (List ℕ)))
+        → TellsAt tolds more_tolds turn (vars_of lits) → (now : Option (List ℕ)) → is_empty lits ≡ true
+        → Takes middle now (line_of addition) → IsRefuted before now ins (added + 1) more_tolds
+    refuted_more turn is_turn more_tolds tells now none takes = record {
       entries = g.entries ++ addition ∷ [];
       log = log_more;
       text = taken_more now takes;
       count = counted;
       empty = any-push is_refutation g.entries addition ∙ ap₂ (λ a b. a || b) g.not_empty none;
+      bumps = bumps_then turn is_turn more_tolds tells;
     }
 
     -- a front of an addition's line was written
@@ -478,26 +506,40 @@ module _ (before middle : Option (List ℕ)) (ins : List Clause) (held : ℕ →
 
 -- ---- the outcomes
 
-pub logged_sat : (before now : Option (List ℕ)) (ins : List Clause) (held : ℕ → Option Clause) (next added budget : ℕ)
-    (values : List Bool) → added < budget → IsGoing before now ins held next added
-    → IsLogged before now ins budget (Sat values)
-logged_sat before now ins held next added budget values few g = record {
-  entries = g.entries;
-  log = g.log;
-  shows = (g.not_empty, omega (arith, g.count));
-  text = g.text;
+module _ (before now : Option (List ℕ)) (ins : List Clause) (held : ℕ → Option Clause) (next added budget : ℕ)
+    (tolds : List (Option (List ℕ))) (g : IsGoing before now ins held next added tolds) where
+  told_now : IsTold before now ins tolds
+  told_now = record { entries = g.entries; log = g.log; text = g.text; bumps = g.bumps }
+
+  pub done_sat : (values : List Bool) → added < budget → IsDone before now ins budget tolds (Sat values)
+  done_sat values few = record {
+    logged = record {
+      entries = g.entries;
+      log = g.log;
+      shows = (g.not_empty, omega (arith, g.count));
+      text = g.text;
+    };
+    told = told_now;
+  }
+
+  pub done_unknown : added ≡ budget → IsDone before now ins budget tolds (Unknown budget)
+  done_unknown e = record {
+    logged = record { entries = g.entries; log = g.log; shows = (g.not_empty, g.count ∙ e); text = g.text };
+    told = told_now;
+  }
+
+pub done_unsat : (before now : Option (List ℕ)) (ins : List Clause) (added budget : ℕ)
+    (tolds : List (Option (List ℕ))) → added ≤ budget → IsRefuted before now ins added tolds
+    → IsDone before now ins budget tolds Unsat
+done_unsat before now ins added budget tolds few r = record {
+  logged = record {
+    entries = r.entries;
+    log = r.log;
+    shows = (r.empty, omega (arith, r.count));
+    text = r.text;
+  };
+  told = record { entries = r.entries; log = r.log; text = r.text; bumps = r.bumps };
 }
-
-pub logged_unknown : (before now : Option (List ℕ)) (ins : List Clause) (held : ℕ → Option Clause)
-    (next added budget : ℕ) → added ≡ budget → IsGoing before now ins held next added
-    → IsLogged before now ins budget (Unknown budget)
-logged_unknown before now ins held next added budget e g =
-    record { entries = g.entries; log = g.log; shows = (g.not_empty, g.count ∙ e); text = g.text }
-
-pub logged_unsat : (before now : Option (List ℕ)) (ins : List Clause) (added budget : ℕ) → added ≤ budget
-    → IsRefuted before now ins added → IsLogged before now ins budget Unsat
-logged_unsat before now ins added budget few r =
-    record { entries = r.entries; log = r.log; shows = (r.empty, omega (arith, r.count)); text = r.text }
 
 -- where the log shows it, no assignment satisfies the clauses
 pub unsat_shown : {E : Type 0} (before now : Option (List ℕ)) (cs : List Clause) (budget : ℕ) (r : Result Outcome E)

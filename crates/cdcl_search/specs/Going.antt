@@ -13,12 +13,16 @@ use Rattle.watched_search.specs.Sets.{AreSameSets}
 use Rattle.watched_search.specs.Starts.{AreBelow}
 use Rattle.watched_search.specs.Trails.{Assigned}
 use Rattle.watched_search.specs.Watches.{IsKept}
-use Rattle.cdcl_search.specs.Outcomes.{IsSearchLog, IsCut}
+use Rattle.cdcl_search.specs.declared.outcome.Outcome.{Outcome}
+use Rattle.cdcl_search.specs.Outcomes.{IsSearchLog, IsCut, IsLogged}
+use Rattle.cdcl_search.specs.Told.{IsTold}
+use Rattle.cdcl_search.specs.Turns.{IsTurn, TellBumps}
 
 -- between these two moments the log of a search for the inputs was written so far: it holds exactly these clauses, each
--- up to the order of its literals, the numbers given are below the next one, and it has so many additions, none empty
+-- up to the order of its literals, the numbers given are below the next one, it has so many additions, none empty, and
+-- deciders tell the bumps of these additions
 pub record IsGoing (before now : Option (List ℕ)) (inputs : List Clause) (held : ℕ → Option Clause) (next added : ℕ)
-    : Type 0 where
+    (tolds : List (Option (List ℕ))) : Type 0 where
   pub entries : List Entry
   pub log : IsSearchLog inputs entries
   pub text : Takes before now (log_text entries)
@@ -27,30 +31,43 @@ pub record IsGoing (before now : Option (List ℕ)) (inputs : List Clause) (held
   pub above : IsAbove entries next
   pub count : addition_count entries ≡ added
   pub not_empty : adds_empty entries ≡ false
+  pub bumps : TellBumps tolds entries
 
 -- the log was written to its end, has so many additions, and the last adds the empty clause
-pub record IsRefuted (before now : Option (List ℕ)) (inputs : List Clause) (added : ℕ) : Type 0 where
+pub record IsRefuted (before now : Option (List ℕ)) (inputs : List Clause) (added : ℕ)
+    (tolds : List (Option (List ℕ))) : Type 0 where
   pub entries : List Entry
   pub log : IsSearchLog inputs entries
   pub text : Takes before now (log_text entries)
   pub count : addition_count entries ≡ added
   pub empty : adds_empty entries ≡ true
+  pub bumps : TellBumps tolds entries
 
--- ---- from one moment to a later one, where an addition under the next number was logged
+-- the log was written to its end and shows the outcome, and deciders tell the bumps of its additions
+pub record IsDone (before now : Option (List ℕ)) (inputs : List Clause) (budget : ℕ)
+    (tolds : List (Option (List ℕ))) (outcome : Outcome) : Type 0 where
+  pub logged : IsLogged before now inputs budget outcome
+  pub told : IsTold before now inputs tolds
 
-abbrev pub GoesOn : (old new : Option (List ℕ)) → (held more : ℕ → Option Clause) → (next : ℕ) → Type 0
-GoesOn old new held more next =
-    (before : Option (List ℕ)) (ins : List Clause) (added : ℕ) → IsGoing before old ins held next added
-    → IsGoing before new ins more (next + 1) (added + 1)
+-- ---- from one moment to a later one, where an addition under the next number was logged, and the decider was told of it
+-- ---- whose turn it was
 
-abbrev pub Refutes : (old new : Option (List ℕ)) → (held : ℕ → Option Clause) → (next : ℕ) → Type 0
-Refutes old new held next =
-    (before : Option (List ℕ)) (ins : List Clause) (added : ℕ) → IsGoing before old ins held next added
-    → IsRefuted before new ins (added + 1)
+abbrev pub GoesOn : (old new : Option (List ℕ)) → (tolds more_tolds : List (Option (List ℕ)))
+    → (held more : ℕ → Option Clause) → (next turn : ℕ) → Type 0
+GoesOn old new tolds more_tolds held more next turn =
+    (before : Option (List ℕ)) (ins : List Clause) (added : ℕ) → IsTurn (length tolds) added turn
+    → IsGoing before old ins held next added tolds → IsGoing before new ins more (next + 1) (added + 1) more_tolds
 
-abbrev pub Cuts : (old new : Option (List ℕ)) → (held : ℕ → Option Clause) → (next : ℕ) → Type 0
-Cuts old new held next =
-    (before : Option (List ℕ)) (ins : List Clause) (added : ℕ) → IsGoing before old ins held next added
+abbrev pub Refutes : (old new : Option (List ℕ)) → (tolds more_tolds : List (Option (List ℕ)))
+    → (held : ℕ → Option Clause) → (next turn : ℕ) → Type 0
+Refutes old new tolds more_tolds held next turn =
+    (before : Option (List ℕ)) (ins : List Clause) (added : ℕ) → IsTurn (length tolds) added turn
+    → IsGoing before old ins held next added tolds → IsRefuted before new ins (added + 1) more_tolds
+
+abbrev pub Cuts : (old new : Option (List ℕ)) → (tolds : List (Option (List ℕ))) → (held : ℕ → Option Clause)
+    → (next : ℕ) → Type 0
+Cuts old new tolds held next =
+    (before : Option (List ℕ)) (ins : List Clause) (added : ℕ) → IsGoing before old ins held next added tolds
     → IsCut before new ins (added + 1)
 
 -- ---- what a search keeps from one addition to the next

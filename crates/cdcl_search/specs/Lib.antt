@@ -1,2 +1,4 @@
 pub mod Outcomes
+pub mod Turns
+pub mod Told
 pub mod Going

@@ -4,6 +4,8 @@
 
 pub mod asking;
 #[cfg(test)]
+mod by_deciders;
+#[cfg(test)]
 mod faults;
 #[cfg(test)]
 mod long;

@@ -1,4 +1,5 @@
-use Rattle.std.proofs.Common.{◌≡◌, ℕ, ◌+◌, ◌∙◌, List, Option, refl, sym, subst, arith, add-zero}
+use Rattle.std.proofs.Common.{◌≡◌, ℕ, ◌+◌, ◌∙◌, List, Option, ap, length, map, refl, sym, subst, arith, add-zero}
+use Rattle.std.proofs.lemmas.List.{length-map}
 use Rattle.std.specs.Prelude.{IfSome}
 use Rattle.term_store.specs.Terms.{truth}
 use Rattle.resolution_check.specs.declared.log.Clause.{Clause}
@@ -8,8 +9,10 @@ use Rattle.watched_search.specs.Sets.{GivesSets}
 use Rattle.watched_search.proofs.Inputs.{clause_given}
 use Rattle.watched_search.proofs.Sets.{gives_then, view_sets}
 use Rattle.cdcl_search.specs.Outcomes.{IsCut}
-use Rattle.cdcl_search.specs.Going.{GoesOn, IsGoing, IsReady}
-use Rattle.cdcl_search.proofs.Logs.{cut_here, cut_within, logged_sat, logged_unknown, logged_unsat}
+use Rattle.cdcl_search.specs.Turns.{IsTurn}
+use Rattle.cdcl_search.specs.Going.{GoesOn, IsDone, IsGoing, IsReady}
+use Rattle.cdcl_search.specs.declared.outcome.Outcome.TheVariants.{Sat}
+use Rattle.cdcl_search.proofs.Logs.{cut_here, cut_within, done_sat, done_unknown, done_unsat}
 use Rattle.cdcl_search.proofs.Ready.{going_view, ready_round, ready_same, values_agree}
 use Rattle.cdcl_search.proofs.searching.search.Goals as goal
 
@@ -22,7 +25,8 @@ loop-added-init g c =
       ready = subst (λ k. IsReady c.args.arena.now c.args.assigned.now k 0) n c.requires.ready;
       gives = λ k d h. (d, h, λ l. refl);
       going = λ before ins h.
-          subst (λ k. IsGoing before (g.L.Sink.taken c.args.log.now) ins (held_in c.args.arena.now) k 0) n h;
+          subst (λ k. IsGoing before (g.L.Sink.taken c.args.log.now) ins (held_in c.args.arena.now) k 0
+          (map (λ b. (goal.Decider-dyn g (b.vtable, b.value)).told b.value) c.args.deciders.now.items)) n h;
       stays = refl;
     }
 
@@ -30,18 +34,21 @@ pub returns-in_err-values-clause-cut : goal.returns-in_err-values-clause-cut
 returns-in_err-values-clause-cut g c =
     let cuts : (before : Option (List ℕ)) (ins : List Clause)
     → IsGoing before (g.L.Sink.taken c.args.log.now) ins (held_in c.args.arena.now) c.args.first 0
+    (map (λ b. (goal.Decider-dyn g (b.vtable, b.value)).told b.value) c.args.deciders.now.items)
     → IsCut before (g.L.Sink.taken c.loop-added.log) ins c.args.budget =
     λ before ins going.
     cut_here before (g.L.Sink.taken c.loop-added.log) ins (held_in c.loop-added.arena)
-    (c.args.first + c.loop-added.added) c.loop-added.added (c.loop-added.invariant.going before ins going)
+    (c.args.first + c.loop-added.added) c.loop-added.added _ (c.loop-added.invariant.going before ins going)
     c.args.budget (omega (arith, c.loop-added-test.true)) (g.L.Sink.taken c.loop-added.log) refl in
     on_err _ cuts
 
-pub returns-in_default-clause-logged : goal.returns-in_default-clause-logged
-returns-in_default-clause-logged g c = λ before ins going.
-    logged_sat before (g.L.Sink.taken c.loop-added.log) ins (held_in c.loop-added.arena)
-    (c.args.first + c.loop-added.added) c.loop-added.added c.args.budget c.in_ok-values.values
-    (omega (arith, c.loop-added-test.true)) (c.loop-added.invariant.going before ins going)
+pub returns-in_default-clause-done : goal.returns-in_default-clause-done
+returns-in_default-clause-done g c = λ before ins going.
+    subst (λ ts. IsDone before (g.L.Sink.taken c.loop-added.log) ins c.args.budget ts (Sat c.in_ok-values.values))
+    (sym c.find_conflict.ensures.told)
+    (done_sat before (g.L.Sink.taken c.loop-added.log) ins (held_in c.loop-added.arena)
+    (c.args.first + c.loop-added.added) c.loop-added.added c.args.budget _
+    (c.loop-added.invariant.going before ins going) c.in_ok-values.values (omega (arith, c.loop-added-test.true)))
 
 pub returns-in_default-clause-sat : goal.returns-in_default-clause-sat
 returns-in_default-clause-sat g c = λ id k h.
@@ -64,22 +71,30 @@ pub returns-in_err-next-clause-cut : goal.returns-in_err-next-clause-cut
 returns-in_err-next-clause-cut g c =
     let cuts : (before : Option (List ℕ)) (ins : List Clause)
     → IsGoing before (g.L.Sink.taken c.args.log.now) ins (held_in c.args.arena.now) c.args.first 0
+    (map (λ b. (goal.Decider-dyn g (b.vtable, b.value)).told b.value) c.args.deciders.now.items)
     → IsCut before (g.L.Sink.taken c.take_lesson.new.log) ins c.args.budget =
     λ before ins going. cut_within before (g.L.Sink.taken c.take_lesson.new.log) ins
     (c.loop-added.added + 1) c.args.budget (omega (arith, c.loop-added-test.true))
     (c.in_err-next.ensures.cut before ins c.loop-added.added
     (going_view before (g.L.Sink.taken c.loop-added.log) ins c.loop-added.arena c.find_conflict.new.arena
-    (c.args.first + c.loop-added.added) c.loop-added.added c.find_conflict.ensures.view
+    (c.args.first + c.loop-added.added) c.loop-added.added _ _ c.find_conflict.ensures.view c.find_conflict.ensures.told
     (c.loop-added.invariant.going before ins going))) in
     on_err _ cuts
 
-pub returns-in_default-2-clause-logged : goal.returns-in_default-2-clause-logged
-returns-in_default-2-clause-logged g c = λ before ins going.
-    logged_unsat before (g.L.Sink.taken c.take_lesson.new.log) ins (c.loop-added.added + 1) c.args.budget
+pub returns-in_default-2-clause-done : goal.returns-in_default-2-clause-done
+returns-in_default-2-clause-done g c =
+    let is_turn : IsTurn (length (map (λ b. (goal.Decider-dyn g (b.vtable, b.value)).told b.value) c.find_conflict.new.deciders.items))
+    c.loop-added.added c.turn_of-turn.result =
+    subst (λ n. IsTurn n c.loop-added.added c.turn_of-turn.result)
+    (c.len.ensures ∙ c.loop-added.deciders.ok.0 ∙ sym (length-map c.loop-added.deciders.items
+    (λ b. (goal.Decider-dyn g (b.vtable, b.value)).told b.value)) ∙ sym (ap length c.find_conflict.ensures.told))
+    c.turn_of-turn.ensures in
+    λ before ins going.
+    done_unsat before (g.L.Sink.taken c.take_lesson.new.log) ins (c.loop-added.added + 1) c.args.budget _
     (omega (arith, c.loop-added-test.true))
-    (c.in_ok-next.ensures.refuted c.in_default-2.is before ins c.loop-added.added
+    (c.in_ok-next.ensures.refuted c.in_default-2.is before ins c.loop-added.added is_turn
     (going_view before (g.L.Sink.taken c.loop-added.log) ins c.loop-added.arena c.find_conflict.new.arena
-    (c.args.first + c.loop-added.added) c.loop-added.added c.find_conflict.ensures.view
+    (c.args.first + c.loop-added.added) c.loop-added.added _ _ c.find_conflict.ensures.view c.find_conflict.ensures.told
     (c.loop-added.invariant.going before ins going)))
 
 pub loop-added-preserved : goal.loop-added-preserved
@@ -88,7 +103,12 @@ loop-added-preserved g c =
     let f = c.find_conflict.ensures in
     let t = c.in_ok-next.ensures in
     let e = c.end_round-from.ensures in
-    let id = c.args.first + c.loop-added.added in
+    let is_turn : IsTurn (length (map (λ b. (goal.Decider-dyn g (b.vtable, b.value)).told b.value) c.find_conflict.new.deciders.items))
+    c.loop-added.added c.turn_of-turn.result =
+    subst (λ n. IsTurn n c.loop-added.added c.turn_of-turn.result)
+    (c.len.ensures ∙ c.loop-added.deciders.ok.0 ∙ sym (length-map c.loop-added.deciders.items
+    (λ b. (goal.Decider-dyn g (b.vtable, b.value)).told b.value)) ∙ sym (ap length c.find_conflict.ensures.told))
+    c.turn_of-turn.ensures in
     let old = g.L.Sink.taken c.loop-added.log in
     let new = g.L.Sink.taken c.take_lesson.new.log in
     let a = c.find_conflict.new.arena in
@@ -100,10 +120,13 @@ loop-added-preserved g c =
     let gives : GivesSets (held_in a) (held_in b) =
     subst (λ (o : Option ℕ). IfSome o (λ k. GivesSets (held_in c.find_conflict.new.arena)
     (held_in c.take_lesson.new.arena))) c.in-Some-2.is t.gives in
-    let goes : GoesOn old new (held_in a) (held_in b) (c.args.first + c.loop-added.added) =
+    let goes : GoesOn old new (map (λ b. (goal.Decider-dyn g (b.vtable, b.value)).told b.value) c.find_conflict.new.deciders.items)
+    (map (λ b. (goal.Decider-dyn g (b.vtable, b.value)).told b.value) c.take_lesson.new.deciders.items) (held_in a) (held_in b) (c.args.first + c.loop-added.added) c.turn_of-turn.result =
     subst (λ (o : Option ℕ). IfSome o (λ k. GoesOn (g.L.Sink.taken c.loop-added.log)
-    (g.L.Sink.taken c.take_lesson.new.log) (held_in c.find_conflict.new.arena) (held_in c.take_lesson.new.arena)
-    (c.args.first + c.loop-added.added))) c.in-Some-2.is t.going in
+    (g.L.Sink.taken c.take_lesson.new.log)
+    (map (λ b. (goal.Decider-dyn g (b.vtable, b.value)).told b.value) c.find_conflict.new.deciders.items)
+    (map (λ b. (goal.Decider-dyn g (b.vtable, b.value)).told b.value) c.take_lesson.new.deciders.items) (held_in c.find_conflict.new.arena) (held_in c.take_lesson.new.arena)
+    (c.args.first + c.loop-added.added) c.turn_of-turn.result)) c.in-Some-2.is t.going in
     record {
       work_vars = t.work_vars ∙ i.work_vars ∙ sym (e.vars ∙ t.vars ∙ f.vars);
       same_vars = e.vars ∙ t.vars ∙ f.vars ∙ i.same_vars;
@@ -116,14 +139,14 @@ loop-added-preserved g c =
           (view_sets c.loop-added.arena a f.view).there gives);
       going = λ before ins h.
           subst (λ k. IsGoing before (g.L.Sink.taken c.take_lesson.new.log) ins (held_in c.take_lesson.new.arena) k
-          (c.loop-added.added + 1)) n
-          (goes before ins c.loop-added.added (going_view before old ins c.loop-added.arena a
-          (c.args.first + c.loop-added.added) c.loop-added.added f.view (i.going before ins h)));
+          (c.loop-added.added + 1) (map (λ b. (goal.Decider-dyn g (b.vtable, b.value)).told b.value) c.take_lesson.new.deciders.items)) n
+          (goes before ins c.loop-added.added is_turn (going_view before old ins c.loop-added.arena a
+          (c.args.first + c.loop-added.added) c.loop-added.added _ _ f.view f.told (i.going before ins h)));
       stays = t.stays ∙ i.stays;
     }
 
-pub returns-clause-logged : goal.returns-clause-logged
-returns-clause-logged g c = λ before ins going.
-    logged_unknown before (g.L.Sink.taken c.loop-added.log) ins (held_in c.loop-added.arena)
-    (c.args.first + c.loop-added.added) c.loop-added.added c.args.budget
-    (omega (arith, c.loop-added-test.false, c.loop-added.auto)) (c.loop-added.invariant.going before ins going)
+pub returns-clause-done : goal.returns-clause-done
+returns-clause-done g c = λ before ins going.
+    done_unknown before (g.L.Sink.taken c.loop-added.log) ins (held_in c.loop-added.arena)
+    (c.args.first + c.loop-added.added) c.loop-added.added c.args.budget _
+    (c.loop-added.invariant.going before ins going) (omega (arith, c.loop-added-test.false, c.loop-added.auto))
