@@ -1,5 +1,6 @@
 -- What a search keeps from one addition to the next.
-use Rattle.std.proofs.Common.{◌≡◌, ℕ, zero, suc, ◌+◌, ◌<◌, ◌≤◌, ◌^◌, ◌==◌, Bool, true, false, cond, List, [], ◌∷◌, ◌++◌, length}
+use Rattle.std.proofs.Common.{◌≡◌, ℕ, zero, suc, ◌+◌, ◌<◌, ◌≤◌, ◌^◌, ◌==◌, Bool, true, false, cond, List, [], ◌∷◌}
+use Rattle.std.proofs.Common.{◌++◌, length}
 use Rattle.std.proofs.Common.{length-append, Option, Some, None, refl, sym, ap, subst, ◌∙◌}
 use Rattle.std.proofs.Common.{arith, eqb-true, not, take}
 use Rattle.std.specs.List.{list_all}
@@ -193,7 +194,8 @@ module _ (a : Store) (now : Assigned) (id from : ℕ) (lits : List Lit) (chain :
       → GoesOn old new tolds more_tolds (held_in a) (held_in more) id turn
   lesson_goes turn more_tolds tells more grown some takes = λ before ins added is_turn g.
       going_more before old ins (held_in a) id added tolds g lits chain (lesson_adds a now.lits lits chain l none)
-      (lesson_text a now id from lits chain r small l none) turn is_turn more_tolds tells new (held_in more) (held_more a more id lits grown)
+      (lesson_text a now id from lits chain r small l none) turn is_turn more_tolds tells new (held_in more)
+      (held_more a more id lits grown)
       (not_empty lits some) takes
 
 -- values that were read off a trail agree with it
@@ -290,10 +292,12 @@ module _ (vars id n : ℕ) (inputs : List Clause) (a : Store) (steps lits : List
         may.below is_next tolds untold takes
 
     -- a front of the line was written
-    pub refuted_cut : TakesPart old new (line_of (Add id (record { lits = lits }) chain)) → IsCut before new inputs budget
+    pub refuted_cut : TakesPart old new (line_of (Add id (record { lits = lits }) chain))
+        → IsCut before new inputs budget
     refuted_cut part =
         cut_within before new inputs 1 budget some
-        (cut_more before old inputs (clause_numbered (numbered_from 1 inputs)) id 0 tolds start lits chain refuting refuted_text
+        (cut_more before old inputs (clause_numbered (numbered_from 1 inputs)) id 0 tolds start lits chain refuting
+        refuted_text
         new part)
 
     -- the line was written

@@ -49,8 +49,9 @@ pub record IsDone (before now : Option (List ℕ)) (inputs : List Clause) (budge
   pub logged : IsLogged before now inputs budget outcome
   pub told : IsTold before now inputs tolds
 
--- ---- from one moment to a later one, where an addition under the next number was logged, and the decider was told of it
--- ---- whose turn it was
+-- ---- from one moment to a later one
+
+-- an addition under the next number was logged, and the decider was told of it whose turn it was
 
 abbrev pub GoesOn : (old new : Option (List ℕ)) → (tolds more_tolds : List (Option (List ℕ)))
     → (held more : ℕ → Option Clause) → (next turn : ℕ) → Type 0

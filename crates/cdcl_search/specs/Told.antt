@@ -7,8 +7,8 @@ use Rattle.resolution_check.specs.Text.{log_text}
 use Rattle.cdcl_search.specs.Outcomes.{IsSearchLog}
 use Rattle.cdcl_search.specs.Turns.{TellBumps}
 
--- Between these two moments the log of a search for the clauses was written, and each decider that tells its bumps tells
--- the variables of its additions whose turn it had. Where the bytes are told they fix the entries.
+-- Between these two moments the log of a search for the clauses was written, and each decider that tells its bumps
+-- tells the variables of the additions of its turns. Where the bytes are told they fix the entries.
 pub record IsTold (before now : Option (List ℕ)) (clauses : List Clause) (tolds : List (Option (List ℕ))) : Type 0 where
   pub entries : List Entry
   pub log : IsSearchLog clauses entries

@@ -13,8 +13,8 @@ vars_of lits = map (λ l. l.var) lits
 abbrev pub IsTurn : (deciders added turn : ℕ) → Type 0
 IsTurn deciders added turn = 0 < deciders → turn ≡ (added / 256) % deciders
 
--- The bumps that one of so many deciders is told of: the variables of the additions of its turns. So many additions came
--- before the list.
+-- The bumps that one of so many deciders is told of: the variables of the additions of its turns. So many additions
+-- came before the list.
 abbrev pub bumps_of : (deciders own added : ℕ) → List Entry → List ℕ
 bumps_of deciders own added [] = []
 bumps_of deciders own added (Input id clause ∷ es) = bumps_of deciders own added es

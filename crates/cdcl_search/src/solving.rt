@@ -74,7 +74,9 @@ fn solve_written<L: Sink>(
 }
 
 /// Looks for an assignment that satisfies the clauses, and logs the clauses as inputs and then each clause that it learns.
-/// It learns at most `budget` clauses, and fewer where it finds an assignment.
+/// It learns at most `budget` clauses, and fewer where it finds an assignment. The deciders are prepared first. Each has
+/// its turn for 256 additions, chooses what is decided, and is told of the variables of these additions; a choice that is
+/// no free variable gives way to the least free one, false first, which is also taken where there is no decider.
 ///
 /// # Errors
 /// `LogFault` where a write of the log failed; `Memory` where memory was refused and no write failed. A front of the log

@@ -83,7 +83,8 @@ returns-in_err-next-clause-cut g c =
 
 pub returns-in_default-2-clause-done : goal.returns-in_default-2-clause-done
 returns-in_default-2-clause-done g c =
-    let is_turn : IsTurn (length (map (λ b. (goal.Decider-dyn g (b.vtable, b.value)).told b.value) c.find_conflict.new.deciders.items))
+    let is_turn : IsTurn (length (map (λ b. (goal.Decider-dyn g (b.vtable, b.value)).told b.value)
+    c.find_conflict.new.deciders.items))
     c.loop-added.added c.turn_of-turn.result =
     subst (λ n. IsTurn n c.loop-added.added c.turn_of-turn.result)
     (c.len.ensures ∙ c.loop-added.deciders.ok.0 ∙ sym (length-map c.loop-added.deciders.items
@@ -103,7 +104,8 @@ loop-added-preserved g c =
     let f = c.find_conflict.ensures in
     let t = c.in_ok-next.ensures in
     let e = c.end_round-from.ensures in
-    let is_turn : IsTurn (length (map (λ b. (goal.Decider-dyn g (b.vtable, b.value)).told b.value) c.find_conflict.new.deciders.items))
+    let is_turn : IsTurn (length (map (λ b. (goal.Decider-dyn g (b.vtable, b.value)).told b.value)
+    c.find_conflict.new.deciders.items))
     c.loop-added.added c.turn_of-turn.result =
     subst (λ n. IsTurn n c.loop-added.added c.turn_of-turn.result)
     (c.len.ensures ∙ c.loop-added.deciders.ok.0 ∙ sym (length-map c.loop-added.deciders.items
@@ -120,12 +122,15 @@ loop-added-preserved g c =
     let gives : GivesSets (held_in a) (held_in b) =
     subst (λ (o : Option ℕ). IfSome o (λ k. GivesSets (held_in c.find_conflict.new.arena)
     (held_in c.take_lesson.new.arena))) c.in-Some-2.is t.gives in
-    let goes : GoesOn old new (map (λ b. (goal.Decider-dyn g (b.vtable, b.value)).told b.value) c.find_conflict.new.deciders.items)
-    (map (λ b. (goal.Decider-dyn g (b.vtable, b.value)).told b.value) c.take_lesson.new.deciders.items) (held_in a) (held_in b) (c.args.first + c.loop-added.added) c.turn_of-turn.result =
+    let goes : GoesOn old new (map (λ b. (goal.Decider-dyn g (b.vtable, b.value)).told b.value)
+    c.find_conflict.new.deciders.items)
+    (map (λ b. (goal.Decider-dyn g (b.vtable, b.value)).told b.value) c.take_lesson.new.deciders.items) (held_in a)
+    (held_in b) (c.args.first + c.loop-added.added) c.turn_of-turn.result =
     subst (λ (o : Option ℕ). IfSome o (λ k. GoesOn (g.L.Sink.taken c.loop-added.log)
     (g.L.Sink.taken c.take_lesson.new.log)
     (map (λ b. (goal.Decider-dyn g (b.vtable, b.value)).told b.value) c.find_conflict.new.deciders.items)
-    (map (λ b. (goal.Decider-dyn g (b.vtable, b.value)).told b.value) c.take_lesson.new.deciders.items) (held_in c.find_conflict.new.arena) (held_in c.take_lesson.new.arena)
+    (map (λ b. (goal.Decider-dyn g (b.vtable, b.value)).told b.value) c.take_lesson.new.deciders.items)
+    (held_in c.find_conflict.new.arena) (held_in c.take_lesson.new.arena)
     (c.args.first + c.loop-added.added) c.turn_of-turn.result)) c.in-Some-2.is t.going in
     record {
       work_vars = t.work_vars ∙ i.work_vars ∙ sym (e.vars ∙ t.vars ∙ f.vars);
@@ -139,7 +144,8 @@ loop-added-preserved g c =
           (view_sets c.loop-added.arena a f.view).there gives);
       going = λ before ins h.
           subst (λ k. IsGoing before (g.L.Sink.taken c.take_lesson.new.log) ins (held_in c.take_lesson.new.arena) k
-          (c.loop-added.added + 1) (map (λ b. (goal.Decider-dyn g (b.vtable, b.value)).told b.value) c.take_lesson.new.deciders.items)) n
+          (c.loop-added.added + 1) (map (λ b. (goal.Decider-dyn g (b.vtable, b.value)).told b.value)
+          c.take_lesson.new.deciders.items)) n
           (goes before ins c.loop-added.added is_turn (going_view before old ins c.loop-added.arena a
           (c.args.first + c.loop-added.added) c.loop-added.added _ _ f.view f.told (i.going before ins h)));
       stays = t.stays ∙ i.stays;

@@ -24,4 +24,13 @@ returns g c = λ own bumps there.
     ≡ length c.loop-at.deciders.items =
     length-map c.loop-at.deciders.items (λ b. (goal.Decider-dyn g (b.vtable, b.value)).told b.value) in
     c.loop-at.invariant.untold own bumps
-    (omega (arith, low, long, c.loop-at.invariant.count, c.loop-at-test.false, c.loop-at.auto, c.len-at-end.ensures, c.args.deciders.now.ok.0)) there
+    (omega (
+      arith,
+      low,
+      long,
+      c.loop-at.invariant.count,
+      c.loop-at-test.false,
+      c.loop-at.auto,
+      c.len-at-end.ensures,
+      c.args.deciders.now.ok.0,
+    )) there

@@ -18,7 +18,8 @@ returns-then-turn-len g c =
     c.args.deciders.now.items) ts c.args.turn (vars_of c.args.lits.now))
     (sym (map-set (λ b. (goal.Decider-dyn g (b.vtable, b.value)).told b.value) items c.args.turn new))
     (tells_set (map (λ b. (goal.Decider-dyn g (b.vtable, b.value)).told b.value) items) c.args.turn
-    ((goal.Decider-dyn g (old.vtable, old.value)).told old.value) ((goal.Decider-dyn g (new.vtable, new.value)).told new.value)
+    ((goal.Decider-dyn g (old.vtable, old.value)).told old.value)
+    ((goal.Decider-dyn g (new.vtable, new.value)).told new.value)
     (vars_of c.args.lits.now) (omega (arith, low, long))
     (map_at (λ b. (goal.Decider-dyn g (b.vtable, b.value)).told b.value) items c.args.turn old _ low
     c.index_mut.ensures.value) c.tell.ensures)
