@@ -1,6 +1,7 @@
 //! Random files, written as text and read back.
 
 use crate::made::file;
+use crate::page::Page;
 use crate::shown::show_file;
 use crate::written::write_file;
 use ios_ast::File;
@@ -8,10 +9,11 @@ use ios_reader::read_file;
 use std::alloc::{AllocError, Global};
 use std::io;
 
-fn shown(alloc: Global, file: &File) -> Result<String, AllocError> {
-    let mut out = String::new(alloc);
-    show_file(&mut out, file)?;
-    Ok(out)
+/// A file as text, each part with its line.
+pub fn shown(alloc: Global, file: &File) -> Result<String, AllocError> {
+    let mut page = Page::new(alloc);
+    show_file(&mut page, file);
+    page.taken()
 }
 
 /// What the text reads as, shown, or its refusal.

@@ -1,6 +1,6 @@
 use Rattle.std.proofs.Common.{◌≤◌, arith}
 use Rattle.std.proofs.Math.Nat.{max-le}
-use Rattle.examples_policy.proofs.routes.fresh_rec.Goals as goal
+use Rattle.examples_policy.proofs.fresh.fresh_rec.Goals as goal
 
 pub returns-clause-within : goal.returns-clause-within
 returns-clause-within c =
