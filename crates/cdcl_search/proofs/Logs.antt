@@ -6,7 +6,7 @@ use Rattle.std.proofs.Common.{IfOk, refl, sym, ap, ap₂, subst, ◌∙◌, arit
 use Rattle.std.proofs.Common.{take-append-drop}
 use Rattle.cnf_blaster.proofs.Properness.{weaker}
 use Rattle.std.specs.Option.{option_or, option_map_or, ok_or}
-use Rattle.std.specs.List.{list_all, AllByRecursion}
+use Rattle.std.specs.List.{list_all, list_any, AllByRecursion}
 use Rattle.std.proofs.lemmas.Bool.{and_parts, ltb-true, cases_Bool, eqb-true, false≢true}
 use Rattle.std.proofs.lemmas.Bool.{false_from_ne_true}
 use Rattle.std.proofs.lemmas.List.{append-nil, length-take}
@@ -25,7 +25,8 @@ use Rattle.resolution_check.specs.Entries.{inputs, resolved, resolved_next, reso
 use Rattle.resolution_check.specs.Entries.{IsUnsatisfiable}
 use Rattle.resolution_check.proofs.Truth.{unsatisfiable}
 use Rattle.resolution_check.specs.Earned.{AllEarned, IsEarned, IsEarnedAddition, IsSpaced, MayFollow, IsAscending}
-use Rattle.resolution_check.specs.Earned.{GoesUp, IsAbove}
+use Rattle.resolution_check.specs.Earned.{GoesUp, IsAbove, gives_input, run_count}
+use Rattle.std.proofs.Math.Bool.{or-false}
 use Rattle.resolution_check.specs.Clauses.{is_below, resolvent}
 use Rattle.resolution_check.specs.Text.{line_of, log_text, HasText}
 use Rattle.resolution_check.proofs.Goods.{each_push, clause_given-push, any-push, given_from_deleted}
@@ -42,6 +43,7 @@ use Rattle.cdcl_search.specs.Going.{IsDone, IsGoing, IsRefuted}
 use Rattle.cdcl_search.specs.Told.{IsTold}
 use Rattle.cdcl_search.specs.Turns.{AreUntold, IsTurn, TellBumps, TellsAt, vars_of}
 use Rattle.cdcl_search.proofs.Bumps.{bumps_more, untold_inputs}
+use Rattle.cdcl_search.proofs.Runs.{runs-push}
 use Rattle.resolution_check.proofs.Variables.{take_at}
 
 -- ---- what has a text
@@ -173,7 +175,8 @@ pub record IsWritten (es : List Entry) (next : ℕ) : Type 0 where
 next_is_new : (es : List Entry) (next : ℕ) → IsAbove es next → is_given es next ≡ false
 next_is_new es next above = false_from_ne_true _ (λ given. let h : next < next = above next given in omega arith)
 
-texts_push : (es : List Entry) (e : Entry) → AllByRecursion HasText es → HasText e
+-- one entry more that has a text
+pub texts_push : (es : List Entry) (e : Entry) → AllByRecursion HasText es → HasText e
     → AllByRecursion HasText (es ++ e ∷ [])
 texts_push [] e h k = (k, tt)
 texts_push (d ∷ es) e h k = (h.0, texts_push es e h.1 k)
@@ -254,6 +257,27 @@ inputs_empty : (id : ℕ) (cs : List Clause) → adds_empty (input_entries id cs
 inputs_empty id [] = refl
 inputs_empty id (c ∷ cs) = inputs_empty (id + 1) cs
 
+inputs_runs : (id : ℕ) (cs : List Clause) → run_count false (input_entries id cs) ≡ 0
+inputs_runs id [] = refl
+inputs_runs id (c ∷ cs) = let rest = inputs_runs (id + 1) cs in omega arith
+
+-- the number of an input is given
+given_of_input : (id : ℕ) (es : List Entry) → list_any (gives_input id) es ≡ true → is_given es id ≡ true
+given_of_input id [] h = absurd (false≢true h)
+given_of_input id (Input own c ∷ es) h = elim (cases_Bool (own == id)) [
+  | inl here ↦ ap (λ b. is_some (option_or (cond b (Some c) None) (clause_given es id))) here
+  | inr other ↦
+      ap (λ b. is_some (option_or (cond b (Some c) None) (clause_given es id))) other
+      ∙ given_of_input id es (sym (ap (λ b. b || list_any (gives_input id) es) other) ∙ h)
+]
+given_of_input id (Add own c chain ∷ es) h = elim (cases_Bool (own == id)) [
+  | inl here ↦ ap (λ b. is_some (option_or (cond b (Some c) None) (clause_given es id))) here
+  | inr other ↦
+      ap (λ b. is_some (option_or (cond b (Some c) None) (clause_given es id))) other ∙ given_of_input id es h
+]
+given_of_input id (Delete own ∷ es) h = given_of_input id es h
+given_of_input id (End ∷ es) h = given_of_input id es h
+
 -- the inputs are the clauses that the log holds
 inputs_held : (id : ℕ) (cs : List Clause) (k : ℕ)
     → clause_numbered (numbered_from id cs) k ≡ clause_held (input_entries id cs) k
@@ -310,7 +334,7 @@ inputs_log vars cs few numbers below =
 pub going_start : (before now : Option (List ℕ)) (vars : ℕ) (cs : List Clause) (next : ℕ)
     → vars ≤ 2 ^ 63 → length cs ≤ 2 ^ 63 → list_all (λ c. is_below vars c.lits) cs ≡ true → next ≡ length cs + 1
     → (tolds : List (Option (List ℕ))) → AreUntold tolds → Takes before now (log_text (input_entries 1 cs))
-    → IsGoing before now cs (clause_numbered (numbered_from 1 cs)) next 0 tolds
+    → IsGoing before now cs (clause_numbered (numbered_from 1 cs)) next 0 0 tolds
 going_start before now vars cs next few numbers below is_next tolds untold takes =
     let w = inputs_written vars cs few numbers below in
     let n : 1 + length cs ≡ next = omega (arith, is_next) in
@@ -324,6 +348,9 @@ going_start before now vars cs next few numbers below is_next tolds untold takes
       };
       not_ended = w.not_ended;
       above = subst (IsAbove (input_entries 1 cs)) n w.above;
+      low_inputs = λ id h.
+          (let low : id < 1 + length cs = w.above id (given_of_input id (input_entries 1 cs) h) in omega (arith, n));
+      few_runs = omega (arith, inputs_runs 1 cs);
       count = inputs_count 1 cs;
       not_empty = inputs_empty 1 cs;
       bumps = untold_inputs tolds untold 1 cs;
@@ -382,8 +409,8 @@ held-push es id clause chain good new k = elim (cases_Bool (is_deleted es k)) [
       ∙ sym (ap (λ b. option_or (cond b None (clause_given es k)) (cond (id == k) (Some clause) None)) still)
 ]
 
-module _ (before middle : Option (List ℕ)) (ins : List Clause) (held : ℕ → Option Clause) (next added : ℕ)
-    (tolds : List (Option (List ℕ))) (g : IsGoing before middle ins held next added tolds) where
+module _ (before middle : Option (List ℕ)) (ins : List Clause) (held : ℕ → Option Clause) (next added runs : ℕ)
+    (tolds : List (Option (List ℕ))) (g : IsGoing before middle ins held next added runs tolds) where
   -- the log is written as far as it goes
   pub cut_here : (budget : ℕ) → added ≤ budget → (now : Option (List ℕ)) → now ≡ middle → IsCut before now ins budget
   cut_here budget few now e = record {
@@ -395,7 +422,7 @@ module _ (before middle : Option (List ℕ)) (ins : List Clause) (held : ℕ →
 
   -- the same clauses are held in another order of literals
   pub going_same : (more : ℕ → Option Clause) → AreSameSets more (clause_held g.entries)
-      → IsGoing before middle ins more next added tolds
+      → IsGoing before middle ins more next added runs tolds
   going_same more same = record {
     entries = g.entries;
     log = g.log;
@@ -403,6 +430,8 @@ module _ (before middle : Option (List ℕ)) (ins : List Clause) (held : ℕ →
     same = same;
     not_ended = g.not_ended;
     above = g.above;
+    low_inputs = g.low_inputs;
+    few_runs = g.few_runs;
     count = g.count;
     not_empty = g.not_empty;
     bumps = g.bumps;
@@ -467,7 +496,7 @@ module _ (before middle : Option (List ℕ)) (ins : List Clause) (held : ℕ →
         → TellsAt tolds more_tolds turn (vars_of lits) → (now : Option (List ℕ)) (more : ℕ → Option Clause)
         → ((k : ℕ) → more k ≡ option_or (held k) (cond (next == k) (Some (record { lits = lits })) None))
         → is_empty lits ≡ false → Takes middle now (line_of addition)
-        → IsGoing before now ins more (next + 1) (added + 1) more_tolds
+        → IsGoing before now ins more (next + 1) (added + 1) runs more_tolds
     going_more turn is_turn more_tolds tells now more grown full takes = record {
       entries = g.entries ++ addition ∷ [];
       log = log_more;
@@ -476,6 +505,13 @@ module _ (before middle : Option (List ℕ)) (ins : List Clause) (held : ℕ →
           (held-push g.entries next (record { lits = lits }) chain g.log.good is_new) g.same;
       not_ended = written_then.not_ended;
       above = written_then.above;
+      low_inputs = λ id h.
+          (let low : id + added < next =
+          g.low_inputs id (sym (or-false (list_any (gives_input id) g.entries))
+          ∙ sym (any-push (gives_input id) g.entries addition) ∙ h) in omega arith);
+      few_runs = (let same : run_count false (g.entries ++ addition ∷ []) ≡ run_count false g.entries + 0 =
+          runs-push false g.entries addition in
+          let few : run_count false g.entries ≤ runs = g.few_runs in omega arith);
       count = counted;
       not_empty = any-push is_refutation g.entries addition ∙ ap₂ (λ a b. a || b) g.not_empty full;
       bumps = bumps_then turn is_turn more_tolds tells;
@@ -506,8 +542,8 @@ module _ (before middle : Option (List ℕ)) (ins : List Clause) (held : ℕ →
 
 -- ---- the outcomes
 
-module _ (before now : Option (List ℕ)) (ins : List Clause) (held : ℕ → Option Clause) (next added budget : ℕ)
-    (tolds : List (Option (List ℕ))) (g : IsGoing before now ins held next added tolds) where
+module _ (before now : Option (List ℕ)) (ins : List Clause) (held : ℕ → Option Clause) (next added runs budget : ℕ)
+    (tolds : List (Option (List ℕ))) (g : IsGoing before now ins held next added runs tolds) where
   told_now : IsTold before now ins tolds
   told_now = record { entries = g.entries; log = g.log; text = g.text; bumps = g.bumps }
 

@@ -2,3 +2,4 @@ pub mod Outcomes
 pub mod Turns
 pub mod Told
 pub mod Going
+pub mod Reductions

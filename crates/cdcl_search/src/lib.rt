@@ -6,6 +6,7 @@ pub mod laws;
 mod learning;
 mod logging;
 mod outcome;
+mod reducing;
 mod scored;
 mod searching;
 mod solving;

@@ -12,6 +12,7 @@ ghost use Rattle.cdcl_search.specs.Going.{IsDone, IsGoing, IsReady};
 
 use crate::learning::take_lesson;
 use crate::outcome::{Outcome, SolveFault};
+use crate::reducing::reduce;
 use crate::turns::turn_of;
 use clause_arena::Arena;
 use conflict_analysis::Work;
@@ -54,20 +55,21 @@ pub(crate) fn search<L: Sink>(
     requires small { assigned.old.vars ≤ 2 ^ 63 }
     requires ready { IsReady arena.old assigned.old first 0 }
     ensures done { IfOk result (λ outcome. (before : Option (List ℕ)) (ins : List Clause) →
-        IsGoing before (L.taken log.old) ins (held_in arena.old) first 0 (map (λ b. told b) deciders.old.items)
+        IsGoing before (L.taken log.old) ins (held_in arena.old) first 0 0 (map (λ b. told b) deciders.old.items)
         → IsDone before (L.taken log.new) ins budget (map (λ b. told b) deciders.new.items) outcome) }
     ensures sat { IfOk result (λ outcome. OnSat outcome (λ values. (id : ℕ) (c : Clause) → held_in arena.old id ≡ Some c
         → clause_value (truth values) c.lits ≡ true)) }
     ensures values { IfOk result (λ outcome. OnSat outcome (λ values. length values ≡ assigned.old.vars)) }
     ensures unknown { IfOk result (λ outcome. OnUnknown outcome (λ added. added ≡ budget)) }
     ensures cut { OnErr result ((before : Option (List ℕ)) (ins : List Clause) →
-        IsGoing before (L.taken log.old) ins (held_in arena.old) first 0 (map (λ b. told b) deciders.old.items)
+        IsGoing before (L.taken log.old) ins (held_in arena.old) first 0 0 (map (λ b. told b) deciders.old.items)
         → IsCut before (L.taken log.new) ins budget) }
     ensures fault { OnLogFault result (Rose (L.faults log.old) (L.faults log.new)) }
     ensures stays { UnlessLogFault result (L.faults log.new ≡ L.faults log.old) }
     ensures later { L.faults log.old ≤ L.faults log.new }
 {
     let mut from = 0;
+    let mut runs = 0;
     for added in 0..budget {
         let turn = turn_of(deciders.len(), added);
         let Some(conflict) = find_conflict(arena, assigned, deciders, turn, from) else {
@@ -83,6 +85,7 @@ pub(crate) fn search<L: Sink>(
             return Ok(Outcome::Unsat);
         };
         from = end_round(arena, assigned, next, added + 1);
+        runs = reduce(alloc, log, arena, assigned, first, added + 1, from, runs)?;
     }
     Ok(Outcome::Unknown { added: budget })
 }
