@@ -17,6 +17,7 @@ use watched_search::{Assigned, ROUND};
 
 /// No clause is deleted once numbers are above this one, nor after so many reductions.
 const LAST_NUMBER: u64 = 1 << 62;
+
 const LAST_REDUCTION: u64 = 1_000_000;
 
 /// Whether so many clauses were added that another reduction may come, and a round is over.

@@ -51,6 +51,6 @@ returns-clause-down g c =
           c.id.ensures.numbered learnt
           (three_of c.args.arena.now c.args.c.0 c.words_are_sound.ensures c.requires.may.held c.requires.may.long)
           (text_of_held c.args.arena.now c.args.assigned.now (c.args.first + c.args.added) c.args.from c.id.result _
-    c.requires.ready c.id.ensures.numbered) (g.L.Sink.taken c.write_deletion.new.log) (held_in c.delete.new.self) less
+          c.requires.ready c.id.ensures.numbered) (g.L.Sink.taken c.write_deletion.new.log) (held_in c.delete.new.self) less
           c.in_ok-write_deletion.ensures.takes;
     }
