@@ -46,6 +46,13 @@ pub fn candidate(alloc: Global, text: &str) -> Result<Candidate, AllocError> {
     })
 }
 
+fn show_places(rt: &impl Print, places: &[u64]) -> io::Result<()> {
+    for place in places {
+        print!(rt; " {place}")?;
+    }
+    println!(rt; "")
+}
+
 /// `ALWAYS IDENTIFIERS`: which of the candidates are left, where MEDs are always compared or not, and identifiers or not.
 pub fn show_survivors(
     rt: &(impl Print + AllocGlobal),
@@ -53,17 +60,10 @@ pub fn show_survivors(
     text: &str,
 ) -> io::Result<()> {
     let (always, identifiers) = cut(text);
-    let left = survivors(
-        rt.alloc(),
-        always == "true",
-        identifiers == "true",
-        candidates,
-    )?;
+    let by_id = identifiers == "true";
+    let left = survivors(rt.alloc(), always == "true", by_id, candidates)?;
     print!(rt; "always {always} identifiers {identifiers}:")?;
-    for place in left.as_slice() {
-        print!(rt; " {place}")?;
-    }
-    println!(rt; "")
+    show_places(rt, left.as_slice())
 }
 
 // `LENGTH AS NEXT-HOP ORIGINATOR`, and what follows it. An originator that is no address is none.
@@ -84,34 +84,46 @@ fn message(alloc: Global, text: &str) -> Result<BgpMsg, AllocError> {
     })
 }
 
-// The route to 203.0.113.0/24 that is taken from a message at the end of a session.
-fn taken(alloc: Global, net: &Net, end: u32, msg: &BgpMsg) -> Result<Option<BgpRec>, AllocError> {
+// The route to 203.0.113.0/24 that the end of a session takes from a message.
+fn imported(alloc: Global, net: &Net, end: u32, text: &str) -> Result<Option<BgpRec>, AllocError> {
     if end as usize >= net.ends().len() {
         return Ok(None);
     }
-    let p = prefix_of(Addr(0xcb00_7100), 24);
-    import(alloc, net, end, &p, msg)
+    let msg = message(alloc, text)?;
+    import(alloc, net, end, &prefix_of(Addr(0xcb00_7100), 24), &msg)
+}
+
+fn show_imported(rt: &impl Print, rec: &Option<BgpRec>) -> io::Result<()> {
+    match rec {
+        None => println!(rt; " none"),
+        Some(rec) => show_route(rt, rec),
+    }
 }
 
 /// `END NAME: LENGTH AS NEXT-HOP ORIGINATOR`: what the end of a session takes from a message.
 pub fn show_import(rt: &(impl Print + AllocGlobal), net: &Net, text: &str) -> io::Result<()> {
     let (end, rest) = cut(text);
     let (name, sent) = rest.split_once(": ").unwrap_or((rest, ""));
-    let msg = message(rt.alloc(), sent)?;
     print!(rt; "{name}:")?;
-    match taken(rt.alloc(), net, number(end), &msg)? {
-        None => println!(rt; " none"),
-        Some(rec) => show_route(rt, &rec),
-    }
+    let rec = imported(rt.alloc(), net, number(end), sent)?;
+    show_imported(rt, &rec)
+}
+
+// `LENGTH AS PEER`: a route that was learnt from a peer.
+fn held(alloc: Global, text: &str) -> Result<BgpRec, AllocError> {
+    let (len, rest) = cut(text);
+    let (asn, from) = cut(rest);
+    let path = path_of(alloc, number(len), number(asn))?;
+    Ok(learnt(alloc, address(from), path, 0))
 }
 
 // What is sent of a route to 203.0.113.0/24 at the end of a session.
-fn sent(alloc: Global, net: &Net, end: u32, held: &BgpRec) -> Result<Option<BgpMsg>, AllocError> {
+fn exported(alloc: Global, net: &Net, end: u32, text: &str) -> Result<Option<BgpMsg>, AllocError> {
     if end as usize >= net.ends().len() {
         return Ok(None);
     }
-    let p = prefix_of(Addr(0xcb00_7100), 24);
-    export(alloc, net, end, &p, held)
+    let held = held(alloc, text)?;
+    export(alloc, net, end, &prefix_of(Addr(0xcb00_7100), 24), &held)
 }
 
 fn show_sent(rt: &impl Print, sent: &BgpMsg) -> io::Result<()> {
@@ -120,17 +132,18 @@ fn show_sent(rt: &impl Print, sent: &BgpMsg) -> io::Result<()> {
     println!(rt; "")
 }
 
+fn show_exported(rt: &impl Print, sent: &Option<BgpMsg>) -> io::Result<()> {
+    match sent {
+        None => println!(rt; " none"),
+        Some(sent) => show_sent(rt, sent),
+    }
+}
+
 /// `END NAME: LENGTH AS PEER`: what is sent of a route that was learnt from a peer.
 pub fn show_export(rt: &(impl Print + AllocGlobal), net: &Net, text: &str) -> io::Result<()> {
     let (end, rest) = cut(text);
     let (name, held) = rest.split_once(": ").unwrap_or((rest, ""));
-    let (len, rest) = cut(held);
-    let (asn, from) = cut(rest);
-    let path = path_of(rt.alloc(), number(len), number(asn))?;
-    let held = learnt(rt.alloc(), address(from), path, 0);
     print!(rt; "{name}:")?;
-    match sent(rt.alloc(), net, number(end), &held)? {
-        None => println!(rt; " none"),
-        Some(sent) => show_sent(rt, &sent),
-    }
+    let sent = exported(rt.alloc(), net, number(end), held)?;
+    show_exported(rt, &sent)
 }

@@ -92,11 +92,14 @@ fn take_line(rt: &(impl Print + AllocGlobal), bench: &mut Bench, line: &str) -> 
     Ok(())
 }
 
-fn main(rt: HostRuntime) -> io::Result<()> {
-    let alloc: Global = rt.alloc();
-    let mut bench = Bench::new(alloc);
-    for line in rt.lines(alloc) {
-        take_line(&rt, &mut bench, line?.as_str())?;
+fn read_script(rt: &(impl Input + Print + AllocGlobal), bench: &mut Bench) -> io::Result<()> {
+    for line in rt.lines(rt.alloc()) {
+        take_line(rt, bench, line?.as_str())?;
     }
     Ok(())
+}
+
+fn main(rt: HostRuntime) -> io::Result<()> {
+    let mut bench = Bench::new(rt.alloc());
+    read_script(&rt, &mut bench)
 }

@@ -2,6 +2,7 @@
 
 use crate::shown::{show_entry, show_records, show_route};
 use crate::words::{cut, number, prefix};
+use mw_text::Prefix;
 use net_model::Net;
 use proto_rib::{best_entry, originate, redistribute};
 use route_record::{BgpRec, Failures, OspfKind, OspfRec, RibEntry, RibSource, Slot};
@@ -25,17 +26,34 @@ fn show_routes(rt: &impl Print, routes: &[BgpRec]) -> io::Result<()> {
     Ok(())
 }
 
+fn show_into_ospf(
+    rt: &(impl Print + AllocGlobal),
+    net: &Net,
+    router: u32,
+    p: &Prefix,
+    name: &str,
+) -> io::Result<()> {
+    let records = redistribute(rt.alloc(), net, router, p, &connected())?;
+    show_records(rt, name, records.as_slice())
+}
+
+fn show_into_bgp(
+    rt: &(impl Print + AllocGlobal),
+    net: &Net,
+    router: u32,
+    p: &Prefix,
+) -> io::Result<()> {
+    let routes = originate(rt.alloc(), net, router, p, &connected())?;
+    show_routes(rt, routes.as_slice())
+}
+
 /// `ROUTER PREFIX NAME`: what OSPF and BGP take of a connected route.
 pub fn show_taken(rt: &(impl Print + AllocGlobal), net: &Net, text: &str) -> io::Result<()> {
     let (router, rest) = cut(text);
     let (to, name) = cut(rest);
-    let router = number(router);
     let p = prefix(to);
-    let slot = connected();
-    let records = redistribute(rt.alloc(), net, router, &p, &slot)?;
-    show_records(rt, name, records.as_slice())?;
-    let routes = originate(rt.alloc(), net, router, &p, &slot)?;
-    show_routes(rt, routes.as_slice())
+    show_into_ospf(rt, net, number(router), &p, name)?;
+    show_into_bgp(rt, net, number(router), &p)
 }
 
 fn internal() -> Slot {

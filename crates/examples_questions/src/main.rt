@@ -12,7 +12,7 @@ mod shown;
 mod words;
 
 use crate::asked::LONGEST;
-use crate::network::{Routers, end_router, network_of};
+use crate::network::{Routers, add_line, end_router, network_of};
 use crate::shown::show_questions;
 use net_model::Net;
 use question_lang::read_questions;
@@ -55,36 +55,43 @@ fn take_case(rt: &(impl Print + AllocGlobal), net: &Net, line: &str) -> io::Resu
     }
 }
 
+/// The routers so far, and the network once they form it.
+#[derive(Drop)]
+struct Bench {
+    routers: Routers,
+    net: Option<Net>,
+}
+
 /// Takes a line of a router, or forms the network.
-fn prepare(
-    alloc: Global,
-    routers: &mut Routers,
-    net: &mut Option<Net>,
-    line: &str,
-) -> Result<(), AllocError> {
+fn prepare(alloc: Global, bench: &mut Bench, line: &str) -> Result<(), AllocError> {
     match line {
-        "%router" => end_router(alloc, routers),
+        "%router" => end_router(alloc, &mut bench.routers),
         "%network" => {
-            *net = network_of(alloc, routers);
+            bench.net = network_of(alloc, &mut bench.routers);
             Ok(())
         }
-        _ => {
-            routers.text.push_str(line)?;
-            routers.text.push_str("\n")
-        }
+        _ => add_line(&mut bench.routers, line),
     }
 }
 
-fn main(rt: HostRuntime) -> io::Result<()> {
-    let alloc: Global = rt.alloc();
-    let mut routers = Routers::new(alloc);
-    let mut net = None;
-    for line in rt.lines(alloc) {
-        let line = line?;
-        match &net {
-            Some(net) => take_case(&rt, net, line.as_str())?,
-            None => prepare(alloc, &mut routers, &mut net, line.as_str())?,
-        }
+fn take_line(rt: &(impl Print + AllocGlobal), bench: &mut Bench, line: &str) -> io::Result<()> {
+    match &bench.net {
+        Some(net) => take_case(rt, net, line),
+        None => Ok(prepare(rt.alloc(), bench, line)?),
+    }
+}
+
+fn read_script(rt: &(impl Input + Print + AllocGlobal), bench: &mut Bench) -> io::Result<()> {
+    for line in rt.lines(rt.alloc()) {
+        take_line(rt, bench, line?.as_str())?;
     }
     Ok(())
+}
+
+fn main(rt: HostRuntime) -> io::Result<()> {
+    let mut bench = Bench {
+        routers: Routers::new(rt.alloc()),
+        net: None,
+    };
+    read_script(&rt, &mut bench)
 }

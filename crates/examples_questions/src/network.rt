@@ -10,7 +10,7 @@ use std::mem;
 /// The lines of the next router, and the routers so far.
 #[derive(Drop)]
 pub struct Routers {
-    pub text: String,
+    text: String,
     files: List<File>,
 }
 
@@ -21,6 +21,12 @@ impl Routers {
             files: List::new(alloc),
         }
     }
+}
+
+/// Adds a line of the next router.
+pub fn add_line(routers: &mut Routers, line: &str) -> Result<(), AllocError> {
+    routers.text.push_str(line)?;
+    routers.text.push_str("\n")
 }
 
 /// Reads the lines so far as a router's. One that is refused is left out.
