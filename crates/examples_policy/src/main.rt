@@ -74,11 +74,14 @@ fn take_line(rt: &(impl Print + AllocGlobal), lists: &mut Lists, line: &str) -> 
     Ok(())
 }
 
-fn main(rt: HostRuntime) -> io::Result<()> {
-    let alloc: Global = rt.alloc();
-    let mut lists = Lists::new(alloc);
-    for line in rt.lines(alloc) {
-        take_line(&rt, &mut lists, line?.as_str())?;
+fn read_script(rt: &(impl Input + Print + AllocGlobal), lists: &mut Lists) -> io::Result<()> {
+    for line in rt.lines(rt.alloc()) {
+        take_line(rt, lists, line?.as_str())?;
     }
     Ok(())
+}
+
+fn main(rt: HostRuntime) -> io::Result<()> {
+    let mut lists = Lists::new(rt.alloc());
+    read_script(&rt, &mut lists)
 }

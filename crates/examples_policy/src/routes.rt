@@ -1,6 +1,9 @@
 //! Random route maps as terms, against the plain answers.
 
 ghost use Rattle.std.specs.Prelude.{◌≡◌, ◌≤◌, length};
+ghost use Rattle.term_store.specs.Terms.{size};
+ghost use Rattle.term_arith.specs.Bits.{ids_end};
+ghost use Rattle.sym_policy.specs.MapRecs.{HasMarks, map_rec_end};
 
 use crate::dice::Dice;
 use crate::fresh::{fresh_rec, tracked};
@@ -229,6 +232,51 @@ fn routes_agree(
     Ok(agreed)
 }
 
+/// The map over terms of a record, for an address.
+fn map_over(
+    alloc: Global,
+    terms: &mut Terms,
+    case: &Case,
+    tracked: &Tracked,
+    dst: &Bits,
+    rec: &SymMapRec,
+) -> Result<SymMapRec, AllocError>
+    requires len { case.now.len ≤ 32 }
+    requires wide { length dst.now.nodes ≡ 32 }
+    requires dst { ids_end dst.now.nodes ≤ size terms.old }
+    requires marks { HasMarks tracked.now rec.now }
+    requires nodes { map_rec_end rec.now ≤ size terms.old }
+{
+    let len = case.len;
+    sym_route_map(
+        alloc,
+        terms,
+        tracked,
+        &case.policies,
+        &case.map,
+        dst,
+        len,
+        rec,
+        case.side,
+    )
+}
+
+/// The map over terms of a record of new variables, for an address of new variables.
+fn fresh_map(
+    alloc: Global,
+    terms: &mut Terms,
+    case: &Case,
+    tracked: &Tracked,
+) -> Result<SymMapRec, AllocError>
+    requires len { case.now.len ≤ 32 }
+    requires numbers { length tracked.now.numbers ≡ 3 }
+    requires communities { length tracked.now.communities ≡ 3 }
+{
+    let rec = fresh_rec(alloc, terms)?;
+    let dst = fresh_bits(alloc, terms, 32)?;
+    map_over(alloc, terms, case, tracked, &dst, &rec)
+}
+
 /// At how many of twenty routes a map and the map over terms agree.
 fn case_agrees(
     alloc: Global,
@@ -242,19 +290,7 @@ fn case_agrees(
     requires clusters { length tracked.now.clusters ≡ 0 }
 {
     let mut terms = Terms::new(alloc);
-    let rec = fresh_rec(alloc, &mut terms)?;
-    let dst = fresh_bits(alloc, &mut terms, 32)?;
-    let made = sym_route_map(
-        alloc,
-        &mut terms,
-        tracked,
-        &case.policies,
-        &case.map,
-        &dst,
-        case.len,
-        &rec,
-        case.side,
-    )?;
+    let made = fresh_map(alloc, &mut terms, case, tracked)?;
     routes_agree(alloc, dice, case, &terms, &made, tracked)
 }
 

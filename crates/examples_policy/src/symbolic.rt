@@ -115,12 +115,17 @@ fn packets_agree(
     Ok(agreed)
 }
 
+/// The node of a list over a packet of new variables.
+fn access_node(alloc: Global, terms: &mut Terms, list: &AccessList) -> Result<NodeId, AllocError> {
+    let packet = fresh_packet(alloc, terms)?;
+    sym_access_list(alloc, terms, list, &packet)
+}
+
 /// At how many of twenty packets a random list and its node agree.
 fn access_agrees(alloc: Global, dice: &mut Dice) -> Result<u32, AllocError> {
     let list = access(dice);
     let mut terms = Terms::new(alloc);
-    let packet = fresh_packet(alloc, &mut terms)?;
-    let node = sym_access_list(alloc, &mut terms, &list, &packet)?;
+    let node = access_node(alloc, &mut terms, &list)?;
     packets_agree(alloc, dice, &terms, node, &list)
 }
 
@@ -176,14 +181,26 @@ fn addresses_agree(
     Ok(agreed)
 }
 
+/// The node of a list over the prefix of a length of an address of new variables.
+fn prefix_node(
+    alloc: Global,
+    terms: &mut Terms,
+    list: &PrefixList,
+    len: u8,
+) -> Result<NodeId, AllocError>
+    requires { len ≤ 32 }
+{
+    let dst = fresh_bits(alloc, terms, 32)?;
+    sym_prefix_list(alloc, terms, list, &dst, len)
+}
+
 /// At how many of twenty addresses a random list and its node agree.
 fn prefixes_agree(alloc: Global, dice: &mut Dice, len: u8) -> Result<u32, AllocError>
     requires { len ≤ 32 }
 {
     let list = prefixes(dice);
     let mut terms = Terms::new(alloc);
-    let dst = fresh_bits(alloc, &mut terms, 32)?;
-    let node = sym_prefix_list(alloc, &mut terms, &list, &dst, len)?;
+    let node = prefix_node(alloc, &mut terms, &list, len)?;
     addresses_agree(alloc, dice, &terms, node, &list, len)
 }
 
