@@ -14,6 +14,7 @@ mod made_policies;
 mod page;
 mod pen;
 mod read_back;
+mod reading;
 mod shown;
 mod shown_policies;
 mod shown_words;
@@ -23,35 +24,24 @@ mod written_policies;
 
 use crate::limits::{Repeat, add_lines};
 use crate::page::Page;
-use crate::read_back::{show_read_back, shown};
+use crate::read_back::show_read_back;
+use crate::reading::{Outcome, reading_of, tried};
 use crate::words::show_words;
-use ios_reader::read_file;
 use std::alloc::{AllocError, Global};
 use std::io;
 
 /// Prints what a text reads as.
 fn show(rt: &(impl Print + AllocGlobal), name: &str, text: &str) -> io::Result<()> {
-    let alloc: Global = rt.alloc();
-    if text.len() > 1_000_000 {
-        return println!(rt; "{name}: too long");
-    }
-    match read_file(alloc, text.as_bytes()) {
-        Ok(file) => {
-            let shown = shown(alloc, &file)?;
-            print!(rt; "{name}:\n{shown}")
-        }
-        Err(refused) => println!(rt; "{name}: {} {:?}", refused.line, refused.cause),
-    }
+    let read = reading_of(rt.alloc(), text)?;
+    print!(rt; "{name}:{read}")
 }
 
 /// Prints whether a text is taken, or where it is refused.
 fn show_end(rt: &(impl Print + AllocGlobal), name: &str, text: &str) -> io::Result<()> {
-    if text.len() > 1_000_000 {
-        return println!(rt; "{name}: too long");
-    }
-    match read_file(rt.alloc(), text.as_bytes()) {
-        Ok(_) => println!(rt; "{name}: taken"),
-        Err(refused) => println!(rt; "{name}: {} {:?}", refused.line, refused.cause),
+    match tried(rt.alloc(), text) {
+        Outcome::Taken => println!(rt; "{name}: taken"),
+        Outcome::Refused(line, cause) => println!(rt; "{name}: {line} {cause:?}"),
+        Outcome::TooLong => println!(rt; "{name}: too long"),
     }
 }
 
@@ -148,11 +138,14 @@ fn take_line(rt: &(impl Print + AllocGlobal), text: &mut String, line: &str) -> 
     Ok(())
 }
 
-fn main(rt: HostRuntime) -> io::Result<()> {
-    let alloc: Global = rt.alloc();
-    let mut text = String::new(alloc);
-    for line in rt.lines(alloc) {
-        take_line(&rt, &mut text, line?.as_str())?;
+fn read_script(rt: &(impl Input + Print + AllocGlobal), text: &mut String) -> io::Result<()> {
+    for line in rt.lines(rt.alloc()) {
+        take_line(rt, text, line?.as_str())?;
     }
     Ok(())
+}
+
+fn main(rt: HostRuntime) -> io::Result<()> {
+    let mut text = String::new(rt.alloc());
+    read_script(&rt, &mut text)
 }

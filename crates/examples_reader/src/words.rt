@@ -1,7 +1,8 @@
 //! A line that is read with one word that nothing takes in place of each of its words, and cut short after each of them.
 
 use crate::page::Page;
-use ios_reader::{Cause, read_file};
+use crate::reading::{Outcome, tried};
+use ios_reader::Cause;
 use std::alloc::{AllocError, Global};
 use std::io;
 
@@ -18,14 +19,12 @@ fn show_cause(out: &mut Page, cause: Cause) {
 }
 
 /// A point where the text is taken, the number of its bad word, U for an unknown command and P for one out of place.
-fn show_outcome(alloc: Global, out: &mut Page, text: &str) {
+fn show_outcome(out: &mut Page, outcome: Outcome) {
     out.put(" ");
-    if text.len() > 1_000_000 {
-        return out.put("?");
-    }
-    match read_file(alloc, text.as_bytes()) {
-        Ok(_) => out.put("."),
-        Err(refused) => show_cause(out, refused.cause),
+    match outcome {
+        Outcome::Taken => out.put("."),
+        Outcome::Refused(_, cause) => show_cause(out, cause),
+        Outcome::TooLong => out.put("?"),
     }
 }
 
@@ -61,7 +60,7 @@ fn show_bad(
     out.put(": bad");
     for at in 0..count {
         let text = with_bad(alloc, before, line, at)?;
-        show_outcome(alloc, out, text.as_str());
+        show_outcome(out, tried(alloc, text.as_str()));
     }
     Ok(())
 }
@@ -76,7 +75,7 @@ fn show_cut(
     out.put("; cut");
     for at in 1..count {
         let text = cut_after(alloc, before, line, at)?;
-        show_outcome(alloc, out, text.as_str());
+        show_outcome(out, tried(alloc, text.as_str()));
     }
     Ok(())
 }
