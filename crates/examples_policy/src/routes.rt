@@ -232,49 +232,58 @@ fn routes_agree(
     Ok(agreed)
 }
 
-/// The map over terms of a record, for an address.
-fn map_over(
+/// At how many of twenty routes a map and the map over terms of a record agree, for an address.
+fn record_agrees(
     alloc: Global,
     terms: &mut Terms,
+    dice: &mut Dice,
     case: &Case,
     tracked: &Tracked,
     dst: &Bits,
     rec: &SymMapRec,
-) -> Result<SymMapRec, AllocError>
+) -> Result<u32, AllocError>
     requires len { case.now.len ≤ 32 }
     requires wide { length dst.now.nodes ≡ 32 }
     requires dst { ids_end dst.now.nodes ≤ size terms.old }
     requires marks { HasMarks tracked.now rec.now }
     requires nodes { map_rec_end rec.now ≤ size terms.old }
+    requires numbers { length tracked.now.numbers ≡ 3 }
+    requires communities { length tracked.now.communities ≡ 3 }
+    requires clusters { length tracked.now.clusters ≡ 0 }
 {
-    let len = case.len;
-    sym_route_map(
+    let made = sym_route_map(
         alloc,
         terms,
         tracked,
         &case.policies,
         &case.map,
         dst,
-        len,
+        case.len,
         rec,
         case.side,
-    )
+    );
+    match &made {
+        Ok(made) => routes_agree(alloc, dice, case, terms, made, tracked),
+        Err(wanting) => Err(*wanting),
+    }
 }
 
-/// The map over terms of a record of new variables, for an address of new variables.
-fn fresh_map(
+/// The same for a record and an address of new variables.
+fn fresh_agrees(
     alloc: Global,
     terms: &mut Terms,
+    dice: &mut Dice,
     case: &Case,
     tracked: &Tracked,
-) -> Result<SymMapRec, AllocError>
+) -> Result<u32, AllocError>
     requires len { case.now.len ≤ 32 }
     requires numbers { length tracked.now.numbers ≡ 3 }
     requires communities { length tracked.now.communities ≡ 3 }
+    requires clusters { length tracked.now.clusters ≡ 0 }
 {
     let rec = fresh_rec(alloc, terms)?;
     let dst = fresh_bits(alloc, terms, 32)?;
-    map_over(alloc, terms, case, tracked, &dst, &rec)
+    record_agrees(alloc, terms, dice, case, tracked, &dst, &rec)
 }
 
 /// At how many of twenty routes a map and the map over terms agree.
@@ -290,8 +299,7 @@ fn case_agrees(
     requires clusters { length tracked.now.clusters ≡ 0 }
 {
     let mut terms = Terms::new(alloc);
-    let made = fresh_map(alloc, &mut terms, case, tracked)?;
-    routes_agree(alloc, dice, case, &terms, &made, tracked)
+    fresh_agrees(alloc, &mut terms, dice, case, tracked)
 }
 
 /// At how many of twenty routes a random map and the map over terms agree.
