@@ -95,7 +95,7 @@ pub fn search_by(
     let failing = List {
         items: Vec::from_slice(alloc, fail)?,
     };
-    let mut sink = TestSink::new(alloc, 1_000_000, failing)?;
+    let mut sink = TestSink::new(alloc, 4_000_000, failing)?;
     let answer = solve(alloc, cnf, budget, &mut sink, deciders);
     if let Err(SolveFault::Memory) = answer {
         return Err(NotSearched::Memory);

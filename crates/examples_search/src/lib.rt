@@ -10,6 +10,8 @@ mod faults;
 #[cfg(test)]
 mod long;
 #[cfg(test)]
+mod pigeons;
+#[cfg(test)]
 mod random;
 #[cfg(test)]
 mod small;
