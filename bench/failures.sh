@@ -1,6 +1,6 @@
 #!/bin/sh
 # Times the proved program on a question about any one failed link, over rings of 4 to 64 routers, a full mesh of 8, and grids
-# of 3 by 3 and 4 by 4 that run OSPF; the same with one learnt clause at most, which is the encoding; and minisat, cadical
+# of 3 by 3, 4 by 4 and 8 by 8 that run OSPF; the same with one learnt clause at most, which is the encoding; and minisat, cadical
 # and z3, those that are there, on the same clauses. A run longer than two minutes is cut. Needs the proved program (.ci/run
 # or ./mw --proved), Python 3 and GNU time.
 set -eu
@@ -37,7 +37,7 @@ def network(name, ends, last):
 for count in (4, 8, 16, 32, 64):
     network(f"ring-{count:02}", [(r, (r + 1) % count) for r in range(count)], count // 2)
 network("mesh-08", [(a, b) for a in range(8) for b in range(a + 1, 8)], 7)
-for side in (3, 4):
+for side in (3, 4, 8):
     right = [(side * y + x, side * y + x + 1) for y in range(side) for x in range(side - 1)]
     down = [(side * y + x, side * y + x + side) for y in range(side - 1) for x in range(side)]
     network(f"grid-{side}x{side}", right + down, side * side - 1)

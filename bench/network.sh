@@ -1,10 +1,10 @@
 #!/bin/sh
 # Times the proved program on networks of 16, 32 and 64 routers with 64 interfaces each, in a ring, and on 8, 16 and 32
-# routers with 512 entries of lists each. The network is built whole before the first question is answered. Needs the proved
-# program (.ci/run or ./mw --proved), Python 3 and GNU time.
+# routers with 512 entries of lists each: a question about a router that is not there, which is refused once the network is
+# built, and one that is answered. Needs the proved program (.ci/run or ./mw --proved), Python 3 and GNU time.
 set -eu
 top=$(cd -P -- "$(dirname -- "$0")/.." && pwd -P)
-program=$top/crates/mw_cli/out/mw_cli
+program=${PROGRAM:-$top/crates/mw_cli/out/mw_cli}
 [ -x "$program" ] || { echo "prove the program first: ./mw --proved" >&2; exit 1; }
 dir=$(mktemp -d)
 trap 'rm -rf "$dir"' EXIT
@@ -47,11 +47,17 @@ for count in (16, 32, 64):
 for count in (8, 16, 32):
     policies(count)
 put("q.txt", ["q1 reach from R0 to router R0 packets icmp 10.0.0.1/32 any 10.0.0.1/32 any failures 0"])
+put("none.txt", ["q1 reach from R0 to router Nobody packets icmp 10.0.0.1/32 any 10.0.0.1/32 any failures 0"])
 END
+# run FILE SET: the questions of that file over that network, ten times one after another.
 run() {
-    files=$(cd "$dir" && ls "$1"-*.cfg | sort -V)
-    (cd "$dir" && /usr/bin/time -f "$1: %e s, %M KB" "$program" verify q.txt $files >/dev/null) 2>&1 | tail -1
+    files=$(cd "$dir" && ls "$2"-*.cfg | sort -V)
+    echo "for _ in 1 2 3 4 5 6 7 8 9 10; do $program verify $1" $files ">/dev/null; done" >"$dir/ten"
+    (cd "$dir" && /usr/bin/time -f "%e s, %M KB" sh ./ten) 2>&1 | tail -1
 }
 for set in ring16 ring32 ring64 lists8 lists16 lists32; do
-    run "$set"
+    echo "$set, a question that is refused once the network is built, ten times: $(run none.txt "$set")"
+done
+for set in ring16 ring32; do
+    echo "$set, one verdict, ten times: $(run q.txt "$set")"
 done

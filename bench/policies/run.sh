@@ -11,10 +11,12 @@ for crate in mw_text ios_ast route_record term_store term_arith resolution_check
     cp -r "$here/../../crates/$crate" "$work/crates/$crate"
     grep "^$crate:" "$here/../../crates.txt" >> "$work/crates.txt"
 done
-cp "$here/../../crates/examples_policy/src/dice.rt" "$work/crates/policy_nodes/src/dice.rt"
-# Of the routes the records of new variables alone.
-sed '/^const COMMUNITIES/,$d; /^use crate::symbolic/d' "$here/../../crates/examples_policy/src/routes.rt" \
-    > "$work/crates/policy_nodes/src/routes.rt"
+# The records of new variables, and their proof.
+cp "$here/../../crates/examples_policy/src/fresh.rt" "$work/crates/policy_nodes/src/fresh.rt"
+mkdir "$work/crates/policy_nodes/specs"
+cp "$here/../../crates/examples_policy/specs/Lib.antt" "$work/crates/policy_nodes/specs/Lib.antt"
+cp -r "$here/../../crates/examples_policy/proofs" "$work/crates/policy_nodes/proofs"
+sed -i 's/Rattle\.examples_policy\./Rattle.policy_nodes./' "$work"/crates/policy_nodes/proofs/fresh/*/*.antt
 cp "$here/main.rt.in" "$work/crates/policy_nodes/src/main.rt"
 printf 'policy_nodes: sym_policy policy_eval cnf_blaster resolution_check term_arith term_store ios_ast route_record mw_text\n' \
     >> "$work/crates.txt"

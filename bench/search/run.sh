@@ -6,18 +6,16 @@ set -e
 top=$(cd "$(dirname "$0")/../.." && pwd)
 work=$(mktemp -d)
 trap 'rm -rf "$work"' EXIT
-mkdir -p "$work/crates/search_speed/src" "$work/crates/search_speed/proofs"
-for crate in mw_text term_store mw_outside resolution_check cnf_blaster cdcl_search; do
+mkdir -p "$work/crates/search_speed/src"
+for crate in mw_text term_store mw_outside resolution_check cnf_blaster clause_arena deciders conflict_analysis \
+    watched_search cdcl_search; do
     cp -r "$top/crates/$crate" "$work/crates/$crate"
 done
 speed=$work/crates/search_speed
 cp "$top/bench/search/main.rt.in" "$speed/src/main.rt"
 cp "$top/bench/search/formulas.rt.in" "$speed/src/formulas.rt"
-cp "$top/crates/examples_search/src/asking.rt" "$speed/src/"
-cp -r "$top/crates/examples_search/proofs/asking" "$speed/proofs/"
-find "$speed/proofs" -name '*.antt' -exec sed -i 's/examples_search/search_speed/g' {} +
 cat > "$work/crates.txt" <<END
-$(grep -E '^(mw_text|term_store|mw_outside|resolution_check|cnf_blaster|cdcl_search):' "$top/crates.txt")
+$(grep -E '^(mw_text|term_store|mw_outside|resolution_check|cnf_blaster|clause_arena|deciders|conflict_analysis|watched_search|cdcl_search):' "$top/crates.txt")
 search_speed: cdcl_search cnf_blaster resolution_check mw_outside mw_text
 END
 cd "$speed"

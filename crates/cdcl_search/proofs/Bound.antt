@@ -32,6 +32,7 @@ use Rattle.cdcl_search.specs.declared.outcome.Outcome.TheVariants.{Unsat, Sat, U
 use Rattle.cdcl_search.specs.Outcomes.{IsSearchLog, IsLogged, OnUnknown}
 use Rattle.cdcl_search.proofs.Codes.{code, code_below, inside_from_code}
 use Rattle.cdcl_search.proofs.Logs.{inputs_of}
+use Rattle.cdcl_search.proofs.Runs.{ends-push, runs-push}
 
 abbrev are_below : ℕ → List Clause → Bool
 are_below limit cs = list_all (λ c. is_below limit c.lits) cs
@@ -74,16 +75,6 @@ resolved_below limit held below =
 
 -- ---- one entry more: runs of deletions
 
-runs-push : (deleting : Bool) (es : List Entry) (e : Entry)
-    → run_count deleting (es ++ e ∷ [])
-    ≡ run_count deleting es + cond (is_deletion e && not (ends_deleting deleting es)) 1 0
-runs-push deleting [] e = omega arith
-runs-push deleting (d ∷ es) e = let rest = runs-push (is_deletion d) es e in omega arith
-
-ends-push : (deleting : Bool) (es : List Entry) (e : Entry) → ends_deleting deleting (es ++ e ∷ []) ≡ is_deletion e
-ends-push deleting [] e = refl
-ends-push deleting (d ∷ es) e = ends-push (is_deletion d) es e
-
 -- where nothing is deleted there is no run
 no_runs : (deleting : Bool) (es : List Entry) → list_any is_deletion es ≡ false → run_count deleting es ≡ 0
 no_runs deleting [] h = refl
@@ -94,14 +85,14 @@ no_runs deleting (End ∷ es) h = let rest = no_runs false es h in omega arith
 
 -- ---- one entry more: clauses that are held
 
-given_of_held : (es : List Entry) (id : ℕ) (c : Clause) → clause_held es id ≡ Some c → clause_given es id ≡ Some c
+pub given_of_held : (es : List Entry) (id : ℕ) (c : Clause) → clause_held es id ≡ Some c → clause_given es id ≡ Some c
 given_of_held es id c there = by (is_deleted es id) (clause_given es id) there
   where
     by : (b : Bool) (o : Option Clause) → cond b None o ≡ Some c → o ≡ Some c
     by true o h = absurd (cc)
     by false o h = h
 
-held_both : (es : List Entry) (e : Entry) (id : ℕ)
+pub held_both : (es : List Entry) (e : Entry) (id : ℕ)
     → clause_held (es ++ e ∷ []) id
     ≡ cond (is_deleted es id || deletes id e) None (option_or (clause_given es id) (clause_by id e))
 held_both es e id = ap₂ (λ b o. cond b None o) (any-push (deletes id) es e) (clause_given-push es e id)

@@ -1,18 +1,18 @@
 -- The log of a search: its entries and their lines.
 use Rattle.resolution_check.proofs.Values.{below_larger}
-use Rattle.std.proofs.Common.{◌≡◌, ℕ, ◌+◌, ◌<◌, ◌≤◌, ◌^◌, ◌==◌, Bool, true, false, cond, ◌||◌, List, []}
+use Rattle.std.proofs.Common.{◌*◌, ◌≡◌, ℕ, ◌+◌, ◌<◌, ◌≤◌, ◌^◌, ◌==◌, Bool, true, false, cond, ◌||◌, List, []}
 use Rattle.std.proofs.Common.{◌∷◌, ◌++◌, length, take, drop, slice_get, Option, Some, None, is_some, Result, Ok, Err}
 use Rattle.std.proofs.Common.{IfOk, refl, sym, ap, ap₂, subst, ◌∙◌, arith, inl, inr, add-zero, append_assoc}
 use Rattle.std.proofs.Common.{take-append-drop}
 use Rattle.cnf_blaster.proofs.Properness.{weaker}
 use Rattle.std.specs.Option.{option_or, option_map_or, ok_or}
-use Rattle.std.specs.List.{list_all, AllByRecursion}
+use Rattle.std.specs.List.{list_all, list_any, AllByRecursion}
 use Rattle.std.proofs.lemmas.Bool.{and_parts, ltb-true, cases_Bool, eqb-true, false≢true}
 use Rattle.std.proofs.lemmas.Bool.{false_from_ne_true}
 use Rattle.std.proofs.lemmas.List.{append-nil, length-take}
 use Rattle.std.proofs.lemmas.Option.{slice_get_within}
 use Rattle.std.proofs.lemmas.Grind.{flat_map-append}
-use Rattle.mw_outside.specs.Taken.{Takes, TakesPart, takes_more, part_of_all, part_stops, part_more}
+use Rattle.mw_outside.specs.Taken.{Takes, TakesPart, takes_more, part_of_all, part_of_none, part_stops, part_more}
 use Rattle.resolution_check.specs.declared.log.Lit.{Lit}
 use Rattle.resolution_check.specs.declared.log.Clause.{Clause}
 use Rattle.resolution_check.specs.declared.log.Entry.{Entry}
@@ -25,7 +25,8 @@ use Rattle.resolution_check.specs.Entries.{inputs, resolved, resolved_next, reso
 use Rattle.resolution_check.specs.Entries.{IsUnsatisfiable}
 use Rattle.resolution_check.proofs.Truth.{unsatisfiable}
 use Rattle.resolution_check.specs.Earned.{AllEarned, IsEarned, IsEarnedAddition, IsSpaced, MayFollow, IsAscending}
-use Rattle.resolution_check.specs.Earned.{GoesUp, IsAbove}
+use Rattle.resolution_check.specs.Earned.{GoesUp, IsAbove, gives_input, run_count}
+use Rattle.std.proofs.Math.Bool.{or-false}
 use Rattle.resolution_check.specs.Clauses.{is_below, resolvent}
 use Rattle.resolution_check.specs.Text.{line_of, log_text, HasText}
 use Rattle.resolution_check.proofs.Goods.{each_push, clause_given-push, any-push, given_from_deleted}
@@ -38,7 +39,11 @@ use Rattle.watched_search.proofs.Sets.{earned_addition, sets_more}
 use Rattle.cdcl_search.specs.declared.outcome.Outcome.{Outcome}
 use Rattle.cdcl_search.specs.declared.outcome.Outcome.TheVariants.{Unsat, Sat, Unknown}
 use Rattle.cdcl_search.specs.Outcomes.{input_entries, adds_or_deletes, IsSearchLog, IsCut, IsLogged, OnUnsat}
-use Rattle.cdcl_search.specs.Going.{IsGoing, IsRefuted}
+use Rattle.cdcl_search.specs.Going.{IsDone, IsGoing, IsRefuted}
+use Rattle.cdcl_search.specs.Told.{IsTold}
+use Rattle.cdcl_search.specs.Turns.{AreUntold, IsTurn, TellBumps, TellsAt, vars_of}
+use Rattle.cdcl_search.proofs.Bumps.{bumps_more, untold_inputs}
+use Rattle.cdcl_search.proofs.Runs.{runs-push}
 use Rattle.resolution_check.proofs.Variables.{take_at}
 
 -- ---- what has a text
@@ -170,7 +175,8 @@ pub record IsWritten (es : List Entry) (next : ℕ) : Type 0 where
 next_is_new : (es : List Entry) (next : ℕ) → IsAbove es next → is_given es next ≡ false
 next_is_new es next above = false_from_ne_true _ (λ given. let h : next < next = above next given in omega arith)
 
-texts_push : (es : List Entry) (e : Entry) → AllByRecursion HasText es → HasText e
+-- one entry more that has a text
+pub texts_push : (es : List Entry) (e : Entry) → AllByRecursion HasText es → HasText e
     → AllByRecursion HasText (es ++ e ∷ [])
 texts_push [] e h k = (k, tt)
 texts_push (d ∷ es) e h k = (h.0, texts_push es e h.1 k)
@@ -251,6 +257,27 @@ inputs_empty : (id : ℕ) (cs : List Clause) → adds_empty (input_entries id cs
 inputs_empty id [] = refl
 inputs_empty id (c ∷ cs) = inputs_empty (id + 1) cs
 
+inputs_runs : (id : ℕ) (cs : List Clause) → run_count false (input_entries id cs) ≡ 0
+inputs_runs id [] = refl
+inputs_runs id (c ∷ cs) = let rest = inputs_runs (id + 1) cs in omega arith
+
+-- the number of an input is given
+given_of_input : (id : ℕ) (es : List Entry) → list_any (gives_input id) es ≡ true → is_given es id ≡ true
+given_of_input id [] h = absurd (false≢true h)
+given_of_input id (Input own c ∷ es) h = elim (cases_Bool (own == id)) [
+  | inl here ↦ ap (λ b. is_some (option_or (cond b (Some c) None) (clause_given es id))) here
+  | inr other ↦
+      ap (λ b. is_some (option_or (cond b (Some c) None) (clause_given es id))) other
+      ∙ given_of_input id es (sym (ap (λ b. b || list_any (gives_input id) es) other) ∙ h)
+]
+given_of_input id (Add own c chain ∷ es) h = elim (cases_Bool (own == id)) [
+  | inl here ↦ ap (λ b. is_some (option_or (cond b (Some c) None) (clause_given es id))) here
+  | inr other ↦
+      ap (λ b. is_some (option_or (cond b (Some c) None) (clause_given es id))) other ∙ given_of_input id es h
+]
+given_of_input id (Delete own ∷ es) h = given_of_input id es h
+given_of_input id (End ∷ es) h = given_of_input id es h
+
 -- the inputs are the clauses that the log holds
 inputs_held : (id : ℕ) (cs : List Clause) (k : ℕ)
     → clause_numbered (numbered_from id cs) k ≡ clause_held (input_entries id cs) k
@@ -306,9 +333,9 @@ inputs_log vars cs few numbers below =
 -- the clauses of a formula were written as inputs
 pub going_start : (before now : Option (List ℕ)) (vars : ℕ) (cs : List Clause) (next : ℕ)
     → vars ≤ 2 ^ 63 → length cs ≤ 2 ^ 63 → list_all (λ c. is_below vars c.lits) cs ≡ true → next ≡ length cs + 1
-    → Takes before now (log_text (input_entries 1 cs))
-    → IsGoing before now cs (clause_numbered (numbered_from 1 cs)) next 0
-going_start before now vars cs next few numbers below is_next takes =
+    → (tolds : List (Option (List ℕ))) → AreUntold tolds → Takes before now (log_text (input_entries 1 cs))
+    → IsGoing before now cs (clause_numbered (numbered_from 1 cs)) next 0 0 tolds
+going_start before now vars cs next few numbers below is_next tolds untold takes =
     let w = inputs_written vars cs few numbers below in
     let n : 1 + length cs ≡ next = omega (arith, is_next) in
     record {
@@ -321,8 +348,12 @@ going_start before now vars cs next few numbers below is_next takes =
       };
       not_ended = w.not_ended;
       above = subst (IsAbove (input_entries 1 cs)) n w.above;
+      low_inputs = λ id h.
+          (let low : id < 1 + length cs = w.above id (given_of_input id (input_entries 1 cs) h) in omega (arith, n));
+      few_runs = omega (arith, inputs_runs 1 cs);
       count = inputs_count 1 cs;
       not_empty = inputs_empty 1 cs;
+      bumps = untold_inputs tolds untold 1 cs;
     }
 
 -- a front of the inputs is written
@@ -335,6 +366,17 @@ cut_first before now vars budget cs few numbers below part = record {
   within = omega (arith, inputs_count 1 cs);
   text = part;
 }
+
+-- as many clauses as a slice in memory has
+pub few_of : {slice cs : List Clause} → slice ≡ cs → length slice * 24 < 2 ^ 63 → length cs < 2 ^ 63
+few_of same few = subst (λ (ds : List Clause). length ds < 2 ^ 63) same (omega arith)
+
+-- nothing is written yet
+pub cut_none : (now : Option (List ℕ)) (vars budget : ℕ) (cs slice : List Clause) → vars ≤ 2 ^ 63
+    → list_all (λ c. is_below vars c.lits) cs ≡ true → slice ≡ cs → length slice * 24 < 2 ^ 63 → IsCut now now cs budget
+cut_none now vars budget cs slice small below same few =
+    cut_first now now vars budget cs small (let h : length cs < 2 ^ 63 = few_of same few in omega arith) below
+    (part_of_none now (log_text (input_entries 1 cs)))
 
 -- the inputs are written, and no more
 pub cut_inputs : (now : Option (List ℕ)) (vars budget : ℕ) (cs : List Clause)
@@ -367,8 +409,8 @@ held-push es id clause chain good new k = elim (cases_Bool (is_deleted es k)) [
       ∙ sym (ap (λ b. option_or (cond b None (clause_given es k)) (cond (id == k) (Some clause) None)) still)
 ]
 
-module _ (before middle : Option (List ℕ)) (ins : List Clause) (held : ℕ → Option Clause) (next added : ℕ)
-    (g : IsGoing before middle ins held next added) where
+module _ (before middle : Option (List ℕ)) (ins : List Clause) (held : ℕ → Option Clause) (next added runs : ℕ)
+    (tolds : List (Option (List ℕ))) (g : IsGoing before middle ins held next added runs tolds) where
   -- the log is written as far as it goes
   pub cut_here : (budget : ℕ) → added ≤ budget → (now : Option (List ℕ)) → now ≡ middle → IsCut before now ins budget
   cut_here budget few now e = record {
@@ -380,7 +422,7 @@ module _ (before middle : Option (List ℕ)) (ins : List Clause) (held : ℕ →
 
   -- the same clauses are held in another order of literals
   pub going_same : (more : ℕ → Option Clause) → AreSameSets more (clause_held g.entries)
-      → IsGoing before middle ins more next added
+      → IsGoing before middle ins more next added runs tolds
   going_same more same = record {
     entries = g.entries;
     log = g.log;
@@ -388,8 +430,11 @@ module _ (before middle : Option (List ℕ)) (ins : List Clause) (held : ℕ →
     same = same;
     not_ended = g.not_ended;
     above = g.above;
+    low_inputs = g.low_inputs;
+    few_runs = g.few_runs;
     count = g.count;
     not_empty = g.not_empty;
+    bumps = g.bumps;
   }
 
   module _ (lits : List Lit) (chain : List ℕ) (one : IsAddition held lits chain)
@@ -439,11 +484,20 @@ module _ (before middle : Option (List ℕ)) (ins : List Clause) (held : ℕ →
         subst (λ t. Takes before now t) (sym (text-push g.entries addition))
         (takes_more before middle now _ _ g.text takes)
 
+    module _ (turn : ℕ) (is_turn : IsTurn (length tolds) added turn) (more_tolds : List (Option (List ℕ)))
+        (tells : TellsAt tolds more_tolds turn (vars_of lits)) where
+      bumps_then : TellBumps more_tolds (g.entries ++ addition ∷ [])
+      bumps_then =
+          bumps_more tolds more_tolds g.entries next (record { lits = lits }) chain turn
+          (subst (λ n. IsTurn (length tolds) n turn) (sym g.count) is_turn) tells g.bumps
+
     -- a clause that is not empty was added, and is held
-    pub going_more : (now : Option (List ℕ)) (more : ℕ → Option Clause)
+    pub going_more : (turn : ℕ) → IsTurn (length tolds) added turn → (more_tolds : List (Option (List ℕ)))
+        → TellsAt tolds more_tolds turn (vars_of lits) → (now : Option (List ℕ)) (more : ℕ → Option Clause)
         → ((k : ℕ) → more k ≡ option_or (held k) (cond (next == k) (Some (record { lits = lits })) None))
-        → is_empty lits ≡ false → Takes middle now (line_of addition) → IsGoing before now ins more (next + 1) (added + 1)
-    going_more now more grown full takes = record {
+        → is_empty lits ≡ false → Takes middle now (line_of addition)
+        → IsGoing before now ins more (next + 1) (added + 1) runs more_tolds
+    going_more turn is_turn more_tolds tells now more grown full takes = record {
       entries = g.entries ++ addition ∷ [];
       log = log_more;
       text = taken_more now takes;
@@ -451,19 +505,29 @@ module _ (before middle : Option (List ℕ)) (ins : List Clause) (held : ℕ →
           (held-push g.entries next (record { lits = lits }) chain g.log.good is_new) g.same;
       not_ended = written_then.not_ended;
       above = written_then.above;
+      low_inputs = λ id h.
+          (let low : id + added < next =
+          g.low_inputs id (sym (or-false (list_any (gives_input id) g.entries))
+          ∙ sym (any-push (gives_input id) g.entries addition) ∙ h) in omega arith);
+      few_runs = (let same : run_count false (g.entries ++ addition ∷ []) ≡ run_count false g.entries + 0 =
+          runs-push false g.entries addition in
+          let few : run_count false g.entries ≤ runs = g.few_runs in omega arith);
       count = counted;
       not_empty = any-push is_refutation g.entries addition ∙ ap₂ (λ a b. a || b) g.not_empty full;
+      bumps = bumps_then turn is_turn more_tolds tells;
     }
 
     -- the empty clause was added
-    pub refuted_more : (now : Option (List ℕ)) → is_empty lits ≡ true → Takes middle now (line_of addition)
-        → IsRefuted before now ins (added + 1)
-    refuted_more now none takes = record {
+    pub refuted_more : (turn : ℕ) → IsTurn (length tolds) added turn → (more_tolds : List (Option (List ℕ)))
+        → TellsAt tolds more_tolds turn (vars_of lits) → (now : Option (List ℕ)) → is_empty lits ≡ true
+        → Takes middle now (line_of addition) → IsRefuted before now ins (added + 1) more_tolds
+    refuted_more turn is_turn more_tolds tells now none takes = record {
       entries = g.entries ++ addition ∷ [];
       log = log_more;
       text = taken_more now takes;
       count = counted;
       empty = any-push is_refutation g.entries addition ∙ ap₂ (λ a b. a || b) g.not_empty none;
+      bumps = bumps_then turn is_turn more_tolds tells;
     }
 
     -- a front of an addition's line was written
@@ -478,26 +542,40 @@ module _ (before middle : Option (List ℕ)) (ins : List Clause) (held : ℕ →
 
 -- ---- the outcomes
 
-pub logged_sat : (before now : Option (List ℕ)) (ins : List Clause) (held : ℕ → Option Clause) (next added budget : ℕ)
-    (values : List Bool) → added < budget → IsGoing before now ins held next added
-    → IsLogged before now ins budget (Sat values)
-logged_sat before now ins held next added budget values few g = record {
-  entries = g.entries;
-  log = g.log;
-  shows = (g.not_empty, omega (arith, g.count));
-  text = g.text;
+module _ (before now : Option (List ℕ)) (ins : List Clause) (held : ℕ → Option Clause) (next added runs budget : ℕ)
+    (tolds : List (Option (List ℕ))) (g : IsGoing before now ins held next added runs tolds) where
+  told_now : IsTold before now ins tolds
+  told_now = record { entries = g.entries; log = g.log; text = g.text; bumps = g.bumps }
+
+  pub done_sat : (values : List Bool) → added < budget → IsDone before now ins budget tolds (Sat values)
+  done_sat values few = record {
+    logged = record {
+      entries = g.entries;
+      log = g.log;
+      shows = (g.not_empty, omega (arith, g.count));
+      text = g.text;
+    };
+    told = told_now;
+  }
+
+  pub done_unknown : added ≡ budget → IsDone before now ins budget tolds (Unknown budget)
+  done_unknown e = record {
+    logged = record { entries = g.entries; log = g.log; shows = (g.not_empty, g.count ∙ e); text = g.text };
+    told = told_now;
+  }
+
+pub done_unsat : (before now : Option (List ℕ)) (ins : List Clause) (added budget : ℕ)
+    (tolds : List (Option (List ℕ))) → added ≤ budget → IsRefuted before now ins added tolds
+    → IsDone before now ins budget tolds Unsat
+done_unsat before now ins added budget tolds few r = record {
+  logged = record {
+    entries = r.entries;
+    log = r.log;
+    shows = (r.empty, omega (arith, r.count));
+    text = r.text;
+  };
+  told = record { entries = r.entries; log = r.log; text = r.text; bumps = r.bumps };
 }
-
-pub logged_unknown : (before now : Option (List ℕ)) (ins : List Clause) (held : ℕ → Option Clause)
-    (next added budget : ℕ) → added ≡ budget → IsGoing before now ins held next added
-    → IsLogged before now ins budget (Unknown budget)
-logged_unknown before now ins held next added budget e g =
-    record { entries = g.entries; log = g.log; shows = (g.not_empty, g.count ∙ e); text = g.text }
-
-pub logged_unsat : (before now : Option (List ℕ)) (ins : List Clause) (added budget : ℕ) → added ≤ budget
-    → IsRefuted before now ins added → IsLogged before now ins budget Unsat
-logged_unsat before now ins added budget few r =
-    record { entries = r.entries; log = r.log; shows = (r.empty, omega (arith, r.count)); text = r.text }
 
 -- where the log shows it, no assignment satisfies the clauses
 pub unsat_shown : {E : Type 0} (before now : Option (List ℕ)) (cs : List Clause) (budget : ℕ) (r : Result Outcome E)

@@ -1,5 +1,6 @@
 -- What a search keeps from one addition to the next.
-use Rattle.std.proofs.Common.{◌≡◌, ℕ, zero, suc, ◌+◌, ◌<◌, ◌≤◌, ◌^◌, ◌==◌, Bool, true, false, cond, List, [], ◌∷◌, ◌++◌, length}
+use Rattle.std.proofs.Common.{◌≡◌, ℕ, zero, suc, ◌+◌, ◌<◌, ◌≤◌, ◌^◌, ◌==◌, Bool, true, false, cond, List, [], ◌∷◌}
+use Rattle.std.proofs.Common.{◌++◌, length}
 use Rattle.std.proofs.Common.{length-append, Option, Some, None, refl, sym, ap, subst, ◌∙◌}
 use Rattle.std.proofs.Common.{arith, eqb-true, not, take}
 use Rattle.std.specs.List.{list_all}
@@ -34,10 +35,12 @@ use Rattle.watched_search.proofs.Sets.{numbered_last, sets_back, sets_then, view
 use Rattle.watched_search.proofs.Starts.{below_same, held_below, input_below, only_has, only_is}
 use Rattle.cdcl_search.specs.declared.outcome.Outcome.{Outcome}
 use Rattle.cdcl_search.specs.declared.outcome.Outcome.TheVariants.{Sat, Unknown, Unsat}
-use Rattle.cdcl_search.specs.Outcomes.{IsCut, IsLogged, OnSat, input_entries}
-use Rattle.cdcl_search.specs.Going.{Cuts, GoesOn, IsGoing, IsReady, Refutes}
+use Rattle.cdcl_search.specs.Outcomes.{IsCut, OnSat, input_entries}
+use Rattle.cdcl_search.specs.Going.{Cuts, GoesOn, IsDone, IsGoing, IsReady, Refutes}
+use Rattle.cdcl_search.specs.Turns.{AreUntold, TellsAt, vars_of}
 use Rattle.cdcl_search.proofs.Logs.{addition_text, cut_more, cut_within, going_more, going_same, going_start}
-use Rattle.cdcl_search.proofs.Logs.{logged_unsat, refuted_more}
+use Rattle.cdcl_search.proofs.Logs.{done_unsat, refuted_more}
+use Rattle.cdcl_search.proofs.Bumps.{first_turn}
 
 -- a clause is held after an addition exactly where it was, or is the one added
 pub held_more : (old new : Store) (id : ℕ) (lits : List Lit) → clauses new ≡ clauses old ++ (id, lits) ∷ []
@@ -65,13 +68,15 @@ none_zero old new v none = by (held_in new 0) refl
         let clash : None ≡ Some d.0 = sym none ∙ d.1 in absurd (cc)
 
 -- while watches move the log holds the same clauses
-pub going_view : (before now : Option (List ℕ)) (ins : List Clause) (old new : Store) (next added : ℕ)
-    → IsSameView old new → IsGoing before now ins (held_in old) next added
-    → IsGoing before now ins (held_in new) next added
-going_view before now ins old new next added v g =
-    going_same before now ins (held_in old) next added g (held_in new)
+pub going_view : (before now : Option (List ℕ)) (ins : List Clause) (old new : Store) (next added runs : ℕ)
+    (tolds same_tolds : List (Option (List ℕ))) → IsSameView old new → same_tolds ≡ tolds
+    → IsGoing before now ins (held_in old) next added runs tolds
+    → IsGoing before now ins (held_in new) next added runs same_tolds
+going_view before now ins old new next added runs tolds same_tolds v same g =
+    subst (λ ts. IsGoing before now ins (held_in new) next added runs ts) (sym same)
+    (going_same before now ins (held_in old) next added runs tolds g (held_in new)
     (sets_then (held_in new) (held_in old) (clause_held g.entries)
-    (sets_back (held_in old) (held_in new) (view_sets old new v)) g.same)
+    (sets_back (held_in old) (held_in new) (view_sets old new v)) g.same))
 
 -- while watches move and literals are made true the search stays ready
 pub ready_same : (old new : Store) (was now : Assigned) (next from : ℕ) → IsReady old was next from
@@ -84,7 +89,9 @@ ready_same old new was now next from r v same trail kept = record {
   within = omega arith;
   below = below_same old new next v r.below;
   above = none_zero old new v r.above;
-  number = r.number ∙ ap (λ n. n + 1) (sym count);
+  some = r.some;
+  number = (let same : length (clauses new) ≡ length (clauses old) = count in
+      let few : next ≤ length (clauses old) + 2 ^ 62 = r.number in omega arith);
   few = r.few;
 }
   where
@@ -104,6 +111,7 @@ ready_round a was now next from to r same trail kept within = record {
   within = within;
   below = r.below;
   above = r.above;
+  some = r.some;
   number = r.number;
   few = r.few;
 }
@@ -116,7 +124,7 @@ pub ready_more : (old new : Store) (was now : Assigned) (id from : ℕ) (lits : 
 ready_more old new was now id from lits r grown few same same_vars below trail kept within =
     let long : length (clauses new) ≡ length (clauses old) + 1 =
     ap length grown ∙ length-append (clauses old) ((id, lits) ∷ []) in
-    let number : id ≡ length (clauses old) + 1 = r.number in
+    let number : id ≤ length (clauses old) + 2 ^ 62 = r.number in
     record {
       vars = same ∙ r.vars ∙ sym same_vars;
       trail = trail;
@@ -124,6 +132,7 @@ ready_more old new was now id from lits r grown few same same_vars below trail k
       within = within;
       below = below;
       above = held_more old new id lits grown 0 ∙ ap (λ o. option_or o (own 0)) r.above ∙ none_own (id == 0) refl;
+      some = omega arith;
       number = omega arith;
       few = omega arith;
     }
@@ -135,7 +144,7 @@ ready_more old new was now id from lits r grown few same same_vars below trail k
     none_own false e = ap (λ b. cond {A = Option Clause} b (Some (record { lits = lits })) None) e
     none_own true e =
         let zero : id ≡ 0 = eqb-true id 0 e in
-        let number : id ≡ length (clauses old) + 1 = r.number in absurd (omega arith)
+        let some : 1 ≤ id = r.some in absurd (omega arith)
 
 -- what was learnt is an addition to the clauses held
 pub lesson_adds : (a : Store) (steps lits : List Lit) (chain : List ℕ) → IsLesson a steps lits chain
@@ -148,7 +157,7 @@ pub lesson_text : (a : Store) (now : Assigned) (id from : ℕ) (lits : List Lit)
     → now.vars ≤ 2 ^ 63 → IsLesson a now.lits lits chain → ContainsNone a lits
     → HasText (Add id (record { lits = lits }) chain)
 lesson_text a now id from lits chain r small l none =
-    let number : id ≡ length (clauses a) + 1 = r.number in
+    let some : 1 ≤ id = r.some in
     addition_text (held_in a) now.vars id lits chain (omega arith) r.few small
     (false_below now.vars now.lits lits r.trail.below l.false_all) named (lesson_adds a now.lits lits chain l none)
   where
@@ -166,26 +175,31 @@ not_empty (l ∷ ls) some = refl
 
 module _ (a : Store) (now : Assigned) (id from : ℕ) (lits : List Lit) (chain : List ℕ) (r : IsReady a now id from)
     (small : now.vars ≤ 2 ^ 63) (l : IsLesson a now.lits lits chain) (none : ContainsNone a lits)
-    (old new : Option (List ℕ)) where
+    (old new : Option (List ℕ)) (tolds : List (Option (List ℕ))) where
   -- a front of the line was written
-  pub lesson_cuts : TakesPart old new (line_of (Add id (record { lits = lits }) chain)) → Cuts old new (held_in a) id
-  lesson_cuts part = λ before ins added g.
-      cut_more before old ins (held_in a) id added g lits chain (lesson_adds a now.lits lits chain l none)
+  pub lesson_cuts : TakesPart old new (line_of (Add id (record { lits = lits }) chain))
+      → Cuts old new tolds (held_in a) id
+  lesson_cuts part = λ before ins added runs g.
+      cut_more before old ins (held_in a) id added runs tolds g lits chain (lesson_adds a now.lits lits chain l none)
       (lesson_text a now id from lits chain r small l none) new part
 
   -- the line was written, and the clause is empty
-  pub lesson_refutes : lits ≡ [] → Takes old new (line_of (Add id (record { lits = lits }) chain))
-      → Refutes old new (held_in a) id
-  lesson_refutes empty takes = λ before ins added g.
-      refuted_more before old ins (held_in a) id added g lits chain (lesson_adds a now.lits lits chain l none)
-      (lesson_text a now id from lits chain r small l none) new (ap is_empty empty) takes
+  pub lesson_refutes : (turn : ℕ) (more_tolds : List (Option (List ℕ))) → TellsAt tolds more_tolds turn (vars_of lits)
+      → lits ≡ [] → Takes old new (line_of (Add id (record { lits = lits }) chain))
+      → Refutes old new tolds more_tolds (held_in a) id turn
+  lesson_refutes turn more_tolds tells empty takes = λ before ins added runs is_turn g.
+      refuted_more before old ins (held_in a) id added runs tolds g lits chain (lesson_adds a now.lits lits chain l none)
+      (lesson_text a now id from lits chain r small l none) turn is_turn more_tolds tells new (ap is_empty empty) takes
 
   -- the line was written, and the clause is held
-  pub lesson_goes : (more : Store) → clauses more ≡ clauses a ++ (id, lits) ∷ [] → 0 < length lits
-      → Takes old new (line_of (Add id (record { lits = lits }) chain)) → GoesOn old new (held_in a) (held_in more) id
-  lesson_goes more grown some takes = λ before ins added g.
-      going_more before old ins (held_in a) id added g lits chain (lesson_adds a now.lits lits chain l none)
-      (lesson_text a now id from lits chain r small l none) new (held_in more) (held_more a more id lits grown)
+  pub lesson_goes : (turn : ℕ) (more_tolds : List (Option (List ℕ))) → TellsAt tolds more_tolds turn (vars_of lits)
+      → (more : Store) → clauses more ≡ clauses a ++ (id, lits) ∷ [] → 0 < length lits
+      → Takes old new (line_of (Add id (record { lits = lits }) chain))
+      → GoesOn old new tolds more_tolds (held_in a) (held_in more) id turn
+  lesson_goes turn more_tolds tells more grown some takes = λ before ins added runs is_turn g.
+      going_more before old ins (held_in a) id added runs tolds g lits chain (lesson_adds a now.lits lits chain l none)
+      (lesson_text a now id from lits chain r small l none) turn is_turn more_tolds tells new (held_in more)
+      (held_more a more id lits grown)
       (not_empty lits some) takes
 
 -- values that were read off a trail agree with it
@@ -229,7 +243,9 @@ ready_start a now inputs next same trail kept below is is_next few = record {
   within = omega arith;
   below = subst (AreBelow a) (sym is_next) below;
   above = ap (λ (xs : List (ℕ × List Lit)). clause_numbered xs 0) is ∙ none_below 1 0 inputs (omega arith);
-  number = is_next ∙ ap (λ n. n + 1) (sym (ap length is ∙ length-numbered 1 inputs));
+  some = omega (arith, is_next);
+  number = (let all : length (clauses a) ≡ length inputs = ap length is ∙ length-numbered 1 inputs in
+      omega (arith, is_next));
   few = omega (arith, is_next);
 }
 
@@ -243,11 +259,12 @@ pub record AreInputs (vars : ℕ) (inputs : List Clause) : Type 0 where
 -- the log of the inputs, which an arena holds
 pub going_held : (before now : Option (List ℕ)) (vars : ℕ) (inputs : List Clause) (a : Store) (next : ℕ)
     → AreInputs vars inputs → clauses a ≡ numbered_from 1 inputs → next ≡ length inputs + 1
-    → Takes before now (log_text (input_entries 1 inputs)) → IsGoing before now inputs (held_in a) next 0
-going_held before now vars inputs a next may is is_next takes =
-    subst (λ (xs : List (ℕ × List Lit)). IsGoing before now inputs (clause_numbered xs) next 0) (sym is)
-    (going_start before now vars inputs next may.small (let h : length inputs < 2 ^ 63 = may.few in omega arith) may.below
-    is_next takes)
+    → (tolds : List (Option (List ℕ))) → AreUntold tolds
+    → Takes before now (log_text (input_entries 1 inputs)) → IsGoing before now inputs (held_in a) next 0 0 tolds
+going_held before now vars inputs a next may is is_next tolds untold takes =
+    subst (λ (xs : List (ℕ × List Lit)). IsGoing before now inputs (clause_numbered xs) next 0 0 tolds) (sym is)
+    (going_start before now vars inputs next may.small (let h : length inputs < 2 ^ 63 = may.few in omega arith)
+    may.below is_next tolds untold takes)
 
 -- the empty clause that follows from inputs has a text
 pub refuting_text : (vars id : ℕ) (inputs : List Clause) (lits : List Lit) (chain : List ℕ) → id ≡ length inputs + 1
@@ -273,27 +290,30 @@ module _ (vars id n : ℕ) (inputs : List Clause) (a : Store) (steps lits : List
   pub refuted_text : HasText (Add id (record { lits = lits }) chain)
   refuted_text = refuting_text vars id inputs lits chain is_next may.few may.small empty refuting
 
-  module _ (old new before : Option (List ℕ)) (budget : ℕ) (some : 1 ≤ budget)
-      (takes : Takes before old (log_text (input_entries 1 inputs))) where
-    start : IsGoing before old inputs (clause_numbered (numbered_from 1 inputs)) id 0
+  module _ (old new before : Option (List ℕ)) (budget : ℕ) (some : 1 ≤ budget) (tolds : List (Option (List ℕ)))
+      (untold : AreUntold tolds) (takes : Takes before old (log_text (input_entries 1 inputs))) where
+    start : IsGoing before old inputs (clause_numbered (numbered_from 1 inputs)) id 0 0 tolds
     start =
         going_start before old vars inputs id may.small (let h : length inputs < 2 ^ 63 = may.few in omega arith)
-        may.below is_next takes
+        may.below is_next tolds untold takes
 
     -- a front of the line was written
-    pub refuted_cut : TakesPart old new (line_of (Add id (record { lits = lits }) chain)) → IsCut before new inputs budget
+    pub refuted_cut : TakesPart old new (line_of (Add id (record { lits = lits }) chain))
+        → IsCut before new inputs budget
     refuted_cut part =
         cut_within before new inputs 1 budget some
-        (cut_more before old inputs (clause_numbered (numbered_from 1 inputs)) id 0 start lits chain refuting refuted_text
+        (cut_more before old inputs (clause_numbered (numbered_from 1 inputs)) id 0 0 tolds start lits chain refuting
+        refuted_text
         new part)
 
     -- the line was written
-    pub refuted_logged : Takes old new (line_of (Add id (record { lits = lits }) chain))
-        → IsLogged before new inputs budget Unsat
-    refuted_logged more =
-        logged_unsat before new inputs 1 budget some
-        (refuted_more before old inputs (clause_numbered (numbered_from 1 inputs)) id 0 start lits chain refuting
-        refuted_text new (ap is_empty empty) more)
+    pub refuted_done : (more_tolds : List (Option (List ℕ))) → TellsAt tolds more_tolds 0 (vars_of lits)
+        → Takes old new (line_of (Add id (record { lits = lits }) chain))
+        → IsDone before new inputs budget more_tolds Unsat
+    refuted_done more_tolds tells more =
+        done_unsat before new inputs 1 budget more_tolds some
+        (refuted_more before old inputs (clause_numbered (numbered_from 1 inputs)) id 0 0 tolds start lits chain refuting
+        refuted_text 0 (first_turn (length tolds)) more_tolds tells new (ap is_empty empty) more)
 
 -- values under which each input that is held is true satisfy the inputs
 pub sat_inputs : (a : Store) (inputs : List Clause) → clauses a ≡ numbered_from 1 inputs → (o : Outcome)

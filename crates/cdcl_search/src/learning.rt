@@ -1,6 +1,6 @@
 //! What a false clause teaches is logged, and then held.
 
-ghost use Rattle.std.specs.Prelude.{◌≡◌, ◌+◌, ◌≤◌, ◌^◌, [], None, IfOk, OnOk, OnErr, IfSome};
+ghost use Rattle.std.specs.Prelude.{◌≡◌, ◌+◌, ◌≤◌, ◌^◌, [], map, None, IfOk, OnOk, OnErr, IfSome};
 ghost use Rattle.mw_outside.specs.Faults.{Rose};
 ghost use Rattle.mw_outside.specs.Taken.{Takes, TakesPart};
 ghost use Rattle.resolution_check.specs.declared.log.Entry.{Entry};
@@ -10,51 +10,47 @@ ghost use Rattle.conflict_analysis.specs.Steps.{IsConflict};
 ghost use Rattle.watched_search.specs.Sets.{GivesSets};
 ghost use Rattle.cdcl_search.specs.Outcomes.{OnLogFault, UnlessLogFault};
 ghost use Rattle.cdcl_search.specs.Going.{Cuts, GoesOn, IsReady, Refutes};
+ghost use Rattle.cdcl_search.specs.Turns.{TellsAt, vars_of};
 
 use crate::logging::write_addition;
 use crate::outcome::SolveFault;
+use crate::turns::tell_at;
 use clause_arena::{Arena, ClauseRef};
 use conflict_analysis::Work;
 use deciders::Decider;
 use mw_outside::Sink;
-use resolution_check::Lit;
 use std::alloc::Global;
 use watched_search::{Assigned, assert_clause, learn};
 
-/// Tells a decider of an addition: its variables in their order, and that it was one.
-fn tell<D: Decider>(decider: &mut D, lits: &[Lit]) {
-    for lit in lits {
-        decider.bump(lit.var);
-    }
-    decider.decay();
-}
-
-/// Logs what was learnt under this number, and tells the decider of it.
-pub(crate) fn log_lesson<L: Sink, D: Decider>(
+/// Logs what was learnt under this number, and tells the decider whose turn it is.
+pub(crate) fn log_lesson<L: Sink>(
     alloc: Global,
     log: &mut L,
-    decider: &mut D,
+    deciders: &mut Vec<Box<dyn Decider>>,
+    turn: usize,
     id: u64,
     work: &Work,
 ) -> Result<(), SolveFault>
     requires { HasText (Entry.Add id (record { lits = work.now.lits }) work.now.chain) }
     ensures takes { OnOk result (Takes (L.taken log.old) (L.taken log.new) (line_of (Entry.Add id (record { lits = work.now.lits }) work.now.chain))) }
     ensures part { TakesPart (L.taken log.old) (L.taken log.new) (line_of (Entry.Add id (record { lits = work.now.lits }) work.now.chain)) }
+    ensures tells { OnOk result (TellsAt (map (λ b. told b) deciders.old.items) (map (λ b. told b) deciders.new.items) turn (vars_of work.now.lits)) }
     ensures fault { OnLogFault result (Rose (L.faults log.old) (L.faults log.new)) }
     ensures stays { UnlessLogFault result (L.faults log.new ≡ L.faults log.old) }
     ensures later { L.faults log.old ≤ L.faults log.new }
 {
     write_addition(alloc, log, id, work.clause(), work.chain())?;
-    tell(decider, work.clause());
+    tell_at(deciders, turn, work.clause());
     Ok(())
 }
 
 /// Learns from a false clause, logs the addition under this number, and holds it. Answers from which literal on is to be
 /// propagated; none where the addition is empty, which is not held.
-pub(crate) fn take_lesson<L: Sink, D: Decider>(
+pub(crate) fn take_lesson<L: Sink>(
     alloc: Global,
     log: &mut L,
-    decider: &mut D,
+    deciders: &mut Vec<Box<dyn Decider>>,
+    turn: usize,
     work: &mut Work,
     arena: &mut Arena,
     assigned: &mut Assigned,
@@ -69,15 +65,17 @@ pub(crate) fn take_lesson<L: Sink, D: Decider>(
     ensures vars { IfOk result (λ _. assigned.new.vars ≡ assigned.old.vars) }
     ensures ready { IfOk result (λ next. IfSome next (IsReady arena.new assigned.new (id + 1))) }
     ensures gives { IfOk result (λ next. IfSome next (λ _. GivesSets (held_in arena.old) (held_in arena.new))) }
-    ensures going { IfOk result (λ next. IfSome next (λ _. GoesOn (L.taken log.old) (L.taken log.new) (held_in arena.old) (held_in arena.new) id)) }
-    ensures refuted { IfOk result (λ next. next ≡ None → Refutes (L.taken log.old) (L.taken log.new) (held_in arena.old) id) }
-    ensures cut { OnErr result (Cuts (L.taken log.old) (L.taken log.new) (held_in arena.old) id) }
+    ensures going { IfOk result (λ next. IfSome next (λ _. GoesOn (L.taken log.old) (L.taken log.new)
+        (map (λ b. told b) deciders.old.items) (map (λ b. told b) deciders.new.items) (held_in arena.old) (held_in arena.new) id turn)) }
+    ensures refuted { IfOk result (λ next. next ≡ None → Refutes (L.taken log.old) (L.taken log.new)
+        (map (λ b. told b) deciders.old.items) (map (λ b. told b) deciders.new.items) (held_in arena.old) id turn) }
+    ensures cut { OnErr result (Cuts (L.taken log.old) (L.taken log.new) (map (λ b. told b) deciders.old.items) (held_in arena.old) id) }
     ensures fault { OnLogFault result (Rose (L.faults log.old) (L.faults log.new)) }
     ensures stays { UnlessLogFault result (L.faults log.new ≡ L.faults log.old) }
     ensures later { L.faults log.old ≤ L.faults log.new }
 {
     let back = learn(work, arena, assigned, 0, conflict);
-    log_lesson(alloc, log, decider, id, work)?;
+    log_lesson(alloc, log, deciders, turn, id, work)?;
     if work.clause().len() == 0 {
         return Ok(None);
     }

@@ -6,8 +6,12 @@ pub mod laws;
 mod learning;
 mod logging;
 mod outcome;
+mod reducing;
+mod scored;
 mod searching;
 mod solving;
+mod turns;
 
 pub use outcome::{Outcome, SolveFault};
+pub use scored::solve_by_score;
 pub use solving::solve;

@@ -123,3 +123,16 @@ pub(crate) fn write_addition<L: Sink>(
     let addition = addition_of(alloc, id, lits, chain)?;
     write_line(alloc, log, &addition)
 }
+
+/// Writes the deletion of the clause of this number.
+#[tactic(auto, using(mw_outside::specs::Taken::parts))]
+pub(crate) fn write_deletion<L: Sink>(alloc: Global, log: &mut L, id: u64) -> Result<(), SolveFault>
+    requires { HasText (Entry.Delete id) }
+    ensures takes { OnOk result (Takes (L.taken log.old) (L.taken log.new) (line_of (Entry.Delete id))) }
+    ensures part { TakesPart (L.taken log.old) (L.taken log.new) (line_of (Entry.Delete id)) }
+    ensures fault { OnLogFault result (Rose (L.faults log.old) (L.faults log.new)) }
+    ensures stays { UnlessLogFault result (L.faults log.new ≡ L.faults log.old) }
+    ensures later { L.faults log.old ≤ L.faults log.new }
+{
+    write_line(alloc, log, &Entry::Delete { id })
+}

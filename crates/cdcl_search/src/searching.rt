@@ -1,17 +1,19 @@
 //! From conflict to conflict, until an outcome.
 
-ghost use Rattle.std.specs.Prelude.{◌≡◌, ℕ, ◌+◌, ◌<◌, ◌≤◌, ◌^◌, true, List, Option, Some, IfOk, OnErr, length};
+ghost use Rattle.std.specs.Prelude.{◌≡◌, ℕ, ◌+◌, ◌<◌, ◌≤◌, ◌^◌, true, List, Option, Some, IfOk, OnErr, length, map};
 ghost use Rattle.term_store.specs.Terms.{truth};
 ghost use Rattle.resolution_check.specs.declared.log.Clause.{Clause};
 ghost use Rattle.resolution_check.specs.Entries.{clause_value};
 ghost use Rattle.resolution_check.specs.Trails.{is_value, value_of};
 ghost use Rattle.mw_outside.specs.Faults.{Rose};
 ghost use Rattle.clause_arena.specs.Held.{held_in};
-ghost use Rattle.cdcl_search.specs.Outcomes.{IsCut, IsLogged, OnLogFault, OnSat, OnUnknown, UnlessLogFault};
-ghost use Rattle.cdcl_search.specs.Going.{IsGoing, IsReady};
+ghost use Rattle.cdcl_search.specs.Outcomes.{IsCut, OnLogFault, OnSat, OnUnknown, UnlessLogFault};
+ghost use Rattle.cdcl_search.specs.Going.{IsDone, IsGoing, IsReady};
 
 use crate::learning::take_lesson;
 use crate::outcome::{Outcome, SolveFault};
+use crate::reducing::reduce;
+use crate::turns::turn_of;
 use clause_arena::Arena;
 use conflict_analysis::Work;
 use deciders::Decider;
@@ -39,10 +41,10 @@ fn values_of(alloc: Global, assigned: &Assigned) -> Result<List<bool>, AllocErro
 }
 
 /// Searches from the clauses held, until an outcome or until `budget` clauses were added, which are numbered from `first`.
-pub(crate) fn search<L: Sink, D: Decider>(
+pub(crate) fn search<L: Sink>(
     alloc: Global,
     log: &mut L,
-    decider: &mut D,
+    deciders: &mut Vec<Box<dyn Decider>>,
     work: &mut Work,
     arena: &mut Arena,
     assigned: &mut Assigned,
@@ -52,31 +54,38 @@ pub(crate) fn search<L: Sink, D: Decider>(
     requires work_vars { work.old.vars ≡ assigned.old.vars }
     requires small { assigned.old.vars ≤ 2 ^ 63 }
     requires ready { IsReady arena.old assigned.old first 0 }
-    ensures logged { IfOk result (λ outcome. (before : Option (List ℕ)) (ins : List Clause) →
-        IsGoing before (L.taken log.old) ins (held_in arena.old) first 0 → IsLogged before (L.taken log.new) ins budget outcome) }
+    ensures done { IfOk result (λ outcome. (before : Option (List ℕ)) (ins : List Clause) →
+        IsGoing before (L.taken log.old) ins (held_in arena.old) first 0 0 (map (λ b. told b) deciders.old.items)
+        → IsDone before (L.taken log.new) ins budget (map (λ b. told b) deciders.new.items) outcome) }
     ensures sat { IfOk result (λ outcome. OnSat outcome (λ values. (id : ℕ) (c : Clause) → held_in arena.old id ≡ Some c
         → clause_value (truth values) c.lits ≡ true)) }
     ensures values { IfOk result (λ outcome. OnSat outcome (λ values. length values ≡ assigned.old.vars)) }
     ensures unknown { IfOk result (λ outcome. OnUnknown outcome (λ added. added ≡ budget)) }
     ensures cut { OnErr result ((before : Option (List ℕ)) (ins : List Clause) →
-        IsGoing before (L.taken log.old) ins (held_in arena.old) first 0 → IsCut before (L.taken log.new) ins budget) }
+        IsGoing before (L.taken log.old) ins (held_in arena.old) first 0 0 (map (λ b. told b) deciders.old.items)
+        → IsCut before (L.taken log.new) ins budget) }
     ensures fault { OnLogFault result (Rose (L.faults log.old) (L.faults log.new)) }
     ensures stays { UnlessLogFault result (L.faults log.new ≡ L.faults log.old) }
     ensures later { L.faults log.old ≤ L.faults log.new }
 {
     let mut from = 0;
+    let mut runs = 0;
     for added in 0..budget {
-        let Some(conflict) = find_conflict(arena, assigned, decider, from) else {
+        let turn = turn_of(deciders.len(), added);
+        let Some(conflict) = find_conflict(arena, assigned, deciders, turn, from) else {
             totals_hold(arena, assigned);
             let values = values_of(alloc, assigned)?;
             return Ok(Outcome::Sat { values });
         };
         let id = first + added;
-        let Some(next) = take_lesson(alloc, log, decider, work, arena, assigned, id, conflict)?
+        let Some(next) = take_lesson(
+            alloc, log, deciders, turn, work, arena, assigned, id, conflict,
+        )?
         else {
             return Ok(Outcome::Unsat);
         };
         from = end_round(arena, assigned, next, added + 1);
+        runs = reduce(alloc, log, arena, assigned, first, added + 1, from, runs)?;
     }
     Ok(Outcome::Unknown { added: budget })
 }

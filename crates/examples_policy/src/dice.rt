@@ -1,19 +1,28 @@
-//! Numbers that look random, the same in every run, and lists of things.
+//! Numbers that look random, the same in every run, and what is made of them.
 
-ghost use Rattle.std.specs.Prelude.{◌≡◌, IfOk};
-
-use mw_text::{Addr, List, Prefix};
+use mw_text::{List, list_of};
 use std::alloc::{AllocError, Global};
 
-/// A linear congruential generator.
-#[derive(Clone, Copy)]
+/// A linear congruential generator, and whether memory was wanting for what was made.
+#[derive(Drop)]
 pub struct Dice {
+    alloc: Global,
     state: u64,
+    memory: Result<(), AllocError>,
 }
 
 impl Dice {
-    pub fn new(seed: u64) -> Dice {
-        Dice { state: seed }
+    pub fn new(alloc: Global, seed: u64) -> Dice {
+        Dice {
+            alloc,
+            state: seed,
+            memory: Ok(()),
+        }
+    }
+
+    /// Whether there was memory for all that was made.
+    pub fn memory(&self) -> Result<(), AllocError> {
+        self.memory
     }
 
     /// A number below `sides`, or 0 where that is 0.
@@ -36,23 +45,46 @@ impl Dice {
         let place = self.roll(count);
         from.get(place as usize).copied().unwrap_or(0)
     }
+
+    /// A list of nothing.
+    pub fn none<T: Drop>(&self) -> List<T> {
+        List::new(self.alloc)
+    }
+
+    /// Adds to a list, or keeps that memory was wanting.
+    pub fn add<T: Drop>(&mut self, list: &mut List<T>, item: T) {
+        let end = push(list, item);
+        if end.is_err() {
+            self.memory = end;
+        }
+    }
+
+    pub fn one<T: Drop>(&mut self, item: T) -> List<T> {
+        let mut list = self.none();
+        self.add(&mut list, item);
+        list
+    }
+
+    pub fn two<T: Drop>(&mut self, first: T, second: T) -> List<T> {
+        let mut list = self.none();
+        self.add(&mut list, first);
+        self.add(&mut list, second);
+        list
+    }
+
+    /// A name, or an empty one where memory was wanting.
+    pub fn name(&mut self, text: &str) -> List<u8> {
+        match list_of(self.alloc, text.as_bytes()) {
+            Ok(name) => name,
+            Err(wanting) => {
+                self.memory = Err(wanting);
+                self.none()
+            }
+        }
+    }
 }
 
-/// A list of these numbers.
-pub fn numbers(alloc: Global, items: &[u32]) -> Result<List<u32>, AllocError>
-    ensures { IfOk result (λ list. list ≡ items.now) }
-{
-    Ok(List {
-        items: Vec::from_slice(alloc, items)?,
-    })
-}
-
-/// A name.
-pub fn name(alloc: Global, bytes: &[u8]) -> Result<List<u8>, AllocError> {
-    mw_text::list_of(alloc, bytes)
-}
-
-/// The prefix of a length of an address by its octets.
-pub fn prefix(a: u8, b: u8, c: u8, d: u8, len: u8) -> Prefix {
-    mw_text::prefix_of(Addr(u32::from_be_bytes([a, b, c, d])), len)
+fn push<T: Drop>(list: &mut List<T>, item: T) -> Result<(), AllocError> {
+    list.items.push(item)?;
+    Ok(())
 }

@@ -1,115 +1,63 @@
-//! Random lists and maps as terms, against the plain answers.
+//! Random lists as terms, against the plain answers.
 
-ghost use Rattle.std.specs.Prelude.{◌≡◌, ℕ, ◌+◌, ◌<◌, ◌≤◌, IfOk, length};
-ghost use Rattle.term_store.specs.Terms.{size};
-ghost use Rattle.term_store.specs.Reading.{Grows};
-ghost use Rattle.term_arith.specs.Bits.{ids_end};
-ghost use Rattle.sym_policy.specs.Records.{packet_end};
+ghost use Rattle.std.specs.Prelude.{◌≤◌};
 
-use crate::dice::{Dice, name};
-use ios_ast::{AccessEntry, AccessList, Ports, PrefixEntry, PrefixList, Wild};
-use mw_text::{Addr, List, prefix_of};
+use crate::dice::Dice;
+use crate::fresh::fresh_packet;
+use crate::made::{ADDRESSES, MASKS, access, packet, prefixes};
+use ios_ast::{AccessList, PrefixList};
+use mw_text::{Addr, prefix_of};
 use policy_eval::{access_list, prefix_list};
 use route_record::Packet;
 use std::alloc::{AllocError, Global};
 use std::io;
-use sym_policy::{SymPacket, sym_access_list, sym_prefix_list};
+use sym_policy::{sym_access_list, sym_prefix_list};
 use term_arith::{fresh_bits, values_of};
 use term_store::{NodeId, Terms};
 
-/// Addresses and masks that often agree in part.
-const ADDRESSES: [u32; 6] = [0, 1, 0x0a00_0000, 0x0a01_0000, 0x0a01_0203, 0xffff_ffff];
-
-const MASKS: [u32; 6] = [0, 0xff, 0x0000_ffff, 0x00ff_00ff, 0xffff_fffe, 0xffff_ffff];
-
-const PORTS: [u32; 6] = [0, 1, 80, 1023, 1024, 65535];
-
-/// A packet of new variables.
-pub fn fresh_packet(alloc: Global, terms: &mut Terms) -> Result<SymPacket, AllocError>
-    ensures grows { Grows terms.old terms.new }
-    ensures within { IfOk result (λ r. packet_end r ≤ size terms.new) }
-{
-    let src = fresh_bits(alloc, terms, 32)?;
-    let dst = fresh_bits(alloc, terms, 32)?;
-    let proto = fresh_bits(alloc, terms, 8)?;
-    let sport = fresh_bits(alloc, terms, 16)?;
-    let dport = fresh_bits(alloc, terms, 16)?;
-    Ok(SymPacket {
-        src,
-        dst,
-        proto,
-        sport,
-        dport,
-    })
+/// Values of variables in their order. Want of memory is kept, and told where the values are taken.
+#[derive(Drop)]
+pub struct Values {
+    bits: Vec<bool>,
+    memory: Result<(), AllocError>,
 }
 
-fn port(dice: &mut Dice) -> u16 {
-    (dice.pick(&PORTS) % 65536) as u16
-}
+impl Values {
+    pub fn new(alloc: Global) -> Values {
+        Values {
+            bits: Vec::new(alloc),
+            memory: Ok(()),
+        }
+    }
 
-fn proto(dice: &mut Dice) -> u8 {
-    if dice.flip() { 6 } else { 17 }
-}
+    pub fn put(&mut self, value: bool) {
+        let end = push(&mut self.bits, value);
+        if end.is_err() {
+            self.memory = end;
+        }
+    }
 
-fn wild(dice: &mut Dice) -> Wild {
-    Wild {
-        addr: Addr(dice.pick(&ADDRESSES)),
-        wild: dice.pick(&MASKS),
+    /// The bits of a number, lowest first.
+    pub fn put_bits(&mut self, number: u32, width: u8) {
+        let mut rest = number;
+        for _ in 0..width {
+            self.put(rest % 2 == 1);
+            rest /= 2;
+        }
+    }
+
+    /// The values, or that memory was wanting for one.
+    pub fn taken(self) -> Result<Vec<bool>, AllocError> {
+        let Values { bits, memory } = self;
+        match memory {
+            Ok(()) => Ok(bits),
+            Err(wanting) => Err(wanting),
+        }
     }
 }
 
-fn ports(dice: &mut Dice) -> Ports {
-    match dice.roll(5) {
-        0 => Ports::Empty,
-        1 => Ports::Not(port(dice)),
-        2 => Ports::Range(port(dice), port(dice)),
-        _ => Ports::Any,
-    }
-}
-
-fn access_entry(dice: &mut Dice) -> AccessEntry {
-    let proto = if dice.flip() { Some(proto(dice)) } else { None };
-    AccessEntry {
-        line: 1,
-        permit: dice.flip(),
-        proto,
-        src: wild(dice),
-        sport: ports(dice),
-        dst: wild(dice),
-        dport: ports(dice),
-    }
-}
-
-pub fn access(alloc: Global, dice: &mut Dice) -> Result<AccessList, AllocError> {
-    let mut entries = List::new(alloc);
-    for _ in 0..6 {
-        entries.items.push(access_entry(dice))?;
-    }
-    Ok(AccessList {
-        name: name(alloc, b"101")?,
-        extended: true,
-        named: false,
-        entries,
-    })
-}
-
-fn packet(dice: &mut Dice) -> Packet {
-    Packet {
-        src: Addr(dice.pick(&ADDRESSES)),
-        dst: Addr(dice.pick(&ADDRESSES)),
-        proto: proto(dice),
-        sport: port(dice),
-        dport: port(dice),
-    }
-}
-
-/// The bits of a number, lowest first.
-pub fn push_bits(values: &mut Vec<bool>, number: u32, width: u8) -> Result<(), AllocError> {
-    let mut rest = number;
-    for _ in 0..width {
-        values.push(rest % 2 == 1)?;
-        rest /= 2;
-    }
+fn push(bits: &mut Vec<bool>, value: bool) -> Result<(), AllocError> {
+    bits.push(value)?;
     Ok(())
 }
 
@@ -128,13 +76,26 @@ fn value_at(
 }
 
 fn packet_values(alloc: Global, packet: &Packet) -> Result<Vec<bool>, AllocError> {
-    let mut values = Vec::new(alloc);
-    push_bits(&mut values, packet.src.0, 32)?;
-    push_bits(&mut values, packet.dst.0, 32)?;
-    push_bits(&mut values, u32::from(packet.proto), 8)?;
-    push_bits(&mut values, u32::from(packet.sport), 16)?;
-    push_bits(&mut values, u32::from(packet.dport), 16)?;
-    Ok(values)
+    let mut values = Values::new(alloc);
+    values.put_bits(packet.src.0, 32);
+    values.put_bits(packet.dst.0, 32);
+    values.put_bits(u32::from(packet.proto), 8);
+    values.put_bits(u32::from(packet.sport), 16);
+    values.put_bits(u32::from(packet.dport), 16);
+    values.taken()
+}
+
+/// Whether the node of a list has the list's answer for a packet.
+fn packet_agrees(
+    alloc: Global,
+    terms: &Terms,
+    node: NodeId,
+    list: &AccessList,
+    packet: &Packet,
+) -> Result<bool, AllocError> {
+    let values = packet_values(alloc, packet)?;
+    let value = value_at(alloc, terms, node, values.as_slice())?;
+    Ok(value == Some(access_list(list, packet)))
 }
 
 /// At how many of twenty packets the node of a list has the list's answer.
@@ -148,53 +109,58 @@ fn packets_agree(
     let mut agreed = 0u32;
     for _ in 0..20 {
         let packet = packet(dice);
-        let values = packet_values(alloc, &packet)?;
-        let value = value_at(alloc, terms, node, values.as_slice())?;
-        agreed = agreed.wrapping_add(u32::from(value == Some(access_list(list, &packet))));
+        let agrees = packet_agrees(alloc, terms, node, list, &packet)?;
+        agreed = agreed.wrapping_add(u32::from(agrees));
     }
     Ok(agreed)
 }
 
-/// At how many of twenty packets a list and its node agree.
+/// The node of a list over a packet of new variables.
+fn access_node(alloc: Global, terms: &mut Terms, list: &AccessList) -> Result<NodeId, AllocError> {
+    let packet = fresh_packet(alloc, terms)?;
+    sym_access_list(alloc, terms, list, &packet)
+}
+
+/// At how many of twenty packets a random list and its node agree.
 fn access_agrees(alloc: Global, dice: &mut Dice) -> Result<u32, AllocError> {
-    let list = access(alloc, dice)?;
+    let list = access(dice);
     let mut terms = Terms::new(alloc);
-    let packet = fresh_packet(alloc, &mut terms)?;
-    let node = sym_access_list(alloc, &mut terms, &list, &packet)?;
+    let node = access_node(alloc, &mut terms, &list)?;
     packets_agree(alloc, dice, &terms, node, &list)
 }
 
-/// At how many of 5,000 packets random access lists and their nodes agree.
-pub fn show_access_lists(rt: &(impl Print + AllocGlobal)) -> io::Result<()> {
-    let mut dice = Dice::new(1);
+/// At how many packets so many random access lists and their nodes agree, of twenty packets each.
+fn access_lists_agree(alloc: Global, seed: u64, count: u32) -> Result<u32, AllocError> {
+    let mut dice = Dice::new(alloc, seed);
     let mut agreed = 0u32;
-    for _ in 0..250 {
-        agreed = agreed.wrapping_add(access_agrees(rt.alloc(), &mut dice)?);
+    for _ in 0..count {
+        agreed = agreed.wrapping_add(access_agrees(alloc, &mut dice)?);
     }
-    println!(rt; "access lists and their terms: {agreed} of 5000 agree")
+    dice.memory()?;
+    Ok(agreed)
 }
 
-fn prefix_entry(dice: &mut Dice) -> PrefixEntry {
-    let len = (dice.roll(33) % 33) as u8;
-    PrefixEntry {
-        line: 1,
-        seq: dice.roll(4),
-        permit: dice.flip(),
-        prefix: prefix_of(Addr(dice.pick(&ADDRESSES)), len),
-        low: len,
-        high: 32,
-    }
+/// Prints that number.
+pub fn show_access_lists(rt: &(impl Print + AllocGlobal), seed: u64, count: u32) -> io::Result<()> {
+    let agreed = access_lists_agree(rt.alloc(), seed, count)?;
+    let of = u64::from(count) * 20;
+    println!(rt; "access lists and their terms: {agreed} of {of} agree")
 }
 
-pub fn prefixes(alloc: Global, dice: &mut Dice) -> Result<PrefixList, AllocError> {
-    let mut entries = List::new(alloc);
-    for _ in 0..5 {
-        entries.items.push(prefix_entry(dice))?;
-    }
-    Ok(PrefixList {
-        name: name(alloc, b"P")?,
-        entries,
-    })
+/// Whether the node of a list has the list's answer for the prefix of a length of an address.
+fn address_agrees(
+    alloc: Global,
+    terms: &Terms,
+    node: NodeId,
+    list: &PrefixList,
+    address: Addr,
+    len: u8,
+) -> Result<bool, AllocError> {
+    let mut values = Values::new(alloc);
+    values.put_bits(address.0, 32);
+    let values = values.taken()?;
+    let value = value_at(alloc, terms, node, values.as_slice())?;
+    Ok(value == Some(prefix_list(list, &prefix_of(address, len))))
 }
 
 /// At how many of twenty addresses the node of a list has the list's answer for their prefixes of a length.
@@ -208,24 +174,33 @@ fn addresses_agree(
 ) -> Result<u32, AllocError> {
     let mut agreed = 0u32;
     for _ in 0..20 {
-        let address = dice.pick(&ADDRESSES) ^ dice.pick(&MASKS);
-        let mut values = Vec::new(alloc);
-        push_bits(&mut values, address, 32)?;
-        let value = value_at(alloc, terms, node, values.as_slice())?;
-        let plain = prefix_list(list, &prefix_of(Addr(address), len));
-        agreed = agreed.wrapping_add(u32::from(value == Some(plain)));
+        let address = Addr(dice.pick(&ADDRESSES) ^ dice.pick(&MASKS));
+        let agrees = address_agrees(alloc, terms, node, list, address, len)?;
+        agreed = agreed.wrapping_add(u32::from(agrees));
     }
     Ok(agreed)
 }
 
-/// At how many of twenty addresses a list and its node agree.
+/// The node of a list over the prefix of a length of an address of new variables.
+fn prefix_node(
+    alloc: Global,
+    terms: &mut Terms,
+    list: &PrefixList,
+    len: u8,
+) -> Result<NodeId, AllocError>
+    requires { len ≤ 32 }
+{
+    let dst = fresh_bits(alloc, terms, 32)?;
+    sym_prefix_list(alloc, terms, list, &dst, len)
+}
+
+/// At how many of twenty addresses a random list and its node agree.
 fn prefixes_agree(alloc: Global, dice: &mut Dice, len: u8) -> Result<u32, AllocError>
     requires { len ≤ 32 }
 {
-    let list = prefixes(alloc, dice)?;
+    let list = prefixes(dice);
     let mut terms = Terms::new(alloc);
-    let dst = fresh_bits(alloc, &mut terms, 32)?;
-    let node = sym_prefix_list(alloc, &mut terms, &list, &dst, len)?;
+    let node = prefix_node(alloc, &mut terms, &list, len)?;
     addresses_agree(alloc, dice, &terms, node, &list, len)
 }
 
@@ -238,12 +213,20 @@ fn lengths_agree(alloc: Global, dice: &mut Dice) -> Result<u32, AllocError> {
     Ok(agreed)
 }
 
-/// At how many of 5,280 addresses random prefix lists and their nodes agree.
-pub fn show_prefix_lists(rt: &(impl Print + AllocGlobal)) -> io::Result<()> {
-    let mut dice = Dice::new(2);
+/// At how many addresses so many random prefix lists for each length and their nodes agree.
+fn prefix_lists_agree(alloc: Global, seed: u64, count: u32) -> Result<u32, AllocError> {
+    let mut dice = Dice::new(alloc, seed);
     let mut agreed = 0u32;
-    for _ in 0..8 {
-        agreed = agreed.wrapping_add(lengths_agree(rt.alloc(), &mut dice)?);
+    for _ in 0..count {
+        agreed = agreed.wrapping_add(lengths_agree(alloc, &mut dice)?);
     }
-    println!(rt; "prefix lists and their terms: {agreed} of 5280 agree")
+    dice.memory()?;
+    Ok(agreed)
+}
+
+/// Prints that number.
+pub fn show_prefix_lists(rt: &(impl Print + AllocGlobal), seed: u64, count: u32) -> io::Result<()> {
+    let agreed = prefix_lists_agree(rt.alloc(), seed, count)?;
+    let of = u64::from(count) * 660;
+    println!(rt; "prefix lists and their terms: {agreed} of {of} agree")
 }

@@ -1,8 +1,8 @@
 //! The decision process, import and export.
 
-use crate::networks::EDGE;
-use crate::shown::{network, show_address, show_route};
-use mw_text::{Addr, List, Prefix, prefix_of};
+use crate::shown::{show_address, show_route};
+use crate::words::{address, cut, number};
+use mw_text::{Addr, List, prefix_of};
 use net_model::Net;
 use proto_bgp::{Candidate, export, import, survivors};
 use route_record::{BgpMsg, BgpRec, Learnt, Origin};
@@ -10,7 +10,7 @@ use std::alloc::{AllocError, Global};
 use std::io;
 
 // A path of so many numbers.
-fn path_of(alloc: Global, count: usize, number: u32) -> Result<List<u32>, AllocError> {
+fn path_of(alloc: Global, count: u32, number: u32) -> Result<List<u32>, AllocError> {
     let mut path = List::new(alloc);
     for _ in 0..count {
         path.items.push(number)?;
@@ -33,123 +33,117 @@ fn learnt(alloc: Global, from: Addr, path: List<u32>, med: u32) -> BgpRec {
     }
 }
 
-fn candidate(alloc: Global, asn: u32, med: u32, peer_id: Addr) -> Result<Candidate, AllocError> {
-    let path = path_of(alloc, 1, asn)?;
+/// `AS MED IDENTIFIER`: a candidate with that AS as its path, from 192.0.2.2.
+pub fn candidate(alloc: Global, text: &str) -> Result<Candidate, AllocError> {
+    let (asn, rest) = cut(text);
+    let (med, peer_id) = cut(rest);
+    let path = path_of(alloc, 1, number(asn))?;
     Ok(Candidate {
-        rec: learnt(alloc, Addr(0xc000_0202), path, med),
+        rec: learnt(alloc, Addr(0xc000_0202), path, number(med)),
         external: true,
         cost: 0,
-        peer_id,
+        peer_id: address(peer_id),
     })
 }
 
-// Three candidates of which pairs would go round.
-fn show_decision(rt: &(impl Print + AllocGlobal)) -> io::Result<()> {
-    let alloc: Global = rt.alloc();
-    let three = [
-        candidate(alloc, 65_001, 10, Addr(0x0303_0303))?,
-        candidate(alloc, 65_002, 5, Addr(0x0202_0202))?,
-        candidate(alloc, 65_001, 20, Addr(0x0101_0101))?,
-    ];
-    for (always, identifiers) in [(false, true), (false, false), (true, false)] {
-        let left = survivors(alloc, always, identifiers, &three)?;
-        print!(rt; "always {always} identifiers {identifiers}:")?;
-        for place in left.as_slice() {
-            print!(rt; " {place}")?;
-        }
-        println!(rt; "")?;
+fn show_places(rt: &impl Print, places: &[u64]) -> io::Result<()> {
+    for place in places {
+        print!(rt; " {place}")?;
     }
-    Ok(())
+    println!(rt; "")
 }
 
-fn message(alloc: Global, path: List<u32>, next_hop: Addr, originator: Option<Addr>) -> BgpMsg {
-    BgpMsg {
+/// `ALWAYS IDENTIFIERS`: which of the candidates are left, where MEDs are always compared or not, and identifiers or not.
+pub fn show_survivors(
+    rt: &(impl Print + AllocGlobal),
+    candidates: &[Candidate],
+    text: &str,
+) -> io::Result<()> {
+    let (always, identifiers) = cut(text);
+    let by_id = identifiers == "true";
+    let left = survivors(rt.alloc(), always == "true", by_id, candidates)?;
+    print!(rt; "always {always} identifiers {identifiers}:")?;
+    show_places(rt, left.as_slice())
+}
+
+// `LENGTH AS NEXT-HOP ORIGINATOR`, and what follows it. An originator that is no address is none.
+fn message(alloc: Global, text: &str) -> Result<BgpMsg, AllocError> {
+    let (len, rest) = cut(text);
+    let (asn, rest) = cut(rest);
+    let (next_hop, rest) = cut(rest);
+    let (originator, _) = cut(rest);
+    Ok(BgpMsg {
         local_pref: None,
-        path,
+        path: path_of(alloc, number(len), number(asn))?,
         origin: Origin::Igp,
         med: None,
         communities: List::new(alloc),
-        next_hop,
-        originator,
+        next_hop: address(next_hop),
+        originator: mw_text::read_addr(originator.as_bytes()),
         clusters: List::new(alloc),
-    }
+    })
 }
 
-fn show_import(
-    rt: &(impl Print + AllocGlobal),
-    name: &str,
-    net: &Net,
-    end: u32,
-    msg: &BgpMsg,
-) -> io::Result<()> {
+// The route to 203.0.113.0/24 that the end of a session takes from a message.
+fn imported(alloc: Global, net: &Net, end: u32, text: &str) -> Result<Option<BgpRec>, AllocError> {
     if end as usize >= net.ends().len() {
-        return Ok(());
+        return Ok(None);
     }
-    let p = prefix_of(Addr(0xcb00_7100), 24);
-    print!(rt; "{name}:")?;
-    match import(rt.alloc(), net, end, &p, msg)? {
+    let msg = message(alloc, text)?;
+    import(alloc, net, end, &prefix_of(Addr(0xcb00_7100), 24), &msg)
+}
+
+fn show_imported(rt: &impl Print, rec: &Option<BgpRec>) -> io::Result<()> {
+    match rec {
         None => println!(rt; " none"),
-        Some(rec) => show_route(rt, &rec),
+        Some(rec) => show_route(rt, rec),
     }
 }
 
-fn show_imports(rt: &(impl Print + AllocGlobal), net: &Net) -> io::Result<()> {
-    let alloc: Global = rt.alloc();
-    let peer = Addr(0xc000_0202);
-    let inside = Addr(0x0aff_0002);
-    let longest = message(alloc, path_of(alloc, 255, 65_001)?, peer, None);
-    show_import(rt, "a path of 255", net, 0, &longest)?;
-    let too_long = message(alloc, path_of(alloc, 256, 65_001)?, peer, None);
-    show_import(rt, "a path of 256", net, 0, &too_long)?;
-    let own_as = message(alloc, path_of(alloc, 1, 65_000)?, peer, None);
-    show_import(rt, "the own AS", net, 0, &own_as)?;
-    let own = Some(Addr(0x0aff_0001));
-    let reflected = message(alloc, path_of(alloc, 1, 65_001)?, inside, own);
-    show_import(rt, "the own originator", net, 1, &reflected)?;
-    let other = Some(Addr(0x0aff_0009));
-    let foreign = message(alloc, path_of(alloc, 1, 65_001)?, inside, other);
-    show_import(rt, "another originator", net, 1, &foreign)
+/// `END NAME: LENGTH AS NEXT-HOP ORIGINATOR`: what the end of a session takes from a message.
+pub fn show_import(rt: &(impl Print + AllocGlobal), net: &Net, text: &str) -> io::Result<()> {
+    let (end, rest) = cut(text);
+    let (name, sent) = rest.split_once(": ").unwrap_or((rest, ""));
+    print!(rt; "{name}:")?;
+    let rec = imported(rt.alloc(), net, number(end), sent)?;
+    show_imported(rt, &rec)
 }
 
-fn show_export(
-    rt: &(impl Print + AllocGlobal),
-    name: &str,
-    net: &Net,
-    end: u32,
-    p: &Prefix,
-    held: &BgpRec,
-) -> io::Result<()> {
+// `LENGTH AS PEER`: a route that was learnt from a peer.
+fn held(alloc: Global, text: &str) -> Result<BgpRec, AllocError> {
+    let (len, rest) = cut(text);
+    let (asn, from) = cut(rest);
+    let path = path_of(alloc, number(len), number(asn))?;
+    Ok(learnt(alloc, address(from), path, 0))
+}
+
+// What is sent of a route to 203.0.113.0/24 at the end of a session.
+fn exported(alloc: Global, net: &Net, end: u32, text: &str) -> Result<Option<BgpMsg>, AllocError> {
     if end as usize >= net.ends().len() {
-        return Ok(());
+        return Ok(None);
     }
-    print!(rt; "{name}:")?;
-    match export(rt.alloc(), net, end, p, held)? {
+    let held = held(alloc, text)?;
+    export(alloc, net, end, &prefix_of(Addr(0xcb00_7100), 24), &held)
+}
+
+fn show_sent(rt: &impl Print, sent: &BgpMsg) -> io::Result<()> {
+    print!(rt; " path of {}", sent.path.as_slice().len())?;
+    show_address(rt, "next hop", sent.next_hop)?;
+    println!(rt; "")
+}
+
+fn show_exported(rt: &impl Print, sent: &Option<BgpMsg>) -> io::Result<()> {
+    match sent {
         None => println!(rt; " none"),
-        Some(sent) => {
-            print!(rt; " path of {}", sent.path.as_slice().len())?;
-            show_address(rt, "next hop", sent.next_hop)?;
-            println!(rt; "")
-        }
+        Some(sent) => show_sent(rt, sent),
     }
 }
 
-fn show_exports(rt: &(impl Print + AllocGlobal), net: &Net) -> io::Result<()> {
-    let alloc: Global = rt.alloc();
-    let p = prefix_of(Addr(0xcb00_7100), 24);
-    let outside = learnt(alloc, Addr(0xc000_0202), path_of(alloc, 255, 65_001)?, 0);
-    show_export(rt, "back over its session", net, 0, &p, &outside)?;
-    show_export(rt, "to the inside", net, 1, &p, &outside)?;
-    let inside = learnt(alloc, Addr(0x0aff_0002), path_of(alloc, 255, 65_009)?, 0);
-    show_export(rt, "to the outside", net, 0, &p, &inside)?;
-    show_export(rt, "from inside to inside", net, 1, &p, &inside)
-}
-
-/// Prints the cases of BGP.
-pub fn show_bgp(rt: &(impl Print + AllocGlobal)) -> io::Result<()> {
-    show_decision(rt)?;
-    if let Some(net) = network(rt.alloc(), &EDGE)? {
-        show_imports(rt, &net)?;
-        show_exports(rt, &net)?;
-    }
-    Ok(())
+/// `END NAME: LENGTH AS PEER`: what is sent of a route that was learnt from a peer.
+pub fn show_export(rt: &(impl Print + AllocGlobal), net: &Net, text: &str) -> io::Result<()> {
+    let (end, rest) = cut(text);
+    let (name, held) = rest.split_once(": ").unwrap_or((rest, ""));
+    print!(rt; "{name}:")?;
+    let sent = exported(rt.alloc(), net, number(end), held)?;
+    show_exported(rt, &sent)
 }

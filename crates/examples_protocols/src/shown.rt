@@ -1,37 +1,8 @@
-//! Reads networks and prints what routers hold.
+//! Prints what routers hold.
 
-use ios_reader::read_file;
-use mw_text::{Addr, List};
-use net_model::{Net, keep_limits};
-use route_record::{BgpRec, Failures, OspfRec, RibEntry};
-use std::alloc::Global;
+use mw_text::Addr;
+use route_record::{BgpRec, OspfRec, RibEntry};
 use std::io;
-
-/// The network of some texts. None where it is refused.
-pub fn network(alloc: Global, texts: &[&str]) -> io::Result<Option<Net>> {
-    let mut files = List::new(alloc);
-    for text in texts {
-        if text.len() > 100_000 {
-            return Ok(None);
-        }
-        match read_file(alloc, text.as_bytes()) {
-            Ok(file) => files.items.push(file)?,
-            Err(_) => return Ok(None),
-        }
-    }
-    if !keep_limits(files.as_slice()) {
-        return Ok(None);
-    }
-    Ok(Net::build(alloc, files).ok())
-}
-
-/// These links have failed.
-pub fn failed(alloc: Global, links: &[u32]) -> io::Result<Failures> {
-    let items = links.to_vec(alloc)?;
-    Ok(Failures {
-        links: List { items },
-    })
-}
 
 /// Prints an address after a word.
 pub fn show_address(rt: &impl Print, word: &str, address: Addr) -> io::Result<()> {

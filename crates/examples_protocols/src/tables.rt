@@ -1,12 +1,11 @@
 //! What a router takes from its own table, and the entry of least distance.
 
-use crate::networks::BORDER;
-use crate::shown::{failed, network, show_entry, show_records, show_route};
-use mw_text::{Addr, Prefix, prefix_of};
+use crate::shown::{show_entry, show_records, show_route};
+use crate::words::{cut, number, prefix};
+use mw_text::Prefix;
 use net_model::Net;
 use proto_rib::{best_entry, originate, redistribute};
-use route_record::{OspfKind, OspfRec, RibEntry, RibSource, Slot};
-use std::alloc::Global;
+use route_record::{BgpRec, Failures, OspfKind, OspfRec, RibEntry, RibSource, Slot};
 use std::io;
 
 fn connected() -> Slot {
@@ -20,25 +19,45 @@ fn connected() -> Slot {
     }
 }
 
-fn show_taken(
-    rt: &(impl Print + AllocGlobal),
-    name: &str,
-    net: &Net,
-    p: &Prefix,
-) -> io::Result<()> {
-    let alloc: Global = rt.alloc();
-    let slot = connected();
-    let records = redistribute(alloc, net, 0, p, &slot)?;
-    show_records(rt, name, records.as_slice())?;
-    for rec in originate(alloc, net, 0, p, &slot)?.as_slice() {
+fn show_routes(rt: &impl Print, routes: &[BgpRec]) -> io::Result<()> {
+    for rec in routes {
         show_route(rt, rec)?;
     }
     Ok(())
 }
 
-fn show_entries(rt: &(impl Print + AllocGlobal), net: &Net) -> io::Result<()> {
-    let none = failed(rt.alloc(), &[])?;
-    let slot = Slot {
+fn show_into_ospf(
+    rt: &(impl Print + AllocGlobal),
+    net: &Net,
+    router: u32,
+    p: &Prefix,
+    name: &str,
+) -> io::Result<()> {
+    let records = redistribute(rt.alloc(), net, router, p, &connected())?;
+    show_records(rt, name, records.as_slice())
+}
+
+fn show_into_bgp(
+    rt: &(impl Print + AllocGlobal),
+    net: &Net,
+    router: u32,
+    p: &Prefix,
+) -> io::Result<()> {
+    let routes = originate(rt.alloc(), net, router, p, &connected())?;
+    show_routes(rt, routes.as_slice())
+}
+
+/// `ROUTER PREFIX NAME`: what OSPF and BGP take of a connected route.
+pub fn show_taken(rt: &(impl Print + AllocGlobal), net: &Net, text: &str) -> io::Result<()> {
+    let (router, rest) = cut(text);
+    let (to, name) = cut(rest);
+    let p = prefix(to);
+    show_into_ospf(rt, net, number(router), &p, name)?;
+    show_into_bgp(rt, net, number(router), &p)
+}
+
+fn internal() -> Slot {
+    Slot {
         ospf: Some(OspfRec {
             kind: OspfKind::Internal,
             metric: 0,
@@ -46,44 +65,26 @@ fn show_entries(rt: &(impl Print + AllocGlobal), net: &Net) -> io::Result<()> {
         }),
         bgp: None,
         rib: None,
-    };
-    let default = prefix_of(Addr(0), 0);
-    let loopback = prefix_of(Addr(0x0a09_0003), 32);
-    let subnet = prefix_of(Addr(0x0a14_0000), 24);
-    show_entry(
-        rt,
-        "a static default",
-        best_entry(net, &none, 0, &default, &slot, false),
-    )?;
-    show_entry(
-        rt,
-        "an OSPF route",
-        best_entry(net, &none, 0, &loopback, &slot, false),
-    )?;
-    show_entry(
-        rt,
-        "an own origin",
-        best_entry(net, &none, 0, &loopback, &slot, true),
-    )?;
-    show_entry(
-        rt,
-        "a connected subnet",
-        best_entry(net, &none, 0, &subnet, &slot, false),
-    )
+    }
 }
 
-/// Prints the cases of the routing table.
-pub fn show_tables(rt: &(impl Print + AllocGlobal)) -> io::Result<()> {
-    let Some(net) = network(rt.alloc(), &BORDER)? else {
-        return Ok(());
-    };
-    show_taken(
-        rt,
-        "a network of class C",
-        &net,
-        &prefix_of(Addr(0xc000_0200), 24),
-    )?;
-    show_taken(rt, "a subnet", &net, &prefix_of(Addr(0x0a14_0000), 24))?;
-    show_taken(rt, "the default route", &net, &prefix_of(Addr(0), 0))?;
-    show_entries(rt, &net)
+/// `ROUTER PREFIX OWN NAME`: the entry of a router with an internal OSPF route, which is its own origin or not.
+pub fn show_best(
+    rt: &(impl Print + AllocGlobal),
+    net: &Net,
+    failures: &Failures,
+    text: &str,
+) -> io::Result<()> {
+    let (router, rest) = cut(text);
+    let (to, rest) = cut(rest);
+    let (own, name) = cut(rest);
+    let found = best_entry(
+        net,
+        failures,
+        number(router),
+        &prefix(to),
+        &internal(),
+        own == "own",
+    );
+    show_entry(rt, name, found)
 }

@@ -5,39 +5,51 @@ use ios_reader::read_file;
 use mw_text::List;
 use net_model::{Net, keep_limits};
 use std::alloc::{AllocError, Global};
+use std::mem;
 
-// A router with a peer in another AS that is up, one that is shut down, and one in its own AS.
-const A: &str =
-    "hostname A\ninterface GigabitEthernet0/0\n ip address 192.0.2.1 255.255.255.252\ninterface GigabitEthernet0/1\n ip address 10.0.0.1 255.255.255.252\ninterface Serial0/0\n ip address 198.51.100.1 255.255.255.252\ninterface Loopback0\nrouter bgp 65000\n neighbor 192.0.2.2 remote-as 65001\n neighbor 10.0.0.2 remote-as 65000\n neighbor 198.51.100.2 remote-as 65002\n neighbor 198.51.100.2 shutdown\n";
+/// The lines of the next router, and the routers so far.
+#[derive(Drop)]
+pub struct Routers {
+    text: String,
+    files: List<File>,
+}
 
-// Its last neighbour is on none of its subnets.
-const B: &str =
-    "hostname B\ninterface GigabitEthernet0/1\n ip address 10.0.0.2 255.255.255.252\ninterface Loopback0\n ip address 10.2.0.1 255.255.255.255\nrouter bgp 65000\n neighbor 10.0.0.1 remote-as 65000\n neighbor 203.0.113.9 remote-as 65003\n";
-
-const TO: &str = "hostname to\n";
-
-const VIA: &str = "hostname via\n";
-
-const IN: &str = "hostname in\ninterface Loopback0\n";
-
-fn add_file(alloc: Global, files: &mut List<File>, text: &str) -> Result<(), AllocError> {
-    if text.len() > 1_000_000 {
-        return Ok(());
+impl Routers {
+    pub fn new(alloc: Global) -> Routers {
+        Routers {
+            text: String::new(alloc),
+            files: List::new(alloc),
+        }
     }
-    if let Ok(file) = read_file(alloc, text.as_bytes()) {
-        files.items.push(file)?;
+}
+
+/// Adds a line of the next router.
+pub fn add_line(routers: &mut Routers, line: &str) -> Result<(), AllocError> {
+    routers.text.push_str(line)?;
+    routers.text.push_str("\n")
+}
+
+/// Reads the lines so far as a router's. One that is refused is left out.
+pub fn end_router(alloc: Global, routers: &mut Routers) -> Result<(), AllocError> {
+    if routers.text.len() <= 1_000_000 {
+        if let Ok(file) = read_file(alloc, routers.text.as_bytes()) {
+            routers.files.items.push(file)?;
+        }
     }
+    routers.text.clear();
     Ok(())
 }
 
+fn build(alloc: Global, files: List<File>) -> Option<Net> {
+    if keep_limits(files.as_slice()) {
+        Net::build(alloc, files).ok()
+    } else {
+        None
+    }
+}
+
 /// The network of these routers. None where they form none.
-pub fn network_of(alloc: Global) -> Result<Option<Net>, AllocError> {
-    let mut files: List<File> = List::new(alloc);
-    for text in [A, B, TO, VIA, IN] {
-        add_file(alloc, &mut files, text)?;
-    }
-    if !keep_limits(files.as_slice()) {
-        return Ok(None);
-    }
-    Ok(Net::build(alloc, files).ok())
+pub fn network_of(alloc: Global, routers: &mut Routers) -> Option<Net> {
+    let files = mem::replace(&mut routers.files, List::new(alloc));
+    build(alloc, files)
 }

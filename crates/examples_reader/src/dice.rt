@@ -6,18 +6,40 @@ use std::alloc::{AllocError, Global};
 /// How many lines a block has room for behind its first, for what keeps no line of its own.
 const ROOM: u32 = 10;
 
-/// A linear congruential generator, and the last line that is taken.
-#[derive(Clone, Copy)]
+/// A linear congruential generator, the last line that is taken, and whether memory was wanting.
+#[derive(Drop)]
 pub struct Maker {
+    alloc: Global,
     state: u64,
     line: u32,
+    memory: Result<(), AllocError>,
 }
 
 impl Maker {
-    pub fn new(seed: u32) -> Maker {
+    pub fn new(alloc: Global, seed: u32) -> Maker {
         Maker {
+            alloc,
             state: u64::from(seed),
             line: 0,
+            memory: Ok(()),
+        }
+    }
+
+    /// Whether there was memory for all that was made.
+    pub fn memory(&self) -> Result<(), AllocError> {
+        self.memory
+    }
+
+    /// A list of nothing.
+    pub fn none<T: Drop>(&self) -> List<T> {
+        List::new(self.alloc)
+    }
+
+    /// Adds to a list, or keeps that memory was wanting.
+    pub fn add<T: Drop>(&mut self, list: &mut List<T>, item: T) {
+        let end = push(list, item);
+        if end.is_err() {
+            self.memory = end;
         }
     }
 
@@ -79,14 +101,29 @@ impl Maker {
     }
 
     /// A name of one of five things that begins so.
-    pub fn name(&mut self, alloc: Global, first: &str) -> Result<List<u8>, AllocError> {
+    pub fn name(&mut self, first: &str) -> List<u8> {
         let number = self.roll(5);
-        numbered(alloc, first, number)
+        self.numbered(first, number)
+    }
+
+    /// A name with a number, or an empty one where memory was wanting.
+    pub fn numbered(&mut self, first: &str, number: u32) -> List<u8> {
+        match numbered(self.alloc, first, number) {
+            Ok(name) => name,
+            Err(wanting) => {
+                self.memory = Err(wanting);
+                self.none()
+            }
+        }
     }
 }
 
-/// A name with a number.
-pub fn numbered(alloc: Global, first: &str, number: u32) -> Result<List<u8>, AllocError> {
+fn push<T: Drop>(list: &mut List<T>, item: T) -> Result<(), AllocError> {
+    list.items.push(item)?;
+    Ok(())
+}
+
+fn numbered(alloc: Global, first: &str, number: u32) -> Result<List<u8>, AllocError> {
     let name = format!(in alloc; "{first}{number}")?;
     list_of(alloc, name.as_bytes())
 }

@@ -1,6 +1,6 @@
 //! Files of random interfaces, routes and routing processes.
 
-use crate::dice::{Maker, numbered};
+use crate::dice::Maker;
 use crate::made_policies::policies;
 use ios_ast::{
     Bgp, BgpNet, DefaultOrigin, File, IfAddr, Iface, Neighbour, Ospf, OspfNet, Redist, Source,
@@ -10,39 +10,39 @@ use mw_text::{Addr, List};
 use std::alloc::{AllocError, Global};
 
 /// A use of something with a name that begins so, on a line of its own.
-fn used(alloc: Global, maker: &mut Maker, first: &str) -> Result<Use, AllocError> {
+fn used(maker: &mut Maker, first: &str) -> Use {
     let line = maker.line();
-    used_at(alloc, maker, first, line)
+    used_at(maker, first, line)
 }
 
-fn used_at(alloc: Global, maker: &mut Maker, first: &str, line: u32) -> Result<Use, AllocError> {
-    let name = maker.name(alloc, first)?;
-    Ok(Use { line, name })
+fn used_at(maker: &mut Maker, first: &str, line: u32) -> Use {
+    let name = maker.name(first);
+    Use { line, name }
 }
 
-fn maybe_used(alloc: Global, maker: &mut Maker, first: &str) -> Result<Option<Use>, AllocError> {
+fn maybe_used(maker: &mut Maker, first: &str) -> Option<Use> {
     if maker.flip() {
-        Ok(Some(used(alloc, maker, first)?))
+        Some(used(maker, first))
     } else {
-        Ok(None)
+        None
     }
 }
 
-fn maybe_map(alloc: Global, maker: &mut Maker, line: u32) -> Result<Option<Use>, AllocError> {
+fn maybe_map(maker: &mut Maker, line: u32) -> Option<Use> {
     if maker.flip() {
-        Ok(Some(used_at(alloc, maker, "M", line)?))
+        Some(used_at(maker, "M", line))
     } else {
-        Ok(None)
+        None
     }
 }
 
-fn uses(alloc: Global, maker: &mut Maker, first: &str) -> Result<List<Use>, AllocError> {
-    let mut uses = List::new(alloc);
+fn uses(maker: &mut Maker, first: &str) -> List<Use> {
+    let mut uses = maker.none();
     for _use in 0..maker.roll(3) {
-        let one = used(alloc, maker, first)?;
-        uses.items.push(one)?;
+        let one = used(maker, first);
+        maker.add(&mut uses, one);
     }
-    Ok(uses)
+    uses
 }
 
 fn maybe_number(maker: &mut Maker, low: u32, high: u32) -> Option<u32> {
@@ -78,60 +78,60 @@ fn maybe_address(maker: &mut Maker) -> Option<IfAddr> {
     }
 }
 
-fn interface(alloc: Global, maker: &mut Maker, number: u32) -> Result<Iface, AllocError> {
-    Ok(Iface {
+fn interface(maker: &mut Maker, number: u32) -> Iface {
+    Iface {
         line: maker.block(),
-        name: numbered(alloc, kind(number), number)?,
+        name: maker.numbered(kind(number), number),
         shutdown: maker.flip(),
         bandwidth: maker.within(1, 10_000_000),
         cost: maybe_number(maker, 1, 65_535),
         address: maybe_address(maker),
-        list_in: maybe_used(alloc, maker, "A")?,
-        list_out: maybe_used(alloc, maker, "10")?,
-    })
-}
-
-fn interfaces(alloc: Global, maker: &mut Maker) -> Result<List<Iface>, AllocError> {
-    let mut interfaces = List::new(alloc);
-    for number in 0..maker.roll(8) {
-        let iface = interface(alloc, maker, number)?;
-        interfaces.items.push(iface)?;
+        list_in: maybe_used(maker, "A"),
+        list_out: maybe_used(maker, "10"),
     }
-    Ok(interfaces)
 }
 
-fn via(alloc: Global, maker: &mut Maker, line: u32) -> Result<Via, AllocError> {
+fn interfaces(maker: &mut Maker) -> List<Iface> {
+    let mut interfaces = maker.none();
+    for number in 0..maker.roll(8) {
+        let iface = interface(maker, number);
+        maker.add(&mut interfaces, iface);
+    }
+    interfaces
+}
+
+fn via(maker: &mut Maker, line: u32) -> Via {
     match maker.roll(3) {
-        0 => Ok(Via::Null0),
-        1 => Ok(Via::Next(maker.address())),
+        0 => Via::Null0,
+        1 => Via::Next(maker.address()),
         _ => {
-            let leaving = used_at(alloc, maker, "Serial0/", line)?;
-            Ok(Via::Out(leaving, maker.address()))
+            let leaving = used_at(maker, "Serial0/", line);
+            Via::Out(leaving, maker.address())
         }
     }
 }
 
-fn route(alloc: Global, maker: &mut Maker) -> Result<StaticRoute, AllocError> {
+fn route(maker: &mut Maker) -> StaticRoute {
     let line = maker.line();
-    Ok(StaticRoute {
+    StaticRoute {
         line,
         prefix: maker.prefix(),
-        via: via(alloc, maker, line)?,
+        via: via(maker, line),
         distance: (maker.within(1, 255) % 256) as u8,
-    })
-}
-
-fn routes(alloc: Global, maker: &mut Maker) -> Result<List<StaticRoute>, AllocError> {
-    let mut routes = List::new(alloc);
-    for _route in 0..maker.roll(4) {
-        let route = route(alloc, maker)?;
-        routes.items.push(route)?;
     }
-    Ok(routes)
 }
 
-fn ospf_networks(alloc: Global, maker: &mut Maker) -> Result<List<OspfNet>, AllocError> {
-    let mut networks = List::new(alloc);
+fn routes(maker: &mut Maker) -> List<StaticRoute> {
+    let mut routes = maker.none();
+    for _route in 0..maker.roll(4) {
+        let route = route(maker);
+        maker.add(&mut routes, route);
+    }
+    routes
+}
+
+fn ospf_networks(maker: &mut Maker) -> List<OspfNet> {
+    let mut networks = maker.none();
     for _network in 0..maker.roll(3) {
         let network = OspfNet {
             line: maker.line(),
@@ -139,20 +139,20 @@ fn ospf_networks(alloc: Global, maker: &mut Maker) -> Result<List<OspfNet>, Allo
             wild: maker.large(),
             area: maker.roll(u32::MAX),
         };
-        networks.items.push(network)?;
+        maker.add(&mut networks, network);
     }
-    Ok(networks)
+    networks
 }
 
 /// Routes that come into OSPF.
-fn into_ospf(alloc: Global, maker: &mut Maker) -> Result<Redist, AllocError> {
+fn into_ospf(maker: &mut Maker) -> Redist {
     let line = maker.line();
     let source = match maker.roll(3) {
         0 => Source::Connected,
         1 => Source::Static,
         _ => Source::Bgp(maker.large()),
     };
-    Ok(Redist {
+    Redist {
         line,
         source,
         metric: maybe_number(maker, 0, 16_777_214),
@@ -161,17 +161,17 @@ fn into_ospf(alloc: Global, maker: &mut Maker) -> Result<Redist, AllocError> {
         internal: true,
         ext1: false,
         ext2: false,
-        map: maybe_map(alloc, maker, line)?,
-    })
+        map: maybe_map(maker, line),
+    }
 }
 
-fn all_into_ospf(alloc: Global, maker: &mut Maker) -> Result<List<Redist>, AllocError> {
-    let mut all = List::new(alloc);
+fn all_into_ospf(maker: &mut Maker) -> List<Redist> {
+    let mut all = maker.none();
     for _line in 0..maker.roll(4) {
-        let redist = into_ospf(alloc, maker)?;
-        all.items.push(redist)?;
+        let redist = into_ospf(maker);
+        maker.add(&mut all, redist);
     }
-    Ok(all)
+    all
 }
 
 fn maybe_default(maker: &mut Maker) -> Option<DefaultOrigin> {
@@ -187,51 +187,51 @@ fn maybe_default(maker: &mut Maker) -> Option<DefaultOrigin> {
     }
 }
 
-fn ospf(alloc: Global, maker: &mut Maker) -> Result<Ospf, AllocError> {
-    Ok(Ospf {
+fn ospf(maker: &mut Maker) -> Ospf {
+    Ospf {
         line: maker.block(),
         process: maker.within(1, 65_535),
-        networks: ospf_networks(alloc, maker)?,
+        networks: ospf_networks(maker),
         passive_default: maker.flip(),
-        passive: uses(alloc, maker, "Vlan")?,
-        active: uses(alloc, maker, "Ethernet0/")?,
+        passive: uses(maker, "Vlan"),
+        active: uses(maker, "Ethernet0/"),
         reference: maker.within(1, 4_294_967),
-        redistribute: all_into_ospf(alloc, maker)?,
+        redistribute: all_into_ospf(maker),
         default: maybe_default(maker),
-    })
-}
-
-fn maybe_ospf(alloc: Global, maker: &mut Maker) -> Result<Option<Ospf>, AllocError> {
-    if maker.flip() {
-        Ok(Some(ospf(alloc, maker)?))
-    } else {
-        Ok(None)
     }
 }
 
-fn bgp_networks(alloc: Global, maker: &mut Maker) -> Result<List<BgpNet>, AllocError> {
-    let mut networks = List::new(alloc);
+fn maybe_ospf(maker: &mut Maker) -> Option<Ospf> {
+    if maker.flip() {
+        Some(ospf(maker))
+    } else {
+        None
+    }
+}
+
+fn bgp_networks(maker: &mut Maker) -> List<BgpNet> {
+    let mut networks = maker.none();
     for _network in 0..maker.roll(3) {
         let line = maker.line();
         let network = BgpNet {
             line,
             prefix: maker.prefix(),
-            map: maybe_map(alloc, maker, line)?,
+            map: maybe_map(maker, line),
         };
-        networks.items.push(network)?;
+        maker.add(&mut networks, network);
     }
-    Ok(networks)
+    networks
 }
 
 /// Connected or static routes that come into BGP.
-fn own_into_bgp(alloc: Global, maker: &mut Maker) -> Result<Redist, AllocError> {
+fn own_into_bgp(maker: &mut Maker) -> Redist {
     let line = maker.line();
     let source = if maker.flip() {
         Source::Connected
     } else {
         Source::Static
     };
-    Ok(Redist {
+    Redist {
         line,
         source,
         metric: maybe_number(maker, 0, u32::MAX),
@@ -240,15 +240,15 @@ fn own_into_bgp(alloc: Global, maker: &mut Maker) -> Result<Redist, AllocError> 
         internal: true,
         ext1: false,
         ext2: false,
-        map: maybe_map(alloc, maker, line)?,
-    })
+        map: maybe_map(maker, line),
+    }
 }
 
 /// Routes of OSPF that come into BGP, of one kind at least.
-fn ospf_into_bgp(alloc: Global, maker: &mut Maker) -> Result<Redist, AllocError> {
+fn ospf_into_bgp(maker: &mut Maker) -> Redist {
     let line = maker.line();
     let kinds = maker.within(1, 7);
-    Ok(Redist {
+    Redist {
         line,
         source: Source::Ospf(maker.within(1, 65_535)),
         metric: maybe_number(maker, 0, u32::MAX),
@@ -257,29 +257,29 @@ fn ospf_into_bgp(alloc: Global, maker: &mut Maker) -> Result<Redist, AllocError>
         internal: kinds % 2 == 1,
         ext1: kinds / 2 % 2 == 1,
         ext2: kinds / 4 == 1,
-        map: maybe_map(alloc, maker, line)?,
-    })
+        map: maybe_map(maker, line),
+    }
 }
 
-fn into_bgp(alloc: Global, maker: &mut Maker) -> Result<Redist, AllocError> {
+fn into_bgp(maker: &mut Maker) -> Redist {
     if maker.flip() {
-        own_into_bgp(alloc, maker)
+        own_into_bgp(maker)
     } else {
-        ospf_into_bgp(alloc, maker)
+        ospf_into_bgp(maker)
     }
 }
 
-fn all_into_bgp(alloc: Global, maker: &mut Maker) -> Result<List<Redist>, AllocError> {
-    let mut all = List::new(alloc);
+fn all_into_bgp(maker: &mut Maker) -> List<Redist> {
+    let mut all = maker.none();
     for _line in 0..maker.roll(4) {
-        let redist = into_bgp(alloc, maker)?;
-        all.items.push(redist)?;
+        let redist = into_bgp(maker);
+        maker.add(&mut all, redist);
     }
-    Ok(all)
+    all
 }
 
-fn neighbour(alloc: Global, maker: &mut Maker, number: u32) -> Result<Neighbour, AllocError> {
-    Ok(Neighbour {
+fn neighbour(maker: &mut Maker, number: u32) -> Neighbour {
+    Neighbour {
         line: maker.block(),
         addr: Addr(number.saturating_add(167_772_161)),
         asn: maker.large(),
@@ -288,23 +288,23 @@ fn neighbour(alloc: Global, maker: &mut Maker, number: u32) -> Result<Neighbour,
         send_community: maker.flip(),
         weight: maker.roll(65_536),
         shutdown: maker.flip(),
-        source: maybe_used(alloc, maker, "Loopback")?,
-        prefix_in: maybe_used(alloc, maker, "P")?,
-        prefix_out: maybe_used(alloc, maker, "P")?,
-        filter_in: maybe_used(alloc, maker, "10")?,
-        filter_out: maybe_used(alloc, maker, "49")?,
-        map_in: maybe_used(alloc, maker, "M")?,
-        map_out: maybe_used(alloc, maker, "M")?,
-    })
+        source: maybe_used(maker, "Loopback"),
+        prefix_in: maybe_used(maker, "P"),
+        prefix_out: maybe_used(maker, "P"),
+        filter_in: maybe_used(maker, "10"),
+        filter_out: maybe_used(maker, "49"),
+        map_in: maybe_used(maker, "M"),
+        map_out: maybe_used(maker, "M"),
+    }
 }
 
-fn neighbours(alloc: Global, maker: &mut Maker) -> Result<List<Neighbour>, AllocError> {
-    let mut neighbours = List::new(alloc);
+fn neighbours(maker: &mut Maker) -> List<Neighbour> {
+    let mut neighbours = maker.none();
     for number in 0..maker.roll(4) {
-        let neighbour = neighbour(alloc, maker, number)?;
-        neighbours.items.push(neighbour)?;
+        let neighbour = neighbour(maker, number);
+        maker.add(&mut neighbours, neighbour);
     }
-    Ok(neighbours)
+    neighbours
 }
 
 fn maybe_router_id(maker: &mut Maker) -> Option<Addr> {
@@ -315,37 +315,39 @@ fn maybe_router_id(maker: &mut Maker) -> Option<Addr> {
     }
 }
 
-fn bgp(alloc: Global, maker: &mut Maker) -> Result<Bgp, AllocError> {
-    Ok(Bgp {
+fn bgp(maker: &mut Maker) -> Bgp {
+    Bgp {
         line: maker.block(),
         asn: maker.large(),
         router_id: maybe_router_id(maker),
         always_compare: maker.flip(),
         compare_routerid: maker.flip(),
-        networks: bgp_networks(alloc, maker)?,
-        redistribute: all_into_bgp(alloc, maker)?,
-        neighbours: neighbours(alloc, maker)?,
-    })
+        networks: bgp_networks(maker),
+        redistribute: all_into_bgp(maker),
+        neighbours: neighbours(maker),
+    }
 }
 
-fn maybe_bgp(alloc: Global, maker: &mut Maker) -> Result<Option<Bgp>, AllocError> {
-    if maker.flip() {
-        Ok(Some(bgp(alloc, maker)?))
-    } else {
-        Ok(None)
+fn maybe_bgp(maker: &mut Maker) -> Option<Bgp> {
+    if maker.flip() { Some(bgp(maker)) } else { None }
+}
+
+fn whole(maker: &mut Maker) -> File {
+    File {
+        hostname_line: maker.line(),
+        hostname: maker.name("R_"),
+        interfaces: interfaces(maker),
+        statics: routes(maker),
+        ospf: maybe_ospf(maker),
+        bgp: maybe_bgp(maker),
+        policies: policies(maker),
     }
 }
 
 /// A file of a random kind. Its lines ascend in the order of its parts.
 pub fn file(alloc: Global, seed: u32) -> Result<File, AllocError> {
-    let mut maker = Maker::new(seed);
-    Ok(File {
-        hostname_line: maker.line(),
-        hostname: maker.name(alloc, "R_")?,
-        interfaces: interfaces(alloc, &mut maker)?,
-        statics: routes(alloc, &mut maker)?,
-        ospf: maybe_ospf(alloc, &mut maker)?,
-        bgp: maybe_bgp(alloc, &mut maker)?,
-        policies: policies(alloc, &mut maker)?,
-    })
+    let mut maker = Maker::new(alloc, seed);
+    let file = whole(&mut maker);
+    maker.memory()?;
+    Ok(file)
 }

@@ -1,12 +1,11 @@
 //! Random lists and route maps.
 
-use crate::dice::{Maker, numbered};
+use crate::dice::Maker;
 use ios_ast::{
     AccessEntry, AccessList, AsPathEntry, AsPathList, CommunityEntry, CommunityList, MapEntry,
     Match, Pattern, Policies, Ports, PrefixEntry, PrefixList, RouteMap, SetAct, Use, Wild,
 };
 use mw_text::{Addr, List};
-use std::alloc::{AllocError, Global};
 
 fn prefix_entry(maker: &mut Maker, seq: u32) -> PrefixEntry {
     let prefix = maker.prefix();
@@ -24,26 +23,27 @@ fn prefix_entry(maker: &mut Maker, seq: u32) -> PrefixEntry {
 }
 
 /// Entries whose numbers ascend.
-fn prefix_entries(alloc: Global, maker: &mut Maker) -> Result<List<PrefixEntry>, AllocError> {
-    let mut entries = List::new(alloc);
+fn prefix_entries(maker: &mut Maker) -> List<PrefixEntry> {
+    let mut entries = maker.none();
     let mut seq: u32 = 0;
     for _entry in 0..maker.within(1, 4) {
         seq = seq.saturating_add(maker.within(1, 1_000_000_000));
-        entries.items.push(prefix_entry(maker, seq))?;
+        let item = prefix_entry(maker, seq);
+        maker.add(&mut entries, item);
     }
-    Ok(entries)
+    entries
 }
 
-fn prefix_lists(alloc: Global, maker: &mut Maker) -> Result<List<PrefixList>, AllocError> {
-    let mut lists = List::new(alloc);
+fn prefix_lists(maker: &mut Maker) -> List<PrefixList> {
+    let mut lists = maker.none();
     for number in 0..maker.roll(3) {
         let list = PrefixList {
-            name: numbered(alloc, "P", number)?,
-            entries: prefix_entries(alloc, maker)?,
+            name: maker.numbered("P", number),
+            entries: prefix_entries(maker),
         };
-        lists.items.push(list)?;
+        maker.add(&mut lists, list);
     }
-    Ok(lists)
+    lists
 }
 
 /// A value of 32 bits, of 16, or one with a name (RFC 1997).
@@ -56,50 +56,47 @@ fn community(maker: &mut Maker) -> u32 {
     }
 }
 
-fn communities(alloc: Global, maker: &mut Maker) -> Result<List<u32>, AllocError> {
-    let mut values = List::new(alloc);
+fn communities(maker: &mut Maker) -> List<u32> {
+    let mut values = maker.none();
     for _value in 0..maker.within(1, 4) {
-        values.items.push(community(maker))?;
+        let item = community(maker);
+        maker.add(&mut values, item);
     }
-    Ok(values)
+    values
 }
 
-fn community_entries(alloc: Global, maker: &mut Maker) -> Result<List<CommunityEntry>, AllocError> {
-    let mut entries = List::new(alloc);
+fn community_entries(maker: &mut Maker) -> List<CommunityEntry> {
+    let mut entries = maker.none();
     for _entry in 0..maker.within(1, 4) {
         let entry = CommunityEntry {
             line: maker.line(),
             permit: maker.flip(),
-            values: communities(alloc, maker)?,
+            values: communities(maker),
         };
-        entries.items.push(entry)?;
+        maker.add(&mut entries, entry);
     }
-    Ok(entries)
+    entries
 }
 
 /// A list with a name, or with a number where `first` is one.
-fn community_list(
-    alloc: Global,
-    maker: &mut Maker,
-    first: &str,
-) -> Result<CommunityList, AllocError> {
-    Ok(CommunityList {
-        name: maker.name(alloc, first)?,
-        entries: community_entries(alloc, maker)?,
-    })
+fn community_list(maker: &mut Maker, first: &str) -> CommunityList {
+    CommunityList {
+        name: maker.name(first),
+        entries: community_entries(maker),
+    }
 }
 
-fn community_lists(alloc: Global, maker: &mut Maker) -> Result<List<CommunityList>, AllocError> {
-    let mut lists = List::new(alloc);
+fn community_lists(maker: &mut Maker) -> List<CommunityList> {
+    let mut lists = maker.none();
     if maker.flip() {
-        let named = community_list(alloc, maker, "C")?;
-        lists.items.push(named)?;
+        let named = community_list(maker, "C");
+        maker.add(&mut lists, named);
     }
     if maker.flip() {
-        let numbered = community_list(alloc, maker, "9")?;
-        lists.items.push(numbered)?;
+        let numbered = community_list(maker, "9");
+        maker.add(&mut lists, numbered);
     }
-    Ok(lists)
+    lists
 }
 
 fn pattern(maker: &mut Maker) -> Pattern {
@@ -114,29 +111,29 @@ fn pattern(maker: &mut Maker) -> Pattern {
     }
 }
 
-fn path_entries(alloc: Global, maker: &mut Maker) -> Result<List<AsPathEntry>, AllocError> {
-    let mut entries = List::new(alloc);
+fn path_entries(maker: &mut Maker) -> List<AsPathEntry> {
+    let mut entries = maker.none();
     for _entry in 0..maker.within(1, 4) {
         let entry = AsPathEntry {
             line: maker.line(),
             permit: maker.flip(),
             pattern: pattern(maker),
         };
-        entries.items.push(entry)?;
+        maker.add(&mut entries, entry);
     }
-    Ok(entries)
+    entries
 }
 
-fn path_lists(alloc: Global, maker: &mut Maker) -> Result<List<AsPathList>, AllocError> {
-    let mut lists = List::new(alloc);
+fn path_lists(maker: &mut Maker) -> List<AsPathList> {
+    let mut lists = maker.none();
     for number in 0..maker.roll(3) {
         let list = AsPathList {
-            name: numbered(alloc, "49", number)?,
-            entries: path_entries(alloc, maker)?,
+            name: maker.numbered("49", number),
+            entries: path_entries(maker),
         };
-        lists.items.push(list)?;
+        maker.add(&mut lists, list);
     }
-    Ok(lists)
+    lists
 }
 
 /// Every address, one address, or addresses under a wildcard.
@@ -229,20 +226,17 @@ fn access_entry(maker: &mut Maker, extended: bool) -> AccessEntry {
     }
 }
 
-fn access_entries(
-    alloc: Global,
-    maker: &mut Maker,
-    extended: bool,
-) -> Result<List<AccessEntry>, AllocError> {
-    let mut entries = List::new(alloc);
+fn access_entries(maker: &mut Maker, extended: bool) -> List<AccessEntry> {
+    let mut entries = maker.none();
     for _entry in 0..maker.within(1, 5) {
-        entries.items.push(access_entry(maker, extended))?;
+        let item = access_entry(maker, extended);
+        maker.add(&mut entries, item);
     }
-    Ok(entries)
+    entries
 }
 
 /// A list in a block of its own, or with a number on each line.
-fn access_list(alloc: Global, maker: &mut Maker, kind: u32) -> Result<AccessList, AllocError> {
+fn access_list(maker: &mut Maker, kind: u32) -> AccessList {
     let extended = kind % 2 == 1;
     let first = match kind {
         0 => "139",
@@ -251,146 +245,147 @@ fn access_list(alloc: Global, maker: &mut Maker, kind: u32) -> Result<AccessList
         _ => "extended",
     };
     let _first = maker.block();
-    Ok(AccessList {
-        name: maker.name(alloc, first)?,
+    AccessList {
+        name: maker.name(first),
         extended,
         named: kind >= 2,
-        entries: access_entries(alloc, maker, extended)?,
-    })
+        entries: access_entries(maker, extended),
+    }
 }
 
-fn access_lists(alloc: Global, maker: &mut Maker) -> Result<List<AccessList>, AllocError> {
-    let mut lists = List::new(alloc);
+fn access_lists(maker: &mut Maker) -> List<AccessList> {
+    let mut lists = maker.none();
     for kind in 0..4 {
         if maker.flip() {
-            let list = access_list(alloc, maker, kind)?;
-            lists.items.push(list)?;
+            let list = access_list(maker, kind);
+            maker.add(&mut lists, list);
         }
     }
-    Ok(lists)
+    lists
 }
 
 /// One to three uses on one line.
-fn uses(alloc: Global, maker: &mut Maker, first: &str) -> Result<List<Use>, AllocError> {
+fn uses(maker: &mut Maker, first: &str) -> List<Use> {
     let line = maker.line();
-    let mut uses = List::new(alloc);
+    let mut uses = maker.none();
     for _use in 0..maker.within(1, 3) {
-        let name = maker.name(alloc, first)?;
-        uses.items.push(Use { line, name })?;
+        let name = maker.name(first);
+        maker.add(&mut uses, Use { line, name });
     }
-    Ok(uses)
+    uses
 }
 
-fn match_line(alloc: Global, maker: &mut Maker) -> Result<Match, AllocError> {
+fn match_line(maker: &mut Maker) -> Match {
     match maker.roll(4) {
-        0 => Ok(Match::Access(uses(alloc, maker, "A")?)),
-        1 => Ok(Match::Prefixes(uses(alloc, maker, "P")?)),
-        2 => Ok(Match::Communities(uses(alloc, maker, "C")?)),
-        _ => Ok(Match::Paths(uses(alloc, maker, "10")?)),
+        0 => Match::Access(uses(maker, "A")),
+        1 => Match::Prefixes(uses(maker, "P")),
+        2 => Match::Communities(uses(maker, "C")),
+        _ => Match::Paths(uses(maker, "10")),
     }
 }
 
-fn match_lines(alloc: Global, maker: &mut Maker) -> Result<List<Match>, AllocError> {
-    let mut lines = List::new(alloc);
+fn match_lines(maker: &mut Maker) -> List<Match> {
+    let mut lines = maker.none();
     for _line in 0..maker.roll(4) {
-        let line = match_line(alloc, maker)?;
-        lines.items.push(line)?;
+        let line = match_line(maker);
+        maker.add(&mut lines, line);
     }
-    Ok(lines)
+    lines
 }
 
 /// Communities each once and ascending.
-fn ascending(alloc: Global, maker: &mut Maker) -> Result<List<u32>, AllocError> {
-    let mut values = List::new(alloc);
+fn ascending(maker: &mut Maker) -> List<u32> {
+    let mut values = maker.none();
     let mut last: u32 = maker.roll(1_000);
     for _value in 0..maker.within(1, 3) {
-        values.items.push(last)?;
+        maker.add(&mut values, last);
         last = last.saturating_add(maker.within(1, 1_000_000_000));
     }
-    Ok(values)
+    values
 }
 
-fn prepended(alloc: Global, maker: &mut Maker) -> Result<List<u32>, AllocError> {
-    let mut numbers = List::new(alloc);
+fn prepended(maker: &mut Maker) -> List<u32> {
+    let mut numbers = maker.none();
     for _number in 0..maker.within(1, 3) {
-        numbers.items.push(maker.large())?;
+        let item = maker.large();
+        maker.add(&mut numbers, item);
     }
-    Ok(numbers)
+    numbers
 }
 
-fn set_community(alloc: Global, maker: &mut Maker) -> Result<SetAct, AllocError> {
+fn set_community(maker: &mut Maker) -> SetAct {
     if maker.flip() {
-        return Ok(SetAct::NoCommunity);
+        return SetAct::NoCommunity;
     }
-    let values = ascending(alloc, maker)?;
-    Ok(SetAct::Community(values, maker.flip()))
+    let values = ascending(maker);
+    SetAct::Community(values, maker.flip())
 }
 
 /// The set line of that row.
-fn set_line(alloc: Global, maker: &mut Maker, row: u32) -> Result<SetAct, AllocError> {
+fn set_line(maker: &mut Maker, row: u32) -> SetAct {
     match row {
-        0 => Ok(SetAct::LocalPref(maker.large())),
-        1 => Ok(SetAct::Metric(maker.large())),
-        2 => Ok(SetAct::Weight(maker.roll(65_536))),
-        3 => set_community(alloc, maker),
-        4 => Ok(SetAct::Origin(maker.flip())),
-        5 => Ok(SetAct::Prepend(prepended(alloc, maker)?)),
-        _ => Ok(SetAct::Type1(maker.flip())),
+        0 => SetAct::LocalPref(maker.large()),
+        1 => SetAct::Metric(maker.large()),
+        2 => SetAct::Weight(maker.roll(65_536)),
+        3 => set_community(maker),
+        4 => SetAct::Origin(maker.flip()),
+        5 => SetAct::Prepend(prepended(maker)),
+        _ => SetAct::Type1(maker.flip()),
     }
 }
 
-fn set_lines(alloc: Global, maker: &mut Maker) -> Result<List<SetAct>, AllocError> {
-    let mut lines = List::new(alloc);
+fn set_lines(maker: &mut Maker) -> List<SetAct> {
+    let mut lines = maker.none();
     for row in 0..7 {
         if maker.flip() {
-            let line = set_line(alloc, maker, row)?;
-            lines.items.push(line)?;
+            let line = set_line(maker, row);
+            maker.add(&mut lines, line);
         }
     }
-    Ok(lines)
+    lines
 }
 
-fn map_entry(alloc: Global, maker: &mut Maker, seq: u32) -> Result<MapEntry, AllocError> {
-    Ok(MapEntry {
+fn map_entry(maker: &mut Maker, seq: u32) -> MapEntry {
+    MapEntry {
         line: maker.block(),
         seq,
         permit: maker.flip(),
-        matches: match_lines(alloc, maker)?,
-        sets: set_lines(alloc, maker)?,
-    })
+        matches: match_lines(maker),
+        sets: set_lines(maker),
+    }
 }
 
 /// Entries whose numbers ascend.
-fn map_entries(alloc: Global, maker: &mut Maker) -> Result<List<MapEntry>, AllocError> {
-    let mut entries = List::new(alloc);
+fn map_entries(maker: &mut Maker) -> List<MapEntry> {
+    let mut entries = maker.none();
     let mut seq: u32 = 0;
     for _entry in 0..maker.within(1, 4) {
         seq = seq.saturating_add(maker.within(1, 10_000));
-        let entry = map_entry(alloc, maker, seq)?;
-        entries.items.push(entry)?;
+        let entry = map_entry(maker, seq);
+        maker.add(&mut entries, entry);
     }
-    Ok(entries)
+    entries
 }
 
-fn maps(alloc: Global, maker: &mut Maker) -> Result<List<RouteMap>, AllocError> {
-    let mut maps = List::new(alloc);
+fn maps(maker: &mut Maker) -> List<RouteMap> {
+    let mut maps = maker.none();
     for number in 0..maker.roll(4) {
         let map = RouteMap {
-            name: numbered(alloc, "M", number)?,
-            entries: map_entries(alloc, maker)?,
+            name: maker.numbered("M", number),
+            entries: map_entries(maker),
         };
-        maps.items.push(map)?;
+        maker.add(&mut maps, map);
     }
-    Ok(maps)
+    maps
 }
 
 /// Lists of each kind, and maps.
-pub fn policies(alloc: Global, maker: &mut Maker) -> Result<Policies, AllocError> {
-    Ok(Policies {
-        prefix_lists: prefix_lists(alloc, maker)?,
-        communities: community_lists(alloc, maker)?,
-        as_paths: path_lists(alloc, maker)?,
-        access: access_lists(alloc, maker)?,
-        maps: maps(alloc, maker)?,
-    })
+pub fn policies(maker: &mut Maker) -> Policies {
+    Policies {
+        prefix_lists: prefix_lists(maker),
+        communities: community_lists(maker),
+        as_paths: path_lists(maker),
+        access: access_lists(maker),
+        maps: maps(maker),
+    }
 }

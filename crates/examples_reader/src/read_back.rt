@@ -1,41 +1,44 @@
 //! Random files, written as text and read back.
 
 use crate::made::file;
-use crate::shown::show_file;
+use crate::reading::{reading_of, shown};
 use crate::written::write_file;
 use ios_ast::File;
-use ios_reader::read_file;
 use std::alloc::{AllocError, Global};
 use std::io;
 
-fn shown(alloc: Global, file: &File) -> Result<String, AllocError> {
-    let mut out = String::new(alloc);
-    show_file(&mut out, file)?;
-    Ok(out)
+/// The text of a file, and the file shown.
+#[derive(Drop)]
+struct Written {
+    text: String,
+    shown: String,
 }
 
-/// What the text reads as, shown, or its refusal.
-fn reading(alloc: Global, text: &str) -> Result<String, AllocError> {
-    if text.len() > 1_000_000 {
-        return format!(in alloc; "too long");
-    }
-    match read_file(alloc, text.as_bytes()) {
-        Ok(file) => shown(alloc, &file),
-        Err(refused) => format!(in alloc; "{} {:?}", refused.line, refused.cause),
-    }
+fn text_of(alloc: Global, file: &File) -> Result<Written, AllocError> {
+    let text = write_file(alloc, file)?;
+    let shown = shown(alloc, file)?;
+    Ok(Written { text, shown })
+}
+
+fn written_of(alloc: Global, seed: u32) -> Result<Written, AllocError> {
+    let file = file(alloc, seed)?;
+    text_of(alloc, &file)
+}
+
+/// What was written, and both files.
+fn show_other(rt: &impl Print, seed: u32, written: &Written, read: &str) -> io::Result<()> {
+    print!(rt; "file {seed}:\n{}is:{}", written.text, written.shown)?;
+    print!(rt; "reads as:{read}")
 }
 
 /// Reads the file of that seed back. Where it is another one, prints what was written and both files.
 fn read_back(rt: &(impl Print + AllocGlobal), seed: u32) -> io::Result<bool> {
-    let alloc: Global = rt.alloc();
-    let file = file(alloc, seed)?;
-    let text = write_file(alloc, &file)?;
-    let wanted = shown(alloc, &file)?;
-    let read = reading(alloc, text.as_str())?;
-    if read.as_str() == wanted.as_str() {
+    let written = written_of(rt.alloc(), seed)?;
+    let read = reading_of(rt.alloc(), written.text.as_str())?;
+    if read.as_str() == written.shown.as_str() {
         return Ok(true);
     }
-    println!(rt; "file {seed}:\n{text}is:\n{wanted}reads as:\n{read}")?;
+    show_other(rt, seed, &written, read.as_str())?;
     Ok(false)
 }
 

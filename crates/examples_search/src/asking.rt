@@ -2,6 +2,7 @@
 
 use cdcl_search::{Outcome, SolveFault, solve};
 use cnf_blaster::Cnf;
+use deciders::Decider;
 use mw_outside::TestSink;
 use mw_text::List;
 use resolution_check::{Bad, Checker, Clause, LineRefused, Lit, read_entry};
@@ -65,12 +66,24 @@ impl From<AllocError> for NotSearched {
     }
 }
 
-/// A search with this budget, of whose writes those of these numbers fail.
+/// A search with this budget and no decider, of whose writes those of these numbers fail.
 pub fn search(
     alloc: Global,
     cnf: &Cnf,
     budget: u64,
     fail: &[u64],
+) -> Result<Searched, NotSearched> {
+    let mut none: Vec<Box<dyn Decider>> = Vec::new(alloc);
+    search_by(alloc, cnf, budget, fail, &mut none)
+}
+
+/// A search with this budget and these deciders, of whose writes those of these numbers fail.
+pub fn search_by(
+    alloc: Global,
+    cnf: &Cnf,
+    budget: u64,
+    fail: &[u64],
+    deciders: &mut Vec<Box<dyn Decider>>,
 ) -> Result<Searched, NotSearched> {
     let count = cnf.clauses.as_slice().len() as u64;
     if budget == 0 || budget > MOST || count > MOST - budget {
@@ -82,8 +95,8 @@ pub fn search(
     let failing = List {
         items: Vec::from_slice(alloc, fail)?,
     };
-    let mut sink = TestSink::new(alloc, 1_000_000, failing)?;
-    let answer = solve(alloc, cnf, budget, &mut sink);
+    let mut sink = TestSink::new(alloc, 4_000_000, failing)?;
+    let answer = solve(alloc, cnf, budget, &mut sink, deciders);
     if let Err(SolveFault::Memory) = answer {
         return Err(NotSearched::Memory);
     }

@@ -4,9 +4,13 @@
 
 pub mod asking;
 #[cfg(test)]
+mod by_deciders;
+#[cfg(test)]
 mod faults;
 #[cfg(test)]
 mod long;
+#[cfg(test)]
+mod pigeons;
 #[cfg(test)]
 mod random;
 #[cfg(test)]

@@ -1,6 +1,7 @@
-//! Small clauses worked out by hand. The search makes the least variable without a value false, and looks at clauses in
-//! their order. A chain begins with the clause that is false, and goes back over the clauses that forced its literals,
-//! the last one first.
+//! Small clauses worked out by hand, searched with no decider. The search makes the least variable without a value false.
+//! The clauses that watch a literal are looked at from the one held last to the first. A chain begins with the clause that
+//! is false, and goes back over the clauses that forced its literals, the last one first, until one literal of the last
+//! decision is left.
 
 use crate::asking::{NotSearched, checked, cnf_of, is_satisfied, search};
 use cdcl_search::Outcome;
@@ -25,11 +26,12 @@ pub const PIGEONS: &[&[i64]] = &[
 const PIGEON_LINES: &str =
     "i 1 1 2 0\ni 2 3 4 0\ni 3 5 6 0\ni 4 -1 -3 0\ni 5 -1 -5 0\ni 6 -3 -5 0\ni 7 -2 -4 0\ni 8 -2 -6 0\ni 9 -4 -6 0\n";
 
-/// Where 1 is false, so is 4 by 2, and 6, and 3 and 5 are true: the sixth clause is false.
-const FIRST_ADDITION: &str = "a 10 1 0 6 3 2 8 7 1 0\n";
+/// Where 1 is false, 2 is true, 6 and 4 are false, and 5 and 3 are true: the sixth clause is false. All of this follows
+/// from 2.
+const FIRST_ADDITION: &str = "a 10 -2 0 6 2 3 7 8 0\n";
 
-/// Where 1 is true, 3 and 5 are false, and 4 and 6 are true: the ninth clause is false.
-const SECOND_ADDITION: &str = "a 11 0 9 3 2 5 4 10 0\n";
+/// Where 2 is false, 1 is true, 5 and 3 are false, and 6 and 4 are true: the ninth clause is false.
+const SECOND_ADDITION: &str = "a 11 0 9 2 3 4 5 1 10 0\n";
 
 /// Whether a log is these texts, one after another.
 fn is_log(alloc: Global, log: &List<u8>, parts: &[&str]) -> Result<bool, Fail> {
@@ -121,7 +123,7 @@ fn a_unit_and_its_negation_add_the_empty_clause(rt: HostRuntime) -> Result<(), F
     Ok(())
 }
 
-/// Where 1, 2 and 3 are decided false, the first two clauses clash over 4, whatever 2 is. So the decision of 2 is taken
+/// Where 1, 2 and 3 are decided false, the second clause makes 4 false and the first one is false, whatever 2 is. So the decision of 2 is taken
 /// back with that of 3: once 3 is true, so are 5 and 6, and they force 2. Were 2 still false, the last clause would be
 /// false, and there would be a second addition.
 #[test]
@@ -137,7 +139,7 @@ fn a_decision_that_a_conflict_does_not_rest_on_is_taken_back(rt: HostRuntime) ->
         [false, true, true, false, true, true].as_slice()
     );
     let inputs = "i 1 1 3 4 0\ni 2 1 3 -4 0\ni 3 -3 5 0\ni 4 -3 6 0\ni 5 2 -5 -6 0\n";
-    assert!(rt; is_log(rt.alloc(), &searched.log, &[inputs, "a 6 3 1 0 2 1 0\n"])?);
+    assert!(rt; is_log(rt.alloc(), &searched.log, &[inputs, "a 6 3 1 0 1 2 0\n"])?);
     assert_eq!(rt;
         checked(rt.alloc(), searched.log.as_slice())?,
         Some((false, 1))

@@ -1,5 +1,5 @@
 -- What a network does not have where no router runs a routing protocol.
-use Rattle.std.proofs.Common.{◌≡◌, ℕ, zero, suc, ◌+◌, Bool, true, false, ◌&&◌, ◌||◌, not, List, [], ◌∷◌, Option, Some}
+use Rattle.std.proofs.Common.{◌≡◌, ℕ, zero, suc, ◌+◌, Bool, true, false, ◌&&◌, not, List, [], ◌∷◌, Option, Some}
 use Rattle.std.proofs.Common.{None, refl, subst}
 use Rattle.std.specs.Prelude.{is_some, option_and_then, slice_get}
 use Rattle.std.proofs.lemmas.Bool.{and_parts, or_parts}
@@ -9,7 +9,6 @@ use Rattle.mw_text.specs.declared.address.Prefix.{Prefix}
 use Rattle.net_model.specs.declared.interfaces.Addressed.{Addressed}
 use Rattle.net_model.specs.Network.{is_plain, runs_no_protocol}
 use Rattle.net_model.specs.Interfaces.{addressed}
-use Rattle.ios_ast.specs.declared.bgp.Bgp.{Bgp}
 use Rattle.net_model.specs.Sessions.{ends_of, peerings, peerings_routers, runs_bgp, sessions}
 use Rattle.mw_text.specs.declared.address.Addr.{Addr}
 use Rattle.route_record.specs.declared.Failures.{Failures}

@@ -8,7 +8,7 @@ use Rattle.mw_text.specs.declared.address.Prefix.{Prefix}
 use Rattle.ios_ast.specs.declared.file.File.{File}
 use Rattle.route_record.specs.declared.Failures.{Failures}
 use Rattle.net_model.specs.declared.adjacencies.Adjacency.{Adjacency}
-use Rattle.net_model.specs.Distances.{AreDistances, IsInteriorDistance, IsWalkSum, beyond, interior_distance, nearest, own_cost}
+use Rattle.net_model.specs.Distances.{AreDistances, IsInteriorDistance, IsWalkSum, beyond, interior_distance, own_cost}
 use Rattle.net_model.specs.Ospf.{adjacencies, up_adjacencies}
 use Rattle.net_model.proofs.LeastWalks.{In, contains-in, filter_map-in, in-cases, in-contains, in-filter, in-filter_map}
 use Rattle.net_model.proofs.LeastWalks.{in-left, in-option, in-right, is_interior, least-is, least-some, option-in}

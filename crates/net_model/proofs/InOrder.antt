@@ -26,6 +26,7 @@ use Rattle.net_model.specs.Apart.{Follows, KeptAbroad, end_of}
 use Rattle.net_model.specs.Interfaces.{addressed, addressed_from, addressed_iface, addressed_routers, is_loopback}
 use Rattle.net_model.specs.Refusals.{addresses_overlap, are_on_one, clash_line, clashes_abroad, earlier}
 use Rattle.net_model.specs.Refusals.{has_address, least, some_has, taken_line}
+use Rattle.net_model.proofs.Ascending.{every_pair}
 
 -- ---- the order
 
@@ -42,25 +43,7 @@ follows-trans x y z one two =
 
 -- in a list each item of which follows the one before, each follows all before it
 pub all_follow : (xs : List Addressed) → AllAdjacentBelow Follows xs (length xs) → AllPairs Follows xs
-all_follow xs each i zero d below within = absurd (omega (arith, below))
-all_follow xs each i (suc j) d below within =
-    by_order (cases_nat i j) (λ less. all_follow xs each i j d less (omega (arith, within)))
-  where
-    cases_nat : (i j : ℕ) → (i < j) ⊎ (j ≤ i)
-    cases_nat i j = grind arith
-
-    last : Follows (get_or xs j d) (get_or xs (suc j) d)
-    last =
-        let one : j + 1 ≡ suc j = omega arith in
-        subst (λ n. Follows (get_or xs j d) (get_or xs n d)) one (each j d (omega (arith, within)))
-
-    by_order : (i < j) ⊎ (j ≤ i) → (i < j → Follows (get_or xs i d) (get_or xs j d)) →
-        Follows (get_or xs i d) (get_or xs (suc j) d)
-    by_order (inl less) before =
-        follows-trans (get_or xs i d) (get_or xs j d) (get_or xs (suc j) d) (before less) last
-    by_order (inr past) before =
-        let same : j ≡ i = omega (arith, past, below) in
-        subst (λ n. Follows (get_or xs n d) (get_or xs (suc j) d)) same last
+all_follow xs each = every_pair Follows follows-trans xs each
 
 -- of two of its items that are of two routers one follows the other
 pub one_follows : (xs ys : List Addressed) → IsPermutation xs ys → AllPairs Follows ys → (x y : Addressed) →

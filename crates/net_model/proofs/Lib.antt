@@ -11,3 +11,4 @@ pub mod Ids
 pub mod Costs
 pub mod Equations
 pub mod InOrder
+pub mod SubnetOrder

@@ -4,6 +4,7 @@ pub mod Connected
 pub mod Limits
 pub mod Network
 pub mod World
+pub mod Grouped
 pub mod Ospf
 pub mod Distances
 pub mod Routing

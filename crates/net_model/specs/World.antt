@@ -21,6 +21,9 @@ use Rattle.net_model.specs.Sessions.{ends_of, external_ends, is_external_peer, i
 abbrev pub comes_before : Prefix → Prefix → Bool
 comes_before p q = nat_lt p.addr.0 q.addr.0 || ((p.addr.0 == q.addr.0) && nat_lt p.len q.len)
 
+abbrev pub ComesBefore : Prefix → Prefix → Type 0
+ComesBefore p q = IsTrue (comes_before p q)
+
 -- p at its place in an ascending list, once
 abbrev pub put_in_order : List Prefix → Prefix → List Prefix
 put_in_order [] p = p ∷ []

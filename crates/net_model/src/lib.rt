@@ -7,6 +7,7 @@ pub mod clashes;
 pub mod connected;
 pub mod connections;
 pub mod ends;
+mod grouped;
 pub mod interfaces;
 pub mod laws;
 pub mod limits;

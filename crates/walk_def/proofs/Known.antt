@@ -3,7 +3,6 @@ use Rattle.std.proofs.Common.{◌≡◌, ℕ, zero, suc, ◌<◌, Bool, true, fa
 use Rattle.std.proofs.Common.{Some, None, refl, ap, arith, ◌∙◌, sym, cond}
 use Rattle.std.specs.Prelude.{sum_by, replicate, slice_get, unwrap_or, Any}
 use Rattle.std.proofs.lemmas.Option.{slice_get_read}
-use Rattle.std.proofs.lemmas.List.Kept.{Any-cons}
 use Rattle.std.proofs.lemmas.List.Quantifiers.{Any-push}
 use Rattle.std.proofs.lemmas.List.Sums.{sum_by-set}
 use Rattle.question_lang.specs.declared.question.Start.{Start}
@@ -67,11 +66,14 @@ pub known-from_read : (xs : List Bool) (at : ℕ) (x : Bool) → at < length xs 
 known-from_read xs at x within is marked =
     ap (λ o. unwrap_or o false) (slice_get_read xs (length xs) at x refl within is) ∙ marked
 
+any-later : {A : Type 0} (P : A → Type 0) (y : A) (xs : List A) → Any P xs → Any P (y ∷ xs)
+any-later P y xs (k, x, within, is, holds) = (suc k, x, omega arith, is, holds)
+
 any-front : {A : Type 0} (P : A → Type 0) (xs ys : List A) → Any P xs → Any P (xs ++ ys)
 any-front P [] ys (k, x, within, is, holds) = absurd (omega arith)
 any-front P (y ∷ xs) ys (zero, x, within, is, holds) = (zero, x, omega arith, is, holds)
 any-front P (y ∷ xs) ys (suc k, x, within, is, holds) =
-    Any-cons P y (xs ++ ys) (any-front P xs ys (k, x, omega arith, is, holds))
+    any-later P y (xs ++ ys) (any-front P xs ys (k, x, omega arith, is, holds))
 
 -- a router that was stood at is seen
 pub seen-marked : (seen : List Bool) (stood : List Start) (now : Start) →

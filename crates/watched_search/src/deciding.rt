@@ -1,6 +1,6 @@
 //! Decisions, restarts and rounds.
 
-ghost use Rattle.std.specs.Prelude.{◌≡◌, ◌+◌, ◌%◌, ◌==◌, ◌≤◌, false, None, IfSome, length};
+ghost use Rattle.std.specs.Prelude.{◌≡◌, ◌+◌, ◌%◌, ◌==◌, ◌≤◌, false, None, IfSome, length, map};
 ghost use Rattle.resolution_check.specs.Trails.{value_of, IsTotal};
 ghost use Rattle.conflict_analysis.specs.Steps.{IsTrail};
 ghost use Rattle.watched_search.specs.Trails.{IsFree, last_level};
@@ -41,16 +41,35 @@ fn literal_of_choice(assigned: &Assigned, choice: Choice) -> Option<Lit>
     })
 }
 
-/// The literal to decide next: the decider's choice, and where that is none the least free variable, false first. None
-/// where every variable has a value.
-pub fn choose<D: Decider>(decider: &mut D, assigned: &Assigned) -> Option<Lit>
+/// What a decider chooses.
+fn pick(decider: &mut Box<dyn Decider>, values: &[Value]) -> Choice
+    ensures { told decider.new ≡ told decider.old }
+{
+    decider.pick(values)
+}
+
+/// What the decider at a place chooses, where one stands there.
+fn pick_at(deciders: &mut Vec<Box<dyn Decider>>, at: usize, values: &[Value]) -> Option<Choice>
+    ensures { map (λ b. told b) deciders.new.items ≡ map (λ b. told b) deciders.old.items }
+{
+    if at >= deciders.len() {
+        return None;
+    }
+    Some(pick(&mut deciders[at], values))
+}
+
+/// The literal to decide next: the choice of the decider whose turn it is, and where that is none the least free variable,
+/// false first. None where every variable has a value.
+pub fn choose(deciders: &mut Vec<Box<dyn Decider>>, turn: usize, assigned: &Assigned) -> Option<Lit>
     ensures some { IfSome result (IsFree assigned.now.vars assigned.now.lits) }
     ensures none { result ≡ None → IsTotal assigned.now.vars assigned.now.lits }
-    ensures told { D.told decider.new ≡ D.told decider.old }
+    ensures told { map (λ b. told b) deciders.new.items ≡ map (λ b. told b) deciders.old.items }
 {
-    let choice = decider.pick(assigned.values());
-    if let Some(lit) = literal_of_choice(assigned, choice) {
-        return Some(lit);
+    if let Some(choice) = pick_at(deciders, turn, assigned.values()) {
+        let lit = literal_of_choice(assigned, choice);
+        if lit.is_some() {
+            return lit;
+        }
     }
     least_free(assigned)
 }

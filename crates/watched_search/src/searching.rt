@@ -1,6 +1,6 @@
 //! From one conflict to the next.
 
-ghost use Rattle.std.specs.Prelude.{◌≡◌, ◌≤◌, None, IfSome, length};
+ghost use Rattle.std.specs.Prelude.{◌≡◌, ◌≤◌, None, IfSome, length, map};
 ghost use Rattle.resolution_check.specs.Trails.{IsTotal};
 ghost use Rattle.conflict_analysis.specs.Steps.{IsConflict, IsTrail};
 ghost use Rattle.watched_search.specs.Watches.{IsKept, IsSameView};
@@ -11,12 +11,13 @@ use crate::walking::propagate;
 use clause_arena::{Arena, ClauseRef};
 use deciders::Decider;
 
-/// Propagates and decides until a clause is false, which is answered, or until every variable has a value and no clause is
-/// false.
-pub fn find_conflict<D: Decider>(
+/// Propagates and decides, by the decider whose turn it is, until a clause is false, which is answered, or until every
+/// variable has a value and no clause is false.
+pub fn find_conflict(
     arena: &mut Arena,
     assigned: &mut Assigned,
-    decider: &mut D,
+    deciders: &mut Vec<Box<dyn Decider>>,
+    turn: usize,
     from: usize,
 ) -> Option<ClauseRef>
     requires vars { assigned.old.vars ≡ arena.old.vars }
@@ -30,7 +31,7 @@ pub fn find_conflict<D: Decider>(
     ensures conflict { IfSome result (IsConflict arena.new assigned.new.lits) }
     ensures full { result ≡ None → IsKept arena.new assigned.new.lits assigned.new.levels (length assigned.new.lits) }
     ensures total { result ≡ None → IsTotal assigned.new.vars assigned.new.lits }
-    ensures told { D.told decider.new ≡ D.told decider.old }
+    ensures told { map (λ b. told b) deciders.new.items ≡ map (λ b. told b) deciders.old.items }
 {
     let mut next = from;
     for _ in 0..usize::MAX {
@@ -39,7 +40,7 @@ pub fn find_conflict<D: Decider>(
             return found;
         }
         next = assigned.len();
-        let Some(lit) = choose(decider, assigned) else {
+        let Some(lit) = choose(deciders, turn, assigned) else {
             return None;
         };
         decide(arena, assigned, lit);

@@ -17,7 +17,7 @@ returns-in_err-log_lesson-clause-cut g c =
     let w = c.learn-back.new.work in
     on_err _ (lesson_cuts c.args.arena.now c.args.assigned.now c.args.id 0 w.lits w.chain c.requires.ready
     c.requires.small c.learn-back.ensures.lesson c.learn-back.ensures.earned (g.L.Sink.taken c.args.log.now)
-    (g.L.Sink.taken c.log_lesson.new.log) c.log_lesson.ensures.part)
+    (g.L.Sink.taken c.log_lesson.new.log) _ c.log_lesson.ensures.part)
 
 pub returns-then-clause-eq0-clause-refuted : goal.returns-then-clause-eq0-clause-refuted
 returns-then-clause-eq0-clause-refuted g c =
@@ -25,14 +25,15 @@ returns-then-clause-eq0-clause-refuted g c =
     let empty : w.lits ≡ [] = no_items w.lits (ap length (sym c.clause.ensures) ∙ c.if-clause-eq0.true) in
     λ done. lesson_refutes c.args.arena.now c.args.assigned.now c.args.id 0 w.lits w.chain c.requires.ready
     c.requires.small c.learn-back.ensures.lesson c.learn-back.ensures.earned (g.L.Sink.taken c.args.log.now)
-    (g.L.Sink.taken c.log_lesson.new.log) empty c.in_ok-log_lesson.ensures.takes
+    (g.L.Sink.taken c.log_lesson.new.log) _ c.args.turn _ c.in_ok-log_lesson.ensures.tells empty
+    c.in_ok-log_lesson.ensures.takes
 
 pub returns-in_err-from-clause-cut : goal.returns-in_err-from-clause-cut
 returns-in_err-from-clause-cut g c =
     let w = c.learn-back.new.work in
     on_err _ (lesson_cuts c.args.arena.now c.args.assigned.now c.args.id 0 w.lits w.chain c.requires.ready
     c.requires.small c.learn-back.ensures.lesson c.learn-back.ensures.earned (g.L.Sink.taken c.args.log.now)
-    (g.L.Sink.taken c.log_lesson.new.log) (part_of_all _ _ _ c.in_ok-log_lesson.ensures.takes))
+    (g.L.Sink.taken c.log_lesson.new.log) _ (part_of_all _ _ _ c.in_ok-log_lesson.ensures.takes))
 
 pub returns-clause-ready : goal.returns-clause-ready
 returns-clause-ready g c =
@@ -40,7 +41,8 @@ returns-clause-ready g c =
     let t = c.in_ok-from.ensures in
     ready_more c.args.arena.now c.assert_clause.new.arena c.args.assigned.now c.assert_clause.new.assigned c.args.id
     c.in_ok-from.from w.lits c.requires.ready t.clauses t.few t.vars t.arena_vars
-    (below_grown c.args.arena.now c.assert_clause.new.arena c.args.id w.lits t.clauses c.requires.ready.below) t.trail t.kept t.within
+    (below_grown c.args.arena.now c.assert_clause.new.arena c.args.id w.lits t.clauses c.requires.ready.below)
+    t.trail t.kept t.within
 
 pub returns-clause-gives : goal.returns-clause-gives
 returns-clause-gives g c =
@@ -54,5 +56,6 @@ returns-clause-going g c =
     let some : 0 < length c.learn-back.new.work.lits = omega (arith, c.if-clause-eq0.false) in
     lesson_goes c.args.arena.now c.args.assigned.now c.args.id 0 w.lits w.chain c.requires.ready c.requires.small
     c.learn-back.ensures.lesson c.learn-back.ensures.earned (g.L.Sink.taken c.args.log.now)
-    (g.L.Sink.taken c.log_lesson.new.log) c.assert_clause.new.arena c.in_ok-from.ensures.clauses some
+    (g.L.Sink.taken c.log_lesson.new.log) _ c.args.turn _ c.in_ok-log_lesson.ensures.tells c.assert_clause.new.arena
+    c.in_ok-from.ensures.clauses some
     c.in_ok-log_lesson.ensures.takes

@@ -1,4 +1,4 @@
-use Rattle.std.proofs.Common.{◌≡◌, ℕ, ◌+◌, List, Option}
+use Rattle.std.proofs.Common.{◌≡◌, ℕ, ◌+◌, List, Option, map}
 use Rattle.resolution_check.specs.declared.log.Clause.{Clause}
 use Rattle.clause_arena.specs.Held.{held_in}
 use Rattle.watched_search.specs.Sets.{GivesSets}
@@ -12,7 +12,9 @@ invariant-loop-added g l = record {
   ready : IsReady l.arena l.assigned (l.fn.first + l.added) l.from;
   gives : GivesSets (held_in l.fn.arena) (held_in l.arena);
   going : (before : Option (List ℕ)) (ins : List Clause)
-      → IsGoing before (g.L.Sink.taken l.fn.log) ins (held_in l.fn.arena) l.fn.first 0
-      → IsGoing before (g.L.Sink.taken l.log) ins (held_in l.arena) (l.fn.first + l.added) l.added;
+      → IsGoing before (g.L.Sink.taken l.fn.log) ins (held_in l.fn.arena) l.fn.first 0 0
+      (map (λ b. (goal.Decider-dyn g (b.vtable, b.value)).told b.value) l.fn.deciders.items)
+      → IsGoing before (g.L.Sink.taken l.log) ins (held_in l.arena) (l.fn.first + l.added) l.added l.runs
+      (map (λ b. (goal.Decider-dyn g (b.vtable, b.value)).told b.value) l.deciders.items);
   stays : g.L.Sink.faults l.log ≡ g.L.Sink.faults l.fn.log;
 }

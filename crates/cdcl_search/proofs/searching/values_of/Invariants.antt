@@ -6,5 +6,6 @@ use Rattle.cdcl_search.proofs.searching.values_of.Given as goal
 abbrev pub invariant-loop-var : goal.invariant-loop-var
 invariant-loop-var l = record {
   len : length l.values-inside.items.items ≡ l.var;
-  values : (var : ℕ) → var < l.var → truth l.values-inside.items.items var ≡ is_value (value_of l.assigned.lits var) true;
+  values : (var : ℕ) → var < l.var
+      → truth l.values-inside.items.items var ≡ is_value (value_of l.assigned.lits var) true;
 }

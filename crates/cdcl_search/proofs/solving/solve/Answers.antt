@@ -6,21 +6,15 @@ use Rattle.mw_text.proofs.Results.{ok_then, on_err}
 use Rattle.resolution_check.specs.Text.{log_text}
 use Rattle.mw_outside.specs.Taken.{Takes, TakesPart, part_of_none}
 use Rattle.cdcl_search.specs.Outcomes.{input_entries}
-use Rattle.cdcl_search.proofs.Logs.{cut_first, small_inputs, unsat_shown}
+use Rattle.cdcl_search.proofs.Logs.{cut_first, cut_none, few_of, small_inputs, unsat_shown}
 use Rattle.cdcl_search.proofs.Bound.{unknown_within}
 use Rattle.cdcl_search.proofs.solving.solve.Goals as goal
 
--- as many clauses as the slice has
-few_of : {slice cs : List Clause} → slice ≡ cs → length slice * 24 < 2 ^ 63 → length cs < 2 ^ 63
-few_of same few = subst (λ (ds : List Clause). length ds < 2 ^ 63) same (omega arith)
-
-pub returns-in_err-prepare-clause-cut : goal.returns-in_err-prepare-clause-cut
-returns-in_err-prepare-clause-cut g c =
+pub returns-in_err-prepare_all-clause-cut : goal.returns-in_err-prepare_all-clause-cut
+returns-in_err-prepare_all-clause-cut g c =
     let cnf = c.args.cnf.now in
-    let few : length c.args.cnf.now.clauses < 2 ^ 63 =
-    few_of c.as_slice-clauses.ensures c.as_slice-clauses.type_inv.1 in
-    on_err _ (cut_first (g.L.Sink.taken c.args.log.now) (g.L.Sink.taken c.args.log.now) cnf.vars c.args.budget
-    cnf.clauses c.requires.vars (omega (arith, few)) c.requires.proper.below (part_of_none _ _))
+    on_err _ (cut_none (g.L.Sink.taken c.args.log.now) cnf.vars c.args.budget cnf.clauses _ c.requires.vars
+    c.requires.proper.below c.as_slice-clauses.ensures c.as_slice-clauses.type_inv.1)
 
 pub write_inputs-requires : goal.write_inputs-requires
 write_inputs-requires g c =
@@ -48,8 +42,17 @@ returns-clause-logged g c =
     (log_text (input_entries 1 c.args.cnf.now.clauses)) =
     subst (λ (cs : List Clause). Takes (g.L.Sink.taken c.args.log.now) (g.L.Sink.taken c.write_inputs.new.log)
     (log_text (input_entries 1 cs))) c.as_slice-clauses.ensures c.in_ok-write_inputs.ensures.takes in
-    ok_then c.solve_written.result c.solve_written.ensures.logged
-    (λ o logs. logs (g.L.Sink.taken c.args.log.now) takes)
+    ok_then c.solve_written.result c.solve_written.ensures.done
+    (λ o done. (done (g.L.Sink.taken c.args.log.now) takes).logged)
+
+pub returns-clause-told : goal.returns-clause-told
+returns-clause-told g c =
+    let takes : Takes (g.L.Sink.taken c.args.log.now) (g.L.Sink.taken c.write_inputs.new.log)
+    (log_text (input_entries 1 c.args.cnf.now.clauses)) =
+    subst (λ (cs : List Clause). Takes (g.L.Sink.taken c.args.log.now) (g.L.Sink.taken c.write_inputs.new.log)
+    (log_text (input_entries 1 cs))) c.as_slice-clauses.ensures c.in_ok-write_inputs.ensures.takes in
+    ok_then c.solve_written.result c.solve_written.ensures.done
+    (λ o done. (done (g.L.Sink.taken c.args.log.now) takes).told)
 
 pub returns-clause-unsat : goal.returns-clause-unsat
 returns-clause-unsat g c =

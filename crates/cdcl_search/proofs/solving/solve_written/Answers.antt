@@ -9,7 +9,7 @@ use Rattle.clause_arena.specs.Held.{clauses}
 use Rattle.watched_search.specs.Starts.{numbered_from}
 use Rattle.cdcl_search.specs.Outcomes.{IsCut, input_entries}
 use Rattle.cdcl_search.proofs.Logs.{cut_inputs}
-use Rattle.cdcl_search.proofs.Ready.{going_held, ready_start, refuted_cut, refuted_logged, refuted_text}
+use Rattle.cdcl_search.proofs.Ready.{going_held, ready_start, refuted_cut, refuted_done, refuted_text}
 use Rattle.cdcl_search.proofs.Ready.{sat_inputs}
 use Rattle.cdcl_search.proofs.solving.solve_written.Goals as goal
 
@@ -72,16 +72,16 @@ returns-in_err-log_lesson-clause-cut g c =
     })
     (f.1 ∙ ap (λ (cs : List Clause). numbered_from 1 (take f.0 cs)) c.as_slice-inputs.ensures) c.refute.ensures.lesson
     c.refute.ensures.empty (ap (λ (cs : List Clause). length cs + 1) c.as_slice-inputs.ensures)
-    (g.L.Sink.taken c.args.log.now) (g.L.Sink.taken c.log_lesson.new.log) before c.args.budget c.requires.budget takes
-    c.log_lesson.ensures.part in
+    (g.L.Sink.taken c.args.log.now) (g.L.Sink.taken c.log_lesson.new.log) before c.args.budget c.requires.budget _
+    c.requires.untold takes c.log_lesson.ensures.part in
     on_err _ cuts
 
-pub returns-in-Some-clause-logged : goal.returns-in-Some-clause-logged
-returns-in-Some-clause-logged g c =
+pub returns-in-Some-clause-done : goal.returns-in-Some-clause-done
+returns-in-Some-clause-done g c =
     let cnf = c.args.cnf.now in
     let w = c.refute.new.work in
     let f = c.in_ok-conflict.ensures.front in
-    λ before takes. refuted_logged cnf.vars (length c.as_slice-inputs.result.now + 1) f.0 cnf.clauses
+    λ before takes. refuted_done cnf.vars (length c.as_slice-inputs.result.now + 1) f.0 cnf.clauses
     c.hold_inputs.new.arena c.hold_inputs.new.assigned.lits w.lits w.chain
     (record {
       filled = c.requires.proper.filled;
@@ -91,8 +91,8 @@ returns-in-Some-clause-logged g c =
     })
     (f.1 ∙ ap (λ (cs : List Clause). numbered_from 1 (take f.0 cs)) c.as_slice-inputs.ensures) c.refute.ensures.lesson
     c.refute.ensures.empty (ap (λ (cs : List Clause). length cs + 1) c.as_slice-inputs.ensures)
-    (g.L.Sink.taken c.args.log.now) (g.L.Sink.taken c.log_lesson.new.log) before c.args.budget c.requires.budget takes
-    c.in_ok-log_lesson.ensures.takes
+    (g.L.Sink.taken c.args.log.now) (g.L.Sink.taken c.log_lesson.new.log) before c.args.budget c.requires.budget _
+    c.requires.untold takes _ c.in_ok-log_lesson.ensures.tells c.in_ok-log_lesson.ensures.takes
 
 pub search-requires-clause-ready : goal.search-requires-clause-ready
 search-requires-clause-ready g c =
@@ -102,12 +102,12 @@ search-requires-clause-ready g c =
     (h.clauses c.in_default.is) refl
     (subst (λ (cs : List Clause). length cs < 2 ^ 63) (sym c.as_slice-inputs.ensures) c.requires.few)
 
-pub returns-clause-logged : goal.returns-clause-logged
-returns-clause-logged g c =
+pub returns-clause-done : goal.returns-clause-done
+returns-clause-done g c =
     let cnf = c.args.cnf.now in
     let is : clauses c.hold_inputs.new.arena ≡ numbered_from 1 c.args.cnf.now.clauses =
     c.in_ok-conflict.ensures.clauses c.in_default.is ∙ ap (numbered_from 1) c.as_slice-inputs.ensures in
-    ok_then c.search.result c.search.ensures.logged (λ o logs. λ before takes. logs before cnf.clauses
+    ok_then c.search.result c.search.ensures.done (λ o logs. λ before takes. logs before cnf.clauses
     (going_held before (g.L.Sink.taken c.args.log.now) cnf.vars cnf.clauses c.hold_inputs.new.arena
     (length c.as_slice-inputs.result.now + 1)
     (record {
@@ -116,7 +116,7 @@ returns-clause-logged g c =
       small = c.requires.vars;
       few = c.requires.few;
     })
-    is (ap (λ (cs : List Clause). length cs + 1) c.as_slice-inputs.ensures) takes))
+    is (ap (λ (cs : List Clause). length cs + 1) c.as_slice-inputs.ensures) _ c.requires.untold takes))
 
 pub returns-clause-sat : goal.returns-clause-sat
 returns-clause-sat g c =
@@ -139,4 +139,4 @@ returns-clause-cut g c =
       small = c.requires.vars;
       few = c.requires.few;
     })
-    is (ap (λ (cs : List Clause). length cs + 1) c.as_slice-inputs.ensures) takes))
+    is (ap (λ (cs : List Clause). length cs + 1) c.as_slice-inputs.ensures) _ c.requires.untold takes))

@@ -1,4 +1,4 @@
-use Rattle.std.proofs.Common.{◌≡◌, ◌≤◌, length}
+use Rattle.std.proofs.Common.{◌≡◌, ◌≤◌, length, map}
 use Rattle.conflict_analysis.specs.Steps.{IsTrail}
 use Rattle.watched_search.specs.Watches.{IsKept, IsSameView}
 use Rattle.watched_search.proofs.searching.find_conflict.Given as goal
@@ -11,5 +11,6 @@ invariant-loop g l = record {
   kept : IsKept l.arena l.assigned.lits l.assigned.levels l.next;
   within : l.next ≤ length l.assigned.lits;
   long : l.counter ≤ length l.assigned.lits;
-  told : g.D.Decider.told l.decider ≡ g.D.Decider.told l.fn.decider;
+  told : map (λ b. (goal.Decider-dyn g (b.vtable, b.value)).told b.value) l.deciders.items
+      ≡ map (λ b. (goal.Decider-dyn g (b.vtable, b.value)).told b.value) l.fn.deciders.items;
 }

@@ -1,0 +1,197 @@
+//! Reductions: from time to time learnt clauses are deleted.
+
+ghost use Rattle.std.specs.Prelude.{◌≡◌, ◌+◌, ◌<◌, ◌≤◌, ◌^◌, true, IfOk, IfSome, OnOk, OnErr};
+ghost use Rattle.mw_outside.specs.Faults.{Rose};
+ghost use Rattle.clause_arena.specs.Held.{IsHeld};
+ghost use Rattle.cdcl_search.specs.Outcomes.{OnLogFault, UnlessLogFault};
+ghost use Rattle.cdcl_search.specs.Going.{IsReady};
+ghost use Rattle.cdcl_search.specs.Reductions.{CutsDown, CutsReduced, GoesDown, GoesOnReduced, IsDue, IsNoReason, KeepsBelow, MayGo};
+
+use crate::logging::write_deletion;
+use crate::outcome::SolveFault;
+use clause_arena::{Arena, ClauseRef};
+use mw_outside::Sink;
+use resolution_check::Lit;
+use std::alloc::Global;
+use watched_search::{Assigned, ROUND};
+
+/// No clause is deleted once numbers are above this one, nor after so many reductions.
+const LAST_NUMBER: u64 = 1 << 62;
+
+const LAST_REDUCTION: u64 = 1_000_000;
+
+/// Whether so many clauses were added that another reduction may come, and a round is over.
+fn is_due(next: u64, added: u64, runs: u64) -> bool
+    ensures due { result ≡ true → IsDue next added runs }
+    ensures few { result ≡ true → runs < 1000000 }
+{
+    if added % ROUND != 0 || next > LAST_NUMBER || runs >= LAST_REDUCTION {
+        return false;
+    }
+    1000 * (runs + 1) * (runs + 2) <= added
+}
+
+/// Whether a clause is the reason of a literal that is true.
+fn is_reason(assigned: &Assigned, c: ClauseRef) -> bool
+    ensures { (result ≡ true → ⊥) → IsNoReason c assigned.now.reasons }
+{
+    assigned.trail().reasons.contains(&Some(c))
+}
+
+/// Whether a clause was learnt before this number, has more than two literals, and is no reason.
+fn may_go(arena: &Arena, assigned: &Assigned, first: u64, kept: u64, c: ClauseRef) -> bool
+    requires { IsHeld arena.now c }
+    ensures { result ≡ true → MayGo arena.now assigned.now.reasons first c }
+{
+    let id = arena.id(c);
+    if id < first || id >= kept || arena.size(c) < 3 {
+        return false;
+    }
+    !is_reason(assigned, c)
+}
+
+/// A clause that may go among those that are watched by a literal.
+fn next_to_go(
+    arena: &Arena,
+    assigned: &Assigned,
+    first: u64,
+    kept: u64,
+    lit: Lit,
+) -> Option<ClauseRef>
+    requires { lit.var < arena.now.vars }
+    ensures { IfSome result (MayGo arena.now assigned.now.reasons first) }
+{
+    let mut at = arena.first_watch(lit);
+    for _ in 0..u64::MAX {
+        let Some(w) = at else {
+            return None;
+        };
+        if may_go(arena, assigned, first, kept, w.clause) {
+            return Some(w.clause);
+        }
+        at = arena.next_watch(w);
+    }
+    None
+}
+
+/// Logs that a clause goes, and deletes it.
+fn delete_clause<L: Sink>(
+    alloc: Global,
+    log: &mut L,
+    arena: &mut Arena,
+    assigned: &Assigned,
+    first: u64,
+    added: u64,
+    from: usize,
+    c: ClauseRef,
+) -> Result<(), SolveFault>
+    requires ready { IsReady arena.old assigned.now (first + added) from }
+    requires few { first + added ≤ 2 ^ 62 }
+    requires may { MayGo arena.old assigned.now.reasons first c }
+    ensures ready { OnOk result (IsReady arena.new assigned.now (first + added) from) }
+    ensures down { OnOk result (GoesDown (L.taken log.old) (L.taken log.new) arena.old arena.new first added) }
+    ensures cut { OnErr result (CutsDown (L.taken log.old) (L.taken log.new) arena.old first added) }
+    ensures fault { OnLogFault result (Rose (L.faults log.old) (L.faults log.new)) }
+    ensures stays { UnlessLogFault result (L.faults log.new ≡ L.faults log.old) }
+    ensures later { L.faults log.old ≤ L.faults log.new }
+{
+    arena.words_are_sound();
+    let _count = assigned.len();
+    let _added = first + added;
+    let _from = from;
+    write_deletion(alloc, log, arena.id(c))?;
+    arena.delete(c);
+    arena.words_are_sound();
+    Ok(())
+}
+
+/// Deletes the clauses that may go among those that are watched by a literal.
+fn delete_watched<L: Sink>(
+    alloc: Global,
+    log: &mut L,
+    arena: &mut Arena,
+    assigned: &Assigned,
+    first: u64,
+    added: u64,
+    from: usize,
+    kept: u64,
+    lit: Lit,
+) -> Result<(), SolveFault>
+    requires ready { IsReady arena.old assigned.now (first + added) from }
+    requires few { first + added ≤ 2 ^ 62 }
+    requires below { lit.var < assigned.now.vars }
+    ensures ready { OnOk result (IsReady arena.new assigned.now (first + added) from) }
+    ensures down { OnOk result (GoesDown (L.taken log.old) (L.taken log.new) arena.old arena.new first added) }
+    ensures cut { OnErr result (CutsDown (L.taken log.old) (L.taken log.new) arena.old first added) }
+    ensures fault { OnLogFault result (Rose (L.faults log.old) (L.faults log.new)) }
+    ensures stays { UnlessLogFault result (L.faults log.new ≡ L.faults log.old) }
+    ensures later { L.faults log.old ≤ L.faults log.new }
+{
+    for _ in 0..u64::MAX {
+        let Some(c) = next_to_go(arena, assigned, first, kept, lit) else {
+            return Ok(());
+        };
+        delete_clause(alloc, log, arena, assigned, first, added, from, c)?;
+    }
+    Ok(())
+}
+
+/// Deletes the clauses that may go.
+fn delete_all<L: Sink>(
+    alloc: Global,
+    log: &mut L,
+    arena: &mut Arena,
+    assigned: &Assigned,
+    first: u64,
+    added: u64,
+    from: usize,
+    kept: u64,
+) -> Result<(), SolveFault>
+    requires ready { IsReady arena.old assigned.now (first + added) from }
+    requires few { first + added ≤ 2 ^ 62 }
+    ensures ready { OnOk result (IsReady arena.new assigned.now (first + added) from) }
+    ensures down { OnOk result (GoesDown (L.taken log.old) (L.taken log.new) arena.old arena.new first added) }
+    ensures cut { OnErr result (CutsDown (L.taken log.old) (L.taken log.new) arena.old first added) }
+    ensures fault { OnLogFault result (Rose (L.faults log.old) (L.faults log.new)) }
+    ensures stays { UnlessLogFault result (L.faults log.new ≡ L.faults log.old) }
+    ensures later { L.faults log.old ≤ L.faults log.new }
+{
+    for code in 0..assigned.vars().saturating_mul(2) {
+        let lit = Lit {
+            var: code / 2,
+            negated: code % 2 == 1,
+        };
+        delete_watched(alloc, log, arena, assigned, first, added, from, kept, lit)?;
+    }
+    Ok(())
+}
+
+/// Where a reduction is due, deletes learnt clauses: all but the latest ones, those of one or two literals, and reasons.
+/// Answers how many reductions there were.
+pub(crate) fn reduce<L: Sink>(
+    alloc: Global,
+    log: &mut L,
+    arena: &mut Arena,
+    assigned: &Assigned,
+    first: u64,
+    added: u64,
+    from: usize,
+    runs: u64,
+) -> Result<u64, SolveFault>
+    requires ready { IsReady arena.old assigned.now (first + added) from }
+    ensures ready { IfOk result (λ _. IsReady arena.new assigned.now (first + added) from) }
+    ensures keeps { IfOk result (λ _. KeepsBelow first arena.old arena.new) }
+    ensures goes { IfOk result (λ more. GoesOnReduced (L.taken log.old) (L.taken log.new) arena.old arena.new first added runs more) }
+    ensures cut { OnErr result (CutsReduced (L.taken log.old) (L.taken log.new) arena.old first added runs) }
+    ensures fault { OnLogFault result (Rose (L.faults log.old) (L.faults log.new)) }
+    ensures stays { UnlessLogFault result (L.faults log.new ≡ L.faults log.old) }
+    ensures later { L.faults log.old ≤ L.faults log.new }
+{
+    let next = first + added;
+    if !is_due(next, added, runs) {
+        return Ok(runs);
+    }
+    let kept = next.saturating_sub(1000 * (runs + 1));
+    delete_all(alloc, log, arena, assigned, first, added, from, kept)?;
+    Ok(runs + 1)
+}
