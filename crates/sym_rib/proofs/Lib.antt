@@ -1,8 +1,10 @@
 pub mod Classes
 pub mod Entries
+pub mod EntryMetrics
 pub mod FilesTracked
 pub mod KnownRows
 pub mod LearntOver
+pub mod LocalRoutes
 pub mod MapLaw
 pub mod Networks
 pub mod OneEach

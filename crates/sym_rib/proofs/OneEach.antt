@@ -1,10 +1,10 @@
 -- Lists of records that may be there, one for each line.
-use Rattle.std.proofs.Common.{◌≡◌, ℕ, ◌+◌, ◌<◌, max, List, [], ◌∷◌, ◌++◌, take, get_or, length, refl, ap}
+use Rattle.std.proofs.Common.{◌≡◌, ℕ, ◌+◌, ◌<◌, max, List, [], ◌∷◌, ◌++◌, take, get_or, length, map, refl, ap}
 use Rattle.std.proofs.Common.{ap₂, sym}
 use Rattle.std.proofs.Common.{Option, Some, None, ◌∙◌, arith}
 use Rattle.std.specs.List.{filter_map}
-use Rattle.std.specs.Option.{option_to_list}
-use Rattle.std.proofs.lemmas.List.{take_more}
+use Rattle.std.specs.Option.{option_and_then, option_map, option_to_list}
+use Rattle.std.proofs.lemmas.List.{append_assoc, map-append, take_more}
 use Rattle.std.proofs.lemmas.List.Elements.{filter_map-append}
 use Rattle.sym_rib.specs.Into.{list_end}
 
@@ -33,3 +33,39 @@ one (Some b) = refl
 pub filter_map_push : {A B : Type 0} (f : A → Option B) (xs : List A) (x : A)
     → filter_map f (xs ++ x ∷ []) ≡ filter_map f xs ++ option_to_list (f x)
 filter_map_push f xs x = filter_map-append f xs (x ∷ []) ∙ ap (λ l. filter_map f xs ++ l) (one (f x))
+
+-- ---- lists that skip a line where no record can be there
+
+-- the end of two lists is that of the later one
+pub list_end-append : {A : Type 0} (end : A → ℕ) (xs ys : List A)
+    → list_end end (xs ++ ys) ≡ max (list_end end xs) (list_end end ys)
+list_end-append end [] ys = omega arith
+list_end-append end (x ∷ xs) ys = let rest = list_end-append end xs ys in omega arith
+
+of_option : {A B : Type 0} (f : A → Option B) (o : Option A)
+    → filter_map f (option_to_list o) ≡ option_to_list (option_and_then f o)
+of_option f None = refl
+of_option f (Some a) = one (f a)
+
+mapped_one : {X B C : Type 0} (v : C → B) (g : X → Option C) (x : X)
+    → map v (filter_map g (x ∷ [])) ≡ option_to_list (option_map v (g x))
+mapped_one v g x = by (g x)
+  where
+    by : (o : Option _) → map v (filter_map (λ u. u) (o ∷ [])) ≡ option_to_list (option_map v o)
+    by None = refl
+    by (Some c) = refl
+
+-- what some lines give, behind what was there before, with one more line
+pub lines_step : {X A B C : Type 0} (f : A → Option B) (v : C → B) (g : X → Option C) (before : List B) (made : List A)
+    (rec : Option A) (xs : List X) (i : ℕ) (x : X) → i < length xs → x ≡ get_or xs i x
+    → option_and_then f rec ≡ option_map v (g x)
+    → filter_map f made ≡ before ++ map v (filter_map g (take i xs))
+    → filter_map f (made ++ option_to_list rec) ≡ before ++ map v (filter_map g (take (i + 1) xs))
+lines_step f v g before made rec xs i x h is same so_far =
+    filter_map-append f made (option_to_list rec)
+    ∙ ap₂ (λ a b. a ++ b) so_far (of_option f rec ∙ ap option_to_list same ∙ sym (mapped_one v g x))
+    ∙ append_assoc before _ _
+    ∙ ap (λ l. before ++ l)
+    (sym (map-append v (filter_map g (take i xs)) (filter_map g (x ∷ [])))
+    ∙ ap (map v) (sym (filter_map-append g (take i xs) (x ∷ []))
+    ∙ ap (filter_map g) (ap (λ y. take i xs ++ y ∷ []) is ∙ sym (take_more xs i x h))))

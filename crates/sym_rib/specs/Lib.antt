@@ -1,4 +1,5 @@
 pub mod Into
+pub mod IntoBgp
 pub mod Known
 pub mod KnownParts
 pub mod Mapped

@@ -50,7 +50,11 @@ fn number_taken(source: Source) -> Option<u64>
 
 /// Whether an entry is of the source that a line takes.
 #[tactic(auto, using(crate::proofs::SourceLaw::source_law))]
-fn sym_from(terms: &mut Terms, source: Source, rib: &SymRib) -> Result<NodeId, AllocError>
+pub(crate) fn sym_from(
+    terms: &mut Terms,
+    source: Source,
+    rib: &SymRib,
+) -> Result<NodeId, AllocError>
     requires { rib_end rib.now ≤ size terms.old }
     ensures builds { Builds terms.old terms.new }
     ensures within { IfOk result (λ r. r.0 < size terms.new) }

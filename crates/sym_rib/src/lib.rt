@@ -7,10 +7,13 @@
 
 mod entry;
 mod interfaces;
+mod into_bgp;
 mod into_ospf;
 mod known;
 mod known_parts;
 mod learnt;
+mod metric;
+mod metrics;
 pub mod prefixes;
 mod ribs;
 mod slots;
@@ -18,5 +21,6 @@ mod statics;
 mod through;
 
 pub use entry::sym_entry;
+pub use into_bgp::sym_originate;
 pub use into_ospf::sym_redistribute;
 pub use slots::{SymRib, SymSlot};

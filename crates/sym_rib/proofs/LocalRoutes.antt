@@ -1,0 +1,205 @@
+-- A local route as the map of its line leaves it, from the terms of the record and from the route for which they stand.
+use Rattle.std.proofs.Common.{◌≡◌, ℕ, zero, suc, ◌≤◌, Bool, true, false, ◌&&◌, if◌then◌else◌, List, Option, Some, None}
+use Rattle.std.proofs.Common.{[], map, refl, ap, ◌∙◌, arith, ◌<◌, ◌+◌, ◌^◌, max}
+use Rattle.std.specs.Prelude.{IfSome, option_and_then, option_map}
+use Rattle.std.proofs.Math.Nat.{max-le}
+use Rattle.mw_text.specs.declared.address.Prefix.{Prefix}
+use Rattle.ios_ast.specs.declared.file.Use.{Use}
+use Rattle.ios_ast.specs.declared.policies.Policies.{Policies}
+use Rattle.ios_ast.specs.Setting.{Attributes}
+use Rattle.route_record.specs.declared.BgpRec.{BgpRec}
+use Rattle.route_record.specs.declared.Origin.{Origin}
+use Rattle.route_record.specs.declared.Origin.TheVariants.{Igp, Egp, Incomplete}
+use Rattle.route_record.specs.declared.RibEntry.{RibEntry}
+use Rattle.route_record.specs.declared.tracked.Tracked.{Tracked}
+use Rattle.route_record.specs.Origins.{origin_code, origin_of_code}
+use Rattle.route_record.specs.Shape.{has_address}
+use Rattle.net_model.specs.Mapping.{attributes_of, through_map, with_attributes}
+use Rattle.net_model.specs.Origins.{local_route}
+use Rattle.sym_policy.specs.declared.records.SymMapRec.{SymMapRec}
+use Rattle.sym_policy.specs.Held.{BgpShape, bgp_at, bgp_end, bgp_of, bgp_shape}
+use Rattle.sym_policy.specs.MapRecs.{KeepsRest, attributes_at, kept_end, map_rec_at, map_rec_end, seen_end}
+use Rattle.sym_policy.specs.Shapes.{RouteShape, route_shape}
+use Rattle.term_store.specs.Terms.{Reading, at}
+use Rattle.term_arith.specs.Bits.{bits, number}
+use Rattle.sym_rib.specs.IntoBgp.{local_with}
+use Rattle.sym_rib.specs.Known.{IsOwn}
+use Rattle.sym_rib.specs.Mapped.{IsShort}
+use Rattle.sym_rib.proofs.MapLaw.{code_left}
+
+-- ---- the record of a local route
+
+-- the code of the origin of a code
+pub origin_again : (n : ℕ) → n ≤ 2 → n ≡ origin_code (origin_of_code n)
+origin_again zero h = refl
+origin_again (suc zero) h = refl
+origin_again (suc (suc zero)) h = refl
+origin_again (suc (suc (suc n))) h = omega arith
+
+-- the shape of a local route, by what maps see of it
+abbrev pub own_shape : Tracked → RouteShape → BgpShape
+own_shape tracked s = record {
+  preferences = s.preferences;
+  path = s.path;
+  communities = s.communities;
+  next_hop = 0;
+  originator = 0;
+  from = 0;
+  cluster_len = 0;
+  clusters = map (has_address []) tracked.clusters;
+}
+
+-- what no map sets is still a local route's own
+pub own_kept : (w : Reading) (tracked : Tracked) (a b : SymMapRec) → KeepsRest a b → IsOwn w tracked a
+    → IsOwn w tracked b
+own_kept w tracked a b kept own = record {
+  next_hop = ap (number w) kept.next_hop ∙ own.next_hop;
+  originator = ap (number w) kept.originator ∙ own.originator;
+  from = ap (number w) kept.from ∙ own.from;
+  cluster_len = ap (number w) kept.cluster_len ∙ own.cluster_len;
+  clusters = ap (bits w) kept.clusters ∙ own.clusters;
+}
+
+shape_read : (w : Reading) (tracked : Tracked) (rec : SymMapRec) → IsOwn w tracked rec
+    → bgp_at w rec.bgp ≡ own_shape tracked (attributes_at w rec)
+shape_read w tracked rec own = λ i.
+    record (bgp_at w rec.bgp) {
+      next_hop = own.next_hop i;
+      originator = own.originator i;
+      from = own.from i;
+      cluster_len = own.cluster_len i;
+      clusters = own.clusters i;
+    }
+
+shape_of : (tracked : Tracked) (c : Attributes) → c.origin ≤ 2
+    → own_shape tracked (route_shape tracked c) ≡ bgp_shape tracked (local_with c)
+shape_of tracked c small =
+    let with_origin : ℕ → BgpShape = λ n. own_shape tracked (route_shape tracked (record c { origin = n })) in
+    ap with_origin (origin_again c.origin small)
+
+shapes_of : (tracked : Tracked) (left : Option Attributes) → IfSome left (λ c. c.origin ≤ 2)
+    → option_map (own_shape tracked) (option_map (route_shape tracked) left)
+    ≡ option_map (bgp_shape tracked) (option_map local_with left)
+shapes_of tracked None small = refl
+shapes_of tracked (Some c) small = ap Some (shape_of tracked c small)
+
+-- a record of a local route's own parts that stands for what a map leaves stands for the route with it
+pub record_stands : (w : Reading) (tracked : Tracked) (rec : SymMapRec) (left : Option Attributes)
+    → IsOwn w tracked rec → IfSome left (λ c. c.origin ≤ 2)
+    → map_rec_at w rec ≡ option_map (route_shape tracked) left
+    → bgp_of w rec.bgp ≡ option_map (bgp_shape tracked) (option_map local_with left)
+record_stands w tracked rec left own small is =
+    ap (λ x. if at w rec.bgp.valid then Some x else None) (shape_read w tracked rec own)
+    ∙ by (at w rec.bgp.valid)
+    ∙ ap (option_map (own_shape tracked)) is
+    ∙ shapes_of tracked left small
+  where
+    by : (there : Bool)
+        → (if there then Some (own_shape tracked (attributes_at w rec)) else None)
+        ≡ option_map (own_shape tracked) (if there then Some (attributes_at w rec) else None)
+    by true = refl
+    by false = refl
+
+-- what a map leaves of a local route keeps its own parts
+pub local_left : (origin : Origin) (through : Attributes → Option Attributes) (metric : Option ℕ)
+    → option_map local_with
+    (option_and_then through (option_map (λ med. attributes_of (local_route origin med)) metric))
+    ≡ option_and_then (λ med. option_map (with_attributes (local_route origin med))
+    (through (attributes_of (local_route origin med)))) metric
+local_left origin through None = refl
+local_left origin through (Some med) = refl
+
+-- ---- the nodes of a record
+
+parts : (a b n : ℕ) → max a b ≤ n → (a ≤ n) × (b ≤ n)
+parts a b n h = (omega arith, omega arith)
+
+seen_parts : (p q d c t n : ℕ) → max (max p q) (max d (max c t)) ≤ n
+    → ((p ≤ n) × (q ≤ n)) × ((d ≤ n) × (c ≤ n))
+seen_parts p q d c t n h =
+    let both = parts (max p q) (max d (max c t)) n h in
+    let second = parts d (max c t) n both.1 in
+    (parts p q n both.0, (second.0, (parts c t n second.1).0))
+
+kept_parts : (h o f e n : ℕ) → max (max h o) (max f e) ≤ n → ((h ≤ n) × (o ≤ n)) × ((f ≤ n) × (e ≤ n))
+kept_parts h o f e n within =
+    let both = parts (max h o) (max f e) n within in
+    (parts h o n both.0, parts f e n both.1)
+
+-- a store that has all nodes of a record has those of its route
+pub record_end : (rec : SymMapRec) (n : ℕ) → map_rec_end rec ≤ n → bgp_end rec.bgp ≤ n
+record_end rec n h =
+    let there = parts (rec.bgp.valid.0 + 1) (max (seen_end rec) (kept_end rec)) n h in
+    let both = parts (seen_end rec) (kept_end rec) n there.1 in
+    let seen = seen_parts _ _ _ _ _ n both.0 in
+    let kept = kept_parts _ _ _ _ n both.1 in
+    max-le (max-le (max-le there.0 seen.0.0) seen.0.1)
+    (max-le seen.1.0 (max-le (max-le seen.1.1 kept.0.0) (max-le (max-le kept.0.1 kept.1.0) kept.1.1)))
+
+-- ---- lines
+
+code_small : (origin : Origin) → origin_code origin ≤ 2
+code_small Igp = omega arith
+code_small Egp = omega arith
+code_small Incomplete = omega arith
+
+-- the origin of what a map leaves of a local route has a code
+pub local_code : (policies : Policies) (used : Option Use) (p : Prefix) (origin : Origin) (metric : Option ℕ)
+    → IfSome (option_and_then (through_map policies used p false)
+    (option_map (λ med. attributes_of (local_route origin med)) metric)) (λ c. c.origin ≤ 2)
+local_code policies used p origin None = tt
+local_code policies used p origin (Some med) =
+    code_left policies used p (attributes_of (local_route origin med)) (code_small origin)
+
+-- and the path of a local route is short
+pub local_short : (origin : Origin) (metric : Option ℕ)
+    → IfSome (option_map (λ med. attributes_of (local_route origin med)) metric) IsShort
+local_short origin None = tt
+local_short origin (Some med) = zero_short
+  where
+    zero_short : 0 < 2 ^ 32
+    zero_short = omega arith
+
+none_of : {A : Type 0} (o : Option ℕ) → ◌≡◌ {A = Option A} None (option_and_then (λ k. None) o)
+none_of None = refl
+none_of (Some k) = refl
+
+-- a `network` line, by the metric where the prefix is its own
+pub network_by : {A : Type 0} (same : Bool) (f : ℕ → Option A) (metric : RibEntry → Option ℕ) (rib : Option RibEntry)
+    → option_and_then f (if same then option_and_then metric rib else None)
+    ≡ option_and_then (λ e. option_and_then (λ med. if same then f med else None) (metric e)) rib
+network_by true f metric None = refl
+network_by true f metric (Some e) = refl
+network_by false f metric None = refl
+network_by false f metric (Some e) = none_of (metric e)
+
+-- none at another prefix
+pub network_none : {A : Type 0} (same : Bool) (f : ℕ → Option A) (metric : RibEntry → Option ℕ)
+    (rib : Option RibEntry) → same ≡ false
+    → ◌≡◌ {A = Option A} None
+    (option_and_then (λ e. option_and_then (λ med. if same then f med else None) (metric e)) rib)
+network_none true f metric rib is = cc
+network_none false f metric None is = refl
+network_none false f metric (Some e) is = none_of (metric e)
+
+-- a `redistribute` line, by the metric that it names or else that of the entry
+pub line_by : {A : Type 0} (default : Bool) (f : ℕ → Option A) (named : ℕ → ℕ) (metric : RibEntry → Option ℕ)
+    (rib : Option RibEntry) → default ≡ false
+    → option_and_then f (option_map named (option_and_then metric rib))
+    ≡ option_and_then (λ e. option_and_then (λ k. if default then None else f (named k)) (metric e)) rib
+line_by true f named metric rib is = cc
+line_by false f named metric None is = refl
+line_by false f named metric (Some e) is = by (metric e)
+  where
+    by : (o : Option ℕ) → option_and_then f (option_map named o) ≡ option_and_then (λ k. f (named k)) o
+    by None = refl
+    by (Some k) = refl
+
+-- none takes the default route
+pub line_none : {A : Type 0} (default : Bool) (f : ℕ → Option A) (metric : RibEntry → Option ℕ)
+    (rib : Option RibEntry) → default ≡ true
+    → ◌≡◌ {A = Option A} None
+    (option_and_then (λ e. option_and_then (λ k. if default then None else f k) (metric e)) rib)
+line_none false f metric rib is = cc
+line_none true f metric None is = refl
+line_none true f metric (Some e) is = none_of (metric e)

@@ -1,0 +1,31 @@
+use Rattle.std.proofs.Common.{Option, ◌∙◌, ap, false}
+use Rattle.std.specs.Option.{option_and_then, option_map}
+use Rattle.ios_ast.specs.Setting.{Attributes}
+use Rattle.net_model.specs.Mapping.{attributes_of, through_map}
+use Rattle.net_model.specs.Origins.{local_route}
+use Rattle.sym_policy.specs.Held.{bgp_shape}
+use Rattle.sym_policy.specs.Records.{prefix_of}
+use Rattle.sym_rib.specs.IntoBgp.{metric_of}
+use Rattle.sym_rib.proofs.LocalRoutes.{local_code, local_left, local_short, own_kept, record_end, record_stands}
+use Rattle.sym_rib.proofs.into_bgp.mapped_bgp.Goals as goal
+
+pub returns-clause-within : goal.returns-clause-within
+returns-clause-within c = record_end c.in_ok-left.left _ c.in_ok-left.ensures.within
+
+pub returns-clause-value : goal.returns-clause-value
+returns-clause-value c = λ w reads all.
+    let left = c.in_ok-left.ensures in
+    let before = c.in_ok-before.ensures in
+    let before_left = left.builds.reads w reads in
+    let tracked = c.args.tracked.now in
+    let policies = c.args.file.now.policies in
+    let used = c.args.used.now in
+    let origin = c.args.origin in
+    let p = prefix_of w c.args.dst.now c.args.len in
+    let metric = metric_of w c.args.metric in
+    let seen : Option Attributes = option_map (λ med. attributes_of (local_route origin med)) metric in
+    record_stands w tracked c.in_ok-left.left (option_and_then (through_map policies used p false) seen)
+    (own_kept w tracked c.in_ok-before.before c.in_ok-left.left left.rest (before.own w before_left))
+    (local_code policies used p origin metric)
+    (left.value w reads seen all (local_short origin metric) (before.value w before_left))
+    ∙ ap (option_map (bgp_shape tracked)) (local_left origin (through_map policies used p false) metric)

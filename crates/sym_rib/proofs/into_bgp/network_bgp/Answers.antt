@@ -1,0 +1,35 @@
+use Rattle.std.proofs.Common.{ℕ, Bool, Option, None, ◌∙◌, ap, if◌then◌else◌}
+use Rattle.std.specs.Option.{option_and_then, option_map}
+use Rattle.route_record.specs.declared.BgpRec.{BgpRec}
+use Rattle.route_record.specs.declared.Origin.TheVariants.{Igp}
+use Rattle.route_record.specs.declared.RibEntry.{RibEntry}
+use Rattle.mw_text.specs.Address.{same_prefix}
+use Rattle.net_model.specs.Origins.{entry_metric, local_route, local_through}
+use Rattle.sym_policy.specs.Held.{BgpShape, bgp_shape}
+use Rattle.sym_policy.specs.Records.{prefix_of}
+use Rattle.term_store.specs.Terms.{at}
+use Rattle.sym_rib.specs.IntoBgp.{metric_of}
+use Rattle.sym_rib.proofs.LocalRoutes.{network_by, network_none}
+use Rattle.sym_rib.proofs.into_bgp.network_bgp.Goals as goal
+
+pub returns-clause-value : goal.returns-clause-value
+returns-clause-value c = λ w reads held all stands.
+    let made = c.in_ok-made.ensures in
+    let here = c.in_ok-here.ensures in
+    let metric = c.in_ok-metric.ensures in
+    let before_made = made.builds.reads w reads in
+    let before_here = here.builds.reads w before_made in
+    let before_metric = metric.builds.reads w before_here in
+    let p = prefix_of w c.args.dst.now c.args.len in
+    let line = c.args.line.now in
+    let route : ℕ → Option BgpRec =
+    λ med. local_through c.args.file.now line.map p (local_route Igp med) in
+    let shaped : Option ℕ → Option BgpShape =
+    λ m. option_map (bgp_shape c.args.tracked.now) (option_and_then route m) in
+    let where_same : Bool → Option ℕ → Option ℕ = λ same m. if same then m else None in
+    let of_entry : RibEntry → Option ℕ = λ e. entry_metric held e.source in
+    made.value w reads all
+    ∙ ap shaped (here.value w before_made
+    ∙ ap (λ m. where_same (at w c.in_ok-same.same) m) (metric.value w before_here held stands.ospf stands.rib)
+    ∙ ap (λ same. where_same same (option_and_then of_entry held.rib)) (c.in_ok-same.ensures.value w before_metric))
+    ∙ ap (option_map (bgp_shape c.args.tracked.now)) (network_by (same_prefix line.prefix p) route of_entry held.rib)
