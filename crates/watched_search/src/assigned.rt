@@ -172,11 +172,7 @@ impl Assigned {
         requires { lit.var < self.now.vars }
         ensures { result ≡ holds self.now.lits lit }
     {
-        match self.value(lit.var) {
-            Value::Free => false,
-            Value::False => lit.negated,
-            Value::True => !lit.negated,
-        }
+        self.value(lit.var) == value_where_true(lit)
     }
 
     /// Whether a literal is false.
@@ -184,11 +180,7 @@ impl Assigned {
         requires { lit.var < self.now.vars }
         ensures { result ≡ fails self.now.lits lit }
     {
-        match self.value(lit.var) {
-            Value::Free => false,
-            Value::False => !lit.negated,
-            Value::True => lit.negated,
-        }
+        self.value(lit.var) == value_where_true(lit.opposite())
     }
 
     /// Makes a literal true whose variable has no value yet.
