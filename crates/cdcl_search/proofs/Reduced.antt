@@ -1,5 +1,6 @@
 -- What the deletion of a clause leaves of the arena, the trail and the watches.
-use Rattle.std.proofs.Common.{◌≡◌, ◌≢◌, ℕ, zero, suc, ◌+◌, ◌-◌, ◌<◌, ◌≤◌, ◌^◌, ◌==◌, true, false, cond, List, [], ◌∷◌, length}
+use Rattle.std.proofs.Common.{◌≡◌, ◌≢◌, ℕ, zero, suc, ◌+◌, ◌-◌, ◌<◌, ◌≤◌, ◌^◌, ◌==◌, true, false, cond, List, []}
+use Rattle.std.proofs.Common.{◌∷◌, length}
 use Rattle.std.proofs.Common.{Option, Some, None, filter, not, map, refl, sym, ap, subst, ◌∙◌, arith, inl, inr}
 use Rattle.std.proofs.Common.{slice_get, eqb-true}
 use Rattle.std.proofs.lemmas.Bool.{cases_Bool, eq-eqb, false≢true, ne_eqb}
@@ -109,11 +110,11 @@ numbered_filter [] n id = elim (cases_Bool (n == id)) [
 numbered_filter (x ∷ xs) n id = elim (cases_Bool (x.0 == n)) [
   | inl goes ↦
       let same : x.0 ≡ n = eqb-true x.0 n goes in
-      ap (λ b. clause_numbered (cond (not b) (x ∷ filter (λ y. not (y.0 == n)) xs) (filter (λ y. not (y.0 == n)) xs)) id)
-      goes ∙ numbered_filter xs n id ∙ gone same
+      ap (λ b. clause_numbered (cond (not b) (x ∷ filter (λ y. not (y.0 == n)) xs)
+      (filter (λ y. not (y.0 == n)) xs)) id) goes ∙ numbered_filter xs n id ∙ gone same
   | inr stays ↦
-      ap (λ b. clause_numbered (cond (not b) (x ∷ filter (λ y. not (y.0 == n)) xs) (filter (λ y. not (y.0 == n)) xs)) id)
-      stays ∙ ap (λ o. cond (x.0 == id) (Some (record { lits = x.1 })) o) (numbered_filter xs n id) ∙ kept stays
+      ap (λ b. clause_numbered (cond (not b) (x ∷ filter (λ y. not (y.0 == n)) xs)
+      (filter (λ y. not (y.0 == n)) xs)) id) stays ∙ ap (λ o. cond (x.0 == id) (Some (record { lits = x.1 })) o) (numbered_filter xs n id) ∙ kept stays
 ]
   where
     rest : Option Clause

@@ -251,8 +251,8 @@ module _ (a : Store) (ss : List Lit) (levels : List ℕ) (top : ℕ) (len : leng
         -- ---- a literal that was forced
 
         module _ (reasons : List (Option ClauseRef)) (kept : Bool) (s : Stays a ss levels reasons marks top at kept)
-            (not_kept : kept ≡ false) (id : ℕ) (c : List Lit) (held : held_in a id ≡ Some (record { lits = c })) (inside : has c t ≡ true)
-            (others : OthersFail (take at ss) c t) (chain' : List ℕ) (e : chain' ≡ chain ++ id ∷ [])
+            (not_kept : kept ≡ false) (id : ℕ) (c : List Lit) (held : held_in a id ≡ Some (record { lits = c }))
+            (inside : has c t ≡ true) (others : OthersFail (take at ss) c t) (chain' : List ℕ) (e : chain' ≡ chain ++ id ∷ [])
             (new : (v : ℕ) → marks' v ≡ cond (t.var == v) false (has_var c v || marks v)) where
           next : IsFollowed a ss at marks' lits chain'
           next =
