@@ -13,7 +13,7 @@ use clause_arena::{Arena, ClauseRef};
 use mw_outside::Sink;
 use resolution_check::Lit;
 use std::alloc::Global;
-use watched_search::{Assigned, ROUND};
+use watched_search::{Assigned, ROUND, compact};
 
 /// No clause is deleted once numbers are above this one, nor after so many reductions.
 const LAST_NUMBER: u64 = 1 << 62;
@@ -223,20 +223,21 @@ fn delete_all<L: Sink>(
     Ok(())
 }
 
-/// Where a reduction is due, deletes learnt clauses: all but the shorter ones, those of one or two literals, and reasons.
-/// Answers how many reductions there were.
+/// Where a reduction is due, deletes learnt clauses, all but the shorter ones, those of one or two literals, and reasons,
+/// and moves the others together. Answers how many reductions there were.
 pub(crate) fn reduce<L: Sink>(
     alloc: Global,
     log: &mut L,
     arena: &mut Arena,
-    assigned: &Assigned,
+    assigned: &mut Assigned,
     first: u64,
     added: u64,
     from: usize,
     runs: u64,
 ) -> Result<u64, SolveFault>
-    requires ready { IsReady arena.old assigned.now (first + added) from }
-    ensures ready { IfOk result (λ _. IsReady arena.new assigned.now (first + added) from) }
+    requires ready { IsReady arena.old assigned.old (first + added) from }
+    ensures ready { IfOk result (λ _. IsReady arena.new assigned.new (first + added) from) }
+    ensures vars { IfOk result (λ _. assigned.new.vars ≡ assigned.old.vars) }
     ensures keeps { IfOk result (λ _. KeepsBelow first arena.old arena.new) }
     ensures goes { IfOk result (λ more. GoesOnReduced (L.taken log.old) (L.taken log.new) arena.old arena.new first added runs more) }
     ensures cut { OnErr result (CutsReduced (L.taken log.old) (L.taken log.new) arena.old first added runs) }
@@ -250,5 +251,6 @@ pub(crate) fn reduce<L: Sink>(
     }
     let longest = longest_kept(arena, assigned, first);
     delete_all(alloc, log, arena, assigned, first, added, from, longest)?;
+    compact(arena, assigned, from);
     Ok(runs + 1)
 }

@@ -188,8 +188,8 @@ loop-added-preserved g c =
     (held_in c.find_conflict.new.arena) (held_in c.take_lesson.new.arena)
     (c.args.first + c.loop-added.added) c.turn_of-turn.result)) c.in-Some-2.is t.going in
     record {
-      work_vars = t.work_vars ∙ i.work_vars ∙ sym (e.vars ∙ t.vars ∙ f.vars);
-      same_vars = e.vars ∙ t.vars ∙ f.vars ∙ i.same_vars;
+      work_vars = t.work_vars ∙ i.work_vars ∙ sym (r.vars ∙ e.vars ∙ t.vars ∙ f.vars);
+      same_vars = r.vars ∙ e.vars ∙ t.vars ∙ f.vars ∙ i.same_vars;
       ready = r.ready;
       gives = λ id k h.
           (let x = gives_then (held_in c.args.arena.now) (held_in c.loop-added.arena) (held_in b) i.gives
