@@ -1,5 +1,6 @@
 -- The log of a search that deletes clauses.
-use Rattle.std.proofs.Common.{◌≡◌, ◌≢◌, ◌⊎◌, ℕ, ◌+◌, ◌*◌, ◌/◌, ◌%◌, ◌<◌, ◌≤◌, ◌^◌, ◌==◌, Bool, true, false, cond, ◌||◌, ◌&&◌, List}
+use Rattle.std.proofs.Common.{◌≡◌, ◌≢◌, ◌⊎◌, ℕ, ◌+◌, ◌*◌, ◌/◌, ◌%◌, ◌<◌, ◌≤◌, ◌^◌, ◌==◌, Bool, true, false, cond}
+use Rattle.std.proofs.Common.{◌||◌, ◌&&◌, List}
 use Rattle.std.proofs.Common.{[], ◌∷◌, ◌++◌, length, Option, Some, None, is_some, not, refl, sym, ap, ap₂, subst, ◌∙◌}
 use Rattle.std.proofs.Common.{arith, inl, inr, append_assoc, add-zero}
 use Rattle.std.specs.Option.{option_or}
@@ -55,7 +56,8 @@ none_counted (m ∷ c) l none h = elim (cases_Bool (has c m)) [
 
 -- a literal that is counted once is the first one or stands in the rest
 first_or : (l k : Lit) (c : List Lit) → has (l ∷ c) k ≡ true → (k ≡ l) ⊎ (has c k ≡ true)
-first_or l k c h = elim (or_cases (is_same k l) (has c k) h) [ inl same ↦ inl (same_lit k l same) | inr rest ↦ inr rest ]
+first_or l k c h =
+    elim (or_cases (is_same k l) (has c k) h) [ inl same ↦ inl (same_lit k l same) | inr rest ↦ inr rest ]
 
 one_counted : (c : List Lit) (k l : Lit) → lit_count c ≤ 1 → has c k ≡ true → has c l ≡ true → k ≡ l
 one_counted [] k l few h i = absurd (false≢true h)

@@ -188,8 +188,8 @@ module _ (a : Store) (now : Assigned) (id from : ℕ) (lits : List Lit) (chain :
       → lits ≡ [] → Takes old new (line_of (Add id (record { lits = lits }) chain))
       → Refutes old new tolds more_tolds (held_in a) id turn
   lesson_refutes turn more_tolds tells empty takes = λ before ins added runs is_turn g.
-      refuted_more before old ins (held_in a) id added runs tolds g lits chain (lesson_adds a now.lits lits chain l none)
-      (lesson_text a now id from lits chain r small l none) turn is_turn more_tolds tells new (ap is_empty empty) takes
+      refuted_more before old ins (held_in a) id added runs tolds g lits chain
+      (lesson_adds a now.lits lits chain l none) (lesson_text a now id from lits chain r small l none) turn is_turn more_tolds tells new (ap is_empty empty) takes
 
   -- the line was written, and the clause is held
   pub lesson_goes : (turn : ℕ) (more_tolds : List (Option (List ℕ))) → TellsAt tolds more_tolds turn (vars_of lits)
@@ -312,8 +312,8 @@ module _ (vars id n : ℕ) (inputs : List Clause) (a : Store) (steps lits : List
         → IsDone before new inputs budget more_tolds Unsat
     refuted_done more_tolds tells more =
         done_unsat before new inputs 1 budget more_tolds some
-        (refuted_more before old inputs (clause_numbered (numbered_from 1 inputs)) id 0 0 tolds start lits chain refuting
-        refuted_text 0 (first_turn (length tolds)) more_tolds tells new (ap is_empty empty) more)
+        (refuted_more before old inputs (clause_numbered (numbered_from 1 inputs)) id 0 0 tolds start lits chain
+        refuting refuted_text 0 (first_turn (length tolds)) more_tolds tells new (ap is_empty empty) more)
 
 -- values under which each input that is held is true satisfy the inputs
 pub sat_inputs : (a : Store) (inputs : List Clause) → clauses a ≡ numbered_from 1 inputs → (o : Outcome)

@@ -1,5 +1,6 @@
 -- What the deletion of a clause leaves of the arena, the trail and the watches.
-use Rattle.std.proofs.Common.{◌≡◌, ◌≢◌, ℕ, zero, suc, ◌+◌, ◌-◌, ◌<◌, ◌≤◌, ◌^◌, ◌==◌, true, false, cond, List, [], ◌∷◌, length}
+use Rattle.std.proofs.Common.{◌≡◌, ◌≢◌, ℕ, zero, suc, ◌+◌, ◌-◌, ◌<◌, ◌≤◌, ◌^◌, ◌==◌, true, false, cond, List, []}
+use Rattle.std.proofs.Common.{◌∷◌, length}
 use Rattle.std.proofs.Common.{Option, Some, None, filter, not, map, refl, sym, ap, subst, ◌∙◌, arith, inl, inr}
 use Rattle.std.proofs.Common.{slice_get, eqb-true}
 use Rattle.std.proofs.lemmas.Bool.{cases_Bool, eq-eqb, false≢true, ne_eqb}
@@ -24,8 +25,8 @@ use Rattle.watched_search.specs.Starts.{AreBelow}
 use Rattle.watched_search.specs.Trails.{Assigned}
 use Rattle.watched_search.specs.Watches.{AreWatched, IsKept, literal}
 use Rattle.watched_search.proofs.Settled.{same_code}
-use Rattle.cdcl_search.specs.Going.{IsReady}
-use Rattle.cdcl_search.specs.Reductions.{IsNoReason, KeepsBelow, MayGo}
+use Rattle.cdcl_search.specs.Going.{IsGoing, IsReady}
+use Rattle.cdcl_search.specs.Reductions.{GoesOnReduced, IsNoReason, KeepsBelow, MayGo}
 
 module _ (old new : Store) (r : ℕ) (d : Deletes old new r) where
   still : (s : ℕ) → In s new.refs → In s old.refs × (s ≢ r)
@@ -109,11 +110,11 @@ numbered_filter [] n id = elim (cases_Bool (n == id)) [
 numbered_filter (x ∷ xs) n id = elim (cases_Bool (x.0 == n)) [
   | inl goes ↦
       let same : x.0 ≡ n = eqb-true x.0 n goes in
-      ap (λ b. clause_numbered (cond (not b) (x ∷ filter (λ y. not (y.0 == n)) xs) (filter (λ y. not (y.0 == n)) xs)) id)
-      goes ∙ numbered_filter xs n id ∙ gone same
+      ap (λ b. clause_numbered (cond (not b) (x ∷ filter (λ y. not (y.0 == n)) xs)
+      (filter (λ y. not (y.0 == n)) xs)) id) goes ∙ numbered_filter xs n id ∙ gone same
   | inr stays ↦
-      ap (λ b. clause_numbered (cond (not b) (x ∷ filter (λ y. not (y.0 == n)) xs) (filter (λ y. not (y.0 == n)) xs)) id)
-      stays ∙ ap (λ o. cond (x.0 == id) (Some (record { lits = x.1 })) o) (numbered_filter xs n id) ∙ kept stays
+      ap (λ b. clause_numbered (cond (not b) (x ∷ filter (λ y. not (y.0 == n)) xs)
+      (filter (λ y. not (y.0 == n)) xs)) id) stays ∙ ap (λ o. cond (x.0 == id) (Some (record { lits = x.1 })) o) (numbered_filter xs n id) ∙ kept stays
 ]
   where
     rest : Option Clause
@@ -183,6 +184,36 @@ ready_less old new now next from first c r sound sound_new d less may low = reco
   number = omega arith;
   few = r.few;
 }
+
+-- a search stays ready where its clauses move together
+pub ready_compacted : (old new : Store) (was now : Assigned) (next from : ℕ) → IsReady old was next from
+    → now.vars ≡ was.vars → new.vars ≡ old.vars → now.lits ≡ was.lits → clauses new ≡ clauses old
+    → IsTrail new now.vars now.lits now.levels now.reasons → IsKept new now.lits now.levels from
+    → ((n : ℕ) → AreBelow old n → AreBelow new n) → IsReady new now next from
+ready_compacted old new was now next from r vars arena_vars lits same trail kept below = record {
+  vars = vars ∙ r.vars ∙ sym arena_vars;
+  trail = trail;
+  kept = kept;
+  within = (let n : length now.lits ≡ length was.lits = ap length lits in
+      let w : from ≤ length was.lits = r.within in omega arith);
+  below = below next r.below;
+  above = ap (λ (xs : List (ℕ × List Lit)). clause_numbered xs 0) same ∙ r.above;
+  some = r.some;
+  number = (let n : length (clauses new) ≡ length (clauses old) = ap length same in
+      let w : next ≤ length (clauses old) + 2 ^ 62 = r.number in omega arith);
+  few = r.few;
+}
+
+-- the same clauses are held then, and so what was logged goes on
+pub keeps_compacted : (a b d : Store) (first : ℕ) → clauses d ≡ clauses b → KeepsBelow first a b → KeepsBelow first a d
+keeps_compacted a b d first same keeps id c low there =
+    ap (λ (xs : List (ℕ × List Lit)). clause_numbered xs id) same ∙ keeps id c low there
+
+pub goes_compacted : (old new : Option (List ℕ)) (a b d : Store) (first added runs more : ℕ) → clauses d ≡ clauses b
+    → GoesOnReduced old new a b first added runs more → GoesOnReduced old new a d first added runs more
+goes_compacted old new a b d first added runs more same goes = λ before ins tolds g.
+    subst (λ (xs : List (ℕ × List Lit)). IsGoing before new ins (clause_numbered xs) (first + added) added more tolds)
+    (sym same) (goes before ins tolds g)
 
 -- ---- long clauses
 

@@ -13,7 +13,7 @@ use clause_arena::{Arena, ClauseRef};
 use mw_outside::Sink;
 use resolution_check::Lit;
 use std::alloc::Global;
-use watched_search::{Assigned, ROUND};
+use watched_search::{Assigned, ROUND, compact};
 
 /// No clause is deleted once numbers are above this one, nor after so many reductions.
 const LAST_NUMBER: u64 = 1 << 62;
@@ -38,13 +38,13 @@ fn is_reason(assigned: &Assigned, c: ClauseRef) -> bool
     assigned.trail().reasons.contains(&Some(c))
 }
 
-/// Whether a clause was learnt before this number, has more than two literals, and is no reason.
-fn may_go(arena: &Arena, assigned: &Assigned, first: u64, kept: u64, c: ClauseRef) -> bool
+/// Whether a clause was learnt, has more than two literals and more than so many, and is no reason.
+fn may_go(arena: &Arena, assigned: &Assigned, first: u64, longest: u64, c: ClauseRef) -> bool
     requires { IsHeld arena.now c }
     ensures { result ≡ true → MayGo arena.now assigned.now.reasons first c }
 {
-    let id = arena.id(c);
-    if id < first || id >= kept || arena.size(c) < 3 {
+    let size = arena.size(c);
+    if arena.id(c) < first || size < 3 || size <= longest {
         return false;
     }
     !is_reason(assigned, c)
@@ -55,7 +55,7 @@ fn next_to_go(
     arena: &Arena,
     assigned: &Assigned,
     first: u64,
-    kept: u64,
+    longest: u64,
     lit: Lit,
 ) -> Option<ClauseRef>
     requires { lit.var < arena.now.vars }
@@ -66,7 +66,7 @@ fn next_to_go(
         let Some(w) = at else {
             return None;
         };
-        if may_go(arena, assigned, first, kept, w.clause) {
+        if may_go(arena, assigned, first, longest, w.clause) {
             return Some(w.clause);
         }
         at = arena.next_watch(w);
@@ -114,7 +114,7 @@ fn delete_watched<L: Sink>(
     first: u64,
     added: u64,
     from: usize,
-    kept: u64,
+    longest: u64,
     lit: Lit,
 ) -> Result<(), SolveFault>
     requires ready { IsReady arena.old assigned.now (first + added) from }
@@ -128,12 +128,67 @@ fn delete_watched<L: Sink>(
     ensures later { L.faults log.old ≤ L.faults log.new }
 {
     for _ in 0..u64::MAX {
-        let Some(c) = next_to_go(arena, assigned, first, kept, lit) else {
+        let Some(c) = next_to_go(arena, assigned, first, longest, lit) else {
             return Ok(());
         };
         delete_clause(alloc, log, arena, assigned, first, added, from, c)?;
     }
     Ok(())
+}
+
+/// Learnt clauses that were counted, and their literals.
+#[derive(Clone, Copy, Debug)]
+struct Counted {
+    clauses: u64,
+    literals: u64,
+}
+
+/// One clause more, where it was learnt.
+fn count_clause(arena: &Arena, first: u64, c: ClauseRef, counted: Counted) -> Counted
+    requires { IsHeld arena.now c }
+{
+    if arena.id(c) < first {
+        return counted;
+    }
+    Counted {
+        clauses: counted.clauses.saturating_add(1),
+        literals: counted.literals.saturating_add(arena.size(c)),
+    }
+}
+
+/// The learnt clauses that are watched by a literal more.
+fn count_watched(arena: &Arena, first: u64, lit: Lit, before: Counted) -> Counted
+    requires { lit.var < arena.now.vars }
+{
+    let mut counted = before;
+    let mut at = arena.first_watch(lit);
+    for _ in 0..u64::MAX {
+        let Some(w) = at else {
+            return counted;
+        };
+        counted = count_clause(arena, first, w.clause, counted);
+        at = arena.next_watch(w);
+    }
+    counted
+}
+
+/// How many literals a learnt clause may have to be kept: three quarters of what learnt clauses of two or more literals
+/// have on average, each being counted once for each of its watches.
+fn longest_kept(arena: &Arena, assigned: &Assigned, first: u64) -> u64
+    requires { assigned.now.vars ≡ arena.now.vars }
+{
+    let mut counted = Counted {
+        clauses: 0,
+        literals: 0,
+    };
+    for code in 0..assigned.vars().saturating_mul(2) {
+        let lit = Lit {
+            var: code / 2,
+            negated: code % 2 == 1,
+        };
+        counted = count_watched(arena, first, lit, counted);
+    }
+    counted.literals / 4 * 3 / counted.clauses.max(1)
 }
 
 /// Deletes the clauses that may go.
@@ -145,7 +200,7 @@ fn delete_all<L: Sink>(
     first: u64,
     added: u64,
     from: usize,
-    kept: u64,
+    longest: u64,
 ) -> Result<(), SolveFault>
     requires ready { IsReady arena.old assigned.now (first + added) from }
     requires few { first + added ≤ 2 ^ 62 }
@@ -161,25 +216,28 @@ fn delete_all<L: Sink>(
             var: code / 2,
             negated: code % 2 == 1,
         };
-        delete_watched(alloc, log, arena, assigned, first, added, from, kept, lit)?;
+        delete_watched(
+            alloc, log, arena, assigned, first, added, from, longest, lit,
+        )?;
     }
     Ok(())
 }
 
-/// Where a reduction is due, deletes learnt clauses: all but the latest ones, those of one or two literals, and reasons.
-/// Answers how many reductions there were.
+/// Where a reduction is due, deletes learnt clauses, all but the shorter ones, those of one or two literals, and reasons,
+/// and moves the others together. Answers how many reductions there were.
 pub(crate) fn reduce<L: Sink>(
     alloc: Global,
     log: &mut L,
     arena: &mut Arena,
-    assigned: &Assigned,
+    assigned: &mut Assigned,
     first: u64,
     added: u64,
     from: usize,
     runs: u64,
 ) -> Result<u64, SolveFault>
-    requires ready { IsReady arena.old assigned.now (first + added) from }
-    ensures ready { IfOk result (λ _. IsReady arena.new assigned.now (first + added) from) }
+    requires ready { IsReady arena.old assigned.old (first + added) from }
+    ensures ready { IfOk result (λ _. IsReady arena.new assigned.new (first + added) from) }
+    ensures vars { IfOk result (λ _. assigned.new.vars ≡ assigned.old.vars) }
     ensures keeps { IfOk result (λ _. KeepsBelow first arena.old arena.new) }
     ensures goes { IfOk result (λ more. GoesOnReduced (L.taken log.old) (L.taken log.new) arena.old arena.new first added runs more) }
     ensures cut { OnErr result (CutsReduced (L.taken log.old) (L.taken log.new) arena.old first added runs) }
@@ -191,7 +249,8 @@ pub(crate) fn reduce<L: Sink>(
     if !is_due(next, added, runs) {
         return Ok(runs);
     }
-    let kept = next.saturating_sub(1000 * (runs + 1));
-    delete_all(alloc, log, arena, assigned, first, added, from, kept)?;
+    let longest = longest_kept(arena, assigned, first);
+    delete_all(alloc, log, arena, assigned, first, added, from, longest)?;
+    compact(arena, assigned, from);
     Ok(runs + 1)
 }

@@ -1,5 +1,6 @@
 -- What is learnt contains no clause that is held, and the level to go back to is the least one.
-use Rattle.std.proofs.Common.{◌≡◌, ◌⊎◌, ℕ, ◌+◌, ◌-◌, ◌<◌, ◌≤◌, ◌==◌, Bool, true, false, not, List, [], ◌∷◌, length, take}
+use Rattle.std.proofs.Common.{◌≡◌, ◌⊎◌, ℕ, ◌+◌, ◌-◌, ◌<◌, ◌≤◌, ◌==◌, Bool, true, false, not, List, []}
+use Rattle.std.proofs.Common.{◌∷◌, length, take}
 use Rattle.std.proofs.Common.{slice_get, Option, Some, None, is_some, inl, inr, refl, sym, ap, ◌∙◌, subst, arith}
 use Rattle.std.proofs.lemmas.Bool.{cases_Bool, cases_lt, eq-eqb, false≢true, true≢false, or_cases, or_left, or_right}
 use Rattle.std.proofs.lemmas.Bool.{and_parts, not-true}

@@ -15,6 +15,7 @@ use Rattle.resolution_check.specs.Trails.{value_of, AllFail, OthersFail}
 use Rattle.resolution_check.proofs.Literals.{same_lit, same_refl, has-append}
 use Rattle.resolution_check.proofs.Values.{some_value}
 use Rattle.resolution_check.proofs.Variables.{gain, has_var_from, lose, of_var}
+use Rattle.clause_arena.specs.declared.names.ClauseRef.{ClauseRef}
 use Rattle.clause_arena.specs.Links.{word}
 use Rattle.clause_arena.specs.Store.{Store}
 use Rattle.clause_arena.specs.Held.{held_in}
@@ -138,8 +139,8 @@ module _ (a : Store) (ss : List Lit) (levels : List ℕ) (top : ℕ) (len : leng
 
         -- ---- a literal that is kept
 
-        module _ (kept : Bool) (s : Stays ss levels marks top at kept) (keeps : (kept ≡ true) ⊎ OpensLevel levels at)
-            (lits' : List Lit) (e : lits' ≡ lits ++ opposite t ∷ [])
+        module _ (reasons : List (Option ClauseRef)) (kept : Bool) (s : Stays a ss levels reasons marks top at kept)
+            (keeps : (kept ≡ true) ⊎ OpensLevel levels at) (lits' : List Lit) (e : lits' ≡ lits ++ opposite t ∷ [])
             (new : (v : ℕ) → marks' v ≡ cond (t.var == v) false (marks v)) where
           above : 0 < word levels at
           above = elim keeps [
@@ -249,9 +250,9 @@ module _ (a : Store) (ss : List Lit) (levels : List ℕ) (top : ℕ) (len : leng
 
         -- ---- a literal that was forced
 
-        module _ (kept : Bool) (s : Stays ss levels marks top at kept) (not_kept : kept ≡ false) (id : ℕ)
-            (c : List Lit) (held : held_in a id ≡ Some (record { lits = c })) (inside : has c t ≡ true)
-            (others : OthersFail (take at ss) c t) (chain' : List ℕ) (e : chain' ≡ chain ++ id ∷ [])
+        module _ (reasons : List (Option ClauseRef)) (kept : Bool) (s : Stays a ss levels reasons marks top at kept)
+            (not_kept : kept ≡ false) (id : ℕ) (c : List Lit) (held : held_in a id ≡ Some (record { lits = c }))
+            (inside : has c t ≡ true) (others : OthersFail (take at ss) c t) (chain' : List ℕ) (e : chain' ≡ chain ++ id ∷ [])
             (new : (v : ℕ) → marks' v ≡ cond (t.var == v) false (has_var c v || marks v)) where
           next : IsFollowed a ss at marks' lits chain'
           next =
@@ -285,7 +286,7 @@ module _ (a : Store) (ss : List Lit) (levels : List ℕ) (top : ℕ) (len : leng
           another_left high b =
               let f = w.followed in
               let is : word levels at ≡ top = at_top b in
-              let m = s.another not_kept (omega arith) in
+              let m = s.another not_kept (omega arith) (omega arith) in
               let early : m.at < at = m.before in
               let within : at < length ss = slice_get_within ss at t there in
               let reached : top ≤ word levels m.at = m.reached in

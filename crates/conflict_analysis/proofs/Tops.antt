@@ -1,13 +1,16 @@
 -- Which steps of the top level are marked, and which level that is.
-use Rattle.std.proofs.Common.{◌≡◌, ℕ, ◌+◌, ◌<◌, ◌≤◌, Bool, true, false, List, length, slice_get, Some, inl, inr}
+use Rattle.std.proofs.Common.{◌≡◌, ℕ, ◌+◌, ◌<◌, ◌≤◌, Bool, true, false, not, List, length, slice_get, Option, Some}
+use Rattle.std.proofs.Common.{inl, inr}
 use Rattle.std.proofs.Common.{refl, sym, ◌∙◌, subst, arith}
 use Rattle.std.proofs.lemmas.Bool.{cases_eq, cases_lt, false≢true, true≢false}
 use Rattle.std.proofs.lemmas.Option.{slice_get_within, get_or_from_slice_get}
 use Rattle.mw_text.proofs.Lists.{item_there}
 use Rattle.resolution_check.specs.declared.log.Lit.{Lit}
+use Rattle.clause_arena.specs.declared.names.ClauseRef.{ClauseRef}
 use Rattle.clause_arena.specs.Links.{word}
+use Rattle.clause_arena.specs.Store.{Store}
 use Rattle.conflict_analysis.specs.Steps.{NeverFalls, NoneMarked}
-use Rattle.conflict_analysis.specs.Levels.{HasMarked, Stays, IsTop}
+use Rattle.conflict_analysis.specs.Levels.{HasMarked, Stays, IsTop, is_implied}
 
 pub none_more : (lits : List Lit) (levels : List ℕ) (marks : ℕ → Bool) (top at next high : ℕ) → next ≡ at + 1
     → NoneMarked lits levels marks top next high
@@ -43,9 +46,9 @@ none_all lits levels marks top low high e n = subst (λ (u : ℕ). NoneMarked li
 
 -- ---- whether a marked step is kept
 
-pub kept_never : (lits : List Lit) (levels : List ℕ) (marks : ℕ → Bool) (top at : ℕ) → slice_get levels at ≡ Some 0
-    → Stays lits levels marks top at false
-kept_never lits levels marks top at is =
+pub kept_never : (a : Store) (lits : List Lit) (levels : List ℕ) (reasons : List (Option ClauseRef)) (marks : ℕ → Bool)
+    (top at : ℕ) → slice_get levels at ≡ Some 0 → Stays a lits levels reasons marks top at false
+kept_never a lits levels reasons marks top at is =
     let v : word levels at ≡ 0 = get_or_from_slice_get levels at 0 0 is in
     record {
       ground = λ z. refl;
@@ -54,28 +57,30 @@ kept_never lits levels marks top at is =
       another = λ e h. absurd (omega arith);
     }
 
-pub kept_always : (lits : List Lit) (levels : List ℕ) (marks : ℕ → Bool) (top at level : ℕ)
-    → slice_get levels at ≡ Some level → (level ≡ 0 → ⊥) → level < top → Stays lits levels marks top at true
-kept_always lits levels marks top at level is above low =
+pub kept_lower : (a : Store) (lits : List Lit) (levels : List ℕ) (reasons : List (Option ClauseRef)) (marks : ℕ → Bool)
+    (top at level : ℕ) (kept : Bool) → slice_get levels at ≡ Some level → (level ≡ 0 → ⊥) → level < top
+    → ((l : Lit) (r : Option ClauseRef) → slice_get lits at ≡ Some l → slice_get reasons at ≡ Some r
+    → kept ≡ not (is_implied a marks l.var r)) → Stays a lits levels reasons marks top at kept
+kept_lower a lits levels reasons marks top at level kept is above low same =
     let v : word levels at ≡ level = get_or_from_slice_get levels at level 0 is in
     record {
       ground = λ z. absurd (above (omega arith));
-      lower = λ h less. refl;
+      lower = λ h less. same;
       last = λ h high. absurd (omega arith);
-      another = λ e. absurd (true≢false e);
+      another = λ e h high. absurd (omega arith);
     }
 
-pub kept_last : (lits : List Lit) (levels : List ℕ) (marks : ℕ → Bool) (top at level : ℕ) (kept : Bool)
-    → slice_get levels at ≡ Some level → (level ≡ 0 → ⊥) → top ≤ level
+pub kept_last : (a : Store) (lits : List Lit) (levels : List ℕ) (reasons : List (Option ClauseRef)) (marks : ℕ → Bool)
+    (top at level : ℕ) (kept : Bool) → slice_get levels at ≡ Some level → (level ≡ 0 → ⊥) → top ≤ level
     → (kept ≡ true → NoneMarked lits levels marks top 0 at) → (kept ≡ false → HasMarked lits levels marks top at)
-    → Stays lits levels marks top at kept
-kept_last lits levels marks top at level kept is above high last another =
+    → Stays a lits levels reasons marks top at kept
+kept_last a lits levels reasons marks top at level kept is above high last another =
     let v : word levels at ≡ level = get_or_from_slice_get levels at level 0 is in
     record {
       ground = λ z. absurd (above (omega arith));
       lower = λ h less. absurd (omega arith);
       last = λ h reached. last h;
-      another = λ e h. another e;
+      another = λ e h reached. another e;
     }
 
 -- a marked step of the top level was found

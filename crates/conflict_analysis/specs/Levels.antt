@@ -1,6 +1,7 @@
 -- Levels of variables, and what stands on a trail up to a level.
-use Rattle.std.specs.Prelude.{ℕ, suc, ◌≡◌, ◌<◌, ◌≤◌, ◌==◌, Bool, true, false, nat_le, if◌then◌else◌}
-use Rattle.std.specs.Prelude.{List, [], ◌∷◌, ⊤, length, take, slice_get, Some}
+use Rattle.std.specs.Prelude.{ℕ, suc, ◌≡◌, ◌<◌, ◌≤◌, ◌==◌, ◌||◌, Bool, true, false, not, nat_le, if◌then◌else◌}
+use Rattle.std.specs.Prelude.{List, [], ◌∷◌, ⊤, length, take, slice_get, Option, Some, None}
+use Rattle.std.specs.List.{list_all}
 use Rattle.resolution_check.specs.declared.log.Lit.{Lit}
 use Rattle.resolution_check.specs.declared.log.Clause.{Clause}
 use Rattle.resolution_check.specs.Clauses.{has, is_inside}
@@ -8,7 +9,8 @@ use Rattle.resolution_check.specs.Entries.{is_empty}
 use Rattle.resolution_check.specs.Trails.{IsSettled}
 use Rattle.clause_arena.specs.Links.{word}
 use Rattle.clause_arena.specs.Store.{Store}
-use Rattle.clause_arena.specs.Held.{held_in}
+use Rattle.clause_arena.specs.declared.names.ClauseRef.{ClauseRef}
+use Rattle.clause_arena.specs.Held.{held_in, lits_of}
 use Rattle.conflict_analysis.specs.Steps.{OpensLevel, NoneMarked}
 
 -- the level of a variable's step, 0 where it has none
@@ -64,13 +66,24 @@ pub record HasMarked (steps : List Lit) (levels : List ℕ) (marks : ℕ → Boo
   pub reached : top ≤ word levels at
   pub is_marked : marks lit.var ≡ true
 
--- whether a marked step is kept: never at level 0, always between it and the top level, and at the top level where no
--- step before it is marked
-pub record Stays (steps : List Lit) (levels : List ℕ) (marks : ℕ → Bool) (top at : ℕ) (kept : Bool) : Type 0 where
+-- whether each variable of the clause is this one or marked
+abbrev pub others_marked : (ℕ → Bool) → ℕ → List Lit → Bool
+others_marked marks var c = list_all (λ l. (l.var == var) || marks l.var) c
+
+-- whether a variable's reason has no variables beside it but marked ones, so that literals of theirs imply its own
+abbrev pub is_implied : Store → (ℕ → Bool) → ℕ → Option ClauseRef → Bool
+is_implied a marks var None = false
+is_implied a marks var (Some c) = others_marked marks var (lits_of a c.0)
+
+-- Whether a marked step is kept: never at level 0; between it and the top level where the other marked ones do not imply
+-- it; and at the top level where no step before it is marked.
+pub record Stays (a : Store) (steps : List Lit) (levels : List ℕ) (reasons : List (Option ClauseRef))
+    (marks : ℕ → Bool) (top at : ℕ) (kept : Bool) : Type 0 where
   pub ground : word levels at ≡ 0 → kept ≡ false
-  pub lower : 0 < word levels at → word levels at < top → kept ≡ true
+  pub lower : 0 < word levels at → word levels at < top → (l : Lit) (r : Option ClauseRef) → slice_get steps at ≡ Some l
+      → slice_get reasons at ≡ Some r → kept ≡ not (is_implied a marks l.var r)
   pub last : kept ≡ true → top ≤ word levels at → NoneMarked steps levels marks top 0 at
-  pub another : kept ≡ false → 0 < word levels at → HasMarked steps levels marks top at
+  pub another : kept ≡ false → 0 < word levels at → top ≤ word levels at → HasMarked steps levels marks top at
 
 -- the highest level of a marked step, 0 where none is marked
 pub record IsTop (steps : List Lit) (levels : List ℕ) (marks : ℕ → Bool) (top : ℕ) : Type 0 where

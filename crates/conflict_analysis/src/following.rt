@@ -81,7 +81,7 @@ fn follow_step(
     if !marks[lit.var as usize] {
         return;
     }
-    let stays = stays(marks, trail, at, top);
+    let stays = stays(marks, arena, trail, at, top);
     match reason_at(trail, at) {
         Some(reason) if !stays => follow_reason(marks, chain, arena, lit, reason),
         _ => keep(marks, clause, lit),

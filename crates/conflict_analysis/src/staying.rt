@@ -1,13 +1,16 @@
 //! Which literals of a level are kept.
 
-ghost use Rattle.std.specs.Prelude.{◌≡◌, ◌≤◌, ◌<◌, true, false, Some, length, slice_get};
+ghost use Rattle.std.specs.Prelude.{◌≡◌, ◌≤◌, ◌<◌, true, false, Option, Some, length, slice_get};
 ghost use Rattle.resolution_check.specs.declared.log.Lit.{Lit};
-ghost use Rattle.conflict_analysis.specs.Steps.{NeverFalls, NoneMarked};
-ghost use Rattle.conflict_analysis.specs.Levels.{HasMarked, Stays, IsTop};
+ghost use Rattle.clause_arena.specs.declared.names.ClauseRef.{ClauseRef};
+ghost use Rattle.conflict_analysis.specs.Steps.{IsTrail, NeverFalls, NoneMarked};
+ghost use Rattle.conflict_analysis.specs.Levels.{HasMarked, Stays, IsTop, is_implied};
 ghost use Rattle.conflict_analysis.specs.Lessons.{marked};
 ghost use Rattle.resolution_check.specs.Clauses.{is_below};
 
-use crate::trail::{Trail, level_at, literal_at};
+use crate::marks::are_others_marked;
+use crate::trail::{Trail, level_at, literal_at, reason_at};
+use clause_arena::Arena;
 
 /// Whether the variable of the step at this place is marked.
 fn is_marked(marks: &[bool], trail: &Trail, at: usize) -> bool
@@ -40,21 +43,32 @@ fn is_last(marks: &[bool], trail: &Trail, at: usize, top: u64) -> bool
     true
 }
 
-/// Whether the literal of the step at this place is kept where it is marked: it is of a level above 0, and below the
-/// top level or the last one of it that is marked.
-pub(crate) fn stays(marks: &[bool], trail: &Trail, at: usize, top: u64) -> bool
+/// Whether the reason of the step at this place has no variables but the step's own and marked ones.
+fn is_implied_at(marks: &[bool], arena: &Arena, trail: &Trail, at: usize) -> bool
+    requires trail { IsTrail arena.now (length marks.now) trail.now.lits.items trail.now.levels.items trail.now.reasons.items }
     requires at { at < length trail.now.lits.items }
-    requires levels { length trail.now.levels.items ≡ length trail.now.lits.items }
-    requires below { is_below (length marks.now) trail.now.lits.items ≡ true }
-    requires rising { NeverFalls trail.now.levels.items }
-    ensures { Stays trail.now.lits.items trail.now.levels.items (marked marks.now) top at result }
+    ensures { (l : Lit) (r : Option ClauseRef) → slice_get trail.now.lits.items at ≡ Some l
+        → slice_get trail.now.reasons.items at ≡ Some r → result ≡ is_implied arena.now (marked marks.now) l.var r }
+{
+    match reason_at(trail, at) {
+        Some(reason) => are_others_marked(marks, arena, reason, literal_at(trail, at).var),
+        None => false,
+    }
+}
+
+/// Whether the literal of the step at this place is kept where it is marked: it is of a level above 0, and below the
+/// top level with a reason that has other variables than marked ones, or the last one of the top level that is marked.
+pub(crate) fn stays(marks: &[bool], arena: &Arena, trail: &Trail, at: usize, top: u64) -> bool
+    requires trail { IsTrail arena.now (length marks.now) trail.now.lits.items trail.now.levels.items trail.now.reasons.items }
+    requires at { at < length trail.now.lits.items }
+    ensures { Stays arena.now trail.now.lits.items trail.now.levels.items trail.now.reasons.items (marked marks.now) top at result }
 {
     let level = level_at(trail, at);
     if level == 0 {
         return false;
     }
     if level < top {
-        return true;
+        return !is_implied_at(marks, arena, trail, at);
     }
     is_last(marks, trail, at, top)
 }

@@ -126,7 +126,8 @@ fn analyse_in(
 
 /// Learns from a clause all of whose literals are false on the trail. Leaves in `work` the learnt clause, the first
 /// unique implication point first, its literals from the last step to the first, and the numbers of the clauses that
-/// give it when they are resolved from the front. Where everything was propagated before each decision the learnt clause
+/// give it when they are resolved from the front. A literal below the point's level is left out where its reason has no
+/// other literals than those that are already to come. Where everything was propagated before each decision the learnt clause
 /// contains no clause that is held. Answers the lowest level at which all its literals but one are false, 0 where it has
 /// fewer than two.
 pub fn analyse(work: &mut Work, arena: &Arena, trail: &Trail, conflict: ClauseRef) -> u64

@@ -14,3 +14,4 @@ pub mod Sets
 pub mod Totals
 pub mod Inputs
 pub mod Counts
+pub mod Compacted

@@ -1,11 +1,14 @@
 //! The literals that were made true, in their order, and the values that they give.
 
-ghost use Rattle.std.specs.Prelude.{◌≡◌, ◌<◌, ◌-◌, ◌^◌, [], ◌∷◌, ◌++◌, replicate, Some, None, IfOk, length, take, slice_get, vec_capacity};
+ghost use Rattle.std.specs.Prelude.{◌≡◌, ◌<◌, ◌-◌, ◌^◌, [], ◌∷◌, ◌++◌, replicate, Some, None, IfOk, IfSome, length, map, take, slice_get, vec_capacity};
+ghost use Rattle.std.specs.List.{All};
+ghost use Rattle.clause_arena.specs.Held.{IsHeld, clauses};
+ghost use Rattle.clause_arena.specs.Compacted.{Compacts, reason_renamed};
 ghost use Rattle.resolution_check.specs.Trails.{value_of, holds, fails};
 ghost use Rattle.deciders.specs.declared.decider.Value.TheVariants.{Free};
 ghost use Rattle.watched_search.specs.Trails.{IsSound, HasRoom, last_level, shown};
 
-use clause_arena::ClauseRef;
+use clause_arena::{Arena, ClauseRef};
 use conflict_analysis::Trail;
 use deciders::Value;
 use resolution_check::Lit;
@@ -81,6 +84,23 @@ fn take_back(trail: &mut Trail, values: &mut [Value])
         trail.levels.truncate(len);
         trail.reasons.truncate(len);
     }
+}
+
+/// Moves the clauses of an arena together, and gives each reason its clause's new reference.
+fn compact_reasons(trail: &mut Trail, values: &[Value], arena: &mut Arena)
+    requires sound { IsSound trail.old.lits.items trail.old.levels.items trail.old.reasons.items values.now }
+    requires room { HasRoom (length values.now) (vec_capacity trail.old.lits) (vec_capacity trail.old.levels) (vec_capacity trail.old.reasons) }
+    requires held { All (λ r. IfSome r (IsHeld arena.old)) trail.old.reasons.items }
+    ensures sound { IsSound trail.new.lits.items trail.new.levels.items trail.new.reasons.items values.now }
+    ensures room { HasRoom (length values.now) (vec_capacity trail.new.lits) (vec_capacity trail.new.levels) (vec_capacity trail.new.reasons) }
+    ensures lits { trail.new.lits.items ≡ trail.old.lits.items }
+    ensures levels { trail.new.levels.items ≡ trail.old.levels.items }
+    ensures reasons { trail.new.reasons.items ≡ map (reason_renamed arena.old.refs arena.new.refs) trail.old.reasons.items }
+    ensures compacts { Compacts arena.old arena.new }
+    ensures clauses { clauses arena.new ≡ clauses arena.old }
+{
+    let _count = values.len();
+    arena.compact(&mut trail.reasons);
 }
 
 /// The last number, 0 where there is none.
@@ -172,11 +192,7 @@ impl Assigned {
         requires { lit.var < self.now.vars }
         ensures { result ≡ holds self.now.lits lit }
     {
-        match self.value(lit.var) {
-            Value::Free => false,
-            Value::False => lit.negated,
-            Value::True => !lit.negated,
-        }
+        self.value(lit.var) == value_where_true(lit)
     }
 
     /// Whether a literal is false.
@@ -184,11 +200,7 @@ impl Assigned {
         requires { lit.var < self.now.vars }
         ensures { result ≡ fails self.now.lits lit }
     {
-        match self.value(lit.var) {
-            Value::Free => false,
-            Value::False => !lit.negated,
-            Value::True => lit.negated,
-        }
+        self.value(lit.var) == value_where_true(lit.opposite())
     }
 
     /// Makes a literal true whose variable has no value yet.
@@ -211,6 +223,19 @@ impl Assigned {
         ensures vars { self.new.vars ≡ self.old.vars }
     {
         take_back(&mut self.trail, &mut self.values);
+    }
+
+    /// Moves the clauses of an arena together, and gives each reason its clause's new reference.
+    pub fn compact(&mut self, arena: &mut Arena)
+        requires { All (λ r. IfSome r (IsHeld arena.old)) self.old.reasons }
+        ensures compacts { Compacts arena.old arena.new }
+        ensures clauses { clauses arena.new ≡ clauses arena.old }
+        ensures reasons { self.new.reasons ≡ map (reason_renamed arena.old.refs arena.new.refs) self.old.reasons }
+        ensures lits { self.new.lits ≡ self.old.lits }
+        ensures levels { self.new.levels ≡ self.old.levels }
+        ensures vars { self.new.vars ≡ self.old.vars }
+    {
+        compact_reasons(&mut self.trail, &self.values, arena);
     }
 
     /// Takes back all literals but the first `len`.

@@ -2,6 +2,7 @@
 #![tactic(auto)]
 
 mod assigned;
+mod compacting;
 mod deciding;
 mod holding;
 mod laws;
@@ -13,6 +14,7 @@ mod visiting;
 mod walking;
 
 pub use assigned::Assigned;
+pub use compacting::compact;
 pub use deciding::{ROUND, choose, decide, end_round, restart};
 pub use holding::hold;
 pub use laws::{additions_are_of_sets, totals_hold, watches_settle};

@@ -1,4 +1,5 @@
-use Rattle.std.proofs.Common.{◌≡◌, ◌+◌, ◌<◌, ◌≤◌, ◌^◌, ◌==◌, ℕ, cond, None, Some, List, Option, refl, sym, subst, ap, ◌∙◌, arith}
+use Rattle.std.proofs.Common.{◌≡◌, ◌+◌, ◌<◌, ◌≤◌, ◌^◌, ◌==◌, ℕ, cond, None, Some, List}
+use Rattle.std.proofs.Common.{Option, refl, sym, subst, ap, ◌∙◌, arith}
 use Rattle.mw_text.proofs.Results.{on_err}
 use Rattle.resolution_check.specs.declared.log.Lit.{Lit}
 use Rattle.resolution_check.specs.declared.log.Clause.{Clause}
@@ -51,6 +52,6 @@ returns-clause-down g c =
           c.id.ensures.numbered learnt
           (three_of c.args.arena.now c.args.c.0 c.words_are_sound.ensures c.requires.may.held c.requires.may.long)
           (text_of_held c.args.arena.now c.args.assigned.now (c.args.first + c.args.added) c.args.from c.id.result _
-          c.requires.ready c.id.ensures.numbered) (g.L.Sink.taken c.write_deletion.new.log) (held_in c.delete.new.self) less
-          c.in_ok-write_deletion.ensures.takes;
+          c.requires.ready c.id.ensures.numbered) (g.L.Sink.taken c.write_deletion.new.log)
+          (held_in c.delete.new.self) less c.in_ok-write_deletion.ensures.takes;
     }

@@ -78,8 +78,8 @@ returns-in_err-next-clause-cut g c =
     (c.loop-added.added + 1) c.args.budget (omega (arith, c.loop-added-test.true))
     (c.in_err-next.ensures.cut before ins c.loop-added.added c.loop-added.runs
     (going_view before (g.L.Sink.taken c.loop-added.log) ins c.loop-added.arena c.find_conflict.new.arena
-    (c.args.first + c.loop-added.added) c.loop-added.added _ _ _ c.find_conflict.ensures.view c.find_conflict.ensures.told
-    (c.loop-added.invariant.going before ins going))) in
+    (c.args.first + c.loop-added.added) c.loop-added.added _ _ _ c.find_conflict.ensures.view
+    c.find_conflict.ensures.told (c.loop-added.invariant.going before ins going))) in
     on_err _ cuts
 
 pub returns-in_default-2-clause-done : goal.returns-in_default-2-clause-done
@@ -96,8 +96,8 @@ returns-in_default-2-clause-done g c =
     (omega (arith, c.loop-added-test.true))
     (c.in_ok-next.ensures.refuted c.in_default-2.is before ins c.loop-added.added c.loop-added.runs is_turn
     (going_view before (g.L.Sink.taken c.loop-added.log) ins c.loop-added.arena c.find_conflict.new.arena
-    (c.args.first + c.loop-added.added) c.loop-added.added _ _ _ c.find_conflict.ensures.view c.find_conflict.ensures.told
-    (c.loop-added.invariant.going before ins going)))
+    (c.args.first + c.loop-added.added) c.loop-added.added _ _ _ c.find_conflict.ensures.view
+    c.find_conflict.ensures.told (c.loop-added.invariant.going before ins going)))
 
 pub reduce-requires : goal.reduce-requires
 reduce-requires g c =
@@ -188,8 +188,8 @@ loop-added-preserved g c =
     (held_in c.find_conflict.new.arena) (held_in c.take_lesson.new.arena)
     (c.args.first + c.loop-added.added) c.turn_of-turn.result)) c.in-Some-2.is t.going in
     record {
-      work_vars = t.work_vars ∙ i.work_vars ∙ sym (e.vars ∙ t.vars ∙ f.vars);
-      same_vars = e.vars ∙ t.vars ∙ f.vars ∙ i.same_vars;
+      work_vars = t.work_vars ∙ i.work_vars ∙ sym (r.vars ∙ e.vars ∙ t.vars ∙ f.vars);
+      same_vars = r.vars ∙ e.vars ∙ t.vars ∙ f.vars ∙ i.same_vars;
       ready = r.ready;
       gives = λ id k h.
           (let x = gives_then (held_in c.args.arena.now) (held_in c.loop-added.arena) (held_in b) i.gives

@@ -47,8 +47,8 @@ returns-in-Some-clause-way c = λ w.
     way_forced c.args.arena.now c.args.trail.now.lits.items c.args.trail.now.levels.items c.args.top
     c.requires.trail.level_count c.requires.trail.rising c.requires.trail.fresh c.args.at t c.literal_at-lit.ensures
     (marked c.args.marks.now) (marked c.follow_reason.new.marks) c.args.clause.now.items c.args.chain.now.items w
-    c.if-not-marks-lit.false c.stays-stays.result c.stays-stays.ensures c.if-not-stays.true
-    (number_of c.args.arena.now c.in-Some.reason) (lits_of c.args.arena.now c.in-Some.reason.0)
+    c.if-not-marks-lit.false c.args.trail.now.reasons.items c.stays-stays.result c.stays-stays.ensures
+    c.if-not-stays.true (number_of c.args.arena.now c.in-Some.reason) (lits_of c.args.arena.now c.in-Some.reason.0)
     c.follow_reason.ensures.numbered r.inside r.others c.follow_reason.new.chain.items c.follow_reason.ensures.chain
     c.follow_reason.ensures.marks
 
@@ -57,7 +57,8 @@ returns-in_default-clause-way c = λ w.
     way_kept c.args.arena.now c.args.trail.now.lits.items c.args.trail.now.levels.items c.args.top
     c.requires.trail.level_count c.requires.trail.rising c.requires.trail.fresh c.args.at c.literal_at-lit.result
     c.literal_at-lit.ensures (marked c.args.marks.now) (marked c.keep.new.marks) c.args.clause.now.items
-    c.args.chain.now.items w c.if-not-marks-lit.false c.stays-stays.result c.stays-stays.ensures
+    c.args.chain.now.items w c.if-not-marks-lit.false c.args.trail.now.reasons.items c.stays-stays.result
+    c.stays-stays.ensures
     (elim c.in_default.branch [
       | in_default-via-in-Some+else-not-stays u ↦ inl u.if-not-stays.false
       | in_default-via-in_default u ↦ inr (c.requires.trail.opens c.args.at
