@@ -18,7 +18,7 @@ use Rattle.net_model.specs.Routing.{up_interfaces}
 use Rattle.question_lang.specs.declared.walk.End.TheVariants.{NoRoute}
 use Rattle.question_lang.specs.declared.walk.Hop.{Hop}
 use Rattle.question_lang.specs.declared.walk.Hop.TheVariants.{Ends}
-use Rattle.question_lang.specs.Hops.{all_up, connected_hops, entry_at, entry_hops, longest_below, ospf_hops}
+use Rattle.question_lang.specs.Hops.{all_up, bgp_hops, connected_hops, entry_at, entry_hops, longest_below, ospf_hops}
 use Rattle.sym_rib.specs.declared.slots.SymSlot.{SymSlot}
 use Rattle.sym_rib.specs.Slots.{rib_at, rib_of}
 use Rattle.term_store.specs.Terms.{Reading, at}
@@ -36,6 +36,7 @@ pub entry_by_number : (w : Reading) (files : List File) (world : World) (up own 
     (static_part files world.packet up own file.statics (prefix_at world.packet.dst len) (number w
     s.rib.distance.nodes))
     (ospf_hops files world router (prefix_at world.packet.dst len) (slot_of w s))
+    (bgp_hops files world up own router (slot_of w s))
 entry_by_number w files world up own router file len s =
     let n = number w s.rib.source.nodes in
     by_tests (eqb n 0) (eqb n 1) (eqb n 2) refl (eqb n 3) refl where
@@ -59,18 +60,21 @@ entry_by_number w files world up own router file len s =
       ospf : List Hop
       ospf = ospf_hops files world router (prefix_at world.packet.dst len) (slot_of w s)
 
+      bgp : List Hop
+      bgp = bgp_hops files world up own router (slot_of w s)
+
       not_both : (n : ℕ) → eqb n 2 ≡ true → eqb n 3 ≡ false
       not_both n h = let two : n ≡ 2 = eqb-true n 2 h in ap (λ m. eqb m 3) two
 
       by_tests : (a b c : Bool) → eqb (number w s.rib.source.nodes) 2 ≡ c → (d : Bool) →
           eqb (number w s.rib.source.nodes) 3 ≡ d →
           of_source (cond a Connected (cond b Static (cond c Ebgp (cond d Ospf Ibgp))))
-          ≡ cond a connected (cond b static (cond d ospf []))
+          ≡ cond a connected (cond b static (cond d ospf bgp))
       by_tests true b c two d three = refl
       by_tests false true c two d three = refl
       by_tests false false true two d three =
           let off : d ≡ false = sym three ∙ not_both (number w s.rib.source.nodes) two in
-          sym (ap (λ x. cond x ospf []) off)
+          sym (ap (λ x. cond x ospf bgp) off)
       by_tests false false false two true three = refl
       by_tests false false false two false three = refl
 

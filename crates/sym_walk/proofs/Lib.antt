@@ -17,4 +17,7 @@ pub mod OfferedHops
 pub mod EntryHops
 pub mod PushedTwins
 pub mod BrokenWorlds
-pub mod PlainTables
+pub mod Seen
+pub mod SameWalks
+pub mod FirstHops
+pub mod LeastWalks

@@ -1,5 +1,5 @@
 -- What is said of a start says where walks of a world begin.
-use Rattle.std.proofs.Common.{◌≡◌, ℕ, Bool, true, false, not, List, Option, Some, None, refl, sym, ap, subst}
+use Rattle.std.proofs.Common.{◌≡◌, ℕ, true, false, not, List, Option, Some, None, refl, sym, ap, subst}
 use Rattle.std.proofs.lemmas.Bool.{and_from, and_parts, not-true}
 use Rattle.ios_ast.specs.declared.file.File.{File}
 use Rattle.route_record.specs.declared.World.{World}

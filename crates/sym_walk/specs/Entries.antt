@@ -21,10 +21,10 @@ use Rattle.sym_rib.specs.declared.slots.SymSlot.{SymSlot}
 use Rattle.sym_rib.specs.Slots.{rib_at}
 use Rattle.sym_walk.specs.Worlds.{slot_of}
 
--- those of a connected, a static or an OSPF entry. A BGP entry of a router that holds no BGP route has none
-abbrev pub by_number : ℕ → List Hop → List Hop → List Hop → List Hop
-by_number n connected static ospf =
-    if n == 0 then connected else (if n == 1 then static else (if n == 3 then ospf else []))
+-- those of a connected, a static, an OSPF or a BGP entry
+abbrev pub by_number : ℕ → List Hop → List Hop → List Hop → List Hop → List Hop
+by_number n connected static ospf bgp =
+    if n == 0 then connected else (if n == 1 then static else (if n == 3 then ospf else bgp))
 
 -- those of the static routes of that distance
 abbrev pub static_part : List File → Packet → List Addressed → List Addressed → List StaticRoute → Prefix → ℕ → List Hop

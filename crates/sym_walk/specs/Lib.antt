@@ -7,10 +7,14 @@ pub mod Aims
 pub mod Packets
 pub mod Beginnings
 pub mod Owners
+pub mod Firsts
 pub mod Here
 pub mod Statics
+pub mod Seen
 pub mod Worlds
+pub mod Distances
 pub mod Offers
+pub mod Towards
 pub mod Entries
 pub mod TwinTables
 pub mod Whole

@@ -1,20 +1,28 @@
--- The world that a reading makes of a symbolic packet, failed links and slots, in a network without BGP.
-use Rattle.std.specs.Prelude.{◌≡◌, ℕ, max, List, [], ◌∷◌, map, length, slice_get, Some, None}
+-- The world that a reading makes of a symbolic packet, failed links and slots. A BGP route stands in it as walks see it,
+-- by its next hop.
+use Rattle.std.specs.Prelude.{◌≡◌, ℕ, max, List, [], ◌∷◌, map, length, slice_get, Option, Some, None, if◌then◌else◌}
+use Rattle.route_record.specs.declared.BgpRec.{BgpRec}
 use Rattle.route_record.specs.declared.Slot.{Slot}
 use Rattle.route_record.specs.declared.Tables.{Tables}
 use Rattle.route_record.specs.declared.tracked.Tracked.{Tracked}
 use Rattle.route_record.specs.declared.World.{World}
-use Rattle.term_store.specs.Terms.{Reading}
+use Rattle.term_store.specs.Terms.{Reading, at}
 use Rattle.sym_policy.specs.Held.{failures_of, ospf_of}
+use Rattle.sym_policy.specs.Records.{address_of}
+use Rattle.sym_policy.specs.declared.records.SymBgp.{SymBgp}
 use Rattle.sym_policy.specs.declared.records.SymNet.{SymNet}
 use Rattle.sym_policy.specs.declared.records.SymPacket.{SymPacket}
 use Rattle.sym_rib.specs.declared.slots.SymSlot.{SymSlot}
 use Rattle.sym_rib.specs.Slots.{StandsForSlot, rib_of, slot_end}
 use Rattle.sym_walk.specs.Packets.{packet_of}
+use Rattle.sym_walk.specs.Seen.{route_towards}
 
--- the slot, where the router holds no BGP route
+-- the BGP route, where it is there
+abbrev pub towards_of : Reading → SymBgp → Option BgpRec
+towards_of w s = if at w s.valid then Some (route_towards (address_of w s.next_hop)) else None
+
 abbrev pub slot_of : Reading → SymSlot → Slot
-slot_of w s = record { ospf = ospf_of w s.ospf; bgp = None; rib = rib_of w s.rib }
+slot_of w s = record { ospf = ospf_of w s.ospf; bgp = towards_of w s.bgp; rib = rib_of w s.rib }
 
 abbrev pub tables_of : Reading → List SymSlot → Tables
 tables_of w slots = record { slots = map (slot_of w) slots }
@@ -32,13 +40,8 @@ world_of w sym packet slots = record {
   tables = tables_of w slots;
 }
 
--- the symbolic slot stands for a slot without a BGP route
-pub record IsPlain (w : Reading) (tracked : Tracked) (s : SymSlot) (slot : Slot) : Type 0 where
-  pub stands : StandsForSlot w tracked s slot
-  pub plain : slot.bgp ≡ None
-
--- and each stands for that at its place in the tables
-pub record ArePlain (w : Reading) (tracked : Tracked) (slots : List SymSlot) (tables : Tables) : Type 0 where
+-- each symbolic slot stands for the slot at its place in the tables
+pub record StandForTables (w : Reading) (tracked : Tracked) (slots : List SymSlot) (tables : Tables) : Type 0 where
   pub long : length slots ≡ length tables.slots
   pub each : (i : ℕ) (s : SymSlot) (slot : Slot) → slice_get slots i ≡ Some s → slice_get tables.slots i ≡ Some slot →
-      IsPlain w tracked s slot
+      StandsForSlot w tracked s slot

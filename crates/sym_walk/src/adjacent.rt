@@ -34,8 +34,8 @@ use sym_rib::SymSlot;
 use term_arith::gates::constant_node;
 use term_store::Terms;
 
-// Over an adjacency: out of the own interface and in at the other router's.
-fn sym_send_adjacent(
+/// Over an adjacency: out of the own interface and in at the other router's.
+pub(crate) fn sym_send_adjacent(
     alloc: Global,
     terms: &mut Terms,
     net: &Net,

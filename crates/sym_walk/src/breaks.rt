@@ -1,4 +1,4 @@
-//! Whether a walk of a packet breaks a question, as a term, in a network without BGP.
+//! Whether a walk of a packet breaks a question, as a term.
 
 ghost use Rattle.std.specs.Prelude.{◌≡◌, ℕ, ◌+◌, ◌<◌, ◌≤◌, Bool, true, IfOk, Option as OptionOf, Some, None, length};
 ghost use Rattle.question_lang.specs.declared.question.Start.{Start as StartOf};
@@ -7,6 +7,7 @@ ghost use Rattle.question_lang.specs.Breaking.{Breaks};
 ghost use Rattle.sym_policy.specs.Held.{failures_of};
 ghost use Rattle.sym_policy.specs.Records.{packet_end};
 ghost use Rattle.sym_walk.specs.Beginnings.{begins_at};
+ghost use Rattle.sym_walk.specs.Distances.{DistancesWhereNeeded};
 ghost use Rattle.sym_walk.specs.Forwardings.{start_asked};
 ghost use Rattle.sym_walk.specs.Layers.{is_broken};
 ghost use Rattle.sym_walk.specs.Packets.{packet_of};
@@ -93,9 +94,9 @@ fn sym_start(
     }
 }
 
-/// Whether a walk of the packet breaks the question in the world that the records stand for, in a network without BGP
-/// and with a slot for each prefix length: at `33 * router + len` that of the router for the prefix of that length of
-/// the destination. For a question of no stable routing it is true.
+/// Whether a walk of the packet breaks the question in the world that the records stand for, with a slot for each prefix
+/// length: at `33 * router + len` that of the router for the prefix of that length of the destination. Where slots hold a
+/// BGP route, the interior distances are to be those of the network. For a question of no stable routing it is true.
 pub fn sym_breaks(
     alloc: Global,
     terms: &mut Terms,
@@ -106,9 +107,11 @@ pub fn sym_breaks(
     requires nodes { whole_end world.now ≤ size terms.old }
     ensures builds { Builds terms.old terms.new }
     ensures within { IfOk result (λ r. r.0 < size terms.new) }
-    ensures sound { Gives terms.new result (λ w r. at w r ≡ true →
+    ensures sound { Gives terms.new result (λ w r. DistancesWhereNeeded w net.now world.now.net world.now.slots →
+        at w r ≡ true →
         (walk : OptionOf WalkOf) × Breaks net.now (whole_of w world.now) question.now.kind walk) }
-    ensures complete { Gives terms.new result (λ w r. (walk : OptionOf WalkOf) →
+    ensures complete { Gives terms.new result (λ w r. DistancesWhereNeeded w net.now world.now.net world.now.slots →
+        (walk : OptionOf WalkOf) →
         Breaks net.now (whole_of w world.now) question.now.kind walk → at w r ≡ true) }
 {
     let kind = question.kind;

@@ -12,8 +12,8 @@ use std::alloc::{AllocError, Global};
 use term_arith::gates::{both, either, negate, select};
 use term_store::{Node, NodeId, Terms};
 
-// Whether the node is the constant false.
-fn is_never(terms: &Terms, node: NodeId) -> bool
+/// Whether the node is the constant false.
+pub(crate) fn is_never(terms: &Terms, node: NodeId) -> bool
     requires { node.0 < size terms.now }
     ensures { result ≡ true → (w : Reading) → Reads w terms.now → at w node ≡ false }
 {

@@ -1,4 +1,4 @@
-//! The next hops of the entry of a slot, as forwardings, in a network without BGP.
+//! The next hops of the entry of a slot, as forwardings.
 
 ghost use Rattle.std.specs.Prelude.{◌≡◌, ℕ, ◌+◌, ◌<◌, ◌≤◌, ◌==◌, ◌&&◌, Bool, IfOk, [], ◌∷◌, ◌++◌};
 ghost use Rattle.std.specs.Prelude.{if◌then◌else◌, length};
@@ -8,10 +8,12 @@ ghost use Rattle.net_model.specs.Routing.{up_interfaces};
 ghost use Rattle.question_lang.specs.declared.walk.Hop.{Hop as HopOf};
 ghost use Rattle.question_lang.specs.declared.walk.End.{End as EndOf};
 ghost use Rattle.question_lang.specs.Hops as hops;
+ghost use Rattle.sym_ospf.specs.Rows.{net_end};
 ghost use Rattle.sym_policy.specs.Held.{failures_of, ospf_end};
 ghost use Rattle.sym_policy.specs.Records.{address_of, packet_end};
 ghost use Rattle.sym_rib.specs.Slots.{slot_end};
 ghost use Rattle.sym_walk.specs.Aims.{sought_by};
+ghost use Rattle.sym_walk.specs.Distances.{DistancesIfNeeded};
 ghost use Rattle.sym_walk.specs.Entries as defined;
 ghost use Rattle.sym_walk.specs.Packets.{packet_of};
 ghost use Rattle.sym_walk.specs.Symbolic.{forwarding_of, forwarding_end};
@@ -27,6 +29,7 @@ use crate::choices::choose_forwarding;
 use crate::connected::sym_connected;
 use crate::forwarding::SymForwarding;
 use crate::statics::sym_statics;
+use crate::towards::sym_bgp_hops;
 use ios_ast::File;
 use mw_text::List;
 use net_model::Net;
@@ -61,7 +64,7 @@ fn sym_source(terms: &mut Terms, slot: &SymSlot, source: u64) -> Result<NodeId, 
     equal_number(terms, slot.rib.source.nodes.as_slice(), source)
 }
 
-// Where the entry leads if its source is OSPF, and else nowhere.
+// Where the entry leads if its source is OSPF, and else as given.
 fn sym_by_ospf(
     alloc: Global,
     terms: &mut Terms,
@@ -73,25 +76,28 @@ fn sym_by_ospf(
     router: u32,
     len: u8,
     slot: &SymSlot,
+    rest: &SymForwarding,
 ) -> Result<SymForwarding, AllocError>
     requires downs { ids_end sym.now.down ≤ size terms.old }
     requires slots { slots_end slots.now ≤ size terms.old }
     requires packet { packet_end packet.now ≤ size terms.old }
     requires aim { aim.now.here.0 < size terms.old }
     requires slot { slot_end slot.now ≤ size terms.old }
+    requires rest { forwarding_end rest.now ≤ size terms.old }
     ensures builds { Builds terms.old terms.new }
     ensures within { IfOk result (λ r. forwarding_end r ≤ size terms.new) }
-    ensures value { Gives terms.new result (λ w r. IsTwin (sought_by w aim.now)
+    ensures value { Gives terms.new result (λ w r. (others : ListOf HopOf) →
+        IsTwin (sought_by w aim.now) others (forwarding_of w rest.now) →
+        IsTwin (sought_by w aim.now)
         (if number w slot.now.rib.source.nodes == 3 then hops.ospf_hops net.now
         (world_of w sym.now packet.now slots.now) router (prefix_at (address_of w packet.now.dst) len)
-        (slot_of w slot.now) else []) (forwarding_of w r)) }
+        (slot_of w slot.now) else others) (forwarding_of w r)) }
 {
     let test = sym_source(terms, slot, 3)?;
     let to = sym_ospf_hops(
         alloc, terms, net, sym, slots, packet, aim, router, len, &slot.ospf,
     )?;
-    let rest = still(alloc, terms)?;
-    let made = choose_forwarding(alloc, terms, test, &to, &rest)?;
+    let made = choose_forwarding(alloc, terms, test, &to, rest)?;
     Ok(made)
 }
 
@@ -175,8 +181,8 @@ fn sym_by_connected(
     Ok(made)
 }
 
-/// Where the entry of a slot leads, as if there were one, in a network without BGP. The slot is that of the router for
-/// the prefix of that length of the destination.
+/// Where the entry of a slot leads, as if there were one. The slot is that of the router for the prefix of that length of
+/// the destination. Where the router holds a BGP route there, the rows of `sym` are to be the interior distances.
 pub fn sym_entry_hops(
     alloc: Global,
     terms: &mut Terms,
@@ -190,7 +196,7 @@ pub fn sym_entry_hops(
     len: u8,
     slot: &SymSlot,
 ) -> Result<SymForwarding, AllocError>
-    requires downs { ids_end sym.now.down ≤ size terms.old }
+    requires net { net_end sym.now ≤ size terms.old }
     requires slots { slots_end slots.now ≤ size terms.old }
     requires packet { packet_end packet.now ≤ size terms.old }
     requires aim { aim.now.here.0 < size terms.old }
@@ -198,13 +204,15 @@ pub fn sym_entry_hops(
     requires slot { slot_end slot.now ≤ size terms.old }
     ensures builds { Builds terms.old terms.new }
     ensures within { IfOk result (λ r. forwarding_end r ≤ size terms.new) }
-    ensures value { Gives terms.new result (λ w r. IsTwin (sought_by w aim.now)
+    ensures value { Gives terms.new result (λ w r. DistancesIfNeeded w net.now sym.now slot.now →
+        IsTwin (sought_by w aim.now)
         (defined.entry_of w net.now (world_of w sym.now packet.now slots.now)
         (hops.all_up net.now (failures_of w sym.now)) (up_interfaces net.now (failures_of w sym.now) router) router
         file.now len slot.now) (forwarding_of w r)) }
 {
+    let bgp = sym_bgp_hops(alloc, terms, net, sym, packet, aim, router, &slot.bgp)?;
     let ospf = sym_by_ospf(
-        alloc, terms, net, sym, slots, packet, aim, router, len, slot,
+        alloc, terms, net, sym, slots, packet, aim, router, len, slot, &bgp,
     )?;
     let plain = sym_by_static(
         alloc, terms, net, sym, packet, aim, router, file, len, slot, &ospf,

@@ -8,11 +8,10 @@ ghost use Rattle.question_lang.specs.declared.question.Start.{Start as StartOf};
 ghost use Rattle.question_lang.specs.declared.walk.Walk.{Walk as WalkOf};
 ghost use Rattle.question_lang.specs.Breaking.{Breaks};
 ghost use Rattle.question_lang.specs.Hops.{next_hops};
-ghost use Rattle.route_record.specs.declared.Tables.{Tables as TablesOf};
 ghost use Rattle.route_record.specs.declared.tracked.Tracked.{Tracked as TrackedOf};
 ghost use Rattle.sym_rib.specs.declared.slots.SymSlot.{SymSlot as SymSlotOf};
 ghost use Rattle.term_store.specs.Terms.{Reading};
-ghost use Rattle.sym_walk.specs.Worlds.{ArePlain, tables_of};
+ghost use Rattle.sym_walk.specs.Worlds.{StandForTables, tables_of};
 ghost use Rattle.sym_walk.specs.Beginnings.{begins_at};
 ghost use Rattle.sym_walk.specs.Forwardings.{AreForwarding, IsBeginningOf, start_asked};
 ghost use Rattle.sym_walk.specs.Here.{ends_here};
@@ -47,8 +46,16 @@ pub fn forwardings_law()
         IsBeginningOf files world kind (begins_at files world.failures world.packet start) }
 {}
 
-/// Symbolic slots that stand for those of tables without BGP routes are read as these tables.
-pub fn plain_tables_law()
-    ensures { (w : Reading) (tracked : TrackedOf) (slots : ListOf SymSlotOf) (tables : TablesOf) →
-        ArePlain w tracked slots tables → tables_of w slots ≡ tables }
+/// A walk reads of a BGP route its next hop alone: the world with tables and the one with symbolic slots that stand for
+/// theirs have the same next hops, and a walk breaks a question in the one exactly where it does in the other.
+pub fn tables_law()
+    ensures hops { (w : Reading) (tracked : TrackedOf) (slots : ListOf SymSlotOf) (world : WorldOf) →
+        StandForTables w tracked slots world.tables → (files : ListOf File) (router : ℕ) →
+        next_hops files (record world { tables = tables_of w slots }) router ≡ next_hops files world router }
+    ensures breaks { (w : Reading) (tracked : TrackedOf) (slots : ListOf SymSlotOf) (world : WorldOf) →
+        StandForTables w tracked slots world.tables → (files : ListOf File) (kind : KindOf) (walk : Option WalkOf) →
+        Breaks files world kind walk → Breaks files (record world { tables = tables_of w slots }) kind walk }
+    ensures only { (w : Reading) (tracked : TrackedOf) (slots : ListOf SymSlotOf) (world : WorldOf) →
+        StandForTables w tracked slots world.tables → (files : ListOf File) (kind : KindOf) (walk : Option WalkOf) →
+        Breaks files (record world { tables = tables_of w slots }) kind walk → Breaks files world kind walk }
 {}

@@ -1,4 +1,4 @@
-//! What a router does with a packet, as a forwarding, in a network without BGP (RFC 1812, section 5.2.4).
+//! What a router does with a packet, as a forwarding (RFC 1812, section 5.2.4).
 
 ghost use Rattle.std.specs.Prelude.{◌≡◌, ℕ, ◌+◌, ◌*◌, ◌<◌, ◌≤◌, Bool, IfOk, [], ◌∷◌, if◌then◌else◌, length};
 ghost use Rattle.std.specs.Prelude.{List as ListOf, Option as OptionOf, Some, None};
@@ -11,10 +11,12 @@ ghost use Rattle.question_lang.specs.Hops as hops;
 ghost use Rattle.route_record.specs.declared.RibEntry.{RibEntry};
 ghost use Rattle.route_record.specs.declared.Slot.{Slot};
 ghost use Rattle.route_record.specs.declared.TheConstants as constants;
+ghost use Rattle.sym_ospf.specs.Rows.{net_end};
 ghost use Rattle.sym_policy.specs.Held.{failures_of};
 ghost use Rattle.sym_policy.specs.Records.{packet_end};
 ghost use Rattle.sym_rib.specs.Slots.{slot_end};
 ghost use Rattle.sym_walk.specs.Aims.{sought_by};
+ghost use Rattle.sym_walk.specs.Distances.{DistancesIfNeeded, DistancesWhereNeeded};
 ghost use Rattle.sym_walk.specs.Entries as defined;
 ghost use Rattle.sym_walk.specs.Packets.{packet_of};
 ghost use Rattle.sym_walk.specs.Symbolic.{forwarding_of, forwarding_end};
@@ -22,7 +24,6 @@ ghost use Rattle.sym_walk.specs.Twins.{IsTwin};
 ghost use Rattle.sym_walk.specs.Worlds.{slots_end, tables_of, world_of};
 ghost use Rattle.term_store.specs.Terms.{Reading, size, at};
 ghost use Rattle.term_store.specs.Reading.{Reads, Builds, Gives};
-ghost use Rattle.term_arith.specs.Bits.{ids_end};
 
 use crate::aims::SymAim;
 use crate::choices::choose_forwarding;
@@ -55,7 +56,7 @@ fn sym_by_slot(
     slot: &SymSlot,
     rest: SymForwarding,
 ) -> Result<SymForwarding, AllocError>
-    requires downs { ids_end sym.now.down ≤ size terms.old }
+    requires net { net_end sym.now ≤ size terms.old }
     requires slots { slots_end slots.now ≤ size terms.old }
     requires packet { packet_end packet.now ≤ size terms.old }
     requires aim { aim.now.here.0 < size terms.old }
@@ -64,7 +65,8 @@ fn sym_by_slot(
     requires rest { forwarding_end rest ≤ size terms.old }
     ensures builds { Builds terms.old terms.new }
     ensures within { IfOk result (λ r. forwarding_end r ≤ size terms.new) }
-    ensures value { Gives terms.new result (λ w r. (others : ListOf HopOf) →
+    ensures value { Gives terms.new result (λ w r. DistancesIfNeeded w net.now sym.now slot.now →
+        (others : ListOf HopOf) →
         IsTwin (sought_by w aim.now) others (forwarding_of w rest) →
         IsTwin (sought_by w aim.now) (if at w slot.now.rib.valid then defined.entry_of w net.now
         (world_of w sym.now packet.now slots.now) (hops.all_up net.now (failures_of w sym.now))
@@ -92,7 +94,7 @@ fn sym_longer(
     len: u8,
     rest: SymForwarding,
 ) -> Result<SymForwarding, AllocError>
-    requires downs { ids_end sym.now.down ≤ size terms.old }
+    requires net { net_end sym.now ≤ size terms.old }
     requires slots { slots_end slots.now ≤ size terms.old }
     requires packet { packet_end packet.now ≤ size terms.old }
     requires aim { aim.now.here.0 < size terms.old }
@@ -100,7 +102,8 @@ fn sym_longer(
     requires rest { forwarding_end rest ≤ size terms.old }
     ensures builds { Builds terms.old terms.new }
     ensures within { IfOk result (λ r. forwarding_end r ≤ size terms.new) }
-    ensures value { Gives terms.new result (λ w r. (shorter : OptionOf (ℕ × Slot × RibEntry)) →
+    ensures value { Gives terms.new result (λ w r. DistancesWhereNeeded w net.now sym.now slots.now →
+        (shorter : OptionOf (ℕ × Slot × RibEntry)) →
         IsTwin (sought_by w aim.now) (defined.by_entry net.now (world_of w sym.now packet.now slots.now) router file.now
         shorter) (forwarding_of w rest) →
         IsTwin (sought_by w aim.now) (defined.by_entry net.now (world_of w sym.now packet.now slots.now) router file.now
@@ -129,13 +132,14 @@ fn sym_longest(
     router: u32,
     file: &File,
 ) -> Result<SymForwarding, AllocError>
-    requires downs { ids_end sym.now.down ≤ size terms.old }
+    requires net { net_end sym.now ≤ size terms.old }
     requires slots { slots_end slots.now ≤ size terms.old }
     requires packet { packet_end packet.now ≤ size terms.old }
     requires aim { aim.now.here.0 < size terms.old }
     ensures builds { Builds terms.old terms.new }
     ensures within { IfOk result (λ r. forwarding_end r ≤ size terms.new) }
-    ensures value { Gives terms.new result (λ w r. IsTwin (sought_by w aim.now)
+    ensures value { Gives terms.new result (λ w r. DistancesWhereNeeded w net.now sym.now slots.now →
+        IsTwin (sought_by w aim.now)
         (defined.by_entry net.now (world_of w sym.now packet.now slots.now) router file.now
         (hops.longest_below (tables_of w slots.now) router constants.LENGTHS)) (forwarding_of w r)) }
 {
@@ -161,13 +165,14 @@ pub fn sym_hops(
     router: u32,
     file: &File,
 ) -> Result<SymForwarding, AllocError>
-    requires downs { ids_end sym.now.down ≤ size terms.old }
+    requires net { net_end sym.now ≤ size terms.old }
     requires slots { slots_end slots.now ≤ size terms.old }
     requires packet { packet_end packet.now ≤ size terms.old }
     requires aim { aim.now.here.0 < size terms.old }
     ensures builds { Builds terms.old terms.new }
     ensures within { IfOk result (λ r. forwarding_end r ≤ size terms.new) }
-    ensures value { Gives terms.new result (λ w r. IsTwin (sought_by w aim.now)
+    ensures value { Gives terms.new result (λ w r. DistancesWhereNeeded w net.now sym.now slots.now →
+        IsTwin (sought_by w aim.now)
         (hops.hops_over net.now (world_of w sym.now packet.now slots.now) (hops.all_up net.now (failures_of w sym.now))
         (up_interfaces net.now (failures_of w sym.now) router) router file.now) (forwarding_of w r)) }
 {

@@ -83,6 +83,29 @@ fn sym_offers(
     }
 }
 
+/// Whether the adjacency is one of the router, and both of its interfaces are up.
+pub(crate) fn sym_up_from(
+    alloc: Global,
+    terms: &mut Terms,
+    net: &Net,
+    sym: &SymNet,
+    router: u32,
+    a: &Adjacency,
+) -> Result<NodeId, AllocError>
+    requires downs { ids_end sym.now.down ≤ size terms.old }
+    ensures builds { Builds terms.old terms.new }
+    ensures within { IfOk result (λ r. r.0 < size terms.new) }
+    ensures value { Gives terms.new result (λ w r. at w r ≡
+        defined.is_up_from net.now (failures_of w sym.now) router a.now) }
+{
+    if a.from.router != router {
+        return constant_node(terms, false);
+    }
+    let from = sym_up_at(alloc, terms, net, sym, a.from)?;
+    let to = sym_up_at(alloc, terms, net, sym, a.to)?;
+    both(terms, from, to)
+}
+
 /// Whether the adjacency is one of the router that is up, and its far router offers the held route.
 pub(crate) fn sym_sends_over(
     alloc: Global,
@@ -108,8 +131,6 @@ pub(crate) fn sym_sends_over(
     if a.from.router != router {
         return constant_node(terms, false);
     }
-    let from = sym_up_at(alloc, terms, net, sym, a.from)?;
-    let to = sym_up_at(alloc, terms, net, sym, a.to)?;
-    let up = both(terms, from, to)?;
+    let up = sym_up_from(alloc, terms, net, sym, router, a)?;
     sym_offers(alloc, terms, slots, dst, len, held, up, a)
 }

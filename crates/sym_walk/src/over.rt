@@ -33,8 +33,8 @@ use term_arith::Bits;
 use term_arith::gates::{both, constant_node};
 use term_store::{NodeId, Terms};
 
-// Whether the interface is one of the router, up, and on a subnet that has the address.
-fn sym_reaches(
+/// Whether the interface is one of the router, up, and on a subnet that has the address.
+pub(crate) fn sym_reaches(
     alloc: Global,
     terms: &mut Terms,
     net: &Net,

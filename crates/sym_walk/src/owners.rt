@@ -30,8 +30,8 @@ use term_arith::gates::{both, constant_node};
 use term_arith::{Bits, equal_number};
 use term_store::{NodeId, Terms};
 
-// Whether the interface is up, on the subnet, and has the address.
-fn sym_has(
+/// Whether the interface is up, on the subnet, and has the address.
+pub(crate) fn sym_has(
     alloc: Global,
     terms: &mut Terms,
     net: &Net,

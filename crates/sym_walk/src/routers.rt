@@ -2,9 +2,11 @@
 
 ghost use Rattle.std.specs.Prelude.{◌≡◌, ℕ, ◌+◌, ◌<◌, ◌≤◌, Bool, IfOk, [], ◌∷◌, ◌++◌, length};
 ghost use Rattle.question_lang.specs.Hops as hops;
+ghost use Rattle.sym_ospf.specs.Rows.{net_end};
 ghost use Rattle.sym_policy.specs.Held.{failures_of};
 ghost use Rattle.sym_policy.specs.Records.{packet_end};
 ghost use Rattle.sym_walk.specs.Aims.{sought_by};
+ghost use Rattle.sym_walk.specs.Distances.{DistancesWhereNeeded};
 ghost use Rattle.sym_walk.specs.Here.{ends_here};
 ghost use Rattle.sym_walk.specs.Packets.{packet_of};
 ghost use Rattle.sym_walk.specs.Symbolic.{forwarding_of, forwarding_end, table_end, table_of};
@@ -13,7 +15,6 @@ ghost use Rattle.sym_walk.specs.Twins.{IsTwin, is_sought};
 ghost use Rattle.sym_walk.specs.Worlds.{slots_end, world_of};
 ghost use Rattle.term_store.specs.Terms.{Reading, size, at};
 ghost use Rattle.term_store.specs.Reading.{Reads, Builds, Gives};
-ghost use Rattle.term_arith.specs.Bits.{ids_end};
 
 use crate::aims::SymAim;
 use crate::entries::still;
@@ -40,13 +41,13 @@ fn sym_next(
     aim: &SymAim,
     router: u32,
 ) -> Result<SymForwarding, AllocError>
-    requires downs { ids_end sym.now.down ≤ size terms.old }
+    requires net { net_end sym.now ≤ size terms.old }
     requires slots { slots_end slots.now ≤ size terms.old }
     requires packet { packet_end packet.now ≤ size terms.old }
     requires aim { aim.now.here.0 < size terms.old }
     ensures builds { Builds terms.old terms.new }
     ensures within { IfOk result (λ r. forwarding_end r ≤ size terms.new) }
-    ensures value { Gives terms.new result (λ w r. IsTwin (sought_by w aim.now)
+    ensures value { Gives terms.new result (λ w r. DistancesWhereNeeded w net.now sym.now slots.now → IsTwin (sought_by w aim.now)
         (hops.next_hops net.now (world_of w sym.now packet.now slots.now) router) (forwarding_of w r)) }
 {
     match file_of(net.routers(), router) {
@@ -72,12 +73,12 @@ fn sym_router(
     kind: Kind,
     router: u32,
 ) -> Result<SymForwarding, AllocError>
-    requires downs { ids_end sym.now.down ≤ size terms.old }
+    requires net { net_end sym.now ≤ size terms.old }
     requires slots { slots_end slots.now ≤ size terms.old }
     requires packet { packet_end packet.now ≤ size terms.old }
     ensures builds { Builds terms.old terms.new }
     ensures within { IfOk result (λ r. forwarding_end r ≤ size terms.new) }
-    ensures value { Gives terms.new result (λ w r. IsTwin
+    ensures value { Gives terms.new result (λ w r. DistancesWhereNeeded w net.now sym.now slots.now → IsTwin
         (is_sought kind (ends_here net.now (failures_of w sym.now) (packet_of w packet.now) router kind))
         (hops.next_hops net.now (world_of w sym.now packet.now slots.now) router) (forwarding_of w r)) }
 {
@@ -119,13 +120,13 @@ fn add_router(
     router: u32,
     table: List<SymForwarding>,
 ) -> Result<List<SymForwarding>, AllocError>
-    requires downs { ids_end sym.now.down ≤ size terms.old }
+    requires net { net_end sym.now ≤ size terms.old }
     requires slots { slots_end slots.now ≤ size terms.old }
     requires packet { packet_end packet.now ≤ size terms.old }
     requires table { table_end table ≤ size terms.old }
     ensures builds { Builds terms.old terms.new }
     ensures within { IfOk result (λ r. table_end r ≤ size terms.new) }
-    ensures value { Gives terms.new result (λ w r.
+    ensures value { Gives terms.new result (λ w r. DistancesWhereNeeded w net.now sym.now slots.now →
         AreTwins net.now (world_of w sym.now packet.now slots.now) kind router (table_of w table) →
         AreTwins net.now (world_of w sym.now packet.now slots.now) kind (router + 1) (table_of w r)) }
 {
@@ -134,7 +135,8 @@ fn add_router(
     Ok(made)
 }
 
-/// What each router of the network does with the packet, in a network without BGP, for a question of that kind.
+/// What each router of the network does with the packet, for a question of that kind. Where slots hold a BGP route, the
+/// rows of `sym` are to be the interior distances.
 pub fn sym_table(
     alloc: Global,
     terms: &mut Terms,
@@ -144,12 +146,13 @@ pub fn sym_table(
     packet: &SymPacket,
     kind: Kind,
 ) -> Result<List<SymForwarding>, AllocError>
-    requires downs { ids_end sym.now.down ≤ size terms.old }
+    requires net { net_end sym.now ≤ size terms.old }
     requires slots { slots_end slots.now ≤ size terms.old }
     requires packet { packet_end packet.now ≤ size terms.old }
     ensures builds { Builds terms.old terms.new }
     ensures within { IfOk result (λ r. table_end r ≤ size terms.new) }
-    ensures value { Gives terms.new result (λ w r. AreTwins net.now (world_of w sym.now packet.now slots.now) kind
+    ensures value { Gives terms.new result (λ w r. DistancesWhereNeeded w net.now sym.now slots.now →
+        AreTwins net.now (world_of w sym.now packet.now slots.now) kind
         (length net.now) (table_of w r)) }
 {
     let mut table = List::new(alloc);

@@ -31,9 +31,9 @@ use sym_policy::{SymNet, SymPacket};
 use term_arith::Bits;
 use term_store::Terms;
 
-// Out of the network, to that address.
+/// Out of the network, to that address.
 #[tactic(auto, using(crate::proofs::Twins::end_twin))]
-fn sym_leaves(
+pub(crate) fn sym_leaves(
     alloc: Global,
     terms: &mut Terms,
     aim: &SymAim,

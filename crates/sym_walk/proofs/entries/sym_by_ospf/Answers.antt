@@ -1,4 +1,4 @@
-use Rattle.std.proofs.Common.{eqb, []}
+use Rattle.std.proofs.Common.{eqb}
 use Rattle.mw_text.specs.Address.{prefix_at}
 use Rattle.question_lang.specs.Hops.{ospf_hops}
 use Rattle.sym_policy.specs.Records.{address_of}
@@ -11,18 +11,14 @@ use Rattle.term_store.specs.Terms.{at}
 use Rattle.sym_walk.proofs.entries.sym_by_ospf.Goals as goal
 
 pub returns-clause-value : goal.returns-clause-value
-returns-clause-value c = λ w reads.
+returns-clause-value c = λ w reads others twin.
     let made = c.in_ok-made.ensures in
-    let rest = c.in_ok-rest.ensures in
     let to = c.in_ok-to.ensures in
     let test = c.in_ok-test.ensures in
-    let after_rest = made.builds.reads w reads in
-    let after_to = rest.builds.reads w after_rest in
+    let after_to = made.builds.reads w reads in
     let slot = c.args.slot.now in
-    let sought = sought_by w c.args.aim.now in
-    chosen_lists sought (at w c.in_ok-test.test) (eqb (number w slot.rib.source.nodes) 3)
+    chosen_lists (sought_by w c.args.aim.now) (at w c.in_ok-test.test) (eqb (number w slot.rib.source.nodes) 3)
     (ospf_hops c.args.net.now (world_of w c.args.sym.now c.args.packet.now c.args.slots.now) c.args.router
-    (prefix_at (address_of w c.args.packet.now.dst) c.args.len) (slot_of w slot)) []
-    (forwarding_of w c.in_ok-to.to) (forwarding_of w c.in_ok-rest.rest) (forwarding_of w c.in_ok-made.made)
-    (made.value w reads) (test.value w (to.builds.reads w after_to)) (to.value w after_to)
-    (rest.value w after_rest sought)
+    (prefix_at (address_of w c.args.packet.now.dst) c.args.len) (slot_of w slot)) others
+    (forwarding_of w c.in_ok-to.to) (forwarding_of w c.args.rest.now) (forwarding_of w c.in_ok-made.made)
+    (made.value w reads) (test.value w (to.builds.reads w after_to)) (to.value w after_to) twin

@@ -1,8 +1,8 @@
-use Rattle.std.proofs.Common.{List, [], cond, eqb, sym, subst}
+use Rattle.std.proofs.Common.{List, cond, eqb, sym, subst}
 use Rattle.mw_text.specs.Address.{prefix_at}
 use Rattle.net_model.specs.Routing.{up_interfaces}
 use Rattle.question_lang.specs.declared.walk.Hop.{Hop}
-use Rattle.question_lang.specs.Hops.{all_up, ospf_hops}
+use Rattle.question_lang.specs.Hops.{all_up, bgp_hops, ospf_hops}
 use Rattle.sym_policy.specs.Held.{failures_of}
 use Rattle.sym_policy.specs.Records.{address_of}
 use Rattle.sym_walk.specs.Aims.{sought_by}
@@ -16,12 +16,14 @@ use Rattle.term_arith.specs.Bits.{number}
 use Rattle.sym_walk.proofs.entries.sym_entry_hops.Goals as goal
 
 pub returns-clause-value : goal.returns-clause-value
-returns-clause-value c = λ w reads.
+returns-clause-value c = λ w reads needed.
     let made = c.in_ok-made.ensures in
     let plain = c.in_ok-plain.ensures in
     let ospf = c.in_ok-ospf.ensures in
+    let bgp = c.in_ok-bgp.ensures in
     let after_plain = made.builds.reads w reads in
     let after_ospf = plain.builds.reads w after_plain in
+    let after_bgp = ospf.builds.reads w after_ospf in
     let slot = c.args.slot.now in
     let net = c.args.net.now in
     let failures = failures_of w c.args.sym.now in
@@ -30,9 +32,11 @@ returns-clause-value c = λ w reads.
     let own = up_interfaces net failures c.args.router in
     let p = prefix_at (address_of w c.args.packet.now.dst) c.args.len in
     let n = number w slot.rib.source.nodes in
-    let by_ospf = cond (eqb n 3) (ospf_hops net world c.args.router p (slot_of w slot)) [] in
+    let by_bgp = bgp_hops net world up own c.args.router (slot_of w slot) in
+    let by_ospf = cond (eqb n 3) (ospf_hops net world c.args.router p (slot_of w slot)) by_bgp in
     let by_static = cond (eqb n 1) (static_part net (packet_of w c.args.packet.now) up own c.args.file.now.statics p
     (number w slot.rib.distance.nodes)) by_ospf in
     let P : List Hop → Type 0 = λ hs. IsTwin (sought_by w c.args.aim.now) hs (forwarding_of w c.in_ok-made.made) in
     subst P (sym (entry_by_number w net world up own c.args.router c.args.file.now c.args.len slot))
-    (made.value w reads by_static (plain.value w after_plain by_ospf (ospf.value w after_ospf)))
+    (made.value w reads by_static (plain.value w after_plain by_ospf
+    (ospf.value w after_ospf by_bgp (bgp.value w after_bgp needed))))

@@ -11,7 +11,7 @@ use Rattle.term_store.specs.Terms.{at}
 use Rattle.sym_walk.proofs.longest.sym_by_slot.Goals as goal
 
 pub returns-clause-value : goal.returns-clause-value
-returns-clause-value c = λ w reads others twin.
+returns-clause-value c = λ w reads needed others twin.
     let made = c.in_ok-made.ensures in
     let to = c.in_ok-to.ensures in
     let slot = c.args.slot.now in
@@ -21,4 +21,4 @@ returns-clause-value c = λ w reads others twin.
     (entry_of w net (world_of w c.args.sym.now c.args.packet.now c.args.slots.now) (all_up net failures)
     (up_interfaces net failures c.args.router) c.args.router c.args.file.now c.args.len slot) others
     (forwarding_of w c.in_ok-to.to) (forwarding_of w c.args.rest) (forwarding_of w c.in_ok-made.made)
-    (made.value w reads) refl (to.value w (made.builds.reads w reads)) twin
+    (made.value w reads) refl (to.value w (made.builds.reads w reads) needed) twin

@@ -17,7 +17,7 @@ use Rattle.term_store.specs.Terms.{at}
 use Rattle.sym_walk.proofs.longest.sym_hops.Goals as goal
 
 pub returns-clause-value : goal.returns-clause-value
-returns-clause-value c = λ w reads.
+returns-clause-value c = λ w reads needed.
     let made = c.in_ok-made.ensures in
     let on = c.in_ok-on.ensures in
     let here = c.in_ok-here.ensures in
@@ -33,4 +33,4 @@ returns-clause-value c = λ w reads.
     (longest_below (tables_of w c.args.slots.now) c.args.router LENGTHS))
     (forwarding_of w c.in_ok-here.here) (forwarding_of w c.in_ok-on.on) (forwarding_of w c.in_ok-made.made)
     (made.value w reads) (own.value w (here.builds.reads w after_here)) (here.value w after_here)
-    (on.value w after_on)
+    (on.value w after_on needed)

@@ -15,7 +15,7 @@ pub loop-len-init : goal.loop-len-init
 loop-len-init c = record {
   builds = search rules;
   within = search rules;
-  value = λ w reads.
+  value = λ w reads needed.
       let world = world_of w c.args.sym.now c.args.packet.now c.args.slots.now in
       let P : Option (ℕ × Slot × RibEntry) → Type 0 = λ found. IsTwin (sought_by w c.args.aim.now)
       (by_entry c.args.net.now world c.args.router c.args.file.now found) (forwarding_of w c.in_ok-rest.rest) in
@@ -26,22 +26,22 @@ pub loop-len-preserved : goal.loop-len-preserved
 loop-len-preserved c = record {
   builds = search rules;
   within = search rules;
-  value = λ w reads.
+  value = λ w reads needed.
       let world = world_of w c.args.sym.now c.args.packet.now c.args.slots.now in
       let tables = tables_of w c.args.slots.now in
       let step = c.in_ok-rest-2.ensures in
       let P : Option (ℕ × Slot × RibEntry) → Type 0 = λ found. IsTwin (sought_by w c.args.aim.now)
       (by_entry c.args.net.now world c.args.router c.args.file.now found) (forwarding_of w c.in_ok-rest-2.rest) in
       subst P (sym (longest_more tables c.args.router c.loop-len.len))
-      (step.value w reads (longest_below tables c.args.router c.loop-len.len)
-      (c.loop-len.invariant.value w (step.builds.reads w reads)));
+      (step.value w reads needed (longest_below tables c.args.router c.loop-len.len)
+      (c.loop-len.invariant.value w (step.builds.reads w reads) needed));
 }
 
 pub returns-clause-value : goal.returns-clause-value
-returns-clause-value c = λ w reads.
+returns-clause-value c = λ w reads needed.
     let all : c.loop-len.len ≡ 33 = omega arith in
     let world = world_of w c.args.sym.now c.args.packet.now c.args.slots.now in
     let P : ℕ → Type 0 = λ n. IsTwin (sought_by w c.args.aim.now)
     (by_entry c.args.net.now world c.args.router c.args.file.now (longest_below (tables_of w c.args.slots.now)
     c.args.router n)) (forwarding_of w c.loop-len.rest) in
-    subst P all (c.loop-len.invariant.value w reads)
+    subst P all (c.loop-len.invariant.value w reads needed)

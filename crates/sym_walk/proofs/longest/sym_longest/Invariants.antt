@@ -3,6 +3,7 @@ use Rattle.term_store.specs.Terms.{Reading, size}
 use Rattle.term_store.specs.Reading.{Reads, Builds}
 use Rattle.question_lang.specs.Hops.{longest_below}
 use Rattle.sym_walk.specs.Aims.{sought_by}
+use Rattle.sym_walk.specs.Distances.{DistancesWhereNeeded}
 use Rattle.sym_walk.specs.Entries.{by_entry}
 use Rattle.sym_walk.specs.Symbolic.{forwarding_end, forwarding_of}
 use Rattle.sym_walk.specs.Twins.{IsTwin}
@@ -14,7 +15,7 @@ abbrev pub invariant-loop-len : goal.invariant-loop-len
 invariant-loop-len l = record {
   builds : Builds l.fn.terms l.terms;
   within : forwarding_end l.rest ≤ size l.terms;
-  value : (w : Reading) → Reads w l.terms → IsTwin (sought_by w l.aim)
+  value : (w : Reading) → Reads w l.terms → DistancesWhereNeeded w l.net l.sym l.slots → IsTwin (sought_by w l.aim)
       (by_entry l.net (world_of w l.sym l.packet l.slots) l.router l.file
       (longest_below (tables_of w l.slots) l.router l.len))
       (forwarding_of w l.rest);

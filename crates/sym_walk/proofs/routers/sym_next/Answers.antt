@@ -12,7 +12,7 @@ use Rattle.sym_walk.specs.Worlds.{world_of}
 use Rattle.sym_walk.proofs.routers.sym_next.Goals as goal
 
 pub returns-in_ok-none-in-None-clause-value : goal.returns-in_ok-none-in-None-clause-value
-returns-in_ok-none-in-None-clause-value c = λ w reads.
+returns-in_ok-none-in-None-clause-value c = λ w reads needed.
     let net = c.args.net.now in
     let failures = failures_of w c.args.sym.now in
     let world = world_of w c.args.sym.now c.args.packet.now c.args.slots.now in
@@ -23,7 +23,7 @@ returns-in_ok-none-in-None-clause-value c = λ w reads.
     (c.in_ok-none-in-None.ensures.value w reads (sought_by w c.args.aim.now))
 
 pub returns-in_ok-made-in-Some-clause-value : goal.returns-in_ok-made-in-Some-clause-value
-returns-in_ok-made-in-Some-clause-value c = λ w reads.
+returns-in_ok-made-in-Some-clause-value c = λ w reads needed.
     let net = c.args.net.now in
     let failures = failures_of w c.args.sym.now in
     let world = world_of w c.args.sym.now c.args.packet.now c.args.slots.now in
@@ -31,4 +31,4 @@ returns-in_ok-made-in-Some-clause-value c = λ w reads.
     (option_map_or (hops_over net world (all_up net failures) (up_interfaces net failures c.args.router) c.args.router)
     file []) (forwarding_of w c.in_ok-made-in-Some.made) in
     subst P (c.in-Some.ensures ∙ ap (λ fs. slice_get fs c.args.router) c.routers.ensures.all)
-    (c.in_ok-made-in-Some.ensures.value w reads)
+    (c.in_ok-made-in-Some.ensures.value w reads needed)

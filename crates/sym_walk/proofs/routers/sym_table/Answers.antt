@@ -10,7 +10,7 @@ pub loop-router-init : goal.loop-router-init
 loop-router-init c = record {
   builds = search rules;
   within = search rules;
-  value = λ w reads.
+  value = λ w reads needed.
       let net = c.args.net.now in
       let world = world_of w c.args.sym.now c.args.packet.now c.args.slots.now in
       let P : List SymForwarding → Type 0 = λ t. AreTwins net world c.args.kind 0 (table_of w t) in
@@ -21,14 +21,14 @@ pub loop-router-preserved : goal.loop-router-preserved
 loop-router-preserved c = record {
   builds = search rules;
   within = search rules;
-  value = λ w reads.
+  value = λ w reads needed.
       let step = c.in_ok-table.ensures in
-      step.value w reads (c.loop-router.invariant.value w (step.builds.reads w reads));
+      step.value w reads needed (c.loop-router.invariant.value w (step.builds.reads w reads) needed);
 }
 
 pub returns-clause-value : goal.returns-clause-value
-returns-clause-value c = λ w reads.
+returns-clause-value c = λ w reads needed.
     let all : c.loop-router.router ≡ length c.args.net.now = omega arith in
     let P : ℕ → Type 0 = λ n. AreTwins c.args.net.now
     (world_of w c.args.sym.now c.args.packet.now c.args.slots.now) c.args.kind n (table_of w c.loop-router.table) in
-    subst P all (c.loop-router.invariant.value w reads)
+    subst P all (c.loop-router.invariant.value w reads needed)

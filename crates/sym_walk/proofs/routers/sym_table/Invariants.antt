@@ -1,6 +1,7 @@
 use Rattle.std.proofs.Common.{◌≤◌}
 use Rattle.term_store.specs.Terms.{Reading, size}
 use Rattle.term_store.specs.Reading.{Reads, Builds}
+use Rattle.sym_walk.specs.Distances.{DistancesWhereNeeded}
 use Rattle.sym_walk.specs.Symbolic.{table_end, table_of}
 use Rattle.sym_walk.specs.TwinTables.{AreTwins}
 use Rattle.sym_walk.specs.Worlds.{world_of}
@@ -11,6 +12,6 @@ abbrev pub invariant-loop-router : goal.invariant-loop-router
 invariant-loop-router l = record {
   builds : Builds l.fn.terms l.terms;
   within : table_end l.table ≤ size l.terms;
-  value : (w : Reading) → Reads w l.terms → AreTwins l.net (world_of w l.sym l.packet l.slots) l.kind l.router
-      (table_of w l.table);
+  value : (w : Reading) → Reads w l.terms → DistancesWhereNeeded w l.net l.sym l.slots →
+      AreTwins l.net (world_of w l.sym l.packet l.slots) l.kind l.router (table_of w l.table);
 }
