@@ -1,8 +1,8 @@
 -- What is learnt contains no clause that is held, and the level to go back to is the least one.
-use Rattle.std.proofs.Common.{◌≡◌, ◌⊎◌, ℕ, ◌+◌, ◌-◌, ◌<◌, ◌≤◌, ◌==◌, Bool, true, false, not, List, []}
+use Rattle.std.proofs.Common.{◌≡◌, ◌⊎◌, ℕ, ◌+◌, ◌-◌, ◌<◌, ◌≤◌, Bool, true, false, not, List, []}
 use Rattle.std.proofs.Common.{◌∷◌, length, take}
-use Rattle.std.proofs.Common.{slice_get, Option, Some, None, is_some, inl, inr, refl, sym, ap, ◌∙◌, subst, arith}
-use Rattle.std.proofs.lemmas.Bool.{cases_Bool, cases_lt, eq-eqb, false≢true, true≢false, or_cases, or_left, or_right}
+use Rattle.std.proofs.Common.{slice_get, Some, None, is_some, inl, inr, refl, sym, ap, ◌∙◌, subst, arith}
+use Rattle.std.proofs.lemmas.Bool.{cases_Bool, eq-eqb, false≢true, true≢false, or_cases, or_left, or_right}
 use Rattle.std.proofs.lemmas.Bool.{and_parts, not-true}
 use Rattle.std.proofs.lemmas.Option.{get_or_from_slice_get}
 use Rattle.resolution_check.specs.declared.log.Lit.{Lit}
@@ -10,7 +10,7 @@ use Rattle.resolution_check.specs.declared.log.Clause.{Clause}
 use Rattle.resolution_check.specs.Clauses.{opposite, is_same, has, is_inside}
 use Rattle.resolution_check.specs.Earned.{has_var, vars_differ}
 use Rattle.resolution_check.specs.Entries.{is_empty}
-use Rattle.resolution_check.specs.Trails.{value_of, is_value, holds, fails, OthersFail, IsUnit, IsSettled}
+use Rattle.resolution_check.specs.Trails.{value_of, is_value, holds, fails, IsSettled}
 use Rattle.resolution_check.proofs.Literals.{same_lit, same_refl, all_at}
 use Rattle.resolution_check.proofs.Values.{some_value, not_both}
 use Rattle.clause_arena.specs.Links.{word}
@@ -18,7 +18,7 @@ use Rattle.clause_arena.specs.Store.{Store}
 use Rattle.clause_arena.specs.Held.{held_in}
 use Rattle.conflict_analysis.specs.Steps.{NeverFalls}
 use Rattle.conflict_analysis.specs.Levels.{level_of, count_to, steps_to, AreFilled, AreFull, ContainsNone, NeverRises}
-use Rattle.conflict_analysis.specs.Lessons.{IsFirstPoint, IsOnWay, IsBehindPoint, IsLevelOf, IsSecond, IsBack}
+use Rattle.conflict_analysis.specs.Lessons.{IsOnWay, IsBehindPoint, IsLevelOf, IsSecond, IsBack}
 use Rattle.conflict_analysis.proofs.Levels.{step_there, level_there, value_low, value_high, opened}
 use Rattle.conflict_analysis.proofs.Points.{first_has}
 use Rattle.conflict_analysis.proofs.Followed.{unmarked}

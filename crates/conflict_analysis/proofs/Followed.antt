@@ -1,25 +1,23 @@
 -- Steps that are followed back from a false clause.
 use Rattle.resolution_check.specs.Trails.{is_value, value_of, fails, AllFail, OthersFail}
-use Rattle.std.proofs.Common.{◌≡◌, ℕ, zero, suc, ◌+◌, ◌==◌, Bool, true, false, not, cond, ◌&&◌, ◌||◌, List}
+use Rattle.std.proofs.Common.{◌≡◌, ℕ, ◌+◌, ◌==◌, Bool, true, false, not, cond, ◌&&◌, ◌||◌, List}
 use Rattle.std.proofs.Common.{[], ◌∷◌, ◌++◌, length, take, drop, slice_get, Option, Some, None, is_some, Ok, Err, inl}
-use Rattle.std.proofs.Common.{inr, refl, sym, ap, ◌∙◌, add-one, take-append-drop}
+use Rattle.std.proofs.Common.{inr, refl, sym, ap, ◌∙◌, take-append-drop}
 use Rattle.std.specs.Option.{option_map_or, ok_or}
-use Rattle.std.proofs.lemmas.Bool.{not-true, not_from_false, cases_Bool, eqb-true, eq-eqb, false≢true, true≢false}
-use Rattle.std.proofs.lemmas.Bool.{or_cases, or_left, or_right, and_parts, and_from, or_parts, or_from}
-use Rattle.std.specs.Bool.{beq}
+use Rattle.std.proofs.lemmas.Bool.{not-true, not_from_false, cases_Bool, eqb-true, false≢true}
+use Rattle.std.proofs.lemmas.Bool.{or_cases, or_left, or_right, and_parts, and_from}
 use Rattle.resolution_check.specs.declared.log.Lit.{Lit}
 use Rattle.resolution_check.specs.declared.log.Clause.{Clause}
 use Rattle.resolution_check.specs.declared.log.Bad.TheVariants.{NoPivot, UnknownId}
 use Rattle.resolution_check.specs.Clauses.{opposite, is_same, has, without, resolvent, IsPivot}
 use Rattle.resolution_check.specs.Entries.{resolved, resolved_from}
 use Rattle.std.proofs.Math.Seq.{take-length}
-use Rattle.std.proofs.lemmas.List.Folds.{list_any-append}
 use Rattle.std.proofs.Math.Bool.{or-false}
 use Rattle.resolution_check.specs.Earned.{has_var, vars_differ}
 use Rattle.resolution_check.proofs.Literals.{same_lit, same_refl, opposite_twice, has-append}
 use Rattle.resolution_check.proofs.Resolvents.{resolvent-pivot, has-resolved}
 use Rattle.resolution_check.proofs.Chains.{resolved-push}
-use Rattle.resolution_check.proofs.Variables.{apart, gain, has_var_from, itself, lose, no_var, of_var, other_way}
+use Rattle.resolution_check.proofs.Variables.{apart, gain, has_var_from, itself, lose, no_var, of_var}
 use Rattle.resolution_check.proofs.Variables.{same_bool, take_at, vars_differ-push}
 use Rattle.resolution_check.proofs.Values.{same_fails, not_both, some_value}
 use Rattle.resolution_check.proofs.Values.{value_of-keeps, value_of-last, value_of-other, value_of-none}

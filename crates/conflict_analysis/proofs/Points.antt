@@ -1,5 +1,5 @@
 -- Steps that are followed back up to the first unique implication point, and behind it.
-use Rattle.std.proofs.Common.{◌≡◌, ◌⊎◌, ℕ, zero, suc, ◌+◌, ◌<◌, ◌≤◌, ◌==◌, Bool, true, false, not, cond, ◌&&◌, ◌||◌}
+use Rattle.std.proofs.Common.{◌≡◌, ◌⊎◌, ℕ, zero, suc, ◌+◌, ◌<◌, ◌≤◌, ◌==◌, Bool, true, false, cond, ◌||◌}
 use Rattle.std.proofs.Common.{List, [], ◌∷◌, ◌++◌, length, length-append, take, slice_get, Option, Some, None, is_some}
 use Rattle.std.proofs.Common.{Result, Ok, inl, inr, refl, sym, ap, ◌∙◌, subst, arith}
 use Rattle.std.proofs.lemmas.Bool.{cases_Bool, cases_lt, eq-eqb, eqb-true, false≢true, true≢false, or_cases, or_left}
@@ -20,9 +20,9 @@ use Rattle.clause_arena.specs.Links.{word}
 use Rattle.clause_arena.specs.Store.{Store}
 use Rattle.clause_arena.specs.Held.{held_in}
 use Rattle.conflict_analysis.specs.Steps.{NeverFalls, OpensLevel}
-use Rattle.conflict_analysis.specs.Levels.{level_of, NeverRises, IsAlone, Stays, IsTop}
-use Rattle.conflict_analysis.specs.Lessons.{IsFollowed, IsFirstPoint, IsBeforePoint, IsBehindPoint, IsOnWay, IsPointed}
-use Rattle.conflict_analysis.proofs.Levels.{IsStepOf, step_of, step_there, step_later, level_there, seen_before}
+use Rattle.conflict_analysis.specs.Levels.{level_of, NeverRises, Stays, IsTop}
+use Rattle.conflict_analysis.specs.Lessons.{IsFollowed, IsBeforePoint, IsBehindPoint, IsOnWay, IsPointed}
+use Rattle.conflict_analysis.proofs.Levels.{step_of, step_there, step_later, level_there, seen_before}
 use Rattle.conflict_analysis.proofs.Followed.{own_fails, nearer, stands, followed_past, followed_kept, followed_forced}
 use Rattle.conflict_analysis.proofs.Followed.{followed_first, unmarked}
 
@@ -252,7 +252,8 @@ module _ (a : Store) (ss : List Lit) (levels : List ℕ) (top : ℕ) (len : leng
 
         module _ (reasons : List (Option ClauseRef)) (kept : Bool) (s : Stays a ss levels reasons marks top at kept)
             (not_kept : kept ≡ false) (id : ℕ) (c : List Lit) (held : held_in a id ≡ Some (record { lits = c }))
-            (inside : has c t ≡ true) (others : OthersFail (take at ss) c t) (chain' : List ℕ) (e : chain' ≡ chain ++ id ∷ [])
+            (inside : has c t ≡ true) (others : OthersFail (take at ss) c t) (chain' : List ℕ)
+            (e : chain' ≡ chain ++ id ∷ [])
             (new : (v : ℕ) → marks' v ≡ cond (t.var == v) false (has_var c v || marks v)) where
           next : IsFollowed a ss at marks' lits chain'
           next =

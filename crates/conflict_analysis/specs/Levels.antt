@@ -75,8 +75,8 @@ abbrev pub is_implied : Store → (ℕ → Bool) → ℕ → Option ClauseRef �
 is_implied a marks var None = false
 is_implied a marks var (Some c) = others_marked marks var (lits_of a c.0)
 
--- Whether a marked step is kept: never at level 0; between it and the top level where the other marked ones do not imply
--- it; and at the top level where no step before it is marked.
+-- Whether a marked step is kept: never at level 0; between it and the top level where the other marked ones do not
+-- imply it; and at the top level where no step before it is marked.
 pub record Stays (a : Store) (steps : List Lit) (levels : List ℕ) (reasons : List (Option ClauseRef))
     (marks : ℕ → Bool) (top at : ℕ) (kept : Bool) : Type 0 where
   pub ground : word levels at ≡ 0 → kept ≡ false

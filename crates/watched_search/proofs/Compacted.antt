@@ -113,7 +113,8 @@ module _ (old new : Store) (c : Compacts old new) (sound : IsSound old.vars old.
       let k = f.2 in
       let size : word new.words s ≡ word old.words f.0 = k.size in
       let own : literal new s side ≡ literal old f.0 side = ap lit_of (k.codes side (omega arith)) in
-      let other : literal new s (1 - side) ≡ literal old f.0 (1 - side) = ap lit_of (k.codes (1 - side) (omega arith)) in
+      let other : literal new s (1 - side) ≡ literal old f.0 (1 - side) =
+      ap lit_of (k.codes (1 - side) (omega arith)) in
       ap (holds steps) other ∙ w f.0 side f.1 (omega arith) low (sym (ap (fails looked_at) own) ∙ falls)
 
   -- the watches are kept

@@ -1,4 +1,4 @@
-use Rattle.std.proofs.Common.{ℕ, Some, None, ◌≡◌, ◌⊎◌, true, inl, inr, ◌∙◌, ap, length}
+use Rattle.std.proofs.Common.{Some, inl, inr, ◌∙◌, ap, length}
 use Rattle.clause_arena.specs.Held.{lits_of, number_of}
 use Rattle.conflict_analysis.specs.Lessons.{marked}
 use Rattle.resolution_check.proofs.Values.{below_at}
