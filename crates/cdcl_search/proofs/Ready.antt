@@ -189,7 +189,8 @@ module _ (a : Store) (now : Assigned) (id from : ℕ) (lits : List Lit) (chain :
       → Refutes old new tolds more_tolds (held_in a) id turn
   lesson_refutes turn more_tolds tells empty takes = λ before ins added runs is_turn g.
       refuted_more before old ins (held_in a) id added runs tolds g lits chain
-      (lesson_adds a now.lits lits chain l none) (lesson_text a now id from lits chain r small l none) turn is_turn more_tolds tells new (ap is_empty empty) takes
+      (lesson_adds a now.lits lits chain l none) (lesson_text a now id from lits chain r small l none) turn is_turn
+      more_tolds tells new (ap is_empty empty) takes
 
   -- the line was written, and the clause is held
   pub lesson_goes : (turn : ℕ) (more_tolds : List (Option (List ℕ))) → TellsAt tolds more_tolds turn (vars_of lits)

@@ -114,7 +114,8 @@ numbered_filter (x ∷ xs) n id = elim (cases_Bool (x.0 == n)) [
       (filter (λ y. not (y.0 == n)) xs)) id) goes ∙ numbered_filter xs n id ∙ gone same
   | inr stays ↦
       ap (λ b. clause_numbered (cond (not b) (x ∷ filter (λ y. not (y.0 == n)) xs)
-      (filter (λ y. not (y.0 == n)) xs)) id) stays ∙ ap (λ o. cond (x.0 == id) (Some (record { lits = x.1 })) o) (numbered_filter xs n id) ∙ kept stays
+      (filter (λ y. not (y.0 == n)) xs)) id) stays
+      ∙ ap (λ o. cond (x.0 == id) (Some (record { lits = x.1 })) o) (numbered_filter xs n id) ∙ kept stays
 ]
   where
     rest : Option Clause
