@@ -15,6 +15,7 @@ pub mod RoomSteps
 pub mod EquationSteps
 pub mod HoldingSteps
 pub mod SlotSteps
+pub mod BareSlots
 pub mod RoutingSteps
 pub mod Wanted
 pub mod DecodingSteps

@@ -4,6 +4,7 @@ ghost use Rattle.std.specs.Prelude.{◌≡◌, ℕ, ◌+◌, ◌≤◌, ◌*◌,
 ghost use Rattle.net_model.specs.Tracked.{tracked_of};
 ghost use Rattle.net_model.specs.World.{links_of};
 ghost use Rattle.route_record.specs.declared.TheConstants as constants;
+ghost use Rattle.sym_ospf.specs.Rows.{net_end};
 ghost use Rattle.sym_policy.specs.Held.{failures_of};
 ghost use Rattle.sym_policy.specs.Records.{address_of, packet_end};
 ghost use Rattle.sym_walk.specs.Packets.{packet_of};
@@ -59,7 +60,7 @@ fn open_outside(
 ) -> Result<Outside, AllocError>
     ensures grows { Grows terms.old terms.new }
     ensures packet_within { IfOk result (λ r. packet_end r.packet ≤ size terms.new) }
-    ensures down_within { IfOk result (λ r. ids_end r.net.down ≤ size terms.new) }
+    ensures net_within { IfOk result (λ r. net_end r.net ≤ size terms.new) }
     ensures vars { OnOk result (terms.new.vars ≡ slots_start net.now question.now terms.old.vars) }
     ensures packet { Gives terms.new result (λ w r. packet_of w r.packet
         ≡ packet_from question.now.packets w.variable terms.old.vars) }

@@ -6,6 +6,7 @@ use Rattle.mw_text.specs.Address.{prefix_at}
 use Rattle.route_record.specs.declared.OspfRec.{OspfRec}
 use Rattle.net_model.specs.Ospf.{adjacencies}
 use Rattle.net_model.specs.OspfRoutes.{first_best, is_as_good}
+use Rattle.net_model.specs.Tracked.{tracked_of}
 use Rattle.term_store.specs.Terms.{at, size}
 use Rattle.sym_policy.specs.declared.records.SymOspf.{SymOspf}
 use Rattle.sym_ospf.specs.Routes.{routes_end}
@@ -16,6 +17,7 @@ use Rattle.sym_walk.specs.Worlds.{tables_of, slot_of as slot_read}
 use Rattle.net_encoder.specs.Equations.{offers_by}
 use Rattle.net_encoder.specs.Slots.{same_ospf}
 use Rattle.net_encoder.specs.Symbols.{open_of}
+use Rattle.net_encoder.proofs.BareSlots.{bare_stands}
 use Rattle.net_encoder.proofs.Wanted.{agree_is, wanted_is}
 use Rattle.net_encoder.proofs.holding.sym_wanted.Goals as goal
 
@@ -32,7 +34,11 @@ returns-clause-value c = λ w reads file process found runs bare there same.
     let offers = offers_by c.args.net.now (failures_of w c.args.sym.now) (tables_of w c.args.slots.now) c.args.router
     (prefix_at (address_of w c.args.dst.now) c.args.len) (adjacencies c.args.net.now) in
     let own = c.in_ok-own.ensures.value w r1 file process (slot_read w c.args.slot.now) found runs
-    (record { ospf = refl; bgp = bare; rib = refl }) in
+    (record {
+      ospf = refl;
+      bgp = bare_stands w (tracked_of c.args.net.now) c.args.slot.now.bgp bare;
+      rib = refl;
+    }) in
     let good = c.in_ok-good.ensures.value w r2 in
     let all = c.in_ok-all.ensures.value w r3 in
     let best = c.in_ok-best.ensures.value w r4 in

@@ -1,8 +1,9 @@
-use Rattle.std.proofs.Common.{None, subst}
+use Rattle.std.proofs.Common.{subst}
 use Rattle.route_record.specs.declared.tracked.Tracked.{Tracked}
 use Rattle.sym_policy.specs.Held.{ospf_of}
 use Rattle.sym_rib.specs.Slots.{StandsForSlot}
 use Rattle.net_encoder.specs.Slots.{bare}
+use Rattle.net_encoder.proofs.BareSlots.{bare_towards}
 use Rattle.net_encoder.proofs.tables.slot.Goals as goal
 
 pub returns-clause-bare : goal.returns-clause-bare
@@ -16,4 +17,5 @@ returns-clause-value c w reads =
     let before = subst P c.tracked.ensures.value
     (c.in_ok-before.ensures.value w (c.sym_entry.ensures.builds.reads w reads)) in
     let rib = c.in_ok-rib.ensures.value w reads (bare (ospf_of w c.args.part.now.ospf)) before in
-    λ i. record { ospf = before.ospf i; bgp = None; rib = rib i }
+    let none = bare_towards w c.in_ok-before.before.bgp before.bgp in
+    λ i. record { ospf = before.ospf i; bgp = none i; rib = rib i }
