@@ -1,9 +1,9 @@
 -- What the deletion of a clause leaves of the arena, the trail and the watches.
 use Rattle.std.proofs.Common.{◌≡◌, ◌≢◌, ℕ, zero, suc, ◌+◌, ◌-◌, ◌<◌, ◌≤◌, ◌^◌, ◌==◌, true, false, cond, List, []}
 use Rattle.std.proofs.Common.{◌∷◌, length}
-use Rattle.std.proofs.Common.{Option, Some, None, filter, not, map, refl, sym, ap, subst, ◌∙◌, arith, inl, inr}
-use Rattle.std.proofs.Common.{slice_get, eqb-true}
-use Rattle.std.proofs.lemmas.Bool.{cases_Bool, eq-eqb, false≢true, ne_eqb}
+use Rattle.std.proofs.Common.{Option, Some, None, filter, not, refl, sym, ap, subst, ◌∙◌, arith, inl, inr}
+use Rattle.std.proofs.Common.{eqb-true}
+use Rattle.std.proofs.lemmas.Bool.{cases_Bool, ne_eqb}
 use Rattle.resolution_check.specs.declared.log.Lit.{Lit}
 use Rattle.resolution_check.specs.declared.log.Clause.{Clause}
 use Rattle.resolution_check.specs.Clauses.{has}
@@ -12,13 +12,14 @@ use Rattle.resolution_check.specs.Text.{HasText}
 use Rattle.watched_search.proofs.Starts.{held_below}
 use Rattle.resolution_check.specs.Trails.{holds, fails}
 use Rattle.clause_arena.specs.declared.names.ClauseRef.{ClauseRef}
-use Rattle.clause_arena.specs.Links.{word, In}
+use Rattle.clause_arena.specs.Links.{word}
+use Rattle.mw_text.specs.Members.{In}
 use Rattle.clause_arena.specs.Store.{Store, IsSound}
 use Rattle.clause_arena.specs.Held.{clause_numbered, clauses, held_in, lit_of, lits_of, number_of}
 use Rattle.clause_arena.specs.Deleted.{Deletes}
 use Rattle.clause_arena.proofs.Unlinks.{in_filter, other_of}
 use Rattle.clause_arena.proofs.Views.{clause_like, lits_listed}
-use Rattle.conflict_analysis.specs.Steps.{IsForcedBy, IsTrail}
+use Rattle.conflict_analysis.specs.Steps.{IsTrail}
 use Rattle.conflict_analysis.specs.Levels.{steps_to}
 use Rattle.conflict_analysis.proofs.Marked.{has_at}
 use Rattle.watched_search.specs.Starts.{AreBelow}

@@ -1,8 +1,8 @@
 -- Addresses and prefixes that were written are read back.
-use Rattle.std.proofs.Common.{◌≡◌, ℕ, zero, suc, ◌+◌, ◌*◌, ◌/◌, ◌%◌, ◌^◌, ◌<◌, ◌≤◌, ◌==◌, ◌&&◌, Bool, true, false}
-use Rattle.std.proofs.Common.{cond, not, List, [], ◌∷◌, ◌++◌, length, take, drop, nat_eq, Option, Some, None, refl, ap}
-use Rattle.std.proofs.Common.{sym, subst, ◌∙◌, arith, length-append}
-use Rattle.std.proofs.lemmas.Bool.{and_parts, eq-eqb, eqb-true, eqb-false, lt-ltb, false≢true, not-true, or_parts}
+use Rattle.std.proofs.Common.{◌≡◌, ℕ, suc, ◌+◌, ◌*◌, ◌/◌, ◌%◌, ◌^◌, ◌<◌, ◌≤◌, ◌==◌, ◌&&◌, Bool, true, false}
+use Rattle.std.proofs.Common.{cond, not, List, [], ◌∷◌, ◌++◌, length, take, drop, Option, Some, None, refl, ap}
+use Rattle.std.proofs.Common.{◌∙◌, arith, length-append}
+use Rattle.std.proofs.lemmas.Bool.{and_parts, eq-eqb, eqb-true, lt-ltb, false≢true, not-true, or_parts}
 use Rattle.std.proofs.lemmas.List.Folds.{list_any-append}
 use Rattle.std.proofs.Math.Seq.{take-append_seam, drop-append-add}
 use Rattle.std.specs.Prelude.{codes, decimal, nat_lt, option_map}
@@ -12,6 +12,8 @@ use Rattle.std.specs.Option.{option_map_or}
 use Rattle.mw_text.specs.declared.address.Addr.{Addr}
 use Rattle.mw_text.specs.declared.address.Prefix.{Prefix}
 use Rattle.mw_text.specs.Address.{prefix_at}
+use Rattle.mw_text.specs.Members.{all_below}
+use Rattle.mw_text.proofs.Lists.{below_at}
 use Rattle.mw_text.specs.Text.{same_text}
 use Rattle.mw_text.specs.Digits.{addr_of, cut_at, number_of, octet_of, prefix_of_text}
 use Rattle.cex_json.specs.Parts.{addr_text, octet}
@@ -44,20 +46,6 @@ cut-append byte front rest none =
 
 -- ---- octets
 
--- all numbers below a bound pass
-abbrev all_below : (ℕ → Bool) → ℕ → Bool
-all_below p zero = true
-all_below p (suc n) = p n && all_below p n
-
-passes : (p : ℕ → Bool) (bound n : ℕ) → all_below p bound ≡ true → n < bound → p n ≡ true
-passes p zero n all less = absurd (omega arith)
-passes p (suc bound) n all less =
-    by (nat_eq n bound) refl (λ below. passes p bound n (and_parts (p bound) _ all).1 below)
-  where
-    by : (b : Bool) → nat_eq n bound ≡ b → (n < bound → p n ≡ true) → p n ≡ true
-    by true same later = subst (λ k. p k ≡ true) (sym (eqb-true n bound same)) (and_parts (p bound) _ all).0
-    by false other later = let not_same = eqb-false n bound other in later (omega arith)
-
 -- an octet is read back, and has neither '.' nor '/'
 abbrev is_read : ℕ → Bool
 is_read n = option_map_or (λ m. m == n) (octet_of (decimal n)) false
@@ -78,7 +66,7 @@ same_number (Some m) n h = ap Some (eqb-true m n h)
 
 octet_facts : (n : ℕ) → n < 256 → (is_read n ≡ true) × ((is_without 46 n ≡ true) × (is_without 47 n ≡ true))
 octet_facts n small =
-    let facts = and_parts (is_read n) (is_without 46 n && is_without 47 n) (passes is_octet 256 n octets small) in
+    let facts = and_parts (is_read n) (is_without 46 n && is_without 47 n) (below_at is_octet 256 n octets small) in
     (facts.0, and_parts (is_without 46 n) (is_without 47 n) facts.1)
 
 -- an octet that was written
@@ -142,7 +130,7 @@ unfolding prefix_text
 prefix_back p small short =
     rw (cut-append 47 (addr_text p.addr) (decimal p.len) (no_slash_in p.addr))
     (rw (addr_back p.addr small)
-    (rw (same_number (number_of 32 (decimal p.len)) p.len (passes is_length 33 p.len lengths (omega arith))) refl))
+    (rw (same_number (number_of 32 (decimal p.len)) p.len (below_at is_length 33 p.len lengths (omega arith))) refl))
 
 -- ---- an address is no word of letters
 
@@ -162,4 +150,4 @@ other_word (b ∷ front) rest plain = rw (not-true _ plain) refl
 pub not_local : (a : Addr) → same_text (addr_text a) (codes "local") ≡ false
 unfolding addr_text
 not_local a = other_word (decimal (octet a 24)) _
-    (passes (λ n. begins_plainly (decimal n)) 256 (octet a 24) plain_octets (omega arith))
+    (below_at (λ n. begins_plainly (decimal n)) 256 (octet a 24) plain_octets (omega arith))

@@ -2,7 +2,8 @@
 use Rattle.std.specs.Prelude.{ℕ, ◌≡◌, ◌≢◌, ◌+◌, ◌*◌, ◌%◌, ◌<◌, ◌≤◌, ◌⊎◌, List, [], ◌∷◌, ◌++◌, length, map, true, refl}
 use Rattle.std.proofs.Common.{sym, ◌∙◌, ap, subst, inl, inr, arith}
 use Rattle.std.proofs.lemmas.Bool.{cases_eq, cases_lt}
-use Rattle.clause_arena.specs.Links.{word, In, Threads, places}
+use Rattle.clause_arena.specs.Links.{word, Threads, places}
+use Rattle.mw_text.specs.Members.{In}
 use Rattle.clause_arena.specs.Store.{IsWatch, IsLaid, IsLinked, IsSound, store}
 use Rattle.std.proofs.lemmas.List.{length-map}
 use Rattle.resolution_check.specs.declared.log.Lit.{Lit}

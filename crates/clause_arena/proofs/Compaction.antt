@@ -3,7 +3,8 @@ use Rattle.std.specs.Prelude.{ℕ, ◌≡◌, ◌⊎◌, ◌+◌, ◌*◌, ◌%�
 use Rattle.std.proofs.Common.{sym, ◌∙◌, ap, subst, inl, inr, arith, length-take}
 use Rattle.std.proofs.lemmas.Bool.{cases_lt, cases_order}
 use Rattle.std.proofs.lemmas.List.{get_or-take}
-use Rattle.clause_arena.specs.Links.{word, In, Threads, places}
+use Rattle.clause_arena.specs.Links.{word, Threads, places}
+use Rattle.mw_text.specs.Members.{In}
 use Rattle.clause_arena.specs.Store.{Rises, IsWatch, IsLaid, IsLinked, IsSound, store}
 use Rattle.clause_arena.specs.Compacted.{renamed, slid, packed, Compacts, IsPlan, HasSlid}
 use Rattle.clause_arena.specs.Compacted.{MendsHeads, SlidesAll, Slides, HasLinks}

@@ -4,7 +4,8 @@ use Rattle.std.proofs.Common.{arith, subst, sym}
 use Rattle.std.proofs.Common.{inl, inr}
 use Rattle.std.proofs.lemmas.Bool.{cases_lt}
 use Rattle.std.proofs.lemmas.List.{get_or-replicate, get_or_past, length-replicate}
-use Rattle.clause_arena.specs.Links.{word, In, Threads, places}
+use Rattle.clause_arena.specs.Links.{word, Threads, places}
+use Rattle.mw_text.specs.Members.{In}
 use Rattle.clause_arena.specs.Store.{IsSound}
 use Rattle.clause_arena.proofs.Threads.{places_are}
 

@@ -5,7 +5,8 @@ use Rattle.std.proofs.lemmas.Bool.{cases_eq, ne_eqb}
 use Rattle.std.proofs.lemmas.Bool.Decides.{nat_tests}
 use Rattle.std.proofs.Math.Dec.{eqb}
 use borrow.Author.Tests.{eq-eqb}
-use Rattle.clause_arena.specs.Links.{In, Threads, cut}
+use Rattle.clause_arena.specs.Links.{Threads, cut}
+use Rattle.mw_text.specs.Members.{In}
 use Rattle.clause_arena.specs.Store.{IsWatch, IsLaid, IsLinked}
 use Rattle.clause_arena.specs.Changes.{IsMoved}
 use Rattle.clause_arena.proofs.Threads.{threads_from, threads_cut, cut_in, in_cut}

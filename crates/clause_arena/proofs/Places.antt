@@ -9,7 +9,8 @@ use Rattle.std.proofs.Common.{sym, ap, subst, inl, inr, arith, get_or}
 use Rattle.std.proofs.lemmas.Bool.{cases_lt, ne_eqb}
 use Rattle.std.proofs.lemmas.List.Sorted.{searched}
 use borrow.Author.Tests.{eq-eqb}
-use Rattle.clause_arena.specs.Links.{word, In}
+use Rattle.clause_arena.specs.Links.{word}
+use Rattle.mw_text.specs.Members.{In}
 use Rattle.clause_arena.specs.Store.{Rises}
 use Rattle.clause_arena.specs.Deleted.{others}
 use Rattle.clause_arena.proofs.Unlinks.{filter_all}

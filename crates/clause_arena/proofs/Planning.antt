@@ -5,7 +5,8 @@ use Rattle.std.proofs.lemmas.Bool.{cases_eq}
 use Rattle.std.proofs.lemmas.List.{get_or-set_same, get_or-set_other, get_or-map, length-map}
 use Rattle.std.proofs.Math.ListN.{set, length-set}
 use Rattle.std.proofs.Math.Seq.{drop-cons}
-use Rattle.clause_arena.specs.Links.{word, In}
+use Rattle.clause_arena.specs.Links.{word}
+use Rattle.mw_text.specs.Members.{In}
 use Rattle.clause_arena.specs.Store.{IsLaid}
 use Rattle.clause_arena.specs.Compacted.{packed, IsPlan}
 use Rattle.clause_arena.proofs.Places.{in_at, rises_at}

@@ -6,7 +6,8 @@ use Rattle.std.proofs.lemmas.List.{get_or-set_same, get_or-set_other}
 use Rattle.std.proofs.Math.Dec.{eqb}
 use Rattle.std.proofs.Math.ListN.{set}
 use borrow.Author.Tests.{eqb-true, eq-eqb}
-use Rattle.clause_arena.specs.Links.{word, In}
+use Rattle.clause_arena.specs.Links.{word}
+use Rattle.mw_text.specs.Members.{In}
 use Rattle.clause_arena.specs.Store.{Rises}
 use Rattle.clause_arena.specs.Compacted.{renamed, slid, IsCopied, IsMended, SlidesOne, IsLinkWord}
 use Rattle.clause_arena.proofs.Places.{in_at, at_of}

@@ -2,7 +2,8 @@
 use Rattle.std.specs.Prelude.{ℕ, ◌≡◌, ◌≢◌, ◌*◌, ◌<◌, ◌⊎◌, List, [], ◌∷◌, length, refl}
 use Rattle.std.proofs.Common.{sym, ◌∙◌, ap, subst, inl, inr, arith, cond}
 use borrow.Author.Tests.{eq-eqb}
-use Rattle.clause_arena.specs.Links.{word, In, Threads, places, after}
+use Rattle.clause_arena.specs.Links.{word, Threads, places, after}
+use Rattle.mw_text.specs.Members.{In}
 use Rattle.clause_arena.specs.Store.{IsSound}
 use Rattle.clause_arena.proofs.Threads.{threads_one, next_in, after_threads}
 use Rattle.clause_arena.proofs.Settling.{within_words}

@@ -7,7 +7,8 @@ use borrow.Author.Tests.{eq-eqb}
 use Rattle.std.proofs.lemmas.List.{get_or-set_same, get_or-set_other}
 use Rattle.std.proofs.Math.ListN.{set, length-set}
 use Rattle.clause_arena.specs.declared.names.Watch.{Watch}
-use Rattle.clause_arena.specs.Links.{word, In, Threads, places, after, cut}
+use Rattle.clause_arena.specs.Links.{word, Threads, places, after, cut}
+use Rattle.mw_text.specs.Members.{In}
 use Rattle.clause_arena.specs.Store.{IsLaid, IsSound, store}
 use Rattle.clause_arena.specs.Watched.{place, own, Stands, head, left, link_of}
 use Rattle.clause_arena.specs.Changes.{IsMoved, IsClear, IsRelinked, IsTwo}

@@ -1,12 +1,14 @@
 -- Lists in words, and what a write does to them.
 use Rattle.std.specs.Prelude.{ℕ, zero, suc, ◌≡◌, ◌≢◌, ◌<◌, ◌≤◌, ◌⊎◌, List, [], ◌∷◌, length, true, false, refl}
-use Rattle.std.specs.List.{IsDistinct, AllByRecursion, list_any}
+use Rattle.std.specs.List.{IsDistinct, AllByRecursion}
 use Rattle.std.proofs.Common.{sym, ◌∙◌, ap, subst, inl, inr, arith, cond}
-use Rattle.std.proofs.lemmas.Bool.{cases_Bool, or_cases, eqb-false, ne_eqb}
+use Rattle.std.proofs.lemmas.Bool.{cases_Bool, eqb-false, ne_eqb}
 use Rattle.std.proofs.Math.Dec.{eqb}
 use borrow.Author.Tests.{eqb-true}
 use Rattle.std.proofs.lemmas.Map.Steps.{length-le_from_distinct_below}
-use Rattle.clause_arena.specs.Links.{word, In, Threads, links, places, after, cut, first}
+use Rattle.clause_arena.specs.Links.{word, Threads, links, places, after, cut, first}
+use Rattle.mw_text.specs.Members.{In}
+use Rattle.mw_text.proofs.Lists.{in-from_any}
 
 -- ---- what a list is
 
@@ -61,15 +63,6 @@ unfolding IsDistinct
 distinct f at [] t = tt
 distinct f at (x ∷ xs) t = (apart_from x xs (off_own f x xs t.2), distinct f x xs t.2)
 
-in_from_any : (p : ℕ) (xs : List ℕ) → list_any (eqb p) xs ≡ true → In p xs
-in_from_any p [] h = absurd (cc)
-in_from_any p (x ∷ xs) h =
-    elim (or_cases (eqb p x) (list_any (eqb p) xs) h) [
-      | inl e ↦ inl (eqb-true p x e)
-      | inr e ↦ inr
-          (in_from_any p xs e)
-    ]
-
 links_whole : (f : ℕ → ℕ) (n at : ℕ) (xs : List ℕ) → Threads f at xs → length xs ≤ n → links n f at ≡ xs
 links_whole f zero at [] t h = refl
 links_whole f zero at (q ∷ qs) t h = absurd (omega arith)
@@ -86,7 +79,7 @@ pub places_are : (ws : List ℕ) (at : ℕ) (xs : List ℕ) → Threads (word ws
 unfolding places
 places_are ws at xs t below =
     links_whole (word ws) (length ws) at xs t
-    (length-le_from_distinct_below xs (length ws) (distinct (word ws) at xs t) (λ q h. below q (in_from_any q xs h)))
+    (length-le_from_distinct_below xs (length ws) (distinct (word ws) at xs t) (λ q h. below q (in-from_any q xs h)))
 
 -- ---- one place and the next
 

@@ -7,7 +7,8 @@ use Rattle.std.proofs.lemmas.List.{get_or-set_same, get_or-set_other}
 use Rattle.std.proofs.Math.Dec.{eqb}
 use Rattle.std.proofs.Math.ListN.{set, length-set}
 use borrow.Author.Tests.{eqb-true, eq-eqb}
-use Rattle.clause_arena.specs.Links.{word, In, Threads, places, cut}
+use Rattle.clause_arena.specs.Links.{word, Threads, places, cut}
+use Rattle.mw_text.specs.Members.{In}
 use Rattle.clause_arena.specs.Store.{Rises, IsWatch, IsLaid, IsLinked, IsSound, store}
 use Rattle.clause_arena.specs.Changes.{IsSame}
 use Rattle.clause_arena.specs.Deleted.{is_watch_of, unwatched, others, Deletes, IsUnlinked, IsFreed}

@@ -10,7 +10,8 @@ use Rattle.std.proofs.lemmas.List.{get_or-take, get_or-drop, map-append, length-
 use Rattle.std.proofs.lemmas.Option.{slice_get-map, slice_get-get_or}
 use Rattle.std.proofs.lemmas.Grind.{same_number_lists}
 use Rattle.resolution_check.specs.declared.log.Lit.{Lit}
-use Rattle.clause_arena.specs.Links.{word, In}
+use Rattle.clause_arena.specs.Links.{word}
+use Rattle.mw_text.specs.Members.{In}
 use Rattle.clause_arena.specs.Store.{IsLaid, IsSound, store}
 use Rattle.clause_arena.specs.Held.{code_of, lit_of, lits_of, clauses, clause_numbered, held_in}
 use Rattle.clause_arena.specs.Changes.{Adds}

@@ -6,7 +6,8 @@ use Rattle.std.proofs.lemmas.Bool.{cases_Bool, cases_eq, ne_eqb}
 use Rattle.std.proofs.Math.Dec.{eqb}
 use borrow.Author.Tests.{eqb-true}
 use Rattle.clause_arena.specs.declared.names.Watch.{Watch}
-use Rattle.clause_arena.specs.Links.{word, In, Threads, places, after, first}
+use Rattle.clause_arena.specs.Links.{word, Threads, places, after, first}
+use Rattle.mw_text.specs.Members.{In}
 use Rattle.clause_arena.specs.Store.{IsSound, Store, store}
 use Rattle.clause_arena.specs.Watched.{place, place_or, own, Stands, head, left, watch_made, watch_at, link_of}
 use Rattle.clause_arena.proofs.Threads.{threads_one, next_in, after_threads, first_threads}

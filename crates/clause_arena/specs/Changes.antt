@@ -1,6 +1,7 @@
 -- What a call does to the words.
 use Rattle.std.specs.Prelude.{ℕ, ◌≡◌, ◌≢◌, ◌+◌, ◌*◌, ◌<◌, ◌≤◌, List, [], ◌∷◌, ◌++◌, length}
-use Rattle.clause_arena.specs.Links.{word, In, places}
+use Rattle.clause_arena.specs.Links.{word, places}
+use Rattle.mw_text.specs.Members.{In}
 use Rattle.clause_arena.specs.Store.{Store}
 
 -- codes were written from a place on, and nothing before it changed

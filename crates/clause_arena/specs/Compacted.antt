@@ -3,7 +3,8 @@ use Rattle.std.specs.Prelude.{ℕ, ◌≡◌, ◌≢◌, ◌⊎◌, ◌+◌, ◌
 use Rattle.std.specs.Prelude.{List, [], ◌∷◌, Option, length, map}
 use Rattle.std.specs.Option.{option_map}
 use Rattle.clause_arena.specs.declared.names.ClauseRef.{ClauseRef}
-use Rattle.clause_arena.specs.Links.{word, In, places}
+use Rattle.clause_arena.specs.Links.{word, places}
+use Rattle.mw_text.specs.Members.{In}
 use Rattle.clause_arena.specs.Store.{Store}
 
 -- what stands in the second list where the number stands in the first, 0 where it stands nowhere

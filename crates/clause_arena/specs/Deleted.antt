@@ -1,6 +1,7 @@
 -- What the deletion of a clause does.
 use Rattle.std.specs.Prelude.{ℕ, ◌≡◌, ◌≢◌, ◌⊎◌, ◌+◌, ◌*◌, ◌<◌, ◌≤◌, ◌==◌, ◌||◌, Bool, not, List, filter}
-use Rattle.clause_arena.specs.Links.{word, In, Threads, places}
+use Rattle.clause_arena.specs.Links.{word, Threads, places}
+use Rattle.mw_text.specs.Members.{In}
 use Rattle.clause_arena.specs.Store.{Store}
 use Rattle.clause_arena.specs.Changes.{IsSame}
 

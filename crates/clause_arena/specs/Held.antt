@@ -4,7 +4,8 @@ use Rattle.std.specs.Prelude.{Option, Some, None}
 use Rattle.resolution_check.specs.declared.log.Clause.{Clause}
 use Rattle.resolution_check.specs.declared.log.Lit.{Lit}
 use Rattle.clause_arena.specs.declared.names.ClauseRef.{ClauseRef}
-use Rattle.clause_arena.specs.Links.{word, In}
+use Rattle.clause_arena.specs.Links.{word}
+use Rattle.mw_text.specs.Members.{In}
 use Rattle.clause_arena.specs.Store.{Store}
 
 -- a literal's code

@@ -1,14 +1,9 @@
 -- Lists in words: the word at a place is the next place of the list, and 0 ends it.
-use Rattle.std.specs.Prelude.{ℕ, zero, suc, ◌≡◌, ◌<◌, ◌==◌, ◌⊎◌, if◌then◌else◌, List, [], ◌∷◌, length, slice_index}
+use Rattle.std.specs.Prelude.{ℕ, zero, suc, ◌≡◌, ◌<◌, ◌==◌, if◌then◌else◌, List, [], ◌∷◌, length, slice_index}
 
 -- the word at a place
 abbrev pub word : List ℕ → ℕ → ℕ
 word ws k = slice_index ws k
-
--- the number stands in the list
-abbrev pub In : ℕ → List ℕ → Type 0
-In p [] = ⊥
-In p (q ∷ qs) = (p ≡ q) ⊎ In p qs
 
 -- the word at a place leads to these places, one after another
 abbrev pub Threads : (ℕ → ℕ) → ℕ → List ℕ → Type 0

@@ -1,7 +1,8 @@
 -- What the move of a watch does.
 use Rattle.std.specs.Prelude.{ℕ, ◌≡◌, ◌≢◌, ◌+◌, ◌*◌, ◌<◌, ◌∷◌, Option}
 use Rattle.clause_arena.specs.declared.names.Watch.{Watch}
-use Rattle.clause_arena.specs.Links.{word, In, places, cut}
+use Rattle.clause_arena.specs.Links.{word, places, cut}
+use Rattle.mw_text.specs.Members.{In}
 use Rattle.clause_arena.specs.Store.{Store}
 use Rattle.clause_arena.specs.Held.{code_at}
 use Rattle.clause_arena.specs.Watched.{place, own, link_of}

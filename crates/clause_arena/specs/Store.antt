@@ -4,7 +4,8 @@
 -- stands at its reference: its size, its number, two links, and the codes of its literals. A watch stands at the place
 -- of its link, which holds the place of the next watch of the same literal; 0 is the end.
 use Rattle.std.specs.Prelude.{ℕ, ◌≡◌, ◌+◌, ◌*◌, ◌%◌, ◌<◌, ◌≤◌, List, [], ◌∷◌, ⊤, length}
-use Rattle.clause_arena.specs.Links.{word, In, Threads, places}
+use Rattle.clause_arena.specs.Links.{word, Threads, places}
+use Rattle.mw_text.specs.Members.{In}
 
 -- the references rise
 abbrev pub Rises : List ℕ → Type 0

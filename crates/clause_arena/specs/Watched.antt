@@ -1,7 +1,8 @@
 -- The lists of watches.
 use Rattle.std.specs.Prelude.{ℕ, ◌≡◌, ◌+◌, ◌-◌, ◌%◌, ◌==◌, ◌<◌, ◌≤◌, if◌then◌else◌, List, length, Option, Some, None}
 use Rattle.clause_arena.specs.declared.names.Watch.{Watch}
-use Rattle.clause_arena.specs.Links.{In, places, after, first}
+use Rattle.clause_arena.specs.Links.{places, after, first}
+use Rattle.mw_text.specs.Members.{In}
 use Rattle.clause_arena.specs.Store.{Store}
 use Rattle.clause_arena.specs.Held.{size_of, code_at}
 

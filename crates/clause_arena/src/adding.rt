@@ -3,7 +3,8 @@
 ghost use Rattle.std.specs.Prelude.{◌≡◌, ◌≢◌, ℕ, ◌+◌, ◌*◌, ◌<◌, ◌≤◌, ◌∷◌, [], ◌++◌, IfOk, OnErr, length, map, true};
 ghost use Rattle.resolution_check.specs.Clauses.{is_below};
 ghost use Rattle.resolution_check.specs.Earned.{vars_differ};
-ghost use Rattle.clause_arena.specs.Links.{word, In};
+ghost use Rattle.clause_arena.specs.Links.{word};
+ghost use Rattle.mw_text.specs.Members.{In};
 ghost use Rattle.clause_arena.specs.Store.{IsSound, store};
 ghost use Rattle.clause_arena.specs.Held.{code_of, clauses};
 ghost use Rattle.clause_arena.specs.Changes.{HasCodes, IsWritten, IsPut, IsPlaced, Adds};

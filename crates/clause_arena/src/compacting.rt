@@ -4,10 +4,10 @@ ghost use Rattle.std.specs.Prelude.{◌≡◌, ℕ, ◌+◌, ◌-◌, ◌*◌, �
 ghost use Rattle.std.specs.List.{All};
 ghost use Rattle.std.specs.Option.{option_map};
 ghost use Rattle.clause_arena.specs.declared.names.ClauseRef.{ClauseRef};
-ghost use Rattle.clause_arena.specs.Links.{word, In};
+ghost use Rattle.clause_arena.specs.Links.{word};
 ghost use Rattle.clause_arena.specs.Store.{Rises, IsLaid, IsSound, store};
 ghost use Rattle.clause_arena.specs.Held.{IsHeld, number_of, clauses};
-ghost use Rattle.clause_arena.specs.Compacted.{renamed, slid, reason_renamed, packed, Compacts, IsPlan, HasSlid};
+ghost use Rattle.clause_arena.specs.Compacted.{renamed, slid, reason_renamed, packed, Compacts, IsPlan};
 ghost use Rattle.clause_arena.specs.Compacted.{SlidesOne, MendsHeads, Slides, IsLinkWord, IsCopied, IsMended};
 ghost use Rattle.clause_arena.specs.Compacted.{HasLinks, SlidesAll};
 

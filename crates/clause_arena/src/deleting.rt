@@ -1,7 +1,8 @@
 //! Deletions of clauses. References and the number of variables are passed for the conditions alone.
 
 ghost use Rattle.std.specs.Prelude.{◌≡◌, ◌≢◌, ◌⊎◌, ◌+◌, ◌*◌, ◌<◌, ◌==◌, not, filter, length};
-ghost use Rattle.clause_arena.specs.Links.{word, In, places};
+ghost use Rattle.clause_arena.specs.Links.{word, places};
+ghost use Rattle.mw_text.specs.Members.{In};
 ghost use Rattle.clause_arena.specs.Store.{Rises, IsSound, store};
 ghost use Rattle.clause_arena.specs.Held.{clauses};
 ghost use Rattle.clause_arena.specs.Deleted.{others, Deletes, IsUnlinked, IsFreed};

@@ -1,7 +1,8 @@
 //! Reading of clauses in words. References and the number of variables are passed for the conditions alone.
 
 ghost use Rattle.std.specs.Prelude.{◌≡◌, ◌+◌, ◌*◌, ◌<◌, Some, length, slice_get};
-ghost use Rattle.clause_arena.specs.Links.{word, In};
+ghost use Rattle.clause_arena.specs.Links.{word};
+ghost use Rattle.mw_text.specs.Members.{In};
 ghost use Rattle.clause_arena.specs.Store.{IsSound, store};
 ghost use Rattle.clause_arena.specs.Held.{lit_of, code_of, lits_of, held_in};
 

@@ -153,7 +153,7 @@ impl Decider for ScoreDecider {
     }
 
     fn decay(&mut self) {
-        self.step = self.step.saturating_add(self.step / 20);
+        self.step = self.step.saturating_add(self.step / 12);
         if self.step > GREATEST_STEP {
             self.step >>= SHIFT;
             self.heap.shrink_scores();

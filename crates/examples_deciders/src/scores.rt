@@ -109,7 +109,7 @@ fn learn(search: &mut Search, numbers: &mut Numbers, decider: &mut ScoreDecider,
         search.raise(var);
     }
     decider.decay();
-    search.step = search.step.saturating_add(search.step / 20);
+    search.step = search.step.saturating_add(search.step / 12);
     search.go_back(numbers.below(vars));
 }
 

@@ -1,12 +1,13 @@
 -- Lists by their places, for the loops of the crates above.
 use Rattle.std.proofs.Common.{◌≡◌, ℕ, zero, suc, ◌+◌, ◌<◌, Bool, true, false, eqb, List, [], ◌∷◌, ◌++◌, length}
-use Rattle.std.proofs.Common.{drop, get_or, Some, refl, ap, sym, arith, add-one, subst, ◌∙◌}
-use Rattle.std.specs.Prelude.{All, filter, flat_map, nat_lt, slice_get}
+use Rattle.std.proofs.Common.{drop, get_or, Some, refl, ap, sym, arith, add-one, subst, ◌∙◌, inl, inr}
+use Rattle.std.specs.Prelude.{All, filter, flat_map, nat_lt, slice_get, ◌⊎◌}
 use Rattle.std.specs.Bool.{beq}
 use Rattle.std.specs.List.{AllByRecursion, list_all, list_any}
-use Rattle.std.proofs.lemmas.Bool.{and_parts, lt-ltb, ltb-true, or_parts}
+use Rattle.std.proofs.lemmas.Bool.{and_parts, eqb-true, lt-ltb, ltb-true, or_cases, or_parts}
 use Rattle.std.proofs.lemmas.List.Elements.{All-append, All-head, All-nil, All-tail}
 use Rattle.std.proofs.Math.Seq.{drop-cons}
+use Rattle.mw_text.specs.Members.{In, all_below}
 
 -- the items from a place on begin with the item that was read there
 pub drop-read : {A : Type 0} (xs : List A) (i : ℕ) (x : A) → i < length xs → x ≡ get_or xs i x →
@@ -92,6 +93,32 @@ beq-true false false h = refl
 pub beq-refl : (a : Bool) → beq a a ≡ true
 beq-refl true = refl
 beq-refl false = refl
+
+-- ---- numbers below a bound
+
+-- a test that all numbers below a bound pass is passed by each
+pub below_at : (f : ℕ → Bool) (n k : ℕ) → all_below f n ≡ true → k < n → f k ≡ true
+below_at f zero k all within = absurd (omega arith)
+below_at f (suc n) k all within = by_order (cases_last k n within) (λ below. below_at f n k parts.0 below) where
+  parts : (all_below f n ≡ true) × (f n ≡ true)
+  parts = and_parts (all_below f n) (f n) all
+
+  cases_last : (k n : ℕ) → k < suc n → (k < n) ⊎ (k ≡ n)
+  cases_last k n within = grind arith
+
+  by_order : (k < n) ⊎ (k ≡ n) → (k < n → f k ≡ true) → f k ≡ true
+  by_order (inl below) deeper = deeper below
+  by_order (inr last) deeper = ap f last ∙ parts.1
+
+-- ---- members
+
+-- a number that a test finds is a member
+pub in-from_any : (p : ℕ) (xs : List ℕ) → list_any (eqb p) xs ≡ true → In p xs
+in-from_any p [] h = absurd cc
+in-from_any p (x ∷ xs) h = elim (or_cases (eqb p x) (list_any (eqb p) xs) h) [
+  | inl e ↦ inl (eqb-true p x e)
+  | inr e ↦ inr (in-from_any p xs e)
+]
 
 -- ---- items at places
 

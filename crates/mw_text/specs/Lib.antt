@@ -1,4 +1,5 @@
 pub mod Address
+pub mod Members
 pub mod Digits
 pub mod Words
 pub mod Text

@@ -1,8 +1,8 @@
 -- How much the OSPF routes of a stable routing cost at most.
 use Rattle.std.proofs.Common.{◌≡◌, ℕ, zero, suc, ◌+◌, ◌*◌, ◌<◌, ◌≤◌, Bool, true, false, eqb, List, [], ◌∷◌, length}
-use Rattle.std.proofs.Common.{◌||◌, Some, inl, inr, refl, sym, ap, subst, arith, ◌∙◌}
+use Rattle.std.proofs.Common.{Some, inl, inr, refl, sym, ap, subst, arith, ◌∙◌}
 use Rattle.std.specs.Prelude.{◌⊎◌, All}
-use Rattle.std.specs.List.{AllByRecursion, IsDistinct, list_any}
+use Rattle.std.specs.List.{AllByRecursion, IsDistinct}
 use Rattle.std.proofs.lemmas.Bool.{cases_lt, eqb-true}
 use Rattle.std.proofs.Math.Nat.{suc-mul}
 use Rattle.std.proofs.lemmas.Map.Steps.{length-le_from_distinct_below}
@@ -20,18 +20,10 @@ use Rattle.route_record.specs.declared.TheConstants.{LENGTHS}
 use Rattle.route_record.specs.Places.{slot_at}
 use Rattle.net_model.specs.Ospf.{adjacencies}
 use Rattle.net_model.specs.Stable.{Stable}
-use Rattle.net_model.proofs.LeastWalks.{In}
+use Rattle.mw_text.specs.Members.{In}
+use Rattle.mw_text.proofs.Lists.{in-from_any}
 use Rattle.net_encoder.specs.Supported.{AreOrigins}
 use Rattle.net_encoder.proofs.Supports.{IsOffered, IsOrigin, all_in, supports}
-
-any_first : (q x : ℕ) (xs : List ℕ) (b : Bool) → eqb q x ≡ b → (b || list_any (eqb q) xs) ≡ true →
-    (list_any (eqb q) xs ≡ true → In q xs) → In q (x ∷ xs)
-any_first q x xs true same h later = inl (eqb-true q x same)
-any_first q x xs false other h later = inr (later h)
-
-any_in : (q : ℕ) (xs : List ℕ) → list_any (eqb q) xs ≡ true → In q xs
-any_in q [] any = absurd cc
-any_in q (x ∷ xs) any = any_first q x xs (eqb q x) refl any (any_in q xs)
 
 -- the router holds a route of at most that cost
 record HoldsWithin (tables : Tables) (len most router : ℕ) : Type 0 where
@@ -153,7 +145,7 @@ module _ (files : List File) (destination : Addr) (failures : Failures) (environ
     by (inl dear) =
         let long = chain (length files) router slot h dear here holds in
         let few = length-le_from_distinct_below long.routers (length files) long.apart
-        (λ q there. below q (long.each q (any_in q long.routers there))) in
+        (λ q there. below q (long.each q (in-from_any q long.routers there))) in
         absurd (omega (arith, few, long.long))
 
 pub cost_bound : (files : List File) (destination : Addr) (failures : Failures) (environment : Environment)

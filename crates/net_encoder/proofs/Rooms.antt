@@ -1,18 +1,18 @@
 -- The OSPF routes of a stable routing have room.
 use Rattle.std.proofs.Common.{◌≡◌, ℕ, zero, suc, ◌+◌, ◌-◌, ◌*◌, ◌/◌, ◌^◌, ◌<◌, ◌≤◌, Bool, true, false, not}
-use Rattle.std.proofs.Common.{◌&&◌, ◌||◌, List, [], ◌∷◌, length, map, filter, Option, Some, None, inl, inr, refl}
+use Rattle.std.proofs.Common.{◌&&◌, ◌||◌, List, [], ◌∷◌, length, map, filter, Some, inl, inr, refl}
 use Rattle.std.proofs.Common.{sym, ap, subst, arith, ◌∙◌, slice_get, max, min, nat_lt}
 use Rattle.std.specs.Prelude.{◌==◌, ◌⊎◌, All, IfSome, fold, is_some, if◌then◌else◌}
-use Rattle.std.specs.List.{flat_map, list_any}
+use Rattle.std.specs.List.{list_any}
 use Rattle.std.specs.Option.{option_map_or}
 use Rattle.std.proofs.lemmas.Bool.{and_from, and_parts, cases_lt, eqb-true, eq-eqb, false≢true, ltb-true}
 use Rattle.std.proofs.lemmas.Bool.{or_parts}
-use Rattle.std.proofs.lemmas.List.Elements.{All-append, All-cons, All-head, All-map, All-nil, All-tail}
+use Rattle.std.proofs.lemmas.List.Elements.{All-append, All-cons, All-map, All-nil}
 use Rattle.std.proofs.lemmas.List.Elements.{All-weaker}
 use Rattle.std.proofs.Math.Dec.{eqb-suc-zero}
 use Rattle.std.proofs.Math.Nat.{div-div-eq-div-mul, mul-div_cancel}
 use Rattle.std.proofs.lemmas.Nat.{pow-add, pow_pos}
-use Rattle.std.proofs.lemmas.Option.{option_and_then_some, same_Some}
+use Rattle.std.proofs.lemmas.Option.{option_and_then_some}
 use Rattle.mw_text.specs.declared.address.Addr.{Addr}
 use Rattle.mw_text.specs.declared.address.Prefix.{Prefix}
 use Rattle.mw_text.specs.Address.{block, covers, prefix_at, same_prefix}
@@ -44,7 +44,8 @@ use Rattle.net_encoder.specs.Supported.{AreOrigins}
 use Rattle.net_encoder.specs.Unknowns.{FitsWidths}
 use Rattle.net_encoder.proofs.Bounded.{cost_bound}
 use Rattle.net_encoder.proofs.Supports.{all_held, all_in, file_there}
-use Rattle.net_model.proofs.LeastWalks.{In, in-filter}
+use Rattle.net_model.proofs.LeastWalks.{in-filter}
+use Rattle.mw_text.specs.Members.{In}
 
 -- ---- the least width
 

@@ -24,7 +24,8 @@ use Rattle.net_model.specs.Ospf.{adjacencies, up_adjacencies}
 use Rattle.net_model.specs.OspfRoutes.{better_of, extended, first_best, held_by_ospf, is_better, offer_over}
 use Rattle.net_model.specs.OspfRoutes.{own_origins}
 use Rattle.net_model.specs.Stable.{Stable, held_ospf}
-use Rattle.net_model.proofs.LeastWalks.{In, in-cases, in-filter, in-filter_map}
+use Rattle.net_model.proofs.LeastWalks.{in-cases, in-filter, in-filter_map}
+use Rattle.mw_text.specs.Members.{In}
 use Rattle.net_encoder.specs.Supported.{AreOrigins, IsKept}
 
 -- ---- the first best of some offers is one of them

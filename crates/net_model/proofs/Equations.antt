@@ -10,7 +10,8 @@ use Rattle.route_record.specs.declared.Failures.{Failures}
 use Rattle.net_model.specs.declared.adjacencies.Adjacency.{Adjacency}
 use Rattle.net_model.specs.Distances.{AreDistances, IsInteriorDistance, IsWalkSum, beyond, interior_distance, own_cost}
 use Rattle.net_model.specs.Ospf.{adjacencies, up_adjacencies}
-use Rattle.net_model.proofs.LeastWalks.{In, contains-in, filter_map-in, in-cases, in-contains, in-filter, in-filter_map}
+use Rattle.net_model.proofs.LeastWalks.{contains-in, filter_map-in, in-cases, in-contains, in-filter, in-filter_map}
+use Rattle.mw_text.specs.Members.{In}
 use Rattle.net_model.proofs.LeastWalks.{in-left, in-option, in-right, is_interior, least-is, least-some, option-in}
 
 module _ (files : List File) (failures : Failures) (p : Prefix) (d : ℕ → Option ℕ)

@@ -6,6 +6,7 @@ use Rattle.std.specs.Prelude.{◌⊎◌, fold, option_map, option_and_then, Cont
 use Rattle.std.specs.List.{cons_option, filter_map, flat_map, list_any, IsDistinct}
 use Rattle.std.specs.Option.{option_map_or, option_to_list}
 use Rattle.std.proofs.lemmas.Bool.{cases_lt, and_parts, and_from, eqb-true, not-true}
+use Rattle.mw_text.specs.Members.{In}
 use Rattle.mw_text.proofs.Lists.{none_equal}
 use Rattle.std.proofs.lemmas.List.{length-map}
 use Rattle.std.proofs.lemmas.Option.{option_and_then_some}
@@ -26,11 +27,6 @@ use Rattle.net_model.specs.Ospf.{adjacencies, adjacency, are_adjacent, is_matche
 use Rattle.net_model.specs.Ospf.{running, up_adjacencies}
 
 -- ---- members of lists
-
--- x is a member of the list
-abbrev pub In : {X : Type 0} → X → List X → Type 0
-In x [] = ⊥
-In x (y ∷ ys) = (x ≡ y) ⊎ In x ys
 
 -- a member stands somewhere
 pub in-contains : {X : Type 0} (x : X) (xs : List X) → In x xs → Contains xs x

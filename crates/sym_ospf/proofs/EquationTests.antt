@@ -1,14 +1,15 @@
 -- Whether a route is a distance, and tests that hold of all numbers below one.
 use Rattle.std.proofs.Common.{◌≡◌, ℕ, zero, suc, ◌+◌, ◌<◌, Bool, true, false, not}
-use Rattle.std.proofs.Common.{Some, None, refl, ap, ◌∙◌, arith, inl, inr, if◌then◌else◌}
-use Rattle.std.specs.Prelude.{◌==◌, ◌&&◌, ◌||◌, ◌⊎◌}
-use Rattle.std.proofs.lemmas.Bool.{and_parts, and_from}
+use Rattle.std.proofs.Common.{Some, None, refl, ap, arith, if◌then◌else◌}
+use Rattle.std.specs.Prelude.{◌==◌, ◌&&◌, ◌||◌}
+use Rattle.std.proofs.lemmas.Bool.{and_from}
 use Rattle.std.proofs.lemmas.Option.{slice_get-get_or}
 use Rattle.route_record.specs.declared.OspfKind.TheVariants.{Internal, Ext1, Ext2}
 use Rattle.route_record.specs.declared.OspfRec.{OspfRec}
 use Rattle.term_store.specs.Terms.{differ}
 use Rattle.sym_policy.specs.Held.{kind_of_number}
-use Rattle.sym_ospf.specs.Rows.{all_below, is_distance, is_internal}
+use Rattle.mw_text.specs.Members.{all_below}
+use Rattle.sym_ospf.specs.Rows.{is_distance, is_internal}
 
 -- number 0 is the internal kind
 pub internal_is : (n : ℕ) → (n == 0) ≡ is_internal (kind_of_number n)
@@ -37,20 +38,6 @@ all_none f n is = ap (all_below f) is
 pub ruleset all_steps = (all_more, all_none)
 
 pub ruleset equation_steps = (slice_get-get_or)
-
--- it holds of each
-pub all_at : (f : ℕ → Bool) (n k : ℕ) → all_below f n ≡ true → k < n → f k ≡ true
-all_at f zero k all within = absurd (omega arith)
-all_at f (suc n) k all within = by_order (cases_last k n within) (λ below. all_at f n k parts.0 below) where
-  parts : (all_below f n ≡ true) × (f n ≡ true)
-  parts = and_parts (all_below f n) (f n) all
-
-  cases_last : (k n : ℕ) → k < suc n → (k < n) ⊎ (k ≡ n)
-  cases_last k n within = grind arith
-
-  by_order : (k < n) ⊎ (k ≡ n) → (k < n → f k ≡ true) → f k ≡ true
-  by_order (inl below) deeper = deeper below
-  by_order (inr last) deeper = ap f last ∙ parts.1
 
 pub all_from : (f : ℕ → Bool) (n : ℕ) → ((k : ℕ) → k < n → f k ≡ true) → all_below f n ≡ true
 all_from f zero each = refl

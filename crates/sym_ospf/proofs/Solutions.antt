@@ -19,7 +19,8 @@ use Rattle.net_model.specs.Distances.{AreDistances, IsInteriorDistance, IsWalkSu
 use Rattle.net_model.specs.Distances.{nearest, own_cost}
 use Rattle.net_model.specs.Ospf.{adjacencies, advertised, up_adjacencies}
 use Rattle.net_model.proofs.Equations.{solution_is}
-use Rattle.net_model.proofs.LeastWalks.{In, contains-in, filter_map-in, in-cases, in-contains, in-filter_map, in-left}
+use Rattle.net_model.proofs.LeastWalks.{contains-in, filter_map-in, in-cases, in-contains, in-filter_map, in-left}
+use Rattle.mw_text.specs.Members.{In}
 use Rattle.net_model.proofs.LeastWalks.{in-option, in-right, is_interior, least-is, least-some, option-in}
 use Rattle.net_model.proofs.LeastWalks.{up_below}
 use Rattle.term_store.specs.Terms.{Reading}
@@ -27,7 +28,8 @@ use Rattle.sym_policy.specs.declared.records.SymNet.{SymNet}
 use Rattle.sym_policy.specs.Held.{failures_of, internal_route}
 use Rattle.sym_ospf.specs.Rows.{HasDistances, costs_at, equation, igp_at, is_distance, is_internal, row_holds}
 use Rattle.sym_ospf.specs.Rows.{rows_hold}
-use Rattle.sym_ospf.proofs.EquationTests.{all_at, all_from}
+use Rattle.mw_text.proofs.Lists.{below_at}
+use Rattle.sym_ospf.proofs.EquationTests.{all_from}
 
 -- ---- a route that is a distance
 
@@ -241,8 +243,8 @@ rows_sound w files net costs hold = record { are = distances } where
       → igp_at w files net router k
       ≡ option_map internal_route (nearest files (failures_of w net) p (costs_at w files net k) router)
   meets router k p within there =
-      let row = all_at (row_holds w files net) (length files) router hold within in
-      let one = all_at (equation w files net router) (length (advertised files)) k row
+      let row = below_at (row_holds w files net) (length files) router hold within in
+      let one = below_at (equation w files net router) (length (advertised files)) k row
       (slice_get_within (advertised files) k p there) in
       distance_from (igp_at w files net router k)
       (nearest files (failures_of w net) p (costs_at w files net k) router)

@@ -1,5 +1,5 @@
 -- What a reading makes of the rows of interior distances, and the equations of these.
-use Rattle.std.specs.Prelude.{◌≡◌, ℕ, zero, suc, ◌+◌, ◌*◌, ◌==◌, ◌<◌, ◌&&◌, max, min, Bool, true, false, List, length}
+use Rattle.std.specs.Prelude.{◌≡◌, ℕ, ◌+◌, ◌*◌, ◌==◌, ◌<◌, ◌&&◌, max, min, Bool, true, false, List, length}
 use Rattle.std.specs.Prelude.{Option, Some, None, option_map, option_and_then, slice_get, if◌then◌else◌}
 use Rattle.std.specs.Option.{option_map_or}
 use Rattle.mw_text.specs.declared.address.Prefix.{Prefix}
@@ -14,6 +14,7 @@ use Rattle.net_model.specs.Distances.{beyond, interior_distance, nearest}
 use Rattle.net_model.specs.Ospf.{advertised, advertisement, is_up_at}
 use Rattle.net_model.specs.World.{is_up}
 use Rattle.mw_text.specs.Address.{same_prefix}
+use Rattle.mw_text.specs.Members.{all_below}
 use Rattle.term_store.specs.Terms.{Reading, at}
 use Rattle.term_arith.specs.Bits.{number, ids_end}
 use Rattle.sym_policy.specs.declared.records.SymNet.{SymNet}
@@ -84,11 +85,6 @@ equation w files sym router k =
     option_map_or (λ p. is_distance (igp_at w files sym router k)
     (nearest files (failures_of w sym) p (costs_at w files sym k) router))
     (slice_get (advertised files) k) true
-
--- the test holds of each number below that one
-abbrev pub all_below : (ℕ → Bool) → ℕ → Bool
-all_below f zero = true
-all_below f (suc n) = all_below f n && f n
 
 -- the equations of all advertised prefixes at one router, and at all routers
 abbrev pub row_holds : Reading → List File → SymNet → ℕ → Bool

@@ -13,7 +13,8 @@ use Rattle.resolution_check.specs.declared.log.Lit.{Lit}
 use Rattle.resolution_check.specs.Clauses.{has}
 use Rattle.resolution_check.specs.Trails.{holds, fails}
 use Rattle.clause_arena.specs.declared.names.ClauseRef.{ClauseRef}
-use Rattle.clause_arena.specs.Links.{word, In}
+use Rattle.clause_arena.specs.Links.{word}
+use Rattle.mw_text.specs.Members.{In}
 use Rattle.clause_arena.specs.Store.{Store, IsSound}
 use Rattle.clause_arena.specs.Held.{IsHeld, lit_of, lits_of}
 use Rattle.clause_arena.specs.Compacted.{Compacts, IsSameAt, reason_renamed, renamed}

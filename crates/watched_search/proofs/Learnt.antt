@@ -12,7 +12,8 @@ use Rattle.resolution_check.specs.Clauses.{has}
 use Rattle.resolution_check.specs.Trails.{value_of, holds, fails}
 use Rattle.resolution_check.proofs.Values.{some_value, value_of-none}
 use Rattle.clause_arena.specs.declared.names.ClauseRef.{ClauseRef}
-use Rattle.clause_arena.specs.Links.{word, In}
+use Rattle.clause_arena.specs.Links.{word}
+use Rattle.mw_text.specs.Members.{In}
 use Rattle.clause_arena.specs.Store.{Store, IsSound}
 use Rattle.clause_arena.specs.Held.{lit_of, lits_of, code_of, clauses}
 use Rattle.clause_arena.specs.Changes.{Adds}

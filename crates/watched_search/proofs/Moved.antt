@@ -9,7 +9,8 @@ use Rattle.resolution_check.proofs.Values.{not_both}
 use Rattle.resolution_check.proofs.Variables.{same_bool}
 use Rattle.clause_arena.specs.declared.names.ClauseRef.{ClauseRef}
 use Rattle.clause_arena.specs.declared.names.Watch.{Watch}
-use Rattle.clause_arena.specs.Links.{word, In}
+use Rattle.clause_arena.specs.Links.{word}
+use Rattle.mw_text.specs.Members.{In}
 use Rattle.clause_arena.specs.Store.{Store, IsSound}
 use Rattle.clause_arena.specs.Held.{lit_of, lits_of}
 use Rattle.clause_arena.specs.Moved.{Moves}

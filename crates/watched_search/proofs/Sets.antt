@@ -15,7 +15,8 @@ use Rattle.resolution_check.specs.Entries.{clause_held, has_ended, is_given}
 use Rattle.resolution_check.specs.Entries.{and_then, resolved, resolved_next, resolved_from}
 use Rattle.resolution_check.proofs.Literals.{all_at, all_from}
 use Rattle.resolution_check.proofs.Resolvents.{inside-same, same_resolvent}
-use Rattle.clause_arena.specs.Links.{word, In}
+use Rattle.clause_arena.specs.Links.{word}
+use Rattle.mw_text.specs.Members.{In}
 use Rattle.clause_arena.specs.Store.{Store}
 use Rattle.clause_arena.specs.Held.{clause_numbered, held_in, lits_of}
 use Rattle.watched_search.specs.Watches.{IsSameView}

@@ -10,7 +10,8 @@ use Rattle.resolution_check.specs.Clauses.{opposite, is_same, has}
 use Rattle.resolution_check.specs.Entries.{is_empty}
 use Rattle.resolution_check.specs.Trails.{value_of, is_value, holds, fails, IsSettled}
 use Rattle.resolution_check.proofs.Literals.{same_lit}
-use Rattle.clause_arena.specs.Links.{word, In}
+use Rattle.clause_arena.specs.Links.{word}
+use Rattle.mw_text.specs.Members.{In}
 use Rattle.clause_arena.specs.Store.{Store, IsSound}
 use Rattle.clause_arena.specs.Held.{lit_of, lits_of, held_in, clause_numbered}
 use Rattle.clause_arena.proofs.Views.{lits_listed}

@@ -12,7 +12,8 @@ use Rattle.resolution_check.specs.Trails.{value_of, is_value, holds, fails, AllF
 use Rattle.resolution_check.proofs.Literals.{same_lit}
 use Rattle.resolution_check.proofs.Values.{value_of-append, value_of-last}
 use Rattle.resolution_check.proofs.Variables.{itself}
-use Rattle.clause_arena.specs.Links.{word, In}
+use Rattle.clause_arena.specs.Links.{word}
+use Rattle.mw_text.specs.Members.{In}
 use Rattle.clause_arena.specs.Store.{Store, IsSound}
 use Rattle.clause_arena.specs.Held.{lits_of}
 use Rattle.clause_arena.proofs.Views.{lits_listed, lits_count}

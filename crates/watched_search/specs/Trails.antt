@@ -6,7 +6,8 @@ use Rattle.resolution_check.specs.declared.log.Lit.{Lit}
 use Rattle.resolution_check.specs.Clauses.{is_below}
 use Rattle.resolution_check.specs.Trails.{value_of}
 use Rattle.clause_arena.specs.declared.names.ClauseRef.{ClauseRef}
-use Rattle.clause_arena.specs.Links.{word, In}
+use Rattle.clause_arena.specs.Links.{word}
+use Rattle.mw_text.specs.Members.{In}
 use Rattle.clause_arena.specs.Store.{Store}
 use Rattle.conflict_analysis.specs.Steps.{IsForcedBy}
 use Rattle.deciders.specs.declared.decider.Value.{Value}

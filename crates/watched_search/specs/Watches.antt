@@ -5,7 +5,8 @@ use Rattle.resolution_check.specs.declared.log.Lit.{Lit}
 use Rattle.resolution_check.specs.Clauses.{has}
 use Rattle.resolution_check.specs.Trails.{holds, fails, AllFail, IsUnit}
 use Rattle.clause_arena.specs.declared.names.Watch.{Watch}
-use Rattle.clause_arena.specs.Links.{word, In, places}
+use Rattle.clause_arena.specs.Links.{word, places}
+use Rattle.mw_text.specs.Members.{In}
 use Rattle.clause_arena.specs.Watched.{rest}
 use Rattle.clause_arena.specs.Store.{Store}
 use Rattle.clause_arena.specs.Held.{lit_of, lits_of}

@@ -1,5 +1,6 @@
 use Rattle.std.proofs.Common.{◌≡◌, ◌⊎◌, length}
-use Rattle.clause_arena.specs.Links.{In, places, after}
+use Rattle.clause_arena.specs.Links.{places, after}
+use Rattle.mw_text.specs.Members.{In}
 use Rattle.clause_arena.proofs.deleting.link_to.Given as goal
 
 abbrev pub invariant-loop-link : goal.invariant-loop-link

@@ -1,7 +1,8 @@
 use Rattle.std.proofs.Common.{◌≡◌, ◌<◌}
 use Rattle.term_store.specs.Terms.{Reading, at, size}
 use Rattle.term_store.specs.Reading.{Reads, Builds}
-use Rattle.sym_ospf.specs.Rows.{all_below, equation}
+use Rattle.mw_text.specs.Members.{all_below}
+use Rattle.sym_ospf.specs.Rows.{equation}
 use Rattle.sym_ospf.proofs.equations.sym_row.Given as goal
 
 abbrev pub invariant-loop-k : goal.invariant-loop-k

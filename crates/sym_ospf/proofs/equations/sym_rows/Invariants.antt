@@ -1,7 +1,8 @@
 use Rattle.std.proofs.Common.{◌≡◌, ◌<◌}
 use Rattle.term_store.specs.Terms.{Reading, at, size}
 use Rattle.term_store.specs.Reading.{Reads, Builds}
-use Rattle.sym_ospf.specs.Rows.{all_below, row_holds}
+use Rattle.mw_text.specs.Members.{all_below}
+use Rattle.sym_ospf.specs.Rows.{row_holds}
 use Rattle.sym_ospf.proofs.equations.sym_rows.Given as goal
 
 abbrev pub invariant-loop-router : goal.invariant-loop-router
