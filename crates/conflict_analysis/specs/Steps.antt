@@ -8,6 +8,7 @@ use Rattle.clause_arena.specs.declared.names.ClauseRef.{ClauseRef}
 use Rattle.clause_arena.specs.Links.{word}
 use Rattle.clause_arena.specs.Store.{Store}
 use Rattle.clause_arena.specs.Held.{IsHeld, lits_of}
+use Rattle.conflict_analysis.specs.declared.trail.Trail.{Trail}
 
 -- the clause holds the literal, and all its other literals were false before
 pub record IsForcedBy (a : Store) (before : List Lit) (l : Lit) (c : ClauseRef) : Type 0 where
@@ -46,3 +47,7 @@ pub record IsTrail (a : Store) (vars : ℕ) (lits : List Lit) (levels : List ℕ
 -- the literals that stood before a place, and the clause is false under all
 abbrev pub IsConflict : Store → List Lit → ClauseRef → Type 0
 IsConflict a lits c = IsHeld a c × AllFail lits (lits_of a c.0)
+
+-- what an analysis starts from: a trail over so many variables, and a clause that is false under all its literals
+abbrev pub IsStart : Store → ℕ → Trail → ClauseRef → Type 0
+IsStart a vars t c = IsTrail a vars t.lits.items t.levels.items t.reasons.items × IsConflict a t.lits.items c

@@ -1,9 +1,9 @@
 //! The work space of an analysis, and the analysis.
 
 ghost use Rattle.std.specs.Prelude.{◌≡◌, ℕ, [], false, length, IfOk, vec_capacity, vec_len};
-ghost use Rattle.conflict_analysis.specs.Steps.{IsTrail, IsConflict};
+ghost use Rattle.conflict_analysis.specs.Steps.{IsStart};
 ghost use Rattle.clause_arena.specs.Held.{lits_of};
-ghost use Rattle.conflict_analysis.specs.Levels.{AreFilled, AreFull, ContainsNone};
+ghost use Rattle.conflict_analysis.specs.Levels.{AreFilled, AreFull, ContainsNone, NeverRises};
 ghost use Rattle.conflict_analysis.specs.Lessons.{marked, IsBegun, IsReady, IsOnWay, IsLesson, IsPointed, IsBack};
 
 use crate::following::follow_all;
@@ -85,8 +85,7 @@ fn begin(
     conflict: ClauseRef,
 ) -> u64
     requires ready { IsReady marks.old (vec_capacity clause.old) (vec_capacity chain.old) }
-    requires trail { IsTrail arena.now (length marks.old) trail.now.lits.items trail.now.levels.items trail.now.reasons.items }
-    requires conflict { IsConflict arena.now trail.now.lits.items conflict }
+    requires start { IsStart arena.now (length marks.old) trail.now conflict }
     ensures begun { IsBegun trail.now.lits.items trail.now.levels.items (lits_of arena.now conflict.0) (marked marks.new) result }
     ensures way { IsOnWay arena.now trail.now.lits.items trail.now.levels.items result (length trail.now.lits.items) (marked marks.new) clause.new.items chain.new.items }
     ensures none { vec_len clause.new ≡ 0 }
@@ -111,14 +110,14 @@ fn analyse_in(
     conflict: ClauseRef,
 ) -> u64
     requires ready { IsReady marks.old (vec_capacity clause.old) (vec_capacity chain.old) }
-    requires trail { IsTrail arena.now (length marks.old) trail.now.lits.items trail.now.levels.items trail.now.reasons.items }
-    requires conflict { IsConflict arena.now trail.now.lits.items conflict }
+    requires start { IsStart arena.now (length marks.old) trail.now conflict }
     ensures ready { IsReady marks.new (vec_capacity clause.new) (vec_capacity chain.new) }
     ensures lesson { IsLesson arena.now trail.now.lits.items clause.new.items chain.new.items }
     ensures point { IsPointed arena.now trail.now.lits.items trail.now.levels.items (lits_of arena.now conflict.0) clause.new.items chain.new.items }
     ensures earned { AreFilled arena.now → AreFull arena.now trail.now.lits.items trail.now.levels.items
         → ContainsNone arena.now clause.new.items }
     ensures back { IsBack trail.now.lits.items trail.now.levels.items clause.new.items result }
+    ensures order { NeverRises trail.now.lits.items trail.now.levels.items clause.new.items }
 {
     let top = begin(clause, chain, marks, arena, trail, conflict);
     follow_all(marks, clause, chain, arena, trail, top)
@@ -127,18 +126,18 @@ fn analyse_in(
 /// Learns from a clause all of whose literals are false on the trail. Leaves in `work` the learnt clause, the first
 /// unique implication point first, its literals from the last step to the first, and the numbers of the clauses that
 /// give it when they are resolved from the front. A literal below the point's level is left out where its reason has no
-/// other literals than those that are already to come. Where everything was propagated before each decision the learnt clause
-/// contains no clause that is held. Answers the lowest level at which all its literals but one are false, 0 where it has
-/// fewer than two.
+/// other literals than those that are already to come; no clause says which are left out, since any choice gives a lesson
+/// that follows. Where everything was propagated before each decision the learnt clause contains no clause that is held.
+/// Answers the lowest level at which all its literals but one are false, 0 where it has fewer than two.
 pub fn analyse(work: &mut Work, arena: &Arena, trail: &Trail, conflict: ClauseRef) -> u64
-    requires trail { IsTrail arena.now work.old.vars trail.now.lits.items trail.now.levels.items trail.now.reasons.items }
-    requires conflict { IsConflict arena.now trail.now.lits.items conflict }
+    requires { IsStart arena.now work.old.vars trail.now conflict }
     ensures vars { work.new.vars ≡ work.old.vars }
     ensures lesson { IsLesson arena.now trail.now.lits.items work.new.lits work.new.chain }
     ensures point { IsPointed arena.now trail.now.lits.items trail.now.levels.items (lits_of arena.now conflict.0) work.new.lits work.new.chain }
     ensures earned { AreFilled arena.now → AreFull arena.now trail.now.lits.items trail.now.levels.items
         → ContainsNone arena.now work.new.lits }
     ensures back { IsBack trail.now.lits.items trail.now.levels.items work.new.lits result }
+    ensures order { NeverRises trail.now.lits.items trail.now.levels.items work.new.lits }
 {
     analyse_in(
         &mut work.clause,

@@ -11,8 +11,8 @@ pub follow_all-requires-clause-few : goal.follow_all-requires-clause-few
 follow_all-requires-clause-few c =
     omega (
       arith,
-      trail_fits (length c.args.marks.now) c.args.trail.now.lits.items c.requires.trail.below
-          c.requires.trail.fresh,
+      trail_fits (length c.args.marks.now) c.args.trail.now.lits.items c.requires.start.0.below
+          c.requires.start.0.fresh,
       c.begin-top.auto.marks,
     )
 
@@ -51,21 +51,24 @@ returns-clause-lesson c =
 pub returns-clause-point : goal.returns-clause-point
 returns-clause-point c =
     pointed c.args.arena.now c.args.trail.now.lits.items c.args.trail.now.levels.items c.begin-top.result
-    c.requires.trail.level_count c.requires.trail.rising c.requires.trail.fresh
-    (lits_of c.args.arena.now c.args.conflict.0) (marked c.begin-top.new.marks) c.requires.conflict.1
+    c.requires.start.0.level_count c.requires.start.0.rising c.requires.start.0.fresh
+    (lits_of c.args.arena.now c.args.conflict.0) (marked c.begin-top.new.marks) c.requires.start.1.1
     c.begin-top.ensures.begun.same c.begin-top.ensures.begun.highest (marked c.follow_all.new.marks)
     c.follow_all.new.clause.items c.follow_all.new.chain.items (c.follow_all.ensures.way c.begin-top.ensures.way)
 
 pub returns-clause-earned : goal.returns-clause-earned
 returns-clause-earned c = λ filled full.
     contains_none c.args.arena.now c.args.trail.now.lits.items c.args.trail.now.levels.items c.begin-top.result
-    c.requires.trail.level_count c.requires.trail.rising c.requires.trail.fresh (marked c.follow_all.new.marks)
+    c.requires.start.0.level_count c.requires.start.0.rising c.requires.start.0.fresh (marked c.follow_all.new.marks)
     c.follow_all.new.clause.items c.follow_all.new.chain.items (c.follow_all.ensures.way c.begin-top.ensures.way)
     filled full
 
 pub returns-clause-back : goal.returns-clause-back
 returns-clause-back c =
     goes_back c.args.arena.now c.args.trail.now.lits.items c.args.trail.now.levels.items c.begin-top.result
-    c.requires.trail.level_count c.requires.trail.rising c.requires.trail.fresh (marked c.follow_all.new.marks)
+    c.requires.start.0.level_count c.requires.start.0.rising c.requires.start.0.fresh (marked c.follow_all.new.marks)
     c.follow_all.new.clause.items c.follow_all.new.chain.items (c.follow_all.ensures.way c.begin-top.ensures.way)
     c.follow_all.result c.follow_all.ensures.second
+
+pub returns-clause-order : goal.returns-clause-order
+returns-clause-order c = (c.follow_all.ensures.way c.begin-top.ensures.way).order

@@ -11,7 +11,7 @@ use Rattle.conflict_analysis.proofs.work.begin.Goals as goal
 pub mark_clause-requires-clause-below : goal.mark_clause-requires-clause-below
 mark_clause-requires-clause-below c =
     false_below (length c.args.marks.now) c.args.trail.now.lits.items
-    (lits_of c.args.arena.now c.args.conflict.0) c.requires.trail.below c.requires.conflict.1
+    (lits_of c.args.arena.now c.args.conflict.0) c.requires.start.0.below c.requires.start.1.1
 
 pub returns-clause-begun : goal.returns-clause-begun
 returns-clause-begun c =
@@ -37,5 +37,5 @@ returns-clause-way c =
     (sym (c.push_reserved.ensures.items ∙ ap (λ (ids : List ℕ). ids ++ c.id.result ∷ []) c.clear-2.ensures.items))
     (subst (λ (kept : List Lit). IsOnWay a ss levels top (length ss) marks kept (c.id.result ∷ []))
     (sym c.clear.ensures.items)
-    (way_first a ss levels top c.requires.trail.level_count c.requires.trail.rising c.requires.trail.fresh lits marks
-    c.requires.conflict.1 same c.top_level.ensures c.id.result c.id.ensures.numbered))
+    (way_first a ss levels top c.requires.start.0.level_count c.requires.start.0.rising c.requires.start.0.fresh lits marks
+    c.requires.start.1.1 same c.top_level.ensures c.id.result c.id.ensures.numbered))
