@@ -1,37 +1,37 @@
 -- The log of a search that deletes clauses.
-use Rattle.std.proofs.Common.{◌≡◌, ◌≢◌, ◌⊎◌, ℕ, ◌+◌, ◌*◌, ◌/◌, ◌%◌, ◌<◌, ◌≤◌, ◌^◌, ◌==◌, Bool, true, false, cond}
-use Rattle.std.proofs.Common.{◌||◌, ◌&&◌, List}
+use Rattle.std.proofs.Common.{◌≡◌, ◌≢◌, ◌⊎◌, ℕ, ◌+◌, ◌*◌, ◌/◌, ◌%◌, ◌<◌, ◌≤◌, ◌==◌, Bool, true, false, cond}
+use Rattle.std.proofs.Common.{◌||◌, List}
 use Rattle.std.proofs.Common.{[], ◌∷◌, ◌++◌, length, Option, Some, None, is_some, not, refl, sym, ap, ap₂, subst, ◌∙◌}
 use Rattle.std.proofs.Common.{arith, inl, inr, append_assoc, add-zero}
 use Rattle.std.specs.Option.{option_or}
-use Rattle.std.specs.List.{list_any, AllByRecursion}
+use Rattle.std.specs.List.{list_any}
 use Rattle.std.proofs.Math.Bool.{or-false}
-use Rattle.std.proofs.lemmas.Bool.{cases_Bool, false_from_ne_true, false≢true, ne_eqb, or_cases}
+use Rattle.std.proofs.lemmas.Bool.{cases_Bool, false_from_ne_true, false≢true, or_cases}
 use Rattle.std.proofs.lemmas.Nat.{mul-le}
-use Rattle.mw_outside.specs.Taken.{Takes, TakesPart, takes_more, part_of_all, part_more}
+use Rattle.mw_outside.specs.Taken.{Takes, TakesPart, takes_more, part_more}
 use Rattle.resolution_check.specs.declared.log.Lit.{Lit}
 use Rattle.resolution_check.specs.declared.log.Clause.{Clause}
 use Rattle.resolution_check.specs.declared.log.Entry.{Entry}
 use Rattle.resolution_check.specs.declared.log.Entry.TheVariants.{Input, Add, Delete, End}
 use Rattle.resolution_check.specs.Clauses.{has, is_same, IsSameSet}
 use Rattle.resolution_check.specs.Entries.{addition_count, clause_given, clause_held, deletes, is_deleted, is_end}
-use Rattle.resolution_check.specs.Entries.{is_given, is_refutation, KeepsGood}
-use Rattle.resolution_check.specs.Earned.{ends_deleting, gives_input, is_deletion, lit_count, run_count}
-use Rattle.resolution_check.specs.Earned.{GoesUp, IsAbove, IsEarned, MayDelete, MayFollow}
-use Rattle.resolution_check.specs.Text.{HasText, line_of, log_text}
+use Rattle.resolution_check.specs.Entries.{is_refutation, KeepsGood}
+use Rattle.resolution_check.specs.Earned.{ends_deleting, gives_input, lit_count, run_count}
+use Rattle.resolution_check.specs.Earned.{GoesUp, IsEarned, MayDelete, MayFollow}
+use Rattle.resolution_check.specs.Text.{HasText, line_of}
 use Rattle.resolution_check.proofs.Accepted.{count-push}
 use Rattle.resolution_check.proofs.Goods.{any-push, clause_given-push, each_push}
 use Rattle.resolution_check.proofs.Literals.{same_lit}
 use Rattle.clause_arena.specs.Store.{Store}
 use Rattle.clause_arena.specs.Held.{held_in}
-use Rattle.watched_search.specs.Sets.{AreSameSets, GivesSets}
+use Rattle.watched_search.specs.Sets.{GivesSets}
 use Rattle.watched_search.proofs.Places.{all_push}
 use Rattle.cdcl_search.specs.Outcomes.{adds_or_deletes, input_entries, IsCut, IsSearchLog}
 use Rattle.cdcl_search.specs.Going.{IsGoing}
-use Rattle.cdcl_search.specs.Reductions.{CutsDown, CutsReduced, GoesDown, GoesOnReduced, IsReducing, KeepsBelow}
-use Rattle.cdcl_search.specs.Turns.{TellBumps, bumps_of, vars_of}
-use Rattle.cdcl_search.proofs.Bound.{given_of_held, held_both}
-use Rattle.cdcl_search.proofs.Logs.{cut_here, text-push, texts_push}
+use Rattle.cdcl_search.specs.Reductions.{CutsDown, CutsReduced, GoesDown, GoesOnReduced, IsReducing}
+use Rattle.cdcl_search.specs.Turns.{bumps_of, vars_of}
+use Rattle.cdcl_search.proofs.Bound.{given_of_held}
+use Rattle.cdcl_search.proofs.Logs.{text-push, texts_push}
 use Rattle.cdcl_search.proofs.Reduced.{HasThree}
 use Rattle.cdcl_search.proofs.Runs.{ends-push, runs-push}
 

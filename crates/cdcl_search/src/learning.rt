@@ -74,11 +74,11 @@ pub(crate) fn take_lesson<L: Sink>(
     ensures stays { UnlessLogFault result (L.faults log.new ≡ L.faults log.old) }
     ensures later { L.faults log.old ≤ L.faults log.new }
 {
-    let back = learn(work, arena, assigned, 0, conflict);
+    let back = learn(work, arena, assigned, conflict);
     log_lesson(alloc, log, deciders, turn, id, work)?;
     if work.clause().len() == 0 {
         return Ok(None);
     }
-    let from = assert_clause(work, arena, assigned, 0, id, back)?;
+    let from = assert_clause(work, arena, assigned, id, back)?;
     Ok(Some(from))
 }

@@ -82,7 +82,6 @@ pub(crate) fn write_inputs<L: Sink>(
     ensures stays { UnlessLogFault result (L.faults log.new ≡ L.faults log.old) }
     ensures later { L.faults log.old ≤ L.faults log.new }
 {
-    let _count = clauses.len();
     for (at, clause) in clauses.iter().enumerate() {
         write_input(alloc, log, at as u64 + 1, clause)?;
     }

@@ -96,9 +96,6 @@ fn delete_clause<L: Sink>(
     ensures later { L.faults log.old ≤ L.faults log.new }
 {
     arena.words_are_sound();
-    let _count = assigned.len();
-    let _added = first + added;
-    let _from = from;
     write_deletion(alloc, log, arena.id(c))?;
     arena.delete(c);
     arena.words_are_sound();
@@ -251,6 +248,6 @@ pub(crate) fn reduce<L: Sink>(
     }
     let longest = longest_kept(arena, assigned, first);
     delete_all(alloc, log, arena, assigned, first, added, from, longest)?;
-    compact(arena, assigned, from);
+    compact(arena, assigned);
     Ok(runs + 1)
 }

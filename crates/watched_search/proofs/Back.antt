@@ -18,6 +18,7 @@ use Rattle.conflict_analysis.proofs.Levels.{count_low, count_next}
 use Rattle.watched_search.specs.Trails.{last_level}
 use Rattle.watched_search.specs.Watches.{literal, AreWatched, IsKept}
 use Rattle.watched_search.proofs.Places.{slice_get-take}
+use Rattle.watched_search.proofs.Steps.{last_highest}
 
 -- ---- how many steps there are up to a level
 
@@ -204,3 +205,13 @@ last_taken levels level = by (count_to levels level) refl
         let own : last_level (take (suc n) levels) ≡ word levels n =
         ap (word (take (suc n) levels)) at ∙ word_take levels (suc n) n (omega arith) in
         let low : word levels n ≤ level = count_low levels level n (omega arith) in omega arith
+
+-- where the last level is 0 all steps are of levels up to 0
+pub all_low : (lits : List Lit) (levels : List ℕ) → length levels ≡ length lits → NeverFalls levels
+    → last_level levels ≡ 0 → steps_to lits levels 0 ≡ lits
+all_low lits levels same rising last =
+    let all : length levels ≡ count_to levels 0 =
+    count_is levels 0 (length levels) (omega arith)
+    (λ j less. (let h : word levels j ≤ last_level levels = last_highest levels j rising less in omega arith))
+    (λ less. absurd (omega arith)) in
+    take_all (count_to levels 0) lits (omega arith)

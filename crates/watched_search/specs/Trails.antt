@@ -1,15 +1,16 @@
 -- What a search keeps of its trail, and the values that it gives.
-use Rattle.std.specs.Prelude.{ℕ, ◌≡◌, ◌⊎◌, ◌-◌, ◌<◌, ◌≤◌, Bool, true, false, List, ◌++◌, length, take, Option}
+use Rattle.std.specs.Prelude.{ℕ, ◌≡◌, ◌⊎◌, ◌-◌, ◌<◌, ◌≤◌, Bool, true, false, not, List, ◌++◌, length, take, Option}
 use Rattle.std.specs.Prelude.{Some, None}
 use Rattle.std.specs.Prelude.{slice_get}
 use Rattle.resolution_check.specs.declared.log.Lit.{Lit}
 use Rattle.resolution_check.specs.Clauses.{is_below}
-use Rattle.resolution_check.specs.Trails.{value_of}
+use Rattle.resolution_check.specs.Trails.{value_of, IsTotal}
 use Rattle.clause_arena.specs.declared.names.ClauseRef.{ClauseRef}
 use Rattle.clause_arena.specs.Links.{word}
 use Rattle.mw_text.specs.Members.{In}
 use Rattle.clause_arena.specs.Store.{Store}
 use Rattle.conflict_analysis.specs.Steps.{IsForcedBy}
+use Rattle.deciders.specs.declared.decider.Choice.{Choice}
 use Rattle.deciders.specs.declared.decider.Value.{Value}
 use Rattle.deciders.specs.declared.decider.Value.TheVariants.{Free, False, True}
 
@@ -71,6 +72,15 @@ pub record Grows (old new : Assigned) : Type 0 where
   pub levels : new.levels ≡ old.levels ++ later
   pub same_length : length later ≡ length more
   pub none_opened : (n : ℕ) → In n later → n ≡ last_level old.levels
+
+-- the literal of a choice
+abbrev pub literal_chosen : Choice → Lit
+literal_chosen choice = record { var = choice.var; negated = not choice.positive }
+
+-- the literal is a variable's negation, and all variables below it have values
+pub record IsLeast (steps : List Lit) (l : Lit) : Type 0 where
+  pub negated : l.negated ≡ true
+  pub least : IsTotal l.var steps
 
 -- the literal's variable is one, and has no value
 pub record IsFree (vars : ℕ) (steps : List Lit) (l : Lit) : Type 0 where

@@ -1,6 +1,6 @@
 //! The literals that were made true, in their order, and the values that they give.
 
-ghost use Rattle.std.specs.Prelude.{◌≡◌, ◌<◌, ◌-◌, ◌^◌, [], ◌∷◌, ◌++◌, replicate, Some, None, IfOk, IfSome, length, map, take, slice_get, vec_capacity};
+ghost use Rattle.std.specs.Prelude.{◌≡◌, ℕ, ◌<◌, ◌-◌, ◌^◌, [], ◌∷◌, ◌++◌, replicate, Some, None, IfOk, IfSome, length, map, take, slice_get, vec_capacity};
 ghost use Rattle.std.specs.List.{All};
 ghost use Rattle.clause_arena.specs.Held.{IsHeld, clauses};
 ghost use Rattle.clause_arena.specs.Compacted.{Compacts, reason_renamed};
@@ -99,7 +99,6 @@ fn compact_reasons(trail: &mut Trail, values: &[Value], arena: &mut Arena)
     ensures compacts { Compacts arena.old arena.new }
     ensures clauses { clauses arena.new ≡ clauses arena.old }
 {
-    let _count = values.len();
     arena.compact(&mut trail.reasons);
 }
 
@@ -149,6 +148,13 @@ impl Assigned {
         self.trail.lits.len()
     }
 
+    /// A law, with no effect: a trail is shorter than the numbers of its places reach.
+    pub fn is_short(&self)
+        ensures { length self.now.lits < 2 ^ 63 }
+    {
+        let _ = &self.trail;
+    }
+
     /// The literal at a place.
     pub fn lit(&self, at: usize) -> Lit
         requires { at < length self.now.lits }
@@ -174,7 +180,8 @@ impl Assigned {
 
     /// The values of all variables, as deciders see them.
     pub fn values(&self) -> &[Value]
-        ensures { length result.now ≡ self.now.vars }
+        ensures len { length result.now ≡ self.now.vars }
+        ensures each { (v : ℕ) → v < self.now.vars → slice_get result.now v ≡ Some (shown (value_of self.now.lits v)) }
     {
         &self.values
     }

@@ -1,6 +1,6 @@
 //! Compaction of the clauses that are held.
 
-ghost use Rattle.std.specs.Prelude.{◌≡◌, ℕ, length};
+ghost use Rattle.std.specs.Prelude.{◌≡◌, ℕ};
 ghost use Rattle.clause_arena.specs.Compacted.{Compacts};
 ghost use Rattle.clause_arena.specs.Held.{clauses};
 ghost use Rattle.conflict_analysis.specs.Steps.{IsTrail};
@@ -12,11 +12,11 @@ use clause_arena::Arena;
 
 /// Moves the clauses that are held together, so that deleted ones take no words any more, and gives each reason its
 /// clause's new reference.
-pub fn compact(arena: &mut Arena, assigned: &mut Assigned, looked_at: usize)
+pub fn compact(arena: &mut Arena, assigned: &mut Assigned)
     requires trail { IsTrail arena.old assigned.old.vars assigned.old.lits assigned.old.levels assigned.old.reasons }
-    requires kept { IsKept arena.old assigned.old.lits assigned.old.levels looked_at }
     ensures trail { IsTrail arena.new assigned.new.vars assigned.new.lits assigned.new.levels assigned.new.reasons }
-    ensures kept { IsKept arena.new assigned.new.lits assigned.new.levels looked_at }
+    ensures kept { (head : ℕ) → IsKept arena.old assigned.old.lits assigned.old.levels head
+        → IsKept arena.new assigned.new.lits assigned.new.levels head }
     ensures compacts { Compacts arena.old arena.new }
     ensures vars { assigned.new.vars ≡ assigned.old.vars }
     ensures arena_vars { arena.new.vars ≡ arena.old.vars }
@@ -24,8 +24,6 @@ pub fn compact(arena: &mut Arena, assigned: &mut Assigned, looked_at: usize)
     ensures clauses { clauses arena.new ≡ clauses arena.old }
     ensures below { (next : ℕ) → AreBelow arena.old next → AreBelow arena.new next }
 {
-    let _looked_at = looked_at;
-    let _count = assigned.len();
     arena.words_are_sound();
     assigned.compact(arena);
     arena.words_are_sound();

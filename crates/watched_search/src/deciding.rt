@@ -1,9 +1,10 @@
 //! Decisions, restarts and rounds.
 
-ghost use Rattle.std.specs.Prelude.{◌≡◌, ◌+◌, ◌%◌, ◌==◌, ◌≤◌, false, None, IfSome, length, map};
+ghost use Rattle.std.specs.Prelude.{◌≡◌, ◌+◌, ◌%◌, ◌==◌, ◌≤◌, ◌++◌, ◌∷◌, [], false, None, IfSome, length, map};
 ghost use Rattle.resolution_check.specs.Trails.{value_of, IsTotal};
 ghost use Rattle.conflict_analysis.specs.Steps.{IsTrail};
-ghost use Rattle.watched_search.specs.Trails.{IsFree, last_level};
+ghost use Rattle.conflict_analysis.specs.Levels.{steps_to};
+ghost use Rattle.watched_search.specs.Trails.{IsFree, IsLeast, last_level, literal_chosen};
 ghost use Rattle.watched_search.specs.Watches.{Extends, IsKept};
 
 use crate::assigned::Assigned;
@@ -15,6 +16,7 @@ use resolution_check::Lit;
 /// The least variable without a value, to be false.
 fn least_free(assigned: &Assigned) -> Option<Lit>
     ensures some { IfSome result (IsFree assigned.now.vars assigned.now.lits) }
+    ensures least { IfSome result (IsLeast assigned.now.lits) }
     ensures none { result ≡ None → IsTotal assigned.now.vars assigned.now.lits }
 {
     for var in 0..assigned.vars() {
@@ -27,7 +29,9 @@ fn least_free(assigned: &Assigned) -> Option<Lit>
 
 /// The literal of a choice, where its variable is one and has no value.
 fn literal_of_choice(assigned: &Assigned, choice: Choice) -> Option<Lit>
-    ensures { IfSome result (IsFree assigned.now.vars assigned.now.lits) }
+    ensures some { IfSome result (IsFree assigned.now.vars assigned.now.lits) }
+    ensures is { IfSome result (λ l. l ≡ literal_chosen choice) }
+    ensures none { result ≡ None → IsFree assigned.now.vars assigned.now.lits (literal_chosen choice) → ⊥ }
 {
     if choice.var >= assigned.vars() {
         return None;
@@ -50,7 +54,8 @@ fn pick(decider: &mut Box<dyn Decider>, values: &[Value]) -> Choice
 
 /// What the decider at a place chooses, where one stands there.
 fn pick_at(deciders: &mut Vec<Box<dyn Decider>>, at: usize, values: &[Value]) -> Option<Choice>
-    ensures { map (λ b. told b) deciders.new.items ≡ map (λ b. told b) deciders.old.items }
+    ensures none { length deciders.old.items ≤ at → result ≡ None }
+    ensures told { map (λ b. told b) deciders.new.items ≡ map (λ b. told b) deciders.old.items }
 {
     if at >= deciders.len() {
         return None;
@@ -63,6 +68,7 @@ fn pick_at(deciders: &mut Vec<Box<dyn Decider>>, at: usize, values: &[Value]) ->
 pub fn choose(deciders: &mut Vec<Box<dyn Decider>>, turn: usize, assigned: &Assigned) -> Option<Lit>
     ensures some { IfSome result (IsFree assigned.now.vars assigned.now.lits) }
     ensures none { result ≡ None → IsTotal assigned.now.vars assigned.now.lits }
+    ensures no_decider { length deciders.old.items ≤ turn → IfSome result (IsLeast assigned.now.lits) }
     ensures told { map (λ b. told b) deciders.new.items ≡ map (λ b. told b) deciders.old.items }
 {
     if let Some(choice) = pick_at(deciders, turn, assigned.values()) {
@@ -82,9 +88,12 @@ pub fn decide(arena: &Arena, assigned: &mut Assigned, lit: Lit)
     ensures trail { IsTrail arena.now assigned.new.vars assigned.new.lits assigned.new.levels assigned.new.reasons }
     ensures kept { IsKept arena.now assigned.new.lits assigned.new.levels (length assigned.old.lits) }
     ensures longer { length assigned.new.lits ≡ length assigned.old.lits + 1 }
+    ensures lits { assigned.new.lits ≡ assigned.old.lits ++ lit ∷ [] }
+    ensures levels { assigned.new.levels ≡ assigned.old.levels ++ (last_level assigned.old.levels + 1) ∷ [] }
+    ensures reasons { assigned.new.reasons ≡ assigned.old.reasons ++ None ∷ [] }
     ensures vars { assigned.new.vars ≡ assigned.old.vars }
 {
-    let _count = assigned.len();
+    assigned.is_short();
     let level = assigned.level();
     assign(arena, assigned, lit, level + 1, None);
 }
@@ -98,12 +107,13 @@ pub fn restart(arena: &Arena, assigned: &mut Assigned, looked_at: usize) -> usiz
     ensures kept { IsKept arena.now assigned.new.lits assigned.new.levels result }
     ensures within { result ≤ length assigned.new.lits }
     ensures ground { last_level assigned.new.levels ≡ 0 }
+    ensures lits { assigned.new.lits ≡ steps_to assigned.old.lits assigned.old.levels 0 }
     ensures vars { assigned.new.vars ≡ assigned.old.vars }
 {
     if assigned.level() == 0 {
         return looked_at;
     }
-    back_to(arena, assigned, looked_at, 0)
+    back_to(arena, assigned, 0)
 }
 
 /// After so many additions a search goes back to level 0.
@@ -119,7 +129,8 @@ pub fn end_round(arena: &Arena, assigned: &mut Assigned, from: usize, added: u64
     ensures within { result ≤ length assigned.new.lits }
     ensures vars { assigned.new.vars ≡ assigned.old.vars }
     ensures round { added % 256 ≡ 0 → last_level assigned.new.levels ≡ 0 }
-    ensures stays { (added % 256 == 0) ≡ false → assigned.new.lits ≡ assigned.old.lits }
+    ensures lits { added % 256 ≡ 0 → assigned.new.lits ≡ steps_to assigned.old.lits assigned.old.levels 0 }
+    ensures stays { (added % 256 == 0) ≡ false → assigned.new ≡ assigned.old }
     ensures stands { (added % 256 == 0) ≡ false → result ≡ from }
 {
     if added % ROUND != 0 {

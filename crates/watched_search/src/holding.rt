@@ -1,11 +1,13 @@
 //! Learnt clauses that are held, and make their first literals true.
 
-ghost use Rattle.std.specs.Prelude.{◌≡◌, ◌<◌, ◌≤◌, ◌^◌, ◌++◌, ◌∷◌, [], true, IfOk, length};
+ghost use Rattle.std.specs.Prelude.{◌≡◌, ◌<◌, ◌≤◌, ◌^◌, ◌++◌, ◌∷◌, [], true, Some, IfOk, length, slice_get};
+ghost use Rattle.resolution_check.specs.declared.log.Lit.{Lit};
 ghost use Rattle.resolution_check.specs.Clauses.{is_below};
 ghost use Rattle.resolution_check.specs.Earned.{vars_differ};
 ghost use Rattle.clause_arena.specs.declared.names.ClauseRef.{ClauseRef};
 ghost use Rattle.clause_arena.specs.Held.{IsHeld, clauses, number_of};
 ghost use Rattle.conflict_analysis.specs.Steps.{IsTrail};
+ghost use Rattle.watched_search.specs.Trails.{last_level};
 ghost use Rattle.watched_search.specs.Watches.{Extends, IsAsserting, IsKept};
 
 use crate::assigned::Assigned;
@@ -28,7 +30,12 @@ pub fn hold(
     requires differ { vars_differ clause.now ≡ true }
     requires above { (c : ClauseRef) → IsHeld arena.old c → number_of arena.old c < id }
     requires asserting { IsAsserting assigned.old.lits assigned.old.levels clause.now }
+    ensures held { IfOk result (λ c. IsHeld arena.new c × (number_of arena.new c ≡ id)) }
     ensures lits { IfOk result (λ _. Extends assigned.old.lits assigned.new.lits) }
+    ensures first { IfOk result (λ _. (l : Lit) → slice_get clause.now 0 ≡ Some l
+        → assigned.new.lits ≡ assigned.old.lits ++ l ∷ []) }
+    ensures levels { IfOk result (λ _. assigned.new.levels ≡ assigned.old.levels ++ last_level assigned.old.levels ∷ []) }
+    ensures reasons { IfOk result (λ c. assigned.new.reasons ≡ assigned.old.reasons ++ Some c ∷ []) }
     ensures vars { IfOk result (λ _. assigned.new.vars ≡ assigned.old.vars) }
     ensures arena_vars { IfOk result (λ _. arena.new.vars ≡ arena.old.vars) }
     ensures clauses { IfOk result (λ _. clauses arena.new ≡ clauses arena.old ++ (id, clause.now) ∷ []) }

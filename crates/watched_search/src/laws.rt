@@ -18,16 +18,14 @@ use clause_arena::Arena;
 
 /// A law, with no effect: where the watches are kept, no clause is empty, each was settled before each decision, and each
 /// is settled now where all literals were looked at.
-pub fn watches_settle(arena: &Arena, assigned: &Assigned, head: usize)
-    requires { IsKept arena.now assigned.now.lits assigned.now.levels head }
+pub fn watches_settle(arena: &Arena, assigned: &Assigned)
+    requires { IsKept arena.now assigned.now.lits assigned.now.levels 0 }
     ensures filled { AreFilled arena.now }
     ensures full { AreFull arena.now assigned.now.lits assigned.now.levels }
-    ensures settled { length assigned.now.lits ≤ head → (id : ℕ) (c : Clause) → held_in arena.now id ≡ Some c
-        → IsSettled assigned.now.lits c.lits }
+    ensures settled { IsKept arena.now assigned.now.lits assigned.now.levels (length assigned.now.lits) → (id : ℕ) (c : Clause)
+        → held_in arena.now id ≡ Some c → IsSettled assigned.now.lits c.lits }
 {
     arena.words_are_sound();
-    let _len = assigned.len();
-    let _head = head;
 }
 
 /// A law, with no effect: what a search adds to clauses it adds to the same clauses in another order of literals, and while
@@ -53,5 +51,4 @@ pub fn totals_hold(arena: &Arena, assigned: &Assigned)
     ensures { (id : ℕ) (c : Clause) → held_in arena.now id ≡ Some c → HasTrue assigned.now.lits c.lits }
 {
     arena.words_are_sound();
-    let _len = assigned.len();
 }

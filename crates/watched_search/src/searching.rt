@@ -3,7 +3,7 @@
 ghost use Rattle.std.specs.Prelude.{◌≡◌, ◌≤◌, None, IfSome, length, map};
 ghost use Rattle.resolution_check.specs.Trails.{IsTotal};
 ghost use Rattle.conflict_analysis.specs.Steps.{IsConflict, IsTrail};
-ghost use Rattle.watched_search.specs.Watches.{IsKept, IsSameView};
+ghost use Rattle.watched_search.specs.Watches.{Extends, IsKept, IsSameView};
 
 use crate::assigned::Assigned;
 use crate::deciding::{choose, decide};
@@ -28,6 +28,7 @@ pub fn find_conflict(
     ensures view { IsSameView arena.old arena.new }
     ensures trail { IsTrail arena.new assigned.new.vars assigned.new.lits assigned.new.levels assigned.new.reasons }
     ensures kept { IsKept arena.new assigned.new.lits assigned.new.levels 0 }
+    ensures extends { Extends assigned.old.lits assigned.new.lits }
     ensures conflict { IfSome result (IsConflict arena.new assigned.new.lits) }
     ensures full { result ≡ None → IsKept arena.new assigned.new.lits assigned.new.levels (length assigned.new.lits) }
     ensures total { result ≡ None → IsTotal assigned.new.vars assigned.new.lits }
@@ -45,7 +46,6 @@ pub fn find_conflict(
         };
         decide(arena, assigned, lit);
     }
-    // No trail is so long.
-    let _count = assigned.len();
+    assigned.is_short();
     None
 }

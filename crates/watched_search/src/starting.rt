@@ -116,7 +116,6 @@ pub fn hold_inputs(
             return Ok(found);
         }
     }
-    let _count = assigned.len();
     Ok(None)
 }
 
@@ -132,6 +131,5 @@ pub fn refute(work: &mut Work, arena: &Arena, assigned: &Assigned, conflict: Cla
     ensures empty { work.new.lits ≡ [] }
 {
     arena.words_are_sound();
-    let _count = assigned.len();
     let _back = analyse(work, arena, assigned.trail(), conflict);
 }

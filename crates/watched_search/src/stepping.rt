@@ -29,7 +29,6 @@ pub fn assign(
     ensures reasons { assigned.new.reasons ≡ assigned.old.reasons ++ reason ∷ [] }
     ensures vars { assigned.new.vars ≡ assigned.old.vars }
 {
-    let _arena = arena;
     assigned.push(lit, level, reason);
 }
 
@@ -47,19 +46,18 @@ fn count_up_to(levels: &[u64], level: u64) -> usize
 }
 
 /// Takes back the steps of levels above this one, of which there are some. Answers how many are left.
-pub fn back_to(arena: &Arena, assigned: &mut Assigned, head: usize, level: u64) -> usize
+pub fn back_to(arena: &Arena, assigned: &mut Assigned, level: u64) -> usize
     requires trail { IsTrail arena.now assigned.old.vars assigned.old.lits assigned.old.levels assigned.old.reasons }
-    requires kept { IsKept arena.now assigned.old.lits assigned.old.levels head }
+    requires kept { IsKept arena.now assigned.old.lits assigned.old.levels 0 }
     requires some { level < last_level assigned.old.levels }
     ensures trail { IsTrail arena.now assigned.new.vars assigned.new.lits assigned.new.levels assigned.new.reasons }
     ensures kept { IsKept arena.now assigned.new.lits assigned.new.levels result }
     ensures lits { assigned.new.lits ≡ steps_to assigned.old.lits assigned.old.levels level }
     ensures levels { assigned.new.levels ≡ take (count_to assigned.old.levels level) assigned.old.levels }
+    ensures reasons { assigned.new.reasons ≡ take (count_to assigned.old.levels level) assigned.old.reasons }
     ensures all { result ≡ length assigned.new.lits }
     ensures vars { assigned.new.vars ≡ assigned.old.vars }
 {
-    let _arena = arena;
-    let _head = head;
     let left = count_up_to(&assigned.trail().levels, level);
     assigned.cut(left);
     left

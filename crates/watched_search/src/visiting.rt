@@ -8,6 +8,7 @@ ghost use Rattle.clause_arena.specs.Moved.{Moves};
 ghost use Rattle.watched_search.specs.declared.visiting.Visited.TheVariants.{Stays};
 ghost use Rattle.clause_arena.specs.Watched.{Stands, head, left, own, place, place_or};
 ghost use Rattle.conflict_analysis.specs.Steps.{IsTrail};
+ghost use Rattle.watched_search.specs.Trails.{last_level};
 ghost use Rattle.watched_search.specs.Watches.{literal, Extends, IsFound, IsKept, IsReplacement, IsSameView, IsWalked};
 
 use crate::assigned::Assigned;
@@ -61,11 +62,11 @@ fn force(arena: &Arena, assigned: &mut Assigned, looked_at: usize, clause: Claus
     requires below { lit.var < assigned.old.vars }
     ensures trail { IsTrail arena.now assigned.new.vars assigned.new.lits assigned.new.levels assigned.new.reasons }
     ensures kept { IsKept arena.now assigned.new.lits assigned.new.levels looked_at }
+    ensures level { last_level assigned.new.levels ≡ last_level assigned.old.levels }
     ensures extends { Extends assigned.old.lits assigned.new.lits }
     ensures vars { assigned.new.vars ≡ assigned.old.vars }
     ensures holds { holds assigned.new.lits lit ≡ true }
 {
-    let _looked_at = looked_at;
     let level = assigned.level();
     assign(arena, assigned, lit, level, Some(clause));
 }
@@ -80,6 +81,7 @@ pub fn visit(arena: &Arena, assigned: &mut Assigned, looked_at: usize, w: Watch)
     requires is_false { fails assigned.old.lits (literal arena.now w.clause.0 w.side) ≡ true }
     ensures trail { IsTrail arena.now assigned.new.vars assigned.new.lits assigned.new.levels assigned.new.reasons }
     ensures kept { IsKept arena.now assigned.new.lits assigned.new.levels looked_at }
+    ensures level { last_level assigned.new.levels ≡ last_level assigned.old.levels }
     ensures extends { Extends assigned.old.lits assigned.new.lits }
     ensures vars { assigned.new.vars ≡ assigned.old.vars }
     ensures found { IsFound arena.now assigned.new.lits w result }
@@ -124,8 +126,6 @@ pub fn move_watch(
     ensures walked { IsWalked arena.old assigned.now.lits before (own arena.old w)
         → IsWalked arena.new assigned.now.lits before (own arena.old w) }
 {
-    let _count = assigned.len();
-    let _looked_at = looked_at;
     arena.words_are_sound();
     let next = arena.watch_move(before, w, to);
     arena.words_are_sound();
@@ -144,7 +144,6 @@ pub fn pass_watch(arena: &Arena, assigned: &Assigned, w: Watch) -> Option<Watch>
         → IsWalked arena.now assigned.now.lits before (own arena.now w)
         → IsWalked arena.now assigned.now.lits (Some w) (own arena.now w) }
 {
-    let _count = assigned.len();
     arena.words_are_sound();
     arena.next_watch(w)
 }

@@ -4,6 +4,7 @@ ghost use Rattle.std.specs.Prelude.{◌≡◌, ◌<◌, ◌≤◌, true, None, I
 ghost use Rattle.resolution_check.specs.Trails.{fails};
 ghost use Rattle.clause_arena.specs.Held.{code_of};
 ghost use Rattle.conflict_analysis.specs.Steps.{IsConflict, IsTrail};
+ghost use Rattle.watched_search.specs.Trails.{last_level};
 ghost use Rattle.watched_search.specs.Watches.{AllTrue, Extends, IsKept, IsSameView};
 
 use crate::assigned::Assigned;
@@ -28,6 +29,7 @@ pub fn visit_watches(
     ensures view { IsSameView arena.old arena.new }
     ensures trail { IsTrail arena.new assigned.new.vars assigned.new.lits assigned.new.levels assigned.new.reasons }
     ensures kept { IsKept arena.new assigned.new.lits assigned.new.levels looked_at }
+    ensures level { last_level assigned.new.levels ≡ last_level assigned.old.levels }
     ensures extends { Extends assigned.old.lits assigned.new.lits }
     ensures conflict { IfSome result (IsConflict arena.new assigned.new.lits) }
     ensures walked { result ≡ None → AllTrue arena.new assigned.new.lits (code_of lit) }
@@ -60,6 +62,7 @@ pub fn propagate(arena: &mut Arena, assigned: &mut Assigned, from: usize) -> Opt
     ensures view { IsSameView arena.old arena.new }
     ensures trail { IsTrail arena.new assigned.new.vars assigned.new.lits assigned.new.levels assigned.new.reasons }
     ensures kept { IsKept arena.new assigned.new.lits assigned.new.levels from }
+    ensures level { last_level assigned.new.levels ≡ last_level assigned.old.levels }
     ensures extends { Extends assigned.old.lits assigned.new.lits }
     ensures conflict { IfSome result (IsConflict arena.new assigned.new.lits) }
     ensures full { result ≡ None → IsKept arena.new assigned.new.lits assigned.new.levels (length assigned.new.lits) }
@@ -75,7 +78,6 @@ pub fn propagate(arena: &mut Arena, assigned: &mut Assigned, from: usize) -> Opt
         }
         arena.words_are_sound();
     }
-    // No trail is so long.
-    let _count = assigned.len();
+    assigned.is_short();
     None
 }

@@ -1,14 +1,10 @@
-use Rattle.std.proofs.Common.{◌≡◌, ◌+◌, ◌<◌, ◌≤◌, ◌^◌, ◌==◌, ℕ, cond, None, Some, List}
-use Rattle.std.proofs.Common.{Option, refl, sym, subst, ap, ◌∙◌, arith}
+use Rattle.std.proofs.Common.{◌≡◌, ◌+◌, ◌≤◌, ◌==◌, ℕ, cond, None}
+use Rattle.std.proofs.Common.{sym, ap, ◌∙◌, arith}
 use Rattle.mw_text.proofs.Results.{on_err}
-use Rattle.resolution_check.specs.declared.log.Lit.{Lit}
-use Rattle.resolution_check.specs.declared.log.Clause.{Clause}
-use Rattle.resolution_check.specs.declared.log.Entry.TheVariants.{Delete}
-use Rattle.resolution_check.specs.Text.{HasText}
 use Rattle.clause_arena.specs.Held.{held_in, lits_of}
 use Rattle.cdcl_search.specs.Reductions.{CutsDown}
 use Rattle.cdcl_search.proofs.Downs.{reduced_cut, reduced_more}
-use Rattle.cdcl_search.proofs.Reduced.{HasThree, held_less, keeps_below, ready_less, text_of_held, three_of}
+use Rattle.cdcl_search.proofs.Reduced.{held_less, keeps_below, ready_less, text_of_held, three_of}
 use Rattle.cdcl_search.proofs.reducing.delete_clause.Goals as goal
 
 pub write_deletion-requires : goal.write_deletion-requires

@@ -1,4 +1,4 @@
-use Rattle.std.proofs.Common.{◌≡◌, ◌∙◌}
+use Rattle.std.proofs.Common.{◌∙◌}
 use Rattle.mw_text.proofs.Results.{on_err}
 use Rattle.cdcl_search.proofs.Downs.{cuts_then, down_then}
 use Rattle.cdcl_search.proofs.reducing.delete_watched.Goals as goal

@@ -1,4 +1,3 @@
-use Rattle.std.proofs.Common.{ℕ}
 use Rattle.std.specs.Prelude.{IfSome}
 use Rattle.clause_arena.specs.Held.{code_of}
 use Rattle.clause_arena.specs.Watched.{Stands}

@@ -16,7 +16,7 @@ returns-clause-ready g c =
     let e = c.compact.ensures in
     ready_compacted c.delete_all.new.arena c.compact.new.arena c.args.assigned.now c.compact.new.assigned
     (c.args.first + c.args.added) c.args.from c.in_ok-delete_all.ensures.ready e.vars e.arena_vars e.lits e.clauses
-    e.trail e.kept e.below
+    e.trail (e.kept c.args.from c.in_ok-delete_all.ensures.ready.kept) e.below
 
 pub returns-clause-keeps : goal.returns-clause-keeps
 returns-clause-keeps g c =

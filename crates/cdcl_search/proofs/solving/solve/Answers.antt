@@ -1,10 +1,10 @@
-use Rattle.std.proofs.Common.{◌≡◌, ◌*◌, ◌<◌, ◌^◌, ◌∙◌, List, length, ap, subst, arith}
+use Rattle.std.proofs.Common.{◌<◌, ◌^◌, ◌∙◌, List, length, ap, subst, arith}
 use Rattle.std.specs.List.{list_all}
 use Rattle.resolution_check.specs.declared.log.Clause.{Clause}
 use Rattle.resolution_check.specs.Clauses.{is_below}
 use Rattle.mw_text.proofs.Results.{ok_then, on_err}
 use Rattle.resolution_check.specs.Text.{log_text}
-use Rattle.mw_outside.specs.Taken.{Takes, TakesPart, part_of_none}
+use Rattle.mw_outside.specs.Taken.{Takes, TakesPart}
 use Rattle.cdcl_search.specs.Outcomes.{input_entries}
 use Rattle.cdcl_search.proofs.Logs.{cut_first, cut_none, few_of, small_inputs, unsat_shown}
 use Rattle.cdcl_search.proofs.Bound.{unknown_within}

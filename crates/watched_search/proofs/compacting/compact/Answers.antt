@@ -24,14 +24,14 @@ returns-clause-trail c =
     c.words_are_sound-2.ensures s.vars s.lits s.levels s.reasons c.requires.trail))))
 
 pub returns-clause-kept : goal.returns-clause-kept
-returns-clause-kept c =
+returns-clause-kept c = λ at kept.
     let s = c.args.assigned.now in
     let n = c.compact.new.self in
     let a = c.compact.new.arena in
-    subst (λ (xs : List Lit). IsKept a xs n.levels c.args.looked_at) (sym c.compact.ensures.lits)
-    (subst (λ (xs : List ℕ). IsKept a s.lits xs c.args.looked_at) (sym c.compact.ensures.levels)
+    subst (λ (xs : List Lit). IsKept a xs n.levels at) (sym c.compact.ensures.lits)
+    (subst (λ (xs : List ℕ). IsKept a s.lits xs at) (sym c.compact.ensures.levels)
     (kept_compacted c.args.arena.now a c.compact.ensures.compacts c.words_are_sound.ensures
-    c.words_are_sound-2.ensures s.lits s.levels c.args.looked_at c.requires.kept))
+    c.words_are_sound-2.ensures s.lits s.levels at kept))
 
 pub returns-clause-below : goal.returns-clause-below
 returns-clause-below c =

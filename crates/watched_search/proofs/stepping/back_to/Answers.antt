@@ -35,7 +35,7 @@ returns-clause-kept c =
     (sym (c.cut.ensures.levels ∙ ap (λ (k : ℕ). take k c.args.assigned.now.levels) e))
     (subst (λ (k : ℕ). IsKept a (take (count_to old.levels c.args.level) old.lits)
     (take (count_to old.levels c.args.level) old.levels) k) (sym e)
-    (kept_back a old.lits old.levels c.args.level c.args.head c.requires.trail.level_count c.requires.trail.rising
+    (kept_back a old.lits old.levels c.args.level 0 c.requires.trail.level_count c.requires.trail.rising
     c.requires.kept (some_behind old.levels c.args.level c.requires.some))))
 
 pub returns-clause-all : goal.returns-clause-all

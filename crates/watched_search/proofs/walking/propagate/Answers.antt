@@ -52,5 +52,6 @@ loop-at-preserved c =
           v.ensures.kept;
       above = omega (arith, i.above);
       within = extends_within ls more (c.loop-at.at + 1) x low;
+      level = v.ensures.level ∙ i.level;
       extends = extends_then c.args.assigned.now.lits ls more i.extends x;
     }

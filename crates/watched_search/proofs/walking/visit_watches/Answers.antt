@@ -1,4 +1,4 @@
-use Rattle.std.proofs.Common.{◌≡◌, ◌<◌, ℕ, true, Some, sym, ap, subst, ◌∙◌}
+use Rattle.std.proofs.Common.{◌≡◌, ◌<◌, ℕ, true, Some, refl, sym, ap, subst, ◌∙◌}
 use Rattle.std.specs.Prelude.{IfSome}
 use Rattle.resolution_check.specs.declared.log.Lit.{Lit}
 use Rattle.resolution_check.specs.Trails.{fails}
@@ -21,12 +21,26 @@ loop-at-init c =
       kept = c.requires.kept;
       within = c.requires.within;
       is_false = c.requires.is_false;
+      level = refl;
       extends = extends_same c.args.assigned.now.lits;
       at_head = c.first_watch-at.ensures.head;
       stands = c.first_watch-at.ensures.stands;
       walked = walk_begins a c.words_are_sound.ensures (code_of c.args.lit)
           (code_low a.vars c.args.lit c.requires.below) c.args.assigned.now.lits;
     }
+
+pub visit-requires-clause-is_false : goal.visit-requires-clause-is_false
+visit-requires-clause-is_false c =
+    let a = c.loop-at.arena in
+    let w = c.in-Some.w in
+    let st = stands_at a (code_of c.args.lit) c.loop-at.at w c.in-Some.is c.loop-at.invariant.stands in
+    subst (λ (l : Lit). fails c.loop-at.assigned.lits l ≡ true) (sym (own_literal a c.args.lit w st))
+    c.loop-at.invariant.is_false
+
+pub returns-in-Conflict-clause-extends : goal.returns-in-Conflict-clause-extends
+returns-in-Conflict-clause-extends c =
+    extends_then c.args.assigned.now.lits c.loop-at.assigned.lits c.visit.new.assigned.lits
+    c.loop-at.invariant.extends c.visit.ensures.extends
 
 pub move_watch-at-requires-clause-is_false : goal.move_watch-at-requires-clause-is_false
 move_watch-at-requires-clause-is_false c =
@@ -55,6 +69,7 @@ loop-at-preserved-in-Moves c =
       kept = c.move_watch-at.ensures.kept;
       within = extends_within ls more c.args.looked_at x i.within;
       is_false = more_false ls more c.args.lit x i.is_false;
+      level = c.visit.ensures.level ∙ i.level;
       extends = extends_then c.args.assigned.now.lits ls more i.extends x;
       at_head = subst (λ (k : ℕ). place_or c.move_watch-at.result ≡ head b c.loop-at.before k) st.code
           c.move_watch-at.ensures.head;
@@ -82,6 +97,7 @@ loop-at-preserved c =
       kept = c.visit.ensures.kept;
       within = extends_within ls more c.args.looked_at x i.within;
       is_false = more_false ls more c.args.lit x i.is_false;
+      level = c.visit.ensures.level ∙ i.level;
       extends = extends_then c.args.assigned.now.lits ls more i.extends x;
       at_head = subst (λ (k : ℕ). place_or c.pass_watch-at.result ≡ head a (Some w) k) st.code
           c.pass_watch-at.ensures.head;

@@ -4,6 +4,7 @@ use Rattle.resolution_check.specs.Trails.{fails}
 use Rattle.clause_arena.specs.Held.{code_of}
 use Rattle.clause_arena.specs.Watched.{Stands, head, left, place_or}
 use Rattle.conflict_analysis.specs.Steps.{IsTrail}
+use Rattle.watched_search.specs.Trails.{last_level}
 use Rattle.watched_search.specs.Watches.{Extends, IsKept, IsSameView, IsWalked}
 use Rattle.watched_search.proofs.walking.visit_watches.Given as goal
 
@@ -18,6 +19,7 @@ invariant-loop-at l = record {
   kept : IsKept l.arena l.assigned.lits l.assigned.levels l.looked_at;
   within : l.looked_at ≤ length l.assigned.lits;
   is_false : fails l.assigned.lits l.fn.lit ≡ true;
+  level : last_level l.assigned.levels ≡ last_level l.fn.assigned.levels;
   extends : Extends l.fn.assigned.lits l.assigned.lits;
   at_head : place_or l.at ≡ head l.arena l.before (code_of l.fn.lit);
   stands : IfSome l.at (Stands l.arena (code_of l.fn.lit));
