@@ -65,7 +65,8 @@ impl Decider for Recorder {
     {}
 
     fn pick(&mut self, values: &[Value]) -> Choice
-        ensures { self.new ≡ self.old }
+        ensures same { self.new ≡ self.old }
+        ensures no_choice { result.var ≡ length values.now }
     {
         Choice {
             var: values.len() as u64,
