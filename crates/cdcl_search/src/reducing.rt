@@ -1,4 +1,8 @@
 //! Reductions: from time to time learnt clauses are deleted.
+//!
+//! Clauses bound this from one side alone: no reduction comes early, and no input, no clause of one or two literals and no
+//! reason goes. That a reduction comes where it may, and which clauses go then, is in no clause: it changes time and memory,
+//! never an outcome.
 
 ghost use Rattle.std.specs.Prelude.{◌≡◌, ◌+◌, ◌<◌, ◌≤◌, ◌^◌, true, IfOk, IfSome, OnOk, OnErr};
 ghost use Rattle.mw_outside.specs.Faults.{Rose};

@@ -1,5 +1,5 @@
 -- What a search keeps of its trail, and the values that it gives.
-use Rattle.std.specs.Prelude.{ℕ, ◌≡◌, ◌⊎◌, ◌-◌, ◌<◌, ◌≤◌, Bool, true, false, not, List, ◌++◌, length, take, Option}
+use Rattle.std.specs.Prelude.{ℕ, ◌≡◌, ◌⊎◌, ◌-◌, ◌<◌, ◌≤◌, Bool, true, false, not, List, length, take, Option}
 use Rattle.std.specs.Prelude.{Some, None}
 use Rattle.std.specs.Prelude.{slice_get}
 use Rattle.resolution_check.specs.declared.log.Lit.{Lit}
@@ -7,7 +7,6 @@ use Rattle.resolution_check.specs.Clauses.{is_below}
 use Rattle.resolution_check.specs.Trails.{value_of, IsTotal}
 use Rattle.clause_arena.specs.declared.names.ClauseRef.{ClauseRef}
 use Rattle.clause_arena.specs.Links.{word}
-use Rattle.mw_text.specs.Members.{In}
 use Rattle.clause_arena.specs.Store.{Store}
 use Rattle.conflict_analysis.specs.Steps.{IsForcedBy}
 use Rattle.deciders.specs.declared.decider.Choice.{Choice}
@@ -62,16 +61,6 @@ pub record IsForced (a : Store) (lits : List Lit) (levels : List ℕ) (l : Lit) 
 
 abbrev pub MayFollow : Store → List Lit → List ℕ → Lit → ℕ → Option ClauseRef → Type 0
 MayFollow a lits levels l level reason = IsChosen levels level reason ⊎ IsForced a lits levels l level reason
-
--- More literals at the last level: none of them opens one.
-pub record Grows (old new : Assigned) : Type 0 where
-  pub vars : new.vars ≡ old.vars
-  pub more : List Lit
-  pub lits : new.lits ≡ old.lits ++ more
-  pub later : List ℕ
-  pub levels : new.levels ≡ old.levels ++ later
-  pub same_length : length later ≡ length more
-  pub none_opened : (n : ℕ) → In n later → n ≡ last_level old.levels
 
 -- the literal of a choice
 abbrev pub literal_chosen : Choice → Lit
