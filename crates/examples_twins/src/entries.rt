@@ -2,14 +2,17 @@
 
 ghost use Rattle.std.specs.Prelude.{◌≤◌};
 
-use crate::dice::Dice;
-use crate::outcomes::Outcome;
-use crate::reading::{Case, random_case};
-use crate::slots::{fresh_slot, number_of, put_slot, random_slot};
-use crate::symbols::fresh_links;
-use crate::values::{nodes_at, number_at, put_bits, put_links, value_of};
 use mw_text::{Addr, List, prefix_of};
 use proto_rib::best_entry;
+use random_networks::dice::Dice;
+use random_networks::outcomes::Outcome;
+use random_networks::packets::random_destination;
+use random_networks::random_slots::random_slot;
+use random_networks::reading::{Case, random_case};
+use random_networks::sketches::Protocols;
+use random_networks::slots::{fresh_slot, number_of, put_slot};
+use random_networks::symbols::fresh_links;
+use random_networks::values::{nodes_at, number_at, put_bits, put_links, value_of};
 use route_record::{RibEntry, Slot};
 use std::alloc::{AllocError, Global};
 use sym_policy::SymNet;
@@ -19,16 +22,6 @@ use term_store::Terms;
 
 /// The lengths of the prefixes that the configurations name.
 const LENGTHS: [u8; 5] = [0, 16, 24, 30, 32];
-
-/// A destination: under a loopback, a shared subnet, the subnet of a peer or the default route alone.
-pub fn destination(dice: &mut Dice) -> u32 {
-    match dice.roll(4) {
-        0 => 0xc000_0201,
-        1 => 0x0a09_0000 + dice.roll(5),
-        2 => 0x0a01_0001 + 256 * dice.roll(5),
-        _ => 0x0a00_0001 + 256 * dice.roll(40) + dice.roll(2),
-    }
-}
 
 // What an entry is asked about.
 #[derive(Drop)]
@@ -40,7 +33,7 @@ struct Asked {
 
 fn random_asked(alloc: Global, dice: &mut Dice, case: &Case) -> Asked {
     Asked {
-        dst: destination(dice),
+        dst: random_destination(dice),
         own: dice.hits(2),
         slot: random_slot(alloc, dice, &case.net),
     }
@@ -164,7 +157,7 @@ fn compare(alloc: Global, dice: &mut Dice, case: &Case) -> Result<Outcome, Alloc
 
 /// What the tables of a random network hold.
 pub fn outcome(alloc: Global, dice: &mut Dice) -> Result<Outcome, AllocError> {
-    match random_case(alloc, dice, true)? {
+    match random_case(alloc, dice, Protocols::Sessions)? {
         None => Ok(Outcome::Refused),
         Some(case) => compare(alloc, dice, &case),
     }

@@ -1,11 +1,12 @@
 //! The equations of interior distances: true of the distances, and false of each row in which one is another.
 
-use crate::dice::Dice;
-use crate::outcomes::Outcome;
-use crate::reading::{Case, random_case};
-use crate::symbols::{fresh_net, has_rows};
-use crate::values::{nodes_at, put_links, put_rows, value_of};
 use proto_ospf::{Reached, all_distances};
+use random_networks::dice::Dice;
+use random_networks::outcomes::Outcome;
+use random_networks::reading::{Case, random_case};
+use random_networks::sketches::Protocols;
+use random_networks::symbols::{fresh_net, has_rows};
+use random_networks::values::{nodes_at, put_links, put_rows, value_of};
 use std::alloc::{AllocError, Global};
 use sym_ospf::sym_igp;
 use term_store::{NodeId, Terms};
@@ -129,7 +130,7 @@ pub fn compare(alloc: Global, case: &Case) -> Result<Outcome, AllocError> {
 
 /// What the equations of a random network say.
 pub fn outcome(alloc: Global, dice: &mut Dice) -> Result<Outcome, AllocError> {
-    match random_case(alloc, dice, false)? {
+    match random_case(alloc, dice, Protocols::Interior)? {
         None => Ok(Outcome::Refused),
         Some(case) => compare(alloc, &case),
     }

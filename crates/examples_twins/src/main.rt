@@ -2,22 +2,15 @@
 //! seed and how many networks; `triangle` stands for worked cases of three routers.
 #![tactic(auto)]
 
-mod dice;
 mod entries;
 mod igp;
-mod outcomes;
-mod reading;
 mod resolution;
 mod sessions;
-mod sketches;
-mod slots;
-mod symbols;
-mod texts;
 mod triangle;
-mod values;
 
-use crate::dice::Dice;
-use crate::outcomes::Outcome;
+use random_networks::comparisons::{Comparison, comparison_of, show_agreed, show_outcome};
+use random_networks::dice::Dice;
+use random_networks::outcomes::Outcome;
 use std::alloc::{AllocError, Global};
 use std::io;
 
@@ -32,45 +25,24 @@ fn outcome(alloc: Global, what: &str, dice: &mut Dice) -> Result<Outcome, AllocE
     }
 }
 
-// Prints where the network differs, if it does.
-fn show_outcome(rt: &impl Print, what: &str, number: u32, outcome: Outcome) -> io::Result<()> {
-    match outcome {
-        Outcome::Agrees => Ok(()),
-        Outcome::Unknown => println!(rt; "{what}: unknown"),
-        Outcome::Refused => println!(rt; "{what}: network {number} is refused"),
-        Outcome::Differs { router, place } => {
-            println!(rt; "{what}: network {number} differs at router {router}, place {place}")
-        }
-    }
-}
-
-fn show_twins(
-    rt: &(impl Print + AllocGlobal),
-    what: &str,
-    seed: u32,
-    count: u32,
-) -> io::Result<()> {
-    let mut dice = Dice::new(u64::from(seed));
+fn show_twins(rt: &(impl Print + AllocGlobal), comparison: Comparison<'_>) -> io::Result<()> {
+    let mut dice = Dice::new(u64::from(comparison.seed));
     let mut agreed = 0u32;
-    for number in 0..count {
-        let outcome = outcome(rt.alloc(), what, &mut dice)?;
+    for number in 0..comparison.count {
+        let outcome = outcome(rt.alloc(), comparison.what, &mut dice)?;
         agreed = agreed.wrapping_add(u32::from(outcome.agrees()));
-        show_outcome(rt, what, number, outcome)?;
+        show_outcome(rt, comparison.what, number, outcome)?;
     }
-    println!(rt; "{what} {seed}: {agreed} of {count} networks agree")
+    show_agreed(rt, comparison, agreed)
 }
 
 fn show_line(rt: &(impl Print + AllocGlobal), line: &str) -> io::Result<()> {
     if line == "triangle" {
         return triangle::show_triangle(rt);
     }
-    let mut words = line.split(' ');
-    let what = words.next().unwrap_or("");
-    let seed = words.next().unwrap_or("").parse::<u32>();
-    let count = words.next().unwrap_or("").parse::<u32>();
-    match (seed, count) {
-        (Ok(seed), Ok(count)) => show_twins(rt, what, seed, count),
-        _ => println!(rt; "no numbers: {line}"),
+    match comparison_of(line) {
+        Some(comparison) => show_twins(rt, comparison),
+        None => println!(rt; "no numbers: {line}"),
     }
 }
 

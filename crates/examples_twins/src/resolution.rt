@@ -2,14 +2,15 @@
 
 ghost use Rattle.std.specs.Prelude.{◌≡◌};
 
-use crate::dice::Dice;
 use crate::igp::rows_of;
-use crate::outcomes::Outcome;
-use crate::reading::{Case, random_case};
-use crate::symbols::{fresh_net, has_rows};
-use crate::values::{internal, nodes_at, ospf_at, put_bits, put_links, put_rows};
 use mw_text::Addr;
 use proto_ospf::resolve;
+use random_networks::dice::Dice;
+use random_networks::outcomes::Outcome;
+use random_networks::reading::{Case, random_case};
+use random_networks::sketches::Protocols;
+use random_networks::symbols::{fresh_net, has_rows};
+use random_networks::values::{internal, nodes_at, ospf_at, put_bits, put_links, put_rows};
 use route_record::OspfRec;
 use std::alloc::{AllocError, Global};
 use sym_ospf::sym_resolve;
@@ -99,7 +100,7 @@ fn compare(alloc: Global, case: &Case) -> Result<Outcome, AllocError> {
 
 /// What the routers of a random network resolve.
 pub fn outcome(alloc: Global, dice: &mut Dice) -> Result<Outcome, AllocError> {
-    match random_case(alloc, dice, false)? {
+    match random_case(alloc, dice, Protocols::Interior)? {
         None => Ok(Outcome::Refused),
         Some(case) => compare(alloc, &case),
     }

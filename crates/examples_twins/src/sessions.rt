@@ -1,12 +1,13 @@
 //! Sessions: which ends are up.
 
-use crate::dice::Dice;
 use crate::igp::rows_of;
-use crate::outcomes::Outcome;
-use crate::reading::{Case, random_case};
-use crate::symbols::{fresh_net, has_rows};
-use crate::values::{nodes_at, put_links, put_rows, value_of};
 use proto_ospf::session_up;
+use random_networks::dice::Dice;
+use random_networks::outcomes::Outcome;
+use random_networks::reading::{Case, random_case};
+use random_networks::sketches::Protocols;
+use random_networks::symbols::{fresh_net, has_rows};
+use random_networks::values::{nodes_at, put_links, put_rows, value_of};
 use std::alloc::{AllocError, Global};
 use sym_ospf::sym_session_up;
 use term_store::{NodeId, Terms};
@@ -68,7 +69,7 @@ fn compare(alloc: Global, case: &Case) -> Result<Outcome, AllocError> {
 
 /// Which sessions of a random network are up.
 pub fn outcome(alloc: Global, dice: &mut Dice) -> Result<Outcome, AllocError> {
-    match random_case(alloc, dice, true)? {
+    match random_case(alloc, dice, Protocols::Sessions)? {
         None => Ok(Outcome::Refused),
         Some(case) => compare(alloc, &case),
     }

@@ -2,8 +2,8 @@
 //! links, and that the equations hold of these distances and of no other.
 
 use crate::igp::{compare, rows_of};
-use crate::reading::{Case, net_of, put_file};
 use mw_text::List;
+use random_networks::reading::{Case, net_of, put_file};
 use route_record::Failures;
 use std::alloc::{AllocError, Global};
 use std::io;

@@ -1,7 +1,7 @@
 //! The networks of texts, and random failures in them.
 
 use crate::dice::Dice;
-use crate::sketches::{Sketch, make_sketch};
+use crate::sketches::{Protocols, Sketch, make_sketch};
 use crate::texts::text_of;
 use ios_ast::File;
 use ios_reader::read_file;
@@ -46,8 +46,12 @@ fn files_of(alloc: Global, dice: &mut Dice, sketch: &Sketch) -> Result<List<File
     Ok(files)
 }
 
-fn random_net(alloc: Global, dice: &mut Dice, bgp: bool) -> Result<Option<Net>, AllocError> {
-    let sketch = make_sketch(alloc, dice, bgp)?;
+fn random_net(
+    alloc: Global,
+    dice: &mut Dice,
+    protocols: Protocols,
+) -> Result<Option<Net>, AllocError> {
+    let sketch = make_sketch(alloc, dice, protocols)?;
     let files = files_of(alloc, dice, &sketch)?;
     if files.as_slice().len() as u64 != u64::from(sketch.routers) {
         return Ok(None);
@@ -63,7 +67,7 @@ pub struct Case {
 }
 
 /// Up to two links that have failed.
-fn failed(alloc: Global, dice: &mut Dice, links: u32) -> Result<Failures, AllocError> {
+pub fn random_failures(alloc: Global, dice: &mut Dice, links: u32) -> Result<Failures, AllocError> {
     let mut down = List::new(alloc);
     let first = dice.roll(links);
     let second = dice.roll(links);
@@ -81,12 +85,12 @@ fn failed(alloc: Global, dice: &mut Dice, links: u32) -> Result<Failures, AllocE
 pub fn random_case(
     alloc: Global,
     dice: &mut Dice,
-    speaks_bgp: bool,
+    protocols: Protocols,
 ) -> Result<Option<Case>, AllocError> {
-    match random_net(alloc, dice, speaks_bgp)? {
+    match random_net(alloc, dice, protocols)? {
         None => Ok(None),
         Some(net) => {
-            let failures = failed(alloc, dice, net.links().len() as u32)?;
+            let failures = random_failures(alloc, dice, net.links().len() as u32)?;
             Ok(Some(Case { net, failures }))
         }
     }

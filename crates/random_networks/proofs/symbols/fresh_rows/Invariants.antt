@@ -1,7 +1,7 @@
 use Rattle.std.proofs.Common.{◌≤◌}
 use Rattle.sym_ospf.specs.Routes.{routes_end}
 use Rattle.term_store.specs.Terms.{size}
-use Rattle.examples_twins.proofs.symbols.fresh_rows.Given as goal
+use Rattle.random_networks.proofs.symbols.fresh_rows.Given as goal
 
 abbrev pub invariant-loop-place : goal.invariant-loop-place
 invariant-loop-place l = record {

@@ -1,15 +1,39 @@
 //! What a random network has.
 
-ghost use Rattle.std.specs.Prelude.{◌<◌};
+ghost use Rattle.std.specs.Prelude.{◌<◌, ◌≤◌};
 
 use crate::dice::Dice;
 use std::alloc::{AllocError, Global};
+
+/// Of what a network is made besides interfaces, access lists and static routes.
+#[derive(Clone, Copy, PartialEq, Eq)]
+pub enum Protocols {
+    /// OSPF.
+    Interior,
+    /// OSPF, and sessions of BGP.
+    Sessions,
+    /// Both, and what routers take from their own tables into each, through route maps.
+    Origins,
+}
+
+impl Protocols {
+    // How many routers there are at most.
+    fn most_routers(self) -> u32
+        ensures { result ≤ 5 }
+    {
+        match self {
+            Protocols::Interior => 5,
+            Protocols::Sessions => 5,
+            Protocols::Origins => 4,
+        }
+    }
+}
 
 /// Which routers there are, which pairs share a subnet or speak BGP, and which routers have a loopback or run OSPF.
 #[derive(Drop)]
 pub struct Sketch {
     pub routers: u32,
-    pub speaks_bgp: bool,
+    pub protocols: Protocols,
     links: Vec<bool>,
     sessions: Vec<u32>,
     loopbacks: Vec<bool>,
@@ -28,6 +52,15 @@ fn is_set(flags: &[bool], place: u32) -> bool {
 }
 
 impl Sketch {
+    pub fn speaks_bgp(&self) -> bool {
+        self.protocols != Protocols::Interior
+    }
+
+    /// Whether routers take routes from their own tables into OSPF and BGP.
+    pub fn has_origins(&self) -> bool {
+        self.protocols == Protocols::Origins
+    }
+
     pub fn are_linked(&self, a: u32, b: u32) -> bool {
         a != b && is_set(self.links.as_slice(), pair(a, b))
     }
@@ -85,10 +118,14 @@ fn ways(alloc: Global, dice: &mut Dice) -> Result<Vec<u32>, AllocError> {
 }
 
 /// A random network of 2 to 5 routers.
-pub fn make_sketch(alloc: Global, dice: &mut Dice, speaks_bgp: bool) -> Result<Sketch, AllocError> {
+pub fn make_sketch(
+    alloc: Global,
+    dice: &mut Dice,
+    protocols: Protocols,
+) -> Result<Sketch, AllocError> {
     Ok(Sketch {
-        routers: dice.roll(4) + 2,
-        speaks_bgp,
+        routers: dice.roll(protocols.most_routers().saturating_sub(1)) + 2,
+        protocols,
         links: links(alloc, dice)?,
         sessions: ways(alloc, dice)?,
         loopbacks: mostly(alloc, dice)?,

@@ -112,3 +112,16 @@ pub fn ospf_at(found: &[bool], route: &SymOspf) -> Option<OspfRec> {
         cost: number_at(found, &route.cost),
     })
 }
+
+/// The number of up to 128 nodes.
+pub fn wide_at(found: &[bool], bits: &Bits) -> u128 {
+    let mut number = 0u128;
+    let mut weight = 1u128;
+    for node in bits.nodes.as_slice() {
+        if value_of(found, *node) {
+            number = number.wrapping_add(weight);
+        }
+        weight = weight.wrapping_mul(2);
+    }
+    number
+}

@@ -1,7 +1,9 @@
 //! The configurations of a random network.
 
 use crate::dice::Dice;
+use crate::policies::put_policies;
 use crate::sketches::{Sketch, pair};
+use crate::taking::{put_into_bgp, put_into_ospf};
 use std::alloc::{AllocError, Global};
 use std::fmt::Write;
 
@@ -16,10 +18,10 @@ fn put_options(text: &mut String, dice: &mut Dice) -> Result<(), AllocError> {
         let cost = dice.roll(9) + 1;
         write!(text, " ip ospf cost {cost}\n")?;
     }
-    if dice.hits(6) {
+    if dice.hits(5) {
         text.push_str(" ip access-group 101 in\n")?;
     }
-    if dice.hits(6) {
+    if dice.hits(5) {
         text.push_str(" ip access-group 101 out\n")?;
     }
     if dice.hits(12) {
@@ -58,7 +60,7 @@ fn put_own(text: &mut String, sketch: &Sketch, router: u32) -> Result<(), AllocE
             "interface Loopback0\n ip address 10.9.0.{router} 255.255.255.255\n"
         )?;
     }
-    if sketch.speaks_bgp {
+    if sketch.speaks_bgp() {
         text.push_str("interface GigabitEthernet0/9\n")?;
         write!(text, " ip address 10.1.{router}.1 255.255.255.252\n")?;
     }
@@ -86,7 +88,38 @@ fn put_prefix(text: &mut String, dice: &mut Dice, sketch: &Sketch) -> Result<(),
     }
 }
 
-// A static route over a neighbour, or to Null0 where the router that came up is none.
+// The host to which a static route sends: the neighbour, and sometimes one that nobody is.
+fn next_host(dice: &mut Dice, router: u32, over: u32) -> u32 {
+    if dice.hits(6) { 3 } else { host(over, router) }
+}
+
+// The router over which a static route goes: a neighbour that came up, or else the next router.
+fn way(dice: &mut Dice, sketch: &Sketch, router: u32) -> u32 {
+    let over = dice.roll(sketch.routers);
+    if sketch.are_linked(router, over) {
+        over
+    } else {
+        (router % 8 + 1) % sketch.routers.max(1)
+    }
+}
+
+// Over a neighbour, or to Null0: sometimes, and where the router that came up is no neighbour.
+fn put_way(
+    text: &mut String,
+    dice: &mut Dice,
+    sketch: &Sketch,
+    router: u32,
+) -> Result<(), AllocError> {
+    let over = way(dice, sketch, router);
+    if !sketch.are_linked(router, over) || dice.hits(6) {
+        return text.push_str(" Null0");
+    }
+    let subnet = pair(router, over);
+    let host = next_host(dice, router, over);
+    write!(text, " 10.0.{subnet}.{host}")
+}
+
+// A static route of some distance.
 fn put_static(
     text: &mut String,
     dice: &mut Dice,
@@ -94,25 +127,24 @@ fn put_static(
     router: u32,
 ) -> Result<(), AllocError> {
     put_prefix(text, dice, sketch)?;
-    let over = dice.roll(sketch.routers);
-    if sketch.are_linked(router, over) {
-        let subnet = pair(router, over);
-        let host = host(over, router);
-        write!(text, " 10.0.{subnet}.{host}")?;
-    } else {
-        text.push_str(" Null0")?;
-    }
+    put_way(text, dice, sketch, router)?;
     let distance = [1, 1, 5, 150, 255].get(dice.roll(5) as usize).copied();
     let distance = distance.unwrap_or(1);
     write!(text, " {distance}\n")
 }
 
+// Some static routes, and half of the time a default route before them.
 fn put_statics(
     text: &mut String,
     dice: &mut Dice,
     sketch: &Sketch,
     router: u32,
 ) -> Result<(), AllocError> {
+    if dice.hits(2) {
+        text.push_str("ip route 0.0.0.0 0.0.0.0")?;
+        put_way(text, dice, sketch, router)?;
+        text.push_str("\n")?;
+    }
     for _line in 0..dice.roll(4) {
         put_static(text, dice, sketch, router)?;
     }
@@ -137,6 +169,9 @@ fn put_ospf(
     if sketch.are_linked(router, 0) && dice.hits(6) {
         text.push_str(" passive-interface GigabitEthernet0/0\n")?;
     }
+    if sketch.has_origins() {
+        put_into_ospf(text, dice)?;
+    }
     Ok(())
 }
 
@@ -158,11 +193,16 @@ fn put_neighbour(
     Ok(())
 }
 
-fn put_bgp(text: &mut String, sketch: &Sketch, router: u32) -> Result<(), AllocError> {
-    if !sketch.speaks_bgp {
-        return Ok(());
-    }
+fn put_bgp(
+    text: &mut String,
+    dice: &mut Dice,
+    sketch: &Sketch,
+    router: u32,
+) -> Result<(), AllocError> {
     text.push_str("router bgp 65000\n")?;
+    if sketch.has_origins() {
+        put_into_bgp(text, dice, sketch, router)?;
+    }
     write!(text, " neighbor 10.1.{router}.2 remote-as 65001\n")?;
     for other in 0..sketch.routers {
         if other != router {
@@ -185,7 +225,12 @@ pub fn text_of(
     put_own(&mut text, sketch, router)?;
     put_list(&mut text, dice)?;
     put_statics(&mut text, dice, sketch, router)?;
+    if sketch.has_origins() {
+        put_policies(&mut text, dice)?;
+    }
     put_ospf(&mut text, dice, sketch, router)?;
-    put_bgp(&mut text, sketch, router)?;
+    if sketch.speaks_bgp() {
+        put_bgp(&mut text, dice, sketch, router)?;
+    }
     Ok(text)
 }

@@ -1,0 +1,57 @@
+#!/bin/sh
+# Prints how many nodes the walks of two questions take as terms, beside the variables, and in what time, where slots hold
+# routes at one prefix length alone: rings of 8, 16, 32 and 64 routers and a full mesh of 8, all with OSPF. The first question
+# looks for walks of one hop, the second for walks of as many hops as there are routers. Behind them stand the nodes of the
+# second divided by the routers times the hops, and those that it has more than the first, divided likewise: for n routers
+# with so many interfaces each and m hops the terms grow as n times m.
+# The program is proved and built in a folder of its own, from a copy of the crates; PROGRAM names one that was built before.
+# Needs Python 3.
+set -e
+top=$(cd "$(dirname "$0")/../.." && pwd)
+if [ -z "${PROGRAM:-}" ]; then
+    work=$(mktemp -d)
+    trap 'rm -rf "$work"' EXIT
+    walks=$work/crates/walk_nodes
+    mkdir -p "$walks/src" "$walks/specs"
+    for crate in mw_text ios_ast route_record term_store term_arith ios_policy_reader ios_reader net_model policy_eval \
+        question_lang proto_ospf walk_def sym_policy sym_ospf sym_rib sym_walk random_networks; do
+        cp -r "$top/crates/$crate" "$work/crates/$crate"
+        grep "^$crate:" "$top/crates.txt" >> "$work/crates.txt"
+    done
+    # The world of new variables, and its proof.
+    cp "$top/crates/examples_worlds/src/symbolic.rt" "$walks/src/symbolic.rt"
+    cp "$top/crates/examples_worlds/specs/Lib.antt" "$walks/specs/Lib.antt"
+    cp -r "$top/crates/examples_worlds/proofs" "$walks/proofs"
+    find "$walks/proofs" -name '*.antt' -exec sed -i 's/Rattle\.examples_worlds\./Rattle.walk_nodes./' {} +
+    cp "$top/bench/walks/main.rt.in" "$walks/src/main.rt"
+    printf 'walk_nodes: random_networks sym_walk question_lang sym_rib sym_policy net_model term_arith term_store route_record mw_text\n' \
+        >> "$work/crates.txt"
+    cd "$walks"
+    rt run > "$work/log" 2>&1 < /dev/null || { cat "$work/log"; exit 1; }
+    PROGRAM=$walks/out/walk_nodes
+fi
+for network in 'ring 8' 'ring 16' 'ring 32' 'ring 64' 'mesh 8'; do
+    python3 - $network <<'END' | "$PROGRAM"
+import sys
+
+shape, count = sys.argv[1], int(sys.argv[2])
+if shape == "ring":
+    links = [(r, (r + 1) % count) for r in range(count)]
+else:
+    links = [(a, b) for a in range(count) for b in range(a + 1, count)]
+held = {}
+for link, (a, b) in enumerate(links):
+    held.setdefault(a, []).append((link, 1))
+    held.setdefault(b, []).append((link, 2))
+for router in range(count):
+    print("%")
+    print(f"hostname R{router}")
+    for at, (link, side) in enumerate(held[router]):
+        print(f"interface GigabitEthernet0/{at}")
+        print(f" ip address 10.200.{link}.{side} 255.255.255.252")
+    print("interface Loopback0")
+    print(f" ip address 10.100.{router}.1 255.255.255.255")
+    print("router ospf 1")
+    print(" network 10.0.0.0 0.255.255.255 area 0")
+END
+done
