@@ -64,7 +64,7 @@ struct Column {
 }
 
 // The routes that OSPF makes for the prefix, as ones of some kind.
-fn column(
+fn make_column(
     alloc: Global,
     dice: &mut Dice,
     net: &Net,
@@ -90,7 +90,7 @@ fn columns(
 ) -> Result<Vec<Column>, AllocError> {
     let mut all = Vec::new(alloc);
     for len in HELD {
-        all.push(column(alloc, dice, net, failures, making, prefix_of(dst, len))?)?;
+        all.push(make_column(alloc, dice, net, failures, making, prefix_of(dst, len))?)?;
     }
     Ok(all)
 }

@@ -1,6 +1,6 @@
 //! Parts of a symbolic BGP route: all 0, or of new variables.
 
-ghost use Rattle.std.specs.Prelude.{◌≡◌, ◌≤◌, ◌<◌, ℕ, IfOk, length, max};
+ghost use Rattle.std.specs.Prelude.{◌≡◌, ◌≤◌, ◌<◌, IfOk, length, max};
 ghost use Rattle.term_store.specs.Terms.{size};
 ghost use Rattle.term_arith.specs.Bits.{ids_end};
 ghost use Rattle.sym_policy.specs.Held.{bgp_end};
@@ -152,8 +152,9 @@ pub fn fresh_others(
     })
 }
 
-/// The route of these parts, which is there where a node is true.
+/// The route of these parts, all nodes of the store, which is there where a node is true.
 pub fn assembled(
+    terms: &Terms,
     valid: NodeId,
     from: Bits,
     preferences: Preferences,
@@ -161,15 +162,18 @@ pub fn assembled(
     others: Others,
 ) -> SymBgp
     requires wide { length from.nodes ≡ 33 }
-    ensures within { (n : ℕ) → valid.0 < n → ids_end from.nodes ≤ n →
-        max (max (ids_end preferences.weight.nodes) (ids_end preferences.local_pref.nodes))
-        (max (ids_end preferences.med.nodes) (ids_end preferences.origin.nodes)) ≤ n →
-        max (max (ids_end path.len.nodes) (ids_end path.first.nodes))
-        (max (ids_end path.last.nodes) (ids_end path.numbers.nodes)) ≤ n →
-        max (max (ids_end others.communities.nodes) (ids_end others.next_hop.nodes))
+    requires valid { valid.0 < size terms.now }
+    requires from { ids_end from.nodes ≤ size terms.now }
+    requires preferences { max (max (ids_end preferences.weight.nodes) (ids_end preferences.local_pref.nodes))
+        (max (ids_end preferences.med.nodes) (ids_end preferences.origin.nodes)) ≤ size terms.now }
+    requires path { max (max (ids_end path.len.nodes) (ids_end path.first.nodes))
+        (max (ids_end path.last.nodes) (ids_end path.numbers.nodes)) ≤ size terms.now }
+    requires others { max (max (ids_end others.communities.nodes) (ids_end others.next_hop.nodes))
         (max (ids_end others.originator.nodes) (max (ids_end others.cluster_len.nodes) (ids_end others.clusters.nodes)))
-        ≤ n → bgp_end result ≤ n }
+        ≤ size terms.now }
+    ensures within { bgp_end result ≤ size terms.now }
 {
+    let _size = terms.len();
     SymBgp {
         valid,
         weight: preferences.weight,

@@ -33,7 +33,7 @@ pub fn bgp_from(
     let preferences = no_preferences(alloc, terms)?;
     let path = no_path(alloc, terms, numbers)?;
     let others = no_others(alloc, terms, communities)?;
-    Ok(assembled(valid, from, preferences, path, others))
+    Ok(assembled(terms, valid, from, preferences, path, others))
 }
 
 /// A BGP route of new variables, one for each value that is tracked.
@@ -49,5 +49,5 @@ pub fn fresh_bgp(alloc: Global, terms: &mut Terms, tracked: &Tracked) -> Result<
     let preferences = fresh_preferences(alloc, terms)?;
     let path = fresh_path(alloc, terms, numbers)?;
     let others = fresh_others(alloc, terms, communities, clusters)?;
-    Ok(assembled(valid, from, preferences, path, others))
+    Ok(assembled(terms, valid, from, preferences, path, others))
 }
