@@ -1,7 +1,7 @@
 #!/bin/sh
 # Times the proved program on a question about any one failed link, over rings of 4 to 64 routers, a full mesh of 8, and grids
 # of 3 by 3, 4 by 4 and 8 by 8 that run OSPF; the same with one learnt clause at most, which is the encoding; and minisat, cadical
-# and z3, those that are there, on the same clauses. A run longer than two minutes is cut. Needs the proved program (.ci/run
+# and z3, those that are there, on the same clauses, in seconds of processor. A run of more than two minutes is cut. Needs the proved program (.ci/run
 # or ./mw --proved), Python 3 and GNU time.
 set -eu
 top=$(cd -P -- "$(dirname -- "$0")/.." && pwd -P)
@@ -52,16 +52,16 @@ clauses() {
 # The seconds that a solver takes for the clauses.
 solved() {
     if command -v "$1" >/dev/null; then
-        timeout 120 /usr/bin/time -o "$dir/time" -f '%e s' "$@" >/dev/null 2>&1 || true
+        timeout 120 /usr/bin/time -o "$dir/time" -f '%U s' "$@" >/dev/null 2>&1 || true
         printf ', %s %s' "$1" "$(tail -n 1 "$dir/time")"
     fi
 }
 
 for network in "$dir"/*; do
     printf '%s: ' "$(basename "$network")"
-    timeout 120 /usr/bin/time -f '%e s, %M KB' "$program" --log "$network/log" verify "$network/questions.txt" \
+    timeout 120 /usr/bin/time -f '%U s, %M KB' "$program" --log "$network/log" verify "$network/questions.txt" \
         "$network"/*.cfg 2>&1 | tr '\n' ' '
-    /usr/bin/time -o "$dir/time" -f '%e s' "$program" verify --conflicts 1 "$network/questions.txt" "$network"/*.cfg \
+    /usr/bin/time -o "$dir/time" -f '%U s' "$program" verify --conflicts 1 "$network/questions.txt" "$network"/*.cfg \
         >/dev/null || true
     printf 'encoded in %s, ' "$(tail -n 1 "$dir/time")"
     printf '%s clauses, %s learnt' "$(grep -c '^i' "$network/log")" "$(grep -c '^a' "$network/log")"

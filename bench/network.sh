@@ -53,7 +53,7 @@ END
 run() {
     files=$(cd "$dir" && ls "$2"-*.cfg | sort -V)
     echo "for _ in 1 2 3 4 5 6 7 8 9 10; do $program verify $1" $files ">/dev/null; done" >"$dir/ten"
-    (cd "$dir" && /usr/bin/time -f "%e s, %M KB" sh ./ten) 2>&1 | tail -1
+    (cd "$dir" && /usr/bin/time -f "%U s of processor, %e s by the clock, %M KB" sh ./ten) 2>&1 | tail -1
 }
 for set in ring16 ring32 ring64 lists8 lists16 lists32; do
     echo "$set, a question that is refused once the network is built, ten times: $(run none.txt "$set")"
