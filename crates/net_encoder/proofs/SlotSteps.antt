@@ -1,6 +1,6 @@
 -- Slots of a routing, one after another.
 use Rattle.std.proofs.Common.{◌≡◌, ℕ, zero, suc, ◌+◌, ◌/◌, ◌%◌, ◌<◌, ◌≤◌, Bool, true, ◌&&◌, List, [], ◌∷◌, ◌++◌, length}
-use Rattle.std.proofs.Common.{drop, get_or, map, max, Option, Some, None, refl, sym, ap, arith, ◌∙◌}
+use Rattle.std.proofs.Common.{drop, get_or, map, Option, Some, None, refl, sym, ap, arith, ◌∙◌}
 use Rattle.std.specs.Prelude.{slice_get}
 use Rattle.std.proofs.lemmas.Grind.{common_steps}
 use Rattle.std.proofs.lemmas.List.{append_assoc, append-nil, drop_all, map-append}
@@ -17,8 +17,7 @@ use Rattle.term_store.specs.Terms.{Reading}
 use Rattle.sym_policy.specs.Held.{bgp_of}
 use Rattle.sym_rib.specs.declared.slots.SymSlot.{SymSlot}
 use Rattle.sym_rib.specs.Into.{HasTracked}
-use Rattle.sym_rib.specs.Slots.{slot_end}
-use Rattle.sym_walk.specs.Worlds.{slots_end, slot_of as slot_read}
+use Rattle.sym_walk.specs.Worlds.{slot_of as slot_read}
 use Rattle.net_encoder.specs.declared.opens.SymOpen.{SymOpen}
 use Rattle.net_encoder.specs.Equations.{AreBare, HaveTracked}
 use Rattle.net_encoder.specs.Slots.{all_hold, slot_holds, slot_of, slots_of}
@@ -27,10 +26,6 @@ use Rattle.net_encoder.specs.Unknowns.{Unknown}
 use Rattle.net_encoder.proofs.EquationSteps.{items_at}
 
 -- ---- making slots
-
-pub slots_end_push : (xs : List SymSlot) (x : SymSlot) → slots_end (xs ++ x ∷ []) ≡ max (slots_end xs) (slot_end x)
-slots_end_push [] x = omega arith
-slots_end_push (y ∷ xs) x = let rest = slots_end_push xs x in omega (arith, rest)
 
 pub slots_push : (w : Reading) (xs : List SymSlot) (x : SymSlot) →
     map (slot_read w) (xs ++ x ∷ []) ≡ map (slot_read w) xs ++ slot_read w x ∷ []

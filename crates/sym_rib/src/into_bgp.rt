@@ -36,18 +36,8 @@ use route_record::{Origin, Tracked};
 use std::alloc::{AllocError, Global};
 use sym_policy::{SymBgp, SymMapRec};
 use term_arith::Bits;
-use term_store::{Node, NodeId, Terms};
-
-/// Whether a node is known to be false.
-fn is_never(terms: &Terms, id: NodeId) -> bool
-    requires { id.0 < size terms.now }
-    ensures { result ≡ true → (w : Reading) → Reads w terms.now → at w id ≡ false }
-{
-    match terms.get(id) {
-        Node::Const(value) => !value,
-        _ => false,
-    }
-}
+use term_arith::gates::is_never;
+use term_store::{NodeId, Terms};
 
 /// A local route before the map of its line, which is there where its metric is.
 fn local_rec(

@@ -1,6 +1,6 @@
 -- Over which adjacencies an OSPF entry sends, one adjacency at a time.
 use Rattle.std.proofs.Common.{◌≡◌, ℕ, zero, suc, ◌-◌, ◌<◌, ◌≤◌, Bool, true, false, ◌&&◌, cond, List, [], ◌∷◌}
-use Rattle.std.proofs.Common.{◌++◌, length, get_or, drop, Option, Some, None, refl, sym, ap, arith, rules}
+use Rattle.std.proofs.Common.{◌++◌, length, get_or, drop, max, Option, Some, None, refl, sym, ap, arith, rules}
 use Rattle.std.specs.Prelude.{filter, map, slice_get, option_copied, option_map, IfSome}
 use Rattle.std.specs.Borrow.{Bor}
 use Rattle.std.specs.Option.{option_map_or}
@@ -44,6 +44,11 @@ pub slot_bounded : (slots : List SymSlot) (place : ℕ) (o : Option (Bor SymSlot
     option_copied o ≡ slice_get slots place → IfSome o (λ r. slot_end r.now ≤ slots_end slots)
 slot_bounded slots place None h = search rules
 slot_bounded slots place (Some r) h = slots_end_at slots place r.now (sym h)
+
+-- the end of the slots with one more
+pub slots_end_push : (xs : List SymSlot) (x : SymSlot) → slots_end (xs ++ x ∷ []) ≡ max (slots_end xs) (slot_end x)
+slots_end_push [] x = omega arith
+slots_end_push (y ∷ xs) x = let rest = slots_end_push xs x in omega (arith, rest)
 
 -- what the first of some items gives that pass two tests
 mapped_twice : {A B : Type 0} (f : A → B) (q p : A → Bool) (x : A) (xs : List A) →

@@ -9,19 +9,8 @@ ghost use Rattle.sym_walk.specs.Symbolic.{edge_of, edges_of, edges_end, forwardi
 use crate::forwarding::{SymEdge, SymForwarding};
 use mw_text::List;
 use std::alloc::{AllocError, Global};
-use term_arith::gates::{both, either, negate, select};
-use term_store::{Node, NodeId, Terms};
-
-/// Whether the node is the constant false.
-pub(crate) fn is_never(terms: &Terms, node: NodeId) -> bool
-    requires { node.0 < size terms.now }
-    ensures { result ≡ true → (w : Reading) → Reads w terms.now → at w node ≡ false }
-{
-    match terms.get(node) {
-        Node::Const(value) => !value,
-        _ => false,
-    }
-}
+use term_arith::gates::{both, either, is_never, negate, select};
+use term_store::{NodeId, Terms};
 
 // Puts an edge at the end, unless it never counts.
 #[tactic(auto, using(crate::proofs::Chosen::put_steps))]

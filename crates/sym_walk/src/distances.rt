@@ -14,13 +14,12 @@ ghost use Rattle.term_store.specs.Terms.{Reading, size, at};
 ghost use Rattle.term_store.specs.Reading.{Reads, Builds, Gives};
 ghost use Rattle.term_arith.specs.Bits.{ids_end};
 
-use crate::choices::is_never;
 use crate::prefixes::sym_covers;
 use mw_text::Prefix;
 use net_model::{Adjacency, Net};
 use std::alloc::{AllocError, Global};
 use sym_policy::{SymNet, SymOspf};
-use term_arith::gates::{both, constant_node, select};
+use term_arith::gates::{both, constant_node, is_never, select};
 use term_arith::{Bits, add_within, constant, equal};
 use term_store::{NodeId, Terms};
 

@@ -19,7 +19,6 @@ ghost use Rattle.term_store.specs.Reading.{Reads, Builds, Gives};
 ghost use Rattle.term_arith.specs.Bits.{ids_end};
 
 use crate::aims::SymAim;
-use crate::choices::is_never;
 use crate::firsts::{SymFirst, first_else, first_or, no_first};
 use crate::forwarding::SymForwarding;
 use crate::lists::{sym_arrive, sym_depart};
@@ -31,6 +30,7 @@ use net_model::{Addressed, Net};
 use std::alloc::{AllocError, Global};
 use sym_policy::{SymNet, SymPacket};
 use term_arith::Bits;
+use term_arith::gates::is_never;
 use term_store::Terms;
 
 // One more interface, which may have the address on the subnet.

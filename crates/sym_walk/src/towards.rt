@@ -25,7 +25,7 @@ ghost use Rattle.term_arith.specs.Bits.{ids_end};
 
 use crate::adjacent::sym_send_adjacent;
 use crate::aims::SymAim;
-use crate::choices::{choose_forwarding, is_never, join_forwarding};
+use crate::choices::{choose_forwarding, join_forwarding};
 use crate::distances::sym_leads;
 use crate::entries::still;
 use crate::firsts::first_else;
@@ -36,7 +36,7 @@ use net_model::{Adjacency, Net};
 use std::alloc::{AllocError, Global};
 use sym_policy::{SymBgp, SymNet, SymPacket};
 use term_arith::Bits;
-use term_arith::gates::both;
+use term_arith::gates::{both, is_never};
 use term_store::{NodeId, Terms};
 
 // Whether the adjacency is one of the router that is up, and leads to the address.

@@ -1,6 +1,6 @@
 //! Gates over nodes. Constants fold, equal operands and a node with its negation too, and a double negation vanishes.
 
-ghost use Rattle.std.specs.Prelude.{◌≡◌, ℕ, ◌+◌, ◌<◌, ◌≤◌, Bool, true, not, ◌&&◌, ◌||◌, if◌then◌else◌, IfOk, IfSome};
+ghost use Rattle.std.specs.Prelude.{◌≡◌, ℕ, ◌+◌, ◌<◌, ◌≤◌, Bool, false, true, not, ◌&&◌, ◌||◌, if◌then◌else◌, IfOk, IfSome};
 ghost use Rattle.term_arith.specs.Gates.{Ties};
 ghost use Rattle.term_store.specs.Terms.{Reading, size, at, differ};
 ghost use Rattle.term_store.specs.Reading.{Reads, Builds, Gives};
@@ -44,6 +44,15 @@ fn is_negation(terms: &Terms, a: NodeId, b: NodeId) -> bool
     }
 }
 
+/// Whether one of two nodes is the negation of the other.
+fn are_opposite(terms: &Terms, a: NodeId, b: NodeId) -> bool
+    requires first { a.0 < size terms.now }
+    requires second { b.0 < size terms.now }
+    ensures { result ≡ true → (w : Reading) → Reads w terms.now → at w a ≡ not (at w b) }
+{
+    is_negation(terms, a, b) || is_negation(terms, b, a)
+}
+
 /// How the values of two nodes hang together.
 fn tie_of(terms: &Terms, a: NodeId, b: NodeId) -> Tie
     requires first { a.0 < size terms.now }
@@ -59,10 +68,18 @@ fn tie_of(terms: &Terms, a: NodeId, b: NodeId) -> Tie
     if a == b {
         return Tie::Same;
     }
-    if is_negation(terms, a, b) || is_negation(terms, b, a) {
+    if are_opposite(terms, a, b) {
         return Tie::Opposite;
     }
     Tie::Free
+}
+
+/// Whether the node is the constant false.
+pub fn is_never(terms: &Terms, node: NodeId) -> bool
+    requires { node.0 < size terms.now }
+    ensures { result ≡ true → (w : Reading) → Reads w terms.now → at w node ≡ false }
+{
+    known(terms, node) == Some(false)
 }
 
 /// A constant.
@@ -187,6 +204,8 @@ pub fn select(terms: &mut Terms, c: NodeId, a: NodeId, b: NodeId) -> Result<Node
         Tie::Opposite => differs(terms, c, b),
         Tie::Free if a == c => either(terms, c, b),
         Tie::Free if b == c => both(terms, c, a),
+        Tie::Free if are_opposite(terms, a, c) => both(terms, a, b),
+        Tie::Free if are_opposite(terms, b, c) => either(terms, b, a),
         Tie::Free => terms.add(Node::Ite(c, a, b)),
     }
 }

@@ -10,7 +10,8 @@ use Rattle.net_encoder.specs.declared.opens.SymOpen.{SymOpen}
 use Rattle.net_encoder.specs.Equations.{AreBare, HaveTracked}
 use Rattle.net_encoder.specs.Slots.{slots_of}
 use Rattle.net_encoder.specs.Symbols.{open_of}
-use Rattle.net_encoder.proofs.SlotSteps.{bare_push, slots_end_push, slots_next, slots_push, tracked_push}
+use Rattle.net_encoder.proofs.SlotSteps.{bare_push, slots_next, slots_push, tracked_push}
+use Rattle.sym_walk.proofs.OfferedHops.{slots_end_push}
 use Rattle.net_encoder.proofs.slots.slots.Goals as goal
 
 pub loop-place-preserved : goal.loop-place-preserved
