@@ -1,6 +1,6 @@
 //! To the router that has an address on a subnet, as forwardings.
 
-ghost use Rattle.std.specs.Prelude.{◌≡◌, ℕ, ◌+◌, ◌<◌, ◌≤◌, ◌==◌, ◌&&◌, Bool, IfOk, [], ◌∷◌, if◌then◌else◌};
+ghost use Rattle.std.specs.Prelude.{◌≡◌, ℕ, ◌+◌, ◌<◌, ◌≤◌, ◌==◌, ◌&&◌, Bool, IfOk, OnOk, [], ◌∷◌, if◌then◌else◌};
 ghost use Rattle.mw_text.specs.Address.{same_prefix};
 ghost use Rattle.net_model.specs.Interfaces.{addressed};
 ghost use Rattle.net_model.specs.World.{is_up};
@@ -55,8 +55,8 @@ pub(crate) fn sym_has(
     both(terms, up, same)
 }
 
-// In at the interface, where it is up and has the address on the subnet, and else on as given.
-fn sym_owner_or(
+// In at the interface, where it is up and has the address on the subnet, in place of what was given.
+fn put_owner(
     alloc: Global,
     terms: &mut Terms,
     net: &Net,
@@ -66,28 +66,29 @@ fn sym_owner_or(
     subnet: &Prefix,
     a: &Bits,
     x: &Addressed,
-    rest: SymForwarding,
-) -> Result<SymForwarding, AllocError>
+    rest: &mut SymForwarding,
+) -> Result<(), AllocError>
     requires downs { ids_end sym.now.down ≤ size terms.old }
     requires packet { packet_end packet.now ≤ size terms.old }
     requires aim { aim.now.here.0 < size terms.old }
     requires nodes { ids_end a.now.nodes ≤ size terms.old }
-    requires rest { forwarding_end rest ≤ size terms.old }
+    requires rest { forwarding_end rest.old ≤ size terms.old }
     ensures builds { Builds terms.old terms.new }
-    ensures within { IfOk result (λ r. forwarding_end r ≤ size terms.new) }
-    ensures value { Gives terms.new result (λ w r. (hop : HopOf) →
-        IsTwin (sought_by w aim.now) (hop ∷ []) (forwarding_of w rest)
+    ensures within { OnOk result (forwarding_end rest.new ≤ size terms.new) }
+    ensures value { Gives terms.new result (λ w _. (hop : HopOf) →
+        IsTwin (sought_by w aim.now) (hop ∷ []) (forwarding_of w rest.old)
         → IsTwin (sought_by w aim.now) ((if is_up net.now (failures_of w sym.now) x.now && has_address subnet.now
         (address_of w a.now) x.now
-        then hops.arrive net.now (packet_of w packet.now) x.now.id else hop) ∷ []) (forwarding_of w r)) }
+        then hops.arrive net.now (packet_of w packet.now) x.now.id else hop) ∷ []) (forwarding_of w rest.new)) }
 {
     if x.subnet != *subnet {
-        return Ok(rest);
+        return Ok(());
     }
     let here = sym_has(alloc, terms, net, sym, subnet, a, x)?;
     let to = sym_arrive(alloc, terms, net, packet, aim, x.id)?;
-    let made = choose_forwarding(alloc, terms, here, &to, &rest)?;
-    Ok(made)
+    let made = choose_forwarding(alloc, terms, here, &to, rest)?;
+    *rest = made;
+    Ok(())
 }
 
 /// In at the first interface of the network that is up and has the address on the subnet, and else on as given.
@@ -118,8 +119,8 @@ pub(crate) fn sym_owner(
     let all = net.addresses();
     let mut rest = other;
     for i in (0..all.len()).rev() {
-        rest = sym_owner_or(
-            alloc, terms, net, sym, packet, aim, subnet, a, &all[i], rest,
+        put_owner(
+            alloc, terms, net, sym, packet, aim, subnet, a, &all[i], &mut rest,
         )?;
     }
     Ok(rest)

@@ -22,8 +22,8 @@ loop-i-preserved c = record {
       let subnet = c.args.subnet.now in
       let a = address_of w c.args.a.now in
       let all = c.addresses-all.result.now in
-      let step = c.in_ok-rest.ensures in
-      let P : Hop → Type 0 = λ h. IsTwin (sought_by w c.args.aim.now) (h ∷ []) (forwarding_of w c.in_ok-rest.rest) in
+      let step = c.in_ok-put_owner.ensures in
+      let P : Hop → Type 0 = λ h. IsTwin (sought_by w c.args.aim.now) (h ∷ []) (forwarding_of w c.put_owner.new.rest) in
       subst P
       (sym (owner_back net failures packet subnet a hop all c.loop-i.i no_interface (omega arith) (omega arith)))
       (step.value w reads (owner_hop net failures packet subnet a hop (drop c.loop-i.i all))
