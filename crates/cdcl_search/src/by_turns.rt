@@ -1,4 +1,4 @@
-//! The search with a decider of its own.
+//! The search with deciders of its own.
 
 ghost use Rattle.std.specs.Prelude.{◌≡◌, ℕ, ◌+◌, ◌*◌, ◌≤◌, ◌^◌, true, IfOk, OnErr, length};
 ghost use Rattle.term_store.specs.Terms.{truth};
@@ -10,15 +10,16 @@ ghost use Rattle.cdcl_search.specs.Outcomes.{IsCut, IsLogged, OnLogFault, OnSat,
 use crate::outcome::{Outcome, SolveFault};
 use crate::solving::solve;
 use cnf_blaster::Cnf;
-use deciders::{Decider, ScoreDecider};
+use deciders::{Decider, OrderDecider, ScoreDecider};
 use mw_outside::Sink;
 use std::alloc::Global;
 
-/// Searches as `solve` does, by one decider that follows scores.
+/// Searches as `solve` does, by two deciders in turns: the first goes by the order of the variables, so that clauses
+/// whose first variables settle the others are searched over these alone; the second follows scores.
 ///
 /// # Errors
 /// Those of `solve`.
-pub fn solve_by_score<L: Sink>(
+pub fn solve_by_turns<L: Sink>(
     alloc: Global,
     cnf: &Cnf,
     budget: u64,
@@ -42,6 +43,7 @@ pub fn solve_by_score<L: Sink>(
 {
     let _clauses = cnf.clauses.as_slice();
     let mut deciders: Vec<Box<dyn Decider>> = Vec::new(alloc);
+    deciders.push(Box::new(alloc, OrderDecider::new())?)?;
     deciders.push(Box::new(alloc, ScoreDecider::new(alloc))?)?;
     solve(alloc, cnf, budget, log, &mut deciders)
 }

@@ -2,16 +2,16 @@
 //! clauses that anybody can check.
 #![tactic(auto)]
 
+mod by_turns;
 pub mod laws;
 mod learning;
 mod logging;
 mod outcome;
 mod reducing;
-mod scored;
 mod searching;
 mod solving;
 mod turns;
 
+pub use by_turns::solve_by_turns;
 pub use outcome::{Outcome, SolveFault};
-pub use scored::solve_by_score;
 pub use solving::solve;

@@ -19,7 +19,7 @@ ghost use Rattle.term_store.specs.Terms.{truth};
 
 use crate::formula::{Formula, formula_of};
 use crate::text::append;
-use cdcl_search::{Outcome, SolveFault, solve_by_score};
+use cdcl_search::{Outcome, SolveFault, solve_by_turns};
 use cex_json::{Counterexample, write_cex};
 use cnf_blaster::decoded;
 use mw_outside::Sink;
@@ -177,7 +177,7 @@ fn search<L: Sink>(
 {
     write_opening(alloc, question, log)?;
     let formula = formula_of(alloc, net, question)?;
-    let outcome = solve_by_score(alloc, &formula.cnf, budget, log)?;
+    let outcome = solve_by_turns(alloc, &formula.cnf, budget, log)?;
     write_end(log)?;
     Ok(Searched { formula, outcome })
 }

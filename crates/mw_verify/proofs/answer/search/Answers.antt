@@ -5,19 +5,19 @@ use Rattle.mw_verify.proofs.answer.search.Goals as goal
 pub returns-in_err-outcome-clause-cut : goal.returns-in_err-outcome-clause-cut
 returns-in_err-outcome-clause-cut g c =
     on_err _ (section_filled c.args.net.now c.args.question.now c.in_ok-formula.formula c.args.budget
-    (g.L.Sink.taken c.args.log.now) (g.L.Sink.taken c.write_opening.new.log) (g.L.Sink.taken c.solve_by_score.new.log)
+    (g.L.Sink.taken c.args.log.now) (g.L.Sink.taken c.write_opening.new.log) (g.L.Sink.taken c.solve_by_turns.new.log)
     c.in_ok-formula.ensures.formula c.in_ok-write_opening.ensures.takes c.in_err-outcome.ensures.cut)
 
 pub returns-in_err-write_end-clause-cut : goal.returns-in_err-write_end-clause-cut
 returns-in_err-write_end-clause-cut g c =
     on_err _ (section_closed c.args.net.now c.args.question.now c.in_ok-formula.formula c.args.budget
     c.in_ok-outcome.outcome (g.L.Sink.taken c.args.log.now) (g.L.Sink.taken c.write_opening.new.log)
-    (g.L.Sink.taken c.solve_by_score.new.log) (g.L.Sink.taken c.write_end.new.log) c.in_ok-formula.ensures.formula
+    (g.L.Sink.taken c.solve_by_turns.new.log) (g.L.Sink.taken c.write_end.new.log) c.in_ok-formula.ensures.formula
     c.in_ok-write_opening.ensures.takes c.in_ok-outcome.ensures.logged c.write_end.ensures.part)
 
 pub returns-clause-logged : goal.returns-clause-logged
 returns-clause-logged g c =
     section_stands c.args.net.now c.args.question.now c.in_ok-formula.formula c.args.budget c.in_ok-outcome.outcome
-    (g.L.Sink.taken c.args.log.now) (g.L.Sink.taken c.write_opening.new.log) (g.L.Sink.taken c.solve_by_score.new.log)
+    (g.L.Sink.taken c.args.log.now) (g.L.Sink.taken c.write_opening.new.log) (g.L.Sink.taken c.solve_by_turns.new.log)
     (g.L.Sink.taken c.write_end.new.log) c.in_ok-formula.ensures.formula c.in_ok-write_opening.ensures.takes
     c.in_ok-outcome.ensures.logged c.in_ok-write_end.ensures.takes
