@@ -19,3 +19,4 @@ pub mod BareSlots
 pub mod RoutingSteps
 pub mod Wanted
 pub mod DecodingSteps
+pub mod LevelSteps

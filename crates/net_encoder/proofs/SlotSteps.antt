@@ -18,6 +18,7 @@ use Rattle.sym_policy.specs.Held.{bgp_of}
 use Rattle.sym_rib.specs.declared.slots.SymSlot.{SymSlot}
 use Rattle.sym_rib.specs.Into.{HasTracked}
 use Rattle.sym_walk.specs.Worlds.{slot_of as slot_read}
+use Rattle.sym_walk.proofs.OfferedHops.{slots_end_push}
 use Rattle.net_encoder.specs.declared.opens.SymOpen.{SymOpen}
 use Rattle.net_encoder.specs.Equations.{AreBare, HaveTracked}
 use Rattle.net_encoder.specs.Slots.{all_hold, slot_holds, slot_of, slots_of}

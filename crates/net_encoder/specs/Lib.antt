@@ -4,6 +4,7 @@ pub mod Packets
 pub mod Failures
 pub mod Unknowns
 pub mod Slots
+pub mod Levels
 pub mod Rooms
 pub mod Breaking
 pub mod Worlds

@@ -21,37 +21,20 @@ ghost use Rattle.term_store.specs.Terms.{Reading, at, size};
 ghost use Rattle.term_store.specs.Reading.{Reads, Builds, Gives};
 ghost use Rattle.term_arith.specs.Bits.{ids_end};
 
-use crate::offers::with_offers;
+use crate::levels::sym_held;
 use crate::opens::SymOpen;
 use crate::origins::own_routes;
 use mw_text::List;
 use net_model::Net;
 use net_model::ends::file_of;
 use std::alloc::{AllocError, Global};
-use sym_ospf::{sym_best, sym_better, sym_same_record};
+use sym_ospf::sym_better;
 use sym_policy::{SymNet, SymOspf};
 use sym_rib::SymSlot;
 use sym_walk::slot_for;
 use term_arith::Bits;
 use term_arith::gates::{agree, both, constant_node, either, negate};
 use term_store::{NodeId, Terms};
-
-// Whether two routes are one, or neither is there.
-#[tactic(auto, using(crate::proofs::HoldingSteps::same_steps))]
-fn sym_same(terms: &mut Terms, a: &SymOspf, b: &SymOspf) -> Result<NodeId, AllocError>
-    requires first { ospf_end a.now ≤ size terms.old }
-    requires second { ospf_end b.now ≤ size terms.old }
-    ensures builds { Builds terms.old terms.new }
-    ensures within { IfOk result (λ r. r.0 < size terms.new) }
-    ensures value { Gives terms.new result (λ w r. at w r ≡ same_ospf (ospf_of w a.now) (ospf_of w b.now)) }
-{
-    let same = sym_same_record(terms, a, b)?;
-    let there = both(terms, a.valid, b.valid)?;
-    let one = both(terms, there, same)?;
-    let some = either(terms, a.valid, b.valid)?;
-    let gone = negate(terms, some)?;
-    either(terms, gone, one)
-}
 
 // Whether a route is there, and is as good as a held one.
 #[tactic(auto, using(crate::proofs::HoldingSteps::good_is))]
@@ -112,6 +95,7 @@ fn sym_wanted(
     len: u8,
     slot: &SymSlot,
     part: &SymOpen,
+    limits: &[u32],
 ) -> Result<NodeId, AllocError>
     requires long { len ≤ 32 }
     requires wide { length dst.now.nodes ≡ 32 }
@@ -133,9 +117,9 @@ fn sym_wanted(
 {
     let own = own_routes(alloc, terms, net, sym, router, dst, len, slot)?;
     let good = sym_as_good(terms, own.as_slice(), &part.ospf)?;
-    let all = with_offers(alloc, terms, net, sym, slots, router, dst, len, own)?;
-    let best = sym_best(alloc, terms, all.as_slice())?;
-    let held = sym_same(terms, &part.ospf, &best)?;
+    let held = sym_held(
+        alloc, terms, net, sym, slots, router, dst, len, own, &part.ospf, limits,
+    )?;
     let own_good = agree(terms, part.own, good)?;
     let wanted = both(terms, held, own_good)?;
     Ok(wanted)
@@ -165,6 +149,7 @@ fn sym_runs(
     dst: &Bits,
     len: u8,
     part: &SymOpen,
+    limits: &[u32],
 ) -> Result<NodeId, AllocError>
     requires long { len ≤ 32 }
     requires wide { length dst.now.nodes ≡ 32 }
@@ -185,7 +170,9 @@ fn sym_runs(
     match slot_for(slots, router, len) {
         None => constant_node(terms, false),
         Some(slot) => {
-            let made = sym_wanted(alloc, terms, net, sym, slots, router, dst, len, slot, part)?;
+            let made = sym_wanted(
+                alloc, terms, net, sym, slots, router, dst, len, slot, part, limits,
+            )?;
             Ok(made)
         }
     }
@@ -203,6 +190,7 @@ pub fn sym_slot_holds(
     dst: &Bits,
     len: u8,
     part: &SymOpen,
+    limits: &[u32],
 ) -> Result<NodeId, AllocError>
     requires long { len ≤ 32 }
     requires wide { length dst.now.nodes ≡ 32 }
@@ -224,7 +212,9 @@ pub fn sym_slot_holds(
         Some(file) => match &file.ospf {
             None => sym_closed(terms, part),
             Some(_) => {
-                let made = sym_runs(alloc, terms, net, sym, slots, router, dst, len, part)?;
+                let made = sym_runs(
+                    alloc, terms, net, sym, slots, router, dst, len, part, limits,
+                )?;
                 Ok(made)
             }
         },

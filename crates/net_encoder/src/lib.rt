@@ -5,6 +5,8 @@ pub mod decoding;
 mod encoding;
 mod holding;
 pub mod laws;
+mod levels;
+mod limits;
 mod links;
 mod offers;
 mod opens;

@@ -16,6 +16,7 @@ ghost use Rattle.term_store.specs.Terms.{Reading, at, size};
 ghost use Rattle.term_store.specs.Reading.{Reads, Builds, Gives};
 ghost use Rattle.term_arith.specs.Bits.{number, ids_end};
 
+use crate::limits::limits_of;
 use crate::slots::sym_all_hold;
 use crate::unknowns::OpenWorld;
 use net_model::Net;
@@ -127,6 +128,7 @@ pub fn sym_routing(
     let world = &made.world;
     let in_set = sym_in_set(alloc, terms, &question.packets, &world.packet)?;
     let few = sym_few_fail(alloc, terms, &world.net, question.failures)?;
+    let limits = limits_of(alloc, net)?;
     let hold = sym_all_hold(
         alloc,
         terms,
@@ -135,6 +137,7 @@ pub fn sym_routing(
         world.slots.as_slice(),
         &world.packet.dst,
         made.parts.as_slice(),
+        limits.as_slice(),
     )?;
     let rest = both(terms, few, hold)?;
     let routing = both(terms, in_set, rest)?;

@@ -74,6 +74,7 @@ fn holds_at_place(
     dst: &Bits,
     place: usize,
     part: &SymOpen,
+    limits: &[u32],
 ) -> Result<NodeId, AllocError>
     requires few { place < constants.LENGTHS * 64 }
     requires wide { length dst.now.nodes ≡ 32 }
@@ -93,7 +94,9 @@ fn holds_at_place(
 {
     let router = (place / LENGTHS) as u32;
     let len = (place % LENGTHS) as u8;
-    sym_slot_holds(alloc, terms, net, sym, slots, router, dst, len, part)
+    sym_slot_holds(
+        alloc, terms, net, sym, slots, router, dst, len, part, limits,
+    )
 }
 
 /// The slots of a routing, in their order: what is open of them, and the entries that follow.
@@ -137,6 +140,7 @@ pub fn sym_all_hold(
     slots: &[SymSlot],
     dst: &Bits,
     parts: &[SymOpen],
+    limits: &[u32],
 ) -> Result<NodeId, AllocError>
     requires few { length net.now ≤ 64 }
     requires long { length parts.now ≡ constants.LENGTHS * length net.now }
@@ -156,7 +160,7 @@ pub fn sym_all_hold(
 {
     let mut all = constant_node(terms, true)?;
     for (place, part) in parts.iter().enumerate() {
-        let holds = holds_at_place(alloc, terms, net, sym, slots, dst, place, part)?;
+        let holds = holds_at_place(alloc, terms, net, sym, slots, dst, place, part, limits)?;
         all = both(terms, all, holds)?;
     }
     Ok(all)

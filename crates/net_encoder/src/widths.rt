@@ -43,8 +43,8 @@ fn some_takes(files: &[File]) -> bool
     })
 }
 
-// The greatest cost of an interface that runs OSPF.
-fn dearest(interfaces: &[OspfInterface]) -> u32
+/// The greatest cost of an interface that runs OSPF.
+pub fn dearest(interfaces: &[OspfInterface]) -> u32
     ensures { result ≡ fold (λ most x. max most x.cost) 0 interfaces.now }
 {
     let mut most = 0u32;

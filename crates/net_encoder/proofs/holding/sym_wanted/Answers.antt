@@ -1,4 +1,4 @@
-use Rattle.std.proofs.Common.{◌≤◌, ◌++◌, ap, ap₂, subst, refl, sym, ◌∙◌, Bool, List, ◌&&◌}
+use Rattle.std.proofs.Common.{◌++◌, ap, ap₂, refl, sym, ◌∙◌, Bool, List, ◌&&◌}
 use Rattle.std.specs.Bool.{beq}
 use Rattle.std.specs.List.{filter_map, list_any}
 use Rattle.std.specs.Option.{option_map_or}
@@ -7,10 +7,7 @@ use Rattle.route_record.specs.declared.OspfRec.{OspfRec}
 use Rattle.net_model.specs.Ospf.{adjacencies}
 use Rattle.net_model.specs.OspfRoutes.{first_best, is_as_good}
 use Rattle.net_model.specs.Tracked.{tracked_of}
-use Rattle.term_store.specs.Terms.{at, size}
-use Rattle.sym_policy.specs.declared.records.SymOspf.{SymOspf}
-use Rattle.sym_ospf.specs.Routes.{routes_end}
-use Rattle.net_encoder.proofs.HoldingSteps.{ends_same}
+use Rattle.term_store.specs.Terms.{at}
 use Rattle.sym_policy.specs.Held.{failures_of, ospf_of}
 use Rattle.sym_policy.specs.Records.{address_of}
 use Rattle.sym_walk.specs.Worlds.{tables_of, slot_of as slot_read}
@@ -23,12 +20,9 @@ use Rattle.net_encoder.proofs.holding.sym_wanted.Goals as goal
 
 pub returns-clause-value : goal.returns-clause-value
 returns-clause-value c = λ w reads file process found runs bare there same.
-    let r7 = reads in
-    let r6 = c.both.ensures.builds.reads w r7 in
-    let r5 = c.agree.ensures.builds.reads w r6 in
-    let r4 = c.sym_same.ensures.builds.reads w r5 in
-    let r3 = c.sym_best.ensures.builds.reads w r4 in
-    let r2 = c.with_offers.ensures.builds.reads w r3 in
+    let r4 = c.both.ensures.builds.reads w reads in
+    let r3 = c.agree.ensures.builds.reads w r4 in
+    let r2 = c.sym_held.ensures.builds.reads w r3 in
     let r1 = c.sym_as_good.ensures.builds.reads w r2 in
     let part = open_of w c.args.part.now in
     let offers = offers_by c.args.net.now (failures_of w c.args.sym.now) (tables_of w c.args.slots.now) c.args.router
@@ -40,25 +34,14 @@ returns-clause-value c = λ w reads file process found runs bare there same.
       rib = refl;
     }) in
     let good = c.in_ok-good.ensures.value w r2 in
-    let all = c.in_ok-all.ensures.value w r3 in
-    let best = c.in_ok-best.ensures.value w r4 in
-    let held = c.in_ok-held.ensures.value w r5 in
-    let own_good = c.in_ok-own_good.ensures.value w r6 in
-    c.in_ok-wanted.ensures.value w r7
+    let held = c.in_ok-held.ensures.value w r3 in
+    let own_good = c.in_ok-own_good.ensures.value w r4 in
+    c.in_ok-wanted.ensures.value w reads
     ∙ ap₂ (λ a b. a && b)
-    (held ∙ ap (same_ospf part.ospf) (best ∙ ap first_best (ap (filter_map (ospf_of w)) c.as_slice-2.ensures ∙ all
-    ∙ ap (λ rs. rs ++ offers) own)))
+    (held ∙ ap (λ (rs : List OspfRec). same_ospf part.ospf (first_best (rs ++ offers))) own)
     (own_good ∙ agree_is part.own (at w c.in_ok-good.good) ∙ ap (beq part.own) (good
     ∙ ap (λ (rs : List OspfRec). option_map_or (λ h. list_any (λ o. is_as_good o h) rs) part.ospf Bool.false)
     (ap (filter_map (ospf_of w)) c.as_slice.ensures ∙ own)))
     ∙ sym (wanted_is c.args.net.now (failures_of w c.args.sym.now) (address_of w c.args.dst.now)
     (tables_of w c.args.slots.now) c.args.router c.args.len part file process
     (slot_read w c.args.slot.now) runs there same)
-
-pub sym_best-requires : goal.sym_best-requires
-sym_best-requires c =
-    let P : List SymOspf → Type 0 = λ rs. routes_end rs ≤ size c.with_offers.new.terms in
-    record {
-      nodes = subst P (sym c.as_slice-2.ensures) (subst (λ n. n ≤ size c.with_offers.new.terms)
-          (sym (ends_same c.in_ok-all.all)) c.in_ok-all.ensures.within);
-    }
