@@ -1,5 +1,5 @@
 #!/bin/sh
-# Times the proved program on a question about any one failed link, over rings of 4 to 64 routers, a full mesh of 8, and grids
+# Times the proved program on a question about any one failed link, or as many as FAILURES says, over rings of 4 to 64 routers, a full mesh of 8, and grids
 # of 3 by 3, 4 by 4 and 8 by 8 that run OSPF; the same with one learnt clause at most, which is the encoding; and minisat, cadical
 # and z3, those that are there, on the same clauses, in seconds of processor. A run of more than two minutes is cut. Needs the proved program (.ci/run
 # or ./mw --proved), Python 3 and GNU time.
@@ -14,6 +14,7 @@ import os
 import sys
 
 top = sys.argv[1]
+failures = os.environ.get("FAILURES", "1")
 
 def network(name, ends, last):
     """Routers with a loopback each, and a link of cost 1 for each pair of routers."""
@@ -32,7 +33,7 @@ def network(name, ends, last):
         with open(os.path.join(top, name, f"r{router:02}.cfg"), "w") as file:
             file.write("\n".join(lines) + "\n")
     with open(os.path.join(top, name, "questions.txt"), "w") as file:
-        file.write(f"g1 reach from R0 to router R{last} packets ip any any 10.100.{last}.1/32 any failures 1\n")
+        file.write(f"g1 reach from R0 to router R{last} packets ip any any 10.100.{last}.1/32 any failures {failures}\n")
 
 for count in (4, 8, 16, 32, 64):
     network(f"ring-{count:02}", [(r, (r + 1) % count) for r in range(count)], count // 2)
@@ -60,7 +61,7 @@ solved() {
 for network in "$dir"/*; do
     printf '%s: ' "$(basename "$network")"
     timeout 120 /usr/bin/time -f '%U s, %M KB' "$program" --log "$network/log" verify "$network/questions.txt" \
-        "$network"/*.cfg 2>&1 | tr '\n' ' '
+        "$network"/*.cfg 2>&1 | grep -v '^{' | tr '\n' ' '
     /usr/bin/time -o "$dir/time" -f '%U s' "$program" verify --conflicts 1 "$network/questions.txt" "$network"/*.cfg \
         >/dev/null || true
     printf 'encoded in %s, ' "$(tail -n 1 "$dir/time")"
