@@ -21,8 +21,8 @@ use Rattle.cdcl_search.specs.Turns.{IsTurn, TellBumps}
 
 -- between these two moments the log of a search for the inputs was written so far: it holds exactly these clauses, each
 -- up to the order of its literals, the numbers given are below the next one, those of inputs by more than there are
--- additions, it has so many additions, none empty, and at most so many runs of deletions, and deciders tell the bumps of
--- these additions
+-- additions, it has so many additions, none empty, and at most so many runs of deletions, and deciders tell the bumps
+-- of these additions
 pub record IsGoing (before now : Option (List ℕ)) (inputs : List Clause) (held : ℕ → Option Clause)
     (next added runs : ℕ) (tolds : List (Option (List ℕ))) : Type 0 where
   pub entries : List Entry

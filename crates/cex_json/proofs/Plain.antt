@@ -31,7 +31,8 @@ use Rattle.cex_json.specs.Parts.{addr_data, bgp_data, first_bgp_fields, first_of
 use Rattle.cex_json.specs.Parts.{hop_data, hop_fields, ospf_data, packet_data, parts_data, parts_fields, rib_data}
 use Rattle.cex_json.specs.Parts.{slots_from, walk_data, walk_fields}
 use Rattle.cex_json.specs.Json.{members_with_from, number_of, with_field}
-use Rattle.cex_json.specs.Text.{cex_data, part_data, part_list, shown_fields, surroundings_of, tables_data, world_fields}
+use Rattle.cex_json.specs.Text.{cex_data, part_data, part_list, shown_fields, surroundings_of, tables_data}
+use Rattle.cex_json.specs.Text.{world_fields}
 use Rattle.cex_json.specs.Worlds.{announcement_data, announcement_fields, link_data, peer_data, peers_from}
 
 put_plain : (name : List ℕ) (value : Data) (members : Members) → has_float value ≡ false → members_have_float members
@@ -207,12 +208,14 @@ part_plain slot = by_bgp slot.bgp where
   by_rib None = refl
   by_rib (Some held) = rib_plain held
 
-  by_ospf : (held : Option OspfRec) → has_float (option_map_or ospf_data held (option_map_or rib_data slot.rib null)) ≡ false
+  by_ospf : (held : Option OspfRec) → has_float (option_map_or ospf_data held (option_map_or rib_data slot.rib null))
+      ≡ false
   by_ospf None = by_rib slot.rib
   by_ospf (Some held) = ospf_plain held
 
   by_bgp : (held : Option BgpRec) →
-      has_float (option_map_or bgp_data held (option_map_or ospf_data slot.ospf (option_map_or rib_data slot.rib null))) ≡ false
+      has_float (option_map_or bgp_data held
+      (option_map_or ospf_data slot.ospf (option_map_or rib_data slot.rib null))) ≡ false
   by_bgp None = by_ospf slot.ospf
   by_bgp (Some held) = bgp_plain held
 

@@ -1,6 +1,7 @@
 -- What external peers are read to send is an environment of the network.
 use Rattle.std.proofs.Common.{◌≡◌, ℕ, ◌+◌, ◌-◌, ◌^◌, ◌<◌, ◌≤◌, ◌⊎◌, List, [], ◌∷◌, ◌++◌, length, Bool, true, false}
-use Rattle.std.proofs.Common.{◌&&◌, ◌||◌, ◌==◌, cond, nat_lt, nat_le, Option, Some, None, option_map, option_and_then, Ok, inl}
+use Rattle.std.proofs.Common.{◌&&◌, ◌||◌, ◌==◌, cond, nat_lt, nat_le, Option, Some, None, option_map, option_and_then}
+use Rattle.std.proofs.Common.{Ok, inl}
 use Rattle.std.proofs.Common.{inr, refl, sym, ap, ◌∙◌, subst, arith, get_or}
 use Rattle.std.specs.Prelude.{All, AllPairs, IfSome, codes, position, slice_get}
 use Rattle.std.specs.Option.{option_map_or}
@@ -25,11 +26,13 @@ use Rattle.cex_json.specs.declared.reader.Limits.{Limits}
 use Rattle.cex_json.specs.declared.reader.Surroundings.{Surroundings}
 use Rattle.cex_json.specs.declared.refused.CexRefused.{CexRefused}
 use Rattle.cex_json.specs.Entries.{entry_path, is_end_of, origin_in, router_in, slots_in}
-use Rattle.cex_json.specs.Fields.{addr_in, asn_step, ascending_in, ascending_step, greatest, in_order, is_above, members_in}
+use Rattle.cex_json.specs.Fields.{addr_in, asn_step, ascending_in, ascending_step, greatest, in_order, is_above}
+use Rattle.cex_json.specs.Fields.{members_in}
 use Rattle.cex_json.specs.Fields.{number_in, object_in, passing, path_in, place_of, required, text_in}
 use Rattle.cex_json.specs.Reading.{asked_place, cex_in, format_in, limits, surroundings_in, walk_for}
 use Rattle.cex_json.specs.Surroundings.{announcement_at, announcement_step, announcements_in, asn_fits, asn_of_end}
-use Rattle.cex_json.specs.Surroundings.{begins_with, end_in, end_named, failures_in, ids_in, is_later, is_outer_end, names_end}
+use Rattle.cex_json.specs.Surroundings.{begins_with, end_in, end_named, failures_in, ids_in, is_later, is_outer_end}
+use Rattle.cex_json.specs.Surroundings.{names_end}
 use Rattle.cex_json.specs.Surroundings.{packet_in, peer_at, peer_step, sent_path}
 use Rattle.cex_json.proofs.Fitting.{ascends_more}
 use Rattle.cex_json.proofs.InSet.{addr_small}
@@ -68,7 +71,8 @@ asn_kept at name i so_far d next before same =
     let above = passed (nat_lt 0) (number_in greatest (Some d)) one.0 one.1 in
     let small = word_small one.0 (number_small greatest (Some d) one.0 above.0) in
     let number : IsAsNumber one.0 = (ltb-true 0 one.0 above.1, small) in
-    let all = All-append IsAsNumber so_far (one.0 ∷ []) before (All-cons IsAsNumber one.0 [] number (All-nil IsAsNumber)) in
+    let all = All-append IsAsNumber so_far (one.0 ∷ []) before
+    (All-cons IsAsNumber one.0 [] number (All-nil IsAsNumber)) in
     subst (All IsAsNumber) (sym one.2) all
 
 path_fit : (at name : List ℕ) (d : Data) (xs : List ℕ) → path_in at name d ≡ Ok xs → All IsAsNumber xs
@@ -99,7 +103,8 @@ sent_fit files at end place d path here same =
     ap (λ o. option_map (λ (n : Neighbour). n.asn) (option_and_then (neighbour_of files) o)) here in
     let B : Option ℕ → Type 0 = λ o.
     option_map_or (λ n. option_map_or (λ first. first == n) (slice_get path 0) false) o false ≡ true in
-    let numbers = subst (All IsAsNumber) (same_some read.0 path taken.0) (path_fit place (codes "path") d read.0 read.1) in
+    let numbers = subst (All IsAsNumber) (same_some read.0 path taken.0)
+    (path_fit place (codes "path") d read.0 read.1) in
     ((leb-true (length path) 255 parts.0, numbers), begins (neighbour_of files end) path (subst B known parts.1))
 
 -- the end that an announcement names is that of an external session
@@ -112,15 +117,19 @@ unfolding place_of
 end_known files None address at same = absurd (no_value at same)
 end_known files (Some router) None at same = absurd (no_value at same)
 end_known files (Some router) (Some a) at same =
-    by_ends (ends_of files) (passed (λ k. nat_le k greatest) (position (is_outer_end files router a) (ends_of files)) at same).0
+    by_ends (ends_of files) (passed (λ k. nat_le k greatest) (position (is_outer_end files router a)
+    (ends_of files)) at same).0
   where
     by_ends : (ends : List SessionEnd) → position (is_outer_end files router a) ends ≡ Some at →
         (end : SessionEnd) × (slice_get ends at ≡ Some end) × (is_outside end.far ≡ true)
     by_ends [] none = absurd (no_value at none)
     by_ends (x ∷ rest) is =
         let there = position-Some (is_outer_end files router a) (x ∷ rest) at x is in
-        let end = get_or (x ∷ rest) at x in
-        (end, slice_get-get_or (x ∷ rest) at x there.0, (and_parts (is_outside end.far) (is_end_of files router a end) there.1).0)
+        let end = get_or (x ∷ rest) at x in (
+          end,
+          slice_get-get_or (x ∷ rest) at x there.0,
+          (and_parts (is_outside end.far) (is_end_of files router a end) there.1).0,
+        )
 
 end_fit : (files : List File) (d : Data) (at : ℕ) → end_in files d ≡ Some at → IsOuter files at
 unfolding end_in
@@ -134,7 +143,8 @@ announcement_fit files so_far at d one same =
     let end = bound (required at (codes "address") (end_in files d)) _ one same in
     let communities = bound (ascending_in at (codes "communities") d) _ one end.2 in
     let later = is_later so_far end.0 in
-    let len = bound (required at (codes "len") (passing later (number_in 32 (get (codes "len") d)))) _ one communities.2 in
+    let len = bound (required at (codes "len") (passing later (number_in 32 (get (codes "len") d)))) _ one
+    communities.2 in
     let med = bound (required at (codes "med") (number_in greatest (get (codes "med") d))) _ one len.2 in
     let origin = bound (origin_in at d) _ one med.2 in
     let path = bound (sent_path (asn_of_end files end.0) at d) _ one origin.2 in
@@ -170,12 +180,14 @@ earlier_trans a b c (inr p) (inr q) = inr (omega (arith, p.0, q.0), omega (arith
 
 later_than : (last one : Announcement) →
     (nat_lt last.end one.end || ((last.end == one.end) && nat_lt last.len one.len)) ≡ true → IsEarlier last one
-later_than last one test = by (or_cases (nat_lt last.end one.end) ((last.end == one.end) && nat_lt last.len one.len) test) where
-  by : (nat_lt last.end one.end ≡ true) ⊎ (((last.end == one.end) && nat_lt last.len one.len) ≡ true) → IsEarlier last one
-  by (inl before) = inl (ltb-true last.end one.end before)
-  by (inr both) =
-      let parts = and_parts (last.end == one.end) (nat_lt last.len one.len) both in
-      inr (eqb-true last.end one.end parts.0, ltb-true last.len one.len parts.1)
+later_than last one test =
+    by (or_cases (nat_lt last.end one.end) ((last.end == one.end) && nat_lt last.len one.len) test) where
+      by : (nat_lt last.end one.end ≡ true) ⊎ (((last.end == one.end) && nat_lt last.len one.len) ≡ true)
+          → IsEarlier last one
+      by (inl before) = inl (ltb-true last.end one.end before)
+      by (inr both) =
+          let parts = and_parts (last.end == one.end) (nat_lt last.len one.len) both in
+          inr (eqb-true last.end one.end parts.0, ltb-true last.len one.len parts.1)
 
 after_last : (so_far : List Announcement) (one d : Announcement) → 0 < length so_far →
     is_later so_far one.end one.len ≡ true → IsEarlier (get_or so_far (length so_far - 1) d) one
@@ -183,11 +195,13 @@ unfolding is_later
 after_last so_far one d some test =
     let last = slice_get-get_or so_far (length so_far - 1) d (omega (arith, some)) in
     let B : Option Announcement → Type 0 = λ o.
-    option_map_or (λ (x : Announcement). nat_lt x.end one.end || ((x.end == one.end) && nat_lt x.len one.len)) o true ≡ true in
+    option_map_or (λ (x : Announcement). nat_lt x.end one.end || ((x.end == one.end) && nat_lt x.len one.len)) o true
+    ≡ true in
     later_than (get_or so_far (length so_far - 1) d) one (subst B last test)
 
 later_than_all : (so_far : List Announcement) (one : Announcement) → AllPairs IsEarlier so_far →
-    is_later so_far one.end one.len ≡ true → (k : ℕ) (d : Announcement) → k < length so_far → IsEarlier (get_or so_far k d) one
+    is_later so_far one.end one.len ≡ true → (k : ℕ) (d : Announcement) → k < length so_far
+    → IsEarlier (get_or so_far k d) one
 later_than_all so_far one pairs test k d within = by_place (cases_lt k (length so_far - 1)) where
   last : IsEarlier (get_or so_far (length so_far - 1) d) one
   last = after_last so_far one d (omega (arith, within)) test
@@ -219,7 +233,8 @@ announced_kept files i so_far d next before same =
 no_pairs : AllPairs IsEarlier []
 no_pairs = λ i j d before within. absurd (omega (arith, before, within))
 
-announcements_fit : (files : List File) (d : Data) (xs : List Announcement) → announcements_in files d ≡ Ok xs → AreAnnounced files xs
+announcements_fit : (files : List File) (d : Data) (xs : List Announcement) → announcements_in files d ≡ Ok xs
+    → AreAnnounced files xs
 unfolding announcements_in
 announcements_fit files d xs same =
     let members = bound (members_in [] (codes "announcements") d) (in_order (announcement_step files) 0 []) xs same in
@@ -243,7 +258,8 @@ peer_fit files format wanted at d id same =
     let known = bound (required at (codes "asn") (cond (asn_fits files format end.0 d) (Some end.0) None)) _ id end.2 in
     address_small (get (codes "id") d) id (field at (codes "id") (addr_in (get (codes "id") d)) id known.2)
 
-id_kept : (files : List File) (format : ℕ) (ends : List SessionEnd) (i : ℕ) (so_far : List Addr) (d : Data) (next : List Addr) →
+id_kept : (files : List File) (format : ℕ) (ends : List SessionEnd) (i : ℕ) (so_far : List Addr) (d : Data)
+    (next : List Addr) →
     AreIds so_far → peer_step files format ends i so_far d ≡ Ok next → AreIds next
 id_kept files format ends i so_far d next before same =
     let one = bound (peer_at files format (slice_get ends i) (entry_path (codes "peers/") i) d) _ next same in

@@ -1,5 +1,6 @@
 -- Lines of lists and route maps keep the limit of their entries.
-use Rattle.std.proofs.Common.{◌≡◌, ℕ, ◌+◌, ◌-◌, ◌<◌, ◌≤◌, Bool, true, false, List, [], ◌∷◌, ◌++◌, length, get_or, Option}
+use Rattle.std.proofs.Common.{◌≡◌, ℕ, ◌+◌, ◌-◌, ◌<◌, ◌≤◌, Bool, true, false, List, [], ◌∷◌, ◌++◌, length, get_or}
+use Rattle.std.proofs.Common.{Option}
 use Rattle.std.proofs.Common.{Some, None, Result, Ok, Err, refl, ap, arith}
 use Rattle.std.specs.Prelude.{IfOk, nat_lt, position, slice_get, slice_set, if◌then◌else◌}
 use Rattle.std.specs.List.{sum_by}
@@ -162,7 +163,8 @@ numbered_line_kept line said name n policies few =
       prefix_lists = with_prefix_entry name (prefix_entry line.number n said) policies.prefix_lists;
     } in
     either (nat_lt 4294967294 n) (Err (BadWord 4)) _ Few tt
-    (either (has_number n (prefix_entries_of name policies.prefix_lists)) (Err Repeated) (within_limit policies more) Few
+    (either (has_number n (prefix_entries_of name policies.prefix_lists)) (Err Repeated)
+    (within_limit policies more) Few
     tt
     (limit_kept policies more
     (omega (

@@ -56,7 +56,8 @@ text_whole most (Some contents) name bytes text whole small is =
     there_whole most name bytes (get contents name) whole small ∙ ap Ok (sym is)
 
 -- a file that was too long
-pub text_too_long : (most : ℕ) (told : Option Contents) (name line : List ℕ) → Has told name (λ file. most < length file)
+pub text_too_long : (most : ℕ) (told : Option Contents) (name line : List ℕ) → Has told name
+    (λ file. most < length file)
     → line ≡ too_long name →
     IfSome told (λ contents. text_within most contents name ≡ Err (refused line))
 text_too_long most None name line long is = tt

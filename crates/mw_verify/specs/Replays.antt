@@ -1,5 +1,6 @@
 -- What a replay answers, and when the answer is right.
-use Rattle.std.specs.Prelude.{◌≡◌, ◌≢◌, ℕ, ◌*◌, List, [], ◌∷◌, ◌++◌, length, codes, is_none, Bool, Option, Some, None, slice_get}
+use Rattle.std.specs.Prelude.{◌≡◌, ◌≢◌, ℕ, ◌*◌, List, [], ◌∷◌, ◌++◌, length, codes, is_none, Bool, Option, Some, None}
+use Rattle.std.specs.Prelude.{slice_get}
 use Rattle.std.specs.Fmt.{decimal}
 use Rattle.mw_outside.specs.Taken.{Takes}
 use Rattle.ios_ast.specs.declared.file.File.{File}
@@ -63,8 +64,8 @@ replay_status (Some why) = Bad
 
 -- ---- when they are right
 
--- yes comes only where the counterexample is true of its question, and no only where it is not, with the first reason in
--- the order of routers, lengths and parts, then the walk, then what it breaks
+-- yes comes only where the counterexample is true of its question, and no only where it is not, with the first reason
+-- in the order of routers, lengths and parts, then the walk, then what it breaks
 abbrev pub IsRightReplay : List File → Question → Counterexample → Option ReplayNo → Type 0
 IsRightReplay files question cex None = IsTrueCounterexample files cex.question question cex
 IsRightReplay files question cex (Some why) =
@@ -84,8 +85,8 @@ pub record IsReplayedSo (files : List File) (questions : List Question) (cex : C
   pub ends : status ≡ replay_status answer
   pub text : Takes before now (replay_text files answer)
 
--- a counterexample as the reader leaves it: of one of the questions, with its packet in the set, its failures among those
--- that are allowed, an environment of the network, and a slot for each router and length
+-- a counterexample as the reader leaves it: of one of the questions, with its packet in the set, its failures among
+-- those that are allowed, an environment of the network, and a slot for each router and length
 pub record IsAdmitted (files : List File) (questions : List Question) (cex : Counterexample) : Type 0 where
   pub question : Question
   pub asked : slice_get questions cex.question ≡ Some question

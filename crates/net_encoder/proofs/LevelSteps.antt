@@ -121,7 +121,8 @@ implied false b follows = refl
 
 -- the test of a route that may be there, by its numbers
 pub within_is : (there : Bool) (kind metric cost most : ℕ) → (there && ((kind == 0) && not (nat_lt most cost)))
-    ≡ has_within most (if there then Some (record { kind = kind_of_number kind; metric = metric; cost = cost }) else None)
+    ≡ has_within most (if there
+    then Some (record { kind = kind_of_number kind; metric = metric; cost = cost }) else None)
 within_is false kind metric cost most = refl
 within_is true kind metric cost most = by_kind (kind == 0) (kind == 1) where
   by_kind : (internal first : Bool) → (internal && not (nat_lt most cost))

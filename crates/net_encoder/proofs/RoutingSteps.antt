@@ -41,7 +41,8 @@ pub as_many_fail : (w : Reading) (ids : List NodeId) → length (positions 0 (bi
 as_many_fail w ids = counted w ids 0
 
 -- the slots of the world are those that follow from what is open
-pub slots_are : (files : List File) (question : Question) (v : ℕ → Bool) (from : ℕ) (world : World) (us : List Unknown) →
+pub slots_are : (files : List File) (question : Question) (v : ℕ → Bool) (from : ℕ) (world : World)
+    (us : List Unknown) →
     us ≡ opens_from files question v from → world ≡ world_from files question v from →
     world.tables.slots ≡ slots_of files world.failures world.packet.dst 0 us
 unfolding world_from

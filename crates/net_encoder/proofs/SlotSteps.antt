@@ -90,7 +90,8 @@ pub hold_next : (files : List File) (failures : Failures) (d : Addr) (tables : T
 unfolding all_hold
 hold_next files failures d tables at u us =
     let next : suc at ≡ at + 1 = omega arith in
-    ap (λ n. slot_holds files failures d tables (at / LENGTHS) (at % LENGTHS) u && all_hold files failures d tables n us)
+    ap (λ n. slot_holds files failures d tables (at / LENGTHS) (at % LENGTHS) u && all_hold files failures d tables
+    n us)
     next
 
 pub hold_none : (files : List File) (failures : Failures) (d : Addr) (tables : Tables) (at : ℕ) →
@@ -98,7 +99,8 @@ pub hold_none : (files : List File) (failures : Failures) (d : Addr) (tables : T
 unfolding all_hold
 hold_none files failures d tables at = refl
 
-slots_from_at : (files : List File) (failures : Failures) (d : Addr) (at : ℕ) (us : List Unknown) (i : ℕ) (e : Unknown) →
+slots_from_at : (files : List File) (failures : Failures) (d : Addr) (at : ℕ) (us : List Unknown) (i : ℕ)
+    (e : Unknown) →
     i < length us → slice_get (slots_of files failures d at us) i
     ≡ Some (slot_of files failures d ((at + i) / LENGTHS) ((at + i) % LENGTHS) (get_or us i e))
 unfolding slots_of
@@ -121,7 +123,8 @@ placed w files failures d slots parts i e within same =
     let place : 0 + i ≡ i = omega arith in
     ap (λ xs. slice_get xs i) same
     ∙ slots_from_at files failures d 0 (map (open_of w) parts) i (open_of w e) (as_many parts i within)
-    ∙ ap (λ n. Some (slot_of files failures d (n / LENGTHS) (n % LENGTHS) (get_or (map (open_of w) parts) i (open_of w e))))
+    ∙ ap (λ n. Some (slot_of files failures d (n / LENGTHS) (n % LENGTHS)
+    (get_or (map (open_of w) parts) i (open_of w e))))
     place
     ∙ ap (λ u. Some (slot_of files failures d (i / LENGTHS) (i % LENGTHS) u)) (get_or-map (open_of w) parts i e)
   where
@@ -130,4 +133,14 @@ placed w files failures d slots parts i e within same =
     as_many (x ∷ xs) zero h = omega arith
     as_many (x ∷ xs) (suc k) h = let rest = as_many xs k (omega arith) in omega (arith, rest)
 
-pub ruleset hold_steps = (common_steps, hold_next, hold_none, open_below, items_at, drop_all, and_assoc, and-true, placed)
+pub ruleset hold_steps = (
+  common_steps,
+  hold_next,
+  hold_none,
+  open_below,
+  items_at,
+  drop_all,
+  and_assoc,
+  and-true,
+  placed,
+)

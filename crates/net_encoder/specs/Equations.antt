@@ -25,7 +25,8 @@ originates files failures router p x =
 
 -- the route, if it does
 abbrev pub origin_by : List File → Failures → ℕ → Prefix → OspfInterface → Option OspfRec
-origin_by files failures router p x = if originates files failures router p x then Some (internal_route x.cost) else None
+origin_by files failures router p x =
+    if originates files failures router p x then Some (internal_route x.cost) else None
 
 -- the routes by some interfaces
 unfoldable pub origins_by : List File → Failures → ℕ → Prefix → List OspfInterface → List OspfRec

@@ -59,14 +59,16 @@ module _ (files : List File) (failures : Failures) (p : Prefix) (d : ℕ → Opt
   below_sum : (router : ℕ) (walk : List Adjacency) (sum : ℕ) → IsWalkSum files failures p router walk sum →
       (m : ℕ) × (d router ≡ Some m) × (m ≤ sum)
   below_sum router [] sum walks =
-      let found = least-some _ sum (in-left sum (option_to_list (own_cost files failures p router)) _ (option-in _ sum walks)) in
+      let found = least-some _ sum (in-left sum (option_to_list (own_cost files failures p router)) _
+      (option-in _ sum walks)) in
       (found.0, equations router ∙ found.1, found.2)
   below_sum router (a ∷ rest) sum (there, further, walks, is) =
       let deeper = below_sum a.to.router rest further walks in
       let gives : beyond d a ≡ Some (a.cost + deeper.0) = ap (option_map (λ n. a.cost + n)) deeper.1 in
       let found = least-some _ (a.cost + deeper.0)
       (in-right (a.cost + deeper.0) (option_to_list (own_cost files failures p router)) _
-      (filter_map-in (beyond d) (up_adjacencies files failures router) a (a.cost + deeper.0) (contains-in a _ there) gives)) in
+      (filter_map-in (beyond d) (up_adjacencies files failures router) a (a.cost + deeper.0)
+      (contains-in a _ there) gives)) in
       let first = found.2 in
       let second = deeper.2 in
       (found.0, equations router ∙ found.1, omega (arith, first, second, is))

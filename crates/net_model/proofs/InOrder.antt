@@ -64,7 +64,8 @@ one_follows xs ys moved up x y has_x has_y differ =
 
       by_order : (i < j) ⊎ ((i ≡ j) ⊎ (j < i)) → Follows x y ⊎ Follows y x
       by_order (inl less) =
-          inl (subst (λ z. Follows x z) (there x) (subst (λ z. Follows z (get_or ys j x)) (here x) (up i j x less high)))
+          inl (subst (λ z. Follows x z) (there x)
+          (subst (λ z. Follows z (get_or ys j x)) (here x) (up i j x less high)))
       by_order (inr (inr more)) =
           inr (subst (λ z. Follows y z) (here x) (subst (λ z. Follows z (get_or ys i x)) (there x) (up j i x more low)))
       by_order (inr (inl same)) =
@@ -144,7 +145,8 @@ differ x y (inr one) = apart_ordered x.addr.0 y.addr.0 _ one
 
 -- a fact of each interface of a router, from that of each which has an address
 each_iface : (P : Addressed → Type 0) (Q : Iface → Type 0) (r : ℕ) →
-    ((id : IfaceId) (iface : Iface) (a : IfAddr) → id.router ≡ r → P (addressed_iface id iface a) → iface.address ≡ Some a
+    ((id : IfaceId) (iface : Iface) (a : IfAddr) → id.router ≡ r → P (addressed_iface id iface a)
+    → iface.address ≡ Some a
     → Q iface) →
     ((iface : Iface) → iface.address ≡ None → Q iface) → (at : ℕ) (interfaces : List Iface) →
     ((x : Addressed) → Contains (addressed_from r at interfaces) x → P x) → All Q interfaces
@@ -227,7 +229,8 @@ no_address_abroad files apart at file found =
     least_same (taken_line (take at files) file) (taken_line [] file) file.interfaces
     (each_iface (Contains (addressed files)) (λ iface. taken_line (take at files) file iface ≡ taken_line [] file iface)
     at (λ id iface a same has is.
-    let none : some_has a.addr (take at files) ≡ false = none_before (Contains (addressed files)) (has_address a.addr) at
+    let none : some_has a.addr (take at files) ≡ false =
+    none_before (Contains (addressed files)) (has_address a.addr) at
     (λ other_id other b lower has_other is_b. rw is_b
     (differ (addressed_iface other_id other b) (addressed_iface id iface a)
     (apart (addressed_iface other_id other b) (addressed_iface id iface a) has_other has

@@ -382,7 +382,8 @@ ospf_at-same files x o is =
     by_match process false iface made = cc
 
 -- an interface that runs OSPF is one of a router of the files
-pub interface_below : (files : List File) (o : OspfInterface) → In o (ospf_interfaces files) → o.at.id.router < length files
+pub interface_below : (files : List File) (o : OspfInterface) → In o (ospf_interfaces files)
+    → o.at.id.router < length files
 unfolding ospf_interfaces
 interface_below files o here =
     let found = in-filter_map (ospf_at files) (addressed files) o here in

@@ -1,5 +1,6 @@
 -- Addresses in an order in which each comes after the one before: no two of them clash.
-use Rattle.std.specs.Prelude.{◌≡◌, ℕ, ◌+◌, ◌&&◌, ◌||◌, Bool, not, nat_lt, nat_le, IsTrue, List, [], Some, slice_get, take}
+use Rattle.std.specs.Prelude.{◌≡◌, ℕ, ◌+◌, ◌&&◌, ◌||◌, Bool, not, nat_lt, nat_le, IsTrue, List, [], Some, slice_get}
+use Rattle.std.specs.Prelude.{take}
 use Rattle.mw_text.specs.declared.address.Prefix.{Prefix}
 use Rattle.mw_text.specs.Address.{block, same_prefix}
 use Rattle.ios_ast.specs.declared.file.File.{File}

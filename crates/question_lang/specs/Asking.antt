@@ -97,8 +97,8 @@ question_of files form words said =
 abbrev pub has_name : List Question → List ℕ → Bool
 has_name questions name = list_any (λ q. same_text q.name name) questions
 
--- Why a question that reads well may not stand after these, by the first of the causes: its name stands before, it names
--- a router that is not there, its target is no external peer of its router, it is one too many. Or none of these.
+-- Why a question that reads well may not stand after these, by the first of the causes: its name stands before, it
+-- names a router that is not there, its target is no external peer of its router, it is one too many. Or none of these.
 abbrev pub cause_against : List File → List Question → List (List ℕ) → List Said → Option Cause
 cause_against files so_far words said =
     if has_name so_far (word_under Name words said) then Some Repeated

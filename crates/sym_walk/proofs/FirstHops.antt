@@ -1,5 +1,6 @@
 -- What the first of some interfaces that passes a test leads to, one interface at a time.
-use Rattle.std.proofs.Common.{◌≡◌, ℕ, ◌+◌, ◌<◌, ◌≤◌, Bool, true, false, ◌&&◌, ◌||◌, not, cond, List, [], ◌∷◌, ◌++◌, length}
+use Rattle.std.proofs.Common.{◌≡◌, ℕ, ◌+◌, ◌<◌, ◌≤◌, Bool, true, false, ◌&&◌, ◌||◌, not, cond, List, [], ◌∷◌, ◌++◌}
+use Rattle.std.proofs.Common.{length}
 use Rattle.std.proofs.Common.{get_or, take, Option, Some, None, refl, sym, ap, ap₂, subst, ◌∙◌, eqb}
 use Rattle.std.specs.Prelude.{filter, option_map}
 use Rattle.std.specs.List.{find, list_any}

@@ -173,7 +173,8 @@ towards_seen w tracked s held stands = by_valid (at w s.valid) ∙ ap (option_ma
   towards : BgpShape → BgpRec
   towards shape = route_towards (record { 0 = shape.next_hop })
 
-  by_valid : (b : Bool) → cond b (Some (towards (bgp_at w s))) None ≡ option_map towards (cond b (Some (bgp_at w s)) None)
+  by_valid : (b : Bool) → cond b (Some (towards (bgp_at w s))) None
+      ≡ option_map towards (cond b (Some (bgp_at w s)) None)
   by_valid true = refl
   by_valid false = refl
 

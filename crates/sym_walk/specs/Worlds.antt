@@ -1,5 +1,5 @@
--- The world that a reading makes of a symbolic packet, failed links and slots. A BGP route stands in it as walks see it,
--- by its next hop.
+-- The world that a reading makes of a symbolic packet, failed links and slots. A BGP route stands in it as walks see
+-- it, by its next hop.
 use Rattle.std.specs.Prelude.{◌≡◌, ℕ, max, List, [], ◌∷◌, map, length, slice_get, Option, Some, None, if◌then◌else◌}
 use Rattle.route_record.specs.declared.BgpRec.{BgpRec}
 use Rattle.route_record.specs.declared.Slot.{Slot}

@@ -1,5 +1,6 @@
 -- Lists of nodes, item by item: their ends, their bits and the numbers of these.
-use Rattle.std.proofs.Common.{◌≡◌, ℕ, ◌+◌, ◌*◌, ◌/◌, ◌%◌, ◌^◌, nat_eq, ◌<◌, ◌≤◌, zero, suc, max, Bool, true, false, not, nat_lt}
+use Rattle.std.proofs.Common.{◌≡◌, ℕ, ◌+◌, ◌*◌, ◌/◌, ◌%◌, ◌^◌, nat_eq, ◌<◌, ◌≤◌, zero, suc, max, Bool, true, false}
+use Rattle.std.proofs.Common.{not, nat_lt}
 use Rattle.std.proofs.Common.{if◌then◌else◌, List, [], ◌∷◌, ◌++◌, take, drop, get_or, length, refl, sym, ap, subst}
 use Rattle.std.proofs.Common.{◌∙◌, arith}
 use Rattle.std.proofs.lemmas.List.{drop_more, drop_all, take_more, map-append, get_or-map, length-map}
@@ -91,7 +92,8 @@ add_done w a b out i carry total end_a end_b so_far =
     ap (onto (bits w out)) (omega (arith, number_drop_end w a i end_a, number_drop_end w b i end_b)) ∙ so_far
 
 -- the sum with the carry as its highest bit
-pub add_whole : (w : Reading) (out : List NodeId) (carry : NodeId) (total : ℕ) → onto (bits w out) (bit (at w carry)) ≡ total
+pub add_whole : (w : Reading) (out : List NodeId) (carry : NodeId) (total : ℕ) → onto (bits w out) (bit (at w carry))
+    ≡ total
     → number w (out ++ carry ∷ []) ≡ total
 add_whole w out carry total so_far =
     sym (onto_zero w (out ++ carry ∷ [])) ∙ onto_push w out carry 0
@@ -140,9 +142,11 @@ number_below w (id ∷ ids) =
     let rest = number_below w ids in let low = bit_small (at w id) in omega (arith, pow-suc 2 (length ids))
 
 -- without a carry the bits are the whole sum
-pub add_low : (w : Reading) (out : List NodeId) (carry : NodeId) (total : ℕ) → onto (bits w out) (bit (at w carry)) ≡ total
+pub add_low : (w : Reading) (out : List NodeId) (carry : NodeId) (total : ℕ) → onto (bits w out) (bit (at w carry))
+    ≡ total
     → not (at w carry) ≡ true → number w out ≡ total
-add_low w out carry total so_far none = sym (onto_zero w out) ∙ ap (onto (bits w out)) (zero_bit (at w carry) none) ∙ so_far
+add_low w out carry total so_far none = sym (onto_zero w out) ∙ ap (onto (bits w out)) (zero_bit (at w carry) none)
+    ∙ so_far
   where
     zero_bit : (b : Bool) → not b ≡ true → 0 ≡ bit b
     zero_bit false same = refl

@@ -37,5 +37,6 @@ returns-clause-way c =
     (sym (c.push_reserved.ensures.items ∙ ap (λ (ids : List ℕ). ids ++ c.id.result ∷ []) c.clear-2.ensures.items))
     (subst (λ (kept : List Lit). IsOnWay a ss levels top (length ss) marks kept (c.id.result ∷ []))
     (sym c.clear.ensures.items)
-    (way_first a ss levels top c.requires.start.0.level_count c.requires.start.0.rising c.requires.start.0.fresh lits marks
+    (way_first a ss levels top c.requires.start.0.level_count c.requires.start.0.rising c.requires.start.0.fresh
+    lits marks
     c.requires.start.1.1 same c.top_level.ensures c.id.result c.id.ensures.numbered))

@@ -8,4 +8,5 @@ use Rattle.mw_verify.proofs.load.parse_files.Given as goal
 -- the files so far are those of the texts so far, and keep the limits
 abbrev pub invariant-loop-text : goal.invariant-loop-text
 invariant-loop-text l =
-    EachTo file_of l.texts l.text-index l.files-inside.items.items × (list_all keeps_limits l.files-inside.items.items ≡ true)
+    EachTo file_of l.texts l.text-index l.files-inside.items.items
+    × (list_all keeps_limits l.files-inside.items.items ≡ true)

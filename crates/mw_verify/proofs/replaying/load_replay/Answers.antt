@@ -13,7 +13,8 @@ returns-in_err-told-clause-stop g c =
     let p = err_from_is_err_and c.from_residual-in_err-told.result c.from_residual-in_err-told.ensures.1 in
     let names : List (List ℕ) = map string_bytes c.args.names.now in
     let told : Option Contents = g.F.Files.contents c.args.files.now in
-    let A : Option Contents → Type 0 = λ o. IfSome o (λ contents. text_of contents c.args.questions.now ≡ Ok c.in_ok-asked.asked) in
+    let A : Option Contents → Type 0 = λ o.
+    IfSome o (λ contents. text_of contents c.args.questions.now ≡ Ok c.in_ok-asked.asked) in
     let asked = subst A c.in_ok-texts.ensures.kept c.in_ok-asked.ensures.ok in
     rw (p.1, p.2)
     (on_stop-map c.in_err-told.field-0.0 _ _ _ _ c.in_err-told.ensures.stop

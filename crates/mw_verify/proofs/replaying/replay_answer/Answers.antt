@@ -3,5 +3,6 @@ use Rattle.mw_verify.proofs.replaying.replay_answer.Goals as goal
 
 pub returns-in-Err : goal.returns-in-Err
 returns-in-Err c =
-    replay_told c.told_no.result c.args.net.now c.args.questions.now c.args.cex.now c.index-questions-cex.result c.in-Err.why
+    replay_told c.told_no.result c.args.net.now c.args.questions.now c.args.cex.now c.index-questions-cex.result
+    c.in-Err.why
     c.told_no.ensures c.requires c.index-questions-cex.is c.in-Err.ensures.refused c.in-Err.ensures.untrue

@@ -18,5 +18,6 @@ returns-in_err-write-clause-cut g c =
     let text = c.as_slice-2.ensures ∙ c.in_ok-text.ensures
     ∙ ap (λ (questions : List Question). verdict_text c.args.loaded.now.net questions c.args.question.now verdict)
     c.as_slice.ensures in
-    let P : List ℕ → Type 0 = λ line. TakesPart (g.O.Sink.taken c.args.out.now) (g.O.Sink.taken c.write.new.self) line in
+    let P : List ℕ → Type 0 = λ line.
+    TakesPart (g.O.Sink.taken c.args.out.now) (g.O.Sink.taken c.write.new.self) line in
     on_err _ (inr (verdict, c.in_ok-verdict.ensures.ok, subst P text c.in_err-write.ensures.part))

@@ -16,14 +16,16 @@ returns-clause-sound c = λ valuation holds.
     let encodable : IsEncodable files question = record {
       limits = c.routers.ensures.limits;
       no_bgp = c.requires.no_bgp;
-      distances = λ router file found. all_found (λ (f : File). All FitsDistance f.statics) files router file fits found;
+      distances = λ router file found.
+          all_found (λ (f : File). All FitsDistance f.statics) files router file fits found;
       packets = c.packets_fit.ensures;
     } in
     let w = reading_of c.root_of.new.terms.nodes valuation in
     let found = c.in_ok-made.ensures.sound w (c.valuation_reads.ensures valuation) holds in
     let none = c.new-terms.ensures.vars in
     let R : ℕ → Type 0 = λ from. is_routing files question (truth valuation) from ≡ true in
-    let B : ℕ → Type 0 = λ from. Breaks files (world_from files question (truth valuation) from) question.kind found.1.0 in (
+    let B : ℕ → Type 0 = λ from.
+    Breaks files (world_from files question (truth valuation) from) question.kind found.1.0 in (
       found.1.0,
       c.routing_law.ensures.sound files question (truth valuation) 0 found.1.0 encodable
           (subst R none found.0) (subst B none found.1.1),
@@ -38,7 +40,8 @@ returns-clause-complete c = λ world environment walk breaking.
     let encodable : IsEncodable files question = record {
       limits = c.routers.ensures.limits;
       no_bgp = c.requires.no_bgp;
-      distances = λ router file found. all_found (λ (f : File). All FitsDistance f.statics) files router file fits found;
+      distances = λ router file found.
+          all_found (λ (f : File). All FitsDistance f.statics) files router file fits found;
       packets = c.packets_fit.ensures;
     } in
     let bits = world_bits files question world in

@@ -30,6 +30,7 @@ returns-clause-value c = λ w reads.
     ∙ ap₂ (λ a b. a && b) (there.value w after_there) (exact.value w after_exact)
     ∙ sums (at w near.valid) (at w far.valid) (at w c.in_ok-summed.summed.fits) (at w c.in_ok-same.same)
     (ospf_at w near) (ospf_at w far) c.args.cost sum (subst P wide (number_below w near.cost.nodes))
-    (summed.fits w after_summed ∙ ap₂ (λ n l. nat_lt (n + rest) (2 ^ l)) (more.value w after_more ∙ c.from.ensures) more.width)
+    (summed.fits w after_summed ∙ ap₂ (λ n l. nat_lt (n + rest) (2 ^ l)) (more.value w after_more ∙ c.from.ensures)
+    more.width)
     (λ fits. summed.value w after_summed fits ∙ ap (λ n. n + rest) (more.value w after_more ∙ c.from.ensures))
     (same.value w after_same)

@@ -15,7 +15,8 @@ returns-clause-value c = λ w reads has.
     made.value w reads
     ∙ ap (λ (b : Bool). cond b (at w c.in_ok-least.least) (at w c.args.behind))
     (c.in_ok-inside.ensures.value w (least.builds.reads w after))
-    ∙ ap (λ (b : Bool). cond (covers c.args.p.now (address_of w c.args.a.now)) b (at w c.args.behind)) (least.value w after has)
+    ∙ ap (λ (b : Bool). cond (covers c.args.p.now (address_of w c.args.a.now)) b (at w c.args.behind))
+    (least.value w after has)
 
 pub returns-then-is_never-clause-value : goal.returns-then-is_never-clause-value
 returns-then-is_never-clause-value c = λ w reads has.
