@@ -104,6 +104,32 @@ pub fn equal_number(terms: &mut Terms, nodes: &[NodeId], value: u64) -> Result<N
     }
 }
 
+/// Whether the number of some nodes, lowest first, is larger than a known one. A bit that is 1 in the known number and a
+/// bit that is 0 there take one gate each.
+#[tactic(auto, using(crate::proofs::NumberLemmas::node_steps))]
+pub fn above_number(terms: &mut Terms, nodes: &[NodeId], value: u64) -> Result<NodeId, AllocError>
+    requires { ids_end nodes.now ≤ size terms.old }
+    ensures builds { Builds terms.old terms.new }
+    ensures within { IfOk result (λ r. r.0 < size terms.new) }
+    ensures value { Gives terms.new result (λ w r. at w r ≡ nat_lt value (number w nodes.now)) }
+{
+    let mut above = constant_node(terms, false)?;
+    let mut rest = value;
+    for node in nodes {
+        above = if rest % 2 == 1 {
+            both(terms, *node, above)?
+        } else {
+            either(terms, *node, above)?
+        };
+        rest /= 2;
+    }
+    if rest == 0 {
+        Ok(above)
+    } else {
+        constant_node(terms, false)
+    }
+}
+
 /// The first number where `c` is true, else the second. The widths are equal.
 pub fn choose(
     alloc: Global,

@@ -1,9 +1,10 @@
 //! Gates over nodes. Constants fold, equal operands and a node with its negation too, and a double negation vanishes.
 
-ghost use Rattle.std.specs.Prelude.{◌≡◌, ℕ, ◌+◌, ◌<◌, ◌≤◌, Bool, false, true, not, ◌&&◌, ◌||◌, if◌then◌else◌, IfOk, IfSome};
+ghost use Rattle.std.specs.Prelude.{◌≡◌, ℕ, ◌+◌, ◌<◌, ◌≤◌, Bool, false, true, not, ◌&&◌, ◌||◌, if◌then◌else◌, IfOk, IfSome, Some};
 ghost use Rattle.term_arith.specs.Gates.{Ties};
 ghost use Rattle.term_store.specs.Terms.{Reading, size, at, differ};
-ghost use Rattle.term_store.specs.Reading.{Reads, Builds, Gives};
+ghost use Rattle.term_store.specs.Reading.{Reads, Stands, Builds, Gives};
+ghost use Rattle.term_store.specs.declared.Node.TheVariants.{Const};
 
 use std::alloc::AllocError;
 use term_store::{Node, NodeId, Terms};
@@ -25,7 +26,8 @@ enum Tie {
 /// The value of a node that is a constant.
 fn known(terms: &Terms, id: NodeId) -> Option<bool>
     requires { id.0 < size terms.now }
-    ensures { IfSome result (λ b. (w : Reading) → Reads w terms.now → at w id ≡ b) }
+    ensures value { IfSome result (λ b. (w : Reading) → Reads w terms.now → at w id ≡ b) }
+    ensures constant { (b : Bool) → Stands terms.now id.0 (Const b) → result ≡ Some b }
 {
     match terms.get(id) {
         Node::Const(value) => Some(value),
@@ -77,7 +79,8 @@ fn tie_of(terms: &Terms, a: NodeId, b: NodeId) -> Tie
 /// Whether the node is the constant false.
 pub fn is_never(terms: &Terms, node: NodeId) -> bool
     requires { node.0 < size terms.now }
-    ensures { result ≡ true → (w : Reading) → Reads w terms.now → at w node ≡ false }
+    ensures never { result ≡ true → (w : Reading) → Reads w terms.now → at w node ≡ false }
+    ensures constant { Stands terms.now node.0 (Const false) → result ≡ true }
 {
     known(terms, node) == Some(false)
 }

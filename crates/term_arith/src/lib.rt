@@ -13,7 +13,7 @@ mod masked;
 mod sum;
 mod values;
 
-pub use compare::{choose, equal, equal_number, less};
+pub use compare::{above_number, choose, equal, equal_number, less};
 pub use constants::constant;
 pub use count::at_most;
 pub use lists::{copy, fresh_bits};
