@@ -21,6 +21,6 @@ returns-clause-value c = λ w reads has.
 pub returns-then-is_never-clause-value : goal.returns-then-is_never-clause-value
 returns-then-is_never-clause-value c = λ w reads has.
     let net = c.args.net.now in
-    let fails = sym (c.in_ok-inside.ensures.value w reads) ∙ c.is_never.ensures c.if-is_never.true w reads in
+    let fails = sym (c.in_ok-inside.ensures.value w reads) ∙ c.is_never.ensures.never c.if-is_never.true w reads in
     sym (ap (λ (b : Bool). cond b (is_on_least_walk net (failures_of w c.args.sym.now) c.args.router c.args.p.now
     c.args.x.now) (at w c.args.behind)) fails)

@@ -22,7 +22,7 @@ returns-clause-value c = λ w reads xs before.
 
 pub returns-then-is_never-clause-value : goal.returns-then-is_never-clause-value
 returns-then-is_never-clause-value c = λ w reads xs before.
-    let fails = sym (c.in_ok-here.ensures.value w reads) ∙ c.is_never.ensures c.if-is_never.true w reads in
+    let fails = sym (c.in_ok-here.ensures.value w reads) ∙ c.is_never.ensures.never c.if-is_never.true w reads in
     first_past (sought_by w c.args.aim.now)
     (reaches c.args.net.now (failures_of w c.args.sym.now) c.args.router (address_of w c.args.a.now))
     (sent_to c.args.net.now (failures_of w c.args.sym.now) (packet_of w c.args.packet.now) (address_of w c.args.a.now))

@@ -42,4 +42,4 @@ returns-then-is_never-clause-value c = λ w reads has.
     let P : Bool → Type 0 = λ b. IsTwin sought
     (option_map_or (λ (r : BgpRec). hops r.next_hop) (cond b (Some (route_towards (address_of w held.next_hop))) None)
     []) (forwarding_of w c.in_ok-none.none) in
-    subst P (sym (c.is_never.ensures c.if-is_never.true w reads)) (c.in_ok-none.ensures.value w reads sought)
+    subst P (sym (c.is_never.ensures.never c.if-is_never.true w reads)) (c.in_ok-none.ensures.value w reads sought)
