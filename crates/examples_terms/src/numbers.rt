@@ -8,9 +8,11 @@ ghost use Rattle.term_arith.specs.Bits.{ids_end};
 use mw_text::List;
 use std::alloc::{AllocError, Global};
 use std::test::Fail;
-use term_arith::gates::constant_node;
+use term_arith::gates::{constant_node, is_never};
 use term_arith::lists::{all_of, any_of};
-use term_arith::{Bits, add, at_most, choose, constant, equal, equal_number, less, values_of};
+use term_arith::{
+    Bits, above_number, add, at_most, choose, constant, equal, equal_number, less, values_of,
+};
 use term_store::{NodeId, Terms};
 
 /// A number of new variables.
@@ -36,6 +38,7 @@ struct Nodes {
     below: NodeId,
     same: NodeId,
     known: NodeId,
+    above: NodeId,
 }
 
 /// The variables are the choice, the bits of the first number and those of the second.
@@ -46,6 +49,7 @@ fn build(alloc: Global, terms: &mut Terms, width: u8) -> Result<Nodes, AllocErro
     let below = less(terms, &a, &b)?;
     let same = equal(terms, &a, &b)?;
     let known = equal_number(terms, a.nodes.as_slice(), 1)?;
+    let above = above_number(terms, a.nodes.as_slice(), 2)?;
     let sum = add(alloc, terms, &a, &b)?;
     let chosen = choose(alloc, terms, c, &a, &b)?;
     Ok(Nodes {
@@ -54,6 +58,7 @@ fn build(alloc: Global, terms: &mut Terms, width: u8) -> Result<Nodes, AllocErro
         below,
         same,
         known,
+        above,
     })
 }
 
@@ -89,6 +94,7 @@ fn agree(found: &[bool], nodes: &Nodes, a: u64, b: u64, c: bool) -> bool {
         && bit_at(found, nodes.below) == (a < b)
         && bit_at(found, nodes.same) == (a == b)
         && bit_at(found, nodes.known) == (a == 1)
+        && bit_at(found, nodes.above) == (a > 2)
 }
 
 /// The values of all nodes where the variables are a choice and the bits of two numbers.
@@ -144,6 +150,18 @@ fn arithmetic_agrees_with_plain_numbers(rt: HostRuntime) -> Result<(), Fail> {
     assert!(rt; width_agrees(rt.alloc(), 8, 255)?);
     assert!(rt; width_agrees(rt.alloc(), 32, 4_294_967_295)?);
     assert!(rt; width_agrees(rt.alloc(), 33, 8_589_934_591)?);
+    Ok(())
+}
+
+#[test]
+fn the_constant_false_is_never_true(rt: HostRuntime) -> Result<(), Fail> {
+    let mut terms = Terms::new(rt.alloc());
+    let no = constant_node(&mut terms, false)?;
+    let yes = constant_node(&mut terms, true)?;
+    let open = terms.fresh()?;
+    assert!(rt; is_never(&terms, no));
+    assert!(rt; !is_never(&terms, yes));
+    assert!(rt; !is_never(&terms, open));
     Ok(())
 }
 
