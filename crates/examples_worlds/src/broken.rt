@@ -1,6 +1,7 @@
 //! Walks: whether one breaks a question of each kind, in random worlds.
 
 use crate::asking::{KINDS, random_question};
+use crate::counts::{Count, Counts};
 use crate::followed::breaking_walk;
 use crate::given::values_of_world;
 use crate::symbolic::fresh_world;
@@ -53,7 +54,7 @@ fn finder_agrees(
     breaks(alloc, net, question, world, found.as_ref())
 }
 
-// Whether the terms say of a world what the walks say, and the finder finds one.
+// Whether the terms say of a world what the walks say, and the finder finds one. The world is counted by its walks.
 fn agrees_in(
     alloc: Global,
     terms: &Terms,
@@ -61,9 +62,11 @@ fn agrees_in(
     net: &Net,
     question: &Question,
     world: &World,
+    count: &mut Count,
 ) -> Result<bool, AllocError> {
     let walk = breaking_walk(alloc, net, question, world)?;
     let plain = walk.is_some() || asks_no_stable(&question.kind);
+    count.put(plain);
     let same = symbolic(alloc, terms, root, net, world)? == Some(plain);
     Ok(finder_agrees(alloc, net, question, world, walk.as_ref())? && same)
 }
@@ -76,11 +79,12 @@ fn compared(
     root: NodeId,
     net: &Net,
     question: &Question,
+    count: &mut Count,
 ) -> Result<bool, AllocError> {
     let mut agree = true;
     for _world in 0..WORLDS {
         let world = random_world(alloc, dice, net, &question.kind)?;
-        agree = agree && agrees_in(alloc, terms, root, net, question, &world)?;
+        agree = agree && agrees_in(alloc, terms, root, net, question, &world, count)?;
     }
     Ok(agree)
 }
@@ -91,18 +95,24 @@ fn compare_kind(
     dice: &mut Dice,
     net: &Net,
     number: u32,
+    count: &mut Count,
 ) -> Result<bool, AllocError> {
     let question = random_question(alloc, dice, net, number);
     let mut terms = Terms::new(alloc);
     let world = fresh_world(alloc, &mut terms, net, &HELD)?;
     let root = sym_breaks(alloc, &mut terms, net, &question, &world)?;
-    compared(alloc, dice, &terms, root, net, &question)
+    compared(alloc, dice, &terms, root, net, &question, count)
 }
 
-// Questions of all kinds.
-fn compare(alloc: Global, dice: &mut Dice, net: &Net) -> Result<Outcome, AllocError> {
+/// What breaks the questions of all kinds about a network.
+pub fn compare(
+    alloc: Global,
+    dice: &mut Dice,
+    net: &Net,
+    counts: &mut Counts,
+) -> Result<Outcome, AllocError> {
     for number in 0..KINDS {
-        if !compare_kind(alloc, dice, net, number)? {
+        if !compare_kind(alloc, dice, net, number, &mut counts[number as usize])? {
             return Ok(Outcome::of(false, 0, number));
         }
     }
@@ -110,9 +120,9 @@ fn compare(alloc: Global, dice: &mut Dice, net: &Net) -> Result<Outcome, AllocEr
 }
 
 /// What breaks the questions about a random network.
-pub fn outcome(alloc: Global, dice: &mut Dice) -> Result<Outcome, AllocError> {
+pub fn outcome(alloc: Global, dice: &mut Dice, counts: &mut Counts) -> Result<Outcome, AllocError> {
     match random_case(alloc, dice, Protocols::Interior)? {
         None => Ok(Outcome::Refused),
-        Some(case) => compare(alloc, dice, &case.net),
+        Some(case) => compare(alloc, dice, &case.net, counts),
     }
 }

@@ -4,8 +4,10 @@
 
 mod asking;
 mod broken;
+mod counts;
 mod followed;
 mod given;
+mod looping;
 mod originated;
 mod redistributed;
 mod symbolic;
@@ -13,6 +15,7 @@ mod tables;
 mod taken;
 mod worlds;
 
+use crate::counts::{Counts, NONE, show_counts};
 use random_networks::comparisons::{Comparison, comparison_of, show_agreed, show_outcome};
 use random_networks::dice::Dice;
 use random_networks::outcomes::Outcome;
@@ -20,11 +23,17 @@ use std::alloc::{AllocError, Global};
 use std::io;
 
 // What one random network says.
-fn outcome(alloc: Global, what: &str, dice: &mut Dice) -> Result<Outcome, AllocError> {
+fn outcome(
+    alloc: Global,
+    what: &str,
+    dice: &mut Dice,
+    counts: &mut Counts,
+) -> Result<Outcome, AllocError> {
     match what {
         "originate" => originated::outcome(alloc, dice),
         "redistribute" => redistributed::outcome(alloc, dice),
-        "breaks" => broken::outcome(alloc, dice),
+        "breaks" => broken::outcome(alloc, dice, counts),
+        "loops" => looping::outcome(alloc, dice, counts),
         _ => Ok(Outcome::Unknown),
     }
 }
@@ -32,12 +41,14 @@ fn outcome(alloc: Global, what: &str, dice: &mut Dice) -> Result<Outcome, AllocE
 fn show_worlds(rt: &(impl Print + AllocGlobal), comparison: Comparison<'_>) -> io::Result<()> {
     let mut dice = Dice::new(u64::from(comparison.seed));
     let mut agreed = 0u32;
+    let mut counts = NONE;
     for number in 0..comparison.count {
-        let outcome = outcome(rt.alloc(), comparison.what, &mut dice)?;
+        let outcome = outcome(rt.alloc(), comparison.what, &mut dice, &mut counts)?;
         agreed = agreed.wrapping_add(u32::from(outcome.agrees()));
         show_outcome(rt, comparison.what, number, outcome)?;
     }
-    show_agreed(rt, comparison, agreed)
+    show_agreed(rt, comparison, agreed)?;
+    show_counts(rt, &counts)
 }
 
 fn main(rt: HostRuntime) -> io::Result<()> {
