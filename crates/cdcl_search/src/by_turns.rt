@@ -14,14 +14,15 @@ use deciders::{Decider, OrderDecider, ScoreDecider};
 use mw_outside::Sink;
 use std::alloc::Global;
 
-/// Searches as `solve` does, by two deciders in turns: the first goes by the order of the variables, so that clauses
-/// whose first variables settle the others are searched over these alone; the second follows scores.
+/// Searches as `solve` does, by two deciders in turns. One goes by the order of the variables, so that clauses whose first
+/// variables settle the others are searched over these alone; the other follows scores. `by_order` says which is first.
 ///
 /// # Errors
 /// Those of `solve`.
 pub fn solve_by_turns<L: Sink>(
     alloc: Global,
     cnf: &Cnf,
+    by_order: bool,
     budget: u64,
     log: &mut L,
 ) -> Result<Outcome, SolveFault>
@@ -45,5 +46,8 @@ pub fn solve_by_turns<L: Sink>(
     let mut deciders: Vec<Box<dyn Decider>> = Vec::new(alloc);
     deciders.push(Box::new(alloc, OrderDecider::new())?)?;
     deciders.push(Box::new(alloc, ScoreDecider::new(alloc))?)?;
+    if !by_order {
+        deciders.reverse();
+    }
     solve(alloc, cnf, budget, log, &mut deciders)
 }

@@ -24,7 +24,7 @@ use cex_json::{Counterexample, write_cex};
 use cnf_blaster::decoded;
 use mw_outside::Sink;
 use mw_text::List;
-use net_encoder::decode;
+use net_encoder::{decode, is_meshed};
 use net_model::Net;
 use question_lang::Question;
 use route_record::Environment;
@@ -177,7 +177,7 @@ fn search<L: Sink>(
 {
     write_opening(alloc, question, log)?;
     let formula = formula_of(alloc, net, question)?;
-    let outcome = solve_by_turns(alloc, &formula.cnf, budget, log)?;
+    let outcome = solve_by_turns(alloc, &formula.cnf, is_meshed(net), budget, log)?;
     write_end(log)?;
     Ok(Searched { formula, outcome })
 }

@@ -1,12 +1,9 @@
 -- Limits of what routes cost: the best is within one exactly where one of all is.
-use Rattle.std.proofs.Common.{◌≡◌, ℕ, ◌+◌, ◌-◌, ◌<◌, ◌≤◌, ◌^◌, Bool, true, false, not, List, [], ◌∷◌, ◌++◌, Option}
+use Rattle.std.proofs.Common.{◌≡◌, ℕ, ◌+◌, ◌-◌, ◌<◌, ◌≤◌, ◌^◌, Bool, true, false, not, List, [], ◌∷◌, Option}
 use Rattle.std.proofs.Common.{Some, None, refl, ap, sym, ◌∙◌, arith, if◌then◌else◌}
 use Rattle.std.specs.Prelude.{◌==◌, ◌&&◌, ◌||◌, nat_lt, fold, option_and_then}
 use Rattle.std.specs.List.{list_any}
-use Rattle.std.specs.Option.{option_to_list}
 use Rattle.std.proofs.lemmas.Bool.Decides.{nat_tests}
-use Rattle.std.proofs.lemmas.Grind.{common_steps}
-use Rattle.std.proofs.lemmas.List.{drop_all}
 use Rattle.std.proofs.Math.Bool.{or_assoc, or-false}
 use Rattle.mw_text.specs.declared.address.Prefix.{Prefix}
 use Rattle.ios_ast.specs.declared.file.File.{File}
@@ -20,10 +17,9 @@ use Rattle.net_model.specs.OspfRoutes.{better_of, extended, first_best, is_bette
 use Rattle.net_model.specs.Sending.{same_record}
 use Rattle.term_store.specs.Terms.{differ}
 use Rattle.sym_policy.specs.Held.{kind_of_number}
-use Rattle.net_encoder.specs.Equations.{offered_by, offers_by}
+use Rattle.net_encoder.specs.Equations.{offers_by}
 use Rattle.net_encoder.specs.Levels.{has_within, is_within, of_length}
 use Rattle.net_encoder.specs.Slots.{same_ospf}
-use Rattle.net_encoder.proofs.EquationSteps.{items_at, offers_next, offers_none}
 
 -- the better one of two is within a limit exactly where one of them is
 better_within : (most : ℕ) (x b : OspfRec) →
@@ -120,7 +116,7 @@ implied true b follows = follows refl
 implied false b follows = refl
 
 -- the test of a route that may be there, by its numbers
-pub within_is : (there : Bool) (kind metric cost most : ℕ) → (there && ((kind == 0) && not (nat_lt most cost)))
+pub within_is : (there : Bool) (kind metric cost most : ℕ) → ((there && (kind == 0)) && not (nat_lt most cost))
     ≡ has_within most (if there
     then Some (record { kind = kind_of_number kind; metric = metric; cost = cost }) else None)
 within_is false kind metric cost most = refl
@@ -130,38 +126,6 @@ within_is true kind metric cost most = by_kind (kind == 0) (kind == 1) where
   by_kind true first = refl
   by_kind false true = refl
   by_kind false false = refl
-
--- ---- one adjacency after another
-
-pub offers_within_next : (most : ℕ) (files : List File) (failures : Failures) (tables : Tables) (router : ℕ)
-    (p : Prefix) (a : Adjacency) (links : List Adjacency) →
-    list_any (is_within most) (offers_by files failures tables router p (a ∷ links))
-    ≡ (has_within most (offered_by files failures tables router p a)
-    || list_any (is_within most) (offers_by files failures tables router p links))
-offers_within_next most files failures tables router p a links =
-    ap (list_any (is_within most)) (offers_next files failures tables router p a links)
-    ∙ one (offered_by files failures tables router p a)
-  where
-    one : (o : Option OspfRec) →
-        list_any (is_within most) (option_to_list o ++ offers_by files failures tables router p links)
-        ≡ (has_within most o || list_any (is_within most) (offers_by files failures tables router p links))
-    one None = refl
-    one (Some r) = refl
-
-pub offers_within_none : (most : ℕ) (files : List File) (failures : Failures) (tables : Tables) (router : ℕ)
-    (p : Prefix) → list_any (is_within most) (offers_by files failures tables router p []) ≡ false
-offers_within_none most files failures tables router p =
-    ap (list_any (is_within most)) (offers_none files failures tables router p)
-
-pub ruleset offer_steps = (
-  common_steps,
-  items_at,
-  drop_all,
-  offers_within_next,
-  offers_within_none,
-  or_assoc,
-  or-false,
-)
 
 -- the offers depend on the prefix by its length alone
 pub offers_of_length : (files : List File) (failures : Failures) (tables : Tables) (router : ℕ) (p : Prefix)

@@ -20,3 +20,4 @@ pub mod RoutingSteps
 pub mod Wanted
 pub mod DecodingSteps
 pub mod LevelSteps
+pub mod AdjacentSteps

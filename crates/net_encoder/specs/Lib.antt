@@ -5,6 +5,7 @@ pub mod Failures
 pub mod Unknowns
 pub mod Slots
 pub mod Levels
+pub mod Adjacent
 pub mod Rooms
 pub mod Breaking
 pub mod Worlds

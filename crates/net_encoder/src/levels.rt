@@ -10,54 +10,45 @@ ghost use Rattle.sym_policy.specs.Held.{failures_of, ospf_of, ospf_end};
 ghost use Rattle.sym_policy.specs.Records.{prefix_of as prefix_read};
 ghost use Rattle.sym_rib.specs.Into.{list_end};
 ghost use Rattle.sym_walk.specs.Worlds.{slots_end, tables_of};
-ghost use Rattle.net_encoder.specs.Equations.{offered_by, offers_by};
+ghost use Rattle.net_encoder.specs.Adjacent.{offers_read, ups_end};
+ghost use Rattle.net_encoder.specs.Equations.{offers_by};
 ghost use Rattle.net_encoder.specs.Levels.{has_within, is_within, of_length};
 ghost use Rattle.net_encoder.specs.Slots.{same_ospf};
 ghost use Rattle.term_store.specs.Terms.{Reading, at, size};
 ghost use Rattle.term_store.specs.Reading.{Reads, Builds, Gives};
 ghost use Rattle.term_arith.specs.Bits.{ids_end};
 
+use crate::adjacent::{SymAdjacency, sym_adjacencies};
 use crate::offers::with_offers;
 use mw_text::List;
 use net_model::{Adjacency, Net};
 use std::alloc::{AllocError, Global};
-use sym_ospf::{sym_best, sym_same_record, sym_up_at};
+use sym_ospf::{sym_best, sym_same_record};
 use sym_policy::{SymNet, SymOspf};
 use sym_rib::SymSlot;
 use sym_walk::slot_for;
 use term_arith::gates::{agree, both, constant_node, either, is_never, negate};
-use term_arith::{Bits, constant, equal_number, less};
+use term_arith::{Bits, above_number, equal_number};
 use term_store::{NodeId, Terms};
 
 // Whether the route is there, is internal and costs no more.
 #[tactic(auto, using(crate::proofs::LevelSteps::within_is))]
-fn sym_within(
-    alloc: Global,
-    terms: &mut Terms,
-    rec: &SymOspf,
-    most: u32,
-) -> Result<NodeId, AllocError>
+fn sym_within(terms: &mut Terms, rec: &SymOspf, most: u32) -> Result<NodeId, AllocError>
     requires nodes { ospf_end rec.now ≤ size terms.old }
     ensures builds { Builds terms.old terms.new }
     ensures within { IfOk result (λ r. r.0 < size terms.new) }
     ensures value { Gives terms.new result (λ w r. at w r ≡ has_within most (ospf_of w rec.now)) }
 {
-    let limit = constant(alloc, terms, u64::from(most), 32)?;
-    let dearer = less(terms, &limit, &rec.cost)?;
-    let cheap = negate(terms, dearer)?;
     let internal = equal_number(terms, rec.kind.nodes.as_slice(), 0)?;
-    let good = both(terms, internal, cheap)?;
-    both(terms, rec.valid, good)
+    let there = both(terms, rec.valid, internal)?;
+    let dearer = above_number(terms, rec.cost.nodes.as_slice(), u64::from(most))?;
+    let cheap = negate(terms, dearer)?;
+    both(terms, there, cheap)
 }
 
 // Whether one of some is.
 #[tactic(auto, using(crate::proofs::HoldingSteps::any_steps))]
-fn sym_some_within(
-    alloc: Global,
-    terms: &mut Terms,
-    own: &[SymOspf],
-    most: u32,
-) -> Result<NodeId, AllocError>
+fn sym_some_within(terms: &mut Terms, own: &[SymOspf], most: u32) -> Result<NodeId, AllocError>
     requires own { list_end ospf_end own.now ≤ size terms.old }
     ensures builds { Builds terms.old terms.new }
     ensures within { IfOk result (λ r. r.0 < size terms.new) }
@@ -66,7 +57,7 @@ fn sym_some_within(
 {
     let mut any = constant_node(terms, false)?;
     for rec in own {
-        let here = sym_within(alloc, terms, rec, most)?;
+        let here = sym_within(terms, rec, most)?;
         any = either(terms, any, here)?;
     }
     Ok(any)
@@ -74,7 +65,6 @@ fn sym_some_within(
 
 // Whether the route that the far router of an adjacency offers is, where a node is true.
 fn sym_far_within(
-    alloc: Global,
     terms: &mut Terms,
     slots: &[SymSlot],
     len: u8,
@@ -95,63 +85,31 @@ fn sym_far_within(
     match slot_for(slots, a.to.router, len) {
         None => constant_node(terms, false),
         Some(far) => {
-            let there = sym_within(alloc, terms, &far.ospf, most - a.cost)?;
+            let there = sym_within(terms, &far.ospf, most - a.cost)?;
             both(terms, up, there)
         }
     }
 }
 
-// Whether what the router is offered over an adjacency is, if it is offered anything.
-fn sym_offer_within(
-    alloc: Global,
-    terms: &mut Terms,
-    net: &Net,
-    sym: &SymNet,
-    slots: &[SymSlot],
-    router: u32,
-    len: u8,
-    a: &Adjacency,
-    most: u32,
-) -> Result<NodeId, AllocError>
-    requires down { ids_end sym.now.down ≤ size terms.old }
-    requires slots { slots_end slots.now ≤ size terms.old }
-    ensures builds { Builds terms.old terms.new }
-    ensures within { IfOk result (λ r. r.0 < size terms.new) }
-    ensures value { Gives terms.new result (λ w r. at w r ≡ has_within most (offered_by net.now
-        (failures_of w sym.now) (tables_of w slots.now) router (of_length len) a.now)) }
-{
-    if a.from.router != router {
-        return constant_node(terms, false);
-    }
-    let here = sym_up_at(alloc, terms, net, sym, a.from)?;
-    let there = sym_up_at(alloc, terms, net, sym, a.to)?;
-    let up = both(terms, here, there)?;
-    sym_far_within(alloc, terms, slots, len, a, up, most)
-}
-
-// Whether one of all that the router is offered is.
-#[tactic(auto, using(crate::proofs::LevelSteps::offer_steps))]
+// Whether one of all that is offered over some adjacencies is.
+#[tactic(auto, using(crate::proofs::AdjacentSteps::within_steps))]
 fn sym_offers_within(
-    alloc: Global,
     terms: &mut Terms,
-    net: &Net,
-    sym: &SymNet,
     slots: &[SymSlot],
-    router: u32,
+    over: &[SymAdjacency],
     len: u8,
     most: u32,
 ) -> Result<NodeId, AllocError>
-    requires down { ids_end sym.now.down ≤ size terms.old }
     requires slots { slots_end slots.now ≤ size terms.old }
+    requires over { ups_end over.now ≤ size terms.old }
     ensures builds { Builds terms.old terms.new }
     ensures within { IfOk result (λ r. r.0 < size terms.new) }
-    ensures value { Gives terms.new result (λ w r. at w r ≡ list_any (is_within most) (offers_by net.now
-        (failures_of w sym.now) (tables_of w slots.now) router (of_length len) (model.adjacencies net.now))) }
+    ensures value { Gives terms.new result (λ w r. at w r ≡ list_any (is_within most)
+        (offers_read w (tables_of w slots.now) (of_length len) over.now)) }
 {
-    let adjacencies = net.adjacencies();
     let mut any = constant_node(terms, false)?;
-    for a in adjacencies {
-        let here = sym_offer_within(alloc, terms, net, sym, slots, router, len, a, most)?;
+    for s in over {
+        let here = sym_far_within(terms, slots, len, &s.adjacency, s.up, most)?;
         any = either(terms, any, here)?;
     }
     Ok(any)
@@ -160,30 +118,27 @@ fn sym_offers_within(
 // True where the held route is the best of the own ones and the offers: it is within the limit exactly where one of
 // these is.
 fn sym_level(
-    alloc: Global,
     terms: &mut Terms,
-    net: &Net,
-    sym: &SymNet,
     slots: &[SymSlot],
-    router: u32,
+    over: &[SymAdjacency],
     len: u8,
     own: &[SymOspf],
     held: &SymOspf,
     most: u32,
 ) -> Result<NodeId, AllocError>
-    requires down { ids_end sym.now.down ≤ size terms.old }
     requires slots { slots_end slots.now ≤ size terms.old }
+    requires over { ups_end over.now ≤ size terms.old }
     requires own { list_end ospf_end own.now ≤ size terms.old }
     requires held { ospf_end held.now ≤ size terms.old }
     ensures builds { Builds terms.old terms.new }
     ensures within { IfOk result (λ r. r.0 < size terms.new) }
     ensures value { Gives terms.new result (λ w r. same_ospf (ospf_of w held.now) (first_best
-        (filter_map (ospf_of w) own.now ++ offers_by net.now (failures_of w sym.now) (tables_of w slots.now) router
-        (of_length len) (model.adjacencies net.now))) ≡ true → at w r ≡ true) }
+        (filter_map (ospf_of w) own.now ++ offers_read w (tables_of w slots.now) (of_length len) over.now)) ≡ true
+        → at w r ≡ true) }
 {
-    let here = sym_within(alloc, terms, held, most)?;
-    let own = sym_some_within(alloc, terms, own, most)?;
-    let offered = sym_offers_within(alloc, terms, net, sym, slots, router, len, most)?;
+    let here = sym_within(terms, held, most)?;
+    let own = sym_some_within(terms, own, most)?;
+    let offered = sym_offers_within(terms, slots, over, len, most)?;
     let some = either(terms, own, offered)?;
     let level = agree(terms, here, some)?;
     Ok(level)
@@ -208,30 +163,27 @@ fn sym_same(terms: &mut Terms, a: &SymOspf, b: &SymOspf) -> Result<NodeId, Alloc
 
 // True where the held route is the best of the own ones and the offers, whatever the limits.
 fn sym_all_levels(
-    alloc: Global,
     terms: &mut Terms,
-    net: &Net,
-    sym: &SymNet,
     slots: &[SymSlot],
-    router: u32,
+    over: &[SymAdjacency],
     len: u8,
     own: &[SymOspf],
     held: &SymOspf,
     limits: &[u32],
 ) -> Result<NodeId, AllocError>
-    requires down { ids_end sym.now.down ≤ size terms.old }
     requires slots { slots_end slots.now ≤ size terms.old }
+    requires over { ups_end over.now ≤ size terms.old }
     requires own { list_end ospf_end own.now ≤ size terms.old }
     requires held { ospf_end held.now ≤ size terms.old }
     ensures builds { Builds terms.old terms.new }
     ensures within { IfOk result (λ r. r.0 < size terms.new) }
     ensures value { Gives terms.new result (λ w r. same_ospf (ospf_of w held.now) (first_best
-        (filter_map (ospf_of w) own.now ++ offers_by net.now (failures_of w sym.now) (tables_of w slots.now) router
-        (of_length len) (model.adjacencies net.now))) ≡ true → at w r ≡ true) }
+        (filter_map (ospf_of w) own.now ++ offers_read w (tables_of w slots.now) (of_length len) over.now)) ≡ true
+        → at w r ≡ true) }
 {
     let mut all = constant_node(terms, true)?;
     for most in limits {
-        let level = sym_level(alloc, terms, net, sym, slots, router, len, own, held, *most)?;
+        let level = sym_level(terms, slots, over, len, own, held, *most)?;
         all = both(terms, all, level)?;
     }
     Ok(all)
@@ -267,19 +219,17 @@ pub fn sym_held(
     } else {
         limits
     };
+    let over = sym_adjacencies(alloc, terms, net, sym, router)?;
     let levels = sym_all_levels(
-        alloc,
         terms,
-        net,
-        sym,
         slots,
-        router,
+        over.as_slice(),
         len,
         own.as_slice(),
         held,
         shown,
     )?;
-    let all = with_offers(alloc, terms, net, sym, slots, router, dst, len, own)?;
+    let all = with_offers(alloc, terms, slots, over.as_slice(), dst, len, own)?;
     let best = sym_best(alloc, terms, all.as_slice())?;
     let same = sym_same(terms, held, &best)?;
     let firm = both(terms, same, levels)?;

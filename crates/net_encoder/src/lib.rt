@@ -1,6 +1,7 @@
 //! Questions about a network as formulas over Boolean variables.
 #![tactic(auto)]
 
+mod adjacent;
 pub mod decoding;
 mod encoding;
 mod holding;
@@ -20,3 +21,4 @@ mod widths;
 
 pub use decoding::decode;
 pub use encoding::{Encoding, encode};
+pub use limits::is_meshed;

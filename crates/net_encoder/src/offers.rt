@@ -3,27 +3,26 @@
 ghost use Rattle.std.specs.Prelude.{◌≡◌, ℕ, ◌+◌, ◌≤◌, ◌<◌, ◌*◌, ◌==◌, ◌&&◌, IfOk, OnOk, Some, None, ◌++◌, ◌∷◌, [], if◌then◌else◌, length, max, map, slice_get};
 ghost use Rattle.std.specs.List.{filter_map};
 ghost use Rattle.std.specs.Option.{option_to_list};
-ghost use Rattle.net_model.specs.Ospf as model;
 ghost use Rattle.net_model.specs.OspfRoutes.{offer_over};
-ghost use Rattle.sym_policy.specs.Held.{failures_of, ospf_of, ospf_end};
+ghost use Rattle.sym_policy.specs.Held.{ospf_of, ospf_end};
 ghost use Rattle.sym_policy.specs.Records.{prefix_of as prefix_read};
 ghost use Rattle.sym_rib.specs.Into.{list_end};
 ghost use Rattle.sym_walk.specs.Worlds.{slots_end, tables_of};
-ghost use Rattle.net_encoder.specs.Equations.{offered_by, offers_by};
+ghost use Rattle.net_encoder.specs.Adjacent.{offers_read, ups_end};
 ghost use Rattle.term_store.specs.Terms.{Reading, at, size};
 ghost use Rattle.term_store.specs.Reading.{Reads, Builds, Gives};
 ghost use Rattle.term_arith.specs.Bits.{ids_end};
 
+use crate::adjacent::SymAdjacency;
 use crate::origins::put_route;
 use mw_text::List;
-use net_model::{Adjacency, Net};
+use net_model::Adjacency;
 use std::alloc::{AllocError, Global};
-use sym_ospf::{sym_transfer, sym_up_at};
-use sym_policy::{SymNet, SymOspf};
+use sym_ospf::sym_transfer;
+use sym_policy::SymOspf;
 use sym_rib::SymSlot;
 use sym_walk::slot_for;
 use term_arith::Bits;
-use term_arith::gates::both;
 use term_store::{NodeId, Terms};
 
 // Puts the route behind some that the far router of an adjacency offers, where a node is true.
@@ -56,65 +55,29 @@ fn put_far(
     }
 }
 
-// Puts the route behind some that a router is offered over an adjacency, if it is.
-fn put_offer(
-    alloc: Global,
-    terms: &mut Terms,
-    net: &Net,
-    sym: &SymNet,
-    slots: &[SymSlot],
-    router: u32,
-    dst: &Bits,
-    len: u8,
-    a: &Adjacency,
-    made: &mut List<SymOspf>,
-) -> Result<(), AllocError>
-    requires down { ids_end sym.now.down ≤ size terms.old }
-    requires slots { slots_end slots.now ≤ size terms.old }
-    requires made { list_end ospf_end made.old ≤ size terms.old }
-    ensures builds { Builds terms.old terms.new }
-    ensures within { OnOk result (list_end ospf_end made.new ≤ size terms.new) }
-    ensures value { Gives terms.new result (λ w _. filter_map (ospf_of w) made.new
-        ≡ filter_map (ospf_of w) made.old ++ option_to_list (offered_by net.now (failures_of w sym.now)
-        (tables_of w slots.now) router (prefix_read w dst.now len) a.now)) }
-{
-    if a.from.router != router {
-        return Ok(());
-    }
-    let here = sym_up_at(alloc, terms, net, sym, a.from)?;
-    let there = sym_up_at(alloc, terms, net, sym, a.to)?;
-    let up = both(terms, here, there)?;
-    put_far(alloc, terms, slots, dst, len, a, up, made)
-}
-
-/// Some routes, and behind them those that a router is offered for the prefix of that length of a destination.
-#[tactic(auto, using(crate::proofs::EquationSteps::offer_steps))]
+/// Some routes, and behind them those that are offered over some adjacencies for the prefix of that length of a
+/// destination.
+#[tactic(auto, using(crate::proofs::AdjacentSteps::read_steps))]
 pub fn with_offers(
     alloc: Global,
     terms: &mut Terms,
-    net: &Net,
-    sym: &SymNet,
     slots: &[SymSlot],
-    router: u32,
+    over: &[SymAdjacency],
     dst: &Bits,
     len: u8,
     own: List<SymOspf>,
 ) -> Result<List<SymOspf>, AllocError>
-    requires down { ids_end sym.now.down ≤ size terms.old }
     requires slots { slots_end slots.now ≤ size terms.old }
+    requires over { ups_end over.now ≤ size terms.old }
     requires own { list_end ospf_end own ≤ size terms.old }
     ensures builds { Builds terms.old terms.new }
     ensures within { IfOk result (λ r. list_end ospf_end r ≤ size terms.new) }
-    ensures value { Gives terms.new result (λ w r. filter_map (ospf_of w) r
-        ≡ filter_map (ospf_of w) own ++ offers_by net.now (failures_of w sym.now) (tables_of w slots.now) router
-        (prefix_read w dst.now len) (model.adjacencies net.now)) }
+    ensures value { Gives terms.new result (λ w r. filter_map (ospf_of w) r ≡ filter_map (ospf_of w) own
+        ++ offers_read w (tables_of w slots.now) (prefix_read w dst.now len) over.now) }
 {
-    let adjacencies = net.adjacencies();
     let mut made = own;
-    for a in adjacencies {
-        put_offer(
-            alloc, terms, net, sym, slots, router, dst, len, a, &mut made,
-        )?;
+    for s in over {
+        put_far(alloc, terms, slots, dst, len, &s.adjacency, s.up, &mut made)?;
     }
     Ok(made)
 }

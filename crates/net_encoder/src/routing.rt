@@ -128,7 +128,7 @@ pub fn sym_routing(
     let world = &made.world;
     let in_set = sym_in_set(alloc, terms, &question.packets, &world.packet)?;
     let few = sym_few_fail(alloc, terms, &world.net, question.failures)?;
-    let limits = limits_of(alloc, net)?;
+    let limits = limits_of(alloc, net, question.failures)?;
     let hold = sym_all_hold(
         alloc,
         terms,

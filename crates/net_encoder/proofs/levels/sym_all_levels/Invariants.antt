@@ -1,12 +1,11 @@
 use Rattle.std.proofs.Common.{◌≡◌, ◌<◌, ◌++◌, true}
 use Rattle.std.specs.List.{filter_map}
-use Rattle.net_model.specs.Ospf.{adjacencies}
 use Rattle.net_model.specs.OspfRoutes.{first_best}
-use Rattle.sym_policy.specs.Held.{failures_of, ospf_of}
+use Rattle.sym_policy.specs.Held.{ospf_of}
 use Rattle.sym_walk.specs.Worlds.{tables_of}
 use Rattle.term_store.specs.Terms.{Reading, at, size}
 use Rattle.term_store.specs.Reading.{Reads, Builds}
-use Rattle.net_encoder.specs.Equations.{offers_by}
+use Rattle.net_encoder.specs.Adjacent.{offers_read}
 use Rattle.net_encoder.specs.Levels.{of_length}
 use Rattle.net_encoder.specs.Slots.{same_ospf}
 use Rattle.net_encoder.proofs.levels.sym_all_levels.Given as goal
@@ -16,6 +15,6 @@ invariant-loop-most l = record {
   builds : Builds l.fn.terms l.terms;
   within : l.all.0 < size l.terms;
   value : (w : Reading) → Reads w l.terms →
-      same_ospf (ospf_of w l.held) (first_best (filter_map (ospf_of w) l.own ++ offers_by l.net (failures_of w l.sym)
-      (tables_of w l.slots) l.router (of_length l.len) (adjacencies l.net))) ≡ true → at w l.all ≡ true;
+      same_ospf (ospf_of w l.held) (first_best (filter_map (ospf_of w) l.own
+      ++ offers_read w (tables_of w l.slots) (of_length l.len) l.over)) ≡ true → at w l.all ≡ true;
 }

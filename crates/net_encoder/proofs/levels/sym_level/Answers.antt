@@ -1,11 +1,10 @@
 use Rattle.std.proofs.Common.{◌≡◌, ap, ap₂, sym, ◌∙◌, ◌||◌, not, ◌++◌}
 use Rattle.std.specs.List.{filter_map}
 use Rattle.std.proofs.lemmas.List.Folds.{list_any-append}
-use Rattle.net_model.specs.Ospf.{adjacencies}
 use Rattle.term_store.specs.Terms.{at, differ}
-use Rattle.sym_policy.specs.Held.{failures_of, ospf_of}
+use Rattle.sym_policy.specs.Held.{ospf_of}
 use Rattle.sym_walk.specs.Worlds.{tables_of}
-use Rattle.net_encoder.specs.Equations.{offers_by}
+use Rattle.net_encoder.specs.Adjacent.{offers_read}
 use Rattle.net_encoder.specs.Levels.{is_within, of_length}
 use Rattle.net_encoder.proofs.LevelSteps.{agrees, level_is}
 use Rattle.net_encoder.proofs.levels.sym_level.Goals as goal
@@ -18,8 +17,7 @@ returns-clause-value c = λ w reads best.
     let r0 = c.sym_some_within.ensures.builds.reads w r1 in
     let most = c.args.most in
     let routes = filter_map (ospf_of w) c.args.own.now in
-    let offers = offers_by c.args.net.now (failures_of w c.args.sym.now) (tables_of w c.args.slots.now) c.args.router
-    (of_length c.args.len) (adjacencies c.args.net.now) in
+    let offers = offers_read w (tables_of w c.args.slots.now) (of_length c.args.len) c.args.over.now in
     let some = c.in_ok-some.some in
     let same : at w c.in_ok-here.here ≡ at w some =
     c.in_ok-here.ensures.value w r0
