@@ -1,24 +1,67 @@
 #!/bin/sh
-# Prints how many nodes and clauses access lists of 64 to 512 entries and route maps of 16 to 64 entries take, over records of
-# new variables, and in what time; then how many packets and routes a second go through the plain list and map.
-# The program is proved and built in a folder of its own, from a copy of the crates.
+# Prints how many nodes and clauses access lists of 64 to 512 entries and route maps of 16 to 64 entries take, over records
+# of new variables, and in what time, the fastest of twenty rounds; and how many packets and routes a second go through the
+# plain list and map.
+# The program is proved and built in a folder of its own, from a copy of the crates; PROGRAM names one that was built
+# before.
 set -e
-here=$(cd "$(dirname "$0")" && pwd)
-work=$(mktemp -d)
-trap 'rm -rf "$work"' EXIT
-mkdir -p "$work/crates/policy_nodes/src"
-for crate in mw_text ios_ast route_record term_store term_arith resolution_check cnf_blaster policy_eval sym_policy; do
-    cp -r "$here/../../crates/$crate" "$work/crates/$crate"
-    grep "^$crate:" "$here/../../crates.txt" >> "$work/crates.txt"
+top=$(cd "$(dirname "$0")/../.." && pwd)
+if [ -z "${PROGRAM:-}" ]; then
+    work=$(mktemp -d)
+    trap 'rm -rf "$work"' EXIT
+    nodes=$work/crates/policy_nodes
+    mkdir -p "$nodes/src"
+    for crate in mw_text ios_ast route_record term_store term_arith resolution_check cnf_blaster ios_policy_reader \
+        ios_reader policy_eval sym_policy; do
+        cp -r "$top/crates/$crate" "$work/crates/$crate"
+        grep "^$crate:" "$top/crates.txt" >> "$work/crates.txt"
+    done
+    cp "$top/bench/policies/main.rt.in" "$nodes/src/main.rt"
+    cp "$top/bench/policies/records.rt.in" "$nodes/src/records.rt"
+    echo 'policy_nodes: sym_policy policy_eval ios_reader cnf_blaster term_arith term_store ios_ast route_record mw_text' \
+        >> "$work/crates.txt"
+    cd "$nodes"
+    rt run > "$work/log" 2>&1 < /dev/null || { cat "$work/log"; exit 1; }
+    PROGRAM=$nodes/out/policy_nodes
+fi
+# A list of so many entries: TCP from one network of 256 addresses to one of 64, at a range of ports, other ones in each.
+list() {
+    awk -v count="$1" 'BEGIN {
+        print "hostname L"
+        for (i = 0; i < count; i++)
+            printf "access-list 101 %s tcp 10.%d.%d.0 0.0.0.255 172.16.%d.%d 0.0.0.63 range %d %d\n",
+                i % 2 ? "deny" : "permit", i / 256, i % 256, i / 4, i % 4 * 64, i, i + 1000
+    }'
+}
+# A map of so many entries, each with a list of its own: an access list of two entries and one of three community lists, or
+# a prefix list and one of three lists of paths.
+map() {
+    awk -v count="$1" 'BEGIN {
+        print "hostname M"
+        for (i = 0; i < 3; i++) {
+            printf "ip community-list %d permit %d\n", i + 1, 10 * i + 10
+            printf "ip as-path access-list %d permit _%d_\n", i + 1, i + 5
+        }
+        for (i = 0; i < count; i++) {
+            if (i % 2) {
+                printf "ip prefix-list P%d permit 10.%d.0.0/16 le 24\n", i, i
+                match_list = "prefix-list P" i
+            } else {
+                printf "access-list %d deny 10.%d.1.0 0.0.0.255\n", i + 1, i
+                printf "access-list %d permit 10.%d.0.0 0.0.255.255\n", i + 1, i
+                match_list = i + 1
+            }
+            entry[i] = sprintf(" match ip address %s\n match %s %d\n set %s\n", match_list,
+                i % 2 ? "as-path" : "community", i % 3 + 1,
+                i % 3 == 2 ? "community 10 99 additive" : (i % 3 ? "metric " : "local-preference ") i)
+        }
+        for (i = 0; i < count; i++)
+            printf "route-map M %s %d\n%s", i % 5 ? "permit" : "deny", i, entry[i]
+    }'
+}
+for count in 64 128 256 512; do
+    list $count | "$PROGRAM"
 done
-# The records of new variables, and their proof.
-cp "$here/../../crates/examples_policy/src/fresh.rt" "$work/crates/policy_nodes/src/fresh.rt"
-mkdir "$work/crates/policy_nodes/specs"
-cp "$here/../../crates/examples_policy/specs/Lib.antt" "$work/crates/policy_nodes/specs/Lib.antt"
-cp -r "$here/../../crates/examples_policy/proofs" "$work/crates/policy_nodes/proofs"
-sed -i 's/Rattle\.examples_policy\./Rattle.policy_nodes./' "$work"/crates/policy_nodes/proofs/fresh/*/*.antt
-cp "$here/main.rt.in" "$work/crates/policy_nodes/src/main.rt"
-printf 'policy_nodes: sym_policy policy_eval cnf_blaster resolution_check term_arith term_store ios_ast route_record mw_text\n' \
-    >> "$work/crates.txt"
-cd "$work/crates/policy_nodes"
-rt run 2> "$work/log" || { cat "$work/log"; exit 1; }
+for count in 16 32 64; do
+    map $count | "$PROGRAM"
+done
