@@ -58,6 +58,6 @@ run() {
 for set in ring16 ring32 ring64 lists8 lists16 lists32; do
     echo "$set, a question that is refused once the network is built, ten times: $(run none.txt "$set")"
 done
-for set in ring16 ring32; do
+for set in ring16 ring32 ring64; do
     echo "$set, one verdict, ten times: $(run q.txt "$set")"
 done
