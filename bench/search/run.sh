@@ -19,7 +19,7 @@ if [ -z "${PROGRAM:-}" ]; then
     speed=$work/crates/search_speed
     cp "$top/bench/search/main.rt.in" "$speed/src/main.rt"
     grep -E "^($names):" "$top/crates.txt" > "$work/crates.txt"
-    echo 'search_speed: cdcl_search cnf_blaster resolution_check mw_outside mw_text' >> "$work/crates.txt"
+    echo 'search_speed: cdcl_search deciders cnf_blaster resolution_check mw_outside mw_text' >> "$work/crates.txt"
     (cd "$speed" && rt run < /dev/null > "$work/log" 2>&1) || { cat "$work/log"; exit 1; }
     PROGRAM=$speed/out/search_speed
 fi
