@@ -32,5 +32,7 @@ for count in 10000 100000 1000000; do
         if (count >= 1000000 && seconds > 0) printf "%d nodes a second of the processor, fresh memory included\n", count / seconds
     }'
 done
+# This one only counts, so it is run without proof.
 cd "$work/crates/numbers_as_clauses"
-rt run 2> "$work/log" || { cat "$work/log"; exit 1; }
+rt try > "$work/log" 2>&1 < /dev/null || { cat "$work/log"; exit 1; }
+grep ' nodes, ' "$work/log"
