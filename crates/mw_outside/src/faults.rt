@@ -3,7 +3,7 @@
 ghost use Rattle.std.specs.Prelude.{◌≡◌, ◌+◌, ◌-◌, ◌^◌, ◌≤◌, min};
 
 /// How many calls have failed. The count stands still at its last value.
-#[derive(Clone, Copy, Debug)]
+#[derive(Clone, Copy)]
 pub struct FaultCount {
     value: u64,
     pub ghost bounded: { value ≤ 2 ^ 64 - 1 },

@@ -6,7 +6,7 @@ ghost use Rattle.mw_outside.specs.Contents.{Contents, Has, TellsOnly};
 ghost use Rattle.mw_outside.specs.Asked.{AsksTo};
 
 /// A read or a write that failed. Its object counts it.
-#[derive(Clone, Copy, Debug, PartialEq, Eq)]
+#[derive(Clone, Copy)]
 pub struct Failed;
 
 /// Files, which only reads use.

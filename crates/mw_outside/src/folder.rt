@@ -11,7 +11,7 @@ use std::rt::Files as System;
 use std::{fs, io};
 
 /// What changes where a file is written: its size, and the time of the last change of its bytes.
-#[derive(Clone, Copy, Debug, PartialEq, Eq)]
+#[derive(Clone, Copy, PartialEq)]
 pub struct Stamp {
     size: u64,
     seconds: i64,

@@ -10,7 +10,7 @@ use mw_text::List;
 use std::alloc::Global;
 
 /// A file in memory.
-#[derive(Debug, Drop)]
+#[derive(Drop)]
 pub struct TestFile {
     pub name: List<u8>,
     pub bytes: List<u8>,

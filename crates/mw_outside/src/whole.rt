@@ -13,7 +13,7 @@ use std::alloc::Global;
 use thiserror::Error;
 
 /// Why a file could not be read whole.
-#[derive(Clone, Copy, Debug, PartialEq, Eq, Error)]
+#[derive(Clone, Copy, Debug, Error)]
 pub enum ReadRefused {
     /// A read failed.
     #[error("a read failed")]
