@@ -8,7 +8,7 @@ ghost use Rattle.mw_outside.specs.Taken.{Takes, TakesPart, takes_more, part_of_a
 use mw_outside::{Files, ReadRefused, Sink, read_whole};
 use std::alloc::Global;
 
-#[derive(Clone, Copy, Debug, PartialEq, Eq)]
+#[derive(Clone, Copy)]
 pub enum Copied {
     Done,
     ReadFault,

@@ -1,52 +1,70 @@
 //! The files of a script.
 
-use mw_outside::{TestFile, TestFiles};
+use mw_outside::TestFile;
 use mw_text::{List, list_of};
-use std::alloc::{AllocError, Global};
+use std::alloc::Global;
+use std::io;
 
-fn copy_files(alloc: Global, files: &[TestFile]) -> Result<List<TestFile>, AllocError> {
+fn copy_file(alloc: Global, file: &TestFile) -> io::Result<TestFile> {
+    let name = list_of(alloc, file.name.as_slice())?;
+    let bytes = list_of(alloc, file.bytes.as_slice())?;
+    Ok(TestFile { name, bytes })
+}
+
+/// Copies of the files, of which a run takes its own.
+pub fn copy_files(alloc: Global, files: &[TestFile]) -> io::Result<List<TestFile>> {
     let mut all = List::new(alloc);
     for file in files {
-        all.items.push(TestFile {
-            name: list_of(alloc, file.name.as_slice())?,
-            bytes: list_of(alloc, file.bytes.as_slice())?,
-        })?;
+        all.items.push(copy_file(alloc, file)?)?;
     }
     Ok(all)
 }
 
-/// Files in memory, none of whose reads fails.
-pub fn readable(alloc: Global, files: &[TestFile]) -> Result<TestFiles, AllocError> {
-    let none: List<u64> = List::new(alloc);
-    Ok(TestFiles::new(alloc, copy_files(alloc, files)?, none))
-}
-
 /// Begins a file of that name, which takes the place of an earlier one.
-pub fn begin_file(alloc: Global, files: &mut List<TestFile>, name: &str) -> Result<(), AllocError> {
+pub fn begin_file(alloc: Global, files: &mut List<TestFile>, name: &str) -> io::Result<()> {
     files
         .items
         .retain(|file| file.name.as_slice() != name.as_bytes());
-    files.items.push(TestFile {
-        name: list_of(alloc, name.as_bytes())?,
-        bytes: List::new(alloc),
-    })?;
+    let name = list_of(alloc, name.as_bytes())?;
+    let bytes = List::new(alloc);
+    files.items.push(TestFile { name, bytes })?;
     Ok(())
 }
 
 /// Adds a line to the last file.
-pub fn add_line(files: &mut List<TestFile>, line: &str) -> Result<(), AllocError> {
+pub fn add_line(files: &mut List<TestFile>, line: &str) -> io::Result<()> {
     if let Some(file) = files.items.last_mut() {
         file.bytes.items.extend_from_slice(line.as_bytes())?;
-        file.bytes.items.extend_from_slice(b"\n")?;
+        file.bytes.items.push(b'\n')?;
     }
     Ok(())
 }
 
-/// The words of a line.
-pub fn words_of(alloc: Global, line: &str) -> Result<Vec<String>, AllocError> {
-    let mut all = Vec::new(alloc);
-    for word in line.split(' ') {
-        all.push(String::from_str(alloc, word)?)?;
+fn raw_byte(byte: u8) -> u8 {
+    match byte {
+        b'|' => b'\n',
+        b'~' => b'\r',
+        b'^' => 0,
+        byte => byte,
     }
-    Ok(all)
+}
+
+/// Adds a text to the last file: `|` is the end of a line, `~` a carriage return and `^` a byte 0.
+pub fn add_raw(files: &mut List<TestFile>, raw: &str) -> io::Result<()> {
+    if let Some(file) = files.items.last_mut() {
+        for byte in raw.as_bytes() {
+            file.bytes.items.push(raw_byte(*byte))?;
+        }
+    }
+    Ok(())
+}
+
+/// Fills the last file up to so many bytes.
+pub fn pad(files: &mut List<TestFile>, size: u64) -> io::Result<()> {
+    if let Some(file) = files.items.last_mut() {
+        for _ in file.bytes.items.len() as u64..size {
+            file.bytes.items.push(b'!')?;
+        }
+    }
+    Ok(())
 }

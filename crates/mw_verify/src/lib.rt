@@ -2,14 +2,8 @@
 //! counterexample. It prints the answers.
 #![tactic(auto)]
 
-pub mod answer;
-pub mod formula;
-pub mod load;
-pub mod replaying;
 pub mod running;
-pub mod status;
-pub mod text;
-pub mod work;
+pub mod verdicts;
 
+pub use run_answers::{Status, number_of};
 pub use running::run;
-pub use status::{Status, number_of};

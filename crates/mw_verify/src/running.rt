@@ -1,166 +1,22 @@
 //! The whole run of the program.
 
-ghost use Rattle.std.specs.Prelude.{◌≡◌, ◌≢◌, ◌⊎◌, ◌||◌, ℕ, List as ListOf, true, false, IfOk, OnErr, length, map, string_bytes};
+ghost use Rattle.std.specs.Prelude.{◌≡◌, ◌≢◌, ◌⊎◌, ℕ, List as ListOf, false, map, string_bytes};
 ghost use Rattle.mw_outside.specs.Faults.{Rose};
 ghost use Rattle.mw_outside.specs.Taken.{Takes};
-ghost use Rattle.net_encoder.specs.Slots.{runs_no_bgp};
-ghost use Rattle.mw_verify.specs.Answering.{IsCutShort, IsPut, OnWriteFault, UnlessWriteFault, status_seen};
-ghost use Rattle.mw_verify.specs.Due as due;
-ghost use Rattle.mw_verify.specs.Due.{Outcome};
-ghost use Rattle.mw_verify.specs.Loading.{AnswersSo, IsBudget, IsReady, outcome_of};
-ghost use Rattle.mw_verify.specs.Running.{IsAnswered, IsDue, OnAnswered, OnCut, OnUnanswered, Stands, StopsAt, in_order};
-ghost use Rattle.mw_verify.specs.Texts.{usage_text};
-ghost use Rattle.mw_verify.specs.Verdicts.{is_broken_verdict, is_unknown_verdict};
+ghost use Rattle.run_answers.specs.Running.{AnswersSo, IsAnswered, OnAnswered, OnCut, OnUnanswered, Stands};
+ghost use Rattle.run_inputs.specs.Due as due;
+ghost use Rattle.run_inputs.specs.Due.{IsDue, Outcome};
+ghost use Rattle.run_inputs.specs.Loading.{IsReady, outcome_of};
+ghost use Rattle.run_inputs.specs.Order.{StopsAt, in_order};
+ghost use Rattle.run_inputs.specs.Texts.{usage_text};
 
-use crate::answer::{Verdict, answer, verdict_lines};
-use crate::load::{Loaded, Stop};
-use crate::replaying::put_replay;
-use crate::status::Status;
-use crate::work::{Work, work_of};
-use cdcl_search::SolveFault;
-use mw_outside::{Failed, Files, Sink};
-use question_lang::Question;
-use std::alloc::{AllocError, Global};
+use crate::verdicts::put_verdicts;
+use mw_outside::{Files, Sink};
+use run_answers::{Status, put_replay};
+use run_inputs::{Stop, Work, work_of};
+use std::alloc::Global;
 
 const USAGE: &[u8] = b"usage: mw_cli verify, check, replay, simulate or gen\n";
-
-/// Why a run of answers ends early: at a write that failed, or for want of memory.
-#[derive(Clone, Copy, Debug, PartialEq, Eq)]
-pub enum Halt {
-    WriteFault,
-    Memory,
-}
-
-impl From<SolveFault> for Halt {
-    ghost use Rattle.mw_verify.specs.Answering.{halt_of};
-
-    ghost from_gives = { λ fault halt. halt ≡ halt_of fault };
-
-    fn from(fault: SolveFault) -> Halt {
-        match fault {
-            SolveFault::LogFault => Halt::WriteFault,
-            SolveFault::Memory => Halt::Memory,
-        }
-    }
-}
-
-impl From<Failed> for Halt {
-    ghost use Rattle.mw_verify.specs.declared.running.Halt.TheVariants.{WriteFault};
-
-    ghost from_gives = { λ _ halt. halt ≡ WriteFault };
-
-    fn from(_error: Failed) -> Halt {
-        Halt::WriteFault
-    }
-}
-
-impl From<AllocError> for Halt {
-    ghost use Rattle.mw_verify.specs.declared.running.Halt.TheVariants.{Memory};
-
-    ghost from_gives = { λ _ halt. halt ≡ Memory };
-
-    fn from(_error: AllocError) -> Halt {
-        Halt::Memory
-    }
-}
-
-/// Which verdicts came so far.
-#[derive(Clone, Copy, Debug)]
-pub struct Seen {
-    /// Some was `broken`.
-    pub broken: bool,
-    /// Some was `unknown`.
-    pub unknown: bool,
-}
-
-impl Seen {
-    // With one verdict more.
-    fn with(self, verdict: &Verdict) -> Seen
-        ensures broken { result.broken ≡ (self.broken || is_broken_verdict verdict.now) }
-        ensures unknown { result.unknown ≡ (self.unknown || is_unknown_verdict verdict.now) }
-    {
-        match verdict {
-            Verdict::Holds => self,
-            Verdict::Broken(_) => Seen {
-                broken: true,
-                unknown: self.unknown,
-            },
-            Verdict::Unknown(_) => Seen {
-                broken: self.broken,
-                unknown: true,
-            },
-        }
-    }
-
-    fn status(self) -> Status
-        ensures { result ≡ status_seen self }
-    {
-        if self.broken {
-            Status::Bad
-        } else if self.unknown {
-            Status::Unknown
-        } else {
-            Status::Good
-        }
-    }
-}
-
-// Answers a question: its section goes into the log, and then the lines of its verdict are printed.
-fn put_verdict<O: Sink, L: Sink>(
-    alloc: Global,
-    loaded: &Loaded,
-    number: u32,
-    question: &Question,
-    out: &mut O,
-    log: &mut L,
-) -> Result<Verdict, Halt>
-    requires no_bgp { runs_no_bgp loaded.now.net ≡ true }
-    requires budget { IsBudget loaded.now.budget }
-    ensures ok { IfOk result (λ verdict. IsPut loaded.now.net loaded.now.questions loaded.now.budget number question.now verdict
-        (O.taken out.old) (O.taken out.new) (L.taken log.old) (L.taken log.new)) }
-    ensures cut { OnErr result (IsCutShort loaded.now.net loaded.now.questions loaded.now.budget number question.now
-        (O.taken out.old) (O.taken out.new) (L.taken log.old) (L.taken log.new)) }
-    ensures fault { OnWriteFault result (Rose (O.faults out.old) (O.faults out.new) ⊎ Rose (L.faults log.old) (L.faults log.new)) }
-    ensures writes { UnlessWriteFault result ((O.faults out.new ≡ O.faults out.old) × (L.faults log.new ≡ L.faults log.old)) }
-{
-    let verdict = answer(alloc, &loaded.net, number, question, loaded.budget, log)?;
-    let text = verdict_lines(
-        alloc,
-        &loaded.net,
-        loaded.questions.as_slice(),
-        question,
-        &verdict,
-    )?;
-    out.write(text.as_slice())?;
-    Ok(verdict)
-}
-
-// Answers each question in turn.
-fn put_verdicts<O: Sink, L: Sink>(
-    alloc: Global,
-    loaded: &Loaded,
-    out: &mut O,
-    log: &mut L,
-) -> Status
-    requires { IsReady (Work.Answer loaded.now) }
-    ensures answers { AnswersSo (outcome_of (Work.Answer loaded.now)) result
-        (O.taken out.old) (O.taken out.new) (L.taken log.old) (L.taken log.new)
-        (Rose (O.faults out.old) (O.faults out.new) ⊎ Rose (L.faults log.old) (L.faults log.new)) }
-    ensures writes { result ≢ Status.WriteFault → (O.faults out.new ≡ O.faults out.old) × (L.faults log.new ≡ L.faults log.old) }
-{
-    let mut seen = Seen {
-        broken: false,
-        unknown: false,
-    };
-    for (at, question) in loaded.questions.as_slice().iter().enumerate() {
-        match put_verdict(alloc, loaded, at as u32, question, out, log) {
-            Ok(verdict) => seen = seen.with(&verdict),
-            Err(Halt::WriteFault) => return Status::WriteFault,
-            Err(Halt::Memory) => return Status::Memory,
-        }
-    }
-    seen.status()
-}
 
 // Does the work, and prints its answers.
 fn put_answers<O: Sink, L: Sink>(alloc: Global, work: &Work, out: &mut O, log: &mut L) -> Status

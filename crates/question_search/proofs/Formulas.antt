@@ -25,15 +25,15 @@ use Rattle.question_lang.specs.declared.question.Question.{Question}
 use Rattle.question_lang.specs.declared.walk.Walk.{Walk}
 use Rattle.cex_json.specs.declared.counterexample.Counterexample.{Counterexample}
 use Rattle.stable_replay.specs.Replayed.{world_of}
-use Rattle.net_encoder.specs.Breaking.{IsBreakable, IsBreaking}
+use Rattle.breaking_def.specs.Breaking.{IsBreakable, IsBreaking}
 use Rattle.net_encoder.specs.Worlds.{no_environment, world_bits, world_from}
-use Rattle.mw_verify.specs.declared.answer.Verdict.{Verdict}
-use Rattle.mw_verify.specs.declared.formula.Formula.{Formula}
-use Rattle.mw_verify.specs.Answering.{IsLogged, IsSearchedSo, IsUnfinished, answer_of, end_text}
-use Rattle.mw_verify.specs.Formulas.{IsFormula}
-use Rattle.mw_verify.specs.Running.{IsSectionOf}
-use Rattle.mw_verify.specs.Verdicts.{IsRight, IsSearched, IsTrueCounterexample, IsUnbroken, ShowsVerdict, opening_text}
-use Rattle.mw_verify.specs.Verdicts.{section_text}
+use Rattle.run_answers.specs.declared.verdict.Verdict.{Verdict}
+use Rattle.question_search.specs.declared.formula.Formula.{Formula}
+use Rattle.run_answers.specs.Answering.{IsLogged, IsSearchedSo, IsUnfinished, answer_of, end_text}
+use Rattle.question_search.specs.Formulas.{IsFormula}
+use Rattle.run_answers.specs.Running.{IsSectionOf}
+use Rattle.run_answers.specs.Verdicts.{IsRight, IsSearched, IsTrueCounterexample, IsUnbroken, ShowsVerdict, opening_text}
+use Rattle.run_answers.specs.Verdicts.{section_text}
 
 -- the root can be true exactly where something breaks the question
 pub encodes : (files : List File) (question : Question) (formula : Formula) → IsFormula files question formula →

@@ -9,9 +9,9 @@ use Rattle.route_record.specs.declared.Environment.{Environment}
 use Rattle.route_record.specs.declared.World.{World}
 use Rattle.question_lang.specs.declared.question.Question.{Question}
 use Rattle.question_lang.specs.declared.walk.Walk.{Walk}
-use Rattle.net_encoder.specs.Breaking.{IsBreaking}
+use Rattle.breaking_def.specs.Breaking.{IsBreaking}
 use Rattle.net_encoder.specs.Worlds.{no_environment, world_bits, world_from, world_width}
-use Rattle.mw_verify.specs.declared.formula.Formula.{Formula}
+use Rattle.question_search.specs.declared.formula.Formula.{Formula}
 
 -- the world of values that make the root true breaks the question, and the bits of what breaks the question make it
 -- true; and the clauses are those of the root

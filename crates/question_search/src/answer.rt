@@ -1,26 +1,24 @@
 //! Answers one question by a search, whose log shows the answer.
 
-ghost use Rattle.std.specs.Prelude.{◌≡◌, ◌<◌, ◌≤◌, ℕ, List as ListOf, Option as OptionOf, IfOk, OnErr, OnOk, length, true};
+ghost use Rattle.std.specs.Prelude.{◌≡◌, ℕ, List as ListOf, Option as OptionOf, IfOk, OnErr, length, true};
+ghost use Rattle.breaking_def.specs.Breaking.{IsBreaking};
 ghost use Rattle.cdcl_search.specs.Outcomes.{OnLogFault, OnSat, OnUnknown, OnUnsat, Shows, UnlessLogFault};
-ghost use Rattle.net_encoder.specs.Breaking.{IsBreaking};
+ghost use Rattle.mw_outside.specs.Faults.{Rose};
 ghost use Rattle.net_encoder.specs.Slots.{runs_no_bgp};
 ghost use Rattle.net_encoder.specs.Worlds.{no_environment};
-ghost use Rattle.mw_outside.specs.Faults.{Rose};
-ghost use Rattle.mw_outside.specs.Taken.{Takes, TakesPart};
-ghost use Rattle.mw_verify.specs.Answering.{IsLogged, IsSearchedSo, IsUnfinished, end_text};
-ghost use Rattle.mw_verify.specs.Formulas.{IsFormula};
-ghost use Rattle.mw_verify.specs.Loading.{IsBudget};
-ghost use Rattle.mw_verify.specs.Texts.{holds_text, unknown_text};
-ghost use Rattle.mw_verify.specs.Verdicts as verdicts;
 ghost use Rattle.question_lang.specs.declared.walk.Walk.{Walk as WalkOf};
-ghost use Rattle.resolution_check.specs.Entries.{IsUnsatisfiable, satisfies};
+ghost use Rattle.question_search.specs.Formulas.{IsFormula};
+ghost use Rattle.question_search.specs.Searches.{IsFound};
 ghost use Rattle.resolution_check.specs.declared.log.Entry.{Entry};
+ghost use Rattle.resolution_check.specs.Entries.{IsUnsatisfiable, satisfies};
+ghost use Rattle.run_answers.specs.Answering.{IsLogged, IsUnfinished};
+ghost use Rattle.run_answers.specs.Verdicts as verdicts;
+ghost use Rattle.run_inputs.specs.Loading.{IsBudget};
 ghost use Rattle.term_store.specs.Terms.{truth};
 
 use crate::formula::{Formula, formula_of};
-use crate::text::append;
 use cdcl_search::{Outcome, SolveFault, solve_by_turns};
-use cex_json::{Counterexample, write_cex};
+use cex_json::Counterexample;
 use cnf_blaster::decoded;
 use mw_outside::Sink;
 use mw_text::List;
@@ -28,20 +26,11 @@ use net_encoder::{decode, is_meshed};
 use net_model::Net;
 use question_lang::Question;
 use route_record::Environment;
+use run_answers::section::{write_end, write_opening};
+use run_answers::Verdict;
 use std::alloc::{AllocError, Global};
 use walk_def::World;
 use walk_finder::find_walk;
-
-/// What is found out of a question.
-#[derive(Drop)]
-pub enum Verdict {
-    /// Nothing breaks it.
-    Holds,
-    /// This breaks it.
-    Broken(Counterexample),
-    /// Neither was found after so many clauses were learnt.
-    Unknown(u64),
-}
 
 // A counterexample of that world, which something breaks.
 fn broken_world(
@@ -122,32 +111,6 @@ fn verdict_of(
     }
 }
 
-// Opens the section of a question in the log.
-fn write_opening<L: Sink>(alloc: Global, question: &Question, log: &mut L) -> Result<(), SolveFault>
-    ensures takes { OnOk result (Takes (L.taken log.old) (L.taken log.new) (verdicts.opening_text question.now)) }
-    ensures part { TakesPart (L.taken log.old) (L.taken log.new) (verdicts.opening_text question.now) }
-    ensures fault { OnLogFault result (Rose (L.faults log.old) (L.faults log.new)) }
-    ensures stays { UnlessLogFault result (L.faults log.new ≡ L.faults log.old) }
-{
-    let mut text = List::new(alloc);
-    append(&mut text, b"q ")?;
-    append(&mut text, question.name.as_slice())?;
-    append(&mut text, b"\n")?;
-    log.write(text.as_slice())?;
-    Ok(())
-}
-
-// Closes it.
-fn write_end<L: Sink>(log: &mut L) -> Result<(), SolveFault>
-    ensures takes { OnOk result (Takes (L.taken log.old) (L.taken log.new) end_text) }
-    ensures part { TakesPart (L.taken log.old) (L.taken log.new) end_text }
-    ensures fault { OnLogFault result (Rose (L.faults log.old) (L.faults log.new)) }
-    ensures stays { UnlessLogFault result (L.faults log.new ≡ L.faults log.old) }
-{
-    log.write(b"e\n")?;
-    Ok(())
-}
-
 // What a search for what breaks a question found, with the formula that was searched.
 #[derive(Drop)]
 struct Searched {
@@ -165,12 +128,7 @@ fn search<L: Sink>(
 ) -> Result<Searched, SolveFault>
     requires no_bgp { runs_no_bgp net.now ≡ true }
     requires budget { IsBudget budget }
-    ensures formula { IfOk result (λ s. IsFormula net.now question.now s.formula) }
-    ensures unsat { IfOk result (λ s. OnUnsat s.outcome (IsUnsatisfiable s.formula.cnf.clauses)) }
-    ensures sat { IfOk result (λ s. OnSat s.outcome (λ values. satisfies (truth values) s.formula.cnf.clauses ≡ true)) }
-    ensures values { IfOk result (λ s. OnSat s.outcome (λ values. length values ≡ s.formula.cnf.vars)) }
-    ensures unknown { IfOk result (λ s. OnUnknown s.outcome (λ added. added ≡ budget)) }
-    ensures logged { IfOk result (λ s. IsSearchedSo net.now budget question.now s.outcome (L.taken log.old) (L.taken log.new)) }
+    ensures found { IfOk result (λ s. IsFound net.now budget question.now s.formula s.outcome (L.taken log.old) (L.taken log.new)) }
     ensures cut { OnErr result (IsUnfinished net.now budget question.now (L.taken log.old) (L.taken log.new)) }
     ensures fault { OnLogFault result (Rose (L.faults log.old) (L.faults log.new)) }
     ensures stays { UnlessLogFault result (L.faults log.new ≡ L.faults log.old) }
@@ -206,61 +164,4 @@ pub fn answer<L: Sink>(
     let Searched { formula, outcome } = search(alloc, net, question, budget, log)?;
     let verdict = verdict_of(alloc, net, number, question, &formula, outcome)?;
     Ok(verdict)
-}
-
-fn holds_line(alloc: Global, question: &Question) -> Result<List<u8>, AllocError>
-    ensures { IfOk result (λ text. text ≡ holds_text question.now) }
-{
-    let mut text = List::new(alloc);
-    append(&mut text, b"holds ")?;
-    append(&mut text, question.name.as_slice())?;
-    append(&mut text, b"\n")?;
-    Ok(text)
-}
-
-fn broken_lines(
-    alloc: Global,
-    net: &Net,
-    questions: &[Question],
-    question: &Question,
-    cex: &Counterexample,
-) -> Result<List<u8>, AllocError>
-    ensures { IfOk result (λ text. text ≡ verdicts.verdict_text net.now questions.now question.now (Verdict.Broken cex.now)) }
-{
-    let mut text = List::new(alloc);
-    append(&mut text, b"broken ")?;
-    append(&mut text, question.name.as_slice())?;
-    append(&mut text, b"\n")?;
-    append(&mut text, write_cex(alloc, net, questions, cex)?.as_slice())?;
-    append(&mut text, b"\n")?;
-    Ok(text)
-}
-
-fn unknown_line(alloc: Global, question: &Question, after: u64) -> Result<List<u8>, AllocError>
-    ensures { IfOk result (λ text. text ≡ unknown_text question.now after) }
-{
-    let mut text = List::new(alloc);
-    append(&mut text, b"unknown ")?;
-    append(&mut text, question.name.as_slice())?;
-    append(&mut text, b" after ")?;
-    append(&mut text, after.to_string(alloc)?.as_bytes())?;
-    append(&mut text, b" conflicts\n")?;
-    Ok(text)
-}
-
-/// The lines of a verdict.
-pub fn verdict_lines(
-    alloc: Global,
-    net: &Net,
-    questions: &[Question],
-    question: &Question,
-    verdict: &Verdict,
-) -> Result<List<u8>, AllocError>
-    ensures { IfOk result (λ text. text ≡ verdicts.verdict_text net.now questions.now question.now verdict.now) }
-{
-    match verdict {
-        Verdict::Holds => holds_line(alloc, question),
-        Verdict::Broken(cex) => broken_lines(alloc, net, questions, question, cex),
-        Verdict::Unknown(after) => unknown_line(alloc, question, *after),
-    }
 }

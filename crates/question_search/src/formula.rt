@@ -2,7 +2,7 @@
 
 ghost use Rattle.std.specs.Prelude.{◌≡◌, ◌≤◌, ◌^◌, IfOk, true};
 ghost use Rattle.net_encoder.specs.Slots.{runs_no_bgp};
-ghost use Rattle.mw_verify.specs.Formulas.{IsFormula};
+ghost use Rattle.question_search.specs.Formulas.{IsFormula};
 
 use cnf_blaster::{Cnf, blast};
 use mw_text::List;

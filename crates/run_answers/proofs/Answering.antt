@@ -9,16 +9,16 @@ use Rattle.std.proofs.lemmas.Option.{slice_get_read}
 use Rattle.mw_outside.specs.Taken.{Takes, TakesPart, takes_more, part_more, part_of_all, part_of_none}
 use Rattle.ios_ast.specs.declared.file.File.{File}
 use Rattle.question_lang.specs.declared.question.Question.{Question}
-use Rattle.mw_verify.specs.declared.answer.Verdict.{Verdict}
-use Rattle.mw_verify.specs.declared.status.Status.{Status}
-use Rattle.mw_verify.specs.declared.status.Status.TheVariants.{Good, Bad, Unknown, Usage, Refused, ReadFault}
-use Rattle.mw_verify.specs.declared.status.Status.TheVariants.{WriteFault, Memory}
-use Rattle.mw_verify.specs.Due.{Outcome, answering}
-use Rattle.mw_verify.specs.Answering.{IsCutShort, IsLogged, IsPut, answer_of, status_by}
-use Rattle.mw_verify.specs.Loading.{AnswersSo}
-use Rattle.mw_verify.specs.Running.{AreAnswered, AreBegun}
-use Rattle.mw_verify.specs.Verdicts.{Answer, AreRight, IsAnswer, answers_text, is_broken, is_broken_verdict}
-use Rattle.mw_verify.specs.Verdicts.{is_unknown, is_unknown_verdict, section_text, sections_text, verdict_text}
+use Rattle.run_answers.specs.declared.verdict.Verdict.{Verdict}
+use Rattle.run_answers.specs.declared.status.Status.{Status}
+use Rattle.run_answers.specs.declared.status.Status.TheVariants.{Good, Bad, Unknown, Usage, Refused, ReadFault}
+use Rattle.run_answers.specs.declared.status.Status.TheVariants.{WriteFault, Memory}
+use Rattle.run_inputs.specs.Due.{Outcome, answering}
+use Rattle.run_answers.specs.Answering.{IsCutShort, IsLogged, IsPut, answer_of, status_by}
+use Rattle.run_answers.specs.Running.{AnswersSo}
+use Rattle.run_answers.specs.Running.{AreAnswered, AreBegun}
+use Rattle.run_answers.specs.Verdicts.{Answer, AreRight, IsAnswer, answers_text, is_broken, is_broken_verdict}
+use Rattle.run_answers.specs.Verdicts.{is_unknown, is_unknown_verdict, section_text, sections_text, verdict_text}
 use Rattle.mw_text.proofs.Reading.{take-read}
 
 -- a test of one answer more

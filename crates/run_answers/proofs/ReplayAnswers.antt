@@ -1,48 +1,21 @@
 -- What a replay answers, and what stands of it.
-use Rattle.std.proofs.Common.{◌≡◌, ◌≢◌, ℕ, ◌*◌, ◌<◌, Bool, true, false, List, [], ◌∷◌, length, get_or, Option, Some}
-use Rattle.std.proofs.Common.{None, Result, Ok, Err}
-use Rattle.std.proofs.Common.{refl, sym, subst, arith, ◌∙◌, inl, inr}
-use Rattle.std.specs.Prelude.{IfOk, is_none, slice_get}
+use Rattle.std.proofs.Common.{◌≡◌, ◌≢◌, ℕ, ◌<◌, Bool, true, false, List, length, get_or, Option, Some, None, Result}
+use Rattle.std.proofs.Common.{Ok, Err, refl, sym, subst, ◌∙◌, inr}
+use Rattle.std.specs.Prelude.{IfOk, is_none}
 use Rattle.std.proofs.lemmas.Bool.{false≢true}
-use Rattle.std.proofs.lemmas.Option.{get_or_from_slice_get, slice_get-get_or, slice_get_within}
+use Rattle.std.proofs.lemmas.Option.{get_or_from_slice_get, slice_get_within}
 use Rattle.mw_outside.specs.Taken.{Takes, TakesPart}
 use Rattle.ios_ast.specs.declared.file.File.{File}
-use Rattle.route_record.specs.declared.TheConstants.{LENGTHS}
-use Rattle.net_model.specs.World.{IsEnvironment, IsFailureSet}
 use Rattle.question_lang.specs.declared.question.Question.{Question}
-use Rattle.question_lang.specs.Packets.{IsInSet}
 use Rattle.cex_json.specs.declared.counterexample.Counterexample.{Counterexample}
 use Rattle.stable_replay.specs.declared.differs.ReplayNo.{ReplayNo}
 use Rattle.stable_replay.specs.declared.differs.ReplayNo.TheVariants as no
 use Rattle.stable_replay.specs.Replayed.{IsRefusedSo, IsReplayed}
-use Rattle.mw_verify.specs.declared.status.Status.{Status}
-use Rattle.mw_verify.specs.declared.status.Status.TheVariants.{Good, Bad}
-use Rattle.mw_verify.specs.Replays.{AnswersReplay, IsAdmitted, IsReplayedSo, IsReplayLine, replay_status, replay_text}
-use Rattle.mw_verify.specs.Running.{IsReplayBegun}
-
--- what the reader of counterexamples says of one that it read
-pub admitted_from : (files : List File) (questions : List Question) (cex : Counterexample) →
-    cex.question < length questions →
-    ((question : Question) → slice_get questions cex.question ≡ Some question → IsInSet question.packets cex.packet) →
-    ((question : Question) → slice_get questions cex.question ≡ Some question →
-    IsFailureSet files question.failures cex.failures) →
-    IsEnvironment files cex.env → length cex.tables.slots ≡ LENGTHS * length files → IsAdmitted files questions cex
-admitted_from files questions cex within packet failures environment slots = by_questions questions refl within where
-  by_questions : (qs : List Question) → qs ≡ questions → cex.question < length qs → IsAdmitted files questions cex
-  by_questions [] is within = absurd (omega (arith, within))
-  by_questions (q ∷ rest) is within =
-      let question = get_or (q ∷ rest) cex.question q in
-      let S : List Question → Type 0 = λ qs. slice_get qs cex.question ≡ Some question in
-      let asked : slice_get questions cex.question ≡ Some question =
-      subst S is (slice_get-get_or (q ∷ rest) cex.question q within) in
-      record {
-        question = question;
-        asked = asked;
-        packet = packet question asked;
-        environment = environment;
-        failures = failures question asked;
-        slots = slots;
-      }
+use Rattle.run_inputs.specs.Loading.{IsAdmitted}
+use Rattle.run_answers.specs.declared.status.Status.{Status}
+use Rattle.run_answers.specs.declared.status.Status.TheVariants.{Good, Bad}
+use Rattle.run_answers.specs.Replays.{AnswersReplay, IsReplayedSo, IsReplayLine, replay_status, replay_text}
+use Rattle.run_answers.specs.Running.{IsReplayBegun}
 
 -- the place of the question is one of the list
 pub admitted_within : (files : List File) (questions : List Question) (cex : Counterexample) →

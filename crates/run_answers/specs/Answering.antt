@@ -10,14 +10,14 @@ use Rattle.cdcl_search.specs.declared.outcome.SolveFault.{SolveFault}
 use Rattle.cdcl_search.specs.declared.outcome.SolveFault.TheVariants as solve
 use Rattle.ios_ast.specs.declared.file.File.{File}
 use Rattle.question_lang.specs.declared.question.Question.{Question}
-use Rattle.mw_verify.specs.declared.answer.Verdict.{Verdict}
-use Rattle.mw_verify.specs.declared.running.Halt.{Halt}
-use Rattle.mw_verify.specs.declared.running.Halt.TheVariants as halt
-use Rattle.mw_verify.specs.declared.running.Seen.{Seen}
-use Rattle.mw_verify.specs.declared.status.Status.{Status}
-use Rattle.mw_verify.specs.declared.status.Status.TheVariants.{Bad, Good, Unknown}
-use Rattle.mw_verify.specs.Running.{IsSectionOf}
-use Rattle.mw_verify.specs.Verdicts.{Answer, IsAnswer, IsSearched, section_text, verdict_text}
+use Rattle.run_answers.specs.declared.verdict.Verdict.{Verdict}
+use Rattle.run_answers.specs.declared.halt.Halt.{Halt}
+use Rattle.run_answers.specs.declared.halt.Halt.TheVariants as halt
+use Rattle.run_answers.specs.declared.seen.Seen.{Seen}
+use Rattle.run_answers.specs.declared.status.Status.{Status}
+use Rattle.run_answers.specs.declared.status.Status.TheVariants.{Bad, Good, Unknown}
+use Rattle.run_answers.specs.Running.{IsSectionOf}
+use Rattle.run_answers.specs.Verdicts.{Answer, IsAnswer, IsSearched, section_text, verdict_text}
 
 -- a verdict with the section that shows it
 abbrev pub answer_of : Verdict → List Entry → Answer

@@ -1,8 +1,8 @@
 -- The exit status of the program.
 use Rattle.std.specs.Prelude.{ℕ}
-use Rattle.mw_verify.specs.declared.status.Status.{Status}
-use Rattle.mw_verify.specs.declared.status.Status.TheVariants.{Good, Bad, Unknown, Usage, Refused, ReadFault}
-use Rattle.mw_verify.specs.declared.status.Status.TheVariants.{WriteFault, Memory}
+use Rattle.run_answers.specs.declared.status.Status.{Status}
+use Rattle.run_answers.specs.declared.status.Status.TheVariants.{Good, Bad, Unknown, Usage, Refused, ReadFault}
+use Rattle.run_answers.specs.declared.status.Status.TheVariants.{WriteFault, Memory}
 
 -- the number of a status
 abbrev pub status_number : Status → ℕ

@@ -1,14 +1,10 @@
 -- What a replay answers, and when the answer is right.
-use Rattle.std.specs.Prelude.{◌≡◌, ◌≢◌, ℕ, ◌*◌, List, [], ◌∷◌, ◌++◌, length, codes, is_none, Bool, Option, Some, None}
-use Rattle.std.specs.Prelude.{slice_get}
+use Rattle.std.specs.Prelude.{◌≡◌, ◌≢◌, ℕ, List, [], ◌∷◌, ◌++◌, codes, is_none, Bool, Option, Some, None, slice_get}
 use Rattle.std.specs.Fmt.{decimal}
 use Rattle.mw_outside.specs.Taken.{Takes}
 use Rattle.ios_ast.specs.declared.file.File.{File}
 use Rattle.route_record.specs.declared.Slot.{Slot}
-use Rattle.route_record.specs.declared.TheConstants.{LENGTHS}
-use Rattle.net_model.specs.World.{IsEnvironment, IsFailureSet}
 use Rattle.question_lang.specs.declared.question.Question.{Question}
-use Rattle.question_lang.specs.Packets.{IsInSet}
 use Rattle.cex_json.specs.declared.counterexample.Counterexample.{Counterexample}
 use Rattle.cex_json.specs.Parts.{router_name}
 use Rattle.cex_json.specs.Text.{part_list_text, part_text}
@@ -18,10 +14,10 @@ use Rattle.stable_replay.specs.declared.differs.Part.TheVariants.{Ospf, Bgp, Rib
 use Rattle.stable_replay.specs.declared.differs.ReplayNo.{ReplayNo}
 use Rattle.stable_replay.specs.declared.differs.ReplayNo.TheVariants as no
 use Rattle.stable_replay.specs.Replayed.{IsRefusedSo}
-use Rattle.mw_verify.specs.declared.status.Status.{Status}
-use Rattle.mw_verify.specs.declared.status.Status.TheVariants.{Good, Bad}
-use Rattle.mw_verify.specs.Texts.{newline}
-use Rattle.mw_verify.specs.Verdicts.{IsTrueCounterexample}
+use Rattle.run_answers.specs.declared.status.Status.{Status}
+use Rattle.run_answers.specs.declared.status.Status.TheVariants.{Good, Bad}
+use Rattle.run_inputs.specs.Texts.{newline}
+use Rattle.run_answers.specs.Verdicts.{IsTrueCounterexample}
 
 -- ---- the lines
 
@@ -84,16 +80,6 @@ pub record IsReplayedSo (files : List File) (questions : List Question) (cex : C
   pub right : AnswersReplay files questions cex answer
   pub ends : status ≡ replay_status answer
   pub text : Takes before now (replay_text files answer)
-
--- a counterexample as the reader leaves it: of one of the questions, with its packet in the set, its failures among
--- those that are allowed, an environment of the network, and a slot for each router and length
-pub record IsAdmitted (files : List File) (questions : List Question) (cex : Counterexample) : Type 0 where
-  pub question : Question
-  pub asked : slice_get questions cex.question ≡ Some question
-  pub packet : IsInSet question.packets cex.packet
-  pub environment : IsEnvironment files cex.env
-  pub failures : IsFailureSet files question.failures cex.failures
-  pub slots : length cex.tables.slots ≡ LENGTHS * length files
 
 -- the text of a right answer, and whether it is yes
 abbrev pub IsReplayLine : List File → List Question → Counterexample → Bool → List ℕ → Type 0

@@ -1,30 +1,19 @@
 -- What a run prints and logs.
-use Rattle.std.specs.Prelude.{◌≡◌, ◌⊎◌, ℕ, false, List, [], ◌∷◌, ◌++◌, take, slice_get, Option, Some}
-use Rattle.std.specs.Prelude.{IfSome, Ok, if◌then◌else◌}
-use Rattle.mw_text.specs.Reading.{each}
-use Rattle.mw_outside.specs.Contents.{Contents}
+use Rattle.std.specs.Prelude.{◌≡◌, ◌⊎◌, ℕ, List, [], take, slice_get, Option, Some}
 use Rattle.mw_outside.specs.Taken.{Takes, TakesPart}
 use Rattle.ios_ast.specs.declared.file.File.{File}
 use Rattle.question_lang.specs.declared.question.Question.{Question}
-use Rattle.mw_verify.specs.declared.status.Status.{Status}
-use Rattle.mw_verify.specs.declared.status.Status.TheVariants.{Good, Bad, Unknown, Usage, Refused, ReadFault}
-use Rattle.mw_verify.specs.declared.status.Status.TheVariants.{WriteFault, Memory}
-use Rattle.mw_verify.specs.declared.text.Text.{Text}
-use Rattle.resolution_check.specs.declared.log.Entry.{Entry}
 use Rattle.cex_json.specs.declared.counterexample.Counterexample.{Counterexample}
-use Rattle.mw_verify.specs.Due.{Outcome, usage, unread, refused, answering, replaying, due, is_command, is_verify}
-use Rattle.mw_verify.specs.Due.{replay_names, text_of, verify_names}
-use Rattle.mw_verify.specs.Replays.{AnswersReplay, IsReplayedSo, replay_text}
+use Rattle.resolution_check.specs.declared.log.Entry.{Entry}
 use Rattle.stable_replay.specs.declared.differs.ReplayNo.{ReplayNo}
-use Rattle.mw_verify.specs.Texts.{usage_text}
-use Rattle.mw_verify.specs.Verdicts.{Answer, AreRight, IsSearched, answers_text, opening_text, section_text}
-use Rattle.mw_verify.specs.Verdicts.{sections_text, status_of}
-
--- what is due for the words: usage where they are no command, whatever the files hold; and what the contents come to,
--- where these are told
-pub record IsDue (contents : Option Contents) (words : List (List ℕ)) (outcome : Outcome) : Type 0 where
-  pub no_command : is_command words ≡ false → outcome ≡ usage
-  pub told : IfSome contents (λ files. due files words ≡ outcome)
+use Rattle.run_inputs.specs.Due.{Outcome, usage, unread, refused, answering, replaying}
+use Rattle.run_inputs.specs.Texts.{usage_text}
+use Rattle.run_answers.specs.declared.status.Status.{Status}
+use Rattle.run_answers.specs.declared.status.Status.TheVariants.{Good, Bad, Unknown, Usage, Refused, ReadFault}
+use Rattle.run_answers.specs.declared.status.Status.TheVariants.{WriteFault, Memory}
+use Rattle.run_answers.specs.Replays.{AnswersReplay, IsReplayedSo, replay_text}
+use Rattle.run_answers.specs.Verdicts.{Answer, AreRight, IsSearched, answers_text, opening_text, section_text}
+use Rattle.run_answers.specs.Verdicts.{sections_text, status_of}
 
 -- right answers to all questions: the status is theirs, and their whole text and their sections stand
 pub record AreAnswered (files : List File) (questions : List Question) (budget : ℕ) (status : Status)
@@ -125,27 +114,18 @@ OnUnanswered ReadFault P = P
 OnUnanswered WriteFault P = Unit {0}
 OnUnanswered Memory P = Unit {0}
 
--- the names of the files in the order in which they are read: the configurations, then the questions, and for
--- `replay` then the counterexample
-abbrev pub verify_order : List (List ℕ) → List (List ℕ)
-verify_order (questions ∷ names) = names ++ questions ∷ []
-verify_order [] = []
-
-abbrev pub replay_order : List (List ℕ) → List (List ℕ)
-replay_order (cex ∷ questions ∷ names) = names ++ questions ∷ cex ∷ []
-replay_order _ = []
-
-abbrev pub in_order : List (List ℕ) → List (List ℕ)
-in_order words = if is_verify words then verify_order (verify_names words) else replay_order (replay_names words)
-
--- the files of these names are there, each with few enough bytes: only the last that a command names, its own, is
--- none of these
-abbrev pub AreThere : Contents → List (List ℕ) → Type 0
-AreThere files names = (texts : List Text) × (each (text_of files) names ≡ Ok texts)
-
--- where the last failed name is told, it is one of these names; and where contents are told, every file before it is
--- there and small enough
-abbrev pub StopsAt : Option Contents → List (List ℕ) → Option (List ℕ) → Type 0
-StopsAt contents names last_failed =
-    IfSome last_failed (λ name. (front : List (List ℕ)) × (rest : List (List ℕ)) × (names ≡ front ++ name ∷ rest)
-    × IfSome contents (λ files. AreThere files front))
+-- how answers end: all of them, with their text and their sections; or early
+abbrev pub AnswersSo : Outcome → Status → Option (List ℕ) → Option (List ℕ) → Option (List ℕ) → Option (List ℕ) → Type 0
+    → Type 0
+AnswersSo outcome Good before now logged_before logged_now rose = IsAnswered outcome Good before now logged_before
+    logged_now
+AnswersSo outcome Bad before now logged_before logged_now rose = IsAnswered outcome Bad before now logged_before
+    logged_now
+AnswersSo outcome Unknown before now logged_before logged_now rose =
+    IsAnswered outcome Unknown before now logged_before logged_now
+AnswersSo outcome WriteFault before now logged_before logged_now rose =
+    Stands outcome before now logged_before logged_now × rose
+AnswersSo outcome Memory before now logged_before logged_now rose = Stands outcome before now logged_before logged_now
+AnswersSo outcome Usage before now logged_before logged_now rose = ⊥
+AnswersSo outcome Refused before now logged_before logged_now rose = ⊥
+AnswersSo outcome ReadFault before now logged_before logged_now rose = ⊥

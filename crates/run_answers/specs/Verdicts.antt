@@ -14,17 +14,18 @@ use Rattle.cnf_blaster.specs.Meaning.{CanBeTrue}
 use Rattle.ios_ast.specs.declared.file.File.{File}
 use Rattle.route_record.specs.declared.Environment.{Environment}
 use Rattle.route_record.specs.declared.World.{World}
-use Rattle.net_encoder.specs.Breaking.{IsBreakable, IsBreaking}
+use Rattle.breaking_def.specs.Breaking.{IsBreakable, IsBreaking}
 use Rattle.question_lang.specs.declared.question.Question.{Question}
 use Rattle.question_lang.specs.declared.walk.Walk.{Walk}
 use Rattle.cex_json.specs.declared.counterexample.Counterexample.{Counterexample}
 use Rattle.cex_json.specs.Text.{cex_text}
 use Rattle.stable_replay.specs.Replayed.{world_of}
-use Rattle.mw_verify.specs.declared.answer.Verdict.{Verdict}
-use Rattle.mw_verify.specs.declared.answer.Verdict.TheVariants.{Holds, Broken, Unknown}
-use Rattle.mw_verify.specs.declared.status.Status.{Status}
-use Rattle.mw_verify.specs.declared.status.Status.TheVariants as status
-use Rattle.mw_verify.specs.Texts.{newline, holds_text, unknown_text}
+use Rattle.run_answers.specs.declared.verdict.Verdict.{Verdict}
+use Rattle.run_answers.specs.declared.verdict.Verdict.TheVariants.{Holds, Broken, Unknown}
+use Rattle.run_answers.specs.declared.status.Status.{Status}
+use Rattle.run_answers.specs.declared.status.Status.TheVariants as status
+use Rattle.run_inputs.specs.Texts.{newline}
+use Rattle.run_answers.specs.Lines.{holds_text, unknown_text}
 
 -- nothing breaks the question
 abbrev pub IsUnbroken : List File → Question → Type 0

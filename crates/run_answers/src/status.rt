@@ -1,10 +1,10 @@
 //! How a run ends.
 
 ghost use Rattle.std.specs.Prelude.{◌≡◌};
-ghost use Rattle.mw_verify.specs.Numbers.{status_number};
+ghost use Rattle.run_answers.specs.Numbers.{status_number};
 
 /// How a run ends.
-#[derive(Clone, Copy, Debug, PartialEq, Eq)]
+#[derive(Clone, Copy)]
 pub enum Status {
     /// Every verdict is `holds`.
     Good,

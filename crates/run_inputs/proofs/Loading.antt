@@ -7,16 +7,16 @@ use Rattle.std.proofs.Math.Seq.{get_or-append_seam, take-append_seam}
 use Rattle.std.proofs.lemmas.List.{length-append}
 use Rattle.std.specs.Option.{option_map_or}
 use Rattle.mw_outside.specs.Contents.{Contents, get, Has, TellsOnly}
-use Rattle.mw_verify.specs.declared.load.Stop.{Stop}
-use Rattle.mw_verify.specs.declared.load.Stop.TheVariants.{Refused, ReadFault, Memory}
-use Rattle.mw_verify.specs.Loading.{OnStop}
-use Rattle.mw_verify.specs.declared.text.Text.{Text}
+use Rattle.run_inputs.specs.declared.load.Stop.{Stop}
+use Rattle.run_inputs.specs.declared.load.Stop.TheVariants.{Refused, ReadFault, Memory}
+use Rattle.run_inputs.specs.Loading.{OnStop}
+use Rattle.run_inputs.specs.declared.text.Text.{Text}
 use Rattle.mw_text.proofs.Reading.{EachTo, each-one, read-done, split-read}
 use Rattle.mw_text.specs.Reading.{each, following, in_turn, with_value}
-use Rattle.mw_verify.specs.declared.load.TheConstants.{MOST_CEX_BYTES}
-use Rattle.mw_verify.specs.Due.{Outcome, unread, refused, replay_due, replayed_due, text_of, text_within}
-use Rattle.mw_verify.specs.Running.{StopsAt}
-use Rattle.mw_verify.specs.Texts.{too_long}
+use Rattle.run_inputs.specs.declared.load.TheConstants.{MOST_CEX_BYTES}
+use Rattle.run_inputs.specs.Due.{Outcome, unread, refused, replay_due, replayed_due, text_of, text_within}
+use Rattle.run_inputs.specs.Order.{StopsAt}
+use Rattle.run_inputs.specs.Texts.{too_long}
 
 le_true : (a b : ℕ) → a ≤ b → nat_le a b ≡ true
 le_true a b h = grind arith

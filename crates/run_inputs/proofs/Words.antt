@@ -9,20 +9,11 @@ use Rattle.std.specs.List.{list_any}
 use Rattle.std.specs.Prelude.{IfSome, codes}
 use Rattle.mw_text.specs.Text.{same_text}
 use Rattle.mw_outside.specs.Contents.{Contents}
-use Rattle.mw_outside.specs.Taken.{part_of_all, part_of_none}
-use Rattle.mw_verify.specs.declared.status.Status.{Status}
-use Rattle.mw_verify.specs.declared.status.Status.TheVariants.{Good, Bad, Unknown, Usage, Refused, ReadFault}
-use Rattle.mw_verify.specs.declared.status.Status.TheVariants.{WriteFault, Memory}
-use Rattle.mw_verify.specs.Due.{Outcome, usage, unread, refused, answering, replaying, are_names, budget_of, due}
-use Rattle.mw_verify.specs.Due.{either}
-use Rattle.mw_verify.specs.Due.{conflicts_of, count_of, files_due, is_command, is_option, is_replay, is_verify}
-use Rattle.mw_verify.specs.Due.{replay_names, replay_words_due}
-use Rattle.mw_verify.specs.Due.{replayed_due, verify_due, verify_names}
-use Rattle.mw_verify.specs.Loading.{AnswersSo}
-use Rattle.mw_verify.specs.Running.{IsAnswered, IsDue, OnAnswered, OnCut, OnUnanswered, Stands, StopsAt, in_order}
-use Rattle.mw_verify.specs.Running.{replay_order, verify_order}
-use Rattle.mw_verify.specs.Texts.{usage_text}
-use Rattle.mw_verify.proofs.Answering.{put-none}
+use Rattle.run_inputs.specs.Due.{IsDue, Outcome, usage, unread, are_names, budget_of, due, either}
+use Rattle.run_inputs.specs.Due.{conflicts_of, count_of, files_due, is_command, is_option, is_replay, is_verify}
+use Rattle.run_inputs.specs.Due.{replay_names, replay_words_due}
+use Rattle.run_inputs.specs.Due.{replayed_due, verify_due, verify_names}
+use Rattle.run_inputs.specs.Order.{StopsAt, in_order, replay_order, verify_order}
 
 least_length : (count n : ℕ) → nat_le count n ≡ true → count ≤ n
 least_length count n h = grind (arith, nat_tests)
@@ -225,69 +216,3 @@ pub some_due : (told : Option Contents) (words : List (List ℕ)) → is_command
 some_due None words is_command = (unread, due_for None words unread is_command tt)
 some_due (Some contents) words is_command =
     (due contents words, due_for (Some contents) words (due contents words) is_command refl)
-
--- nothing stands, which is a front of what may
-pub nothing_stands : (outcome : Outcome) (taken logged : Option (List ℕ)) → Stands outcome taken taken logged logged
-nothing_stands usage taken logged = (part_of_none taken usage_text, refl)
-nothing_stands unread taken logged = (refl, refl)
-nothing_stands (refused line) taken logged = (part_of_none taken line, refl)
-nothing_stands (replaying files questions cex) taken logged = (([], inl refl, part_of_none taken []), refl)
-nothing_stands (answering files questions budget) taken logged =
-    let none = put-none files questions budget taken logged in record {
-      count = 0;
-      answers = none.answers;
-      right = none.right;
-      text = part_of_all taken taken _ none.text;
-      middle = logged;
-      logged = none.logged;
-      next = [];
-      begun = inl refl;
-      part = part_of_none logged [];
-    }
-
-pub cut_nothing : (told : Option Contents) (words : List (List ℕ)) (taken logged : Option (List ℕ)) →
-    is_command words ≡ true → (outcome : Outcome) × IsDue told words outcome × Stands outcome taken taken logged logged
-cut_nothing told words taken logged is_command =
-    let some = some_due told words is_command in (some.0, some.1, nothing_stands some.0 taken logged)
-
--- how a run of answers ends is how it is due
-pub answered_from : (outcome : Outcome) (status : Status) (told : Option Contents) (words : List (List ℕ))
-    (before now logged_before logged_now : Option (List ℕ)) (rose : Type 0) → IsDue told words outcome →
-    AnswersSo outcome status before now logged_before logged_now rose →
-    OnAnswered status ((o : Outcome) × IsDue told words o × IsAnswered o status before now logged_before logged_now)
-answered_from outcome status told words before now logged_before logged_now rose is_due so = by_status status so where
-  by_status : (s : Status) → AnswersSo outcome s before now logged_before logged_now rose →
-      OnAnswered s ((o : Outcome) × IsDue told words o × IsAnswered o s before now logged_before logged_now)
-  by_status Good all = (outcome, is_due, all)
-  by_status Bad all = (outcome, is_due, all)
-  by_status Unknown all = (outcome, is_due, all)
-  by_status Usage none = tt
-  by_status Refused none = tt
-  by_status ReadFault none = tt
-  by_status WriteFault part = tt
-  by_status Memory part = tt
-
-pub cut_from : (outcome : Outcome) (status : Status) (told : Option Contents) (words : List (List ℕ))
-    (before now logged_before logged_now : Option (List ℕ)) (rose : Type 0) → IsDue told words outcome →
-    AnswersSo outcome status before now logged_before logged_now rose →
-    OnCut status ((o : Outcome) × IsDue told words o × Stands o before now logged_before logged_now)
-cut_from outcome Good told words before now logged_before logged_now rose is_due so = tt
-cut_from outcome Bad told words before now logged_before logged_now rose is_due so = tt
-cut_from outcome Unknown told words before now logged_before logged_now rose is_due so = tt
-cut_from outcome Usage told words before now logged_before logged_now rose is_due so = tt
-cut_from outcome Refused told words before now logged_before logged_now rose is_due so = tt
-cut_from outcome ReadFault told words before now logged_before logged_now rose is_due so = tt
-cut_from outcome WriteFault told words before now logged_before logged_now rose is_due so = (outcome, is_due, so.0)
-cut_from outcome Memory told words before now logged_before logged_now rose is_due so = (outcome, is_due, so)
-
--- a run of answers ends in one of five ways
-pub not_unanswered : (outcome : Outcome) (status : Status) (before now logged_before logged_now : Option (List ℕ))
-    (rose P : Type 0) → AnswersSo outcome status before now logged_before logged_now rose → OnUnanswered status P
-not_unanswered outcome Good before now logged_before logged_now rose P so = tt
-not_unanswered outcome Bad before now logged_before logged_now rose P so = tt
-not_unanswered outcome Unknown before now logged_before logged_now rose P so = tt
-not_unanswered outcome Usage before now logged_before logged_now rose P so = absurd so
-not_unanswered outcome Refused before now logged_before logged_now rose P so = absurd so
-not_unanswered outcome ReadFault before now logged_before logged_now rose P so = absurd so
-not_unanswered outcome WriteFault before now logged_before logged_now rose P so = tt
-not_unanswered outcome Memory before now logged_before logged_now rose P so = tt

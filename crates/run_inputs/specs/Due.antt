@@ -1,5 +1,5 @@
 -- What is due for words over the contents of files: usage, a refusal, or answers to questions over a network.
-use Rattle.std.specs.Prelude.{ℕ, ◌==◌, ◌&&◌, ◌||◌, Bool, false, not, List, [], ◌∷◌, length, nat_lt, nat_le, codes}
+use Rattle.std.specs.Prelude.{◌≡◌, IfSome, ℕ, ◌==◌, ◌&&◌, ◌||◌, Bool, false, not, List, [], ◌∷◌, length, nat_lt, nat_le, codes}
 use Rattle.std.specs.Prelude.{slice_index, slice_get, is_none, position, Option, Some, None, drop}
 use Rattle.std.specs.Prelude.{option_and_then, option_map, is_some, unwrap_or, Result, Ok, Err, if◌then◌else◌}
 use Rattle.std.specs.List.{list_all, list_any}
@@ -18,9 +18,9 @@ use Rattle.cex_json.specs.Reading.{reading as reading_cex}
 use Rattle.question_lang.specs.declared.question.Question.{Question}
 use Rattle.question_lang.specs.Asking.{asking}
 use Rattle.mw_text.specs.Digits.{number_of}
-use Rattle.mw_verify.specs.declared.load.TheConstants.{DEFAULT_CONFLICTS, MOST_BYTES, MOST_CEX_BYTES, MOST_CONFLICTS}
-use Rattle.mw_verify.specs.declared.text.Text.{Text}
-use Rattle.mw_verify.specs.Texts.{cex_refusal, net_cause_text, not_built, refusal, refused_text, too_long}
+use Rattle.run_inputs.specs.declared.load.TheConstants.{DEFAULT_CONFLICTS, MOST_BYTES, MOST_CEX_BYTES, MOST_CONFLICTS}
+use Rattle.run_inputs.specs.declared.text.Text.{Text}
+use Rattle.run_inputs.specs.Texts.{cex_refusal, net_cause_text, not_built, refusal, refused_text, too_long}
 
 -- what the contents of files come to
 pub data Outcome : Type 0 where
@@ -192,3 +192,9 @@ abbrev pub due : Contents → List (List ℕ) → Outcome
 due contents words =
     if is_verify words then verify_due contents (budget_of words) (verify_names words)
     else (if is_replay words then replay_words_due contents (replay_names words) else usage)
+
+-- what is due for the words: usage where they are no command, whatever the files hold; and what the contents come to,
+-- where these are told
+pub record IsDue (contents : Option Contents) (words : List (List ℕ)) (outcome : Outcome) : Type 0 where
+  pub no_command : is_command words ≡ false → outcome ≡ usage
+  pub told : IfSome contents (λ files. due files words ≡ outcome)

@@ -1,22 +1,20 @@
--- How a run ends before the answers.
-use Rattle.std.specs.Prelude.{◌≡◌, ⊤, ℕ, ◌≤◌, List, [], length, slice_get, Bool, true, false, Option, Some, Result, Ok}
-use Rattle.std.specs.Prelude.{Err}
-use Rattle.std.specs.List.{list_all}
-use Rattle.mw_verify.specs.declared.load.Stop.{Stop}
-use Rattle.mw_verify.specs.declared.load.Stop.TheVariants as stop
-use Rattle.mw_verify.specs.declared.load.TheConstants.{MOST_BYTES, MOST_CONFLICTS}
-use Rattle.mw_verify.specs.declared.work.Work.{Work}
-use Rattle.mw_verify.specs.declared.work.Work.TheVariants.{Answer, Replay}
-use Rattle.question_lang.specs.declared.reader.TheConstants.{MOST_QUESTIONS}
-use Rattle.net_encoder.specs.Slots.{runs_no_bgp}
-use Rattle.mw_verify.specs.declared.text.Text.{Text}
+-- How a run ends before the answers, and what is ready to be answered.
+use Rattle.std.specs.Prelude.{◌≡◌, ⊤, ℕ, ◌*◌, ◌≤◌, List, length, slice_get, true, Some, Result, Ok, Err}
+use Rattle.breaking_def.specs.Networks.{runs_no_bgp}
+use Rattle.cex_json.specs.declared.counterexample.Counterexample.{Counterexample}
+use Rattle.ios_ast.specs.declared.file.File.{File}
+use Rattle.net_model.specs.World.{IsEnvironment, IsFailureSet}
 use Rattle.question_lang.specs.declared.question.Question.{Question}
-use Rattle.mw_verify.specs.declared.status.Status.{Status}
-use Rattle.mw_verify.specs.declared.status.Status.TheVariants.{Good, Bad, Unknown, Usage, Refused, ReadFault}
-use Rattle.mw_verify.specs.declared.status.Status.TheVariants.{WriteFault, Memory}
-use Rattle.mw_verify.specs.Due.{Outcome, answering, replaying}
-use Rattle.mw_verify.specs.Replays.{IsAdmitted}
-use Rattle.mw_verify.specs.Running.{IsAnswered, Stands}
+use Rattle.question_lang.specs.declared.reader.TheConstants.{MOST_QUESTIONS}
+use Rattle.question_lang.specs.Packets.{IsInSet}
+use Rattle.route_record.specs.declared.TheConstants.{LENGTHS}
+use Rattle.run_inputs.specs.declared.load.Stop.{Stop}
+use Rattle.run_inputs.specs.declared.load.Stop.TheVariants as stop
+use Rattle.run_inputs.specs.declared.load.TheConstants.{MOST_BYTES, MOST_CONFLICTS}
+use Rattle.run_inputs.specs.declared.text.Text.{Text}
+use Rattle.run_inputs.specs.declared.work.Work.{Work}
+use Rattle.run_inputs.specs.declared.work.Work.TheVariants.{Answer, Replay}
+use Rattle.run_inputs.specs.Due.{Outcome, answering, replaying}
 
 -- P of the line of a refusal, Q at a fault of reading
 abbrev pub OnStop : Stop → (List ℕ → Type 0) → Type 0 → Type 0
@@ -39,26 +37,20 @@ AreSmall texts = (k : ℕ) (text : Text) → slice_get texts k ≡ Some text →
 abbrev pub IsBudget : ℕ → Type 0
 IsBudget budget = (1 ≤ budget) × (budget ≤ MOST_CONFLICTS)
 
--- how answers end: all of them, with their text and their sections; or early
-abbrev pub AnswersSo : Outcome → Status → Option (List ℕ) → Option (List ℕ) → Option (List ℕ) → Option (List ℕ) → Type 0
-    → Type 0
-AnswersSo outcome Good before now logged_before logged_now rose = IsAnswered outcome Good before now logged_before
-    logged_now
-AnswersSo outcome Bad before now logged_before logged_now rose = IsAnswered outcome Bad before now logged_before
-    logged_now
-AnswersSo outcome Unknown before now logged_before logged_now rose =
-    IsAnswered outcome Unknown before now logged_before logged_now
-AnswersSo outcome WriteFault before now logged_before logged_now rose =
-    Stands outcome before now logged_before logged_now × rose
-AnswersSo outcome Memory before now logged_before logged_now rose = Stands outcome before now logged_before logged_now
-AnswersSo outcome Usage before now logged_before logged_now rose = ⊥
-AnswersSo outcome Refused before now logged_before logged_now rose = ⊥
-AnswersSo outcome ReadFault before now logged_before logged_now rose = ⊥
-
 -- what the work of a command comes to
 abbrev pub outcome_of : Work → Outcome
 outcome_of (Answer loaded) = answering loaded.net loaded.questions loaded.budget
 outcome_of (Replay told) = replaying told.net told.questions told.cex
+
+-- a counterexample as the reader leaves it: of one of the questions, with its packet in the set, its failures among
+-- those that are allowed, an environment of the network, and a slot for each router and length
+pub record IsAdmitted (files : List File) (questions : List Question) (cex : Counterexample) : Type 0 where
+  pub question : Question
+  pub asked : slice_get questions cex.question ≡ Some question
+  pub packet : IsInSet question.packets cex.packet
+  pub environment : IsEnvironment files cex.env
+  pub failures : IsFailureSet files question.failures cex.failures
+  pub slots : length cex.tables.slots ≡ LENGTHS * length files
 
 -- the work can be done: no router runs BGP and the questions are few, or the counterexample is admitted
 abbrev pub IsReady : Work → Type 0

@@ -11,7 +11,6 @@ use Rattle.net_model.specs.declared.refusals.NetCause.TheVariants as net
 use Rattle.net_model.specs.declared.refusals.NetCause.TheVariants.{SameName, SameAddress, SubnetClash}
 use Rattle.net_model.specs.declared.refusals.NetCause.TheVariants.{NextHopNotConnected, ExternalInternalPeer}
 use Rattle.net_model.specs.declared.refusals.NetCause.TheVariants.{SecondArea, NetLimit}
-use Rattle.question_lang.specs.declared.question.Question.{Question}
 use Rattle.cex_json.specs.declared.refused.CexRefused.{CexRefused}
 use Rattle.cex_json.specs.declared.refused.CexRefused.TheVariants as cex
 use Rattle.cex_json.specs.declared.refused.CexRefused.TheVariants.{NotJson, Field}
@@ -75,12 +74,3 @@ not_built name line = refused_text name line (codes "3 NotBuilt")
 -- words that are no command
 abbrev pub usage_text : List ℕ
 usage_text = codes "usage: mw_cli verify, check, replay, simulate or gen" ++ newline
-
--- holds NAME
-abbrev pub holds_text : Question → List ℕ
-holds_text question = codes "holds " ++ question.name ++ newline
-
--- unknown NAME after N conflicts
-abbrev pub unknown_text : Question → ℕ → List ℕ
-unknown_text question after = codes "unknown " ++ question.name ++ codes " after " ++ decimal after
-    ++ codes " conflicts" ++ newline

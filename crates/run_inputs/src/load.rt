@@ -4,14 +4,14 @@ ghost use Rattle.std.specs.Prelude.{◌≡◌, ◌≢◌, ◌≤◌, ◌++◌, �
 ghost use Rattle.std.specs.List.{list_all};
 ghost use Rattle.ios_ast.specs.Limits.{keeps_limits};
 ghost use Rattle.mw_text.specs.Reading.{each};
-ghost use Rattle.mw_verify.specs.Texts as lines;
-ghost use Rattle.net_encoder.specs.Slots.{runs_no_bgp};
+ghost use Rattle.run_inputs.specs.Texts as lines;
+ghost use Rattle.breaking_def.specs.Networks.{runs_no_bgp};
 ghost use Rattle.mw_outside.specs.Faults.{Rose};
 ghost use Rattle.mw_outside.specs.Contents.{TellsOnly};
 ghost use Rattle.question_lang.specs.Known.{AreKnown};
-ghost use Rattle.mw_verify.specs.Due as due;
-ghost use Rattle.mw_verify.specs.Running.{StopsAt};
-ghost use Rattle.mw_verify.specs.Loading.{OnStop, UnlessReadFault, AreSmall};
+ghost use Rattle.run_inputs.specs.Due as due;
+ghost use Rattle.run_inputs.specs.Order.{StopsAt};
+ghost use Rattle.run_inputs.specs.Loading.{OnStop, UnlessReadFault, AreSmall};
 
 use crate::text::{Text, net_refused, not_built, refusal, too_long};
 use ios_ast::File;
@@ -44,7 +44,7 @@ pub enum Stop {
 }
 
 impl From<AllocError> for Stop {
-    ghost use Rattle.mw_verify.specs.declared.load.Stop.TheVariants.{Memory};
+    ghost use Rattle.run_inputs.specs.declared.load.Stop.TheVariants.{Memory};
 
     ghost from_gives = { λ _ stop. stop ≡ Memory };
 
@@ -54,7 +54,7 @@ impl From<AllocError> for Stop {
 }
 
 impl<T: Drop> From<AllocFailed<T>> for Stop {
-    ghost use Rattle.mw_verify.specs.declared.load.Stop.TheVariants.{Memory};
+    ghost use Rattle.run_inputs.specs.declared.load.Stop.TheVariants.{Memory};
 
     ghost from_gives = { λ _ stop. stop ≡ Memory };
 

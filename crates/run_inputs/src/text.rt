@@ -1,11 +1,12 @@
-//! The text of a file, and the lines that are printed.
+//! The text of a file, and the lines of refusals.
 
-ghost use Rattle.std.specs.Prelude.{◌≡◌, ◌++◌, IfOk, OnOk};
-ghost use Rattle.mw_verify.specs.Texts as texts;
+ghost use Rattle.std.specs.Prelude.{◌≡◌, IfOk};
+ghost use Rattle.std.specs.List.{flat_map};
+ghost use Rattle.run_inputs.specs.Texts as texts;
 
 use cex_json::CexRefused;
 use ios_policy_reader::{Cause, Refused};
-use mw_text::List;
+use mw_text::{List, list_of};
 use net_model::{NetCause, NetRefused};
 use std::alloc::{AllocError, Global};
 
@@ -16,48 +17,56 @@ pub struct Text {
     pub bytes: List<u8>,
 }
 
-/// Puts bytes at the end.
-pub fn append(text: &mut List<u8>, more: &[u8]) -> Result<(), AllocError>
-    ensures { OnOk result (text.new ≡ text.old ++ more.now) }
+/// Pieces joined in their order.
+pub fn joined(alloc: Global, pieces: &[&[u8]]) -> Result<List<u8>, AllocError>
+    ensures { IfOk result (λ text. text ≡ flat_map (λ piece. piece.now) pieces.now) }
 {
-    text.items.extend_from_slice(more)
+    let mut text = List::new(alloc);
+    for piece in pieces {
+        text.items.extend_from_slice(piece)?;
+    }
+    Ok(text)
+}
+
+fn bad_word_text(alloc: Global, word: u32) -> Result<List<u8>, AllocError>
+    ensures { IfOk result (λ text. text ≡ texts.cause_text (Cause.BadWord word)) }
+{
+    let number = word.to_string(alloc)?;
+    joined(alloc, &[b"2 BadWord ", number.as_bytes()])
 }
 
 fn cause_text(alloc: Global, cause: Cause) -> Result<List<u8>, AllocError>
     ensures { IfOk result (λ text. text ≡ texts.cause_text cause) }
 {
-    let mut text = List::new(alloc);
     match cause {
-        Cause::UnknownCommand => append(&mut text, b"1 UnknownCommand")?,
-        Cause::BadWord { word } => {
-            append(&mut text, b"2 BadWord ")?;
-            append(&mut text, word.to_string(alloc)?.as_bytes())?;
-        }
-        Cause::Repeated => append(&mut text, b"4 Repeated")?,
-        Cause::OutOfPlace => append(&mut text, b"5 OutOfPlace")?,
-        Cause::Limit => append(&mut text, b"6 Limit")?,
-        Cause::Undefined => append(&mut text, b"7 Undefined")?,
-        Cause::UnknownRouter => append(&mut text, b"15 UnknownRouter")?,
-        Cause::UnknownPeer => append(&mut text, b"16 UnknownPeer")?,
-        Cause::TooManyQuestions => append(&mut text, b"17 TooManyQuestions")?,
-        Cause::NoHostname => append(&mut text, b"24 NoHostname")?,
-        Cause::Memory => {}
+        Cause::UnknownCommand => list_of(alloc, b"1 UnknownCommand"),
+        Cause::BadWord { word } => bad_word_text(alloc, word),
+        Cause::Repeated => list_of(alloc, b"4 Repeated"),
+        Cause::OutOfPlace => list_of(alloc, b"5 OutOfPlace"),
+        Cause::Limit => list_of(alloc, b"6 Limit"),
+        Cause::Undefined => list_of(alloc, b"7 Undefined"),
+        Cause::UnknownRouter => list_of(alloc, b"15 UnknownRouter"),
+        Cause::UnknownPeer => list_of(alloc, b"16 UnknownPeer"),
+        Cause::TooManyQuestions => list_of(alloc, b"17 TooManyQuestions"),
+        Cause::NoHostname => list_of(alloc, b"24 NoHostname"),
+        Cause::Memory => Ok(List::new(alloc)),
     }
-    Ok(text)
 }
 
 fn refused_text(alloc: Global, name: &[u8], line: u32, cause: &[u8]) -> Result<List<u8>, AllocError>
     ensures { IfOk result (λ text. text ≡ texts.refused_text name.now line cause.now) }
 {
-    let mut text = List::new(alloc);
-    append(&mut text, b"refused ")?;
-    append(&mut text, name)?;
-    append(&mut text, b":")?;
-    append(&mut text, line.to_string(alloc)?.as_bytes())?;
-    append(&mut text, b" ")?;
-    append(&mut text, cause)?;
-    append(&mut text, b"\n")?;
-    Ok(text)
+    let number = line.to_string(alloc)?;
+    let pieces: [&[u8]; 7] = [
+        b"refused ",
+        name,
+        b":",
+        number.as_bytes(),
+        b" ",
+        cause,
+        b"\n",
+    ];
+    joined(alloc, &pieces)
 }
 
 /// The line of a file that is refused.
@@ -94,16 +103,11 @@ pub fn net_refused(alloc: Global, name: &[u8], why: &NetRefused) -> Result<List<
 fn cex_cause(alloc: Global, why: &CexRefused) -> Result<List<u8>, AllocError>
     ensures { IfOk result (λ text. text ≡ texts.cex_cause_text why.now) }
 {
-    let mut text = List::new(alloc);
     match why {
-        CexRefused::NotJson => append(&mut text, b"18 NotJson")?,
-        CexRefused::Field { path } => {
-            append(&mut text, b"19 Field ")?;
-            append(&mut text, path.as_slice())?;
-        }
-        CexRefused::Memory => {}
+        CexRefused::NotJson => list_of(alloc, b"18 NotJson"),
+        CexRefused::Field { path } => joined(alloc, &[b"19 Field ", path.as_slice()]),
+        CexRefused::Memory => Ok(List::new(alloc)),
     }
-    Ok(text)
 }
 
 /// The line of a counterexample that is refused.

@@ -4,12 +4,13 @@ ghost use Rattle.std.specs.Prelude.{◌≡◌, true, false, IfOk, IfErr, IfSome,
 ghost use Rattle.std.specs.List.{list_any};
 ghost use Rattle.mw_text.specs.Text.{same_text};
 ghost use Rattle.mw_outside.specs.Faults.{Rose};
-ghost use Rattle.mw_verify.specs.Due as due;
-ghost use Rattle.mw_verify.specs.Loading.{IsBudget, IsReady, OnStop, UnlessReadFault, outcome_of};
-ghost use Rattle.mw_verify.specs.Running.{IsDue, StopsAt, in_order};
+ghost use Rattle.run_inputs.specs.Due as due;
+ghost use Rattle.run_inputs.specs.Due.{IsDue};
+ghost use Rattle.run_inputs.specs.Loading.{IsBudget, IsReady, OnStop, UnlessReadFault, outcome_of};
+ghost use Rattle.run_inputs.specs.Order.{StopsAt, in_order};
 
 use crate::load::{DEFAULT_CONFLICTS, Loaded, MOST_CONFLICTS, Stop, load};
-use crate::replaying::{Told, load_replay};
+use crate::told::{Told, load_replay};
 use mw_outside::Files;
 use mw_text::read_number;
 use std::alloc::Global;

@@ -1,6 +1,6 @@
 use Rattle.mw_text.proofs.Results.{on_err}
-use Rattle.mw_verify.proofs.Formulas.{section_whole, verdict_logged}
-use Rattle.mw_verify.proofs.answer.answer.Goals as goal
+use Rattle.question_search.proofs.Formulas.{section_whole, verdict_logged}
+use Rattle.question_search.proofs.answer.answer.Goals as goal
 
 pub returns-in_err-verdict-clause-cut : goal.returns-in_err-verdict-clause-cut
 returns-in_err-verdict-clause-cut g c =

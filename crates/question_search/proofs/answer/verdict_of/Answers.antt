@@ -1,5 +1,5 @@
-use Rattle.mw_verify.proofs.Formulas.{unsat_holds}
-use Rattle.mw_verify.proofs.answer.verdict_of.Goals as goal
+use Rattle.question_search.proofs.Formulas.{unsat_holds}
+use Rattle.question_search.proofs.answer.verdict_of.Goals as goal
 
 pub returns-in-Unsat-clause-right : goal.returns-in-Unsat-clause-right
 returns-in-Unsat-clause-right c =

@@ -1,5 +1,5 @@
-use Rattle.mw_verify.proofs.ReplayAnswers.{replay_told}
-use Rattle.mw_verify.proofs.replaying.replay_answer.Goals as goal
+use Rattle.run_answers.proofs.ReplayAnswers.{replay_told}
+use Rattle.run_answers.proofs.replaying.replay_answer.Goals as goal
 
 pub returns-in-Err : goal.returns-in-Err
 returns-in-Err c =

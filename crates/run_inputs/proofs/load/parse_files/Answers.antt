@@ -8,9 +8,9 @@ use Rattle.std.proofs.lemmas.Result.{err_from_is_err_and}
 use Rattle.ios_ast.specs.declared.file.File.{File}
 use Rattle.mw_text.specs.Reading.{with_value}
 use Rattle.mw_text.proofs.Reading.{EachTo, read-none, read-done, each-one, each-refused}
-use Rattle.mw_verify.specs.Due.{file_of, refused}
-use Rattle.mw_verify.proofs.Loading.{on_stop-map}
-use Rattle.mw_verify.proofs.load.parse_files.Goals as goal
+use Rattle.run_inputs.specs.Due.{file_of, refused}
+use Rattle.run_inputs.proofs.Loading.{on_stop-map}
+use Rattle.run_inputs.proofs.load.parse_files.Goals as goal
 
 pub loop-text-init : goal.loop-text-init
 loop-text-init c =

@@ -1,9 +1,9 @@
 use Rattle.std.proofs.Common.{◌≡◌, true}
 use Rattle.std.specs.List.{list_all}
 use Rattle.ios_ast.specs.Limits.{keeps_limits}
-use Rattle.mw_verify.specs.Due.{file_of}
+use Rattle.run_inputs.specs.Due.{file_of}
 use Rattle.mw_text.proofs.Reading.{EachTo}
-use Rattle.mw_verify.proofs.load.parse_files.Given as goal
+use Rattle.run_inputs.proofs.load.parse_files.Given as goal
 
 -- the files so far are those of the texts so far, and keep the limits
 abbrev pub invariant-loop-text : goal.invariant-loop-text

@@ -4,16 +4,16 @@ use Rattle.std.proofs.lemmas.List.{length-map}
 use Rattle.std.specs.Prelude.{IfSome, slice_get, string_bytes}
 use Rattle.mw_outside.specs.Contents.{Contents, TellsOnly}
 use Rattle.mw_outside.specs.Faults.{Rose}
-use Rattle.mw_verify.specs.declared.load.TheConstants.{MOST_BYTES}
-use Rattle.mw_verify.specs.declared.text.Text.{Text}
-use Rattle.mw_verify.specs.Loading.{AreSmall}
-use Rattle.mw_verify.specs.Due.{text_of, refused}
+use Rattle.run_inputs.specs.declared.load.TheConstants.{MOST_BYTES}
+use Rattle.run_inputs.specs.declared.text.Text.{Text}
+use Rattle.run_inputs.specs.Loading.{AreSmall}
+use Rattle.run_inputs.specs.Due.{text_of, refused}
 use Rattle.mw_text.proofs.Lists.{each_place-push}
 use Rattle.std.proofs.lemmas.Result.{err_from_is_err_and}
 use Rattle.mw_text.specs.Reading.{with_value}
 use Rattle.mw_text.proofs.Reading.{EachTo, read-none, read-done, each-one, each-refused}
-use Rattle.mw_verify.proofs.Loading.{all_told, on_stop-map, if_told, if_told_one, read-map, stops-here}
-use Rattle.mw_verify.proofs.load.read_texts.Goals as goal
+use Rattle.run_inputs.proofs.Loading.{all_told, on_stop-map, if_told, if_told_one, read-map, stops-here}
+use Rattle.run_inputs.proofs.load.read_texts.Goals as goal
 
 pub loop-name-init : goal.loop-name-init
 loop-name-init g c =

@@ -1,9 +1,9 @@
 use Rattle.std.proofs.Common.{◌≡◌, map}
 use Rattle.std.specs.Prelude.{IfSome, string_bytes}
-use Rattle.mw_verify.specs.Due.{text_of}
-use Rattle.mw_verify.specs.Loading.{AreSmall}
+use Rattle.run_inputs.specs.Due.{text_of}
+use Rattle.run_inputs.specs.Loading.{AreSmall}
 use Rattle.mw_text.proofs.Reading.{EachTo}
-use Rattle.mw_verify.proofs.load.read_texts.Given as goal
+use Rattle.run_inputs.proofs.load.read_texts.Given as goal
 
 -- contents are kept and no read failed; the texts so far are those of the names so far, and have few enough bytes
 abbrev pub invariant-loop-name : goal.invariant-loop-name

@@ -3,10 +3,10 @@ use Rattle.std.specs.Prelude.{IfSome, string_bytes}
 use Rattle.std.proofs.lemmas.Result.{err_from_is_err_and}
 use Rattle.mw_outside.specs.Contents.{Contents}
 use Rattle.mw_outside.specs.Faults.{Rose}
-use Rattle.mw_verify.specs.declared.load.TheConstants.{MOST_CEX_BYTES}
-use Rattle.mw_verify.specs.Due.{refused, text_of, text_within}
-use Rattle.mw_verify.proofs.Loading.{on_stop-map, stops-third, third_refused}
-use Rattle.mw_verify.proofs.replaying.load_replay.Goals as goal
+use Rattle.run_inputs.specs.declared.load.TheConstants.{MOST_CEX_BYTES}
+use Rattle.run_inputs.specs.Due.{refused, text_of, text_within}
+use Rattle.run_inputs.proofs.Loading.{on_stop-map, stops-third, third_refused}
+use Rattle.run_inputs.proofs.told.load_replay.Goals as goal
 
 pub returns-in_err-told-clause-stop : goal.returns-in_err-told-clause-stop
 returns-in_err-told-clause-stop g c =

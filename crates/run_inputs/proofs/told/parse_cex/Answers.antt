@@ -1,5 +1,5 @@
-use Rattle.mw_verify.proofs.ReplayAnswers.{admitted_from}
-use Rattle.mw_verify.proofs.replaying.parse_cex.Goals as goal
+use Rattle.run_inputs.proofs.Admitting.{admitted_from}
+use Rattle.run_inputs.proofs.told.parse_cex.Goals as goal
 
 pub returns-in-Ok-clause-admitted : goal.returns-in-Ok-clause-admitted
 returns-in-Ok-clause-admitted c =

@@ -1,6 +1,6 @@
 use Rattle.std.specs.Prelude.{string_bytes}
-use Rattle.mw_verify.proofs.Words.{names_here}
-use Rattle.mw_verify.proofs.work.are_names.Goals as goal
+use Rattle.run_inputs.proofs.Words.{names_here}
+use Rattle.run_inputs.proofs.work.are_names.Goals as goal
 
 pub returns-then-names-count : goal.returns-then-names-count
 returns-then-names-count c =

@@ -1,6 +1,6 @@
 use Rattle.std.specs.Prelude.{string_bytes}
-use Rattle.mw_verify.proofs.Words.{conflicts_other, conflicts_said}
-use Rattle.mw_verify.proofs.work.conflicts_of.Goals as goal
+use Rattle.run_inputs.proofs.Words.{conflicts_other, conflicts_said}
+use Rattle.run_inputs.proofs.work.conflicts_of.Goals as goal
 
 pub returns-then-is_word-clause-value : goal.returns-then-is_word-clause-value
 returns-then-is_word-clause-value c =

@@ -1,0 +1,67 @@
+//! Verdicts for the questions of a network, one after another.
+
+ghost use Rattle.std.specs.Prelude.{◌≡◌, ◌≢◌, ◌⊎◌, true, IfOk, OnErr};
+ghost use Rattle.breaking_def.specs.Networks.{runs_no_bgp};
+ghost use Rattle.mw_outside.specs.Faults.{Rose};
+ghost use Rattle.run_answers.specs.Answering.{IsCutShort, IsPut, OnWriteFault, UnlessWriteFault};
+ghost use Rattle.run_answers.specs.Running.{AnswersSo};
+ghost use Rattle.run_inputs.specs.Loading.{IsBudget, IsReady, outcome_of};
+
+use mw_outside::Sink;
+use question_lang::Question;
+use question_search::answer;
+use run_answers::halt::put_lines;
+use run_answers::{Halt, Seen, Status, Verdict};
+use run_inputs::Work;
+use run_inputs::load::Loaded;
+use std::alloc::Global;
+
+// Answers a question: its section goes into the log, and then the lines of its verdict are printed.
+fn put_verdict<O: Sink, L: Sink>(
+    alloc: Global,
+    loaded: &Loaded,
+    number: u32,
+    question: &Question,
+    out: &mut O,
+    log: &mut L,
+) -> Result<Verdict, Halt>
+    requires no_bgp { runs_no_bgp loaded.now.net ≡ true }
+    requires budget { IsBudget loaded.now.budget }
+    ensures ok { IfOk result (λ verdict. IsPut loaded.now.net loaded.now.questions loaded.now.budget number question.now verdict
+        (O.taken out.old) (O.taken out.new) (L.taken log.old) (L.taken log.new)) }
+    ensures cut { OnErr result (IsCutShort loaded.now.net loaded.now.questions loaded.now.budget number question.now
+        (O.taken out.old) (O.taken out.new) (L.taken log.old) (L.taken log.new)) }
+    ensures fault { OnWriteFault result (Rose (O.faults out.old) (O.faults out.new) ⊎ Rose (L.faults log.old) (L.faults log.new)) }
+    ensures writes { UnlessWriteFault result ((O.faults out.new ≡ O.faults out.old) × (L.faults log.new ≡ L.faults log.old)) }
+{
+    let verdict = answer(alloc, &loaded.net, number, question, loaded.budget, log)?;
+    put_lines(alloc, loaded, question, &verdict, out)?;
+    Ok(verdict)
+}
+
+/// Answers each question in turn.
+pub fn put_verdicts<O: Sink, L: Sink>(
+    alloc: Global,
+    loaded: &Loaded,
+    out: &mut O,
+    log: &mut L,
+) -> Status
+    requires { IsReady (Work.Answer loaded.now) }
+    ensures answers { AnswersSo (outcome_of (Work.Answer loaded.now)) result
+        (O.taken out.old) (O.taken out.new) (L.taken log.old) (L.taken log.new)
+        (Rose (O.faults out.old) (O.faults out.new) ⊎ Rose (L.faults log.old) (L.faults log.new)) }
+    ensures writes { result ≢ Status.WriteFault → (O.faults out.new ≡ O.faults out.old) × (L.faults log.new ≡ L.faults log.old) }
+{
+    let mut seen = Seen {
+        broken: false,
+        unknown: false,
+    };
+    for (at, question) in loaded.questions.as_slice().iter().enumerate() {
+        match put_verdict(alloc, loaded, at as u32, question, out, log) {
+            Ok(verdict) => seen = seen.with(&verdict),
+            Err(Halt::WriteFault) => return Status::WriteFault,
+            Err(Halt::Memory) => return Status::Memory,
+        }
+    }
+    seen.status()
+}

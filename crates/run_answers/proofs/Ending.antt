@@ -1,0 +1,78 @@
+-- How runs end.
+use Rattle.std.proofs.Common.{◌≡◌, ℕ, List, [], Option, true, refl, inl}
+use Rattle.mw_outside.specs.Contents.{Contents}
+use Rattle.mw_outside.specs.Taken.{part_of_all, part_of_none}
+use Rattle.run_inputs.specs.Due.{IsDue, Outcome, usage, unread, refused, answering, replaying, is_command}
+use Rattle.run_inputs.specs.Texts.{usage_text}
+use Rattle.run_inputs.proofs.Words.{some_due}
+use Rattle.run_answers.specs.declared.status.Status.{Status}
+use Rattle.run_answers.specs.declared.status.Status.TheVariants.{Good, Bad, Unknown, Usage, Refused, ReadFault}
+use Rattle.run_answers.specs.declared.status.Status.TheVariants.{WriteFault, Memory}
+use Rattle.run_answers.specs.Running.{AnswersSo, IsAnswered, OnAnswered, OnCut, OnUnanswered, Stands}
+use Rattle.run_answers.proofs.Answering.{put-none}
+
+-- nothing stands, which is a front of what may
+pub nothing_stands : (outcome : Outcome) (taken logged : Option (List ℕ)) → Stands outcome taken taken logged logged
+nothing_stands usage taken logged = (part_of_none taken usage_text, refl)
+nothing_stands unread taken logged = (refl, refl)
+nothing_stands (refused line) taken logged = (part_of_none taken line, refl)
+nothing_stands (replaying files questions cex) taken logged = (([], inl refl, part_of_none taken []), refl)
+nothing_stands (answering files questions budget) taken logged =
+    let none = put-none files questions budget taken logged in record {
+      count = 0;
+      answers = none.answers;
+      right = none.right;
+      text = part_of_all taken taken _ none.text;
+      middle = logged;
+      logged = none.logged;
+      next = [];
+      begun = inl refl;
+      part = part_of_none logged [];
+    }
+
+pub cut_nothing : (told : Option Contents) (words : List (List ℕ)) (taken logged : Option (List ℕ)) →
+    is_command words ≡ true → (outcome : Outcome) × IsDue told words outcome × Stands outcome taken taken logged logged
+cut_nothing told words taken logged is_command =
+    let some = some_due told words is_command in (some.0, some.1, nothing_stands some.0 taken logged)
+
+-- how a run of answers ends is how it is due
+pub answered_from : (outcome : Outcome) (status : Status) (told : Option Contents) (words : List (List ℕ))
+    (before now logged_before logged_now : Option (List ℕ)) (rose : Type 0) → IsDue told words outcome →
+    AnswersSo outcome status before now logged_before logged_now rose →
+    OnAnswered status ((o : Outcome) × IsDue told words o × IsAnswered o status before now logged_before logged_now)
+answered_from outcome status told words before now logged_before logged_now rose is_due so = by_status status so where
+  by_status : (s : Status) → AnswersSo outcome s before now logged_before logged_now rose →
+      OnAnswered s ((o : Outcome) × IsDue told words o × IsAnswered o s before now logged_before logged_now)
+  by_status Good all = (outcome, is_due, all)
+  by_status Bad all = (outcome, is_due, all)
+  by_status Unknown all = (outcome, is_due, all)
+  by_status Usage none = tt
+  by_status Refused none = tt
+  by_status ReadFault none = tt
+  by_status WriteFault part = tt
+  by_status Memory part = tt
+
+pub cut_from : (outcome : Outcome) (status : Status) (told : Option Contents) (words : List (List ℕ))
+    (before now logged_before logged_now : Option (List ℕ)) (rose : Type 0) → IsDue told words outcome →
+    AnswersSo outcome status before now logged_before logged_now rose →
+    OnCut status ((o : Outcome) × IsDue told words o × Stands o before now logged_before logged_now)
+cut_from outcome Good told words before now logged_before logged_now rose is_due so = tt
+cut_from outcome Bad told words before now logged_before logged_now rose is_due so = tt
+cut_from outcome Unknown told words before now logged_before logged_now rose is_due so = tt
+cut_from outcome Usage told words before now logged_before logged_now rose is_due so = tt
+cut_from outcome Refused told words before now logged_before logged_now rose is_due so = tt
+cut_from outcome ReadFault told words before now logged_before logged_now rose is_due so = tt
+cut_from outcome WriteFault told words before now logged_before logged_now rose is_due so = (outcome, is_due, so.0)
+cut_from outcome Memory told words before now logged_before logged_now rose is_due so = (outcome, is_due, so)
+
+-- a run of answers ends in one of five ways
+pub not_unanswered : (outcome : Outcome) (status : Status) (before now logged_before logged_now : Option (List ℕ))
+    (rose P : Type 0) → AnswersSo outcome status before now logged_before logged_now rose → OnUnanswered status P
+not_unanswered outcome Good before now logged_before logged_now rose P so = tt
+not_unanswered outcome Bad before now logged_before logged_now rose P so = tt
+not_unanswered outcome Unknown before now logged_before logged_now rose P so = tt
+not_unanswered outcome Usage before now logged_before logged_now rose P so = absurd so
+not_unanswered outcome Refused before now logged_before logged_now rose P so = absurd so
+not_unanswered outcome ReadFault before now logged_before logged_now rose P so = absurd so
+not_unanswered outcome WriteFault before now logged_before logged_now rose P so = tt
+not_unanswered outcome Memory before now logged_before logged_now rose P so = tt

@@ -1,0 +1,6 @@
+pub mod Lines
+pub mod Numbers
+pub mod Verdicts
+pub mod Replays
+pub mod Running
+pub mod Answering

@@ -1,0 +1,4 @@
+pub mod Loading
+pub mod Deciding
+pub mod Words
+pub mod Admitting

@@ -1,0 +1,4 @@
+pub mod Texts
+pub mod Due
+pub mod Order
+pub mod Loading
