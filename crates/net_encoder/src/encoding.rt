@@ -6,14 +6,13 @@ ghost use Rattle.question_lang.specs.Breaking.{Breaks};
 ghost use Rattle.route_record.specs.declared.Environment.{Environment as EnvironmentOf};
 ghost use Rattle.route_record.specs.declared.World.{World as WorldOf};
 ghost use Rattle.sym_walk.specs.Whole.{whole_of};
-ghost use Rattle.net_encoder.specs.Breaking.{IsBreaking};
-ghost use Rattle.net_encoder.specs.Packets.{FitsSet};
-ghost use Rattle.net_encoder.specs.Slots.{runs_no_bgp};
-ghost use Rattle.net_encoder.specs.Worlds.{FitsDistance, is_routing, no_environment, world_bits, world_from, world_width};
+ghost use Rattle.world_variables.specs.Breaking.{IsBreaking};
+ghost use Rattle.world_variables.specs.Packets.{FitsSet};
+ghost use Rattle.world_variables.specs.Slots.{runs_no_bgp};
+ghost use Rattle.world_variables.specs.Worlds.{FitsDistance, is_routing, no_environment, world_bits, world_from, world_width};
 ghost use Rattle.term_store.specs.Terms.{Reading, at, size, truth, value_of};
 ghost use Rattle.term_store.specs.Reading.{Reads, Grows, Gives};
 
-use crate::laws::{routing_law, row_law};
 use crate::routing::sym_routing;
 use crate::unknowns::open_world;
 use ios_ast::{File, StaticRoute};
@@ -25,6 +24,7 @@ use std::alloc::{AllocError, Global};
 use sym_walk::{SymWorld, sym_breaks};
 use term_arith::gates::both;
 use term_store::{NodeId, Terms};
+use world_variables::laws::{routing_law, row_law};
 
 /// A formula: terms and the root among them that is true exactly of the routings that break the question, with the world
 /// whose variables they are.

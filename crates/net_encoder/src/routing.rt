@@ -6,20 +6,20 @@ ghost use Rattle.net_model.specs.Tracked.{tracked_of};
 ghost use Rattle.route_record.specs.declared.TheConstants as constants;
 ghost use Rattle.sym_policy.specs.Held.{failures_of};
 ghost use Rattle.sym_policy.specs.Records.{packet_end};
-ghost use Rattle.sym_walk.specs.Packets.{packet_of};
+ghost use Rattle.sym_policy.specs.Packets.{packet_of};
 ghost use Rattle.sym_walk.specs.Whole.{whole_of, whole_end};
-ghost use Rattle.net_encoder.specs.Equations.{AreBare, HaveTracked};
-ghost use Rattle.net_encoder.specs.Packets.{is_in_set, is_portless};
-ghost use Rattle.net_encoder.specs.Symbols.{open_of, opens_end};
-ghost use Rattle.net_encoder.specs.Worlds.{is_routing, opens_from, world_from};
+ghost use Rattle.ospf_equations.specs.Equations.{AreBare, HaveTracked};
+ghost use Rattle.world_variables.specs.Packets.{is_in_set, is_portless};
+ghost use Rattle.world_variables.specs.Symbols.{open_of, opens_end};
+ghost use Rattle.world_variables.specs.Worlds.{is_routing, opens_from, world_from};
 ghost use Rattle.term_store.specs.Terms.{Reading, at, size};
 ghost use Rattle.term_store.specs.Reading.{Reads, Builds, Gives};
 ghost use Rattle.term_arith.specs.Bits.{number, ids_end};
 
-use crate::limits::limits_of;
 use crate::slots::sym_all_hold;
 use crate::unknowns::OpenWorld;
 use net_model::Net;
+use ospf_equations::limits_of;
 use question_lang::{PacketSet, Question};
 use std::alloc::{AllocError, Global};
 use sym_policy::{SymNet, SymPacket};
@@ -70,7 +70,7 @@ fn sym_ports_fit(terms: &mut Terms, packet: &SymPacket) -> Result<NodeId, AllocE
 }
 
 // Whether a packet whose other fields are those of a set has ports that are in it.
-#[tactic(auto, unfolding(crate::specs::Packets::is_in_set))]
+#[tactic(auto, unfolding(world_variables::specs::Packets::is_in_set))]
 fn sym_in_set(
     alloc: Global,
     terms: &mut Terms,

@@ -6,15 +6,14 @@ ghost use Rattle.sym_policy.specs.Held.{bgp_of, bgp_end, failures_of, ospf_of, o
 ghost use Rattle.sym_policy.specs.Records.{address_of};
 ghost use Rattle.sym_rib.specs.Into.{HasTracked};
 ghost use Rattle.sym_rib.specs.Slots.{rib_of, rib_end, slot_end, StandsForSlot};
-ghost use Rattle.sym_walk.specs.Worlds.{slot_of as slot_read};
-ghost use Rattle.net_encoder.specs.Slots.{bare, slot_of};
-ghost use Rattle.net_encoder.specs.Symbols.{open_of, open_end};
+ghost use Rattle.sym_rib.specs.Worlds.{slot_of as slot_read};
+ghost use Rattle.world_variables.specs.Slots.{bare, slot_of};
+ghost use Rattle.world_variables.specs.Symbols.{open_of, open_end};
 ghost use Rattle.term_store.specs.Terms.{Reading, at, size};
 ghost use Rattle.term_store.specs.Reading.{Reads, Builds, Gives};
 ghost use Rattle.term_arith.specs.Bits.{ids_end};
 
-use crate::links::none_down;
-use crate::opens::SymOpen;
+use failed_links::none_down;
 use mw_text::List;
 use net_model::Net;
 use route_record::Tracked;
@@ -24,6 +23,7 @@ use sym_rib::{SymRib, SymSlot, sym_entry};
 use term_arith::gates::constant_node;
 use term_arith::{Bits, constant, copy};
 use term_store::{NodeId, Terms};
+use world_variables::SymOpen;
 
 // The numbers by which BGP routes are preferred, all 0.
 #[derive(Drop)]

@@ -7,26 +7,21 @@ ghost use Rattle.route_record.specs.declared.TheConstants as constants;
 ghost use Rattle.sym_ospf.specs.Rows.{net_end};
 ghost use Rattle.sym_policy.specs.Held.{failures_of};
 ghost use Rattle.sym_policy.specs.Records.{address_of, packet_end};
-ghost use Rattle.sym_walk.specs.Packets.{packet_of};
+ghost use Rattle.sym_policy.specs.Packets.{packet_of};
 ghost use Rattle.sym_walk.specs.Whole.{whole_of, whole_end};
-ghost use Rattle.sym_walk.specs.Worlds.{slots_end, slot_of as slot_read};
-ghost use Rattle.net_encoder.specs.Equations.{AreBare, HaveTracked};
-ghost use Rattle.net_encoder.specs.Failures.{downs_from, downs_width, failures_from};
-ghost use Rattle.net_encoder.specs.Packets.{packet_from, packet_width};
-ghost use Rattle.net_encoder.specs.Rooms as room;
-ghost use Rattle.net_encoder.specs.Slots.{slots_of};
-ghost use Rattle.net_encoder.specs.Symbols.{open_of, opens_end};
-ghost use Rattle.net_encoder.specs.Unknowns.{unknowns_from, unknowns_width};
-ghost use Rattle.net_encoder.specs.Worlds.{downs_start, opens_from, rooms_of, slots_start, world_from, world_width};
+ghost use Rattle.ospf_equations.specs.Equations.{AreBare, HaveTracked};
+ghost use Rattle.failed_links.specs.Failures.{failures_from};
+ghost use Rattle.world_variables.specs.Packets.{packet_from};
+ghost use Rattle.world_variables.specs.Rooms as room;
+ghost use Rattle.world_variables.specs.Symbols.{open_of, opens_end};
+ghost use Rattle.world_variables.specs.Unknowns.{unknowns_from, unknowns_width};
+ghost use Rattle.world_variables.specs.Worlds.{downs_start, opens_from, rooms_of, slots_start, world_from, world_width};
 ghost use Rattle.term_store.specs.Terms.{Reading, size};
 ghost use Rattle.term_store.specs.Reading.{Reads, Builds, Grows, Gives};
 ghost use Rattle.term_arith.specs.Bits.{bits, ids_end};
 
-use crate::links::downs_of;
-use crate::opens::{SymOpen, opens};
-use crate::packets::packet_in;
 use crate::slots::slots;
-use crate::widths::{rooms, widths_of};
+use failed_links::downs_of;
 use mw_text::List;
 use net_model::Net;
 use question_lang::Question;
@@ -35,6 +30,7 @@ use std::alloc::{AllocError, Global};
 use sym_policy::{SymNet, SymPacket};
 use sym_walk::SymWorld;
 use term_store::{NodeId, Terms};
+use world_variables::{SymOpen, opens, packet_in, rooms, widths_of};
 
 /// A world as terms, with what is open of its slots.
 #[derive(Drop)]
@@ -51,7 +47,7 @@ struct Outside {
 }
 
 // The packet of a question's set, and at most so many failed links as it allows: their variables are new.
-#[tactic(auto, using(crate::proofs::Steps::grows_grown), unfolding(crate::specs::Failures::failures_from, sym_policy::specs::Held::failures_of))]
+#[tactic(auto, using(failed_links::proofs::Steps::grows_grown), unfolding(failed_links::specs::Failures::failures_from, sym_policy::specs::Held::failures_of))]
 fn open_outside(
     alloc: Global,
     terms: &mut Terms,
@@ -78,7 +74,7 @@ fn open_outside(
 }
 
 // What is open of the slots: their variables are new.
-#[tactic(auto, using(crate::proofs::RoomSteps::rooms_long))]
+#[tactic(auto, using(world_variables::proofs::RoomSteps::rooms_long))]
 fn open_slots(
     alloc: Global,
     terms: &mut Terms,
@@ -101,7 +97,7 @@ fn open_slots(
 
 /// The world of a question's variables, which are new: a packet of its set, failed links, and the tables that follow from
 /// what is open of their slots.
-#[tactic(auto, using(crate::proofs::Steps::grows_built, crate::proofs::Steps::grows_grown), unfolding(crate::specs::Worlds::world_width, crate::specs::Worlds::world_from, crate::specs::Worlds::opens_from))]
+#[tactic(auto, using(failed_links::proofs::Steps::grows_built, failed_links::proofs::Steps::grows_grown), unfolding(world_variables::specs::Worlds::world_width, world_variables::specs::Worlds::world_from, world_variables::specs::Worlds::opens_from))]
 pub fn open_world(
     alloc: Global,
     terms: &mut Terms,

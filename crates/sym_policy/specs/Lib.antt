@@ -4,3 +4,5 @@ pub mod Routes
 pub mod Order
 pub mod MapRecs
 pub mod Held
+pub mod Packets
+pub mod Seen

@@ -5,3 +5,4 @@ pub mod KnownParts
 pub mod Mapped
 pub mod Slots
 pub mod Sources
+pub mod Worlds

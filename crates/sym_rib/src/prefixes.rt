@@ -1,25 +1,19 @@
 //! Prefixes of a destination as terms.
 
-ghost use Rattle.std.specs.Prelude.{◌≡◌, ◌==◌, ◌&&◌, ◌||◌, ◌<◌, ◌≤◌, ◌+◌, ◌/◌, ◌^◌, ℕ, Bool, IfOk, length, drop};
-ghost use Rattle.mw_text.specs.Address.{block, prefix_at, same_prefix};
+ghost use Rattle.std.specs.Prelude.{◌≡◌, ◌==◌, ◌<◌, ◌≤◌, ◌/◌, ◌^◌, IfOk, length, drop};
+ghost use Rattle.mw_text.specs.Address.{block, same_prefix};
 ghost use Rattle.net_model.specs.Origins as origins;
 ghost use Rattle.sym_policy.specs.Records.{prefix_of as prefix_read};
-ghost use Rattle.term_store.specs.Terms.{Reading, size, at};
-ghost use Rattle.term_store.specs.Reading.{Reads, Builds, Gives};
+ghost use Rattle.term_store.specs.Terms.{size, at};
+ghost use Rattle.term_store.specs.Reading.{Builds, Gives};
 ghost use Rattle.term_arith.specs.Bits.{number, ids_end};
 
-use mw_text::{Prefix, prefix_of};
+use mw_text::Prefix;
 use std::alloc::AllocError;
+use sym_ospf::prefixes::is_network;
 use term_arith::gates::constant_node;
 use term_arith::{Bits, equal_number};
 use term_store::{NodeId, Terms};
-
-/// Whether a prefix is one of that length, with no bit past it.
-pub fn is_network(p: &Prefix, len: u8) -> bool
-    ensures { result ≡ same_prefix (prefix_at p.now.addr len) p.now }
-{
-    prefix_of(p.addr, len) == *p
-}
 
 /// The bits of an address above its `low` lowest ones.
 #[tactic(auto, using(std::proofs::lemmas::List::take_rest))]
@@ -31,7 +25,7 @@ fn high_bits(address: &Bits, low: u8) -> &[NodeId]
 }
 
 /// Whether the bits of an address above its `low` lowest ones are those of a number.
-#[tactic(auto, using(crate::proofs::Networks::high_steps))]
+#[tactic(auto, using(sym_ospf::proofs::Networks::high_steps))]
 fn sym_high(terms: &mut Terms, address: &Bits, low: u8, value: u64) -> Result<NodeId, AllocError>
     requires low { low ≤ 32 }
     requires wide { length address.now.nodes.items ≡ 32 }

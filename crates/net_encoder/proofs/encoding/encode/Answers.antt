@@ -3,7 +3,7 @@ use Rattle.ios_ast.specs.declared.file.File.{File}
 use Rattle.route_record.specs.declared.World.{World}
 use Rattle.question_lang.specs.Breaking.{Breaks}
 use Rattle.term_store.specs.Terms.{reading_of, truth}
-use Rattle.net_encoder.specs.Worlds.{FitsDistance, IsEncodable, is_routing, world_bits, world_from}
+use Rattle.world_variables.specs.Worlds.{FitsDistance, IsEncodable, is_routing, world_bits, world_from}
 use Rattle.mw_text.proofs.Lists.{all_found}
 use Rattle.net_encoder.proofs.encoding.encode.Goals as goal
 

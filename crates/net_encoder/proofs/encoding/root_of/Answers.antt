@@ -3,7 +3,7 @@ use Rattle.std.proofs.lemmas.Bool.{and_from, and_parts}
 use Rattle.route_record.specs.declared.World.{World}
 use Rattle.question_lang.specs.Breaking.{Breaks}
 use Rattle.term_store.specs.Terms.{at}
-use Rattle.net_encoder.proofs.BareSlots.{bare_needs_none}
+use Rattle.net_encoder.proofs.BareNeeds.{bare_needs_none}
 use Rattle.net_encoder.proofs.encoding.root_of.Goals as goal
 
 pub returns-clause-sound : goal.returns-clause-sound

@@ -4,11 +4,11 @@ use Rattle.sym_policy.specs.Held.{failures_of}
 use Rattle.sym_policy.specs.Records.{address_of}
 use Rattle.sym_rib.specs.declared.slots.SymSlot.{SymSlot}
 use Rattle.sym_walk.specs.Whole.{whole_of}
-use Rattle.sym_walk.specs.Worlds.{tables_of, slot_of as slot_read}
-use Rattle.net_encoder.specs.declared.opens.SymOpen.{SymOpen}
-use Rattle.net_encoder.specs.Equations.{AreBare}
-use Rattle.net_encoder.specs.Slots.{all_hold, slots_of}
-use Rattle.net_encoder.specs.Symbols.{open_of}
+use Rattle.sym_rib.specs.Worlds.{tables_of, slot_of as slot_read}
+use Rattle.world_variables.specs.declared.opens.SymOpen.{SymOpen}
+use Rattle.ospf_equations.specs.Equations.{AreBare}
+use Rattle.world_variables.specs.Slots.{all_hold, slots_of}
+use Rattle.world_variables.specs.Symbols.{open_of}
 use Rattle.net_encoder.proofs.RoutingSteps.{routing_is, slots_are}
 use Rattle.net_encoder.proofs.routing.sym_routing.Goals as goal
 

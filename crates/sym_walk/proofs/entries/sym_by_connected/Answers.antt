@@ -4,10 +4,10 @@ use Rattle.net_model.specs.Routing.{up_interfaces}
 use Rattle.question_lang.specs.Hops.{all_up, connected_hops}
 use Rattle.sym_policy.specs.Held.{failures_of}
 use Rattle.sym_policy.specs.Records.{address_of}
-use Rattle.sym_walk.specs.Aims.{sought_by}
-use Rattle.sym_walk.specs.Packets.{packet_of}
-use Rattle.sym_walk.specs.Symbolic.{forwarding_of}
-use Rattle.sym_walk.proofs.Twins.{chosen_lists}
+use Rattle.sym_forwarding.specs.Aims.{sought_by}
+use Rattle.sym_policy.specs.Packets.{packet_of}
+use Rattle.sym_forwarding.specs.Symbolic.{forwarding_of}
+use Rattle.sym_forwarding.proofs.Twins.{chosen_lists}
 use Rattle.term_arith.specs.Bits.{number}
 use Rattle.term_store.specs.Terms.{at}
 use Rattle.sym_walk.proofs.entries.sym_by_connected.Goals as goal

@@ -2,10 +2,10 @@ use Rattle.std.proofs.Common.{eqb}
 use Rattle.mw_text.specs.Address.{prefix_at}
 use Rattle.question_lang.specs.Hops.{ospf_hops}
 use Rattle.sym_policy.specs.Records.{address_of}
-use Rattle.sym_walk.specs.Aims.{sought_by}
-use Rattle.sym_walk.specs.Symbolic.{forwarding_of}
-use Rattle.sym_walk.specs.Worlds.{slot_of, world_of}
-use Rattle.sym_walk.proofs.Twins.{chosen_lists}
+use Rattle.sym_forwarding.specs.Aims.{sought_by}
+use Rattle.sym_forwarding.specs.Symbolic.{forwarding_of}
+use Rattle.sym_rib.specs.Worlds.{slot_of, world_of}
+use Rattle.sym_forwarding.proofs.Twins.{chosen_lists}
 use Rattle.term_arith.specs.Bits.{number}
 use Rattle.term_store.specs.Terms.{at}
 use Rattle.sym_walk.proofs.entries.sym_by_ospf.Goals as goal

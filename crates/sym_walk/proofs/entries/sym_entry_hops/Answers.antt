@@ -5,12 +5,12 @@ use Rattle.question_lang.specs.declared.walk.Hop.{Hop}
 use Rattle.question_lang.specs.Hops.{all_up, bgp_hops, ospf_hops}
 use Rattle.sym_policy.specs.Held.{failures_of}
 use Rattle.sym_policy.specs.Records.{address_of}
-use Rattle.sym_walk.specs.Aims.{sought_by}
+use Rattle.sym_forwarding.specs.Aims.{sought_by}
 use Rattle.sym_walk.specs.Entries.{static_part}
-use Rattle.sym_walk.specs.Packets.{packet_of}
-use Rattle.sym_walk.specs.Symbolic.{forwarding_of}
-use Rattle.sym_walk.specs.Twins.{IsTwin}
-use Rattle.sym_walk.specs.Worlds.{slot_of, world_of}
+use Rattle.sym_policy.specs.Packets.{packet_of}
+use Rattle.sym_forwarding.specs.Symbolic.{forwarding_of}
+use Rattle.sym_forwarding.specs.Twins.{IsTwin}
+use Rattle.sym_rib.specs.Worlds.{slot_of, world_of}
 use Rattle.sym_walk.proofs.EntryHops.{entry_by_number}
 use Rattle.term_arith.specs.Bits.{number}
 use Rattle.sym_walk.proofs.entries.sym_entry_hops.Goals as goal
