@@ -6,7 +6,7 @@ ghost use Rattle.term_store.specs.Terms.{truth};
 ghost use Rattle.failed_links.specs.Rows.{number_from, row};
 
 /// The value of one variable.
-#[tactic(auto, using(crate::proofs::Values::truth_here))]
+#[tactic(auto, using(crate::proofs::ValueSteps::truth_here))]
 pub fn value_at(values: &[bool], place: usize) -> bool
     requires { place < length values.now }
     ensures { result ≡ truth values.now place }
@@ -21,7 +21,7 @@ fn bit_of(value: bool) -> u32
 }
 
 /// The number whose bits are so many variables from one on.
-#[tactic(auto, using(crate::proofs::Values::number_none))]
+#[tactic(auto, using(crate::proofs::ValueSteps::number_none))]
 pub fn number_at(values: &[bool], from: usize, width: u8) -> u32
     requires narrow { width ≤ 32 }
     requires within { from + width ≤ length values.now }

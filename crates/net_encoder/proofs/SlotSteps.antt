@@ -18,7 +18,7 @@ use Rattle.sym_policy.specs.Held.{bgp_of}
 use Rattle.sym_rib.specs.declared.slots.SymSlot.{SymSlot}
 use Rattle.sym_rib.specs.Into.{HasTracked}
 use Rattle.sym_rib.specs.Worlds.{slot_of as slot_read}
-use Rattle.sym_rib.proofs.Places.{slots_end_push}
+use Rattle.sym_rib.proofs.SlotPlaces.{slots_end_push}
 use Rattle.world_variables.specs.declared.opens.SymOpen.{SymOpen}
 use Rattle.ospf_equations.specs.Equations.{AreBare, HaveTracked}
 use Rattle.world_variables.specs.Slots.{all_hold, slot_holds, slot_of, slots_of}

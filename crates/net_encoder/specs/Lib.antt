@@ -1,3 +1,4 @@
+pub mod Opened
 pub use Rattle.failed_links.specs.Rows
 pub use Rattle.failed_links.specs.Failures
 pub use Rattle.world_variables.specs.Packets

@@ -14,7 +14,6 @@ ghost use Rattle.term_store.specs.Reading.{Reads, Builds, Gives};
 ghost use Rattle.term_arith.specs.Bits.{ids_end};
 
 use failed_links::none_down;
-use mw_text::List;
 use net_model::Net;
 use route_record::Tracked;
 use std::alloc::{AllocError, Global};
@@ -22,7 +21,7 @@ use sym_policy::{SymBgp, SymNet, SymOspf};
 use sym_rib::{SymRib, SymSlot, sym_entry};
 use term_arith::gates::constant_node;
 use term_arith::{Bits, constant, copy};
-use term_store::{NodeId, Terms};
+use term_store::Terms;
 use world_variables::SymOpen;
 
 // The numbers by which BGP routes are preferred, all 0.

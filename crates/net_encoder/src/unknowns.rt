@@ -1,24 +1,21 @@
 //! The variables of a world as terms: its packet, its failed links, and what is open of its slots.
 
-ghost use Rattle.std.specs.Prelude.{◌≡◌, ℕ, ◌+◌, ◌≤◌, ◌*◌, IfOk, OnOk, length, map, max};
-ghost use Rattle.net_model.specs.Tracked.{tracked_of};
+ghost use Rattle.std.specs.Prelude.{◌≡◌, ◌+◌, ◌≤◌, ◌*◌, IfOk, OnOk, length, map};
 ghost use Rattle.net_model.specs.World.{links_of};
 ghost use Rattle.route_record.specs.declared.TheConstants as constants;
 ghost use Rattle.sym_ospf.specs.Rows.{net_end};
 ghost use Rattle.sym_policy.specs.Held.{failures_of};
-ghost use Rattle.sym_policy.specs.Records.{address_of, packet_end};
+ghost use Rattle.sym_policy.specs.Records.{packet_end};
 ghost use Rattle.sym_policy.specs.Packets.{packet_of};
-ghost use Rattle.sym_walk.specs.Whole.{whole_of, whole_end};
-ghost use Rattle.ospf_equations.specs.Equations.{AreBare, HaveTracked};
+ghost use Rattle.net_encoder.specs.Opened.{ReadsAs, StandsIn};
 ghost use Rattle.failed_links.specs.Failures.{failures_from};
 ghost use Rattle.world_variables.specs.Packets.{packet_from};
 ghost use Rattle.world_variables.specs.Rooms as room;
 ghost use Rattle.world_variables.specs.Symbols.{open_of, opens_end};
 ghost use Rattle.world_variables.specs.Unknowns.{unknowns_from, unknowns_width};
 ghost use Rattle.world_variables.specs.Worlds.{downs_start, opens_from, rooms_of, slots_start, world_from, world_width};
-ghost use Rattle.term_store.specs.Terms.{Reading, size};
-ghost use Rattle.term_store.specs.Reading.{Reads, Builds, Grows, Gives};
-ghost use Rattle.term_arith.specs.Bits.{bits, ids_end};
+ghost use Rattle.term_store.specs.Terms.{size};
+ghost use Rattle.term_store.specs.Reading.{Grows, Gives};
 
 use crate::slots::slots;
 use failed_links::downs_of;
@@ -29,7 +26,7 @@ use route_record::Plan;
 use std::alloc::{AllocError, Global};
 use sym_policy::{SymNet, SymPacket};
 use sym_walk::SymWorld;
-use term_store::{NodeId, Terms};
+use term_store::Terms;
 use world_variables::{SymOpen, opens, packet_in, rooms, widths_of};
 
 /// A world as terms, with what is open of its slots.
@@ -106,16 +103,9 @@ pub fn open_world(
     plan: Plan,
 ) -> Result<OpenWorld, AllocError>
     ensures grows { Grows terms.old terms.new }
-    ensures within { IfOk result (λ r. whole_end r.world ≤ size terms.new) }
-    ensures parts_within { IfOk result (λ r. opens_end r.parts ≤ size terms.new) }
-    ensures rows { IfOk result (λ r. HaveTracked (tracked_of net.now) r.world.slots) }
-    ensures long { IfOk result (λ r. length r.parts ≡ constants.LENGTHS * length net.now) }
+    ensures stands { IfOk result (λ r. StandsIn net.now terms.new r) }
     ensures vars { OnOk result (terms.new.vars ≡ terms.old.vars + world_width net.now question.now) }
-    ensures bare { Gives terms.new result (λ w r. AreBare w r.world.slots) }
-    ensures parts { Gives terms.new result (λ w r. map (open_of w) r.parts
-        ≡ opens_from net.now question.now w.variable terms.old.vars) }
-    ensures value { Gives terms.new result (λ w r. whole_of w r.world
-        ≡ world_from net.now question.now w.variable terms.old.vars) }
+    ensures value { Gives terms.new result (λ w r. ReadsAs net.now question.now terms.old.vars w r) }
 {
     let _routers = net.routers();
     let outside = open_outside(alloc, terms, net, question)?;

@@ -23,7 +23,6 @@ ghost use Rattle.term_arith.specs.Bits.{ids_end};
 
 use crate::levels::sym_held;
 use crate::origins::own_routes;
-use mw_text::List;
 use net_model::Net;
 use net_model::ends::file_of;
 use std::alloc::{AllocError, Global};

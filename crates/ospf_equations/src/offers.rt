@@ -25,7 +25,7 @@ use term_arith::Bits;
 use term_store::{NodeId, Terms};
 
 // Puts the route behind some that the far router of an adjacency offers, where a node is true.
-#[tactic(auto, using(crate::proofs::EquationSteps::routes_push, crate::proofs::EquationSteps::routes_end_push, sym_rib::proofs::Places::slot_read))]
+#[tactic(auto, using(crate::proofs::EquationSteps::routes_push, crate::proofs::EquationSteps::routes_end_push, sym_rib::proofs::SlotPlaces::slot_read))]
 fn put_far(
     alloc: Global,
     terms: &mut Terms,

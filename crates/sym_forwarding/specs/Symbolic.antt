@@ -13,7 +13,7 @@ abbrev pub edges_of : Reading → List SymEdge → List Edge
 edges_of w es = map (edge_of w) es
 
 abbrev pub forwarding_of : Reading → SymForwarding → Forwarding
-forwarding_of w f = record { next = edges_of w f.next; ends = at w f.ends }
+forwarding_of w f = record { next = edges_of w f.next.items; ends = at w f.ends }
 
 abbrev pub table_of : Reading → List SymForwarding → List Forwarding
 table_of w table = map (forwarding_of w) table
@@ -24,7 +24,7 @@ edges_end [] = 0
 edges_end (e ∷ es) = max (e.when.0 + 1) (edges_end es)
 
 abbrev pub forwarding_end : SymForwarding → ℕ
-forwarding_end f = max (f.ends.0 + 1) (edges_end f.next)
+forwarding_end f = max (f.ends.0 + 1) (edges_end f.next.items)
 
 abbrev pub table_end : List SymForwarding → ℕ
 table_end [] = 0

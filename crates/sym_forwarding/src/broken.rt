@@ -38,7 +38,7 @@ fn silence(
     let place = via as usize;
     if place < others.items.len() {
         others.items[place] = SymForwarding {
-            next: List::new(alloc),
+            next: Vec::new(alloc),
             ends: never,
         };
     }

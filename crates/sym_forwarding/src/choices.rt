@@ -73,7 +73,10 @@ pub fn choose_forwarding(
     let mut next = List::new(alloc);
     put_guarded(terms, &mut next, c, a.next.as_slice())?;
     put_guarded(terms, &mut next, otherwise, b.next.as_slice())?;
-    Ok(SymForwarding { next, ends })
+    Ok(SymForwarding {
+        next: next.items,
+        ends,
+    })
 }
 
 /// The first forwarding, and where `c` is true the second one too.
@@ -93,7 +96,10 @@ pub fn join_forwarding(
 {
     let counted = both(terms, c, b.ends)?;
     let ends = either(terms, a.ends, counted)?;
-    let mut next = a.next;
+    let mut next = List { items: a.next };
     put_guarded(terms, &mut next, c, b.next.as_slice())?;
-    Ok(SymForwarding { next, ends })
+    Ok(SymForwarding {
+        next: next.items,
+        ends,
+    })
 }

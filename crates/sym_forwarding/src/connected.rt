@@ -25,7 +25,6 @@ use crate::forwarding::SymForwarding;
 use crate::lists::{sym_depart, sym_ends};
 use crate::owners::sym_owner;
 use crate::prefixes::sym_is_prefix;
-use mw_text::List;
 use net_model::{Addressed, Net};
 use question_lang::End;
 use std::alloc::{AllocError, Global};
@@ -158,7 +157,7 @@ pub fn sym_connected(
     let all = net.addresses();
     let never = constant_node(terms, false)?;
     let mut rest = SymForwarding {
-        next: List::new(alloc),
+        next: Vec::new(alloc),
         ends: never,
     };
     for i in (0..all.len()).rev() {

@@ -1,24 +1,23 @@
 //! What routers do with a packet, as terms.
 
-use mw_text::List;
 use term_store::NodeId;
 
 /// A router to which another may send the packet, by its place, and the node that says whether it does.
-#[derive(Clone, Copy, Debug, Drop)]
+#[derive(Clone, Copy, Drop)]
 pub struct SymEdge {
     pub when: NodeId,
     pub to: u32,
 }
 
 /// Where a router may send the packet, and whether a walk may end there as the question asks.
-#[derive(Debug, Drop)]
+#[derive(Drop)]
 pub struct SymForwarding {
-    pub next: List<SymEdge>,
+    pub next: Vec<SymEdge>,
     pub ends: NodeId,
 }
 
 /// What is known of the start of a walk: a walk may begin there, or the in list of its interface denies the packet.
-#[derive(Clone, Copy, Debug, Drop)]
+#[derive(Clone, Copy, Drop)]
 pub struct SymBeginning {
     pub begins: NodeId,
     pub denied: NodeId,

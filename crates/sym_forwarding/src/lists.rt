@@ -16,7 +16,6 @@ use crate::aims::{SymAim, sym_end};
 use crate::choices::choose_forwarding;
 use crate::forwarding::{SymEdge, SymForwarding};
 use crate::permits::{sym_permits_in, sym_permits_out};
-use mw_text::List;
 use net_model::{IfaceId, Net};
 use question_lang::End;
 use std::alloc::{AllocError, Global};
@@ -39,17 +38,17 @@ pub fn sym_ends(
 {
     let ends = sym_end(terms, aim, end)?;
     Ok(SymForwarding {
-        next: List::new(alloc),
+        next: Vec::new(alloc),
         ends,
     })
 }
 
 // One edge.
-fn one_edge(alloc: Global, when: NodeId, to: u32) -> Result<List<SymEdge>, AllocError>
-    ensures { IfOk result (λ r. r ≡ record { when = when; to = to } ∷ []) }
+fn one_edge(alloc: Global, when: NodeId, to: u32) -> Result<Vec<SymEdge>, AllocError>
+    ensures { IfOk result (λ r. r.items ≡ record { when = when; to = to } ∷ []) }
 {
-    let mut next = List::new(alloc);
-    next.items.push(SymEdge { when, to })?;
+    let mut next = Vec::new(alloc);
+    next.push(SymEdge { when, to })?;
     Ok(next)
 }
 

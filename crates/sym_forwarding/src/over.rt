@@ -23,7 +23,6 @@ use crate::choices::choose_forwarding;
 use crate::forwarding::SymForwarding;
 use crate::prefixes::sym_covers;
 use crate::sending::sym_send_to;
-use mw_text::List;
 use net_model::{Addressed, Net};
 use std::alloc::{AllocError, Global};
 use sym_ospf::sym_up;
@@ -121,7 +120,7 @@ pub fn sym_send_over(
     let all = net.addresses();
     let never = constant_node(terms, false)?;
     let mut rest = SymForwarding {
-        next: List::new(alloc),
+        next: Vec::new(alloc),
         ends: never,
     };
     for i in (0..all.len()).rev() {

@@ -24,7 +24,6 @@ use crate::aims::{SymAim, sym_left};
 use crate::forwarding::SymForwarding;
 use crate::lists::sym_depart;
 use crate::owners::sym_owner;
-use mw_text::List;
 use net_model::{Addressed, Net};
 use std::alloc::{AllocError, Global};
 use sym_policy::{SymNet, SymPacket};
@@ -48,7 +47,7 @@ pub(crate) fn sym_leaves(
 {
     let ends = sym_left(terms, aim, a)?;
     Ok(SymForwarding {
-        next: List::new(alloc),
+        next: Vec::new(alloc),
         ends,
     })
 }

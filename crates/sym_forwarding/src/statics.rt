@@ -26,7 +26,7 @@ use crate::lists::sym_ends;
 use crate::over::sym_send_over;
 use crate::prefixes::sym_is_prefix;
 use ios_ast::{StaticRoute, Via};
-use mw_text::{Addr, List};
+use mw_text::Addr;
 use net_model::Net;
 use question_lang::End;
 use std::alloc::{AllocError, Global};
@@ -173,7 +173,7 @@ pub fn sym_statics(
 {
     let never = constant_node(terms, false)?;
     let mut rest = SymForwarding {
-        next: List::new(alloc),
+        next: Vec::new(alloc),
         ends: never,
     };
     for i in (0..routes.len()).rev() {

@@ -8,7 +8,6 @@ ghost use Rattle.term_store.specs.Terms.{size};
 ghost use Rattle.term_store.specs.Reading.{Builds, Gives};
 
 use crate::forwarding::SymForwarding;
-use mw_text::List;
 use std::alloc::{AllocError, Global};
 use term_arith::gates::constant_node;
 use term_store::Terms;
@@ -22,7 +21,7 @@ pub fn still_forwarding(alloc: Global, terms: &mut Terms) -> Result<SymForwardin
 {
     let never = constant_node(terms, false)?;
     Ok(SymForwarding {
-        next: List::new(alloc),
+        next: Vec::new(alloc),
         ends: never,
     })
 }

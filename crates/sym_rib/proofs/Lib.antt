@@ -6,7 +6,7 @@ pub mod KnownRows
 pub mod LearntOver
 pub mod LocalRoutes
 pub mod MapLaw
-pub mod Places
+pub mod SlotPlaces
 pub mod OneEach
 pub mod Redistribution
 pub mod SourceLaw

@@ -25,7 +25,7 @@ use Rattle.term_store.specs.Terms.{Reading, at}
 use Rattle.term_arith.specs.Bits.{number}
 use Rattle.sym_walk.specs.Entries.{by_entry, by_number, entry_of, longer, static_part}
 use Rattle.sym_rib.specs.Worlds.{slot_of, tables_of}
-use Rattle.sym_rib.proofs.Places.{slot_read}
+use Rattle.sym_rib.proofs.SlotPlaces.{slot_read}
 
 -- by the number of its source
 pub entry_by_number : (w : Reading) (files : List File) (world : World) (up own : List Addressed) (router : ℕ)

@@ -22,7 +22,6 @@ ghost use Rattle.term_store.specs.Reading.{Builds, Gives};
 ghost use Rattle.term_arith.specs.Bits.{ids_end};
 
 use crate::offers::sym_sends_over;
-use mw_text::List;
 use net_model::{Adjacency, Net};
 use std::alloc::{AllocError, Global};
 use sym_forwarding::{SymAim, SymForwarding, join_forwarding, sym_send_adjacent};
@@ -110,7 +109,7 @@ pub fn sym_ospf_hops(
     let all = net.adjacencies();
     let never = constant_node(terms, false)?;
     let mut rest = SymForwarding {
-        next: List::new(alloc),
+        next: Vec::new(alloc),
         ends: never,
     };
     for i in (0..all.len()).rev() {

@@ -24,7 +24,6 @@ ghost use Rattle.term_arith.specs.Bits.{ids_end, number};
 
 use crate::adjacent::sym_ospf_hops;
 use ios_ast::File;
-use mw_text::List;
 use net_model::Net;
 use std::alloc::{AllocError, Global};
 use sym_forwarding::{
@@ -33,7 +32,6 @@ use sym_forwarding::{
 use sym_policy::{SymNet, SymPacket};
 use sym_rib::SymSlot;
 use term_arith::equal_number;
-use term_arith::gates::constant_node;
 use term_store::{NodeId, Terms};
 
 // Whether the source of the entry has that number.

@@ -13,7 +13,6 @@ ghost use Rattle.term_store.specs.Reading.{Builds, Gives};
 ghost use Rattle.term_arith.specs.Bits.{ids_end};
 
 use net_model::{Adjacency, Net};
-use route_record::LENGTHS;
 use std::alloc::{AllocError, Global};
 use sym_forwarding::sym_up_from;
 use sym_ospf::{sym_same_record, sym_transfer};
@@ -38,7 +37,7 @@ fn sym_is_held(terms: &mut Terms, held: &SymOspf, offer: &SymOspf) -> Result<Nod
 }
 
 // Whether `up` is true and the far router of the adjacency offers the held route.
-#[tactic(auto, using(sym_rib::proofs::Places::slot_read))]
+#[tactic(auto, using(sym_rib::proofs::SlotPlaces::slot_read))]
 fn sym_offers(
     alloc: Global,
     terms: &mut Terms,

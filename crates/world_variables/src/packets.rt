@@ -8,7 +8,7 @@ ghost use Rattle.sym_policy.specs.Records.{packet_end};
 ghost use Rattle.world_variables.specs.Packets.{address_from, field_from, field_width, fixed_port, is_portless, packet_from, packet_width};
 ghost use Rattle.sym_policy.specs.Packets.{packet_of};
 
-use mw_text::{Addr, Prefix};
+use mw_text::Prefix;
 use question_lang::PacketSet;
 use std::alloc::{AllocError, Global};
 use sym_policy::SymPacket;

@@ -3,7 +3,7 @@ use Rattle.std.specs.Prelude.{if◌then◌else◌}
 use Rattle.sym_policy.specs.Held.{positions}
 use Rattle.term_store.specs.Terms.{truth}
 use Rattle.failed_links.specs.Rows.{row}
-use Rattle.failed_links.proofs.Values.{failed_more}
+use Rattle.failed_links.proofs.ValueSteps.{failed_more}
 use Rattle.failed_links.proofs.failures.failed_among.Goals as goal
 
 pub loop-link-preserved : goal.loop-link-preserved

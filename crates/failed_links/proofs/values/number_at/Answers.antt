@@ -3,7 +3,7 @@ use Rattle.term_arith.specs.Bits.{bit}
 use Rattle.term_store.specs.Terms.{truth}
 use Rattle.failed_links.specs.Rows.{number_from}
 use Rattle.failed_links.proofs.Reading.{number_from-below}
-use Rattle.failed_links.proofs.Values.{number_put}
+use Rattle.failed_links.proofs.ValueSteps.{number_put}
 use Rattle.failed_links.proofs.values.number_at.Goals as goal
 
 pub loop-i-preserved : goal.loop-i-preserved

@@ -13,7 +13,10 @@ use Rattle.net_encoder.proofs.RoutingSteps.{routing_is, slots_are}
 use Rattle.net_encoder.proofs.routing.sym_routing.Goals as goal
 
 pub returns-clause-value : goal.returns-clause-value
-returns-clause-value c = λ w reads from bare opens same.
+returns-clause-value c = λ w reads from read.
+    let bare = read.bare in
+    let opens = read.parts in
+    let same = read.value in
     let r2 = c.both-2.ensures.builds.reads w reads in
     let r1 = c.both.ensures.builds.reads w r2 in
     let r0 = c.sym_all_hold.ensures.builds.reads w r1 in

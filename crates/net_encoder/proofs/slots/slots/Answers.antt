@@ -12,7 +12,7 @@ use Rattle.world_variables.specs.Slots.{slots_of}
 use Rattle.world_variables.specs.Symbols.{open_of}
 use Rattle.net_encoder.proofs.SlotSteps.{bare_push, slots_push, tracked_push}
 use Rattle.world_variables.proofs.DecodingSteps.{slots_next}
-use Rattle.sym_rib.proofs.Places.{slots_end_push}
+use Rattle.sym_rib.proofs.SlotPlaces.{slots_end_push}
 use Rattle.net_encoder.proofs.slots.slots.Goals as goal
 
 pub loop-place-preserved : goal.loop-place-preserved

@@ -5,7 +5,7 @@ use Rattle.sym_policy.specs.Held.{bgp_of, failures_of}
 use Rattle.sym_policy.specs.Records.{address_of}
 use Rattle.sym_rib.specs.declared.slots.SymSlot.{SymSlot}
 use Rattle.sym_rib.specs.Worlds.{slot_of as slot_read}
-use Rattle.sym_rib.proofs.Places.{slot_read as read_at}
+use Rattle.sym_rib.proofs.SlotPlaces.{slot_read as read_at}
 use Rattle.world_variables.specs.Slots.{slot_of}
 use Rattle.world_variables.specs.Symbols.{open_of}
 use Rattle.mw_text.proofs.Lists.{all_found}

@@ -1,6 +1,6 @@
 use Rattle.std.proofs.Common.{◌+◌, ◌*◌}
 use Rattle.route_record.specs.declared.TheConstants.{LENGTHS}
-use Rattle.sym_rib.proofs.Places.{slot_bounded}
+use Rattle.sym_rib.proofs.SlotPlaces.{slot_bounded}
 use Rattle.sym_rib.proofs.places.slot_for.Goals as goal
 
 pub returns-clause-within : goal.returns-clause-within
