@@ -8,6 +8,7 @@ ghost use Rattle.failed_links.specs.Failures.{downs_from, downs_width, none_of};
 ghost use Rattle.failed_links.specs.Rows.{row};
 
 use mw_text::List;
+use net_model::Link;
 use std::alloc::{AllocError, Global};
 use term_arith::gates::constant_node;
 use term_arith::lists::put;
@@ -29,39 +30,40 @@ pub fn none_down(alloc: Global, terms: &mut Terms, links: usize) -> Result<List<
     Ok(downs)
 }
 
-// So many new variables.
+// A new variable for each link.
 #[tactic(auto, using(crate::proofs::Steps::row_steps))]
-fn fresh_row(alloc: Global, terms: &mut Terms, count: usize) -> Result<List<NodeId>, AllocError>
+fn fresh_row(alloc: Global, terms: &mut Terms, links: &[Link]) -> Result<List<NodeId>, AllocError>
     ensures grows { Grows terms.old terms.new }
     ensures within { IfOk result (λ r. ids_end r ≤ size terms.new) }
-    ensures length { IfOk result (λ r. length r ≡ count) }
-    ensures vars { OnOk result (terms.new.vars ≡ terms.old.vars + count) }
-    ensures value { Gives terms.new result (λ w r. bits w r ≡ row w.variable terms.old.vars count) }
+    ensures length { IfOk result (λ r. length r ≡ length links.now) }
+    ensures vars { OnOk result (terms.new.vars ≡ terms.old.vars + length links.now) }
+    ensures value { Gives terms.new result (λ w r. bits w r ≡ row w.variable terms.old.vars (length links.now)) }
 {
     let mut nodes = List::new(alloc);
-    for i in 0..count {
+    for i in 0..links.len() {
         let node = terms.fresh()?;
         put(&mut nodes, node)?;
     }
     Ok(nodes)
 }
 
-/// Which of so many links are down, where at most so many are.
+/// Which of some links are down, where at most so many are.
 #[tactic(auto, using(crate::proofs::Steps::grows_built), unfolding(crate::specs::Failures::downs_from, crate::specs::Failures::downs_width))]
 pub fn downs_of(
     alloc: Global,
     terms: &mut Terms,
     most: u32,
-    links: usize,
+    links: &[Link],
 ) -> Result<List<NodeId>, AllocError>
     ensures grows { Grows terms.old terms.new }
     ensures within { IfOk result (λ r. ids_end r ≤ size terms.new) }
-    ensures length { IfOk result (λ r. length r ≡ links) }
-    ensures vars { OnOk result (terms.new.vars ≡ terms.old.vars + downs_width most links) }
-    ensures value { Gives terms.new result (λ w r. bits w r ≡ downs_from most links w.variable terms.old.vars) }
+    ensures length { IfOk result (λ r. length r ≡ length links.now) }
+    ensures vars { OnOk result (terms.new.vars ≡ terms.old.vars + downs_width most (length links.now)) }
+    ensures value { Gives terms.new result (λ w r.
+        bits w r ≡ downs_from most (length links.now) w.variable terms.old.vars) }
 {
     if most == 0 {
-        none_down(alloc, terms, links)
+        none_down(alloc, terms, links.len())
     } else {
         fresh_row(alloc, terms, links)
     }

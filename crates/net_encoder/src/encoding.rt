@@ -97,7 +97,8 @@ fn root_of(
 {
     let routing = sym_routing(alloc, terms, net, question, open)?;
     let broken = sym_breaks(alloc, terms, net, question, &open.world)?;
-    both(terms, routing, broken)
+    let root = both(terms, routing, broken)?;
+    Ok(root)
 }
 
 // The root and the world of a question's variables.

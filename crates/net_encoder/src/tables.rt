@@ -185,9 +185,9 @@ fn bare_slot(
     ensures rows { IfOk result (λ r. HasTracked tracked.now r.bgp) }
     ensures value { Gives terms.new result (λ w r. StandsForSlot w tracked.now r (bare (ospf_of w ospf.now))) }
 {
-    let bgp = no_bgp(alloc, terms, tracked)?;
-    let rib = no_entry(alloc, terms)?;
     let ospf = copy_route(alloc, ospf)?;
+    let rib = no_entry(alloc, terms)?;
+    let bgp = no_bgp(alloc, terms, tracked)?;
     Ok(SymSlot { ospf, bgp, rib })
 }
 

@@ -27,7 +27,9 @@ use std::alloc::{AllocError, Global};
 use sym_policy::{SymNet, SymPacket};
 use sym_walk::SymWorld;
 use term_store::Terms;
-use world_variables::{SymOpen, opens, packet_in, rooms, widths_of};
+use world_variables::opens::opens;
+use world_variables::widths::{rooms, widths_of};
+use world_variables::{SymOpen, packet_in};
 
 /// A world as terms, with what is open of its slots.
 #[derive(Drop)]
@@ -62,7 +64,7 @@ fn open_outside(
         (downs_start question.now terms.old.vars)) }
 {
     let packet = packet_in(alloc, terms, question.packets)?;
-    let down = downs_of(alloc, terms, question.failures, net.links().len())?;
+    let down = downs_of(alloc, terms, question.failures, net.links())?;
     let net = SymNet {
         down,
         igp: List::new(alloc),

@@ -6,7 +6,7 @@ ghost use Rattle.net_model.specs.Ospf as model;
 use mw_text::List;
 use net_model::{Adjacency, Net, OspfInterface};
 use std::alloc::{AllocError, Global};
-use world_variables::dearest;
+use world_variables::widths::dearest;
 
 // At most so many limits, and at most so many tests of one adjacency against one limit.
 const MOST_LIMITS: u32 = 128;

@@ -14,6 +14,7 @@ ghost use Rattle.world_variables.specs.Worlds.{world_from, world_width};
 
 use crate::packets::known_port;
 use crate::widths::{Widths, rooms, widths_of};
+use failed_links::{downs_size, failures_at, number_at, value_at};
 use mw_text::{Addr, List, Prefix, prefix_of};
 use net_model::Net;
 use proto_rib::best_entry;

@@ -4,11 +4,10 @@
 
 pub mod decoding;
 pub mod laws;
-mod opens;
+pub mod opens;
 mod packets;
-mod widths;
+pub mod widths;
 
 pub use decoding::decode;
-pub use opens::{SymOpen, opens};
+pub use opens::SymOpen;
 pub use packets::packet_in;
-pub use widths::{Widths, dearest, rooms, widths_of};

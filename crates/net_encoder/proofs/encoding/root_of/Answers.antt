@@ -13,7 +13,7 @@ returns-clause-value c = λ w reads from read.
     let files = c.args.net.now in
     let kind = c.args.question.now.kind in
     let made = c.args.open.now.world in
-    let root = c.both.ensures.value w reads in
+    let root = c.in_ok-root.ensures.value w reads in
     let routing = c.in_ok-routing.ensures.value w r1 from read in
     let needed = bare_needs_none w files made.net made.slots read.bare in
     record {
