@@ -3,4 +3,5 @@ pub mod Shapes
 pub mod Routes
 pub mod Order
 pub mod MapRecs
+pub mod SameNodes
 pub mod Held
