@@ -1,5 +1,5 @@
 -- What a reading makes of symbolic routes, failed links and interior distances.
-use Rattle.std.specs.Prelude.{◌≡◌, ℕ, zero, suc, ◌+◌, ◌^◌, ◌==◌, max, if◌then◌else◌, Bool, true, false, List, [], ◌∷◌}
+use Rattle.std.specs.Prelude.{◌≡◌, ℕ, suc, ◌+◌, ◌^◌, ◌==◌, max, if◌then◌else◌, Bool, List, [], ◌∷◌}
 use Rattle.std.specs.Prelude.{Option, Some, None, length, map, option_map}
 use Rattle.mw_text.specs.declared.address.Addr.{Addr}
 use Rattle.term_store.specs.Terms.{Reading, at}

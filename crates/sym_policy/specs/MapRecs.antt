@@ -1,10 +1,12 @@
 -- What a reading makes of the symbolic record that a route map acts on.
-use Rattle.std.specs.Prelude.{◌≡◌, ℕ, ◌+◌, max, if◌then◌else◌, Option, Some, None, length}
-use Rattle.term_store.specs.Terms.{Reading, at}
+use Rattle.std.specs.Prelude.{◌≡◌, ℕ, ◌+◌, ◌≤◌, max, if◌then◌else◌, Option, Some, None, length}
+use Rattle.term_store.specs.Terms.{Store, Reading, size, at}
+use Rattle.term_store.specs.Reading.{Reads}
 use Rattle.term_arith.specs.Bits.{bits, number, ids_end}
 use Rattle.route_record.specs.declared.tracked.Tracked.{Tracked}
-use Rattle.sym_policy.specs.declared.records.SymBgp.{SymBgp}
 use Rattle.sym_policy.specs.declared.records.SymMapRec.{SymMapRec}
+use Rattle.sym_policy.specs.declared.parts.SymMade.{SymMade}
+use Rattle.sym_policy.specs.Routes.{made_at}
 use Rattle.sym_policy.specs.Shapes.{RouteShape}
 
 -- what route maps see of the record, as if it were there
@@ -63,3 +65,12 @@ pub record KeepsRest (a b : SymMapRec) : Type 0 where
   pub from : b.bgp.from.nodes.items ≡ a.bgp.from.nodes.items
   pub cluster_len : b.bgp.cluster_len.nodes.items ≡ a.bgp.cluster_len.nodes.items
   pub clusters : b.bgp.clusters.nodes.items ≡ a.bgp.clusters.nodes.items
+
+-- the record with what a map makes of it: it is there where it was there before and the map permits it
+pub record IsMade (t : Store) (before : SymMapRec) (made : SymMade) (rec : SymMapRec) : Type 0 where
+  pub within : map_rec_end rec ≤ size t
+  pub numbers : length rec.bgp.numbers.nodes.items ≡ length made.route.path.numbers.nodes.items
+  pub communities : length rec.bgp.communities.nodes.items ≡ length made.route.communities.nodes.items
+  pub rest : KeepsRest before rec
+  pub value : (w : Reading) → Reads w t
+      → map_rec_at w rec ≡ (if at w before.bgp.valid then made_at w made else None)

@@ -6,7 +6,7 @@ use term_arith::Bits;
 use term_store::NodeId;
 
 /// A path by its shape: its length, its ends, and one node for each tracked number.
-#[derive(Debug, Drop)]
+#[derive(Drop)]
 pub(crate) struct SymPath {
     pub len: Bits,
     pub first: Bits,
@@ -18,7 +18,7 @@ pub(crate) struct SymPath {
 }
 
 /// The numbers by which routes are preferred.
-#[derive(Debug, Drop)]
+#[derive(Drop)]
 pub(crate) struct SymPreferences {
     pub weight: Bits,
     pub local_pref: Bits,
@@ -32,7 +32,7 @@ pub(crate) struct SymPreferences {
 
 /// What route maps see of a route: beside its path one node for each tracked community, and whether it is redistributed
 /// as one of type 1.
-#[derive(Debug, Drop)]
+#[derive(Drop)]
 pub(crate) struct SymRoute {
     pub preferences: SymPreferences,
     pub path: SymPath,
@@ -41,8 +41,22 @@ pub(crate) struct SymRoute {
 }
 
 /// What a route map makes of a route: the route, where `valid` is true.
-#[derive(Debug, Drop)]
+#[derive(Drop)]
 pub(crate) struct SymMade {
     pub valid: NodeId,
     pub route: SymRoute,
+}
+
+/// What route maps never set of a record.
+#[derive(Drop)]
+pub(crate) struct SymRest {
+    pub next_hop: Bits,
+    pub originator: Bits,
+    pub from: Bits,
+    pub cluster_len: Bits,
+    pub clusters: Bits,
+    pub ghost next_hop_wide: { length next_hop.nodes.items ≡ 32 },
+    pub ghost originator_wide: { length originator.nodes.items ≡ 33 },
+    pub ghost from_wide: { length from.nodes.items ≡ 33 },
+    pub ghost cluster_len_wide: { length cluster_len.nodes.items ≡ 32 },
 }

@@ -85,10 +85,10 @@ fn choose_route(
     ensures rows { IfOk result (λ r. SameRows r a.now) }
     ensures value { Gives terms.new result (λ w r. route_at w r ≡ (if at w c then route_at w a.now else route_at w b.now)) }
 {
-    let preferences = choose_preferences(alloc, terms, c, &a.preferences, &b.preferences)?;
-    let path = choose_path(alloc, terms, c, &a.path, &b.path)?;
-    let communities = choose(alloc, terms, c, &a.communities, &b.communities)?;
     let type1 = select(terms, c, a.type1, b.type1)?;
+    let communities = choose(alloc, terms, c, &a.communities, &b.communities)?;
+    let path = choose_path(alloc, terms, c, &a.path, &b.path)?;
+    let preferences = choose_preferences(alloc, terms, c, &a.preferences, &b.preferences)?;
     Ok(SymRoute {
         preferences,
         path,
