@@ -9,7 +9,7 @@ ghost use Rattle.route_record.specs.declared.Slot.{Slot};
 ghost use Rattle.sym_policy.specs.Held.{failures_of, ospf_end};
 ghost use Rattle.sym_policy.specs.Records.{prefix_of};
 ghost use Rattle.sym_rib.specs.Slots.{rib_of, rib_end, slot_end, StandsForSlot};
-ghost use Rattle.sym_rib.specs.Sources.{entry_read, learnt_entry};
+ghost use Rattle.sym_rib.specs.Sources.{closer_of, entry_read, learnt_entry};
 ghost use Rattle.term_store.specs.Terms.{Reading, size, at};
 ghost use Rattle.term_store.specs.Reading.{Reads, Builds, Gives};
 ghost use Rattle.term_arith.specs.Bits.{number, ids_end};

@@ -17,7 +17,7 @@ ghost use Rattle.sym_policy.specs.Shapes.{all_tracked, route_shape};
 ghost use Rattle.sym_rib.specs.Into.{list_end};
 ghost use Rattle.sym_rib.specs.IntoBgp.{metric_of, metric_end};
 ghost use Rattle.sym_rib.specs.Known.{IsOwn};
-ghost use Rattle.sym_rib.specs.Slots.{slot_end, StandsForSlot};
+ghost use Rattle.sym_rib.specs.Slots.{rib_of, slot_end, StandsForSlot};
 ghost use Rattle.term_store.specs.Terms.{Reading, size, at};
 ghost use Rattle.term_store.specs.Reading.{Reads, Builds, Gives};
 ghost use Rattle.term_arith.specs.Bits.{ids_end};
