@@ -1,8 +1,12 @@
 -- What a reading makes of the parts of a route that is known.
-use Rattle.std.specs.Prelude.{◌≡◌, ℕ, ◌+◌, max, [], length, map}
+use Rattle.std.specs.Prelude.{◌≡◌, ℕ, ◌+◌, ◌≤◌, max, [], length, map}
 use Rattle.route_record.specs.declared.tracked.Tracked.{Tracked}
 use Rattle.route_record.specs.Shape.{has_address}
+use Rattle.sym_policy.specs.declared.records.SymBgp.{SymBgp}
+use Rattle.sym_policy.specs.declared.records.SymMapRec.{SymMapRec}
+use Rattle.sym_policy.specs.MapRecs.{attributes_at, map_rec_end}
 use Rattle.sym_policy.specs.Shapes.{PathShape, RouteShape}
+use Rattle.sym_rib.specs.declared.known_parts.HeldParts.{HeldParts}
 use Rattle.sym_rib.specs.declared.known_parts.KnownPath.{KnownPath}
 use Rattle.sym_rib.specs.declared.known_parts.KnownPreferences.{KnownPreferences}
 use Rattle.sym_rib.specs.declared.known_parts.KnownRest.{KnownRest}
@@ -72,3 +76,27 @@ known_rest_end s = max (known_path_end s.path) (max (ids_end s.communities.nodes
 pub record HasTrackedRows (tracked : Tracked) (s : KnownRest) : Type 0 where
   pub numbers : length s.path.numbers.nodes.items ≡ length tracked.numbers
   pub communities : length s.communities.nodes.items ≡ length tracked.communities
+
+-- the path has the nodes of the route's path
+pub record HasPathOf (held : SymBgp) (s : KnownPath) : Type 0 where
+  pub len : s.len.nodes.items ≡ held.len.nodes.items
+  pub first : s.first.nodes.items ≡ held.first.nodes.items
+  pub last : s.last.nodes.items ≡ held.last.nodes.items
+  pub numbers : s.numbers.nodes.items ≡ held.numbers.nodes.items
+
+-- and so have the communities
+pub record HasPartsOf (held : SymBgp) (s : HeldParts) : Type 0 where
+  pub path : HasPathOf held s.path
+  pub communities : s.communities.nodes.items ≡ held.communities.nodes.items
+
+abbrev pub held_parts_end : NodeId → HeldParts → ℕ
+held_parts_end there s = max (there.0 + 1) (max (known_path_end s.path) (ids_end s.communities.nodes.items))
+
+-- the record `made` is `rec` with that path and those communities, which is there where the node is true
+pub record PutsParts (rec : SymMapRec) (there : NodeId) (s : HeldParts) (made : SymMapRec) : Type 0 where
+  pub valid : made.bgp.valid ≡ there
+  pub nodes : (n : ℕ) → map_rec_end rec ≤ n → held_parts_end there s ≤ n → map_rec_end made ≤ n
+  pub numbers : made.bgp.numbers.nodes.items ≡ s.path.numbers.nodes.items
+  pub communities : made.bgp.communities.nodes.items ≡ s.communities.nodes.items
+  pub value : (w : Reading) → attributes_at w made ≡ record (attributes_at w rec)
+      { path = known_path_at w s.path; communities = bits w s.communities.nodes.items }

@@ -1,3 +1,4 @@
+pub mod Brought
 pub mod Into
 pub mod IntoBgp
 pub mod Known

@@ -6,17 +6,17 @@ ghost use Rattle.ios_ast.specs.Deciding.{carries};
 ghost use Rattle.route_record.specs.declared.tracked.Tracked.{Tracked as TrackedOf};
 ghost use Rattle.route_record.specs.Origins.{origin_code};
 ghost use Rattle.route_record.specs.Shape.{has_address};
-ghost use Rattle.sym_policy.specs.Held.{bgp_at, bgp_end};
 ghost use Rattle.sym_policy.specs.MapRecs.{attributes_at, map_rec_end, HasMarks};
 ghost use Rattle.sym_policy.specs.Shapes.{path_shape, route_shape};
 ghost use Rattle.sym_rib.specs.Known.{known_attributes, IsOwn};
 ghost use Rattle.sym_rib.specs.KnownParts.{known_path_at, known_path_end, known_preferences_end, known_rest_end};
 ghost use Rattle.sym_rib.specs.KnownParts.{own_part_end, parts_at, parts_end, HasTrackedRows, IsOwnPart};
+ghost use Rattle.sym_rib.specs.KnownParts.{HasPartsOf, HasPathOf, PutsParts};
 ghost use Rattle.term_store.specs.Terms.{Reading, size, at};
 ghost use Rattle.term_store.specs.Reading.{Reads, Builds, Gives};
 ghost use Rattle.term_arith.specs.Bits.{bits, number, ids_end};
 
-use crate::known_parts::{KnownPath, KnownPreferences, KnownRest, OwnPart};
+use crate::known_parts::{HeldParts, KnownPath, KnownPreferences, KnownRest, OwnPart};
 use mw_text::List;
 use route_record::{Origin, Tracked};
 use std::alloc::{AllocError, Global};
@@ -198,8 +198,8 @@ fn known_rest(alloc: Global, terms: &mut Terms, tracked: &Tracked) -> Result<Kno
     ensures communities { Gives terms.new result (λ w r. bits w r.communities.nodes.items
         ≡ map (carries []) tracked.now.communities) }
 {
-    let path = no_path(alloc, terms, tracked)?;
     let communities = no_marks(alloc, terms, tracked.communities.as_slice().len())?;
+    let path = no_path(alloc, terms, tracked)?;
     let own = own_part(alloc, terms, tracked)?;
     Ok(KnownRest {
         path,
@@ -232,32 +232,47 @@ pub(crate) fn known_rec(
         ≡ route_shape tracked.now
         (known_attributes weight local_pref (origin_code origin) type1 (number w med.nodes.items))) }
 {
+    let node = constant_node(terms, type1)?;
     let preferences = known_preferences(alloc, terms, weight, local_pref, origin)?;
     let rest = known_rest(alloc, terms, tracked)?;
-    let node = constant_node(terms, type1)?;
     Ok(assembled(valid, preferences, med, rest, node))
 }
 
-/// A record with the path and the communities of a BGP route, which is there where that route is.
-pub(crate) fn with_held(
-    alloc: Global,
-    rec: SymMapRec,
-    held: &SymBgp,
-) -> Result<SymMapRec, AllocError>
-    ensures valid { IfOk result (λ r. r.bgp.valid ≡ held.now.valid) }
-    ensures nodes { IfOk result (λ r. (n : ℕ) → map_rec_end rec ≤ n → bgp_end held.now ≤ n → map_rec_end r ≤ n) }
-    ensures rows { IfOk result (λ r. length r.bgp.numbers.nodes.items ≡ length held.now.numbers.nodes.items) }
-    ensures marks { IfOk result (λ r. length r.bgp.communities.nodes.items ≡ length held.now.communities.nodes.items) }
-    ensures value { IfOk result (λ r. (w : Reading) → attributes_at w r
-        ≡ record (attributes_at w rec)
-        { path = (bgp_at w held.now).path; communities = bits w held.now.communities.nodes.items }) }
+/// A copy of the path of a BGP route.
+fn held_path(alloc: Global, held: &SymBgp) -> Result<KnownPath, AllocError>
+    ensures { IfOk result (λ r. HasPathOf held.now r) }
+{
+    let len = copy(alloc, &held.len)?;
+    let first = copy(alloc, &held.first)?;
+    let last = copy(alloc, &held.last)?;
+    let numbers = copy(alloc, &held.numbers)?;
+    Ok(KnownPath {
+        len,
+        first,
+        last,
+        numbers,
+    })
+}
+
+/// A copy of the path and the communities of a BGP route.
+pub(crate) fn held_parts(alloc: Global, held: &SymBgp) -> Result<HeldParts, AllocError>
+    ensures { IfOk result (λ r. HasPartsOf held.now r) }
+{
+    let communities = copy(alloc, &held.communities)?;
+    let path = held_path(alloc, held)?;
+    Ok(HeldParts { path, communities })
+}
+
+/// A record with that path and those communities, which is there where a node is true.
+pub(crate) fn put_held(rec: SymMapRec, valid: NodeId, parts: HeldParts) -> SymMapRec
+    ensures { PutsParts rec valid parts result }
 {
     let mut made = rec;
-    made.bgp.valid = held.valid;
-    made.bgp.len = copy(alloc, &held.len)?;
-    made.bgp.first = copy(alloc, &held.first)?;
-    made.bgp.last = copy(alloc, &held.last)?;
-    made.bgp.numbers = copy(alloc, &held.numbers)?;
-    made.bgp.communities = copy(alloc, &held.communities)?;
-    Ok(made)
+    made.bgp.valid = valid;
+    made.bgp.len = parts.path.len;
+    made.bgp.first = parts.path.first;
+    made.bgp.last = parts.path.last;
+    made.bgp.numbers = parts.path.numbers;
+    made.bgp.communities = parts.communities;
+    made
 }

@@ -48,3 +48,10 @@ pub(crate) struct KnownRest {
     pub communities: Bits,
     pub own: OwnPart,
 }
+
+/// What route maps see of a held BGP route beside its preferences.
+#[derive(Drop)]
+pub(crate) struct HeldParts {
+    pub path: KnownPath,
+    pub communities: Bits,
+}

@@ -5,6 +5,7 @@
 //! for a slot, what a call here answers stands for what the definitions of the network make of that slot.
 #![tactic(auto)]
 
+mod brought;
 mod entry;
 mod interfaces;
 mod into_bgp;

@@ -186,6 +186,19 @@ fn by_source(
     Ok(SymMetric { valid, value })
 }
 
+/// Whether an entry's source is connected or static.
+fn sym_is_plain(terms: &mut Terms, rib: &SymRib) -> Result<NodeId, AllocError>
+    requires { rib_end rib.now ≤ size terms.old }
+    ensures builds { Builds terms.old terms.new }
+    ensures within { IfOk result (λ r. r.0 < size terms.new) }
+    ensures value { Gives terms.new result (λ w r. at w r
+        ≡ ((number w rib.now.source.nodes.items == 0) || (number w rib.now.source.nodes.items == 1))) }
+{
+    let connected = is_from(terms, rib, 0)?;
+    let fixed = is_from(terms, rib, 1)?;
+    either(terms, connected, fixed)
+}
+
 /// The metric of the entry of a slot from connected, static or OSPF.
 pub(crate) fn sym_entry_metric(
     alloc: Global,
@@ -199,10 +212,8 @@ pub(crate) fn sym_entry_metric(
         → ospf_of w slot.now.ospf ≡ held.ospf → rib_of w slot.now.rib ≡ held.rib
         → metric_of w r ≡ option_and_then (λ entry. origins.entry_metric held entry.source) held.rib) }
 {
+    let zero = sym_is_plain(terms, &slot.rib)?;
     let ospf = held_metric(alloc, terms, &slot.ospf)?;
-    let connected = is_from(terms, &slot.rib, 0)?;
-    let fixed = is_from(terms, &slot.rib, 1)?;
-    let zero = either(terms, connected, fixed)?;
     let made = by_source(alloc, terms, &slot.rib, &ospf, zero)?;
     Ok(made)
 }
@@ -301,10 +312,10 @@ fn taken_from_ospf(
         → metric_of w r ≡ option_and_then (λ entry. origins.taken_metric net.now router (prefix_of w dst.now len) held
         (record line.now { source = Source.Ospf process }) entry.source) held.rib) }
 {
-    let ospf = kind_metric(alloc, terms, line, &slot.ospf)?;
     let connected = is_from(terms, &slot.rib, 0)?;
     let subnet = sym_internal_subnet(terms, net, router, line, dst, len)?;
     let zero = both(terms, connected, subnet)?;
+    let ospf = kind_metric(alloc, terms, line, &slot.ospf)?;
     let made = by_source(alloc, terms, &slot.rib, &ospf, zero)?;
     Ok(made)
 }
