@@ -14,7 +14,7 @@ if [ -z "${PROGRAM:-}" ]; then
     walks=$work/crates/walk_nodes
     mkdir -p "$walks/src" "$walks/specs"
     for crate in mw_text ios_ast route_record term_store term_arith ios_policy_reader ios_reader net_model policy_eval \
-        question_lang proto_ospf walk_def sym_policy sym_ospf sym_rib sym_walk random_networks; do
+        question_lang proto_ospf walk_def sym_policy sym_ospf sym_rib sym_forwarding sym_walk random_networks; do
         cp -r "$top/crates/$crate" "$work/crates/$crate"
         grep "^$crate:" "$top/crates.txt" >> "$work/crates.txt"
     done

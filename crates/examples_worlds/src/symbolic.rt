@@ -49,7 +49,7 @@ fn put_slot(slots: &mut List<SymSlot>, slot: SymSlot) -> Result<(), AllocError>
 }
 
 // So many slots.
-#[tactic(auto, using(sym_walk::proofs::OfferedHops::slots_end_push))]
+#[tactic(auto, using(sym_rib::proofs::SlotPlaces::slots_end_push))]
 fn sym_slots(
     alloc: Global,
     terms: &mut Terms,

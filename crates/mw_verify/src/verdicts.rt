@@ -1,7 +1,7 @@
 //! Verdicts for the questions of a network, one after another.
 
 ghost use Rattle.std.specs.Prelude.{◌≡◌, ◌≢◌, ◌⊎◌, true, IfOk, OnErr};
-ghost use Rattle.breaking_def.specs.Networks.{runs_no_bgp};
+ghost use Rattle.world_variables.specs.Slots.{runs_no_bgp};
 ghost use Rattle.mw_outside.specs.Faults.{Rose};
 ghost use Rattle.run_answers.specs.Answering.{IsCutShort, IsPut, OnWriteFault, UnlessWriteFault};
 ghost use Rattle.run_answers.specs.Running.{AnswersSo};

@@ -13,10 +13,10 @@ use Rattle.term_store.specs.Terms.{Reading, at}
 use Rattle.term_arith.specs.Bits.{bits}
 use Rattle.term_arith.proofs.CountLemmas.{not_more}
 use Rattle.sym_policy.specs.Held.{positions}
-use Rattle.net_encoder.specs.Packets.{is_in_set}
-use Rattle.net_encoder.specs.Slots.{all_hold, slots_of}
-use Rattle.net_encoder.specs.Unknowns.{Unknown}
-use Rattle.net_encoder.specs.Worlds.{is_routing, opens_from, world_from}
+use Rattle.world_variables.specs.Packets.{is_in_set}
+use Rattle.world_variables.specs.Slots.{all_hold, slots_of}
+use Rattle.world_variables.specs.Unknowns.{Unknown}
+use Rattle.world_variables.specs.Worlds.{is_routing, opens_from, world_from}
 
 -- a number that is not below another is at least it, and one that is not above it at most
 pub at_least : (port first range : ℕ) → first ≡ range → not (nat_lt port first) ≡ nat_le range port

@@ -1,6 +1,6 @@
 -- Slots of a routing, one after another.
-use Rattle.std.proofs.Common.{◌≡◌, ℕ, zero, suc, ◌+◌, ◌/◌, ◌%◌, ◌<◌, ◌≤◌, Bool, true, ◌&&◌, List, [], ◌∷◌, ◌++◌, length}
-use Rattle.std.proofs.Common.{drop, get_or, map, Option, Some, None, refl, sym, ap, arith, ◌∙◌}
+use Rattle.std.proofs.Common.{◌≡◌, ℕ, zero, suc, ◌+◌, ◌/◌, ◌%◌, ◌<◌, ◌≤◌, true, ◌&&◌, List, [], ◌∷◌, ◌++◌, length}
+use Rattle.std.proofs.Common.{get_or, map, Some, None, refl, ap, arith, ◌∙◌}
 use Rattle.std.specs.Prelude.{slice_get}
 use Rattle.std.proofs.lemmas.Grind.{common_steps}
 use Rattle.std.proofs.lemmas.List.{append_assoc, append-nil, drop_all, map-append}
@@ -17,32 +17,20 @@ use Rattle.term_store.specs.Terms.{Reading}
 use Rattle.sym_policy.specs.Held.{bgp_of}
 use Rattle.sym_rib.specs.declared.slots.SymSlot.{SymSlot}
 use Rattle.sym_rib.specs.Into.{HasTracked}
-use Rattle.sym_walk.specs.Worlds.{slot_of as slot_read}
-use Rattle.sym_walk.proofs.OfferedHops.{slots_end_push}
-use Rattle.net_encoder.specs.declared.opens.SymOpen.{SymOpen}
-use Rattle.net_encoder.specs.Equations.{AreBare, HaveTracked}
-use Rattle.net_encoder.specs.Slots.{all_hold, slot_holds, slot_of, slots_of}
-use Rattle.net_encoder.specs.Symbols.{open_of, open_end, opens_end}
-use Rattle.net_encoder.specs.Unknowns.{Unknown}
-use Rattle.net_encoder.proofs.EquationSteps.{items_at}
+use Rattle.sym_rib.specs.Worlds.{slot_of as slot_read}
+use Rattle.sym_rib.proofs.SlotPlaces.{slots_end_push}
+use Rattle.world_variables.specs.declared.opens.SymOpen.{SymOpen}
+use Rattle.ospf_equations.specs.Equations.{AreBare, HaveTracked}
+use Rattle.world_variables.specs.Slots.{all_hold, slot_holds, slot_of, slots_of}
+use Rattle.world_variables.specs.Symbols.{open_of, open_end, opens_end}
+use Rattle.world_variables.specs.Unknowns.{Unknown}
+use Rattle.ospf_equations.proofs.EquationSteps.{items_at}
 
 -- ---- making slots
 
 pub slots_push : (w : Reading) (xs : List SymSlot) (x : SymSlot) →
     map (slot_read w) (xs ++ x ∷ []) ≡ map (slot_read w) xs ++ slot_read w x ∷ []
 slots_push w xs x = map-append (slot_read w) xs (x ∷ [])
-
-pub slots_next : (files : List File) (failures : Failures) (d : Addr) (at : ℕ) (u : Unknown) (us : List Unknown) →
-    slots_of files failures d at (u ∷ us)
-    ≡ slot_of files failures d (at / LENGTHS) (at % LENGTHS) u ∷ slots_of files failures d (at + 1) us
-unfolding slots_of
-slots_next files failures d at u us =
-    let next : suc at ≡ at + 1 = omega arith in
-    ap (λ n. slot_of files failures d (at / LENGTHS) (at % LENGTHS) u ∷ slots_of files failures d n us) next
-
-pub slots_none : (files : List File) (failures : Failures) (d : Addr) (at : ℕ) → slots_of files failures d at [] ≡ []
-unfolding slots_of
-slots_none files failures d at = refl
 
 -- what is open of a slot has its nodes below the end of all
 pub open_below : (xs : List SymOpen) (i : ℕ) (d : SymOpen) → i < length xs → open_end (get_or xs i d) ≤ opens_end xs

@@ -1,21 +1,20 @@
 //! A question about a network as a formula: its solutions are the routings that break the question.
 
-ghost use Rattle.std.specs.Prelude.{◌≡◌, ℕ, ◌<◌, ◌≤◌, ◌^◌, All, ◌+◌, Bool, IfOk, OnOk, List as ListOf, Option as OptionOf, true, length};
+ghost use Rattle.std.specs.Prelude.{◌≡◌, ℕ, ◌<◌, ◌^◌, All, ◌+◌, Bool, IfOk, OnOk, List as ListOf, Option as OptionOf, true};
 ghost use Rattle.question_lang.specs.declared.walk.Walk.{Walk as WalkOf};
-ghost use Rattle.question_lang.specs.Breaking.{Breaks};
 ghost use Rattle.route_record.specs.declared.Environment.{Environment as EnvironmentOf};
 ghost use Rattle.route_record.specs.declared.World.{World as WorldOf};
+ghost use Rattle.net_encoder.specs.Opened.{IsRoot, ReadsAs, StandsIn};
 ghost use Rattle.sym_walk.specs.Whole.{whole_of};
-ghost use Rattle.net_encoder.specs.Breaking.{IsBreaking};
-ghost use Rattle.net_encoder.specs.Packets.{FitsSet};
-ghost use Rattle.net_encoder.specs.Slots.{runs_no_bgp};
-ghost use Rattle.net_encoder.specs.Worlds.{FitsDistance, is_routing, no_environment, world_bits, world_from, world_width};
-ghost use Rattle.term_store.specs.Terms.{Reading, at, size, truth, value_of};
-ghost use Rattle.term_store.specs.Reading.{Reads, Grows, Gives};
+ghost use Rattle.world_variables.specs.Breaking.{IsBreaking};
+ghost use Rattle.world_variables.specs.Packets.{FitsSet};
+ghost use Rattle.world_variables.specs.Slots.{runs_no_bgp};
+ghost use Rattle.world_variables.specs.Worlds.{FitsDistance, no_environment, world_bits, world_from, world_width};
+ghost use Rattle.term_store.specs.Terms.{Reading, size, truth, value_of};
+ghost use Rattle.term_store.specs.Reading.{Reads, Builds, Gives};
 
-use crate::laws::{routing_law, row_law};
 use crate::routing::sym_routing;
-use crate::unknowns::open_world;
+use crate::unknowns::{OpenWorld, open_world};
 use ios_ast::{File, StaticRoute};
 use mw_text::List;
 use net_model::Net;
@@ -25,6 +24,7 @@ use std::alloc::{AllocError, Global};
 use sym_walk::{SymWorld, sym_breaks};
 use term_arith::gates::both;
 use term_store::{NodeId, Terms};
+use world_variables::laws::{routing_law, row_law};
 
 /// A formula: terms and the root among them that is true exactly of the routings that break the question, with the world
 /// whose variables they are.
@@ -81,6 +81,26 @@ fn copied(alloc: Global, plan: &Plan) -> Result<Plan, AllocError> {
     })
 }
 
+// Whether the values of a question's variables are a routing of it that breaks it.
+fn root_of(
+    alloc: Global,
+    terms: &mut Terms,
+    net: &Net,
+    question: &Question,
+    open: &OpenWorld,
+) -> Result<NodeId, AllocError>
+    requires stands { StandsIn net.now terms.old open.now }
+    ensures builds { Builds terms.old terms.new }
+    ensures within { IfOk result (λ r. r.0 < size terms.new) }
+    ensures value { Gives terms.new result (λ w r. (from : ℕ) → ReadsAs net.now question.now from w open.now →
+        IsRoot net.now question.now from w r) }
+{
+    let routing = sym_routing(alloc, terms, net, question, open)?;
+    let broken = sym_breaks(alloc, terms, net, question, &open.world)?;
+    let root = both(terms, routing, broken)?;
+    Ok(root)
+}
+
 // The root and the world of a question's variables.
 #[derive(Drop)]
 struct Rooted {
@@ -88,31 +108,22 @@ struct Rooted {
     world: SymWorld,
 }
 
-// Whether the values of a question's variables are a routing of it that breaks it.
-fn root_of(
+// The variables of a question are new, and the root says whether their values are a routing that breaks it.
+fn rooted(
     alloc: Global,
     terms: &mut Terms,
     net: &Net,
     question: &Question,
     plan: Plan,
 ) -> Result<Rooted, AllocError>
-    ensures grows { Grows terms.old terms.new }
     ensures root { IfOk result (λ r. r.root.0 < size terms.new) }
     ensures vars { OnOk result (terms.new.vars ≡ terms.old.vars + world_width net.now question.now) }
     ensures world { Gives terms.new result (λ w r. whole_of w r.world
         ≡ world_from net.now question.now w.variable terms.old.vars) }
-    ensures sound { Gives terms.new result (λ w r. at w r.root ≡ true →
-        (is_routing net.now question.now w.variable terms.old.vars ≡ true) × ((walk : OptionOf WalkOf)
-        × Breaks net.now (world_from net.now question.now w.variable terms.old.vars) question.now.kind walk)) }
-    ensures complete { Gives terms.new result (λ w r. (walk : OptionOf WalkOf) →
-        is_routing net.now question.now w.variable terms.old.vars ≡ true →
-        Breaks net.now (world_from net.now question.now w.variable terms.old.vars) question.now.kind walk →
-        at w r.root ≡ true) }
+    ensures value { Gives terms.new result (λ w r. IsRoot net.now question.now terms.old.vars w r.root) }
 {
     let open = open_world(alloc, terms, net, question, plan)?;
-    let routing = sym_routing(alloc, terms, net, question, &open)?;
-    let broken = sym_breaks(alloc, terms, net, question, &open.world)?;
-    let root = both(terms, routing, broken)?;
+    let root = root_of(alloc, terms, net, question, &open)?;
     Ok(Rooted {
         root,
         world: open.world,
@@ -140,8 +151,9 @@ pub fn encode(
         IsBreaking net.now question.now world environment walk →
         value_of e.terms.nodes (world_bits net.now question.now world) e.root.0 ≡ true) }
 {
+    let lengths = copied(alloc, plan)?;
     let mut terms = Terms::new(alloc);
-    let made = root_of(alloc, &mut terms, net, question, copied(alloc, plan)?)?;
+    let made = rooted(alloc, &mut terms, net, question, lengths)?;
     terms.valuation_reads();
     all_distances_fit(net.routers());
     packets_fit(question.packets);

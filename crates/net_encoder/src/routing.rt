@@ -1,25 +1,21 @@
 //! Whether a world is a routing of a question, as a term: its packet is in the set, no more links fail than may, and its
 //! tables are stable.
 
-ghost use Rattle.std.specs.Prelude.{◌≡◌, ℕ, ◌+◌, ◌≤◌, ◌<◌, ◌*◌, ◌==◌, ◌&&◌, ◌||◌, not, nat_le, IfOk, length, map, max};
-ghost use Rattle.net_model.specs.Tracked.{tracked_of};
-ghost use Rattle.route_record.specs.declared.TheConstants as constants;
+ghost use Rattle.std.specs.Prelude.{◌≡◌, ℕ, ◌≤◌, ◌<◌, ◌==◌, ◌&&◌, ◌||◌, not, nat_le, IfOk, length};
+ghost use Rattle.net_encoder.specs.Opened.{ReadsAs, StandsIn};
 ghost use Rattle.sym_policy.specs.Held.{failures_of};
 ghost use Rattle.sym_policy.specs.Records.{packet_end};
-ghost use Rattle.sym_walk.specs.Packets.{packet_of};
-ghost use Rattle.sym_walk.specs.Whole.{whole_of, whole_end};
-ghost use Rattle.net_encoder.specs.Equations.{AreBare, HaveTracked};
-ghost use Rattle.net_encoder.specs.Packets.{is_in_set, is_portless};
-ghost use Rattle.net_encoder.specs.Symbols.{open_of, opens_end};
-ghost use Rattle.net_encoder.specs.Worlds.{is_routing, opens_from, world_from};
-ghost use Rattle.term_store.specs.Terms.{Reading, at, size};
-ghost use Rattle.term_store.specs.Reading.{Reads, Builds, Gives};
+ghost use Rattle.sym_policy.specs.Packets.{packet_of};
+ghost use Rattle.world_variables.specs.Packets.{is_in_set, is_portless};
+ghost use Rattle.world_variables.specs.Worlds.{is_routing};
+ghost use Rattle.term_store.specs.Terms.{at, size};
+ghost use Rattle.term_store.specs.Reading.{Builds, Gives};
 ghost use Rattle.term_arith.specs.Bits.{number, ids_end};
 
-use crate::limits::limits_of;
 use crate::slots::sym_all_hold;
 use crate::unknowns::OpenWorld;
 use net_model::Net;
+use ospf_equations::limits_of;
 use question_lang::{PacketSet, Question};
 use std::alloc::{AllocError, Global};
 use sym_policy::{SymNet, SymPacket};
@@ -35,12 +31,12 @@ fn sym_in_range(
     range: (u16, u16),
     port: &Bits,
 ) -> Result<NodeId, AllocError>
-    requires wide { length port.now.nodes ≡ 16 }
-    requires nodes { ids_end port.now.nodes ≤ size terms.old }
+    requires wide { length port.now.nodes.items ≡ 16 }
+    requires nodes { ids_end port.now.nodes.items ≤ size terms.old }
     ensures builds { Builds terms.old terms.new }
     ensures within { IfOk result (λ r. r.0 < size terms.new) }
     ensures value { Gives terms.new result (λ w r. at w r
-        ≡ (nat_le range.0 (number w port.now.nodes) && nat_le (number w port.now.nodes) range.1)) }
+        ≡ (nat_le range.0 (number w port.now.nodes.items) && nat_le (number w port.now.nodes.items) range.1)) }
 {
     let first = constant(alloc, terms, u64::from(range.0), 16)?;
     let last = constant(alloc, terms, u64::from(range.1), 16)?;
@@ -70,7 +66,7 @@ fn sym_ports_fit(terms: &mut Terms, packet: &SymPacket) -> Result<NodeId, AllocE
 }
 
 // Whether a packet whose other fields are those of a set has ports that are in it.
-#[tactic(auto, unfolding(crate::specs::Packets::is_in_set))]
+#[tactic(auto, unfolding(world_variables::specs::Packets::is_in_set))]
 fn sym_in_set(
     alloc: Global,
     terms: &mut Terms,
@@ -113,15 +109,10 @@ pub fn sym_routing(
     question: &Question,
     made: &OpenWorld,
 ) -> Result<NodeId, AllocError>
-    requires nodes { whole_end made.now.world ≤ size terms.old }
-    requires parts { opens_end made.now.parts ≤ size terms.old }
-    requires rows { HaveTracked (tracked_of net.now) made.now.world.slots }
-    requires long { length made.now.parts ≡ constants.LENGTHS * length net.now }
+    requires stands { StandsIn net.now terms.old made.now }
     ensures builds { Builds terms.old terms.new }
     ensures within { IfOk result (λ r. r.0 < size terms.new) }
-    ensures value { Gives terms.new result (λ w r. (from : ℕ) → AreBare w made.now.world.slots →
-        map (open_of w) made.now.parts ≡ opens_from net.now question.now w.variable from →
-        whole_of w made.now.world ≡ world_from net.now question.now w.variable from →
+    ensures value { Gives terms.new result (λ w r. (from : ℕ) → ReadsAs net.now question.now from w made.now →
         at w r ≡ is_routing net.now question.now w.variable from) }
 {
     let _routers = net.routers();

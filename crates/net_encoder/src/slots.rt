@@ -7,19 +7,18 @@ ghost use Rattle.sym_policy.specs.Held.{bgp_of, failures_of};
 ghost use Rattle.sym_policy.specs.Records.{address_of};
 ghost use Rattle.sym_rib.specs.Into.{HasTracked};
 ghost use Rattle.sym_rib.specs.Slots.{slot_end};
-ghost use Rattle.sym_walk.specs.Worlds.{slots_end, tables_of, slot_of as slot_read};
-ghost use Rattle.net_encoder.specs.Equations.{AreBare, HaveTracked};
-ghost use Rattle.net_encoder.specs.Slots.{all_hold, slot_holds, slot_of, slots_of};
-ghost use Rattle.net_encoder.specs.Symbols.{open_of, open_end, opens_end};
+ghost use Rattle.sym_rib.specs.Worlds.{slots_end, tables_of, slot_of as slot_read};
+ghost use Rattle.ospf_equations.specs.Equations.{AreBare, HaveTracked};
+ghost use Rattle.world_variables.specs.Slots.{all_hold, slot_holds, slot_of, slots_of};
+ghost use Rattle.world_variables.specs.Symbols.{open_of, open_end, opens_end};
 ghost use Rattle.term_store.specs.Terms.{Reading, at, size};
 ghost use Rattle.term_store.specs.Reading.{Reads, Builds, Gives};
 ghost use Rattle.term_arith.specs.Bits.{ids_end};
 
-use crate::holding::sym_slot_holds;
-use crate::opens::SymOpen;
 use crate::tables::slot;
 use mw_text::List;
 use net_model::Net;
+use ospf_equations::sym_slot_holds;
 use route_record::LENGTHS;
 use std::alloc::{AllocError, Global};
 use sym_policy::SymNet;
@@ -27,6 +26,7 @@ use sym_rib::SymSlot;
 use term_arith::Bits;
 use term_arith::gates::{both, constant_node};
 use term_store::{NodeId, Terms};
+use world_variables::SymOpen;
 
 // Puts one more slot at the end.
 fn put_slot(made: &mut List<SymSlot>, next: SymSlot) -> Result<(), AllocError>
@@ -47,8 +47,8 @@ fn slot_at_place(
     part: &SymOpen,
 ) -> Result<SymSlot, AllocError>
     requires few { place < constants.LENGTHS * 64 }
-    requires wide { length dst.now.nodes ≡ 32 }
-    requires nodes { ids_end dst.now.nodes ≤ size terms.old }
+    requires wide { length dst.now.nodes.items ≡ 32 }
+    requires nodes { ids_end dst.now.nodes.items ≤ size terms.old }
     requires down { ids_end sym.now.down ≤ size terms.old }
     requires part { open_end part.now ≤ size terms.old }
     ensures builds { Builds terms.old terms.new }
@@ -77,8 +77,8 @@ fn holds_at_place(
     limits: &[u32],
 ) -> Result<NodeId, AllocError>
     requires few { place < constants.LENGTHS * 64 }
-    requires wide { length dst.now.nodes ≡ 32 }
-    requires nodes { ids_end dst.now.nodes ≤ size terms.old }
+    requires wide { length dst.now.nodes.items ≡ 32 }
+    requires nodes { ids_end dst.now.nodes.items ≤ size terms.old }
     requires down { ids_end sym.now.down ≤ size terms.old }
     requires rows { HaveTracked (tracked_of net.now) slots.now }
     requires slots { slots_end slots.now ≤ size terms.old }
@@ -111,8 +111,8 @@ pub fn slots(
 ) -> Result<List<SymSlot>, AllocError>
     requires few { length net.now ≤ 64 }
     requires long { length parts.now ≡ constants.LENGTHS * length net.now }
-    requires wide { length dst.now.nodes ≡ 32 }
-    requires nodes { ids_end dst.now.nodes ≤ size terms.old }
+    requires wide { length dst.now.nodes.items ≡ 32 }
+    requires nodes { ids_end dst.now.nodes.items ≤ size terms.old }
     requires down { ids_end sym.now.down ≤ size terms.old }
     requires parts { opens_end parts.now ≤ size terms.old }
     ensures builds { Builds terms.old terms.new }
@@ -144,8 +144,8 @@ pub fn sym_all_hold(
 ) -> Result<NodeId, AllocError>
     requires few { length net.now ≤ 64 }
     requires long { length parts.now ≡ constants.LENGTHS * length net.now }
-    requires wide { length dst.now.nodes ≡ 32 }
-    requires nodes { ids_end dst.now.nodes ≤ size terms.old }
+    requires wide { length dst.now.nodes.items ≡ 32 }
+    requires nodes { ids_end dst.now.nodes.items ≤ size terms.old }
     requires down { ids_end sym.now.down ≤ size terms.old }
     requires rows { HaveTracked (tracked_of net.now) slots.now }
     requires slots { slots_end slots.now ≤ size terms.old }

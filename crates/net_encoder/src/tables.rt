@@ -6,16 +6,14 @@ ghost use Rattle.sym_policy.specs.Held.{bgp_of, bgp_end, failures_of, ospf_of, o
 ghost use Rattle.sym_policy.specs.Records.{address_of};
 ghost use Rattle.sym_rib.specs.Into.{HasTracked};
 ghost use Rattle.sym_rib.specs.Slots.{rib_of, rib_end, slot_end, StandsForSlot};
-ghost use Rattle.sym_walk.specs.Worlds.{slot_of as slot_read};
-ghost use Rattle.net_encoder.specs.Slots.{bare, slot_of};
-ghost use Rattle.net_encoder.specs.Symbols.{open_of, open_end};
+ghost use Rattle.sym_rib.specs.Worlds.{slot_of as slot_read};
+ghost use Rattle.world_variables.specs.Slots.{bare, slot_of};
+ghost use Rattle.world_variables.specs.Symbols.{open_of, open_end};
 ghost use Rattle.term_store.specs.Terms.{Reading, at, size};
 ghost use Rattle.term_store.specs.Reading.{Reads, Builds, Gives};
 ghost use Rattle.term_arith.specs.Bits.{ids_end};
 
-use crate::links::none_down;
-use crate::opens::SymOpen;
-use mw_text::List;
+use failed_links::none_down;
 use net_model::Net;
 use route_record::Tracked;
 use std::alloc::{AllocError, Global};
@@ -23,7 +21,8 @@ use sym_policy::{SymBgp, SymNet, SymOspf};
 use sym_rib::{SymRib, SymSlot, sym_entry};
 use term_arith::gates::constant_node;
 use term_arith::{Bits, constant, copy};
-use term_store::{NodeId, Terms};
+use term_store::Terms;
+use world_variables::SymOpen;
 
 // The numbers by which BGP routes are preferred, all 0.
 #[derive(Drop)]
@@ -32,16 +31,16 @@ struct NoPreferences {
     local_pref: Bits,
     origin: Bits,
     med: Bits,
-    ghost weight_wide: { length weight.nodes ≡ 32 },
-    ghost local_pref_wide: { length local_pref.nodes ≡ 32 },
-    ghost origin_wide: { length origin.nodes ≡ 2 },
-    ghost med_wide: { length med.nodes ≡ 32 },
+    ghost weight_wide: { length weight.nodes.items ≡ 32 },
+    ghost local_pref_wide: { length local_pref.nodes.items ≡ 32 },
+    ghost origin_wide: { length origin.nodes.items ≡ 2 },
+    ghost med_wide: { length med.nodes.items ≡ 32 },
 }
 
 fn no_preferences(alloc: Global, terms: &mut Terms) -> Result<NoPreferences, AllocError>
     ensures builds { Builds terms.old terms.new }
-    ensures within { IfOk result (λ r. max (max (ids_end r.weight.nodes) (ids_end r.local_pref.nodes))
-        (max (ids_end r.origin.nodes) (ids_end r.med.nodes)) ≤ size terms.new) }
+    ensures within { IfOk result (λ r. max (max (ids_end r.weight.nodes.items) (ids_end r.local_pref.nodes.items))
+        (max (ids_end r.origin.nodes.items) (ids_end r.med.nodes.items)) ≤ size terms.new) }
 {
     Ok(NoPreferences {
         weight: constant(alloc, terms, 0, 32)?,
@@ -58,23 +57,23 @@ struct NoPath {
     first: Bits,
     last: Bits,
     numbers: Bits,
-    ghost len_wide: { length len.nodes ≡ 32 },
-    ghost first_wide: { length first.nodes ≡ 32 },
-    ghost last_wide: { length last.nodes ≡ 32 },
+    ghost len_wide: { length len.nodes.items ≡ 32 },
+    ghost first_wide: { length first.nodes.items ≡ 32 },
+    ghost last_wide: { length last.nodes.items ≡ 32 },
 }
 
 fn no_path(alloc: Global, terms: &mut Terms, tracked: usize) -> Result<NoPath, AllocError>
     ensures builds { Builds terms.old terms.new }
-    ensures row { IfOk result (λ r. length r.numbers.nodes ≡ tracked) }
-    ensures within { IfOk result (λ r. max (max (ids_end r.len.nodes) (ids_end r.first.nodes))
-        (max (ids_end r.last.nodes) (ids_end r.numbers.nodes)) ≤ size terms.new) }
+    ensures row { IfOk result (λ r. length r.numbers.nodes.items ≡ tracked) }
+    ensures within { IfOk result (λ r. max (max (ids_end r.len.nodes.items) (ids_end r.first.nodes.items))
+        (max (ids_end r.last.nodes.items) (ids_end r.numbers.nodes.items)) ≤ size terms.new) }
 {
     Ok(NoPath {
         len: constant(alloc, terms, 0, 32)?,
         first: constant(alloc, terms, 0, 32)?,
         last: constant(alloc, terms, 0, 32)?,
         numbers: Bits {
-            nodes: none_down(alloc, terms, tracked)?,
+            nodes: none_down(alloc, terms, tracked)?.items,
         },
     })
 }
@@ -88,25 +87,25 @@ struct NoOthers {
     communities: Bits,
     cluster_len: Bits,
     clusters: Bits,
-    ghost next_hop_wide: { length next_hop.nodes ≡ 32 },
-    ghost originator_wide: { length originator.nodes ≡ 33 },
-    ghost from_wide: { length from.nodes ≡ 33 },
-    ghost cluster_len_wide: { length cluster_len.nodes ≡ 32 },
+    ghost next_hop_wide: { length next_hop.nodes.items ≡ 32 },
+    ghost originator_wide: { length originator.nodes.items ≡ 33 },
+    ghost from_wide: { length from.nodes.items ≡ 33 },
+    ghost cluster_len_wide: { length cluster_len.nodes.items ≡ 32 },
 }
 
 fn no_others(alloc: Global, terms: &mut Terms, tracked: usize) -> Result<NoOthers, AllocError>
     ensures builds { Builds terms.old terms.new }
-    ensures row { IfOk result (λ r. length r.communities.nodes ≡ tracked) }
-    ensures within { IfOk result (λ r. max (max (ids_end r.communities.nodes) (ids_end r.next_hop.nodes))
-        (max (max (ids_end r.originator.nodes) (ids_end r.from.nodes))
-        (max (ids_end r.cluster_len.nodes) (ids_end r.clusters.nodes))) ≤ size terms.new) }
+    ensures row { IfOk result (λ r. length r.communities.nodes.items ≡ tracked) }
+    ensures within { IfOk result (λ r. max (max (ids_end r.communities.nodes.items) (ids_end r.next_hop.nodes.items))
+        (max (max (ids_end r.originator.nodes.items) (ids_end r.from.nodes.items))
+        (max (ids_end r.cluster_len.nodes.items) (ids_end r.clusters.nodes.items))) ≤ size terms.new) }
 {
     Ok(NoOthers {
         next_hop: constant(alloc, terms, 0, 32)?,
         originator: constant(alloc, terms, 0, 33)?,
         from: constant(alloc, terms, 0, 33)?,
         communities: Bits {
-            nodes: none_down(alloc, terms, tracked)?,
+            nodes: none_down(alloc, terms, tracked)?.items,
         },
         cluster_len: constant(alloc, terms, 0, 32)?,
         clusters: constant(alloc, terms, 0, 0)?,
@@ -186,9 +185,9 @@ fn bare_slot(
     ensures rows { IfOk result (λ r. HasTracked tracked.now r.bgp) }
     ensures value { Gives terms.new result (λ w r. StandsForSlot w tracked.now r (bare (ospf_of w ospf.now))) }
 {
-    let bgp = no_bgp(alloc, terms, tracked)?;
-    let rib = no_entry(alloc, terms)?;
     let ospf = copy_route(alloc, ospf)?;
+    let rib = no_entry(alloc, terms)?;
+    let bgp = no_bgp(alloc, terms, tracked)?;
     Ok(SymSlot { ospf, bgp, rib })
 }
 
@@ -204,8 +203,8 @@ pub fn slot(
     part: &SymOpen,
 ) -> Result<SymSlot, AllocError>
     requires long { len ≤ 32 }
-    requires wide { length dst.now.nodes ≡ 32 }
-    requires nodes { ids_end dst.now.nodes ≤ size terms.old }
+    requires wide { length dst.now.nodes.items ≡ 32 }
+    requires nodes { ids_end dst.now.nodes.items ≤ size terms.old }
     requires down { ids_end sym.now.down ≤ size terms.old }
     requires part { open_end part.now ≤ size terms.old }
     ensures builds { Builds terms.old terms.new }

@@ -1,32 +1,24 @@
 //! The variables of a world as terms: its packet, its failed links, and what is open of its slots.
 
-ghost use Rattle.std.specs.Prelude.{◌≡◌, ℕ, ◌+◌, ◌≤◌, ◌*◌, IfOk, OnOk, length, map, max};
-ghost use Rattle.net_model.specs.Tracked.{tracked_of};
+ghost use Rattle.std.specs.Prelude.{◌≡◌, ◌+◌, ◌≤◌, ◌*◌, IfOk, OnOk, length, map};
 ghost use Rattle.net_model.specs.World.{links_of};
 ghost use Rattle.route_record.specs.declared.TheConstants as constants;
 ghost use Rattle.sym_ospf.specs.Rows.{net_end};
 ghost use Rattle.sym_policy.specs.Held.{failures_of};
-ghost use Rattle.sym_policy.specs.Records.{address_of, packet_end};
-ghost use Rattle.sym_walk.specs.Packets.{packet_of};
-ghost use Rattle.sym_walk.specs.Whole.{whole_of, whole_end};
-ghost use Rattle.sym_walk.specs.Worlds.{slots_end, slot_of as slot_read};
-ghost use Rattle.net_encoder.specs.Equations.{AreBare, HaveTracked};
-ghost use Rattle.net_encoder.specs.Failures.{downs_from, downs_width, failures_from};
-ghost use Rattle.net_encoder.specs.Packets.{packet_from, packet_width};
-ghost use Rattle.net_encoder.specs.Rooms as room;
-ghost use Rattle.net_encoder.specs.Slots.{slots_of};
-ghost use Rattle.net_encoder.specs.Symbols.{open_of, opens_end};
-ghost use Rattle.net_encoder.specs.Unknowns.{unknowns_from, unknowns_width};
-ghost use Rattle.net_encoder.specs.Worlds.{downs_start, opens_from, rooms_of, slots_start, world_from, world_width};
-ghost use Rattle.term_store.specs.Terms.{Reading, size};
-ghost use Rattle.term_store.specs.Reading.{Reads, Builds, Grows, Gives};
-ghost use Rattle.term_arith.specs.Bits.{bits, ids_end};
+ghost use Rattle.sym_policy.specs.Records.{packet_end};
+ghost use Rattle.sym_policy.specs.Packets.{packet_of};
+ghost use Rattle.net_encoder.specs.Opened.{ReadsAs, StandsIn};
+ghost use Rattle.failed_links.specs.Failures.{failures_from};
+ghost use Rattle.world_variables.specs.Packets.{packet_from};
+ghost use Rattle.world_variables.specs.Rooms as room;
+ghost use Rattle.world_variables.specs.Symbols.{open_of, opens_end};
+ghost use Rattle.world_variables.specs.Unknowns.{unknowns_from, unknowns_width};
+ghost use Rattle.world_variables.specs.Worlds.{downs_start, opens_from, rooms_of, slots_start, world_from, world_width};
+ghost use Rattle.term_store.specs.Terms.{size};
+ghost use Rattle.term_store.specs.Reading.{Grows, Gives};
 
-use crate::links::downs_of;
-use crate::opens::{SymOpen, opens};
-use crate::packets::packet_in;
 use crate::slots::slots;
-use crate::widths::{rooms, widths_of};
+use failed_links::downs_of;
 use mw_text::List;
 use net_model::Net;
 use question_lang::Question;
@@ -34,7 +26,10 @@ use route_record::Plan;
 use std::alloc::{AllocError, Global};
 use sym_policy::{SymNet, SymPacket};
 use sym_walk::SymWorld;
-use term_store::{NodeId, Terms};
+use term_store::Terms;
+use world_variables::opens::opens;
+use world_variables::widths::{rooms, widths_of};
+use world_variables::{SymOpen, packet_in};
 
 /// A world as terms, with what is open of its slots.
 #[derive(Drop)]
@@ -51,7 +46,7 @@ struct Outside {
 }
 
 // The packet of a question's set, and at most so many failed links as it allows: their variables are new.
-#[tactic(auto, using(crate::proofs::Steps::grows_grown), unfolding(crate::specs::Failures::failures_from, sym_policy::specs::Held::failures_of))]
+#[tactic(auto, using(failed_links::proofs::Steps::grows_grown), unfolding(failed_links::specs::Failures::failures_from, sym_policy::specs::Held::failures_of))]
 fn open_outside(
     alloc: Global,
     terms: &mut Terms,
@@ -69,7 +64,7 @@ fn open_outside(
         (downs_start question.now terms.old.vars)) }
 {
     let packet = packet_in(alloc, terms, question.packets)?;
-    let down = downs_of(alloc, terms, question.failures, net.links().len())?;
+    let down = downs_of(alloc, terms, question.failures, net.links())?;
     let net = SymNet {
         down,
         igp: List::new(alloc),
@@ -78,7 +73,7 @@ fn open_outside(
 }
 
 // What is open of the slots: their variables are new.
-#[tactic(auto, using(crate::proofs::RoomSteps::rooms_long))]
+#[tactic(auto, using(world_variables::proofs::RoomSteps::rooms_long))]
 fn open_slots(
     alloc: Global,
     terms: &mut Terms,
@@ -101,7 +96,7 @@ fn open_slots(
 
 /// The world of a question's variables, which are new: a packet of its set, failed links, and the tables that follow from
 /// what is open of their slots.
-#[tactic(auto, using(crate::proofs::Steps::grows_built, crate::proofs::Steps::grows_grown), unfolding(crate::specs::Worlds::world_width, crate::specs::Worlds::world_from, crate::specs::Worlds::opens_from))]
+#[tactic(auto, using(failed_links::proofs::Steps::grows_built, failed_links::proofs::Steps::grows_grown), unfolding(world_variables::specs::Worlds::world_width, world_variables::specs::Worlds::world_from, world_variables::specs::Worlds::opens_from))]
 pub fn open_world(
     alloc: Global,
     terms: &mut Terms,
@@ -110,16 +105,9 @@ pub fn open_world(
     plan: Plan,
 ) -> Result<OpenWorld, AllocError>
     ensures grows { Grows terms.old terms.new }
-    ensures within { IfOk result (λ r. whole_end r.world ≤ size terms.new) }
-    ensures parts_within { IfOk result (λ r. opens_end r.parts ≤ size terms.new) }
-    ensures rows { IfOk result (λ r. HaveTracked (tracked_of net.now) r.world.slots) }
-    ensures long { IfOk result (λ r. length r.parts ≡ constants.LENGTHS * length net.now) }
+    ensures stands { IfOk result (λ r. StandsIn net.now terms.new r) }
     ensures vars { OnOk result (terms.new.vars ≡ terms.old.vars + world_width net.now question.now) }
-    ensures bare { Gives terms.new result (λ w r. AreBare w r.world.slots) }
-    ensures parts { Gives terms.new result (λ w r. map (open_of w) r.parts
-        ≡ opens_from net.now question.now w.variable terms.old.vars) }
-    ensures value { Gives terms.new result (λ w r. whole_of w r.world
-        ≡ world_from net.now question.now w.variable terms.old.vars) }
+    ensures value { Gives terms.new result (λ w r. ReadsAs net.now question.now terms.old.vars w r) }
 {
     let _routers = net.routers();
     let outside = open_outside(alloc, terms, net, question)?;

@@ -25,8 +25,8 @@ use Rattle.question_lang.specs.declared.question.Question.{Question}
 use Rattle.question_lang.specs.declared.walk.Walk.{Walk}
 use Rattle.cex_json.specs.declared.counterexample.Counterexample.{Counterexample}
 use Rattle.stable_replay.specs.Replayed.{world_of}
-use Rattle.breaking_def.specs.Breaking.{IsBreakable, IsBreaking}
-use Rattle.net_encoder.specs.Worlds.{no_environment, world_bits, world_from}
+use Rattle.world_variables.specs.Breaking.{IsBreakable, IsBreaking}
+use Rattle.world_variables.specs.Worlds.{no_environment, world_bits, world_from}
 use Rattle.run_answers.specs.declared.verdict.Verdict.{Verdict}
 use Rattle.question_search.specs.declared.formula.Formula.{Formula}
 use Rattle.run_answers.specs.Answering.{IsLogged, IsSearchedSo, IsUnfinished, answer_of, end_text}

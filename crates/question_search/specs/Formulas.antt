@@ -9,8 +9,8 @@ use Rattle.route_record.specs.declared.Environment.{Environment}
 use Rattle.route_record.specs.declared.World.{World}
 use Rattle.question_lang.specs.declared.question.Question.{Question}
 use Rattle.question_lang.specs.declared.walk.Walk.{Walk}
-use Rattle.breaking_def.specs.Breaking.{IsBreaking}
-use Rattle.net_encoder.specs.Worlds.{no_environment, world_bits, world_from, world_width}
+use Rattle.world_variables.specs.Breaking.{IsBreaking}
+use Rattle.world_variables.specs.Worlds.{no_environment, world_bits, world_from, world_width}
 use Rattle.question_search.specs.declared.formula.Formula.{Formula}
 
 -- the world of values that make the root true breaks the question, and the bits of what breaks the question make it

@@ -1,11 +1,11 @@
 //! Answers one question by a search, whose log shows the answer.
 
 ghost use Rattle.std.specs.Prelude.{◌≡◌, ℕ, List as ListOf, Option as OptionOf, IfOk, OnErr, length, true};
-ghost use Rattle.breaking_def.specs.Breaking.{IsBreaking};
+ghost use Rattle.world_variables.specs.Breaking.{IsBreaking};
 ghost use Rattle.cdcl_search.specs.Outcomes.{OnLogFault, OnSat, OnUnknown, OnUnsat, Shows, UnlessLogFault};
 ghost use Rattle.mw_outside.specs.Faults.{Rose};
-ghost use Rattle.net_encoder.specs.Slots.{runs_no_bgp};
-ghost use Rattle.net_encoder.specs.Worlds.{no_environment};
+ghost use Rattle.world_variables.specs.Slots.{runs_no_bgp};
+ghost use Rattle.world_variables.specs.Worlds.{no_environment};
 ghost use Rattle.question_lang.specs.declared.walk.Walk.{Walk as WalkOf};
 ghost use Rattle.question_search.specs.Formulas.{IsFormula};
 ghost use Rattle.question_search.specs.Searches.{IsFound};
@@ -22,7 +22,8 @@ use cex_json::Counterexample;
 use cnf_blaster::decoded;
 use mw_outside::Sink;
 use mw_text::List;
-use net_encoder::{decode, is_meshed};
+use ospf_equations::is_meshed;
+use world_variables::decode;
 use net_model::Net;
 use question_lang::Question;
 use route_record::Environment;

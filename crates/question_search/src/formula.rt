@@ -1,7 +1,7 @@
 //! A question over a network as clauses.
 
 ghost use Rattle.std.specs.Prelude.{◌≡◌, ◌≤◌, ◌^◌, IfOk, true};
-ghost use Rattle.net_encoder.specs.Slots.{runs_no_bgp};
+ghost use Rattle.world_variables.specs.Slots.{runs_no_bgp};
 ghost use Rattle.question_search.specs.Formulas.{IsFormula};
 
 use cnf_blaster::{Cnf, blast};

@@ -14,7 +14,7 @@ use Rattle.cnf_blaster.specs.Meaning.{CanBeTrue}
 use Rattle.ios_ast.specs.declared.file.File.{File}
 use Rattle.route_record.specs.declared.Environment.{Environment}
 use Rattle.route_record.specs.declared.World.{World}
-use Rattle.breaking_def.specs.Breaking.{IsBreakable, IsBreaking}
+use Rattle.world_variables.specs.Breaking.{IsBreakable, IsBreaking}
 use Rattle.question_lang.specs.declared.question.Question.{Question}
 use Rattle.question_lang.specs.declared.walk.Walk.{Walk}
 use Rattle.cex_json.specs.declared.counterexample.Counterexample.{Counterexample}

@@ -7,7 +7,7 @@ use Rattle.std.proofs.lemmas.Grind.{common_steps}
 use Rattle.std.specs.Prelude.{is_some, nat_lt, position}
 use Rattle.std.specs.List.{list_all, prefix_len}
 use Rattle.ios_ast.specs.declared.file.File.{File}
-use Rattle.breaking_def.specs.Networks.{runs_no_bgp}
+use Rattle.world_variables.specs.Slots.{runs_no_bgp}
 
 past_end : (k n : ℕ) → nat_lt (1 + k) (suc n) ≡ false → nat_lt k n ≡ false
 past_end k n h = grind (arith, nat_tests, common_steps)

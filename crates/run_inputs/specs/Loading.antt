@@ -1,6 +1,6 @@
 -- How a run ends before the answers, and what is ready to be answered.
 use Rattle.std.specs.Prelude.{◌≡◌, ⊤, ℕ, ◌*◌, ◌≤◌, List, length, slice_get, true, Some, Result, Ok, Err}
-use Rattle.breaking_def.specs.Networks.{runs_no_bgp}
+use Rattle.world_variables.specs.Slots.{runs_no_bgp}
 use Rattle.cex_json.specs.declared.counterexample.Counterexample.{Counterexample}
 use Rattle.ios_ast.specs.declared.file.File.{File}
 use Rattle.net_model.specs.World.{IsEnvironment, IsFailureSet}

@@ -5,3 +5,4 @@ pub mod EquationTests
 pub mod FileRouters
 pub mod Solutions
 pub mod Reach
+pub mod Networks

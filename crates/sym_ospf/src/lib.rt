@@ -8,6 +8,7 @@ mod distances;
 mod equations;
 mod links;
 mod parts;
+pub mod prefixes;
 mod resolution;
 mod routes;
 mod sessions;

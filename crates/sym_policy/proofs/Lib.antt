@@ -6,3 +6,4 @@ pub mod LowBits
 pub mod SetLines
 pub mod NetworkBits
 pub mod Decided
+pub mod SameNodes

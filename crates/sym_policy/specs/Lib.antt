@@ -3,4 +3,7 @@ pub mod Shapes
 pub mod Routes
 pub mod Order
 pub mod MapRecs
+pub mod SameNodes
 pub mod Held
+pub mod Packets
+pub mod Seen

@@ -7,66 +7,17 @@ ghost use Rattle.term_arith.specs.Bits.{bits, number, ids_end};
 ghost use Rattle.sym_policy.specs.Routes.{path_at, path_end, route_at, route_end, preferences_at, preferences_end, made_at, made_end, HasRows, SameRows};
 ghost use Rattle.sym_policy.specs.Shapes.{set_shapes, shape_made};
 
-use crate::parts::{SymMade, SymPath, SymPreferences, SymRoute};
+use crate::copies::copy_route;
+use crate::parts::{SymMade, SymRoute};
 use crate::sets::set_line;
 use ios_ast::{MapEntry, SetAct};
 use route_record::Tracked;
 use std::alloc::{AllocError, Global};
-use term_arith::copy;
 use term_arith::gates::constant_node;
 use term_store::Terms;
 
-/// A copy of a path.
-fn copy_path(alloc: Global, path: &SymPath) -> Result<SymPath, AllocError>
-    ensures { IfOk result (λ r. r ≡ path.now) }
-{
-    let len = copy(alloc, &path.len)?;
-    let first = copy(alloc, &path.first)?;
-    let last = copy(alloc, &path.last)?;
-    let numbers = copy(alloc, &path.numbers)?;
-    Ok(SymPath {
-        len,
-        first,
-        last,
-        numbers,
-    })
-}
-
-/// A copy of the numbers by which routes are preferred.
-fn copy_preferences(
-    alloc: Global,
-    preferences: &SymPreferences,
-) -> Result<SymPreferences, AllocError>
-    ensures { IfOk result (λ r. r ≡ preferences.now) }
-{
-    let weight = copy(alloc, &preferences.weight)?;
-    let local_pref = copy(alloc, &preferences.local_pref)?;
-    let med = copy(alloc, &preferences.med)?;
-    let origin = copy(alloc, &preferences.origin)?;
-    Ok(SymPreferences {
-        weight,
-        local_pref,
-        med,
-        origin,
-    })
-}
-
-/// A copy of a route.
-pub(crate) fn copy_route(alloc: Global, route: &SymRoute) -> Result<SymRoute, AllocError>
-    ensures { IfOk result (λ r. r ≡ route.now) }
-{
-    let preferences = copy_preferences(alloc, &route.preferences)?;
-    let path = copy_path(alloc, &route.path)?;
-    let communities = copy(alloc, &route.communities)?;
-    Ok(SymRoute {
-        preferences,
-        path,
-        communities,
-        type1: route.type1,
-    })
-}
-
 /// The route after all lines, in their order.
+#[tactic(auto, using(crate::proofs::SameNodes::copied_steps))]
 fn set_lines(
     alloc: Global,
     terms: &mut Terms,
@@ -116,6 +67,7 @@ pub(crate) fn sym_made(
 }
 
 /// No route; its fields are those of another.
+#[tactic(auto, using(crate::proofs::SameNodes::copied_steps))]
 pub(crate) fn sym_none(
     alloc: Global,
     terms: &mut Terms,
@@ -124,7 +76,7 @@ pub(crate) fn sym_none(
     requires { route_end route.now ≤ size terms.old }
     ensures builds { Builds terms.old terms.new }
     ensures within { IfOk result (λ r. made_end r ≤ size terms.new) }
-    ensures same { IfOk result (λ r. r.route ≡ route.now) }
+    ensures rows { IfOk result (λ r. SameRows r.route route.now) }
     ensures value { Gives terms.new result (λ w r. made_at w r ≡ None) }
 {
     let valid = constant_node(terms, false)?;

@@ -4,6 +4,7 @@
 //! plain one of `policy_eval`: under every reading its result is what the definition says of the values read.
 #![tactic(auto)]
 
+mod copies;
 mod decisions;
 mod entries;
 mod lines;

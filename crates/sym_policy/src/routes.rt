@@ -20,13 +20,13 @@ fn choose_path(
     a: &SymPath,
     b: &SymPath,
 ) -> Result<SymPath, AllocError>
-    requires rows { length a.now.numbers.nodes ≡ length b.now.numbers.nodes }
+    requires rows { length a.now.numbers.nodes.items ≡ length b.now.numbers.nodes.items }
     requires test { c.0 < size terms.old }
     requires first { path_end a.now ≤ size terms.old }
     requires second { path_end b.now ≤ size terms.old }
     ensures builds { Builds terms.old terms.new }
     ensures within { IfOk result (λ r. path_end r ≤ size terms.new) }
-    ensures rows { IfOk result (λ r. length r.numbers.nodes ≡ length a.now.numbers.nodes) }
+    ensures rows { IfOk result (λ r. length r.numbers.nodes.items ≡ length a.now.numbers.nodes.items) }
     ensures value { Gives terms.new result (λ w r. path_at w r ≡ (if at w c then path_at w a.now else path_at w b.now)) }
 {
     let len = choose(alloc, terms, c, &a.len, &b.len)?;
@@ -85,10 +85,10 @@ fn choose_route(
     ensures rows { IfOk result (λ r. SameRows r a.now) }
     ensures value { Gives terms.new result (λ w r. route_at w r ≡ (if at w c then route_at w a.now else route_at w b.now)) }
 {
-    let preferences = choose_preferences(alloc, terms, c, &a.preferences, &b.preferences)?;
-    let path = choose_path(alloc, terms, c, &a.path, &b.path)?;
-    let communities = choose(alloc, terms, c, &a.communities, &b.communities)?;
     let type1 = select(terms, c, a.type1, b.type1)?;
+    let communities = choose(alloc, terms, c, &a.communities, &b.communities)?;
+    let path = choose_path(alloc, terms, c, &a.path, &b.path)?;
+    let preferences = choose_preferences(alloc, terms, c, &a.preferences, &b.preferences)?;
     Ok(SymRoute {
         preferences,
         path,

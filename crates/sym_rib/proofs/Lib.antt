@@ -2,11 +2,12 @@ pub mod Classes
 pub mod Entries
 pub mod EntryMetrics
 pub mod FilesTracked
+pub mod HeldParts
 pub mod KnownRows
 pub mod LearntOver
 pub mod LocalRoutes
 pub mod MapLaw
-pub mod Networks
+pub mod SlotPlaces
 pub mod OneEach
 pub mod Redistribution
 pub mod SourceLaw

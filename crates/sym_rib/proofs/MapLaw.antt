@@ -1,6 +1,6 @@
 -- A route map at a redistribution leaves the path as it is, so what stands for a route stands for what the map leaves.
 -- It leaves an origin that has a code.
-use Rattle.std.proofs.Common.{◌≡◌, ℕ, ◌<◌, ◌≤◌, ◌^◌, Bool, true, false, if◌then◌else◌, List, [], ◌∷◌, Option, Some}
+use Rattle.std.proofs.Common.{◌≡◌, ◌<◌, ◌≤◌, ◌^◌, Bool, true, false, if◌then◌else◌, List, [], ◌∷◌, Option, Some}
 use Rattle.std.proofs.Common.{None}
 use Rattle.std.proofs.Common.{length}
 use Rattle.std.proofs.Common.{ap, ◌∙◌, arith}

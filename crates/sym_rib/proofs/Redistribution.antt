@@ -23,6 +23,7 @@ use Rattle.sym_policy.specs.Shapes.{RouteShape, route_shape}
 use Rattle.term_store.specs.Terms.{Reading, at}
 use Rattle.term_arith.specs.Bits.{number}
 use Rattle.term_arith.proofs.NumberLemmas.{number_below}
+use Rattle.sym_rib.specs.Brought.{external_of}
 use Rattle.sym_rib.specs.Into.{seen_of_bgp}
 use Rattle.sym_rib.specs.Mapped.{IsShort}
 
@@ -67,17 +68,17 @@ short_held true tracked x (Some h) small is =
     subst P (ap len_of is) small
 
 pub short_seen : (w : Reading) (tracked : Tracked) (bgp : SymBgp) (line : Redist) (held : Slot)
-    → length bgp.len.nodes ≡ 32 → StandsForBgp w tracked bgp held.bgp
+    → length bgp.len.nodes.items ≡ 32 → StandsForBgp w tracked bgp held.bgp
     → IfSome (redistributed_route line held) IsShort
 short_seen w tracked bgp line held wide stands = by line.source
   where
     zero_short : 0 < 2 ^ 32
     zero_short = omega arith
 
-    small : number w bgp.len.nodes < 2 ^ 32
+    small : number w bgp.len.nodes.items < 2 ^ 32
     small =
-        let P : ℕ → Type 0 = λ n. number w bgp.len.nodes < 2 ^ n in
-        subst P wide (number_below w bgp.len.nodes)
+        let P : ℕ → Type 0 = λ n. number w bgp.len.nodes.items < 2 ^ n in
+        subst P wide (number_below w bgp.len.nodes.items)
 
     of_bgp : (o : Option BgpRec) → IfSome o (λ h. length h.path < 2 ^ 32)
         → IfSome (option_map (seen_of_bgp line) o) IsShort
@@ -91,11 +92,10 @@ short_seen w tracked bgp line held wide stands = by line.source
         of_bgp held.bgp (short_held (at w bgp.valid) tracked (bgp_at w bgp) held.bgp small stands)
     by (source.Ospf process) = tt
 
--- the record that a line brings in, by what its map leaves
-made_of : (tracked : Tracked) (there : Bool) (s : RouteShape) (left : Option Attributes)
+-- the record that OSPF makes of what a map leaves
+pub made_of : (tracked : Tracked) (there : Bool) (s : RouteShape) (left : Option Attributes)
     → (if there then Some s else None) ≡ option_map (route_shape tracked) left
-    → (if there then Some (external_record s.type1 s.preferences.med) else None)
-    ≡ option_map (λ r. external_record r.type1 r.med) left
+    → (if there then Some (external_record s.type1 s.preferences.med) else None) ≡ option_map external_of left
 made_of tracked false s None is = refl
 made_of tracked false s (Some r) is = cc
 made_of tracked true s None is = cc
@@ -103,34 +103,28 @@ made_of tracked true s (Some r) is =
     let made : Option RouteShape → Option OspfRec = option_map (λ x. external_record x.type1 x.preferences.med) in
     ap made is
 
-pub line_stands : (tracked : Tracked) (line : Redist) (p : Prefix) (there left_there : Bool) (entry : RibEntry)
-    (s : RouteShape) (rib : Option RibEntry) (left : Option Attributes)
+pub line_stands : (line : Redist) (p : Prefix) (there left_there : Bool) (entry : RibEntry) (made : OspfRec)
+    (rib : Option RibEntry) (left : Option Attributes)
     → (if there then Some entry else None) ≡ rib
-    → (if left_there then Some s else None) ≡ option_map (route_shape tracked) left
-    → (if (there && is_taken line p entry.source) && left_there
-    then Some (external_record s.type1 s.preferences.med) else None)
-    ≡ option_and_then (λ e. if is_taken line p e.source
-    then option_map (λ r. external_record r.type1 r.med) left else None) rib
-line_stands tracked line p there left_there entry s rib left is made =
+    → (if left_there then Some made else None) ≡ option_map external_of left
+    → (if (there && is_taken line p entry.source) && left_there then Some made else None)
+    ≡ option_and_then (λ e. if is_taken line p e.source then option_map external_of left else None) rib
+line_stands line p there left_there entry made rib left is brought =
     by there
     ∙ ap (λ o. option_and_then (λ e. if is_taken line p e.source then o else None) (if there then Some entry else None))
-    (made_of tracked left_there s left made)
-    ∙ ap (option_and_then (λ e. if is_taken line p e.source
-    then option_map (λ r. external_record r.type1 r.med) left else None)) is
+    brought
+    ∙ ap (option_and_then (λ e. if is_taken line p e.source then option_map external_of left else None)) is
   where
-    made_read : Option OspfRec
-    made_read = if left_there then Some (external_record s.type1 s.preferences.med) else None
+    read : Option OspfRec
+    read = if left_there then Some made else None
 
-    inner : (b : Bool)
-        → (if b && left_there then Some (external_record s.type1 s.preferences.med) else None)
-        ≡ (if b then made_read else None)
+    inner : (b : Bool) → (if b && left_there then Some made else None) ≡ (if b then read else None)
     inner true = refl
     inner false = refl
 
     by : (a : Bool)
-        → (if (a && is_taken line p entry.source) && left_there
-        then Some (external_record s.type1 s.preferences.med) else None)
-        ≡ option_and_then (λ e. if is_taken line p e.source then made_read else None) (if a then Some entry else None)
+        → (if (a && is_taken line p entry.source) && left_there then Some made else None)
+        ≡ option_and_then (λ e. if is_taken line p e.source then read else None) (if a then Some entry else None)
     by true = inner (is_taken line p entry.source)
     by false = refl
 

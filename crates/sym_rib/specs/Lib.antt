@@ -1,3 +1,4 @@
+pub mod Brought
 pub mod Into
 pub mod IntoBgp
 pub mod Known
@@ -5,3 +6,4 @@ pub mod KnownParts
 pub mod Mapped
 pub mod Slots
 pub mod Sources
+pub mod Worlds

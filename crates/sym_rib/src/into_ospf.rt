@@ -15,13 +15,15 @@ ghost use Rattle.sym_policy.specs.Held.{ospf_of, ospf_end, bgp_end, StandsForBgp
 ghost use Rattle.sym_policy.specs.MapRecs.{attributes_at, map_rec_at, map_rec_end, HasMarks};
 ghost use Rattle.sym_policy.specs.Records.{prefix_of};
 ghost use Rattle.sym_policy.specs.Shapes.{all_tracked, route_shape};
+ghost use Rattle.sym_rib.specs.Brought.{brought_of, brought_end, external_of};
 ghost use Rattle.sym_rib.specs.Into.{source_taken, seen_of_bgp, list_end, HasTracked};
 ghost use Rattle.sym_rib.specs.Slots.{rib_of, rib_end, slot_end, source_of_number, StandsForSlot};
 ghost use Rattle.term_store.specs.Terms.{Reading, size, at};
 ghost use Rattle.term_store.specs.Reading.{Reads, Builds, Gives};
 ghost use Rattle.term_arith.specs.Bits.{bits, number, ids_end};
 
-use crate::known::{known_rec, with_held, word};
+use crate::brought::SymBrought;
+use crate::known::{held_parts, known_rec, put_held, word};
 use crate::prefixes::sym_classful;
 use crate::slots::{SymRib, SymSlot};
 use crate::through::sym_through;
@@ -59,7 +61,7 @@ pub(crate) fn sym_from(
     ensures builds { Builds terms.old terms.new }
     ensures within { IfOk result (λ r. r.0 < size terms.new) }
     ensures value { Gives terms.new result (λ w r. at w r
-        ≡ origins.is_from source (source_of_number (number w rib.now.source.nodes))) }
+        ≡ origins.is_from source (source_of_number (number w rib.now.source.nodes.items))) }
 {
     match number_taken(source) {
         None => constant_node(terms, false),
@@ -71,8 +73,8 @@ pub(crate) fn sym_from(
 /// alone.
 fn sym_fits(terms: &mut Terms, line: &Redist, dst: &Bits, len: u8) -> Result<NodeId, AllocError>
     requires long { len ≤ 32 }
-    requires wide { length dst.now.nodes ≡ 32 }
-    requires dst { ids_end dst.now.nodes ≤ size terms.old }
+    requires wide { length dst.now.nodes.items ≡ 32 }
+    requires dst { ids_end dst.now.nodes.items ≤ size terms.old }
     ensures builds { Builds terms.old terms.new }
     ensures within { IfOk result (λ r. r.0 < size terms.new) }
     ensures value { Gives terms.new result (λ w r. at w r ≡ (not (origins.is_default (prefix_of w dst.now len))
@@ -96,18 +98,32 @@ fn sym_taken(
     rib: &SymRib,
 ) -> Result<NodeId, AllocError>
     requires long { len ≤ 32 }
-    requires wide { length dst.now.nodes ≡ 32 }
-    requires dst { ids_end dst.now.nodes ≤ size terms.old }
+    requires wide { length dst.now.nodes.items ≡ 32 }
+    requires dst { ids_end dst.now.nodes.items ≤ size terms.old }
     requires rib { rib_end rib.now ≤ size terms.old }
     ensures builds { Builds terms.old terms.new }
     ensures within { IfOk result (λ r. r.0 < size terms.new) }
     ensures value { Gives terms.new result (λ w r. at w r ≡ (at w rib.now.valid
-        && origins.is_taken line.now (prefix_of w dst.now len) (source_of_number (number w rib.now.source.nodes)))) }
+        && origins.is_taken line.now (prefix_of w dst.now len) (source_of_number (number w rib.now.source.nodes.items)))) }
 {
     let from = sym_from(terms, line.source, rib)?;
     let fits = sym_fits(terms, line, dst, len)?;
     let taken = both(terms, from, fits)?;
     both(terms, rib.valid, taken)
+}
+
+/// The kind of an external route: 1 where a node is true, else 2.
+fn external_kind(alloc: Global, terms: &mut Terms, type1: NodeId) -> Result<Bits, AllocError>
+    requires { type1.0 < size terms.old }
+    ensures builds { Builds terms.old terms.new }
+    ensures within { IfOk result (λ r. ids_end r.nodes.items ≤ size terms.new) }
+    ensures width { IfOk result (λ r. length r.nodes.items ≡ 2) }
+    ensures value { Gives terms.new result (λ w r. number w r.nodes.items ≡ (if at w type1 then 1 else 2)) }
+{
+    let one = constant(alloc, terms, 1, 2)?;
+    let two = constant(alloc, terms, 2, 2)?;
+    let kind = choose(alloc, terms, type1, &one, &two)?;
+    Ok(kind)
 }
 
 /// An external route with that metric where a node is true: one of type 1 costs it, one of type 2 has it beside its
@@ -120,19 +136,17 @@ fn external_ospf(
     type1: NodeId,
     metric: &Bits,
 ) -> Result<SymOspf, AllocError>
-    requires wide { length metric.now.nodes ≡ 32 }
+    requires wide { length metric.now.nodes.items ≡ 32 }
     requires valid { valid.0 < size terms.old }
     requires type1 { type1.0 < size terms.old }
-    requires metric { ids_end metric.now.nodes ≤ size terms.old }
+    requires metric { ids_end metric.now.nodes.items ≤ size terms.old }
     ensures builds { Builds terms.old terms.new }
     ensures within { IfOk result (λ r. ospf_end r ≤ size terms.new) }
     ensures value { Gives terms.new result (λ w r. ospf_of w r
-        ≡ (if at w valid then Some (origins.external_record (at w type1) (number w metric.now.nodes)) else None)) }
+        ≡ (if at w valid then Some (origins.external_record (at w type1) (number w metric.now.nodes.items)) else None)) }
 {
-    let one = constant(alloc, terms, 1, 2)?;
-    let two = constant(alloc, terms, 2, 2)?;
+    let kind = external_kind(alloc, terms, type1)?;
     let none = word(alloc, terms, 0)?;
-    let kind = choose(alloc, terms, type1, &one, &two)?;
     let beside = choose(alloc, terms, type1, &none, metric)?;
     let cost = choose(alloc, terms, type1, metric, &none)?;
     Ok(SymOspf {
@@ -161,7 +175,7 @@ fn plain_rec(
 {
     let valid = constant_node(terms, there)?;
     let med = word(alloc, terms, line.metric.unwrap_or(metric))?;
-    let rec = known_rec(
+    known_rec(
         alloc,
         terms,
         tracked,
@@ -171,8 +185,7 @@ fn plain_rec(
         Origin::Incomplete,
         med,
         line.type1,
-    )?;
-    Ok(rec)
+    )
 }
 
 /// What it sees of a held BGP route: its path and communities besides.
@@ -191,9 +204,9 @@ fn bgp_rec(
     ensures value { Gives terms.new result (λ w r. (bgp : OptionOf BgpOf) → StandsForBgp w tracked.now held.now bgp
         → map_rec_at w r ≡ option_map (route_shape tracked.now) (option_map (seen_of_bgp line.now) bgp)) }
 {
+    let parts = held_parts(alloc, held)?;
     let plain = plain_rec(alloc, terms, tracked, line, true, 1)?;
-    let seen = with_held(alloc, plain, held)?;
-    Ok(seen)
+    Ok(put_held(plain, held.valid, parts))
 }
 
 /// What the route map of a line sees of the routes of a slot.
@@ -220,8 +233,8 @@ fn seen_rec(
     }
 }
 
-/// What the route map of a line leaves of the routes of a slot.
-fn left_rec(
+/// What OSPF takes of what the route map of a line leaves of the routes of a slot.
+fn left_part(
     alloc: Global,
     terms: &mut Terms,
     tracked: &Tracked,
@@ -230,17 +243,17 @@ fn left_rec(
     dst: &Bits,
     len: u8,
     bgp: &SymBgp,
-) -> Result<SymMapRec, AllocError>
+) -> Result<SymBrought, AllocError>
     requires long { len ≤ 32 }
-    requires wide { length dst.now.nodes ≡ 32 }
-    requires dst { ids_end dst.now.nodes ≤ size terms.old }
+    requires wide { length dst.now.nodes.items ≡ 32 }
+    requires dst { ids_end dst.now.nodes.items ≤ size terms.old }
     requires rows { HasTracked tracked.now bgp.now }
     requires nodes { bgp_end bgp.now ≤ size terms.old }
     ensures builds { Builds terms.old terms.new }
-    ensures within { IfOk result (λ r. map_rec_end r ≤ size terms.new) }
+    ensures within { IfOk result (λ r. brought_end r ≤ size terms.new) }
     ensures value { Gives terms.new result (λ w r. (held : Slot) → all_tracked tracked.now file.now.policies ≡ true
         → StandsForBgp w tracked.now bgp.now held.bgp
-        → map_rec_at w r ≡ option_map (route_shape tracked.now) (option_and_then (mapping.through_map file.now.policies
+        → brought_of w r ≡ option_map external_of (option_and_then (mapping.through_map file.now.policies
         line.now.map (prefix_of w dst.now len) false) (origins.redistributed_route line.now held))) }
 {
     let seen = seen_rec(alloc, terms, tracked, line, bgp)?;
@@ -254,7 +267,11 @@ fn left_rec(
         len,
         seen,
     )?;
-    Ok(left)
+    Ok(SymBrought {
+        valid: left.bgp.valid,
+        type1: left.type1,
+        metric: left.bgp.med,
+    })
 }
 
 /// The record that a line brings into OSPF.
@@ -269,8 +286,8 @@ fn line_ospf(
     slot: &SymSlot,
 ) -> Result<SymOspf, AllocError>
     requires long { len ≤ 32 }
-    requires wide { length dst.now.nodes ≡ 32 }
-    requires dst { ids_end dst.now.nodes ≤ size terms.old }
+    requires wide { length dst.now.nodes.items ≡ 32 }
+    requires dst { ids_end dst.now.nodes.items ≤ size terms.old }
     requires rows { HasTracked tracked.now slot.now.bgp }
     requires slot { slot_end slot.now ≤ size terms.old }
     ensures builds { Builds terms.old terms.new }
@@ -280,9 +297,9 @@ fn line_ospf(
         → ospf_of w r ≡ origins.into_ospf file.now (prefix_of w dst.now len) held line.now) }
 {
     let taken = sym_taken(terms, line, dst, len, &slot.rib)?;
-    let left = left_rec(alloc, terms, tracked, file, line, dst, len, &slot.bgp)?;
-    let valid = both(terms, taken, left.bgp.valid)?;
-    let made = external_ospf(alloc, terms, valid, left.type1, &left.bgp.med)?;
+    let left = left_part(alloc, terms, tracked, file, line, dst, len, &slot.bgp)?;
+    let valid = both(terms, taken, left.valid)?;
+    let made = external_ospf(alloc, terms, valid, left.type1, &left.metric)?;
     Ok(made)
 }
 
@@ -293,7 +310,7 @@ fn sym_other(terms: &mut Terms, rib: &SymRib) -> Result<NodeId, AllocError>
     ensures builds { Builds terms.old terms.new }
     ensures within { IfOk result (λ r. r.0 < size terms.new) }
     ensures value { Gives terms.new result (λ w r. at w r ≡ (at w rib.now.valid
-        && not (origins.is_ospf_entry (source_of_number (number w rib.now.source.nodes))))) }
+        && not (origins.is_ospf_entry (source_of_number (number w rib.now.source.nodes.items))))) }
 {
     let own = equal_number(terms, rib.source.nodes.as_slice(), 3)?;
     let other = negate(terms, own)?;
@@ -311,7 +328,7 @@ fn sym_gives(
     ensures builds { Builds terms.old terms.new }
     ensures within { IfOk result (λ r. r.0 < size terms.new) }
     ensures value { Gives terms.new result (λ w r. at w r ≡ ((len == 0) && (line.now.always || (at w rib.now.valid
-        && not (origins.is_ospf_entry (source_of_number (number w rib.now.source.nodes))))))) }
+        && not (origins.is_ospf_entry (source_of_number (number w rib.now.source.nodes.items))))))) }
 {
     if len != 0 {
         return constant_node(terms, false);
@@ -366,8 +383,8 @@ fn by_lines(
     slot: &SymSlot,
 ) -> Result<List<SymOspf>, AllocError>
     requires long { len ≤ 32 }
-    requires wide { length dst.now.nodes ≡ 32 }
-    requires dst { ids_end dst.now.nodes ≤ size terms.old }
+    requires wide { length dst.now.nodes.items ≡ 32 }
+    requires dst { ids_end dst.now.nodes.items ≤ size terms.old }
     requires rows { HasTracked tracked.now slot.now.bgp }
     requires slot { slot_end slot.now ≤ size terms.old }
     ensures builds { Builds terms.old terms.new }
@@ -425,8 +442,8 @@ fn of_process(
     slot: &SymSlot,
 ) -> Result<List<SymOspf>, AllocError>
     requires long { len ≤ 32 }
-    requires wide { length dst.now.nodes ≡ 32 }
-    requires dst { ids_end dst.now.nodes ≤ size terms.old }
+    requires wide { length dst.now.nodes.items ≡ 32 }
+    requires dst { ids_end dst.now.nodes.items ≤ size terms.old }
     requires rows { HasTracked tracked.now slot.now.bgp }
     requires slot { slot_end slot.now ≤ size terms.old }
     ensures builds { Builds terms.old terms.new }
@@ -452,8 +469,8 @@ fn of_file(
     slot: &SymSlot,
 ) -> Result<List<SymOspf>, AllocError>
     requires long { len ≤ 32 }
-    requires wide { length dst.now.nodes ≡ 32 }
-    requires dst { ids_end dst.now.nodes ≤ size terms.old }
+    requires wide { length dst.now.nodes.items ≡ 32 }
+    requires dst { ids_end dst.now.nodes.items ≤ size terms.old }
     requires rows { HasTracked tracked.now slot.now.bgp }
     requires slot { slot_end slot.now ≤ size terms.old }
     ensures builds { Builds terms.old terms.new }
@@ -485,8 +502,8 @@ pub fn sym_redistribute(
     slot: &SymSlot,
 ) -> Result<List<SymOspf>, AllocError>
     requires long { len ≤ 32 }
-    requires wide { length dst.now.nodes ≡ 32 }
-    requires dst { ids_end dst.now.nodes ≤ size terms.old }
+    requires wide { length dst.now.nodes.items ≡ 32 }
+    requires dst { ids_end dst.now.nodes.items ≤ size terms.old }
     requires rows { HasTracked (tracked_of net.now) slot.now.bgp }
     requires slot { slot_end slot.now ≤ size terms.old }
     ensures builds { Builds terms.old terms.new }

@@ -5,6 +5,7 @@
 //! for a slot, what a call here answers stands for what the definitions of the network make of that slot.
 #![tactic(auto)]
 
+mod brought;
 mod entry;
 mod interfaces;
 mod into_bgp;
@@ -14,6 +15,7 @@ mod known_parts;
 mod learnt;
 mod metric;
 mod metrics;
+mod places;
 pub mod prefixes;
 mod ribs;
 mod slots;
@@ -23,4 +25,5 @@ mod through;
 pub use entry::sym_entry;
 pub use into_bgp::sym_originate;
 pub use into_ospf::sym_redistribute;
+pub use places::slot_for;
 pub use slots::{SymRib, SymSlot};

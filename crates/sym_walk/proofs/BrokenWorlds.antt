@@ -7,15 +7,15 @@ use Rattle.question_lang.specs.declared.question.Start.{Start}
 use Rattle.question_lang.specs.declared.walk.Walk.{Walk}
 use Rattle.question_lang.specs.Breaking.{Breaks}
 use Rattle.question_lang.specs.Hops.{next_hops}
-use Rattle.sym_walk.specs.Beginnings.{begins_at}
-use Rattle.sym_walk.specs.Forwardings.{AreForwarding, IsBeginning, IsBeginningOf, start_asked}
-use Rattle.sym_walk.specs.Here.{ends_here}
-use Rattle.sym_walk.specs.Layers.{Beginning, Forwarding, is_broken}
+use Rattle.sym_forwarding.specs.Beginnings.{begins_at}
+use Rattle.sym_forwarding.specs.Forwardings.{AreForwarding, IsBeginning, IsBeginningOf, start_asked}
+use Rattle.sym_forwarding.specs.Here.{ends_here}
+use Rattle.sym_forwarding.specs.Layers.{Beginning, Forwarding, is_broken}
 use Rattle.sym_walk.specs.TwinTables.{AreTwins}
-use Rattle.sym_walk.proofs.BreakingWalks.{broken_all, broken_yes}
-use Rattle.sym_walk.proofs.Sought.{twin_forwards}
-use Rattle.sym_walk.proofs.Starts.{begins}
-use Rattle.sym_walk.proofs.TargetRouters.{told_here}
+use Rattle.sym_forwarding.proofs.BreakingWalks.{broken_all, broken_yes}
+use Rattle.sym_forwarding.proofs.Sought.{twin_forwards}
+use Rattle.sym_forwarding.proofs.Starts.{begins}
+use Rattle.sym_forwarding.proofs.TargetRouters.{told_here}
 
 -- what is said of the start of the question, where it has one
 abbrev pub IsBegun : List File → World → Kind → Beginning → Type 0

@@ -1,10 +1,8 @@
 -- Over which adjacencies an OSPF entry sends, one adjacency at a time.
-use Rattle.std.proofs.Common.{◌≡◌, ℕ, zero, suc, ◌-◌, ◌<◌, ◌≤◌, Bool, true, false, ◌&&◌, cond, List, [], ◌∷◌}
-use Rattle.std.proofs.Common.{◌++◌, length, get_or, drop, max, Option, Some, None, refl, sym, ap, arith, rules}
-use Rattle.std.specs.Prelude.{filter, map, slice_get, option_copied, option_map, IfSome}
-use Rattle.std.specs.Borrow.{Bor}
+use Rattle.std.proofs.Common.{◌≡◌, ℕ, ◌-◌, ◌<◌, ◌≤◌, Bool, true, false, ◌&&◌, cond, List, [], ◌∷◌}
+use Rattle.std.proofs.Common.{◌++◌, length, get_or, drop, Option, Some, None, refl}
+use Rattle.std.specs.Prelude.{filter, map}
 use Rattle.std.specs.Option.{option_map_or}
-use Rattle.std.proofs.lemmas.Option.{slice_get-map}
 use Rattle.mw_text.specs.declared.address.Prefix.{Prefix}
 use Rattle.ios_ast.specs.declared.file.File.{File}
 use Rattle.route_record.specs.declared.Failures.{Failures}
@@ -16,39 +14,8 @@ use Rattle.net_model.specs.Ospf.{adjacencies, up_adjacencies}
 use Rattle.net_model.specs.Sending.{sent_by_ospf}
 use Rattle.question_lang.specs.declared.walk.Hop.{Hop}
 use Rattle.question_lang.specs.Hops.{send_adjacent}
-use Rattle.sym_rib.specs.declared.slots.SymSlot.{SymSlot}
-use Rattle.sym_rib.specs.Slots.{slot_end}
-use Rattle.term_store.specs.Terms.{Reading}
-use Rattle.sym_walk.specs.Offers.{is_up_from, offered_hops, offers, offers_held}
-use Rattle.sym_walk.specs.Worlds.{slot_of, slots_end}
-use Rattle.sym_walk.proofs.OwnerHops.{back}
-
--- a slot at a place
-pub slot_read : (w : Reading) (slots : List SymSlot) (place : ℕ) →
-    slice_get (map (slot_of w) slots) place ≡ option_map (slot_of w) (slice_get slots place)
-slot_read w slots place = slice_get-map (slot_of w) slots place
-
-pub slots_end_at : (slots : List SymSlot) (place : ℕ) (s : SymSlot) → slice_get slots place ≡ Some s →
-    slot_end s ≤ slots_end slots
-slots_end_at [] place s h = cc
-slots_end_at (x ∷ rest) zero s h =
-    let same : x ≡ s = cc in
-    let here : slot_end x ≡ slot_end s = ap slot_end same in
-    omega arith
-slots_end_at (x ∷ rest) (suc place) s h =
-    let deeper = slots_end_at rest place s h in
-    omega arith
-
--- the nodes of a slot that is found stand below the end of all
-pub slot_bounded : (slots : List SymSlot) (place : ℕ) (o : Option (Bor SymSlot)) →
-    option_copied o ≡ slice_get slots place → IfSome o (λ r. slot_end r.now ≤ slots_end slots)
-slot_bounded slots place None h = search rules
-slot_bounded slots place (Some r) h = slots_end_at slots place r.now (sym h)
-
--- the end of the slots with one more
-pub slots_end_push : (xs : List SymSlot) (x : SymSlot) → slots_end (xs ++ x ∷ []) ≡ max (slots_end xs) (slot_end x)
-slots_end_push [] x = omega arith
-slots_end_push (y ∷ xs) x = let rest = slots_end_push xs x in omega (arith, rest)
+use Rattle.sym_forwarding.specs.Offers.{is_up_from, offered_hops, offers, offers_held}
+use Rattle.sym_forwarding.proofs.OwnerHops.{back}
 
 -- what the first of some items gives that pass two tests
 mapped_twice : {A B : Type 0} (f : A → B) (q p : A → Bool) (x : A) (xs : List A) →

@@ -7,9 +7,9 @@ use Rattle.ios_ast.specs.declared.file.File.{File}
 use Rattle.route_record.specs.declared.World.{World}
 use Rattle.question_lang.specs.declared.question.Kind.{Kind}
 use Rattle.term_store.specs.Terms.{Reading}
-use Rattle.sym_walk.specs.declared.forwarding.SymForwarding.{SymForwarding}
-use Rattle.sym_walk.specs.Layers.{Forwarding}
-use Rattle.sym_walk.specs.Symbolic.{forwarding_end, forwarding_of, table_end, table_of}
+use Rattle.sym_forwarding.specs.declared.forwarding.SymForwarding.{SymForwarding}
+use Rattle.sym_forwarding.specs.Layers.{Forwarding}
+use Rattle.sym_forwarding.specs.Symbolic.{forwarding_end, forwarding_of, table_end, table_of}
 use Rattle.sym_walk.specs.TwinTables.{AreTwins, IsTwinOf}
 
 -- an item of a list that is one longer

@@ -35,8 +35,9 @@ use Rattle.sym_policy.specs.Held.{BgpShape, StandsForBgp, bgp_at, bgp_shape}
 use Rattle.sym_policy.specs.declared.records.SymBgp.{SymBgp}
 use Rattle.sym_rib.specs.declared.slots.SymSlot.{SymSlot}
 use Rattle.sym_rib.specs.Slots.{StandsForSlot}
-use Rattle.sym_walk.specs.Seen.{route_towards, seen, seen_tables, seen_world}
-use Rattle.sym_walk.specs.Worlds.{StandForTables, slot_of, tables_of, towards_of}
+use Rattle.sym_policy.specs.Seen.{route_towards, seen, seen_tables, seen_world}
+use Rattle.sym_rib.specs.Worlds.{StandForTables, slot_of, tables_of}
+use Rattle.sym_policy.specs.Seen.{towards_of}
 
 -- ---- slots
 

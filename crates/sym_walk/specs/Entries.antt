@@ -19,7 +19,7 @@ use Rattle.question_lang.specs.Hops.{all_up, entry_at, entry_hops, static_hops}
 use Rattle.term_store.specs.Terms.{Reading}
 use Rattle.sym_rib.specs.declared.slots.SymSlot.{SymSlot}
 use Rattle.sym_rib.specs.Slots.{rib_at}
-use Rattle.sym_walk.specs.Worlds.{slot_of}
+use Rattle.sym_rib.specs.Worlds.{slot_of}
 
 -- those of a connected, a static, an OSPF or a BGP entry
 abbrev pub by_number : ℕ → List Hop → List Hop → List Hop → List Hop → List Hop

@@ -4,9 +4,9 @@ use Rattle.ios_ast.specs.declared.file.File.{File}
 use Rattle.route_record.specs.declared.World.{World}
 use Rattle.question_lang.specs.declared.question.Kind.{Kind}
 use Rattle.question_lang.specs.Hops.{next_hops}
-use Rattle.sym_walk.specs.Here.{ends_here}
-use Rattle.sym_walk.specs.Layers.{Forwarding}
-use Rattle.sym_walk.specs.Twins.{IsTwin, is_sought}
+use Rattle.sym_forwarding.specs.Here.{ends_here}
+use Rattle.sym_forwarding.specs.Layers.{Forwarding}
+use Rattle.sym_forwarding.specs.Twins.{IsTwin, is_sought}
 
 -- the forwarding sends and ends as the next hops of the router do, for a question of that kind
 abbrev pub IsTwinOf : List File → World → Kind → ℕ → Forwarding → Type 0

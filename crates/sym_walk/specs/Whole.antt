@@ -5,7 +5,7 @@ use Rattle.sym_policy.specs.Records.{packet_end}
 use Rattle.sym_ospf.specs.Rows.{net_end}
 use Rattle.term_store.specs.Terms.{Reading}
 use Rattle.sym_walk.specs.declared.breaks.SymWorld.{SymWorld}
-use Rattle.sym_walk.specs.Worlds.{slots_end, world_of}
+use Rattle.sym_rib.specs.Worlds.{slots_end, world_of}
 
 abbrev pub whole_of : Reading → SymWorld → World
 whole_of w world = world_of w world.net world.packet world.slots

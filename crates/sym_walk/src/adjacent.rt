@@ -1,6 +1,6 @@
 //! The next hops of OSPF entries, as forwardings.
 
-ghost use Rattle.std.specs.Prelude.{◌≡◌, ℕ, ◌+◌, ◌<◌, ◌≤◌, ◌==◌, ◌&&◌, Bool, IfOk, [], ◌∷◌, ◌++◌};
+ghost use Rattle.std.specs.Prelude.{◌+◌, ◌<◌, ◌≤◌, ◌&&◌, IfOk, [], ◌∷◌, ◌++◌};
 ghost use Rattle.std.specs.Prelude.{if◌then◌else◌, length};
 ghost use Rattle.std.specs.Prelude.{List as ListOf, map};
 ghost use Rattle.std.specs.Option.{option_map_or};
@@ -11,49 +11,24 @@ ghost use Rattle.question_lang.specs.declared.walk.Hop.{Hop as HopOf};
 ghost use Rattle.question_lang.specs.Hops as hops;
 ghost use Rattle.sym_policy.specs.Held.{failures_of, ospf_of, ospf_end};
 ghost use Rattle.sym_policy.specs.Records.{address_of, packet_end, prefix_of as prefix_read};
-ghost use Rattle.sym_walk.specs.Aims.{sought_by};
-ghost use Rattle.sym_walk.specs.Offers as defined;
-ghost use Rattle.sym_walk.specs.Packets.{packet_of};
-ghost use Rattle.sym_walk.specs.Symbolic.{forwarding_of, forwarding_end};
-ghost use Rattle.sym_walk.specs.Twins.{IsTwin};
-ghost use Rattle.sym_walk.specs.Worlds.{slots_end, tables_of};
-ghost use Rattle.term_store.specs.Terms.{Reading, size, at};
-ghost use Rattle.term_store.specs.Reading.{Reads, Builds, Gives};
-ghost use Rattle.term_arith.specs.Bits.{ids_end, number};
+ghost use Rattle.sym_forwarding.specs.Aims.{sought_by};
+ghost use Rattle.sym_forwarding.specs.Offers as defined;
+ghost use Rattle.sym_policy.specs.Packets.{packet_of};
+ghost use Rattle.sym_forwarding.specs.Symbolic.{forwarding_of, forwarding_end};
+ghost use Rattle.sym_forwarding.specs.Twins.{IsTwin};
+ghost use Rattle.sym_rib.specs.Worlds.{slots_end, tables_of};
+ghost use Rattle.term_store.specs.Terms.{size};
+ghost use Rattle.term_store.specs.Reading.{Builds, Gives};
+ghost use Rattle.term_arith.specs.Bits.{ids_end};
 
-use crate::aims::SymAim;
-use crate::choices::join_forwarding;
-use crate::forwarding::SymForwarding;
-use crate::lists::{sym_arrive, sym_depart};
 use crate::offers::sym_sends_over;
-use mw_text::List;
 use net_model::{Adjacency, Net};
 use std::alloc::{AllocError, Global};
+use sym_forwarding::{SymAim, SymForwarding, join_forwarding, sym_send_adjacent};
 use sym_policy::{SymNet, SymOspf, SymPacket};
 use sym_rib::SymSlot;
 use term_arith::gates::constant_node;
 use term_store::Terms;
-
-/// Over an adjacency: out of the own interface and in at the other router's.
-pub(crate) fn sym_send_adjacent(
-    alloc: Global,
-    terms: &mut Terms,
-    net: &Net,
-    packet: &SymPacket,
-    aim: &SymAim,
-    a: &Adjacency,
-) -> Result<SymForwarding, AllocError>
-    requires packet { packet_end packet.now ≤ size terms.old }
-    requires aim { aim.now.here.0 < size terms.old }
-    ensures builds { Builds terms.old terms.new }
-    ensures within { IfOk result (λ r. forwarding_end r ≤ size terms.new) }
-    ensures value { Gives terms.new result (λ w r. IsTwin (sought_by w aim.now)
-        (hops.send_adjacent net.now (packet_of w packet.now) a.now ∷ []) (forwarding_of w r)) }
-{
-    let on = sym_arrive(alloc, terms, net, packet, aim, a.to)?;
-    let made = sym_depart(alloc, terms, net, packet, aim, a.from, &on)?;
-    Ok(made)
-}
 
 // Over the adjacency, where the entry sends over it, and where the rest does.
 fn sym_adjacent_or(
@@ -134,7 +109,7 @@ pub fn sym_ospf_hops(
     let all = net.adjacencies();
     let never = constant_node(terms, false)?;
     let mut rest = SymForwarding {
-        next: List::new(alloc),
+        next: Vec::new(alloc),
         ends: never,
     };
     for i in (0..all.len()).rev() {

@@ -1,65 +1,45 @@
 //! The next hops of the entry of a slot, as forwardings.
 
-ghost use Rattle.std.specs.Prelude.{◌≡◌, ℕ, ◌+◌, ◌<◌, ◌≤◌, ◌==◌, ◌&&◌, Bool, IfOk, [], ◌∷◌, ◌++◌};
+ghost use Rattle.std.specs.Prelude.{◌≡◌, ◌<◌, ◌≤◌, ◌==◌, IfOk};
 ghost use Rattle.std.specs.Prelude.{if◌then◌else◌, length};
-ghost use Rattle.std.specs.Prelude.{List as ListOf, Option as OptionOf};
+ghost use Rattle.std.specs.Prelude.{List as ListOf};
 ghost use Rattle.mw_text.specs.Address.{prefix_at};
 ghost use Rattle.net_model.specs.Routing.{up_interfaces};
 ghost use Rattle.question_lang.specs.declared.walk.Hop.{Hop as HopOf};
-ghost use Rattle.question_lang.specs.declared.walk.End.{End as EndOf};
 ghost use Rattle.question_lang.specs.Hops as hops;
 ghost use Rattle.sym_ospf.specs.Rows.{net_end};
-ghost use Rattle.sym_policy.specs.Held.{failures_of, ospf_end};
+ghost use Rattle.sym_policy.specs.Held.{failures_of};
 ghost use Rattle.sym_policy.specs.Records.{address_of, packet_end};
 ghost use Rattle.sym_rib.specs.Slots.{slot_end};
-ghost use Rattle.sym_walk.specs.Aims.{sought_by};
+ghost use Rattle.sym_forwarding.specs.Aims.{sought_by};
 ghost use Rattle.sym_walk.specs.Distances.{DistancesIfNeeded};
 ghost use Rattle.sym_walk.specs.Entries as defined;
-ghost use Rattle.sym_walk.specs.Packets.{packet_of};
-ghost use Rattle.sym_walk.specs.Symbolic.{forwarding_of, forwarding_end};
-ghost use Rattle.sym_walk.specs.Twins.{IsTwin};
-ghost use Rattle.sym_walk.specs.Worlds.{slot_of, slots_end, world_of};
-ghost use Rattle.term_store.specs.Terms.{Reading, size, at};
-ghost use Rattle.term_store.specs.Reading.{Reads, Builds, Gives};
+ghost use Rattle.sym_policy.specs.Packets.{packet_of};
+ghost use Rattle.sym_forwarding.specs.Symbolic.{forwarding_of, forwarding_end};
+ghost use Rattle.sym_forwarding.specs.Twins.{IsTwin};
+ghost use Rattle.sym_rib.specs.Worlds.{slot_of, slots_end, world_of};
+ghost use Rattle.term_store.specs.Terms.{size, at};
+ghost use Rattle.term_store.specs.Reading.{Builds, Gives};
 ghost use Rattle.term_arith.specs.Bits.{ids_end, number};
 
 use crate::adjacent::sym_ospf_hops;
-use crate::aims::SymAim;
-use crate::choices::choose_forwarding;
-use crate::connected::sym_connected;
-use crate::forwarding::SymForwarding;
-use crate::statics::sym_statics;
-use crate::towards::sym_bgp_hops;
 use ios_ast::File;
-use mw_text::List;
 use net_model::Net;
 use std::alloc::{AllocError, Global};
+use sym_forwarding::{
+    SymAim, SymForwarding, choose_forwarding, sym_bgp_hops, sym_connected, sym_statics,
+};
 use sym_policy::{SymNet, SymPacket};
 use sym_rib::SymSlot;
 use term_arith::equal_number;
-use term_arith::gates::constant_node;
 use term_store::{NodeId, Terms};
-
-/// A router that does nothing with the packet.
-#[tactic(auto, using(crate::proofs::Twins::still_twin))]
-pub(crate) fn still(alloc: Global, terms: &mut Terms) -> Result<SymForwarding, AllocError>
-    ensures builds { Builds terms.old terms.new }
-    ensures within { IfOk result (λ r. forwarding_end r ≤ size terms.new) }
-    ensures value { Gives terms.new result (λ w r. (sought : EndOf → Bool) → IsTwin sought [] (forwarding_of w r)) }
-{
-    let never = constant_node(terms, false)?;
-    Ok(SymForwarding {
-        next: List::new(alloc),
-        ends: never,
-    })
-}
 
 // Whether the source of the entry has that number.
 fn sym_source(terms: &mut Terms, slot: &SymSlot, source: u64) -> Result<NodeId, AllocError>
     requires slot { slot_end slot.now ≤ size terms.old }
     ensures builds { Builds terms.old terms.new }
     ensures within { IfOk result (λ r. r.0 < size terms.new) }
-    ensures value { Gives terms.new result (λ w r. at w r ≡ (number w slot.now.rib.source.nodes == source)) }
+    ensures value { Gives terms.new result (λ w r. at w r ≡ (number w slot.now.rib.source.nodes.items == source)) }
 {
     equal_number(terms, slot.rib.source.nodes.as_slice(), source)
 }
@@ -89,7 +69,7 @@ fn sym_by_ospf(
     ensures value { Gives terms.new result (λ w r. (others : ListOf HopOf) →
         IsTwin (sought_by w aim.now) others (forwarding_of w rest.now) →
         IsTwin (sought_by w aim.now)
-        (if number w slot.now.rib.source.nodes == 3 then hops.ospf_hops net.now
+        (if number w slot.now.rib.source.nodes.items == 3 then hops.ospf_hops net.now
         (world_of w sym.now packet.now slots.now) router (prefix_at (address_of w packet.now.dst) len)
         (slot_of w slot.now) else others) (forwarding_of w r)) }
 {
@@ -125,9 +105,9 @@ fn sym_by_static(
     ensures value { Gives terms.new result (λ w r. (others : ListOf HopOf) →
         IsTwin (sought_by w aim.now) others (forwarding_of w rest.now) →
         IsTwin (sought_by w aim.now)
-        (if number w slot.now.rib.source.nodes == 1 then defined.static_part net.now (packet_of w packet.now)
+        (if number w slot.now.rib.source.nodes.items == 1 then defined.static_part net.now (packet_of w packet.now)
         (hops.all_up net.now (failures_of w sym.now)) (up_interfaces net.now (failures_of w sym.now) router)
-        file.now.statics (prefix_at (address_of w packet.now.dst) len) (number w slot.now.rib.distance.nodes)
+        file.now.statics (prefix_at (address_of w packet.now.dst) len) (number w slot.now.rib.distance.nodes.items)
         else others) (forwarding_of w r)) }
 {
     let test = sym_source(terms, slot, 1)?;
@@ -171,7 +151,7 @@ fn sym_by_connected(
     ensures value { Gives terms.new result (λ w r. (others : ListOf HopOf) →
         IsTwin (sought_by w aim.now) others (forwarding_of w rest.now) →
         IsTwin (sought_by w aim.now)
-        (if number w slot.now.rib.source.nodes == 0 then hops.connected_hops net.now (packet_of w packet.now)
+        (if number w slot.now.rib.source.nodes.items == 0 then hops.connected_hops net.now (packet_of w packet.now)
         (hops.all_up net.now (failures_of w sym.now)) (up_interfaces net.now (failures_of w sym.now) router)
         (prefix_at (address_of w packet.now.dst) len) else others) (forwarding_of w r)) }
 {

@@ -15,30 +15,24 @@ ghost use Rattle.sym_ospf.specs.Rows.{net_end};
 ghost use Rattle.sym_policy.specs.Held.{failures_of};
 ghost use Rattle.sym_policy.specs.Records.{packet_end};
 ghost use Rattle.sym_rib.specs.Slots.{slot_end};
-ghost use Rattle.sym_walk.specs.Aims.{sought_by};
+ghost use Rattle.sym_forwarding.specs.Aims.{sought_by};
 ghost use Rattle.sym_walk.specs.Distances.{DistancesIfNeeded, DistancesWhereNeeded};
 ghost use Rattle.sym_walk.specs.Entries as defined;
-ghost use Rattle.sym_walk.specs.Packets.{packet_of};
-ghost use Rattle.sym_walk.specs.Symbolic.{forwarding_of, forwarding_end};
-ghost use Rattle.sym_walk.specs.Twins.{IsTwin};
-ghost use Rattle.sym_walk.specs.Worlds.{slots_end, tables_of, world_of};
+ghost use Rattle.sym_forwarding.specs.Symbolic.{forwarding_of, forwarding_end};
+ghost use Rattle.sym_forwarding.specs.Twins.{IsTwin};
+ghost use Rattle.sym_rib.specs.Worlds.{slots_end, tables_of, world_of};
 ghost use Rattle.term_store.specs.Terms.{Reading, size, at};
 ghost use Rattle.term_store.specs.Reading.{Reads, Builds, Gives};
 
-use crate::aims::SymAim;
-use crate::choices::choose_forwarding;
 use crate::entries::sym_entry_hops;
-use crate::forwarding::SymForwarding;
-use crate::lists::sym_ends;
-use crate::offers::slot_for;
-use crate::own::sym_own;
 use ios_ast::File;
 use net_model::Net;
 use question_lang::End;
 use route_record::LENGTHS;
 use std::alloc::{AllocError, Global};
+use sym_forwarding::{SymAim, SymForwarding, choose_forwarding, sym_ends, sym_own};
 use sym_policy::{SymNet, SymPacket};
-use sym_rib::SymSlot;
+use sym_rib::{SymSlot, slot_for};
 use term_store::Terms;
 
 // By the entry of the slot where it has one, and else as given.

@@ -1,44 +1,26 @@
 //! Which OSPF records are offered over adjacencies, as terms (RFC 2328, section 16.1).
 
-ghost use Rattle.std.specs.Prelude.{◌≡◌, ℕ, ◌+◌, ◌*◌, ◌<◌, ◌≤◌, ◌==◌, ◌&&◌, ◌||◌, Bool, false, IfOk};
-ghost use Rattle.std.specs.Prelude.{IfSome, Some, None};
-ghost use Rattle.std.specs.Prelude.{if◌then◌else◌, length, slice_get, map, option_copied};
+ghost use Rattle.std.specs.Prelude.{◌≡◌, ◌<◌, ◌≤◌, ◌&&◌, false, IfOk};
+ghost use Rattle.std.specs.Prelude.{Some, None};
 ghost use Rattle.std.specs.Option.{option_map_or};
 ghost use Rattle.net_model.specs.Sending as sent;
-ghost use Rattle.route_record.specs.declared.TheConstants as constants;
 ghost use Rattle.sym_policy.specs.Held.{failures_of, ospf_of, ospf_end};
 ghost use Rattle.sym_policy.specs.Records.{prefix_of as prefix_read};
-ghost use Rattle.sym_rib.specs.Slots.{slot_end};
-ghost use Rattle.sym_walk.specs.Offers as defined;
-ghost use Rattle.sym_walk.specs.Worlds.{slot_of, slots_end, tables_of};
-ghost use Rattle.term_store.specs.Terms.{Reading, size, at};
-ghost use Rattle.term_store.specs.Reading.{Reads, Builds, Gives};
+ghost use Rattle.sym_forwarding.specs.Offers as defined;
+ghost use Rattle.sym_rib.specs.Worlds.{slots_end, tables_of};
+ghost use Rattle.term_store.specs.Terms.{size, at};
+ghost use Rattle.term_store.specs.Reading.{Builds, Gives};
 ghost use Rattle.term_arith.specs.Bits.{ids_end};
 
 use net_model::{Adjacency, Net};
-use route_record::LENGTHS;
 use std::alloc::{AllocError, Global};
-use sym_ospf::{sym_same_record, sym_transfer, sym_up_at};
+use sym_forwarding::sym_up_from;
+use sym_ospf::{sym_same_record, sym_transfer};
 use sym_policy::{SymNet, SymOspf};
-use sym_rib::SymSlot;
+use sym_rib::{SymSlot, slot_for};
 use term_arith::Bits;
 use term_arith::gates::{both, constant_node};
 use term_store::{NodeId, Terms};
-
-fn slot_there(slots: &[SymSlot], router: u32, len: u8) -> Option<&SymSlot>
-    ensures { option_copied result ≡ slice_get slots.now (constants.LENGTHS * router + len) }
-{
-    let place = LENGTHS * router as usize + len as usize;
-    slots.get(place)
-}
-
-/// The symbolic slot of a router for a prefix length. None exactly where there is none there.
-pub fn slot_for(slots: &[SymSlot], router: u32, len: u8) -> Option<&SymSlot>
-    ensures place { option_copied result ≡ slice_get slots.now (constants.LENGTHS * router + len) }
-    ensures within { IfSome result (λ r. slot_end r.now ≤ slots_end slots.now) }
-{
-    slot_there(slots, router, len)
-}
 
 // Whether both routes are there and are one.
 fn sym_is_held(terms: &mut Terms, held: &SymOspf, offer: &SymOspf) -> Result<NodeId, AllocError>
@@ -55,7 +37,7 @@ fn sym_is_held(terms: &mut Terms, held: &SymOspf, offer: &SymOspf) -> Result<Nod
 }
 
 // Whether `up` is true and the far router of the adjacency offers the held route.
-#[tactic(auto, using(crate::proofs::OfferedHops::slot_read))]
+#[tactic(auto, using(sym_rib::proofs::SlotPlaces::slot_read))]
 fn sym_offers(
     alloc: Global,
     terms: &mut Terms,
@@ -81,29 +63,6 @@ fn sym_offers(
             sym_is_held(terms, held, &offer)
         }
     }
-}
-
-/// Whether the adjacency is one of the router, and both of its interfaces are up.
-pub(crate) fn sym_up_from(
-    alloc: Global,
-    terms: &mut Terms,
-    net: &Net,
-    sym: &SymNet,
-    router: u32,
-    a: &Adjacency,
-) -> Result<NodeId, AllocError>
-    requires downs { ids_end sym.now.down ≤ size terms.old }
-    ensures builds { Builds terms.old terms.new }
-    ensures within { IfOk result (λ r. r.0 < size terms.new) }
-    ensures value { Gives terms.new result (λ w r. at w r ≡
-        defined.is_up_from net.now (failures_of w sym.now) router a.now) }
-{
-    if a.from.router != router {
-        return constant_node(terms, false);
-    }
-    let from = sym_up_at(alloc, terms, net, sym, a.from)?;
-    let to = sym_up_at(alloc, terms, net, sym, a.to)?;
-    both(terms, from, to)
 }
 
 /// Whether the adjacency is one of the router that is up, and its far router offers the held route.

@@ -5,27 +5,24 @@ ghost use Rattle.question_lang.specs.Hops as hops;
 ghost use Rattle.sym_ospf.specs.Rows.{net_end};
 ghost use Rattle.sym_policy.specs.Held.{failures_of};
 ghost use Rattle.sym_policy.specs.Records.{packet_end};
-ghost use Rattle.sym_walk.specs.Aims.{sought_by};
+ghost use Rattle.sym_forwarding.specs.Aims.{sought_by};
 ghost use Rattle.sym_walk.specs.Distances.{DistancesWhereNeeded};
-ghost use Rattle.sym_walk.specs.Here.{ends_here};
-ghost use Rattle.sym_walk.specs.Packets.{packet_of};
-ghost use Rattle.sym_walk.specs.Symbolic.{forwarding_of, forwarding_end, table_end, table_of};
+ghost use Rattle.sym_forwarding.specs.Here.{ends_here};
+ghost use Rattle.sym_policy.specs.Packets.{packet_of};
+ghost use Rattle.sym_forwarding.specs.Symbolic.{forwarding_of, forwarding_end, table_end, table_of};
 ghost use Rattle.sym_walk.specs.TwinTables.{AreTwins};
-ghost use Rattle.sym_walk.specs.Twins.{IsTwin, is_sought};
-ghost use Rattle.sym_walk.specs.Worlds.{slots_end, world_of};
+ghost use Rattle.sym_forwarding.specs.Twins.{IsTwin, is_sought};
+ghost use Rattle.sym_rib.specs.Worlds.{slots_end, world_of};
 ghost use Rattle.term_store.specs.Terms.{Reading, size, at};
 ghost use Rattle.term_store.specs.Reading.{Reads, Builds, Gives};
 
-use crate::aims::SymAim;
-use crate::entries::still;
-use crate::forwarding::SymForwarding;
-use crate::here::sym_here;
 use crate::longest::sym_hops;
 use mw_text::List;
 use net_model::Net;
 use net_model::ends::file_of;
 use question_lang::Kind;
 use std::alloc::{AllocError, Global};
+use sym_forwarding::{SymAim, SymForwarding, still_forwarding, sym_here};
 use sym_policy::{SymNet, SymPacket};
 use sym_rib::SymSlot;
 use term_store::Terms;
@@ -52,7 +49,7 @@ fn sym_next(
 {
     match file_of(net.routers(), router) {
         None => {
-            let none = still(alloc, terms)?;
+            let none = still_forwarding(alloc, terms)?;
             Ok(none)
         }
         Some(file) => {

@@ -20,10 +20,10 @@ use Rattle.walk_def.proofs.Arrivals.{at_target, from_target}
 use Rattle.walk_def.proofs.Members.{last-same}
 use Rattle.walk_def.specs.Arriving.{LastIn, target_end}
 use Rattle.walk_def.specs.Marks.{is_end, known}
-use Rattle.sym_walk.specs.Beginnings.{begins_at}
-use Rattle.sym_walk.specs.Layers.{arrives, going, loops}
-use Rattle.sym_walk.specs.Forwardings.{IsAtTarget, IsDenied, IsSought}
-use Rattle.sym_walk.proofs.Starts.{begins}
+use Rattle.sym_forwarding.specs.Beginnings.{begins_at}
+use Rattle.sym_forwarding.specs.Layers.{arrives, going, loops}
+use Rattle.sym_forwarding.specs.Forwardings.{IsAtTarget, IsDenied, IsSought}
+use Rattle.sym_forwarding.proofs.Starts.{begins}
 use Rattle.walk_finder.specs.declared.rows.Row.{Row}
 use Rattle.walk_finder.specs.Following.{Arrives, EndsOrLoops, Follows}
 use Rattle.walk_finder.specs.Rows.{table_of}

@@ -12,8 +12,8 @@ use Rattle.question_lang.specs.declared.walk.Hop.{Hop}
 use Rattle.question_lang.specs.declared.walk.Hop.TheVariants.{To, Ends}
 use Rattle.walk_def.specs.Arriving.{leads_to_known}
 use Rattle.walk_def.specs.Marks.{known}
-use Rattle.sym_walk.specs.Layers.{Forwarding, arrives, arriving, ends_or_sends, going, leads, loops, sends_on}
-use Rattle.sym_walk.proofs.Marks.{known_mapped}
+use Rattle.sym_forwarding.specs.Layers.{Forwarding, arrives, arriving, ends_or_sends, going, leads, loops, sends_on}
+use Rattle.sym_forwarding.proofs.Marks.{known_mapped}
 use Rattle.walk_finder.specs.declared.rows.Row.{Row}
 use Rattle.walk_finder.specs.Layers.{first_mark, layer, next_mark}
 use Rattle.walk_finder.specs.Rows.{edge_of, forwarding_of, table_of}

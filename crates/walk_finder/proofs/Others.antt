@@ -20,9 +20,9 @@ use Rattle.question_lang.specs.Walks.{GoesOn, IsWalkOver, MayBegin}
 use Rattle.walk_def.proofs.Arrivals.{at_target}
 use Rattle.walk_def.specs.Arriving.{LastIn}
 use Rattle.walk_def.specs.Marks.{is_end}
-use Rattle.sym_walk.specs.Layers.{arrives, silent}
-use Rattle.sym_walk.specs.Forwardings.{IsAtTarget}
-use Rattle.sym_walk.proofs.Passing.{passes, without}
+use Rattle.sym_forwarding.specs.Layers.{arrives, silent}
+use Rattle.sym_forwarding.specs.Forwardings.{IsAtTarget}
+use Rattle.sym_forwarding.proofs.Passing.{passes, without}
 use Rattle.walk_finder.specs.declared.rows.Row.{Row}
 use Rattle.walk_finder.specs.Following.{Arrives}
 use Rattle.walk_finder.specs.Rows.{AreRowsOf, IsRowOf, forwarding_of, silent_row, table_of}

@@ -22,12 +22,12 @@ use Rattle.question_lang.specs.Hops.{next_hops}
 use Rattle.walk_def.proofs.Inside.{next_hops_inside}
 use Rattle.walk_def.proofs.Members.{test-of_item}
 use Rattle.walk_def.specs.Marks.{is_inside}
-use Rattle.sym_walk.specs.Beginnings.{begins_at}
-use Rattle.sym_walk.specs.Layers.{Forwarding, arrives, is_broken}
-use Rattle.sym_walk.specs.Forwardings.{AreForwarding, IsBeginning, IsBeginningOf, IsForwarding, IsSought}
-use Rattle.sym_walk.specs.Forwardings.{sends_to, start_asked}
-use Rattle.sym_walk.proofs.BreakingWalks.{broken_all}
-use Rattle.sym_walk.proofs.Starts.{begins}
+use Rattle.sym_forwarding.specs.Beginnings.{begins_at}
+use Rattle.sym_forwarding.specs.Layers.{Forwarding, arrives, is_broken}
+use Rattle.sym_forwarding.specs.Forwardings.{AreForwarding, IsBeginning, IsBeginningOf, IsForwarding, IsSought}
+use Rattle.sym_forwarding.specs.Forwardings.{sends_to, start_asked}
+use Rattle.sym_forwarding.proofs.BreakingWalks.{broken_all}
+use Rattle.sym_forwarding.proofs.Starts.{begins}
 use Rattle.walk_finder.specs.declared.rows.Row.{Row}
 use Rattle.walk_finder.specs.Rows.{AreRowsOf, edge_of, forwarding_of, table_of}
 use Rattle.walk_finder.specs.Sought.{AreRows, IsBroken, IsRow}

@@ -3,7 +3,7 @@ use Rattle.std.specs.Prelude.{◌≡◌, ℕ, ◌+◌, Bool, true, false, ◌&&�
 use Rattle.std.specs.List.{list_any}
 use Rattle.std.specs.Option.{is_some}
 use Rattle.walk_def.specs.Arriving.{leads_to_known}
-use Rattle.sym_walk.specs.Layers.{Forwarding, arriving, going}
+use Rattle.sym_forwarding.specs.Layers.{Forwarding, arriving, going}
 use Rattle.walk_finder.specs.declared.rows.Row.{Row}
 
 -- the layers of walks that end as looked for, and those of walks that go on

@@ -5,7 +5,7 @@ use Rattle.question_lang.specs.declared.walk.End.{End}
 use Rattle.question_lang.specs.declared.walk.Hop.{Hop}
 use Rattle.question_lang.specs.declared.walk.Hop.TheVariants.{To, Ends}
 use Rattle.walk_def.specs.Marks.{is_end}
-use Rattle.sym_walk.specs.Layers.{Edge, Forwarding}
+use Rattle.sym_forwarding.specs.Layers.{Edge, Forwarding}
 use Rattle.walk_finder.specs.declared.rows.Row.{Row}
 
 -- the router to which a hop leads; none, where it ends

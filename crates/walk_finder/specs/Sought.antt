@@ -11,7 +11,7 @@ use Rattle.question_lang.specs.declared.walk.Walk.{Walk}
 use Rattle.question_lang.specs.Breaking.{Breaks}
 use Rattle.question_lang.specs.Hops.{next_hops}
 use Rattle.question_lang.specs.Walks.{IsTestedIn}
-use Rattle.sym_walk.specs.Forwardings.{IsSought}
+use Rattle.sym_forwarding.specs.Forwardings.{IsSought}
 use Rattle.walk_finder.specs.declared.rows.Row.{Row}
 
 -- the row has the router's next hops, and one of its ends that the question looks for, where there is one

@@ -4,8 +4,8 @@ ghost use Rattle.std.specs.Prelude.{◌≡◌, ◌⊎◌, None, Some, true, fals
 ghost use Rattle.question_lang.specs.declared.question.Target.{Target as TargetOf};
 ghost use Rattle.question_lang.specs.Breaking as breaking;
 ghost use Rattle.question_lang.specs.Walks.{IsTestedIn};
-ghost use Rattle.sym_walk.specs.Forwardings.{IsDenied};
-ghost use Rattle.sym_walk.specs.Layers.{arrives, loops};
+ghost use Rattle.sym_forwarding.specs.Forwardings.{IsDenied};
+ghost use Rattle.sym_forwarding.specs.Layers.{arrives, loops};
 ghost use Rattle.walk_finder.specs.Following.{EndsOrLoops};
 ghost use Rattle.walk_finder.specs.Rows.{silent_row, table_of};
 ghost use Rattle.walk_finder.specs.Sought.{IsBroken, IsDeniedWalk};

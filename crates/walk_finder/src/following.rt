@@ -7,7 +7,7 @@ ghost use Rattle.std.specs.Option.{is_some, option_copied};
 ghost use Rattle.question_lang.specs.declared.walk.End.{End as EndOf};
 ghost use Rattle.question_lang.specs.declared.walk.Hop.{Hop as HopOf};
 ghost use Rattle.question_lang.specs.Walks.{LeadsTo};
-ghost use Rattle.sym_walk.specs.Layers.{arrives, going, loops};
+ghost use Rattle.sym_forwarding.specs.Layers.{arrives, going, loops};
 ghost use Rattle.walk_def.specs.Arriving.{leads_to_known};
 ghost use Rattle.walk_def.specs.Marks.{known};
 ghost use Rattle.walk_finder.specs.declared.rows.Row.{Row as RowOf};

@@ -3,7 +3,7 @@
 ghost use Rattle.std.specs.Prelude.{◌≡◌, Contains, None, true, false, IfOk, IfSome};
 ghost use Rattle.proto_ospf.specs.Reached.{all_reached};
 ghost use Rattle.question_lang.specs.declared.walk.End.{End as EndOf};
-ghost use Rattle.sym_walk.specs.Forwardings.{IsAtTarget, IsSought};
+ghost use Rattle.sym_forwarding.specs.Forwardings.{IsAtTarget, IsSought};
 ghost use Rattle.walk_finder.specs.Sought.{AreRows, IsRow};
 
 use crate::rows::Row;

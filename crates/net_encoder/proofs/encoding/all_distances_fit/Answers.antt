@@ -3,7 +3,7 @@ use Rattle.std.proofs.lemmas.List.{take_all}
 use Rattle.std.proofs.lemmas.List.Elements.{All-more}
 use Rattle.ios_ast.specs.declared.file.File.{File}
 use Rattle.ios_ast.specs.declared.file.StaticRoute.{StaticRoute}
-use Rattle.net_encoder.specs.Worlds.{FitsDistance}
+use Rattle.world_variables.specs.Worlds.{FitsDistance}
 use Rattle.net_encoder.proofs.encoding.all_distances_fit.Goals as goal
 
 pub loop-file-preserved : goal.loop-file-preserved

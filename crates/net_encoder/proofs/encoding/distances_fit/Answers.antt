@@ -1,7 +1,7 @@
 use Rattle.std.proofs.Common.{All, arith, subst}
 use Rattle.std.proofs.lemmas.List.{take_all}
 use Rattle.std.proofs.lemmas.List.Elements.{All-more}
-use Rattle.net_encoder.specs.Worlds.{FitsDistance}
+use Rattle.world_variables.specs.Worlds.{FitsDistance}
 use Rattle.net_encoder.proofs.encoding.distances_fit.Goals as goal
 
 pub loop-route-preserved : goal.loop-route-preserved

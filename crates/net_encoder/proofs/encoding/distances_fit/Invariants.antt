@@ -1,6 +1,6 @@
 use Rattle.std.proofs.Common.{take}
 use Rattle.std.specs.Prelude.{All}
-use Rattle.net_encoder.specs.Worlds.{FitsDistance}
+use Rattle.world_variables.specs.Worlds.{FitsDistance}
 use Rattle.net_encoder.proofs.encoding.distances_fit.Given as goal
 
 abbrev pub invariant-loop-route : goal.invariant-loop-route

@@ -3,7 +3,7 @@ use Rattle.ios_ast.specs.declared.file.File.{File}
 use Rattle.route_record.specs.declared.World.{World}
 use Rattle.question_lang.specs.Breaking.{Breaks}
 use Rattle.term_store.specs.Terms.{reading_of, truth}
-use Rattle.net_encoder.specs.Worlds.{FitsDistance, IsEncodable, is_routing, world_bits, world_from}
+use Rattle.world_variables.specs.Worlds.{FitsDistance, IsEncodable, is_routing, world_bits, world_from}
 use Rattle.mw_text.proofs.Lists.{all_found}
 use Rattle.net_encoder.proofs.encoding.encode.Goals as goal
 
@@ -20,8 +20,8 @@ returns-clause-sound c = λ valuation holds.
           all_found (λ (f : File). All FitsDistance f.statics) files router file fits found;
       packets = c.packets_fit.ensures;
     } in
-    let w = reading_of c.root_of.new.terms.nodes valuation in
-    let found = c.in_ok-made.ensures.sound w (c.valuation_reads.ensures valuation) holds in
+    let w = reading_of c.rooted.new.terms.nodes valuation in
+    let found = (c.in_ok-made.ensures.value w (c.valuation_reads.ensures valuation)).sound holds in
     let none = c.new-terms.ensures.vars in
     let R : ℕ → Type 0 = λ from. is_routing files question (truth valuation) from ≡ true in
     let B : ℕ → Type 0 = λ from.
@@ -45,12 +45,12 @@ returns-clause-complete c = λ world environment walk breaking.
       packets = c.packets_fit.ensures;
     } in
     let bits = world_bits files question world in
-    let w = reading_of c.root_of.new.terms.nodes bits in
+    let w = reading_of c.rooted.new.terms.nodes bits in
     let here = c.routing_law.ensures.complete files question world environment walk (truth bits) 0 encodable breaking
     (c.row_law.ensures bits) in
     let none = sym c.new-terms.ensures.vars in
     let R : ℕ → Type 0 = λ from. is_routing files question (truth bits) from ≡ true in
     let B : ℕ → Type 0 = λ from. Breaks files (world_from files question (truth bits) from) question.kind walk in
     let P : World → Type 0 = λ x. Breaks files x question.kind walk in
-    c.in_ok-made.ensures.complete w (c.valuation_reads.ensures bits) walk (subst R none here.1)
+    (c.in_ok-made.ensures.value w (c.valuation_reads.ensures bits)).complete walk (subst R none here.1)
     (subst B none (subst P (sym here.0) breaking.breaks))

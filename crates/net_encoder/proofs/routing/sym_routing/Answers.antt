@@ -4,16 +4,19 @@ use Rattle.sym_policy.specs.Held.{failures_of}
 use Rattle.sym_policy.specs.Records.{address_of}
 use Rattle.sym_rib.specs.declared.slots.SymSlot.{SymSlot}
 use Rattle.sym_walk.specs.Whole.{whole_of}
-use Rattle.sym_walk.specs.Worlds.{tables_of, slot_of as slot_read}
-use Rattle.net_encoder.specs.declared.opens.SymOpen.{SymOpen}
-use Rattle.net_encoder.specs.Equations.{AreBare}
-use Rattle.net_encoder.specs.Slots.{all_hold, slots_of}
-use Rattle.net_encoder.specs.Symbols.{open_of}
+use Rattle.sym_rib.specs.Worlds.{tables_of, slot_of as slot_read}
+use Rattle.world_variables.specs.declared.opens.SymOpen.{SymOpen}
+use Rattle.ospf_equations.specs.Equations.{AreBare}
+use Rattle.world_variables.specs.Slots.{all_hold, slots_of}
+use Rattle.world_variables.specs.Symbols.{open_of}
 use Rattle.net_encoder.proofs.RoutingSteps.{routing_is, slots_are}
 use Rattle.net_encoder.proofs.routing.sym_routing.Goals as goal
 
 pub returns-clause-value : goal.returns-clause-value
-returns-clause-value c = λ w reads from bare opens same.
+returns-clause-value c = λ w reads from read.
+    let bare = read.bare in
+    let opens = read.parts in
+    let same = read.value in
     let r2 = c.both-2.ensures.builds.reads w reads in
     let r1 = c.both.ensures.builds.reads w r2 in
     let r0 = c.sym_all_hold.ensures.builds.reads w r1 in

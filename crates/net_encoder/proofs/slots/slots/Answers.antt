@@ -4,14 +4,15 @@ use Rattle.route_record.specs.declared.Slot.{Slot}
 use Rattle.net_model.specs.Tracked.{tracked_of}
 use Rattle.sym_policy.specs.Held.{failures_of}
 use Rattle.sym_policy.specs.Records.{address_of}
-use Rattle.sym_walk.specs.Worlds.{slots_end, slot_of as slot_read}
+use Rattle.sym_rib.specs.Worlds.{slots_end, slot_of as slot_read}
 use Rattle.term_store.specs.Terms.{size}
-use Rattle.net_encoder.specs.declared.opens.SymOpen.{SymOpen}
-use Rattle.net_encoder.specs.Equations.{AreBare, HaveTracked}
-use Rattle.net_encoder.specs.Slots.{slots_of}
-use Rattle.net_encoder.specs.Symbols.{open_of}
-use Rattle.net_encoder.proofs.SlotSteps.{bare_push, slots_next, slots_push, tracked_push}
-use Rattle.sym_walk.proofs.OfferedHops.{slots_end_push}
+use Rattle.world_variables.specs.declared.opens.SymOpen.{SymOpen}
+use Rattle.ospf_equations.specs.Equations.{AreBare, HaveTracked}
+use Rattle.world_variables.specs.Slots.{slots_of}
+use Rattle.world_variables.specs.Symbols.{open_of}
+use Rattle.net_encoder.proofs.SlotSteps.{bare_push, slots_push, tracked_push}
+use Rattle.world_variables.proofs.DecodingSteps.{slots_next}
+use Rattle.sym_rib.proofs.SlotPlaces.{slots_end_push}
 use Rattle.net_encoder.proofs.slots.slots.Goals as goal
 
 pub loop-place-preserved : goal.loop-place-preserved

@@ -2,12 +2,12 @@ use Rattle.std.proofs.Common.{◌≡◌, ◌≤◌, ◌++◌, drop, map}
 use Rattle.net_model.specs.Tracked.{tracked_of}
 use Rattle.sym_policy.specs.Held.{failures_of}
 use Rattle.sym_policy.specs.Records.{address_of}
-use Rattle.sym_walk.specs.Worlds.{slots_end, slot_of as slot_read}
+use Rattle.sym_rib.specs.Worlds.{slots_end, slot_of as slot_read}
 use Rattle.term_store.specs.Terms.{Reading, size}
 use Rattle.term_store.specs.Reading.{Reads, Builds}
-use Rattle.net_encoder.specs.Equations.{AreBare, HaveTracked}
-use Rattle.net_encoder.specs.Slots.{slots_of}
-use Rattle.net_encoder.specs.Symbols.{open_of}
+use Rattle.ospf_equations.specs.Equations.{AreBare, HaveTracked}
+use Rattle.world_variables.specs.Slots.{slots_of}
+use Rattle.world_variables.specs.Symbols.{open_of}
 use Rattle.net_encoder.proofs.slots.slots.Given as goal
 
 -- the slots so far, with those that are left, are all

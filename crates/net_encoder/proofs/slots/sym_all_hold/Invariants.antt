@@ -1,12 +1,12 @@
 use Rattle.std.proofs.Common.{◌≡◌, ◌<◌, ◌&&◌, drop, map}
 use Rattle.sym_policy.specs.Held.{failures_of}
 use Rattle.sym_policy.specs.Records.{address_of}
-use Rattle.sym_walk.specs.Worlds.{tables_of, slot_of as slot_read}
+use Rattle.sym_rib.specs.Worlds.{tables_of, slot_of as slot_read}
 use Rattle.term_store.specs.Terms.{Reading, at, size}
 use Rattle.term_store.specs.Reading.{Reads, Builds}
-use Rattle.net_encoder.specs.Equations.{AreBare}
-use Rattle.net_encoder.specs.Slots.{all_hold, slots_of}
-use Rattle.net_encoder.specs.Symbols.{open_of}
+use Rattle.ospf_equations.specs.Equations.{AreBare}
+use Rattle.world_variables.specs.Slots.{all_hold, slots_of}
+use Rattle.world_variables.specs.Symbols.{open_of}
 use Rattle.net_encoder.proofs.slots.sym_all_hold.Given as goal
 
 -- those so far hold and those that are left do, exactly where all do

@@ -2,8 +2,8 @@ use Rattle.std.proofs.Common.{subst}
 use Rattle.route_record.specs.declared.tracked.Tracked.{Tracked}
 use Rattle.sym_policy.specs.Held.{ospf_of}
 use Rattle.sym_rib.specs.Slots.{StandsForSlot}
-use Rattle.net_encoder.specs.Slots.{bare}
-use Rattle.net_encoder.proofs.BareSlots.{bare_towards}
+use Rattle.world_variables.specs.Slots.{bare}
+use Rattle.ospf_equations.proofs.BareSlots.{bare_towards}
 use Rattle.net_encoder.proofs.tables.slot.Goals as goal
 
 pub returns-clause-bare : goal.returns-clause-bare

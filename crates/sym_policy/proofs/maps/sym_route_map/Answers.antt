@@ -1,10 +1,9 @@
-use Rattle.std.proofs.Common.{◌≡◌, ◌∙◌, if◌then◌else◌, None, ap}
+use Rattle.std.proofs.Common.{◌∙◌, if◌then◌else◌, None, ap}
 use Rattle.std.specs.Option.{option_and_then}
 use Rattle.term_store.specs.Terms.{at}
 use Rattle.route_record.specs.Sides.{at_external}
 use Rattle.sym_policy.specs.MapRecs.{attributes_at}
 use Rattle.sym_policy.specs.Records.{prefix_of}
-use Rattle.sym_policy.specs.Routes.{route_at}
 use Rattle.sym_policy.specs.Shapes.{shape_mapped}
 use Rattle.sym_policy.proofs.Choices.{mapped_there}
 use Rattle.sym_policy.proofs.ShapeLaw.{shape_mapped-route_shape}
@@ -16,11 +15,10 @@ returns-clause-value c = λ w reads.
     let rec = c.args.rec.now in
     let map = shape_mapped c.args.policies.now c.args.map.now.entries c.args.tracked.now
     (prefix_of w c.args.dst.now c.args.len) in
-    c.in_ok-left.ensures.value w reads
+    c.in_ok-left.ensures.made.value w reads
     ∙ ap (λ m. if at w rec.bgp.valid then m else None)
     (c.in_ok-made.ensures.value w before
-    ∙ ap (λ e. map e (route_at w c.in_ok-route.route)) c.is_external-external.ensures
-    ∙ ap (map (at_external c.args.side)) (c.in_ok-route.ensures.value w))
+    ∙ ap (λ e. map e (attributes_at w rec)) c.is_external-external.ensures)
     ∙ mapped_there (at w rec.bgp.valid) (attributes_at w rec) (map (at_external c.args.side))
 
 pub returns-clause-stands : goal.returns-clause-stands

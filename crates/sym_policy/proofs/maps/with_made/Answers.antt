@@ -1,16 +1,10 @@
-use Rattle.std.proofs.Common.{◌≡◌, ◌∙◌, if◌then◌else◌, Some, None, ap}
-use Rattle.term_store.specs.Terms.{at}
-use Rattle.sym_policy.specs.MapRecs.{attributes_at}
-use Rattle.sym_policy.specs.Routes.{route_at}
-use Rattle.sym_policy.proofs.Choices.{both_there}
+use Rattle.std.proofs.Math.Nat.{le_trans}
+use Rattle.sym_policy.proofs.SameNodes.{made_joined}
 use Rattle.sym_policy.proofs.maps.with_made.Goals as goal
 
-pub returns-clause-value : goal.returns-clause-value
-returns-clause-value c = λ w reads.
-    let left = c.in_ok-left.left in
-    let valid = c.in_ok-valid.valid in
-    let route = route_at w c.args.made.route in
-    ap (λ v. if at w v then Some (attributes_at w left) else None) c.in_ok-left.ensures.valid
-    ∙ ap (λ a. if at w valid then Some a else None) (c.in_ok-left.ensures.value w)
-    ∙ ap (λ b. if b then Some route else None) (c.in_ok-valid.ensures.value w reads)
-    ∙ both_there (at w c.args.rec.now.bgp.valid) (at w c.args.made.valid) route
+pub returns-clause-made : goal.returns-clause-made
+returns-clause-made c =
+    let valid = c.in_ok-valid.ensures in
+    made_joined c.both.new.terms c.args.rec.now c.joined.result c.args.made c.in_ok-valid.valid c.in_ok-rest.rest
+    (le_trans c.requires.nodes valid.builds.larger) (le_trans c.requires.made valid.builds.larger) valid.within
+    valid.value c.in_ok-rest.ensures c.joined.ensures

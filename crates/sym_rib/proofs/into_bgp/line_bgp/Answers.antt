@@ -1,4 +1,4 @@
-use Rattle.std.proofs.Common.{ℕ, Option, None, ◌∙◌, ap}
+use Rattle.std.proofs.Common.{ℕ, Option, ◌∙◌, ap}
 use Rattle.std.specs.Prelude.{◌==◌, unwrap_or}
 use Rattle.std.proofs.lemmas.Bool.{eqb-true, false_from_ne_true}
 use Rattle.std.specs.Option.{option_and_then, option_map}
@@ -8,7 +8,7 @@ use Rattle.route_record.specs.declared.RibEntry.{RibEntry}
 use Rattle.net_model.specs.Origins.{is_default, local_route, local_through, taken_metric}
 use Rattle.sym_policy.specs.Held.{BgpShape, bgp_shape}
 use Rattle.sym_policy.specs.Records.{prefix_of}
-use Rattle.sym_rib.proofs.LocalRoutes.{line_by, line_none}
+use Rattle.sym_rib.proofs.LocalRoutes.{line_by}
 use Rattle.sym_rib.proofs.into_bgp.line_bgp.Goals as goal
 
 pub returns-clause-value : goal.returns-clause-value

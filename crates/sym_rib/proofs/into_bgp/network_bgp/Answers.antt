@@ -8,8 +8,7 @@ use Rattle.net_model.specs.Origins.{entry_metric, local_route, local_through}
 use Rattle.sym_policy.specs.Held.{BgpShape, bgp_shape}
 use Rattle.sym_policy.specs.Records.{prefix_of}
 use Rattle.term_store.specs.Terms.{at}
-use Rattle.sym_rib.specs.IntoBgp.{metric_of}
-use Rattle.sym_rib.proofs.LocalRoutes.{network_by, network_none}
+use Rattle.sym_rib.proofs.LocalRoutes.{network_by}
 use Rattle.sym_rib.proofs.into_bgp.network_bgp.Goals as goal
 
 pub returns-clause-value : goal.returns-clause-value

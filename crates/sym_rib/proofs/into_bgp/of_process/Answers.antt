@@ -1,4 +1,4 @@
-use Rattle.std.proofs.Common.{List, ◌++◌, ◌∙◌, ap, ap₂, map, sym}
+use Rattle.std.proofs.Common.{◌++◌, ◌∙◌, ap, ap₂, map, sym}
 use Rattle.std.specs.List.{filter_map}
 use Rattle.std.proofs.lemmas.List.{map-append}
 use Rattle.net_model.specs.Origins.{by_network, into_bgp, local_routes}

@@ -1,9 +1,8 @@
-use Rattle.std.proofs.Common.{Bool, Option, Some, None, ◌&&◌, ◌∙◌, ap, if◌then◌else◌}
+use Rattle.std.proofs.Common.{Bool, Option, Some, None, ◌&&◌, ◌∙◌, ap, if◌then◌else◌, false}
 use Rattle.std.specs.Option.{option_and_then}
 use Rattle.route_record.specs.declared.OspfRec.{OspfRec}
 use Rattle.net_model.specs.Mapping.{through_map}
 use Rattle.net_model.specs.Origins.{external_record, redistributed_route}
-use Rattle.sym_policy.specs.MapRecs.{attributes_at}
 use Rattle.sym_policy.specs.Records.{prefix_of}
 use Rattle.term_store.specs.Terms.{at}
 use Rattle.term_arith.specs.Bits.{number}
@@ -16,19 +15,18 @@ returns-clause-value c = λ w reads held all stands.
     let made = c.in_ok-made.ensures in
     let valid = c.in_ok-valid.ensures in
     let left = c.in_ok-left.ensures in
-    let taken = c.in_ok-taken.ensures in
     let before_made = made.builds.reads w reads in
     let before_valid = valid.builds.reads w before_made in
     let before_left = left.builds.reads w before_valid in
-    let rec = c.in_ok-left.left in
+    let part = c.in_ok-left.left in
     let slot = c.args.slot.now in
     let line = c.args.line.now in
     let p = prefix_of w c.args.dst.now c.args.len in
-    let there : Bool → Option OspfRec =
-    λ b. if b then Some (external_record (at w rec.type1) (number w rec.bgp.med.nodes)) else None in
+    let brought = external_record (at w part.type1) (number w part.metric.nodes.items) in
+    let there : Bool → Option OspfRec = λ b. if b then Some brought else None in
     made.value w reads
-    ∙ ap there (valid.value w before_made ∙ ap (λ b. b && at w rec.bgp.valid) (taken.value w before_left))
-    ∙ line_stands c.args.tracked.now line p (at w slot.rib.valid) (at w rec.bgp.valid) (rib_at w slot.rib)
-    (attributes_at w rec) held.rib
-    (option_and_then (through_map c.args.file.now.policies line.map p Bool.false) (redistributed_route line held))
+    ∙ ap there (valid.value w before_made
+    ∙ ap (λ b. b && at w part.valid) (c.in_ok-taken.ensures.value w before_left))
+    ∙ line_stands line p (at w slot.rib.valid) (at w part.valid) (rib_at w slot.rib) brought held.rib
+    (option_and_then (through_map c.args.file.now.policies line.map p false) (redistributed_route line held))
     stands.rib (left.value w before_valid held all stands.bgp)

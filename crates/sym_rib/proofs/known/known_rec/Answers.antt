@@ -1,6 +1,4 @@
 use Rattle.sym_rib.proofs.known.known_rec.Goals as goal
 
 pub returns-clause-own : goal.returns-clause-own
-returns-clause-own c = λ w reads.
-    c.assembled.ensures.own w c.args.tracked.now
-    (c.in_ok-rest.ensures.own w (c.in_ok-node.ensures.builds.reads w reads))
+returns-clause-own c = λ w reads. c.assembled.ensures.own w c.args.tracked.now (c.in_ok-rest.ensures.own w reads)

@@ -18,15 +18,15 @@ returns-clause-value c = λ w reads held process ospf rib.
     let subnet = c.in_ok-subnet.ensures in
     let connected = c.in_ok-connected.ensures in
     let before_made = made.builds.reads w reads in
-    let before_zero = zero.builds.reads w before_made in
+    let before_ospf = c.in_ok-ospf.ensures.builds.reads w before_made in
+    let before_zero = zero.builds.reads w before_ospf in
     let before_subnet = subnet.builds.reads w before_zero in
-    let before_connected = connected.builds.reads w before_subnet in
     let line = c.args.line.now in
     let files = c.args.net.now in
     let router = c.args.router in
     let p = prefix_of w c.args.dst.now c.args.len in
     let entry = c.args.slot.now.rib in
-    let n = number w entry.source.nodes in
+    let n = number w entry.source.nodes.items in
     let there = at w entry.valid in
     let of_entry : RibEntry → Option ℕ =
     λ e. taken_metric files router p held (record line { source = source.Ospf process }) e.source in
@@ -34,9 +34,9 @@ returns-clause-value c = λ w reads held process ospf rib.
     λ o z. if there then (if n == 3 then o else (if z then Some 0 else None)) else None in
     made.value w reads
     ∙ ap₂ by
-    (c.in_ok-ospf.ensures.value w before_connected
+    (c.in_ok-ospf.ensures.value w before_made
     ∙ ap (option_and_then (λ x. if takes_kind line x.kind then Some (ospf_metric x) else None)) ospf)
-    (zero.value w before_made
+    (zero.value w before_ospf
     ∙ ap₂ (λ a b. a && b) (connected.value w before_subnet) (subnet.value w before_zero))
     ∙ ap (λ m. if there then m else None) (ospf_numbered files router p held line process n)
     ∙ there_or there (rib_at w entry) of_entry

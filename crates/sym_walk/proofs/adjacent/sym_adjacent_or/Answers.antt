@@ -2,12 +2,12 @@ use Rattle.std.proofs.Common.{◌&&◌, [], ◌∷◌}
 use Rattle.question_lang.specs.Hops.{send_adjacent}
 use Rattle.sym_policy.specs.Held.{failures_of, ospf_of}
 use Rattle.sym_policy.specs.Records.{prefix_of}
-use Rattle.sym_walk.specs.Aims.{sought_by}
-use Rattle.sym_walk.specs.Offers.{is_up_from, offers}
-use Rattle.sym_walk.specs.Packets.{packet_of}
-use Rattle.sym_walk.specs.Symbolic.{forwarding_of}
-use Rattle.sym_walk.specs.Worlds.{tables_of}
-use Rattle.sym_walk.proofs.Twins.{united_twin}
+use Rattle.sym_forwarding.specs.Aims.{sought_by}
+use Rattle.sym_forwarding.specs.Offers.{is_up_from, offers}
+use Rattle.sym_policy.specs.Packets.{packet_of}
+use Rattle.sym_forwarding.specs.Symbolic.{forwarding_of}
+use Rattle.sym_rib.specs.Worlds.{tables_of}
+use Rattle.sym_forwarding.proofs.Twins.{united_twin}
 use Rattle.term_store.specs.Terms.{at}
 use Rattle.sym_walk.proofs.adjacent.sym_adjacent_or.Goals as goal
 

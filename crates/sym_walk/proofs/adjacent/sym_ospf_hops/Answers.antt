@@ -3,12 +3,12 @@ use Rattle.net_model.specs.declared.adjacencies.Adjacency.{Adjacency}
 use Rattle.question_lang.specs.declared.walk.Hop.{Hop}
 use Rattle.sym_policy.specs.Held.{failures_of, ospf_of}
 use Rattle.sym_policy.specs.Records.{prefix_of}
-use Rattle.sym_walk.specs.Aims.{sought_by}
-use Rattle.sym_walk.specs.Offers.{offered_hops}
-use Rattle.sym_walk.specs.Packets.{packet_of}
-use Rattle.sym_walk.specs.Symbolic.{forwarding_of}
-use Rattle.sym_walk.specs.Twins.{IsTwin}
-use Rattle.sym_walk.specs.Worlds.{tables_of}
+use Rattle.sym_forwarding.specs.Aims.{sought_by}
+use Rattle.sym_forwarding.specs.Offers.{offered_hops}
+use Rattle.sym_policy.specs.Packets.{packet_of}
+use Rattle.sym_forwarding.specs.Symbolic.{forwarding_of}
+use Rattle.sym_forwarding.specs.Twins.{IsTwin}
+use Rattle.sym_rib.specs.Worlds.{tables_of}
 use Rattle.sym_walk.proofs.OfferedHops.{no_adjacency, offered_all, offered_back}
 use Rattle.sym_walk.proofs.adjacent.sym_ospf_hops.Goals as goal
 

@@ -1,9 +1,9 @@
 use Rattle.std.proofs.Common.{◌∙◌, List, length, subst, sym}
 use Rattle.sym_rib.specs.declared.slots.SymSlot.{SymSlot}
 use Rattle.sym_walk.specs.Distances.{DistancesWhereNeeded}
-use Rattle.sym_walk.specs.Symbolic.{beginning_of, table_of}
+use Rattle.sym_forwarding.specs.Symbolic.{beginning_of, table_of}
 use Rattle.sym_walk.specs.TwinTables.{AreTwins}
-use Rattle.sym_walk.specs.Worlds.{world_of}
+use Rattle.sym_rib.specs.Worlds.{world_of}
 use Rattle.sym_walk.specs.Whole.{whole_of}
 use Rattle.sym_walk.proofs.BrokenWorlds.{breaks_all, walk_breaks}
 use Rattle.sym_walk.proofs.breaks.sym_breaks.Goals as goal

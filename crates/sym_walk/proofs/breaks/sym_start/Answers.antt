@@ -1,9 +1,9 @@
 use Rattle.std.proofs.Common.{◌≡◌, ◌∙◌, subst}
 use Rattle.question_lang.specs.declared.question.Start.{Start}
 use Rattle.sym_policy.specs.Held.{failures_of}
-use Rattle.sym_walk.specs.Beginnings.{begins_at}
-use Rattle.sym_walk.specs.Packets.{packet_of}
-use Rattle.sym_walk.specs.Symbolic.{beginning_of}
+use Rattle.sym_forwarding.specs.Beginnings.{begins_at}
+use Rattle.sym_policy.specs.Packets.{packet_of}
+use Rattle.sym_forwarding.specs.Symbolic.{beginning_of}
 use Rattle.sym_walk.proofs.breaks.sym_start.Goals as goal
 
 pub returns-in_ok-made-in-Some-clause-value : goal.returns-in_ok-made-in-Some-clause-value

@@ -1,5 +1,5 @@
 use Rattle.std.proofs.Common.{sym}
-use Rattle.sym_walk.specs.Worlds.{tables_of}
+use Rattle.sym_rib.specs.Worlds.{tables_of}
 use Rattle.sym_walk.proofs.SameWalks.{breaks_same}
 use Rattle.sym_walk.proofs.Seen.{hops_stand}
 use Rattle.sym_walk.proofs.laws.tables_law.Goals as goal

@@ -1,11 +1,11 @@
 use Rattle.net_model.specs.Routing.{up_interfaces}
 use Rattle.question_lang.specs.Hops.{all_up}
 use Rattle.sym_policy.specs.Held.{failures_of}
-use Rattle.sym_walk.specs.Aims.{sought_by}
+use Rattle.sym_forwarding.specs.Aims.{sought_by}
 use Rattle.sym_walk.specs.Entries.{entry_of}
-use Rattle.sym_walk.specs.Symbolic.{forwarding_of}
-use Rattle.sym_walk.specs.Worlds.{world_of}
-use Rattle.sym_walk.proofs.Twins.{chosen_lists}
+use Rattle.sym_forwarding.specs.Symbolic.{forwarding_of}
+use Rattle.sym_rib.specs.Worlds.{world_of}
+use Rattle.sym_forwarding.proofs.Twins.{chosen_lists}
 use Rattle.std.proofs.Common.{refl}
 use Rattle.term_store.specs.Terms.{at}
 use Rattle.sym_walk.proofs.longest.sym_by_slot.Goals as goal

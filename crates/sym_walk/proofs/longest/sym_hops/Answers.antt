@@ -7,11 +7,11 @@ use Rattle.question_lang.specs.declared.walk.Hop.TheVariants.{Ends}
 use Rattle.question_lang.specs.Hops.{longest_below}
 use Rattle.route_record.specs.declared.TheConstants.{LENGTHS}
 use Rattle.sym_policy.specs.Held.{failures_of}
-use Rattle.sym_walk.specs.Aims.{sought_by}
+use Rattle.sym_forwarding.specs.Aims.{sought_by}
 use Rattle.sym_walk.specs.Entries.{by_entry}
-use Rattle.sym_walk.specs.Symbolic.{forwarding_of}
-use Rattle.sym_walk.specs.Worlds.{tables_of, world_of}
-use Rattle.sym_walk.proofs.Twins.{chosen_lists}
+use Rattle.sym_forwarding.specs.Symbolic.{forwarding_of}
+use Rattle.sym_rib.specs.Worlds.{tables_of, world_of}
+use Rattle.sym_forwarding.proofs.Twins.{chosen_lists}
 use Rattle.term_arith.specs.Bits.{number}
 use Rattle.term_store.specs.Terms.{at}
 use Rattle.sym_walk.proofs.longest.sym_hops.Goals as goal
@@ -27,7 +27,7 @@ returns-clause-value c = λ w reads needed.
     let net = c.args.net.now in
     let mine = up_interfaces net (failures_of w c.args.sym.now) c.args.router in
     chosen_lists (sought_by w c.args.aim.now) (at w c.in_ok-own.own)
-    (list_any (λ x. x.addr.0 == number w c.args.packet.now.dst.nodes) mine)
+    (list_any (λ x. x.addr.0 == number w c.args.packet.now.dst.nodes.items) mine)
     (Ends Delivered ∷ [])
     (by_entry net (world_of w c.args.sym.now c.args.packet.now c.args.slots.now) c.args.router c.args.file.now
     (longest_below (tables_of w c.args.slots.now) c.args.router LENGTHS))

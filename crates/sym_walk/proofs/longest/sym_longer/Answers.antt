@@ -2,12 +2,12 @@ use Rattle.std.proofs.Common.{◌+◌, ◌*◌, List, subst, sym}
 use Rattle.mw_text.proofs.Lists.{all_found}
 use Rattle.question_lang.specs.declared.walk.Hop.{Hop}
 use Rattle.route_record.specs.declared.TheConstants.{LENGTHS}
-use Rattle.sym_walk.specs.Aims.{sought_by}
+use Rattle.sym_forwarding.specs.Aims.{sought_by}
 use Rattle.sym_walk.specs.Distances.{DistancesIfNeeded}
 use Rattle.sym_walk.specs.Entries.{by_entry}
-use Rattle.sym_walk.specs.Symbolic.{forwarding_of}
-use Rattle.sym_walk.specs.Twins.{IsTwin}
-use Rattle.sym_walk.specs.Worlds.{world_of}
+use Rattle.sym_forwarding.specs.Symbolic.{forwarding_of}
+use Rattle.sym_forwarding.specs.Twins.{IsTwin}
+use Rattle.sym_rib.specs.Worlds.{world_of}
 use Rattle.sym_walk.proofs.EntryHops.{longer_missing, longer_there}
 use Rattle.sym_walk.proofs.longest.sym_longer.Goals as goal
 

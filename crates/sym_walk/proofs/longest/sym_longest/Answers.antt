@@ -3,11 +3,11 @@ use Rattle.std.specs.Prelude.{ℕ}
 use Rattle.question_lang.specs.Hops.{longest_below}
 use Rattle.route_record.specs.declared.RibEntry.{RibEntry}
 use Rattle.route_record.specs.declared.Slot.{Slot}
-use Rattle.sym_walk.specs.Aims.{sought_by}
+use Rattle.sym_forwarding.specs.Aims.{sought_by}
 use Rattle.sym_walk.specs.Entries.{by_entry}
-use Rattle.sym_walk.specs.Symbolic.{forwarding_of}
-use Rattle.sym_walk.specs.Twins.{IsTwin}
-use Rattle.sym_walk.specs.Worlds.{tables_of, world_of}
+use Rattle.sym_forwarding.specs.Symbolic.{forwarding_of}
+use Rattle.sym_forwarding.specs.Twins.{IsTwin}
+use Rattle.sym_rib.specs.Worlds.{tables_of, world_of}
 use Rattle.sym_walk.proofs.EntryHops.{longest_more, longest_none}
 use Rattle.sym_walk.proofs.longest.sym_longest.Goals as goal
 

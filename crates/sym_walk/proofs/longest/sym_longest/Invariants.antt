@@ -2,12 +2,12 @@ use Rattle.std.proofs.Common.{◌≤◌}
 use Rattle.term_store.specs.Terms.{Reading, size}
 use Rattle.term_store.specs.Reading.{Reads, Builds}
 use Rattle.question_lang.specs.Hops.{longest_below}
-use Rattle.sym_walk.specs.Aims.{sought_by}
+use Rattle.sym_forwarding.specs.Aims.{sought_by}
 use Rattle.sym_walk.specs.Distances.{DistancesWhereNeeded}
 use Rattle.sym_walk.specs.Entries.{by_entry}
-use Rattle.sym_walk.specs.Symbolic.{forwarding_end, forwarding_of}
-use Rattle.sym_walk.specs.Twins.{IsTwin}
-use Rattle.sym_walk.specs.Worlds.{tables_of, world_of}
+use Rattle.sym_forwarding.specs.Symbolic.{forwarding_end, forwarding_of}
+use Rattle.sym_forwarding.specs.Twins.{IsTwin}
+use Rattle.sym_rib.specs.Worlds.{tables_of, world_of}
 use Rattle.sym_walk.proofs.longest.sym_longest.Given as goal
 
 -- by the entry of the longest prefix that is shorter than the length

@@ -1,8 +1,8 @@
 use Rattle.std.proofs.Common.{◌+◌, List, subst, sym}
-use Rattle.sym_walk.specs.declared.forwarding.SymForwarding.{SymForwarding}
-use Rattle.sym_walk.specs.Symbolic.{table_of}
+use Rattle.sym_forwarding.specs.declared.forwarding.SymForwarding.{SymForwarding}
+use Rattle.sym_forwarding.specs.Symbolic.{table_of}
 use Rattle.sym_walk.specs.TwinTables.{AreTwins}
-use Rattle.sym_walk.specs.Worlds.{world_of}
+use Rattle.sym_rib.specs.Worlds.{world_of}
 use Rattle.sym_walk.proofs.PushedTwins.{twins_pushed}
 use Rattle.sym_walk.proofs.routers.add_router.Goals as goal
 

@@ -5,10 +5,10 @@ use Rattle.ios_ast.specs.declared.file.File.{File}
 use Rattle.net_model.specs.Routing.{up_interfaces}
 use Rattle.question_lang.specs.Hops.{all_up, hops_over}
 use Rattle.sym_policy.specs.Held.{failures_of}
-use Rattle.sym_walk.specs.Aims.{sought_by}
-use Rattle.sym_walk.specs.Symbolic.{forwarding_of}
-use Rattle.sym_walk.specs.Twins.{IsTwin}
-use Rattle.sym_walk.specs.Worlds.{world_of}
+use Rattle.sym_forwarding.specs.Aims.{sought_by}
+use Rattle.sym_forwarding.specs.Symbolic.{forwarding_of}
+use Rattle.sym_forwarding.specs.Twins.{IsTwin}
+use Rattle.sym_rib.specs.Worlds.{world_of}
 use Rattle.sym_walk.proofs.routers.sym_next.Goals as goal
 
 pub returns-in_ok-none-in-None-clause-value : goal.returns-in_ok-none-in-None-clause-value

@@ -1,8 +1,8 @@
 use Rattle.std.proofs.Common.{Bool, subst}
 use Rattle.question_lang.specs.Hops.{next_hops}
-use Rattle.sym_walk.specs.Symbolic.{forwarding_of}
-use Rattle.sym_walk.specs.Twins.{IsTwin, is_sought}
-use Rattle.sym_walk.specs.Worlds.{world_of}
+use Rattle.sym_forwarding.specs.Symbolic.{forwarding_of}
+use Rattle.sym_forwarding.specs.Twins.{IsTwin, is_sought}
+use Rattle.sym_rib.specs.Worlds.{world_of}
 use Rattle.sym_walk.proofs.routers.sym_router.Goals as goal
 
 pub returns-clause-value : goal.returns-clause-value

@@ -2,9 +2,9 @@ use Rattle.std.proofs.Common.{◌≤◌}
 use Rattle.term_store.specs.Terms.{Reading, size}
 use Rattle.term_store.specs.Reading.{Reads, Builds}
 use Rattle.sym_walk.specs.Distances.{DistancesWhereNeeded}
-use Rattle.sym_walk.specs.Symbolic.{table_end, table_of}
+use Rattle.sym_forwarding.specs.Symbolic.{table_end, table_of}
 use Rattle.sym_walk.specs.TwinTables.{AreTwins}
-use Rattle.sym_walk.specs.Worlds.{world_of}
+use Rattle.sym_rib.specs.Worlds.{world_of}
 use Rattle.sym_walk.proofs.routers.sym_table.Given as goal
 
 -- the table of the routers so far

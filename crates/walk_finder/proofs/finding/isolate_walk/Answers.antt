@@ -1,7 +1,7 @@
 use Rattle.std.proofs.Common.{List, sym, subst}
 use Rattle.question_lang.specs.declared.question.Kind.{Kind}
 use Rattle.question_lang.specs.declared.question.Kind.TheVariants.{Isolate}
-use Rattle.sym_walk.specs.Layers.{arrives}
+use Rattle.sym_forwarding.specs.Layers.{arrives}
 use Rattle.walk_finder.specs.declared.rows.Row.{Row}
 use Rattle.walk_finder.specs.Rows.{table_of}
 use Rattle.walk_finder.specs.Sought.{AreRows}

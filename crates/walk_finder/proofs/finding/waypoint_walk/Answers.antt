@@ -1,7 +1,7 @@
 use Rattle.std.proofs.Common.{◌∙◌}
 use Rattle.question_lang.specs.declared.question.Kind.{Kind}
 use Rattle.question_lang.specs.declared.question.Kind.TheVariants.{Waypoint}
-use Rattle.sym_walk.specs.Layers.{arrives}
+use Rattle.sym_forwarding.specs.Layers.{arrives}
 use Rattle.walk_finder.specs.Rows.{table_of}
 use Rattle.walk_finder.proofs.Founds.{found_breaks, not_both}
 use Rattle.walk_finder.proofs.Others.{waypoint_begins, waypoint_breaks}

@@ -1,7 +1,7 @@
 use Rattle.std.proofs.Common.{◌≡◌, ℕ, ◌<◌, ◌≤◌, List, length, true}
 use Rattle.std.specs.Prelude.{Any}
 use Rattle.question_lang.specs.declared.walk.Hop.{Hop}
-use Rattle.sym_walk.specs.Layers.{going}
+use Rattle.sym_forwarding.specs.Layers.{going}
 use Rattle.walk_def.proofs.Following.{Begun, Followed}
 use Rattle.walk_def.proofs.Known.{unknown_count}
 use Rattle.walk_def.specs.Marks.{known}

@@ -1,6 +1,6 @@
 use Rattle.std.proofs.Common.{◌≡◌, ℕ, ◌≤◌, List, length, true}
 use Rattle.question_lang.specs.declared.walk.Hop.{Hop}
-use Rattle.sym_walk.specs.Layers.{arriving}
+use Rattle.sym_forwarding.specs.Layers.{arriving}
 use Rattle.walk_def.proofs.Following.{Begun, Followed}
 use Rattle.walk_def.specs.Marks.{known}
 use Rattle.walk_finder.specs.Rows.{AreRowsOf, table_of}

@@ -1,2 +1,0 @@
-//! What breaks a question of a network, with a routing around it: definitions alone.
-#![tactic(auto)]

@@ -1,0 +1,4 @@
+pub mod Reading
+pub mod FailureParts
+pub mod Steps
+pub mod ValueSteps

@@ -1,8 +1,0 @@
-use Rattle.std.proofs.Common.{◌≡◌}
-use Rattle.sym_policy.specs.Held.{positions}
-use Rattle.term_store.specs.Terms.{truth}
-use Rattle.net_encoder.specs.Rows.{row}
-use Rattle.net_encoder.proofs.decoding.failed_among.Given as goal
-
-abbrev pub invariant-loop-link : goal.invariant-loop-link
-invariant-loop-link l = l.failed ≡ positions 0 (row (truth l.values) l.from l.link)

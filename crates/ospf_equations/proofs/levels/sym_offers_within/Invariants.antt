@@ -1,0 +1,19 @@
+use Rattle.std.proofs.Common.{◌≡◌, ◌<◌, ◌||◌, drop}
+use Rattle.std.specs.List.{list_any}
+use Rattle.sym_rib.specs.Worlds.{tables_of}
+use Rattle.term_store.specs.Terms.{Reading, at, size}
+use Rattle.term_store.specs.Reading.{Reads, Builds}
+use Rattle.ospf_equations.specs.Adjacent.{offers_read}
+use Rattle.ospf_equations.specs.Levels.{is_within, of_length}
+use Rattle.ospf_equations.proofs.levels.sym_offers_within.Given as goal
+
+-- one offer so far is within the limit or one over an adjacency that is left, exactly where one of all is
+abbrev pub invariant-loop-s : goal.invariant-loop-s
+invariant-loop-s l = record {
+  builds : Builds l.fn.terms l.terms;
+  within : l.any.0 < size l.terms;
+  value : (w : Reading) → Reads w l.terms →
+      (at w l.any || list_any (is_within l.most)
+      (offers_read w (tables_of w l.slots) (of_length l.len) (drop l.s-index l.over)))
+      ≡ list_any (is_within l.most) (offers_read w (tables_of w l.slots) (of_length l.len) l.over);
+}

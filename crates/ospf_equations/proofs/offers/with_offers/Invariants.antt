@@ -1,0 +1,20 @@
+use Rattle.std.proofs.Common.{◌≡◌, ◌≤◌, ◌++◌, drop}
+use Rattle.std.specs.List.{filter_map}
+use Rattle.sym_policy.specs.Held.{ospf_of, ospf_end}
+use Rattle.sym_policy.specs.Records.{prefix_of}
+use Rattle.sym_rib.specs.Into.{list_end}
+use Rattle.sym_rib.specs.Worlds.{tables_of}
+use Rattle.term_store.specs.Terms.{Reading, size}
+use Rattle.term_store.specs.Reading.{Reads, Builds}
+use Rattle.ospf_equations.specs.Adjacent.{offers_read}
+use Rattle.ospf_equations.proofs.offers.with_offers.Given as goal
+
+-- the routes so far, with what is offered over the adjacencies that are left, are all
+abbrev pub invariant-loop-s : goal.invariant-loop-s
+invariant-loop-s l = record {
+  builds : Builds l.fn.terms l.terms;
+  within : list_end ospf_end l.made ≤ size l.terms;
+  value : (w : Reading) → Reads w l.terms → filter_map (ospf_of w) l.made
+      ++ offers_read w (tables_of w l.slots) (prefix_of w l.dst l.len) (drop l.s-index l.over)
+      ≡ filter_map (ospf_of w) l.fn.own ++ offers_read w (tables_of w l.slots) (prefix_of w l.dst l.len) l.over;
+}

@@ -1,0 +1,220 @@
+//! What the tables want of a slot, as terms: the OSPF route that the router holds, and whether an own origin is as good.
+
+ghost use Rattle.std.specs.Prelude.{◌≡◌, ℕ, ◌+◌, ◌≤◌, ◌<◌, ◌*◌, ◌==◌, ◌&&◌, ◌||◌, Bool, not, false, IfOk, Some, None, ◌++◌, ◌∷◌, [], if◌then◌else◌, length, max, map, slice_get};
+ghost use Rattle.std.specs.Bool.{beq};
+ghost use Rattle.std.specs.List.{filter_map, list_any};
+ghost use Rattle.std.specs.Option.{option_map_or};
+ghost use Rattle.ios_ast.specs.declared.file.File.{File as FileOf};
+ghost use Rattle.ios_ast.specs.declared.ospf.Ospf.{Ospf as OspfOf};
+ghost use Rattle.net_model.specs.OspfRoutes.{is_as_good};
+ghost use Rattle.net_model.specs.Tracked.{tracked_of};
+ghost use Rattle.route_record.specs.Places.{slot_at};
+ghost use Rattle.sym_policy.specs.Held.{bgp_of, failures_of, ospf_at, ospf_of, ospf_end};
+ghost use Rattle.sym_policy.specs.Records.{address_of};
+ghost use Rattle.sym_rib.specs.Into.{HasTracked, list_end};
+ghost use Rattle.sym_rib.specs.Slots.{slot_end};
+ghost use Rattle.sym_rib.specs.Worlds.{slots_end, tables_of, slot_of as slot_read};
+ghost use Rattle.ospf_equations.specs.Equations.{AreBare, HaveTracked};
+ghost use Rattle.world_variables.specs.Slots.{is_wanted, same_ospf, slot_holds, slot_of};
+ghost use Rattle.world_variables.specs.Symbols.{open_of, open_end};
+ghost use Rattle.term_store.specs.Terms.{Reading, at, size};
+ghost use Rattle.term_store.specs.Reading.{Reads, Builds, Gives};
+ghost use Rattle.term_arith.specs.Bits.{ids_end};
+
+use crate::levels::sym_held;
+use crate::origins::own_routes;
+use net_model::Net;
+use net_model::ends::file_of;
+use std::alloc::{AllocError, Global};
+use sym_ospf::sym_better;
+use sym_policy::{SymNet, SymOspf};
+use sym_rib::{SymSlot, slot_for};
+use term_arith::Bits;
+use term_arith::gates::{agree, both, constant_node, either, negate};
+use term_store::{NodeId, Terms};
+use world_variables::SymOpen;
+
+// Whether a route is there, and is as good as a held one.
+#[tactic(auto, using(crate::proofs::HoldingSteps::good_is))]
+fn sym_good(terms: &mut Terms, own: &SymOspf, held: &SymOspf) -> Result<NodeId, AllocError>
+    requires own { ospf_end own.now ≤ size terms.old }
+    requires held { ospf_end held.now ≤ size terms.old }
+    ensures builds { Builds terms.old terms.new }
+    ensures within { IfOk result (λ r. r.0 < size terms.new) }
+    ensures value { Gives terms.new result (λ w r. at w r
+        ≡ option_map_or (λ o. is_as_good o (ospf_at w held.now)) (ospf_of w own.now) false) }
+{
+    let better = sym_better(terms, held, own)?;
+    let good = negate(terms, better)?;
+    both(terms, own.valid, good)
+}
+
+// Whether one of some routes is as good as a held one, as if that were there.
+#[tactic(auto, using(crate::proofs::HoldingSteps::any_steps))]
+fn sym_some_good(terms: &mut Terms, own: &[SymOspf], held: &SymOspf) -> Result<NodeId, AllocError>
+    requires own { list_end ospf_end own.now ≤ size terms.old }
+    requires held { ospf_end held.now ≤ size terms.old }
+    ensures builds { Builds terms.old terms.new }
+    ensures within { IfOk result (λ r. r.0 < size terms.new) }
+    ensures value { Gives terms.new result (λ w r. at w r
+        ≡ list_any (λ o. is_as_good o (ospf_at w held.now)) (filter_map (ospf_of w) own.now)) }
+{
+    let mut any = constant_node(terms, false)?;
+    for rec in own {
+        let good = sym_good(terms, rec, held)?;
+        any = either(terms, any, good)?;
+    }
+    Ok(any)
+}
+
+// Whether a held route is there, and one of some is as good.
+fn sym_as_good(terms: &mut Terms, own: &[SymOspf], held: &SymOspf) -> Result<NodeId, AllocError>
+    requires own { list_end ospf_end own.now ≤ size terms.old }
+    requires held { ospf_end held.now ≤ size terms.old }
+    ensures builds { Builds terms.old terms.new }
+    ensures within { IfOk result (λ r. r.0 < size terms.new) }
+    ensures value { Gives terms.new result (λ w r. at w r ≡ option_map_or (λ h. list_any (λ o. is_as_good o h)
+        (filter_map (ospf_of w) own.now)) (ospf_of w held.now) false) }
+{
+    let any = sym_some_good(terms, own, held)?;
+    let good = both(terms, held.valid, any)?;
+    Ok(good)
+}
+
+// Whether what is open of the slot of a router that runs OSPF is as the tables want it.
+fn sym_wanted(
+    alloc: Global,
+    terms: &mut Terms,
+    net: &Net,
+    sym: &SymNet,
+    slots: &[SymSlot],
+    router: u32,
+    dst: &Bits,
+    len: u8,
+    slot: &SymSlot,
+    part: &SymOpen,
+    limits: &[u32],
+) -> Result<NodeId, AllocError>
+    requires long { len ≤ 32 }
+    requires wide { length dst.now.nodes.items ≡ 32 }
+    requires nodes { ids_end dst.now.nodes.items ≤ size terms.old }
+    requires down { ids_end sym.now.down ≤ size terms.old }
+    requires rows { HasTracked (tracked_of net.now) slot.now.bgp }
+    requires slots { slots_end slots.now ≤ size terms.old }
+    requires slot { slot_end slot.now ≤ size terms.old }
+    requires part { open_end part.now ≤ size terms.old }
+    ensures builds { Builds terms.old terms.new }
+    ensures within { IfOk result (λ r. r.0 < size terms.new) }
+    ensures value { Gives terms.new result (λ w r. (file : FileOf) (process : OspfOf) →
+        slice_get net.now router ≡ Some file → file.ospf ≡ Some process → bgp_of w slot.now.bgp ≡ None →
+        slot_at (tables_of w slots.now) router len ≡ Some (slot_read w slot.now) →
+        slot_read w slot.now
+        ≡ slot_of net.now (failures_of w sym.now) (address_of w dst.now) router len (open_of w part.now) →
+        at w r ≡ is_wanted net.now (failures_of w sym.now) (address_of w dst.now) (tables_of w slots.now)
+        router len (open_of w part.now) file) }
+{
+    let own = own_routes(alloc, terms, net, sym, router, dst, len, slot)?;
+    let good = sym_as_good(terms, own.as_slice(), &part.ospf)?;
+    let held = sym_held(
+        alloc, terms, net, sym, slots, router, dst, len, own, &part.ospf, limits,
+    )?;
+    let own_good = agree(terms, part.own, good)?;
+    let wanted = both(terms, held, own_good)?;
+    Ok(wanted)
+}
+
+// The same for a router without OSPF: there is no route.
+#[tactic(auto, using(crate::proofs::HoldingSteps::closed_is))]
+fn sym_closed(terms: &mut Terms, part: &SymOpen) -> Result<NodeId, AllocError>
+    requires part { open_end part.now ≤ size terms.old }
+    ensures builds { Builds terms.old terms.new }
+    ensures within { IfOk result (λ r. r.0 < size terms.new) }
+    ensures value { Gives terms.new result (λ w r. at w r
+        ≡ (same_ospf (ospf_of w part.now.ospf) None && beq (at w part.now.own) false)) }
+{
+    let some = either(terms, part.ospf.valid, part.own)?;
+    negate(terms, some)
+}
+
+// The same for each router that runs OSPF, whose symbolic slot stands in the list.
+fn sym_runs(
+    alloc: Global,
+    terms: &mut Terms,
+    net: &Net,
+    sym: &SymNet,
+    slots: &[SymSlot],
+    router: u32,
+    dst: &Bits,
+    len: u8,
+    part: &SymOpen,
+    limits: &[u32],
+) -> Result<NodeId, AllocError>
+    requires long { len ≤ 32 }
+    requires wide { length dst.now.nodes.items ≡ 32 }
+    requires nodes { ids_end dst.now.nodes.items ≤ size terms.old }
+    requires down { ids_end sym.now.down ≤ size terms.old }
+    requires rows { HaveTracked (tracked_of net.now) slots.now }
+    requires slots { slots_end slots.now ≤ size terms.old }
+    requires part { open_end part.now ≤ size terms.old }
+    ensures builds { Builds terms.old terms.new }
+    ensures within { IfOk result (λ r. r.0 < size terms.new) }
+    ensures value { Gives terms.new result (λ w r. (file : FileOf) (process : OspfOf) →
+        slice_get net.now router ≡ Some file → file.ospf ≡ Some process → AreBare w slots.now →
+        slot_at (tables_of w slots.now) router len
+        ≡ Some (slot_of net.now (failures_of w sym.now) (address_of w dst.now) router len (open_of w part.now)) →
+        at w r ≡ is_wanted net.now (failures_of w sym.now) (address_of w dst.now) (tables_of w slots.now)
+        router len (open_of w part.now) file) }
+{
+    match slot_for(slots, router, len) {
+        None => constant_node(terms, false),
+        Some(slot) => {
+            let made = sym_wanted(
+                alloc, terms, net, sym, slots, router, dst, len, slot, part, limits,
+            )?;
+            Ok(made)
+        }
+    }
+}
+
+/// Whether what is open of a slot is as the tables want it: its OSPF route is the one that its router holds, and it says
+/// rightly whether an own origin is as good. The symbolic slot stands in the list.
+pub fn sym_slot_holds(
+    alloc: Global,
+    terms: &mut Terms,
+    net: &Net,
+    sym: &SymNet,
+    slots: &[SymSlot],
+    router: u32,
+    dst: &Bits,
+    len: u8,
+    part: &SymOpen,
+    limits: &[u32],
+) -> Result<NodeId, AllocError>
+    requires long { len ≤ 32 }
+    requires wide { length dst.now.nodes.items ≡ 32 }
+    requires nodes { ids_end dst.now.nodes.items ≤ size terms.old }
+    requires down { ids_end sym.now.down ≤ size terms.old }
+    requires rows { HaveTracked (tracked_of net.now) slots.now }
+    requires slots { slots_end slots.now ≤ size terms.old }
+    requires part { open_end part.now ≤ size terms.old }
+    ensures builds { Builds terms.old terms.new }
+    ensures within { IfOk result (λ r. r.0 < size terms.new) }
+    ensures value { Gives terms.new result (λ w r. AreBare w slots.now →
+        slot_at (tables_of w slots.now) router len
+        ≡ Some (slot_of net.now (failures_of w sym.now) (address_of w dst.now) router len (open_of w part.now)) →
+        at w r ≡ slot_holds net.now (failures_of w sym.now) (address_of w dst.now) (tables_of w slots.now)
+        router len (open_of w part.now)) }
+{
+    match file_of(net.routers(), router) {
+        None => constant_node(terms, false),
+        Some(file) => match &file.ospf {
+            None => sym_closed(terms, part),
+            Some(_) => {
+                let made = sym_runs(
+                    alloc, terms, net, sym, slots, router, dst, len, part, limits,
+                )?;
+                Ok(made)
+            }
+        },
+    }
+}

@@ -1,0 +1,13 @@
+//! Whether the OSPF routes of a routing are those that its routers hold, as a term: a route is the best of what its
+//! router originates and is offered. Beside that, limits of costs help a search alone.
+#![tactic(auto)]
+
+mod adjacent;
+mod holding;
+mod levels;
+mod limits;
+mod offers;
+mod origins;
+
+pub use holding::sym_slot_holds;
+pub use limits::{is_meshed, limits_of};

@@ -1,0 +1,17 @@
+pub mod Marks
+pub mod Edges
+pub mod Arriving
+pub mod Looping
+pub mod Passing
+pub mod Beginnings
+pub mod BreakingWalks
+pub mod Tables
+pub mod Chosen
+pub mod Twins
+pub mod Sought
+pub mod Starts
+pub mod TargetRouters
+pub mod OwnerHops
+pub mod StaticHops
+pub mod FirstHops
+pub mod LeastWalks

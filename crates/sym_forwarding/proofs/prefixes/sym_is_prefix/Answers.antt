@@ -1,0 +1,17 @@
+use Rattle.std.proofs.Common.{◌∙◌, sym}
+use Rattle.sym_policy.specs.Records.{address_of}
+use Rattle.sym_ospf.proofs.Networks.{network_other}
+use Rattle.sym_forwarding.proofs.OwnerHops.{covers_network}
+use Rattle.sym_forwarding.proofs.prefixes.sym_is_prefix.Goals as goal
+
+pub returns-in_ok-same-clause-value : goal.returns-in_ok-same-clause-value
+returns-in_ok-same-clause-value c = λ w reads.
+    c.in_ok-same.ensures.value w reads
+    ∙ sym (covers_network c.args.p.now (address_of w c.args.address.now) c.args.len
+    (sym c.is_network.ensures ∙ c.if-is_network.true))
+
+pub returns-in_ok-never-clause-value : goal.returns-in_ok-never-clause-value
+returns-in_ok-never-clause-value c = λ w reads.
+    c.in_ok-never.ensures.value w reads
+    ∙ sym (network_other c.args.p.now (address_of w c.args.address.now) c.args.len
+    (sym c.is_network.ensures ∙ c.if-is_network.false))

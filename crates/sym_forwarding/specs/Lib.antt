@@ -1,0 +1,13 @@
+pub mod Layers
+pub mod Forwardings
+pub mod Symbolic
+pub mod Choices
+pub mod Twins
+pub mod Aims
+pub mod Beginnings
+pub mod Owners
+pub mod Firsts
+pub mod Here
+pub mod Statics
+pub mod Offers
+pub mod Towards

@@ -1,0 +1,150 @@
+-- What copies and what route maps see of a record mean, by their nodes.
+use Rattle.std.proofs.Common.{◌≡◌, ◌≤◌, ◌<◌, ℕ, ◌+◌, ◌&&◌, if◌then◌else◌, max, Some, None, length, sym, ap, ◌∙◌}
+use Rattle.std.proofs.Common.{arith, subst}
+use Rattle.std.proofs.Math.Nat.{max-le}
+use Rattle.term_store.specs.declared.NodeId.{NodeId}
+use Rattle.term_store.specs.Terms.{Store, Reading, size, at}
+use Rattle.term_store.specs.Reading.{Reads}
+use Rattle.term_arith.specs.Bits.{bits, number, ids_end}
+use Rattle.route_record.specs.declared.tracked.Tracked.{Tracked}
+use Rattle.sym_policy.specs.declared.parts.SymRest.{SymRest}
+use Rattle.sym_policy.specs.declared.parts.SymRoute.{SymRoute}
+use Rattle.sym_policy.specs.declared.parts.SymMade.{SymMade}
+use Rattle.sym_policy.specs.declared.records.SymMapRec.{SymMapRec}
+use Rattle.sym_policy.specs.SameNodes.{SameRoute, IsSeen, IsRest, IsJoined}
+use Rattle.sym_policy.specs.MapRecs.{attributes_at, map_rec_end, seen_end, kept_end, HasMarks, KeepsRest, IsMade}
+use Rattle.sym_policy.specs.Routes.{route_at, route_end, made_end, HasRows, SameRows}
+use Rattle.sym_policy.proofs.Choices.{both_there}
+
+-- a copy is read as the route is, and ends where it does
+pub copied_at : (a b : SymRoute) → SameRoute a b → (w : Reading) → route_at w b ≡ route_at w a
+copied_at a b h w = λ i. record {
+  preferences = record {
+    weight = number w (h.preferences.weight i);
+    local_pref = number w (h.preferences.local_pref i);
+    med = number w (h.preferences.med i);
+    origin = number w (h.preferences.origin i);
+  };
+  path = record {
+    len = number w (h.path.len i);
+    first = number w (h.path.first i);
+    last = number w (h.path.last i);
+    numbers = bits w (h.path.numbers i);
+  };
+  communities = bits w (h.communities i);
+  type1 = at w (h.type1 i);
+}
+
+pub copied_end : (a b : SymRoute) → SameRoute a b → route_end b ≡ route_end a
+copied_end a b h = λ i.
+    max
+    (max (max (ids_end (h.preferences.weight i)) (ids_end (h.preferences.local_pref i)))
+    (max (ids_end (h.preferences.med i)) (ids_end (h.preferences.origin i))))
+    (max
+    (max (max (ids_end (h.path.len i)) (ids_end (h.path.first i)))
+    (max (ids_end (h.path.last i)) (ids_end (h.path.numbers i))))
+    (max (ids_end (h.communities i)) ((h.type1 i).0 + 1)))
+
+pub copied_rows : (a b : SymRoute) → SameRoute a b → SameRows b a
+copied_rows a b h = record { numbers = ap length h.path.numbers; communities = ap length h.communities }
+
+-- for copies, in `using`
+pub ruleset copied_steps = (copied_at, copied_end, copied_rows)
+
+-- what route maps see of a record is read as they see it, and ends where that does
+pub seen_at : (rec : SymMapRec) (s : SymRoute) → IsSeen rec s → (w : Reading) → route_at w s ≡ attributes_at w rec
+seen_at rec s h w = λ i. record {
+  preferences = record {
+    weight = number w (h.preferences.weight i);
+    local_pref = number w (h.preferences.local_pref i);
+    med = number w (h.preferences.med i);
+    origin = number w (h.preferences.origin i);
+  };
+  path = record {
+    len = number w (h.path.len i);
+    first = number w (h.path.first i);
+    last = number w (h.path.last i);
+    numbers = bits w (h.path.numbers i);
+  };
+  communities = bits w (h.communities i);
+  type1 = at w (h.type1 i);
+}
+
+pub seen_ends : (rec : SymMapRec) (s : SymRoute) → IsSeen rec s → route_end s ≡ seen_end rec
+seen_ends rec s h = λ i.
+    max
+    (max (max (ids_end (h.preferences.weight i)) (ids_end (h.preferences.local_pref i)))
+    (max (ids_end (h.preferences.med i)) (ids_end (h.preferences.origin i))))
+    (max
+    (max (max (ids_end (h.path.len i)) (ids_end (h.path.first i)))
+    (max (ids_end (h.path.last i)) (ids_end (h.path.numbers i))))
+    (max (ids_end (h.communities i)) ((h.type1 i).0 + 1)))
+
+pub seen_rows : (tracked : Tracked) (rec : SymMapRec) (s : SymRoute) → HasMarks tracked rec → IsSeen rec s
+    → HasRows tracked s
+seen_rows tracked rec s marks h = record {
+  numbers = ap length h.path.numbers ∙ marks.numbers;
+  communities = ap length h.communities ∙ marks.communities;
+}
+
+pub seen_within : (rec : SymMapRec) (s : SymRoute) (n : ℕ) → IsSeen rec s → map_rec_end rec ≤ n → route_end s ≤ n
+seen_within rec s n h within =
+    subst (λ (k : ℕ). k ≤ n) (sym (seen_ends rec s h)) (middle rec.bgp.valid.0 (seen_end rec) (kept_end rec) n within)
+  where
+    middle : (a b c n : ℕ) → max (a + 1) (max b c) ≤ n → b ≤ n
+    middle a b c n h = omega arith
+
+-- for what route maps see, in `using`
+pub ruleset seen_steps = (seen_at, seen_rows, seen_within)
+
+-- what route maps never set keeps its nodes in the record that is put together
+pub kept : (before rec : SymMapRec) (s : SymRest) → IsRest before.bgp s → IsRest rec.bgp s → KeepsRest before rec
+kept before rec s a b = record {
+  next_hop = sym b.next_hop ∙ a.next_hop;
+  originator = sym b.originator ∙ a.originator;
+  from = sym b.from ∙ a.from;
+  cluster_len = sym b.cluster_len ∙ a.cluster_len;
+  clusters = sym b.clusters ∙ a.clusters;
+}
+
+kept_ends : (before rec : SymMapRec) → KeepsRest before rec → kept_end rec ≡ kept_end before
+kept_ends before rec h = λ i.
+    max (max (ids_end (h.next_hop i)) (ids_end (h.originator i)))
+    (max (ids_end (h.from i)) (max (ids_end (h.cluster_len i)) (ids_end (h.clusters i))))
+
+-- a record with what a map makes of it
+pub made_joined : (t : Store) (before rec : SymMapRec) (made : SymMade) (valid : NodeId) (rest : SymRest)
+    → map_rec_end before ≤ size t → made_end made ≤ size t → valid.0 < size t
+    → ((w : Reading) → Reads w t → at w valid ≡ (at w before.bgp.valid && at w made.valid))
+    → IsRest before.bgp rest → IsJoined valid made.route rest rec → IsMade t before made rec
+made_joined t before rec made valid rest before_in made_in valid_in value left joined =
+    let keeps = kept before rec rest left joined.rest in
+    let old = kept_end before in
+    let seen = route_end made.route in
+    let old_in : old ≤ size t = ends before.bgp.valid.0 (seen_end before) old (size t) before_in in
+    let seen_in : seen ≤ size t = behind made.valid.0 seen (size t) made_in in
+    let first : rec.bgp.valid.0 + 1 ≤ size t =
+    subst (λ (n : NodeId). n.0 + 1 ≤ size t) (sym joined.valid) (after valid.0 (size t) valid_in) in
+    record {
+      within =
+          max-le first
+          (max-le (subst (λ (n : ℕ). n ≤ size t) (seen_ends rec made.route joined.seen) seen_in)
+          (subst (λ (n : ℕ). n ≤ size t) (sym (kept_ends before rec keeps)) old_in));
+      numbers = sym (ap length joined.seen.path.numbers);
+      communities = sym (ap length joined.seen.communities);
+      rest = keeps;
+      value = λ w reads.
+          ap (λ v. if at w v then Some (attributes_at w rec) else None) joined.valid
+          ∙ ap (λ a. if at w valid then Some a else None) (sym (seen_at rec made.route joined.seen w))
+          ∙ ap (λ b. if b then Some (route_at w made.route) else None) (value w reads)
+          ∙ both_there (at w before.bgp.valid) (at w made.valid) (route_at w made.route);
+    }
+  where
+    ends : (a b c n : ℕ) → max (a + 1) (max b c) ≤ n → c ≤ n
+    ends a b c n h = omega arith
+
+    behind : (a b n : ℕ) → max (a + 1) b ≤ n → b ≤ n
+    behind a b n h = omega arith
+
+    after : (a n : ℕ) → a < n → a + 1 ≤ n
+    after a n h = omega arith

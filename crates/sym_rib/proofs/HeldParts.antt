@@ -1,0 +1,39 @@
+-- Copies of the path and the communities of a BGP route.
+use Rattle.std.proofs.Common.{◌≡◌, ℕ, ◌≤◌, ap, arith}
+use Rattle.sym_policy.specs.declared.records.SymBgp.{SymBgp}
+use Rattle.sym_policy.specs.Held.{bgp_at, bgp_end}
+use Rattle.sym_policy.specs.Shapes.{RouteShape}
+use Rattle.sym_rib.specs.declared.known_parts.HeldParts.{HeldParts}
+use Rattle.sym_rib.specs.declared.known_parts.KnownPath.{KnownPath}
+use Rattle.sym_rib.specs.KnownParts.{HasPartsOf, HasPathOf, held_parts_end, known_path_at}
+use Rattle.term_store.specs.Terms.{Reading}
+use Rattle.term_arith.specs.Bits.{bits, number, ids_end}
+
+-- a reading makes of the copy what it makes of the route's path
+pub path_read : (w : Reading) (held : SymBgp) (s : KnownPath) → HasPathOf held s
+    → known_path_at w s ≡ (bgp_at w held).path
+path_read w held s has = λ i. record {
+  len = number w (has.len i);
+  first = number w (has.first i);
+  last = number w (has.last i);
+  numbers = bits w (has.numbers i);
+}
+
+-- the copies have no node past those of the route
+pub parts_within : (held : SymBgp) (s : HeldParts) (n : ℕ) → HasPartsOf held s → bgp_end held ≤ n
+    → held_parts_end held.valid s ≤ n
+parts_within held s n has within =
+    let len = ap ids_end has.path.len in
+    let first = ap ids_end has.path.first in
+    let last = ap ids_end has.path.last in
+    let numbers = ap ids_end has.path.numbers in
+    let communities = ap ids_end has.communities in
+    omega arith
+
+-- so a record with the copies is seen as one with the route's path and communities
+pub parts_read : (w : Reading) (held : SymBgp) (s : HeldParts) (before : RouteShape) → HasPartsOf held s
+    → ◌≡◌ {A = RouteShape}
+    (record before { path = known_path_at w s.path; communities = bits w s.communities.nodes.items })
+    (record before { path = (bgp_at w held).path; communities = bits w held.communities.nodes.items })
+parts_read w held s before has =
+    λ i. record before { path = path_read w held s.path has.path i; communities = bits w (has.communities i) }

@@ -1,8 +1,0 @@
-use Rattle.sym_walk.proofs.BreakingWalks.{broken_all, broken_yes}
-use Rattle.sym_walk.proofs.laws.layers_law.Goals as goal
-
-pub returns-clause-broken : goal.returns-clause-broken
-returns-clause-broken c = broken_yes
-
-pub returns-clause-all : goal.returns-clause-all
-returns-clause-all c = broken_all

@@ -1,8 +1,0 @@
-use Rattle.std.proofs.Common.{◌+◌, ◌*◌}
-use Rattle.route_record.specs.declared.TheConstants.{LENGTHS}
-use Rattle.sym_walk.proofs.OfferedHops.{slot_bounded}
-use Rattle.sym_walk.proofs.offers.slot_for.Goals as goal
-
-pub returns-clause-within : goal.returns-clause-within
-returns-clause-within c =
-    slot_bounded c.args.slots.now (LENGTHS * c.args.router + c.args.len) c.slot_there.result c.slot_there.ensures

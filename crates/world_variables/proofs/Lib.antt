@@ -1,0 +1,13 @@
+pub mod Supports
+pub mod Bounded
+pub mod PacketParts
+pub mod PacketSound
+pub mod UnknownParts
+pub mod Stability
+pub mod Completeness
+pub mod Rooms
+pub mod Worlds
+pub mod WorldBits
+pub mod Steps
+pub mod RoomSteps
+pub mod DecodingSteps

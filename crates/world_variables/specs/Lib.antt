@@ -1,0 +1,8 @@
+pub mod Packets
+pub mod Unknowns
+pub mod Rooms
+pub mod Slots
+pub mod Worlds
+pub mod Symbols
+pub mod Supported
+pub mod Breaking
