@@ -138,7 +138,7 @@ fn delete_watched<L: Sink>(
 }
 
 /// Learnt clauses that were counted, and their literals.
-#[derive(Clone, Copy, Debug)]
+#[derive(Clone, Copy)]
 struct Counted {
     clauses: u64,
     literals: u64,

@@ -6,7 +6,7 @@ use mw_text::List;
 use std::alloc::{AllocError, AllocFailed};
 
 /// Why a text states no counterexample: it is no JSON, or its first bad field stands at that path, as `tables/0/len`.
-#[derive(Debug, Drop)]
+#[derive(Drop)]
 pub enum CexRefused {
     NotJson,
     Field { path: List<u8> },

@@ -19,7 +19,7 @@ use std::alloc::{AllocError, Global};
 use std::marker::Model;
 
 /// Clauses by their references, and for each literal the list of its watches.
-#[derive(Debug, Drop)]
+#[derive(Drop)]
 pub struct Arena {
     words: Vec<u64>,
     // By number.

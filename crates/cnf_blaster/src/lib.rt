@@ -27,7 +27,7 @@ use std::alloc::{AllocError, Global};
 use term_store::{NodeId, Terms};
 
 /// Clauses over variables that are numbered from 0.
-#[derive(Debug, Drop)]
+#[derive(Drop)]
 pub struct Cnf {
     /// How many variables there are.
     pub vars: u64,

@@ -11,7 +11,7 @@ use std::alloc::{AllocError, Global};
 use term_store::{Node, NodeId, Terms};
 
 /// The nodes that have a variable, in the order of their variables, and for each node how many of those are below it.
-#[derive(Debug, Drop)]
+#[derive(Drop)]
 pub(crate) struct Numbering {
     pub(crate) node_of: List<NodeId>,
     pub(crate) numbers: List<u64>,

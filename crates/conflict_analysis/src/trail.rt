@@ -7,7 +7,7 @@ use resolution_check::Lit;
 
 /// The literals that a search made true, in their order, with their levels and the clauses that forced them. A literal
 /// has no reason where it was chosen.
-#[derive(Debug, Drop)]
+#[derive(Drop)]
 pub struct Trail {
     pub lits: Vec<Lit>,
     pub levels: Vec<u64>,

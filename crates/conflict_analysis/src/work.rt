@@ -16,7 +16,7 @@ use std::alloc::{AllocError, Global};
 use std::marker::Model;
 
 /// Room for a clause, its chain and a mark for each variable. An analysis takes no more memory.
-#[derive(Debug, Drop)]
+#[derive(Drop)]
 pub struct Work {
     clause: Vec<Lit>,
     chain: Vec<u64>,

@@ -6,7 +6,7 @@ ghost use Rattle.deciders.specs.Told.{TellsBump};
 use std::alloc::{AllocError, Global};
 
 /// What a search knows of a variable.
-#[derive(Clone, Copy, Debug, PartialEq, Eq)]
+#[derive(Clone, Copy)]
 pub enum Value {
     Free,
     False,
@@ -15,7 +15,7 @@ pub enum Value {
 
 /// The variable to decide next, and whether it is to be true. One that is not free, and one that is no variable of the
 /// search, are no choice.
-#[derive(Clone, Copy, Debug, PartialEq, Eq)]
+#[derive(Clone, Copy)]
 pub struct Choice {
     pub var: u64,
     pub positive: bool,

@@ -7,7 +7,7 @@ use std::alloc::{AllocError, Global};
 
 /// Chooses the next free variable in the order of their numbers, from 0 again after each `decay`, false first. It tells no
 /// bumps.
-#[derive(Clone, Copy, Debug)]
+#[derive(Clone, Copy)]
 pub struct OrderDecider {
     next: u64,
 }

@@ -9,7 +9,7 @@ use std::alloc::{AllocError, Global};
 pub const KEPT_BUMPS: usize = 65_536;
 
 /// A decider for tests: it keeps the first bumps that fit, tells them while all of them fit, and chooses nothing.
-#[derive(Debug, Drop)]
+#[derive(Drop)]
 pub struct Recorder {
     bumps: Vec<u64>,
     is_whole: bool,

@@ -14,7 +14,7 @@ const FIRST_STEP: u64 = 1 << 20;
 const GREATEST_STEP: u64 = 1 << 40;
 
 /// A choice that was made: how many variables had been taken out before, the variable and its value.
-#[derive(Clone, Copy, Debug)]
+#[derive(Clone, Copy)]
 struct Chosen {
     taken_before: usize,
     var: u64,
@@ -27,7 +27,7 @@ struct Chosen {
 /// Variables leave the heap as they are chosen, or met with a value. Nobody says when they are free again, but each way
 /// back of a search comes with a `decay`: at the next `pick` the first choice that does not stand any more is looked
 /// for, and what left the heap from then on is put back.
-#[derive(Debug, Drop)]
+#[derive(Drop)]
 pub struct ScoreDecider {
     heap: Heap,
     step: u64,

@@ -18,7 +18,7 @@ use crate::words::{
 use mw_text::{Addr, read_addr, read_prefix};
 
 /// What a word has to be. Keywords stand in lower case and are filled up with blanks.
-#[derive(Clone, Copy, Debug)]
+#[derive(Clone, Copy)]
 pub enum Takes {
     /// No word: the line may end.
     End,
@@ -62,7 +62,7 @@ pub enum Takes {
 }
 
 /// From the first state a word of this kind leads to the last state. What the word says stands under the tag.
-#[derive(Clone, Copy, Debug)]
+#[derive(Clone, Copy)]
 pub struct Edge(pub u8, pub Takes, pub Tag, pub u8);
 
 /// Where a word leads, and what it said.

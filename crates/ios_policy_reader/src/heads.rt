@@ -10,7 +10,7 @@ use crate::words::{is_table_word, length_of_keyword, read_range};
 use mw_text::List;
 
 /// Where a line stands: at the top, or in a block.
-#[derive(Clone, Copy, Debug, PartialEq, Eq)]
+#[derive(Clone, Copy)]
 pub enum Context {
     Top,
     InInterface,
@@ -24,7 +24,7 @@ pub enum Context {
 }
 
 /// What a line is about.
-#[derive(Clone, Copy, Debug, PartialEq, Eq)]
+#[derive(Clone, Copy)]
 pub enum Row {
     Hostname,
     InterfaceBlock,
@@ -77,11 +77,11 @@ pub enum Row {
 }
 
 /// A head in a context, and the row of the lines that begin with it.
-#[derive(Clone, Copy, Debug)]
+#[derive(Clone, Copy)]
 pub struct Head(pub Context, pub [u8; 30], pub Row);
 
 /// The row of a line, and how many words its head has.
-#[derive(Clone, Copy, Debug, PartialEq, Eq)]
+#[derive(Clone, Copy)]
 pub struct Found {
     pub row: Row,
     pub head: u32,

@@ -24,7 +24,7 @@ use std::alloc::Global;
 
 /// The block that is open: none of a policy, an access list by its position, or the last entry of the map at that
 /// position.
-#[derive(Clone, Copy, Debug, PartialEq, Eq)]
+#[derive(Clone, Copy)]
 pub enum PolicyBlock {
     Outside,
     Access(u32),
@@ -32,7 +32,7 @@ pub enum PolicyBlock {
 }
 
 /// Whether a line was a policy's, and the block that is open after it.
-#[derive(Clone, Copy, Debug)]
+#[derive(Clone, Copy)]
 pub struct Step {
     pub taken: bool,
     pub block: PolicyBlock,

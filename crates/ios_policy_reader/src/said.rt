@@ -7,7 +7,7 @@ use ios_ast::Pattern;
 use mw_text::{Addr, Prefix};
 
 /// As what a word of a line said something.
-#[derive(Clone, Copy, Debug)]
+#[derive(Clone, Copy)]
 pub enum Tag {
     /// Nothing that is looked up.
     Plain,

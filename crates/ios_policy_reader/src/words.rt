@@ -72,7 +72,7 @@ pub fn read_community(word: &[u8]) -> Option<u32>
 }
 
 /// The name of a port, filled up with blanks, and the port.
-#[derive(Clone, Copy, Debug)]
+#[derive(Clone, Copy)]
 pub struct PortName(pub [u8; 16], pub u16);
 
 /// The ports that have names (IANA).

@@ -9,7 +9,7 @@ use mw_text::List;
 use std::alloc::Global;
 
 /// The block that is open, apart from those of lists and route maps.
-#[derive(Clone, Copy, Debug, PartialEq, Eq)]
+#[derive(Clone, Copy)]
 pub enum Block {
     Closed,
     /// That of the last interface.
@@ -22,7 +22,7 @@ pub enum Block {
 
 /// Which lines that come once were read, where the file does not show it: of the open interface its address and its
 /// bandwidth, of OSPF its router id and its reference bandwidth.
-#[derive(Clone, Copy, Debug, PartialEq, Eq)]
+#[derive(Clone, Copy)]
 pub struct Seen {
     pub address: bool,
     pub bandwidth: bool,
@@ -31,7 +31,7 @@ pub struct Seen {
 }
 
 /// What ends a banner: `^C`, or a byte.
-#[derive(Clone, Copy, Debug, PartialEq, Eq)]
+#[derive(Clone, Copy)]
 pub enum Delimiter {
     CaretC,
     Byte(u8),

@@ -1,4 +1,5 @@
 pub mod Lists
+pub mod Octets
 pub mod Reading
 pub mod Results
 pub mod WordCounts

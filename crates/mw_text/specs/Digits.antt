@@ -29,6 +29,10 @@ octet_of word =
     if is_numeral 3 word && ((length word == 1) || not (slice_index word 0 == 48)) && nat_le (value_of word) 255
     then Some (value_of word) else None
 
+-- two octets, the first highest
+abbrev pub octets_of : List ℕ → List ℕ → Option ℕ
+octets_of first second = option_and_then (λ a. option_map (λ b. a * 256 + b) (octet_of second)) (octet_of first)
+
 -- what stands before and after the first such byte
 abbrev pub cut_at : ℕ → List ℕ → Option (List ℕ × List ℕ)
 cut_at byte word = option_map (λ i. (take i word, drop (i + 1) word)) (position (λ b. b == byte) word)

@@ -4,12 +4,12 @@ ghost use Rattle.std.specs.Prelude.{◌≡◌};
 ghost use Rattle.mw_text.specs.Address.{mask_of, prefix_at, covers};
 
 /// An IPv4 address as a number, its first octet highest.
-#[derive(Clone, Copy, Debug, PartialEq, Eq)]
+#[derive(Clone, Copy, PartialEq, Eq)]
 pub struct Addr(pub u32);
 
 /// The addresses whose first `len` bits are those of `addr`. The length is at most 32 and the bits past it
 /// are 0, as `prefix_of` and `read_prefix` make it; a length above 32 counts as 32.
-#[derive(Clone, Copy, Debug, PartialEq, Eq)]
+#[derive(Clone, Copy, PartialEq, Eq)]
 pub struct Prefix {
     pub addr: Addr,
     pub len: u8,

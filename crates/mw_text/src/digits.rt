@@ -1,8 +1,8 @@
 //! Numbers, addresses and prefixes as decimal text.
 
-ghost use Rattle.std.specs.Prelude.{◌≡◌, ◌≤◌, ◌==◌, length, option_map, position};
+ghost use Rattle.std.specs.Prelude.{◌≡◌, ◌≤◌, ◌<◌, ◌==◌, ◌+◌, ◌*◌, IfSome, length, option_and_then, option_map, position};
 ghost use Rattle.std.specs.List.{list_all};
-ghost use Rattle.mw_text.specs.Digits.{is_digit, value_of, is_numeral, number_of, octet_of, cut_at, addr_of, prefix_of_text};
+ghost use Rattle.mw_text.specs.Digits.{is_digit, value_of, is_numeral, number_of, octet_of, octets_of, cut_at, addr_of, prefix_of_text};
 
 use crate::address::{Addr, Prefix, prefix_of};
 
@@ -84,6 +84,25 @@ pub fn cut(word: &[u8], byte: u8) -> Option<(&[u8], &[u8])>
     }
 }
 
+// Two octets as a number of 16 bits, the first highest.
+fn read_octets(first: &[u8], second: &[u8]) -> Option<u32>
+    ensures value { result ≡ octets_of first.now second.now }
+    ensures small { IfSome result (λ n. n < 65536) }
+{
+    let high = read_octet(first)?;
+    Some(high * 256 + read_octet(second)?)
+}
+
+// The address of two such numbers, the first highest.
+fn join_octets(high: Option<u32>, low: Option<u32>) -> Option<Addr>
+    requires high { IfSome high (λ n. n < 65536) }
+    requires low { IfSome low (λ n. n < 65536) }
+    ensures { result ≡ option_and_then (λ h. option_map (λ l. record { 0 = h * 65536 + l }) low) high }
+{
+    let high = high?;
+    Some(Addr(high * 65536 + low?))
+}
+
 /// The address that a word of four octets with dots between them writes (RFC 1123, section 2.1), an octet
 /// having 1 to 3 digits and no leading zero. None exactly off that.
 pub fn read_addr(word: &[u8]) -> Option<Addr>
@@ -92,9 +111,7 @@ pub fn read_addr(word: &[u8]) -> Option<Addr>
     let (first, rest) = cut(word, b'.')?;
     let (second, rest) = cut(rest, b'.')?;
     let (third, fourth) = cut(rest, b'.')?;
-    let high = read_octet(first)? * 256 + read_octet(second)?;
-    let low = read_octet(third)? * 256 + read_octet(fourth)?;
-    Some(Addr(high * 65536 + low))
+    join_octets(read_octets(first, second), read_octets(third, fourth))
 }
 
 /// The prefix that an address, a slash and a length of at most 32 write (RFC 4632, section 3.1); bits past

@@ -10,7 +10,7 @@ use std::alloc::{AllocError, Global};
 
 /// A line of a text: its number from 1 on, whether it begins with a blank (a space or a tab), its words,
 /// which blanks separate, and its bytes without the line feed.
-#[derive(Debug, Drop)]
+#[derive(Drop)]
 pub struct Line {
     pub number: u32,
     pub indented: bool,

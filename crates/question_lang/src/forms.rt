@@ -12,7 +12,7 @@ use mw_text::List;
 use std::alloc::Global;
 
 /// The kinds of questions, as their words name them.
-#[derive(Clone, Copy, Debug)]
+#[derive(Clone, Copy)]
 pub enum Form {
     Reach,
     Isolate,
@@ -25,7 +25,7 @@ pub enum Form {
 }
 
 /// The word of a kind, in lower case and filled up with blanks, and the kind.
-#[derive(Clone, Copy, Debug)]
+#[derive(Clone, Copy)]
 pub struct FormName(pub [u8; 16], pub Form);
 
 /// The words of all kinds.

@@ -6,7 +6,7 @@ use std::alloc::{AllocError, AllocFailed};
 use thiserror::Error;
 
 /// A literal: a variable, or its negation.
-#[derive(Clone, Copy, Debug, Default, PartialEq, Eq)]
+#[derive(Clone, Copy, Default, PartialEq, Eq)]
 pub struct Lit {
     /// The variable's number, from 0 on.
     pub var: u64,
@@ -15,13 +15,13 @@ pub struct Lit {
 }
 
 /// A clause: true where one of its literals is. Their order and repetitions mean nothing.
-#[derive(Clone, Debug, Drop)]
+#[derive(Clone, Drop)]
 pub struct Clause {
     pub lits: List<Lit>,
 }
 
 /// One entry of a log.
-#[derive(Debug, Drop)]
+#[derive(Drop)]
 pub enum Entry {
     /// A clause that is given.
     Input {

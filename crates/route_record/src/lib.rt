@@ -17,7 +17,7 @@ pub use tracked::{MOST_TRACKED, Shape, Tracked};
 pub const LENGTHS: usize = 33;
 
 /// A packet, by the fields of its IP header (RFC 791) and the ports of TCP or UDP.
-#[derive(Clone, Copy, Debug, PartialEq, Eq)]
+#[derive(Clone, Copy)]
 pub struct Packet {
     pub src: Addr,
     pub dst: Addr,
@@ -27,7 +27,7 @@ pub struct Packet {
 }
 
 /// The kind of an OSPF route (RFC 2328, section 11).
-#[derive(Clone, Copy, Debug, PartialEq, Eq)]
+#[derive(Clone, Copy)]
 pub enum OspfKind {
     Internal,
     Ext1,
@@ -35,7 +35,7 @@ pub enum OspfKind {
 }
 
 /// An OSPF route with its external metric and its cost.
-#[derive(Clone, Copy, Debug, PartialEq, Eq)]
+#[derive(Clone, Copy)]
 pub struct OspfRec {
     pub kind: OspfKind,
     pub metric: u32,
@@ -43,7 +43,7 @@ pub struct OspfRec {
 }
 
 /// The ORIGIN of a BGP route (RFC 4271, section 5.1.1).
-#[derive(Clone, Copy, Debug, PartialEq, Eq)]
+#[derive(Clone, Copy)]
 pub enum Origin {
     Igp,
     Egp,
@@ -51,14 +51,14 @@ pub enum Origin {
 }
 
 /// Where a BGP route was learnt.
-#[derive(Clone, Copy, Debug, PartialEq, Eq)]
+#[derive(Clone, Copy)]
 pub enum Learnt {
     Local,
     Peer(Addr),
 }
 
 /// A BGP route that a router holds (RFC 4271, section 5; RFC 4456; RFC 1997).
-#[derive(Debug, Drop)]
+#[derive(Drop)]
 pub struct BgpRec {
     pub from: Learnt,
     pub weight: u32,
@@ -74,7 +74,7 @@ pub struct BgpRec {
 
 /// A BGP route as it is sent over a session: what an UPDATE message carries (RFC 4271, section 4.3). Over an external
 /// session it has no local preference, no originator and no clusters.
-#[derive(Debug, Drop)]
+#[derive(Drop)]
 pub struct BgpMsg {
     pub local_pref: Option<u32>,
     pub path: List<u32>,
@@ -87,7 +87,7 @@ pub struct BgpMsg {
 }
 
 /// Where a route map is used: on an external or an internal BGP session, or at a redistribution.
-#[derive(Clone, Copy, Debug, PartialEq, Eq)]
+#[derive(Clone, Copy)]
 pub enum Side {
     External,
     Internal,
@@ -107,14 +107,14 @@ impl Side {
 
 /// What a route map acts on: a route, and whether it is redistributed into OSPF as one of type 1. A route that is not
 /// from BGP has an empty path and no communities, and its metric stands as the MED.
-#[derive(Debug, Drop)]
+#[derive(Drop)]
 pub struct MapRec {
     pub bgp: BgpRec,
     pub type1: bool,
 }
 
 /// Which prefix lengths share one slice of a routing: the class of each of the 33 lengths, and the slices of each class.
-#[derive(Debug, Drop)]
+#[derive(Drop)]
 pub struct Plan {
     pub class: List<u8>,
     pub slices: List<u8>,

@@ -7,7 +7,7 @@ pub const MOST_TRACKED: usize = 128;
 
 /// The communities, AS numbers and cluster ids that the policies and routers of a network name. Nothing else of a
 /// route's lists makes a difference there, but their lengths and the ends of the path.
-#[derive(Debug, Drop)]
+#[derive(Drop)]
 pub struct Tracked {
     pub communities: mw_text::List<u32>,
     pub numbers: mw_text::List<u32>,
@@ -16,7 +16,7 @@ pub struct Tracked {
 
 /// What is kept of a route's lists. The first and the last number of an empty path are 0. A set has bit `i` where the
 /// tracked value at position `i` stands in the list.
-#[derive(Clone, Copy, Debug, PartialEq, Eq)]
+#[derive(Clone, Copy)]
 pub struct Shape {
     pub len: u32,
     pub first: u32,

@@ -4,7 +4,7 @@ use mw_text::List;
 use route_record::Slot;
 
 /// A part of a slot.
-#[derive(Clone, Copy, Debug, PartialEq, Eq)]
+#[derive(Clone, Copy)]
 pub enum Part {
     Ospf,
     Bgp,

@@ -19,7 +19,7 @@ use std::marker::Model;
 pub struct NodeId(pub u64);
 
 /// A node: a constant, a variable by its number, or a gate over nodes of the store.
-#[derive(Debug, Clone, Copy, PartialEq, Eq, Hash)]
+#[derive(Clone, Copy, PartialEq, Eq, Hash)]
 pub enum Node {
     Const(bool),
     Var(u64),
@@ -32,7 +32,7 @@ pub enum Node {
 }
 
 /// A store of nodes. Nodes are only added, each above its operands.
-#[derive(Debug, Drop)]
+#[derive(Drop)]
 pub struct Terms {
     nodes: IndexSet<Node>,
     vars: u64,

@@ -16,7 +16,7 @@ use std::alloc::{AllocError, Global};
 use std::marker::Model;
 
 /// The trail of a search, and the value of each variable.
-#[derive(Debug, Drop)]
+#[derive(Drop)]
 pub struct Assigned {
     trail: Trail,
     values: Vec<Value>,

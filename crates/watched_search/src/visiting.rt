@@ -17,7 +17,7 @@ use clause_arena::{Arena, ClauseRef, Watch};
 use resolution_check::Lit;
 
 /// What was found at a watch.
-#[derive(Clone, Copy, Debug)]
+#[derive(Clone, Copy)]
 pub enum Visited {
     /// The other watch is true.
     Stays,
