@@ -1,0 +1,32 @@
+//! The arena's worked example: three clauses over three variables, a deletion and a compaction.
+
+use clause_arena::{Arena, ClauseRef};
+use resolution_check::Lit;
+use std::alloc::{AllocError, Global};
+use std::io;
+
+fn literal(var: u64, negated: bool) -> Lit
+    ensures { result.var ≡ var }
+{
+    Lit { var, negated }
+}
+
+/// The number of the third clause after the second was deleted and the others were moved together.
+fn third_number(alloc: Global) -> Result<u64, AllocError> {
+    let mut arena = Arena::new(alloc, 3)?;
+    arena.add(1, &[literal(0, false), literal(1, false)])?;
+    let second = arena.add(2, &[literal(0, true), literal(2, false)])?;
+    let third = arena.add(3, &[literal(1, true), literal(2, true), literal(0, false)])?;
+    arena.delete(second);
+    let mut reasons = [Some(third), None];
+    arena.compact(&mut reasons);
+    match reasons[0] {
+        Some(clause) => Ok(arena.id(clause)),
+        None => Ok(0),
+    }
+}
+
+/// Works the example, and prints the number that the reason's clause has in the end.
+pub fn show(rt: &(impl Print + AllocGlobal)) -> io::Result<()> {
+    println!(rt; "the reason is clause {}", third_number(rt.alloc())?)
+}
