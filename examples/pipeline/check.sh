@@ -4,6 +4,7 @@
 #   MW=/path/to/mw check.sh QUESTIONS FOLDER
 set -u
 mw=${MW:-$(dirname -- "$0")/../../mw}
+if [ -z "${MW-}" ] && [ ! -x "$mw" ]; then mw=mw; fi
 if [ $# -ne 2 ]; then
     echo "usage: check.sh QUESTIONS FOLDER" >&2
     exit 64

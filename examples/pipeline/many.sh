@@ -7,6 +7,7 @@
 # at the same paths, and the program. Where GNU parallel is not there, xargs runs them on this machine alone.
 set -u
 mw=${MW:-$(dirname -- "$0")/../../mw}
+if [ -z "${MW-}" ] && [ ! -x "$mw" ]; then mw=mw; fi
 if [ "${1-}" = --one ]; then
     questions=$3
     "$mw" verify "$questions" "$2"/*.cfg >"$questions.verdicts" 2>"$questions.said"
