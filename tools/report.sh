@@ -72,6 +72,7 @@ take_time() {
 
 # Prints a line; where nobody reads any more, the program is to see that too.
 put_line() {
+    if [ "$watching" = 1 ] && [ -t 1 ]; then set -- "$cleared$1"; fi
     printf '%s\n' "$1" 2>/dev/null || { gone=yes && exec </dev/null; }
 }
 
@@ -190,12 +191,13 @@ write_junit() {
 
 # report WORDS: reads what the program prints for these words, and then its status from a pipe; ends with that.
 report() {
-    case $1 in --log) shift 2 ;; esac
+    if [ "${1-}" = --log ] && [ $# -ge 2 ]; then shift 2; fi
     case ${1-} in
     replay) suite=${3-} ;;
     *) if [ "${2-}" = --conflicts ]; then suite=${4-}; else suite=${2-}; fi ;;
     esac
     suite=$(escaped xml "$suite")
+    cleared=$(printf '\r\033[K')
     total=0 cases=0 failures=0 errors=0 gone='' refusal=''
     : >"$work/cases"
     read_clock
