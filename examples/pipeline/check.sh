@@ -2,8 +2,10 @@
 # The step of a job that checks a change: the questions beside a folder of configurations, in one run. The job fails
 # where a question is broken or unknown, where a file is refused, and where anything else goes wrong.
 #   MW=/path/to/mw check.sh QUESTIONS FOLDER
+# With JUNIT=FILE the verdicts stand in that file too, in the form that CI shows as tests.
 set -u
 mw=${MW:-$(dirname -- "$0")/../../mw}
+if [ -z "${MW-}" ] && [ ! -x "$mw" ]; then mw=mw; fi
 if [ $# -ne 2 ]; then
     echo "usage: check.sh QUESTIONS FOLDER" >&2
     exit 64
@@ -16,7 +18,7 @@ if [ ! -e "$1" ]; then
     exit 64
 fi
 
-MW_EXPLAIN=1 "$mw" verify "$questions" "$@"
+MW_EXPLAIN=1 "$mw" ${JUNIT:+--junit "$JUNIT"} verify "$questions" "$folder"
 status=$?
 case $status in
 0) said="every question holds" ;;
