@@ -98,8 +98,8 @@ fn sym_wanted(
     limits: &[u32],
 ) -> Result<NodeId, AllocError>
     requires long { len ≤ 32 }
-    requires wide { length dst.now.nodes ≡ 32 }
-    requires nodes { ids_end dst.now.nodes ≤ size terms.old }
+    requires wide { length dst.now.nodes.items ≡ 32 }
+    requires nodes { ids_end dst.now.nodes.items ≤ size terms.old }
     requires down { ids_end sym.now.down ≤ size terms.old }
     requires rows { HasTracked (tracked_of net.now) slot.now.bgp }
     requires slots { slots_end slots.now ≤ size terms.old }
@@ -152,8 +152,8 @@ fn sym_runs(
     limits: &[u32],
 ) -> Result<NodeId, AllocError>
     requires long { len ≤ 32 }
-    requires wide { length dst.now.nodes ≡ 32 }
-    requires nodes { ids_end dst.now.nodes ≤ size terms.old }
+    requires wide { length dst.now.nodes.items ≡ 32 }
+    requires nodes { ids_end dst.now.nodes.items ≤ size terms.old }
     requires down { ids_end sym.now.down ≤ size terms.old }
     requires rows { HaveTracked (tracked_of net.now) slots.now }
     requires slots { slots_end slots.now ≤ size terms.old }
@@ -193,8 +193,8 @@ pub fn sym_slot_holds(
     limits: &[u32],
 ) -> Result<NodeId, AllocError>
     requires long { len ≤ 32 }
-    requires wide { length dst.now.nodes ≡ 32 }
-    requires nodes { ids_end dst.now.nodes ≤ size terms.old }
+    requires wide { length dst.now.nodes.items ≡ 32 }
+    requires nodes { ids_end dst.now.nodes.items ≤ size terms.old }
     requires down { ids_end sym.now.down ≤ size terms.old }
     requires rows { HaveTracked (tracked_of net.now) slots.now }
     requires slots { slots_end slots.now ≤ size terms.old }

@@ -31,10 +31,10 @@ fn padded(alloc: Global, terms: &mut Terms, width: u8, whole: u8) -> Result<Bits
     requires whole { whole ≤ 64 }
     requires fits { width ≤ whole }
     ensures grows { Grows terms.old terms.new }
-    ensures within { IfOk result (λ r. ids_end r.nodes ≤ size terms.new) }
-    ensures width { IfOk result (λ r. length r.nodes ≡ whole) }
+    ensures within { IfOk result (λ r. ids_end r.nodes.items ≤ size terms.new) }
+    ensures width { IfOk result (λ r. length r.nodes.items ≡ whole) }
     ensures vars { OnOk result (terms.new.vars ≡ terms.old.vars + width) }
-    ensures value { Gives terms.new result (λ w r. number w r.nodes ≡ number_from w.variable terms.old.vars width) }
+    ensures value { Gives terms.new result (λ w r. number w r.nodes.items ≡ number_from w.variable terms.old.vars width) }
 {
     let low = fresh_bits(alloc, terms, width)?;
     let zeros = constant(alloc, terms, 0, whole - width)?;

@@ -65,8 +65,8 @@ fn put_origin(
     made: &mut List<SymOspf>,
 ) -> Result<(), AllocError>
     requires long { len ≤ 32 }
-    requires wide { length dst.now.nodes ≡ 32 }
-    requires nodes { ids_end dst.now.nodes ≤ size terms.old }
+    requires wide { length dst.now.nodes.items ≡ 32 }
+    requires nodes { ids_end dst.now.nodes.items ≤ size terms.old }
     requires down { ids_end sym.now.down ≤ size terms.old }
     requires made { list_end ospf_end made.old ≤ size terms.old }
     ensures builds { Builds terms.old terms.new }
@@ -98,8 +98,8 @@ fn by_interfaces(
     len: u8,
 ) -> Result<List<SymOspf>, AllocError>
     requires long { len ≤ 32 }
-    requires wide { length dst.now.nodes ≡ 32 }
-    requires nodes { ids_end dst.now.nodes ≤ size terms.old }
+    requires wide { length dst.now.nodes.items ≡ 32 }
+    requires nodes { ids_end dst.now.nodes.items ≤ size terms.old }
     requires down { ids_end sym.now.down ≤ size terms.old }
     ensures builds { Builds terms.old terms.new }
     ensures within { IfOk result (λ r. list_end ospf_end r ≤ size terms.new) }
@@ -140,8 +140,8 @@ pub fn own_routes(
     slot: &SymSlot,
 ) -> Result<List<SymOspf>, AllocError>
     requires long { len ≤ 32 }
-    requires wide { length dst.now.nodes ≡ 32 }
-    requires nodes { ids_end dst.now.nodes ≤ size terms.old }
+    requires wide { length dst.now.nodes.items ≡ 32 }
+    requires nodes { ids_end dst.now.nodes.items ≤ size terms.old }
     requires down { ids_end sym.now.down ≤ size terms.old }
     requires rows { HasTracked (tracked_of net.now) slot.now.bgp }
     requires slot { slot_end slot.now ≤ size terms.old }

@@ -26,10 +26,10 @@ fn field(
     requires small { width ≤ 64 }
     requires fits { IfSome fixed (λ n. n < 2 ^ width) }
     ensures grows { Grows terms.old terms.new }
-    ensures within { IfOk result (λ r. ids_end r.nodes ≤ size terms.new) }
-    ensures width { IfOk result (λ r. length r.nodes ≡ width) }
+    ensures within { IfOk result (λ r. ids_end r.nodes.items ≤ size terms.new) }
+    ensures width { IfOk result (λ r. length r.nodes.items ≡ width) }
     ensures vars { OnOk result (terms.new.vars ≡ terms.old.vars + field_width fixed width) }
-    ensures value { Gives terms.new result (λ w r. number w r.nodes ≡ field_from fixed width w.variable terms.old.vars) }
+    ensures value { Gives terms.new result (λ w r. number w r.nodes.items ≡ field_from fixed width w.variable terms.old.vars) }
 {
     match fixed {
         Some(n) => constant(alloc, terms, u64::from(n), width),
@@ -39,10 +39,10 @@ fn field(
 
 // A number above another: its nodes come after the other's.
 pub fn above(low: Bits, high: &Bits) -> Result<Bits, AllocError>
-    ensures { IfOk result (λ r. r.nodes ≡ low.nodes ++ high.now.nodes) }
+    ensures { IfOk result (λ r. r.nodes.items ≡ low.nodes.items ++ high.now.nodes.items) }
 {
     let mut all = low;
-    all.nodes.items.extend_from_slice(high.nodes.as_slice())?;
+    all.nodes.extend_from_slice(high.nodes.as_slice())?;
     Ok(all)
 }
 
@@ -51,10 +51,10 @@ pub fn above(low: Bits, high: &Bits) -> Result<Bits, AllocError>
 fn address(alloc: Global, terms: &mut Terms, prefix: &Prefix) -> Result<Bits, AllocError>
     requires addr { prefix.now.addr.0 < 2 ^ 32 }
     ensures grows { Grows terms.old terms.new }
-    ensures within { IfOk result (λ r. ids_end r.nodes ≤ size terms.new) }
-    ensures width { IfOk result (λ r. length r.nodes ≡ 32) }
+    ensures within { IfOk result (λ r. ids_end r.nodes.items ≤ size terms.new) }
+    ensures width { IfOk result (λ r. length r.nodes.items ≡ 32) }
     ensures vars { OnOk result (terms.new.vars ≡ terms.old.vars + (32 - prefix.now.len)) }
-    ensures value { Gives terms.new result (λ w r. number w r.nodes ≡ address_from prefix.now w.variable terms.old.vars) }
+    ensures value { Gives terms.new result (λ w r. number w r.nodes.items ≡ address_from prefix.now w.variable terms.old.vars) }
 {
     let free = 32u8.saturating_sub(prefix.len);
     let high = u64::from(prefix.addr.0) >> free;

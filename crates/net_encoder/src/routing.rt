@@ -35,12 +35,12 @@ fn sym_in_range(
     range: (u16, u16),
     port: &Bits,
 ) -> Result<NodeId, AllocError>
-    requires wide { length port.now.nodes ≡ 16 }
-    requires nodes { ids_end port.now.nodes ≤ size terms.old }
+    requires wide { length port.now.nodes.items ≡ 16 }
+    requires nodes { ids_end port.now.nodes.items ≤ size terms.old }
     ensures builds { Builds terms.old terms.new }
     ensures within { IfOk result (λ r. r.0 < size terms.new) }
     ensures value { Gives terms.new result (λ w r. at w r
-        ≡ (nat_le range.0 (number w port.now.nodes) && nat_le (number w port.now.nodes) range.1)) }
+        ≡ (nat_le range.0 (number w port.now.nodes.items) && nat_le (number w port.now.nodes.items) range.1)) }
 {
     let first = constant(alloc, terms, u64::from(range.0), 16)?;
     let last = constant(alloc, terms, u64::from(range.1), 16)?;

@@ -47,8 +47,8 @@ fn slot_at_place(
     part: &SymOpen,
 ) -> Result<SymSlot, AllocError>
     requires few { place < constants.LENGTHS * 64 }
-    requires wide { length dst.now.nodes ≡ 32 }
-    requires nodes { ids_end dst.now.nodes ≤ size terms.old }
+    requires wide { length dst.now.nodes.items ≡ 32 }
+    requires nodes { ids_end dst.now.nodes.items ≤ size terms.old }
     requires down { ids_end sym.now.down ≤ size terms.old }
     requires part { open_end part.now ≤ size terms.old }
     ensures builds { Builds terms.old terms.new }
@@ -77,8 +77,8 @@ fn holds_at_place(
     limits: &[u32],
 ) -> Result<NodeId, AllocError>
     requires few { place < constants.LENGTHS * 64 }
-    requires wide { length dst.now.nodes ≡ 32 }
-    requires nodes { ids_end dst.now.nodes ≤ size terms.old }
+    requires wide { length dst.now.nodes.items ≡ 32 }
+    requires nodes { ids_end dst.now.nodes.items ≤ size terms.old }
     requires down { ids_end sym.now.down ≤ size terms.old }
     requires rows { HaveTracked (tracked_of net.now) slots.now }
     requires slots { slots_end slots.now ≤ size terms.old }
@@ -111,8 +111,8 @@ pub fn slots(
 ) -> Result<List<SymSlot>, AllocError>
     requires few { length net.now ≤ 64 }
     requires long { length parts.now ≡ constants.LENGTHS * length net.now }
-    requires wide { length dst.now.nodes ≡ 32 }
-    requires nodes { ids_end dst.now.nodes ≤ size terms.old }
+    requires wide { length dst.now.nodes.items ≡ 32 }
+    requires nodes { ids_end dst.now.nodes.items ≤ size terms.old }
     requires down { ids_end sym.now.down ≤ size terms.old }
     requires parts { opens_end parts.now ≤ size terms.old }
     ensures builds { Builds terms.old terms.new }
@@ -144,8 +144,8 @@ pub fn sym_all_hold(
 ) -> Result<NodeId, AllocError>
     requires few { length net.now ≤ 64 }
     requires long { length parts.now ≡ constants.LENGTHS * length net.now }
-    requires wide { length dst.now.nodes ≡ 32 }
-    requires nodes { ids_end dst.now.nodes ≤ size terms.old }
+    requires wide { length dst.now.nodes.items ≡ 32 }
+    requires nodes { ids_end dst.now.nodes.items ≤ size terms.old }
     requires down { ids_end sym.now.down ≤ size terms.old }
     requires rows { HaveTracked (tracked_of net.now) slots.now }
     requires slots { slots_end slots.now ≤ size terms.old }

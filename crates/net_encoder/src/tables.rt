@@ -32,16 +32,16 @@ struct NoPreferences {
     local_pref: Bits,
     origin: Bits,
     med: Bits,
-    ghost weight_wide: { length weight.nodes ≡ 32 },
-    ghost local_pref_wide: { length local_pref.nodes ≡ 32 },
-    ghost origin_wide: { length origin.nodes ≡ 2 },
-    ghost med_wide: { length med.nodes ≡ 32 },
+    ghost weight_wide: { length weight.nodes.items ≡ 32 },
+    ghost local_pref_wide: { length local_pref.nodes.items ≡ 32 },
+    ghost origin_wide: { length origin.nodes.items ≡ 2 },
+    ghost med_wide: { length med.nodes.items ≡ 32 },
 }
 
 fn no_preferences(alloc: Global, terms: &mut Terms) -> Result<NoPreferences, AllocError>
     ensures builds { Builds terms.old terms.new }
-    ensures within { IfOk result (λ r. max (max (ids_end r.weight.nodes) (ids_end r.local_pref.nodes))
-        (max (ids_end r.origin.nodes) (ids_end r.med.nodes)) ≤ size terms.new) }
+    ensures within { IfOk result (λ r. max (max (ids_end r.weight.nodes.items) (ids_end r.local_pref.nodes.items))
+        (max (ids_end r.origin.nodes.items) (ids_end r.med.nodes.items)) ≤ size terms.new) }
 {
     Ok(NoPreferences {
         weight: constant(alloc, terms, 0, 32)?,
@@ -58,23 +58,23 @@ struct NoPath {
     first: Bits,
     last: Bits,
     numbers: Bits,
-    ghost len_wide: { length len.nodes ≡ 32 },
-    ghost first_wide: { length first.nodes ≡ 32 },
-    ghost last_wide: { length last.nodes ≡ 32 },
+    ghost len_wide: { length len.nodes.items ≡ 32 },
+    ghost first_wide: { length first.nodes.items ≡ 32 },
+    ghost last_wide: { length last.nodes.items ≡ 32 },
 }
 
 fn no_path(alloc: Global, terms: &mut Terms, tracked: usize) -> Result<NoPath, AllocError>
     ensures builds { Builds terms.old terms.new }
-    ensures row { IfOk result (λ r. length r.numbers.nodes ≡ tracked) }
-    ensures within { IfOk result (λ r. max (max (ids_end r.len.nodes) (ids_end r.first.nodes))
-        (max (ids_end r.last.nodes) (ids_end r.numbers.nodes)) ≤ size terms.new) }
+    ensures row { IfOk result (λ r. length r.numbers.nodes.items ≡ tracked) }
+    ensures within { IfOk result (λ r. max (max (ids_end r.len.nodes.items) (ids_end r.first.nodes.items))
+        (max (ids_end r.last.nodes.items) (ids_end r.numbers.nodes.items)) ≤ size terms.new) }
 {
     Ok(NoPath {
         len: constant(alloc, terms, 0, 32)?,
         first: constant(alloc, terms, 0, 32)?,
         last: constant(alloc, terms, 0, 32)?,
         numbers: Bits {
-            nodes: none_down(alloc, terms, tracked)?,
+            nodes: none_down(alloc, terms, tracked)?.items,
         },
     })
 }
@@ -88,25 +88,25 @@ struct NoOthers {
     communities: Bits,
     cluster_len: Bits,
     clusters: Bits,
-    ghost next_hop_wide: { length next_hop.nodes ≡ 32 },
-    ghost originator_wide: { length originator.nodes ≡ 33 },
-    ghost from_wide: { length from.nodes ≡ 33 },
-    ghost cluster_len_wide: { length cluster_len.nodes ≡ 32 },
+    ghost next_hop_wide: { length next_hop.nodes.items ≡ 32 },
+    ghost originator_wide: { length originator.nodes.items ≡ 33 },
+    ghost from_wide: { length from.nodes.items ≡ 33 },
+    ghost cluster_len_wide: { length cluster_len.nodes.items ≡ 32 },
 }
 
 fn no_others(alloc: Global, terms: &mut Terms, tracked: usize) -> Result<NoOthers, AllocError>
     ensures builds { Builds terms.old terms.new }
-    ensures row { IfOk result (λ r. length r.communities.nodes ≡ tracked) }
-    ensures within { IfOk result (λ r. max (max (ids_end r.communities.nodes) (ids_end r.next_hop.nodes))
-        (max (max (ids_end r.originator.nodes) (ids_end r.from.nodes))
-        (max (ids_end r.cluster_len.nodes) (ids_end r.clusters.nodes))) ≤ size terms.new) }
+    ensures row { IfOk result (λ r. length r.communities.nodes.items ≡ tracked) }
+    ensures within { IfOk result (λ r. max (max (ids_end r.communities.nodes.items) (ids_end r.next_hop.nodes.items))
+        (max (max (ids_end r.originator.nodes.items) (ids_end r.from.nodes.items))
+        (max (ids_end r.cluster_len.nodes.items) (ids_end r.clusters.nodes.items))) ≤ size terms.new) }
 {
     Ok(NoOthers {
         next_hop: constant(alloc, terms, 0, 32)?,
         originator: constant(alloc, terms, 0, 33)?,
         from: constant(alloc, terms, 0, 33)?,
         communities: Bits {
-            nodes: none_down(alloc, terms, tracked)?,
+            nodes: none_down(alloc, terms, tracked)?.items,
         },
         cluster_len: constant(alloc, terms, 0, 32)?,
         clusters: constant(alloc, terms, 0, 0)?,
@@ -204,8 +204,8 @@ pub fn slot(
     part: &SymOpen,
 ) -> Result<SymSlot, AllocError>
     requires long { len ≤ 32 }
-    requires wide { length dst.now.nodes ≡ 32 }
-    requires nodes { ids_end dst.now.nodes ≤ size terms.old }
+    requires wide { length dst.now.nodes.items ≡ 32 }
+    requires nodes { ids_end dst.now.nodes.items ≤ size terms.old }
     requires down { ids_end sym.now.down ≤ size terms.old }
     requires part { open_end part.now ≤ size terms.old }
     ensures builds { Builds terms.old terms.new }

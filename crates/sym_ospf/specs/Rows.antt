@@ -38,11 +38,11 @@ pub record HasDistances (w : Reading) (files : List File) (sym : SymNet) : Type 
 -- ---- distances as terms
 
 abbrev pub distance_of : Reading → SymDistance → Option ℕ
-distance_of w s = if at w s.there then Some (number w s.sum.nodes) else None
+distance_of w s = if at w s.there then Some (number w s.sum.nodes.items) else None
 
 -- the least size of a store that has all nodes of the distance
 abbrev pub distance_end : SymDistance → ℕ
-distance_end s = max (s.there.0 + 1) (ids_end s.sum.nodes)
+distance_end s = max (s.there.0 + 1) (ids_end s.sum.nodes.items)
 
 -- the less of the least so far and of the next, where there is one
 abbrev pub nearer : Option ℕ → Option ℕ → Option ℕ

@@ -25,12 +25,12 @@ fn sym_costs(
     rec: &SymOspf,
     sum: &Bits,
 ) -> Result<NodeId, AllocError>
-    requires wide { length sum.now.nodes ≡ 33 }
+    requires wide { length sum.now.nodes.items ≡ 33 }
     requires nodes { ospf_end rec.now ≤ size terms.old }
-    requires sum { ids_end sum.now.nodes ≤ size terms.old }
+    requires sum { ids_end sum.now.nodes.items ≤ size terms.old }
     ensures builds { Builds terms.old terms.new }
     ensures within { IfOk result (λ r. r.0 < size terms.new) }
-    ensures value { Gives terms.new result (λ w r. at w r ≡ (number w rec.now.cost.nodes == number w sum.now.nodes)) }
+    ensures value { Gives terms.new result (λ w r. at w r ≡ (number w rec.now.cost.nodes.items == number w sum.now.nodes.items)) }
 {
     let none = constant(alloc, terms, 0, 32)?;
     let cost = add(alloc, terms, &rec.cost, &none)?;
@@ -45,14 +45,14 @@ fn sym_same_fields(
     rec: &SymOspf,
     sum: &Bits,
 ) -> Result<NodeId, AllocError>
-    requires wide { length sum.now.nodes ≡ 33 }
+    requires wide { length sum.now.nodes.items ≡ 33 }
     requires nodes { ospf_end rec.now ≤ size terms.old }
-    requires sum { ids_end sum.now.nodes ≤ size terms.old }
+    requires sum { ids_end sum.now.nodes.items ≤ size terms.old }
     ensures builds { Builds terms.old terms.new }
     ensures within { IfOk result (λ r. r.0 < size terms.new) }
     ensures value { Gives terms.new result (λ w r. at w r
         ≡ (is_internal (ospf_at w rec.now).kind
-        && (((ospf_at w rec.now).metric == 0) && ((ospf_at w rec.now).cost == number w sum.now.nodes)))) }
+        && (((ospf_at w rec.now).metric == 0) && ((ospf_at w rec.now).cost == number w sum.now.nodes.items)))) }
 {
     let internal = equal_number(terms, rec.kind.nodes.as_slice(), 0)?;
     let metric = equal_number(terms, rec.metric.nodes.as_slice(), 0)?;

@@ -11,5 +11,5 @@ use term_store::NodeId;
 pub(crate) struct SymDistance {
     pub(crate) there: NodeId,
     pub(crate) sum: Bits,
-    pub(crate) ghost wide: { length sum.nodes ≡ 33 },
+    pub(crate) ghost wide: { length sum.nodes.items ≡ 33 },
 }

@@ -29,8 +29,8 @@ use term_store::{NodeId, Terms};
 /// The bits of an address above its `low` lowest ones.
 #[tactic(auto, using(std::proofs::lemmas::List::take_rest))]
 fn high_bits(address: &Bits, low: u8) -> &[NodeId]
-    requires { low ≤ length address.now.nodes }
-    ensures { result.now ≡ drop low address.now.nodes }
+    requires { low ≤ length address.now.nodes.items }
+    ensures { result.now ≡ drop low address.now.nodes.items }
 {
     &address.nodes.as_slice()[low as usize..]
 }
@@ -38,8 +38,8 @@ fn high_bits(address: &Bits, low: u8) -> &[NodeId]
 /// Whether the prefix contains an address, by as many bits as the prefix is long.
 #[tactic(auto, using(sym_policy::proofs::HighBits::prefix_steps))]
 fn sym_contains(terms: &mut Terms, prefix: &Prefix, address: &Bits) -> Result<NodeId, AllocError>
-    requires wide { length address.now.nodes ≡ 32 }
-    requires nodes { ids_end address.now.nodes ≤ size terms.old }
+    requires wide { length address.now.nodes.items ≡ 32 }
+    requires nodes { ids_end address.now.nodes.items ≤ size terms.old }
     ensures builds { Builds terms.old terms.new }
     ensures within { IfOk result (λ r. r.0 < size terms.new) }
     ensures value { Gives terms.new result (λ w r. at w r ≡ covers prefix.now (address_of w address.now)) }
@@ -59,8 +59,8 @@ fn sym_reached_by(
     a: &Bits,
     x: &Addressed,
 ) -> Result<NodeId, AllocError>
-    requires wide { length a.now.nodes ≡ 32 }
-    requires address { ids_end a.now.nodes ≤ size terms.old }
+    requires wide { length a.now.nodes.items ≡ 32 }
+    requires address { ids_end a.now.nodes.items ≤ size terms.old }
     requires nodes { net_end sym.now ≤ size terms.old }
     ensures builds { Builds terms.old terms.new }
     ensures within { IfOk result (λ r. r.0 < size terms.new) }
@@ -85,8 +85,8 @@ fn sym_reached(
     router: u32,
     a: &Bits,
 ) -> Result<NodeId, AllocError>
-    requires wide { length a.now.nodes ≡ 32 }
-    requires address { ids_end a.now.nodes ≤ size terms.old }
+    requires wide { length a.now.nodes.items ≡ 32 }
+    requires address { ids_end a.now.nodes.items ≤ size terms.old }
     requires nodes { net_end sym.now ≤ size terms.old }
     ensures builds { Builds terms.old terms.new }
     ensures within { IfOk result (λ r. r.0 < size terms.new) }
@@ -117,8 +117,8 @@ fn sym_found_at(
     requires router { router < length net.now }
     requires place { k < length (ospf.advertised net.now) }
     requires there { slice_get (ospf.advertised net.now) k ≡ Some p.now }
-    requires wide { length a.now.nodes ≡ 32 }
-    requires address { ids_end a.now.nodes ≤ size terms.old }
+    requires wide { length a.now.nodes.items ≡ 32 }
+    requires address { ids_end a.now.nodes.items ≤ size terms.old }
     requires nodes { net_end sym.now ≤ size terms.old }
     requires behind { ospf_end behind.now ≤ size terms.old }
     ensures builds { Builds terms.old terms.new }
@@ -146,8 +146,8 @@ fn sym_found(
 ) -> Result<SymOspf, AllocError>
     requires rows { length sym.now.igp ≡ length net.now * length (ospf.advertised net.now) }
     requires router { router < length net.now }
-    requires wide { length a.now.nodes ≡ 32 }
-    requires address { ids_end a.now.nodes ≤ size terms.old }
+    requires wide { length a.now.nodes.items ≡ 32 }
+    requires address { ids_end a.now.nodes.items ≤ size terms.old }
     requires nodes { net_end sym.now ≤ size terms.old }
     ensures builds { Builds terms.old terms.new }
     ensures within { IfOk result (λ r. ospf_end r ≤ size terms.new) }
@@ -173,8 +173,8 @@ fn sym_far(
     a: &Bits,
 ) -> Result<SymOspf, AllocError>
     requires rows { length sym.now.igp ≡ length net.now * length (ospf.advertised net.now) }
-    requires wide { length a.now.nodes ≡ 32 }
-    requires address { ids_end a.now.nodes ≤ size terms.old }
+    requires wide { length a.now.nodes.items ≡ 32 }
+    requires address { ids_end a.now.nodes.items ≤ size terms.old }
     requires nodes { net_end sym.now ≤ size terms.old }
     ensures builds { Builds terms.old terms.new }
     ensures within { IfOk result (λ r. ospf_end r ≤ size terms.new) }
@@ -201,8 +201,8 @@ pub fn sym_resolve(
     a: &Bits,
 ) -> Result<SymOspf, AllocError>
     requires rows { length sym.now.igp ≡ length net.now * length (ospf.advertised net.now) }
-    requires wide { length a.now.nodes ≡ 32 }
-    requires address { ids_end a.now.nodes ≤ size terms.old }
+    requires wide { length a.now.nodes.items ≡ 32 }
+    requires address { ids_end a.now.nodes.items ≤ size terms.old }
     requires nodes { net_end sym.now ≤ size terms.old }
     ensures builds { Builds terms.old terms.new }
     ensures within { IfOk result (λ r. ospf_end r ≤ size terms.new) }

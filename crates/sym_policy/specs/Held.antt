@@ -29,9 +29,9 @@ kind_of_number n = if n == 0 then Internal else (if n == 1 then Ext1 else Ext2)
 -- the route, as if it were there
 abbrev pub ospf_at : Reading → SymOspf → OspfRec
 ospf_at w s = record {
-  kind = kind_of_number (number w s.kind.nodes);
-  metric = number w s.metric.nodes;
-  cost = number w s.cost.nodes;
+  kind = kind_of_number (number w s.kind.nodes.items);
+  metric = number w s.metric.nodes.items;
+  cost = number w s.cost.nodes.items;
 }
 
 -- the route, where it is there
@@ -41,7 +41,8 @@ ospf_of w s = if at w s.valid then Some (ospf_at w s) else None
 -- the least size of a store that has all nodes of the route
 abbrev pub ospf_end : SymOspf → ℕ
 ospf_end s =
-    max (max (s.valid.0 + 1) (ids_end s.kind.nodes)) (max (ids_end s.metric.nodes) (ids_end s.cost.nodes))
+    max (max (s.valid.0 + 1) (ids_end s.kind.nodes.items))
+    (max (ids_end s.metric.nodes.items) (ids_end s.cost.nodes.items))
 
 -- a cost or a distance, as an internal route with metric 0
 abbrev pub internal_route : ℕ → OspfRec
@@ -97,23 +98,23 @@ bgp_shape tracked r = record {
 abbrev pub bgp_at : Reading → SymBgp → BgpShape
 bgp_at w s = record {
   preferences = record {
-    weight = number w s.weight.nodes;
-    local_pref = number w s.local_pref.nodes;
-    med = number w s.med.nodes;
-    origin = number w s.origin.nodes;
+    weight = number w s.weight.nodes.items;
+    local_pref = number w s.local_pref.nodes.items;
+    med = number w s.med.nodes.items;
+    origin = number w s.origin.nodes.items;
   };
   path = record {
-    len = number w s.len.nodes;
-    first = number w s.first.nodes;
-    last = number w s.last.nodes;
-    numbers = bits w s.numbers.nodes;
+    len = number w s.len.nodes.items;
+    first = number w s.first.nodes.items;
+    last = number w s.last.nodes.items;
+    numbers = bits w s.numbers.nodes.items;
   };
-  communities = bits w s.communities.nodes;
-  next_hop = number w s.next_hop.nodes;
-  originator = number w s.originator.nodes;
-  from = number w s.from.nodes;
-  cluster_len = number w s.cluster_len.nodes;
-  clusters = bits w s.clusters.nodes;
+  communities = bits w s.communities.nodes.items;
+  next_hop = number w s.next_hop.nodes.items;
+  originator = number w s.originator.nodes.items;
+  from = number w s.from.nodes.items;
+  cluster_len = number w s.cluster_len.nodes.items;
+  clusters = bits w s.clusters.nodes.items;
 }
 
 abbrev pub bgp_of : Reading → SymBgp → Option BgpShape
@@ -127,10 +128,11 @@ StandsForBgp w tracked s held = bgp_of w s ≡ option_map (bgp_shape tracked) he
 abbrev pub bgp_end : SymBgp → ℕ
 bgp_end s =
     max
-    (max (max (s.valid.0 + 1) (max (ids_end s.weight.nodes) (ids_end s.local_pref.nodes)))
-    (max (ids_end s.med.nodes) (ids_end s.origin.nodes)))
+    (max (max (s.valid.0 + 1) (max (ids_end s.weight.nodes.items) (ids_end s.local_pref.nodes.items)))
+    (max (ids_end s.med.nodes.items) (ids_end s.origin.nodes.items)))
     (max
-    (max (max (ids_end s.len.nodes) (ids_end s.first.nodes)) (max (ids_end s.last.nodes) (ids_end s.numbers.nodes)))
-    (max (max (ids_end s.communities.nodes) (ids_end s.next_hop.nodes))
-    (max (max (ids_end s.originator.nodes) (ids_end s.from.nodes))
-    (max (ids_end s.cluster_len.nodes) (ids_end s.clusters.nodes)))))
+    (max (max (ids_end s.len.nodes.items) (ids_end s.first.nodes.items))
+    (max (ids_end s.last.nodes.items) (ids_end s.numbers.nodes.items)))
+    (max (max (ids_end s.communities.nodes.items) (ids_end s.next_hop.nodes.items))
+    (max (max (ids_end s.originator.nodes.items) (ids_end s.from.nodes.items))
+    (max (ids_end s.cluster_len.nodes.items) (ids_end s.clusters.nodes.items)))))

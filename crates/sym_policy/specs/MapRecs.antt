@@ -11,18 +11,18 @@ use Rattle.sym_policy.specs.Shapes.{RouteShape}
 abbrev pub attributes_at : Reading → SymMapRec → RouteShape
 attributes_at w rec = record {
   preferences = record {
-    weight = number w rec.bgp.weight.nodes;
-    local_pref = number w rec.bgp.local_pref.nodes;
-    med = number w rec.bgp.med.nodes;
-    origin = number w rec.bgp.origin.nodes;
+    weight = number w rec.bgp.weight.nodes.items;
+    local_pref = number w rec.bgp.local_pref.nodes.items;
+    med = number w rec.bgp.med.nodes.items;
+    origin = number w rec.bgp.origin.nodes.items;
   };
   path = record {
-    len = number w rec.bgp.len.nodes;
-    first = number w rec.bgp.first.nodes;
-    last = number w rec.bgp.last.nodes;
-    numbers = bits w rec.bgp.numbers.nodes;
+    len = number w rec.bgp.len.nodes.items;
+    first = number w rec.bgp.first.nodes.items;
+    last = number w rec.bgp.last.nodes.items;
+    numbers = bits w rec.bgp.numbers.nodes.items;
   };
-  communities = bits w rec.bgp.communities.nodes;
+  communities = bits w rec.bgp.communities.nodes.items;
   type1 = at w rec.type1;
 }
 
@@ -34,31 +34,32 @@ map_rec_at w rec = if at w rec.bgp.valid then Some (attributes_at w rec) else No
 abbrev pub seen_end : SymMapRec → ℕ
 seen_end rec =
     max
-    (max (max (ids_end rec.bgp.weight.nodes) (ids_end rec.bgp.local_pref.nodes))
-    (max (ids_end rec.bgp.med.nodes) (ids_end rec.bgp.origin.nodes)))
+    (max (max (ids_end rec.bgp.weight.nodes.items) (ids_end rec.bgp.local_pref.nodes.items))
+    (max (ids_end rec.bgp.med.nodes.items) (ids_end rec.bgp.origin.nodes.items)))
     (max
-    (max (max (ids_end rec.bgp.len.nodes) (ids_end rec.bgp.first.nodes))
-    (max (ids_end rec.bgp.last.nodes) (ids_end rec.bgp.numbers.nodes)))
-    (max (ids_end rec.bgp.communities.nodes) (rec.type1.0 + 1)))
+    (max (max (ids_end rec.bgp.len.nodes.items) (ids_end rec.bgp.first.nodes.items))
+    (max (ids_end rec.bgp.last.nodes.items) (ids_end rec.bgp.numbers.nodes.items)))
+    (max (ids_end rec.bgp.communities.nodes.items) (rec.type1.0 + 1)))
 
 -- and of all other nodes, but that of its validity
 abbrev pub kept_end : SymMapRec → ℕ
 kept_end rec =
-    max (max (ids_end rec.bgp.next_hop.nodes) (ids_end rec.bgp.originator.nodes))
-    (max (ids_end rec.bgp.from.nodes) (max (ids_end rec.bgp.cluster_len.nodes) (ids_end rec.bgp.clusters.nodes)))
+    max (max (ids_end rec.bgp.next_hop.nodes.items) (ids_end rec.bgp.originator.nodes.items))
+    (max (ids_end rec.bgp.from.nodes.items)
+    (max (ids_end rec.bgp.cluster_len.nodes.items) (ids_end rec.bgp.clusters.nodes.items)))
 
 abbrev pub map_rec_end : SymMapRec → ℕ
 map_rec_end rec = max (rec.bgp.valid.0 + 1) (max (seen_end rec) (kept_end rec))
 
 -- there is one node for each tracked number and community
 pub record HasMarks (tracked : Tracked) (rec : SymMapRec) : Type 0 where
-  pub numbers : length rec.bgp.numbers.nodes ≡ length tracked.numbers
-  pub communities : length rec.bgp.communities.nodes ≡ length tracked.communities
+  pub numbers : length rec.bgp.numbers.nodes.items ≡ length tracked.numbers
+  pub communities : length rec.bgp.communities.nodes.items ≡ length tracked.communities
 
 -- what route maps never set has the same nodes in both records
 pub record KeepsRest (a b : SymMapRec) : Type 0 where
-  pub next_hop : b.bgp.next_hop.nodes ≡ a.bgp.next_hop.nodes
-  pub originator : b.bgp.originator.nodes ≡ a.bgp.originator.nodes
-  pub from : b.bgp.from.nodes ≡ a.bgp.from.nodes
-  pub cluster_len : b.bgp.cluster_len.nodes ≡ a.bgp.cluster_len.nodes
-  pub clusters : b.bgp.clusters.nodes ≡ a.bgp.clusters.nodes
+  pub next_hop : b.bgp.next_hop.nodes.items ≡ a.bgp.next_hop.nodes.items
+  pub originator : b.bgp.originator.nodes.items ≡ a.bgp.originator.nodes.items
+  pub from : b.bgp.from.nodes.items ≡ a.bgp.from.nodes.items
+  pub cluster_len : b.bgp.cluster_len.nodes.items ≡ a.bgp.cluster_len.nodes.items
+  pub clusters : b.bgp.clusters.nodes.items ≡ a.bgp.clusters.nodes.items

@@ -33,8 +33,8 @@ fn sym_entry(
     behind: &SymMade,
 ) -> Result<SymMade, AllocError>
     requires long { len ≤ 32 }
-    requires wide { length dst.now.nodes ≡ 32 }
-    requires dst { ids_end dst.now.nodes ≤ size terms.old }
+    requires wide { length dst.now.nodes.items ≡ 32 }
+    requires dst { ids_end dst.now.nodes.items ≤ size terms.old }
     requires rows { HasRows tracked.now route.now }
     requires nodes { route_end route.now ≤ size terms.old }
     requires behind_rows { HasRows tracked.now behind.now.route }
@@ -62,8 +62,8 @@ pub(crate) fn sym_decided(
     entries: &[&MapEntry],
 ) -> Result<SymMade, AllocError>
     requires long { len ≤ 32 }
-    requires wide { length dst.now.nodes ≡ 32 }
-    requires dst { ids_end dst.now.nodes ≤ size terms.old }
+    requires wide { length dst.now.nodes.items ≡ 32 }
+    requires dst { ids_end dst.now.nodes.items ≤ size terms.old }
     requires rows { HasRows tracked.now route.now }
     requires nodes { route_end route.now ≤ size terms.old }
     ensures builds { Builds terms.old terms.new }

@@ -63,12 +63,12 @@ fn sym_list_permits(
     named: &Use,
 ) -> Result<NodeId, AllocError>
     requires long { len ≤ 32 }
-    requires wide { length dst.now.nodes ≡ 32 }
-    requires dst { ids_end dst.now.nodes ≤ size terms.old }
+    requires wide { length dst.now.nodes.items ≡ 32 }
+    requires dst { ids_end dst.now.nodes.items ≤ size terms.old }
     requires nodes { route_end route.now ≤ size terms.old }
     ensures builds { Builds terms.old terms.new }
     ensures within { IfOk result (λ r. r.0 < size terms.new) }
-    ensures value { Gives terms.new result (λ w r. at w r ≡ shape_list_permits policies.now tracked.now (prefix_of w dst.now len) (path_at w route.now.path) (bits w route.now.communities.nodes) line.now named.now) }
+    ensures value { Gives terms.new result (λ w r. at w r ≡ shape_list_permits policies.now tracked.now (prefix_of w dst.now len) (path_at w route.now.path) (bits w route.now.communities.nodes.items) line.now named.now) }
 {
     match line {
         Match::Access(_) => sym_access_named(alloc, terms, policies, dst, len, named),
@@ -107,12 +107,12 @@ fn sym_line(
     line: &Match,
 ) -> Result<NodeId, AllocError>
     requires long { len ≤ 32 }
-    requires wide { length dst.now.nodes ≡ 32 }
-    requires dst { ids_end dst.now.nodes ≤ size terms.old }
+    requires wide { length dst.now.nodes.items ≡ 32 }
+    requires dst { ids_end dst.now.nodes.items ≤ size terms.old }
     requires nodes { route_end route.now ≤ size terms.old }
     ensures builds { Builds terms.old terms.new }
     ensures within { IfOk result (λ r. r.0 < size terms.new) }
-    ensures value { Gives terms.new result (λ w r. at w r ≡ shape_line_holds policies.now tracked.now (prefix_of w dst.now len) (path_at w route.now.path) (bits w route.now.communities.nodes) line.now) }
+    ensures value { Gives terms.new result (λ w r. at w r ≡ shape_line_holds policies.now tracked.now (prefix_of w dst.now len) (path_at w route.now.path) (bits w route.now.communities.nodes.items) line.now) }
 {
     let mut any = constant_node(terms, false)?;
     for named in names(line) {
@@ -137,12 +137,12 @@ fn sym_line_of(
     wanted: u8,
 ) -> Result<NodeId, AllocError>
     requires long { len ≤ 32 }
-    requires wide { length dst.now.nodes ≡ 32 }
-    requires dst { ids_end dst.now.nodes ≤ size terms.old }
+    requires wide { length dst.now.nodes.items ≡ 32 }
+    requires dst { ids_end dst.now.nodes.items ≤ size terms.old }
     requires nodes { route_end route.now ≤ size terms.old }
     ensures builds { Builds terms.old terms.new }
     ensures within { IfOk result (λ r. r.0 < size terms.new) }
-    ensures value { Gives terms.new result (λ w r. at w r ≡ ((kind_of line.now == wanted) && shape_line_holds policies.now tracked.now (prefix_of w dst.now len) (path_at w route.now.path) (bits w route.now.communities.nodes) line.now)) }
+    ensures value { Gives terms.new result (λ w r. at w r ≡ ((kind_of line.now == wanted) && shape_line_holds policies.now tracked.now (prefix_of w dst.now len) (path_at w route.now.path) (bits w route.now.communities.nodes.items) line.now)) }
 {
     if kind(line) == wanted {
         sym_line(alloc, terms, policies, tracked, dst, len, route, line)
@@ -164,12 +164,12 @@ fn sym_kind(
     wanted: u8,
 ) -> Result<NodeId, AllocError>
     requires long { len ≤ 32 }
-    requires wide { length dst.now.nodes ≡ 32 }
-    requires dst { ids_end dst.now.nodes ≤ size terms.old }
+    requires wide { length dst.now.nodes.items ≡ 32 }
+    requires dst { ids_end dst.now.nodes.items ≤ size terms.old }
     requires nodes { route_end route.now ≤ size terms.old }
     ensures builds { Builds terms.old terms.new }
     ensures within { IfOk result (λ r. r.0 < size terms.new) }
-    ensures value { Gives terms.new result (λ w r. at w r ≡ kind_holds (shape_line_holds policies.now tracked.now (prefix_of w dst.now len) (path_at w route.now.path) (bits w route.now.communities.nodes)) lines.now wanted) }
+    ensures value { Gives terms.new result (λ w r. at w r ≡ kind_holds (shape_line_holds policies.now tracked.now (prefix_of w dst.now len) (path_at w route.now.path) (bits w route.now.communities.nodes.items)) lines.now wanted) }
 {
     let mut any = constant_node(terms, false)?;
     for line in lines {
@@ -194,12 +194,12 @@ fn sym_kind_passes(
     wanted: u8,
 ) -> Result<NodeId, AllocError>
     requires long { len ≤ 32 }
-    requires wide { length dst.now.nodes ≡ 32 }
-    requires dst { ids_end dst.now.nodes ≤ size terms.old }
+    requires wide { length dst.now.nodes.items ≡ 32 }
+    requires dst { ids_end dst.now.nodes.items ≤ size terms.old }
     requires nodes { route_end route.now ≤ size terms.old }
     ensures builds { Builds terms.old terms.new }
     ensures within { IfOk result (λ r. r.0 < size terms.new) }
-    ensures value { Gives terms.new result (λ w r. at w r ≡ kind_passes (shape_line_holds policies.now tracked.now (prefix_of w dst.now len) (path_at w route.now.path) (bits w route.now.communities.nodes)) lines.now wanted) }
+    ensures value { Gives terms.new result (λ w r. at w r ≡ kind_passes (shape_line_holds policies.now tracked.now (prefix_of w dst.now len) (path_at w route.now.path) (bits w route.now.communities.nodes.items)) lines.now wanted) }
 {
     if asks_for(lines, wanted) {
         sym_kind(
@@ -222,8 +222,8 @@ pub(crate) fn sym_takes(
     entry: &MapEntry,
 ) -> Result<NodeId, AllocError>
     requires long { len ≤ 32 }
-    requires wide { length dst.now.nodes ≡ 32 }
-    requires dst { ids_end dst.now.nodes ≤ size terms.old }
+    requires wide { length dst.now.nodes.items ≡ 32 }
+    requires dst { ids_end dst.now.nodes.items ≤ size terms.old }
     requires nodes { route_end route.now ≤ size terms.old }
     ensures builds { Builds terms.old terms.new }
     ensures within { IfOk result (λ r. r.0 < size terms.new) }

@@ -133,7 +133,7 @@ fn sym_some(terms: &mut Terms, path: &SymPath) -> Result<NodeId, AllocError>
     requires { path_end path.now ≤ size terms.old }
     ensures builds { Builds terms.old terms.new }
     ensures within { IfOk result (λ r. r.0 < size terms.new) }
-    ensures value { Gives terms.new result (λ w r. at w r ≡ nat_lt 0 (number w path.now.len.nodes)) }
+    ensures value { Gives terms.new result (λ w r. at w r ≡ nat_lt 0 (number w path.now.len.nodes.items)) }
 {
     let none = equal_number(terms, path.len.nodes.as_slice(), 0)?;
     negate(terms, none)

@@ -66,8 +66,8 @@ fn path_of(alloc: Global, bgp: &SymBgp) -> Result<SymPath, AllocError>
 fn route_of(alloc: Global, rec: &SymMapRec) -> Result<SymRoute, AllocError>
     ensures value { IfOk result (λ r. (w : Reading) → route_at w r ≡ attributes_at w rec.now) }
     ensures nodes { IfOk result (λ r. route_end r ≡ seen_end rec.now) }
-    ensures numbers { IfOk result (λ r. length r.path.numbers.nodes ≡ length rec.now.bgp.numbers.nodes) }
-    ensures communities { IfOk result (λ r. length r.communities.nodes ≡ length rec.now.bgp.communities.nodes) }
+    ensures numbers { IfOk result (λ r. length r.path.numbers.nodes.items ≡ length rec.now.bgp.numbers.nodes.items) }
+    ensures communities { IfOk result (λ r. length r.communities.nodes.items ≡ length rec.now.bgp.communities.nodes.items) }
 {
     let preferences = preferences_of(alloc, &rec.bgp)?;
     let path = path_of(alloc, &rec.bgp)?;
@@ -91,8 +91,8 @@ fn with_route(
     ensures value { IfOk result (λ r. (w : Reading) → attributes_at w r ≡ route_at w route) }
     ensures nodes { IfOk result (λ r. seen_end r ≡ route_end route) }
     ensures kept_nodes { IfOk result (λ r. kept_end r ≡ kept_end rec.now) }
-    ensures numbers { IfOk result (λ r. length r.bgp.numbers.nodes ≡ length route.path.numbers.nodes) }
-    ensures communities { IfOk result (λ r. length r.bgp.communities.nodes ≡ length route.communities.nodes) }
+    ensures numbers { IfOk result (λ r. length r.bgp.numbers.nodes.items ≡ length route.path.numbers.nodes.items) }
+    ensures communities { IfOk result (λ r. length r.bgp.communities.nodes.items ≡ length route.communities.nodes.items) }
     ensures rest { IfOk result (λ r. KeepsRest rec.now r) }
 {
     let next_hop = copy(alloc, &rec.bgp.next_hop)?;
@@ -149,8 +149,8 @@ fn with_made(
     requires made { made_end made ≤ size terms.old }
     ensures builds { Builds terms.old terms.new }
     ensures within { IfOk result (λ r. map_rec_end r ≤ size terms.new) }
-    ensures numbers { IfOk result (λ r. length r.bgp.numbers.nodes ≡ length made.route.path.numbers.nodes) }
-    ensures communities { IfOk result (λ r. length r.bgp.communities.nodes ≡ length made.route.communities.nodes) }
+    ensures numbers { IfOk result (λ r. length r.bgp.numbers.nodes.items ≡ length made.route.path.numbers.nodes.items) }
+    ensures communities { IfOk result (λ r. length r.bgp.communities.nodes.items ≡ length made.route.communities.nodes.items) }
     ensures rest { IfOk result (λ r. KeepsRest rec.now r) }
     ensures value { Gives terms.new result (λ w r. map_rec_at w r ≡ (if at w rec.now.bgp.valid then made_at w made else None)) }
 {
@@ -176,8 +176,8 @@ fn sym_mapped(
     external: bool,
 ) -> Result<SymMade, AllocError>
     requires long { len ≤ 32 }
-    requires wide { length dst.now.nodes ≡ 32 }
-    requires dst { ids_end dst.now.nodes ≤ size terms.old }
+    requires wide { length dst.now.nodes.items ≡ 32 }
+    requires dst { ids_end dst.now.nodes.items ≤ size terms.old }
     requires rows { HasRows tracked.now route.now }
     requires nodes { route_end route.now ≤ size terms.old }
     ensures builds { Builds terms.old terms.new }
@@ -216,8 +216,8 @@ pub fn sym_route_map(
     side: Side,
 ) -> Result<SymMapRec, AllocError>
     requires long { len ≤ 32 }
-    requires wide { length dst.now.nodes ≡ 32 }
-    requires dst { ids_end dst.now.nodes ≤ size terms.old }
+    requires wide { length dst.now.nodes.items ≡ 32 }
+    requires dst { ids_end dst.now.nodes.items ≤ size terms.old }
     requires marks { HasMarks tracked.now rec.now }
     requires nodes { map_rec_end rec.now ≤ size terms.old }
     ensures builds { Builds terms.old terms.new }

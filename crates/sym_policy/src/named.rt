@@ -19,7 +19,7 @@ use crate::parts::SymPath;
 use crate::prefixes::{high_bits, sym_prefix_list};
 use crate::records::SymPacket;
 use ios_ast::{AccessList, AsPathList, CommunityList, Match, Policies, PrefixList, Use};
-use mw_text::{List, same_bytes};
+use mw_text::same_bytes;
 use std::alloc::{AllocError, Global};
 use term_arith::gates::constant_node;
 use term_arith::{Bits, constant};
@@ -83,8 +83,8 @@ pub(crate) fn sym_prefixes_named(
     named: &Use,
 ) -> Result<NodeId, AllocError>
     requires long { len ≤ 32 }
-    requires wide { length dst.now.nodes ≡ 32 }
-    requires nodes { ids_end dst.now.nodes ≤ size terms.old }
+    requires wide { length dst.now.nodes.items ≡ 32 }
+    requires nodes { ids_end dst.now.nodes.items ≤ size terms.old }
     ensures builds { Builds terms.old terms.new }
     ensures within { IfOk result (λ r. r.0 < size terms.new) }
     ensures value { Gives terms.new result (λ w r. at w r ≡ prefixes_named policies.now (prefix_of w dst.now len) named.now) }
@@ -99,34 +99,32 @@ pub(crate) fn sym_prefixes_named(
 fn zero(alloc: Global, terms: &mut Terms, width: u8) -> Result<Bits, AllocError>
     requires { width ≤ 64 }
     ensures builds { Builds terms.old terms.new }
-    ensures within { IfOk result (λ r. ids_end r.nodes ≤ size terms.new) }
-    ensures width { IfOk result (λ r. length r.nodes ≡ width) }
-    ensures value { Gives terms.new result (λ w r. number w r.nodes ≡ 0) }
+    ensures within { IfOk result (λ r. ids_end r.nodes.items ≤ size terms.new) }
+    ensures width { IfOk result (λ r. length r.nodes.items ≡ width) }
+    ensures value { Gives terms.new result (λ w r. number w r.nodes.items ≡ 0) }
 {
     constant(alloc, terms, 0, width)
 }
 
 /// A number by its low bits and its high bits.
 fn join(alloc: Global, low: &Bits, high: &[NodeId]) -> Result<Bits, AllocError>
-    ensures { IfOk result (λ r. r.nodes ≡ low.now.nodes ++ high.now) }
+    ensures { IfOk result (λ r. r.nodes.items ≡ low.now.nodes.items ++ high.now) }
 {
-    let mut items = Vec::from_slice(alloc, low.nodes.as_slice())?;
-    items.extend_from_slice(high)?;
-    Ok(Bits {
-        nodes: List { items },
-    })
+    let mut nodes = Vec::from_slice(alloc, low.nodes.as_slice())?;
+    nodes.extend_from_slice(high)?;
+    Ok(Bits { nodes })
 }
 
 /// The network address of the prefix of that length of an address: the bits past the length are 0.
 #[tactic(auto, using(crate::proofs::NetworkBits::network_steps))]
 fn sym_network(alloc: Global, terms: &mut Terms, dst: &Bits, len: u8) -> Result<Bits, AllocError>
     requires long { len ≤ 32 }
-    requires wide { length dst.now.nodes ≡ 32 }
-    requires nodes { ids_end dst.now.nodes ≤ size terms.old }
+    requires wide { length dst.now.nodes.items ≡ 32 }
+    requires nodes { ids_end dst.now.nodes.items ≤ size terms.old }
     ensures builds { Builds terms.old terms.new }
-    ensures within { IfOk result (λ r. ids_end r.nodes ≤ size terms.new) }
-    ensures width { IfOk result (λ r. length r.nodes ≡ 32) }
-    ensures value { Gives terms.new result (λ w r. number w r.nodes ≡ (prefix_of w dst.now len).addr.0) }
+    ensures within { IfOk result (λ r. ids_end r.nodes.items ≤ size terms.new) }
+    ensures width { IfOk result (λ r. length r.nodes.items ≡ 32) }
+    ensures value { Gives terms.new result (λ w r. number w r.nodes.items ≡ (prefix_of w dst.now len).addr.0) }
 {
     let low = 32 - len;
     let cleared = zero(alloc, terms, low)?;
@@ -143,8 +141,8 @@ fn sym_packet(
     len: u8,
 ) -> Result<SymPacket, AllocError>
     requires long { len ≤ 32 }
-    requires wide { length dst.now.nodes ≡ 32 }
-    requires nodes { ids_end dst.now.nodes ≤ size terms.old }
+    requires wide { length dst.now.nodes.items ≡ 32 }
+    requires nodes { ids_end dst.now.nodes.items ≤ size terms.old }
     ensures builds { Builds terms.old terms.new }
     ensures within { IfOk result (λ r. packet_end r ≤ size terms.new) }
     ensures value { Gives terms.new result (λ w r. header_of w r ≡ header_of_prefix (prefix_of w dst.now len)) }
@@ -172,8 +170,8 @@ fn sym_access_of(
     len: u8,
 ) -> Result<NodeId, AllocError>
     requires long { len ≤ 32 }
-    requires wide { length dst.now.nodes ≡ 32 }
-    requires nodes { ids_end dst.now.nodes ≤ size terms.old }
+    requires wide { length dst.now.nodes.items ≡ 32 }
+    requires nodes { ids_end dst.now.nodes.items ≤ size terms.old }
     ensures builds { Builds terms.old terms.new }
     ensures within { IfOk result (λ r. r.0 < size terms.new) }
     ensures value { Gives terms.new result (λ w r. at w r ≡ packet_permitted list.now.entries (header_of_prefix (prefix_of w dst.now len))) }
@@ -193,8 +191,8 @@ pub(crate) fn sym_access_named(
     named: &Use,
 ) -> Result<NodeId, AllocError>
     requires long { len ≤ 32 }
-    requires wide { length dst.now.nodes ≡ 32 }
-    requires nodes { ids_end dst.now.nodes ≤ size terms.old }
+    requires wide { length dst.now.nodes.items ≡ 32 }
+    requires nodes { ids_end dst.now.nodes.items ≤ size terms.old }
     ensures builds { Builds terms.old terms.new }
     ensures within { IfOk result (λ r. r.0 < size terms.new) }
     ensures value { Gives terms.new result (λ w r. at w r ≡ access_named policies.now (prefix_of w dst.now len) named.now) }

@@ -17,10 +17,10 @@ use term_store::{NodeId, Terms};
 
 /// Whether a field is the protocol, where one is asked for.
 fn sym_proto(terms: &mut Terms, proto: Option<u8>, field: &Bits) -> Result<NodeId, AllocError>
-    requires { ids_end field.now.nodes ≤ size terms.old }
+    requires { ids_end field.now.nodes.items ≤ size terms.old }
     ensures builds { Builds terms.old terms.new }
     ensures within { IfOk result (λ r. r.0 < size terms.new) }
-    ensures value { Gives terms.new result (λ w r. at w r ≡ option_map_or (λ n. number w field.now.nodes == n) proto true) }
+    ensures value { Gives terms.new result (λ w r. at w r ≡ option_map_or (λ n. number w field.now.nodes.items == n) proto true) }
 {
     match proto {
         Some(wanted) => equal_number(terms, field.nodes.as_slice(), u64::from(wanted)),
@@ -30,10 +30,10 @@ fn sym_proto(terms: &mut Terms, proto: Option<u8>, field: &Bits) -> Result<NodeI
 
 /// Whether an address agrees with the pattern's in each bit that the wildcard mask has 0.
 fn sym_address(terms: &mut Terms, pattern: Wild, address: &Bits) -> Result<NodeId, AllocError>
-    requires { ids_end address.now.nodes ≤ size terms.old }
+    requires { ids_end address.now.nodes.items ≤ size terms.old }
     ensures builds { Builds terms.old terms.new }
     ensures within { IfOk result (λ r. r.0 < size terms.new) }
-    ensures value { Gives terms.new result (λ w r. at w r ≡ address_matches pattern (number w address.now.nodes)) }
+    ensures value { Gives terms.new result (λ w r. at w r ≡ address_matches pattern (number w address.now.nodes.items)) }
 {
     equal_masked(
         terms,
@@ -51,11 +51,11 @@ fn sym_range(
     high: u16,
     port: &Bits,
 ) -> Result<NodeId, AllocError>
-    requires wide { length port.now.nodes ≡ 16 }
-    requires nodes { ids_end port.now.nodes ≤ size terms.old }
+    requires wide { length port.now.nodes.items ≡ 16 }
+    requires nodes { ids_end port.now.nodes.items ≤ size terms.old }
     ensures builds { Builds terms.old terms.new }
     ensures within { IfOk result (λ r. r.0 < size terms.new) }
-    ensures value { Gives terms.new result (λ w r. at w r ≡ (nat_le low (number w port.now.nodes) && nat_le (number w port.now.nodes) high)) }
+    ensures value { Gives terms.new result (λ w r. at w r ≡ (nat_le low (number w port.now.nodes.items) && nat_le (number w port.now.nodes.items) high)) }
 {
     let least = constant(alloc, terms, u64::from(low), 16)?;
     let below = less(terms, port, &least)?;
@@ -73,11 +73,11 @@ fn sym_port(
     ports: Ports,
     port: &Bits,
 ) -> Result<NodeId, AllocError>
-    requires wide { length port.now.nodes ≡ 16 }
-    requires nodes { ids_end port.now.nodes ≤ size terms.old }
+    requires wide { length port.now.nodes.items ≡ 16 }
+    requires nodes { ids_end port.now.nodes.items ≤ size terms.old }
     ensures builds { Builds terms.old terms.new }
     ensures within { IfOk result (λ r. r.0 < size terms.new) }
-    ensures value { Gives terms.new result (λ w r. at w r ≡ port_matches ports (number w port.now.nodes)) }
+    ensures value { Gives terms.new result (λ w r. at w r ≡ port_matches ports (number w port.now.nodes.items)) }
 {
     match ports {
         Ports::Any => constant_node(terms, true),

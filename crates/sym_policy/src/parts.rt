@@ -12,9 +12,9 @@ pub(crate) struct SymPath {
     pub first: Bits,
     pub last: Bits,
     pub numbers: Bits,
-    pub ghost len_wide: { length len.nodes ≡ 32 },
-    pub ghost first_wide: { length first.nodes ≡ 32 },
-    pub ghost last_wide: { length last.nodes ≡ 32 },
+    pub ghost len_wide: { length len.nodes.items ≡ 32 },
+    pub ghost first_wide: { length first.nodes.items ≡ 32 },
+    pub ghost last_wide: { length last.nodes.items ≡ 32 },
 }
 
 /// The numbers by which routes are preferred.
@@ -24,10 +24,10 @@ pub(crate) struct SymPreferences {
     pub local_pref: Bits,
     pub med: Bits,
     pub origin: Bits,
-    pub ghost weight_wide: { length weight.nodes ≡ 32 },
-    pub ghost local_pref_wide: { length local_pref.nodes ≡ 32 },
-    pub ghost med_wide: { length med.nodes ≡ 32 },
-    pub ghost origin_wide: { length origin.nodes ≡ 2 },
+    pub ghost weight_wide: { length weight.nodes.items ≡ 32 },
+    pub ghost local_pref_wide: { length local_pref.nodes.items ≡ 32 },
+    pub ghost med_wide: { length med.nodes.items ≡ 32 },
+    pub ghost origin_wide: { length origin.nodes.items ≡ 2 },
 }
 
 /// What route maps see of a route: beside its path one node for each tracked community, and whether it is redistributed

@@ -14,11 +14,11 @@ pub struct SymPacket {
     pub proto: Bits,
     pub sport: Bits,
     pub dport: Bits,
-    pub ghost src_wide: { length src.nodes ≡ 32 },
-    pub ghost dst_wide: { length dst.nodes ≡ 32 },
-    pub ghost proto_wide: { length proto.nodes ≡ 8 },
-    pub ghost sport_wide: { length sport.nodes ≡ 16 },
-    pub ghost dport_wide: { length dport.nodes ≡ 16 },
+    pub ghost src_wide: { length src.nodes.items ≡ 32 },
+    pub ghost dst_wide: { length dst.nodes.items ≡ 32 },
+    pub ghost proto_wide: { length proto.nodes.items ≡ 8 },
+    pub ghost sport_wide: { length sport.nodes.items ≡ 16 },
+    pub ghost dport_wide: { length dport.nodes.items ≡ 16 },
 }
 
 /// A BGP route as terms, which is there where `valid` is true. The lists stand by their shape: a set has one node for
@@ -40,17 +40,17 @@ pub struct SymBgp {
     pub communities: Bits,
     pub cluster_len: Bits,
     pub clusters: Bits,
-    pub ghost weight_wide: { length weight.nodes ≡ 32 },
-    pub ghost local_pref_wide: { length local_pref.nodes ≡ 32 },
-    pub ghost origin_wide: { length origin.nodes ≡ 2 },
-    pub ghost med_wide: { length med.nodes ≡ 32 },
-    pub ghost next_hop_wide: { length next_hop.nodes ≡ 32 },
-    pub ghost originator_wide: { length originator.nodes ≡ 33 },
-    pub ghost from_wide: { length from.nodes ≡ 33 },
-    pub ghost len_wide: { length len.nodes ≡ 32 },
-    pub ghost first_wide: { length first.nodes ≡ 32 },
-    pub ghost last_wide: { length last.nodes ≡ 32 },
-    pub ghost cluster_len_wide: { length cluster_len.nodes ≡ 32 },
+    pub ghost weight_wide: { length weight.nodes.items ≡ 32 },
+    pub ghost local_pref_wide: { length local_pref.nodes.items ≡ 32 },
+    pub ghost origin_wide: { length origin.nodes.items ≡ 2 },
+    pub ghost med_wide: { length med.nodes.items ≡ 32 },
+    pub ghost next_hop_wide: { length next_hop.nodes.items ≡ 32 },
+    pub ghost originator_wide: { length originator.nodes.items ≡ 33 },
+    pub ghost from_wide: { length from.nodes.items ≡ 33 },
+    pub ghost len_wide: { length len.nodes.items ≡ 32 },
+    pub ghost first_wide: { length first.nodes.items ≡ 32 },
+    pub ghost last_wide: { length last.nodes.items ≡ 32 },
+    pub ghost cluster_len_wide: { length cluster_len.nodes.items ≡ 32 },
 }
 
 /// An OSPF route as terms, which is there where `valid` is true. Its kind is 0 for internal, 1 and 2 for the external
@@ -61,9 +61,9 @@ pub struct SymOspf {
     pub kind: Bits,
     pub metric: Bits,
     pub cost: Bits,
-    pub ghost kind_wide: { length kind.nodes ≡ 2 },
-    pub ghost metric_wide: { length metric.nodes ≡ 32 },
-    pub ghost cost_wide: { length cost.nodes ≡ 32 },
+    pub ghost kind_wide: { length kind.nodes.items ≡ 2 },
+    pub ghost metric_wide: { length metric.nodes.items ≡ 32 },
+    pub ghost cost_wide: { length cost.nodes.items ≡ 32 },
 }
 
 /// The failed links, by their positions, and the interior distances, by router and then by advertised prefix.

@@ -20,13 +20,13 @@ fn choose_path(
     a: &SymPath,
     b: &SymPath,
 ) -> Result<SymPath, AllocError>
-    requires rows { length a.now.numbers.nodes ≡ length b.now.numbers.nodes }
+    requires rows { length a.now.numbers.nodes.items ≡ length b.now.numbers.nodes.items }
     requires test { c.0 < size terms.old }
     requires first { path_end a.now ≤ size terms.old }
     requires second { path_end b.now ≤ size terms.old }
     ensures builds { Builds terms.old terms.new }
     ensures within { IfOk result (λ r. path_end r ≤ size terms.new) }
-    ensures rows { IfOk result (λ r. length r.numbers.nodes ≡ length a.now.numbers.nodes) }
+    ensures rows { IfOk result (λ r. length r.numbers.nodes.items ≡ length a.now.numbers.nodes.items) }
     ensures value { Gives terms.new result (λ w r. path_at w r ≡ (if at w c then path_at w a.now else path_at w b.now)) }
 {
     let len = choose(alloc, terms, c, &a.len, &b.len)?;

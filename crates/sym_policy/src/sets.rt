@@ -69,26 +69,24 @@ fn sym_marks_with(
 /// The lowest bits of a number.
 #[tactic(auto, using(crate::proofs::LowBits::low_steps))]
 fn low_bits(alloc: Global, bits: &Bits, width: usize) -> Result<Bits, AllocError>
-    requires { width ≤ length bits.now.nodes }
-    ensures within { IfOk result (λ r. ids_end r.nodes ≤ ids_end bits.now.nodes) }
-    ensures width { IfOk result (λ r. length r.nodes ≡ width) }
-    ensures value { IfOk result (λ r. (w : Reading) → number w r.nodes ≡ number w bits.now.nodes % 2 ^ width) }
+    requires { width ≤ length bits.now.nodes.items }
+    ensures within { IfOk result (λ r. ids_end r.nodes.items ≤ ids_end bits.now.nodes.items) }
+    ensures width { IfOk result (λ r. length r.nodes.items ≡ width) }
+    ensures value { IfOk result (λ r. (w : Reading) → number w r.nodes.items ≡ number w bits.now.nodes.items % 2 ^ width) }
 {
-    let items = Vec::from_slice(alloc, &bits.nodes.as_slice()[..width])?;
-    Ok(Bits {
-        nodes: List { items },
-    })
+    let nodes = Vec::from_slice(alloc, &bits.nodes.as_slice()[..width])?;
+    Ok(Bits { nodes })
 }
 
 /// A length with more items, in 32 bits.
 #[tactic(auto, using(crate::proofs::LowBits::mod_of_sum))]
 fn sym_longer(alloc: Global, terms: &mut Terms, len: &Bits, more: u64) -> Result<Bits, AllocError>
-    requires wide { length len.now.nodes ≡ 32 }
-    requires nodes { ids_end len.now.nodes ≤ size terms.old }
+    requires wide { length len.now.nodes.items ≡ 32 }
+    requires nodes { ids_end len.now.nodes.items ≤ size terms.old }
     ensures builds { Builds terms.old terms.new }
-    ensures within { IfOk result (λ r. ids_end r.nodes ≤ size terms.new) }
-    ensures width { IfOk result (λ r. length r.nodes ≡ 32) }
-    ensures value { Gives terms.new result (λ w r. number w r.nodes ≡ (number w len.now.nodes + more) % 2 ^ 32) }
+    ensures within { IfOk result (λ r. ids_end r.nodes.items ≤ size terms.new) }
+    ensures width { IfOk result (λ r. length r.nodes.items ≡ 32) }
+    ensures value { Gives terms.new result (λ w r. number w r.nodes.items ≡ (number w len.now.nodes.items + more) % 2 ^ 32) }
 {
     let step = constant(alloc, terms, more % (1 << 32), 32)?;
     let sum = add(alloc, terms, len, &step)?;
@@ -117,12 +115,12 @@ fn sym_first(
     numbers: &[u32],
     first: &Bits,
 ) -> Result<Bits, AllocError>
-    requires wide { length first.now.nodes ≡ 32 }
-    requires nodes { ids_end first.now.nodes ≤ size terms.old }
+    requires wide { length first.now.nodes.items ≡ 32 }
+    requires nodes { ids_end first.now.nodes.items ≤ size terms.old }
     ensures builds { Builds terms.old terms.new }
-    ensures within { IfOk result (λ r. ids_end r.nodes ≤ size terms.new) }
-    ensures width { IfOk result (λ r. length r.nodes ≡ 32) }
-    ensures value { Gives terms.new result (λ w r. number w r.nodes ≡ (if length numbers.now == 0 then number w first.now.nodes else first_of numbers.now)) }
+    ensures within { IfOk result (λ r. ids_end r.nodes.items ≤ size terms.new) }
+    ensures width { IfOk result (λ r. length r.nodes.items ≡ 32) }
+    ensures value { Gives terms.new result (λ w r. number w r.nodes.items ≡ (if length numbers.now == 0 then number w first.now.nodes.items else first_of numbers.now)) }
 {
     if numbers.is_empty() {
         copy(alloc, first)
@@ -140,9 +138,9 @@ fn sym_last(
 ) -> Result<Bits, AllocError>
     requires { path_end path.now ≤ size terms.old }
     ensures builds { Builds terms.old terms.new }
-    ensures within { IfOk result (λ r. ids_end r.nodes ≤ size terms.new) }
-    ensures width { IfOk result (λ r. length r.nodes ≡ 32) }
-    ensures value { Gives terms.new result (λ w r. number w r.nodes ≡ (if number w path.now.len.nodes == 0 then last_of numbers.now else number w path.now.last.nodes)) }
+    ensures within { IfOk result (λ r. ids_end r.nodes.items ≤ size terms.new) }
+    ensures width { IfOk result (λ r. length r.nodes.items ≡ 32) }
+    ensures value { Gives terms.new result (λ w r. number w r.nodes.items ≡ (if number w path.now.len.nodes.items == 0 then last_of numbers.now else number w path.now.last.nodes.items)) }
 {
     let none = equal_number(terms, path.len.nodes.as_slice(), 0)?;
     let last = constant(alloc, terms, u64::from(last_number(numbers)), 32)?;
@@ -157,11 +155,11 @@ fn sym_prepended(
     numbers: &[u32],
     path: &SymPath,
 ) -> Result<SymPath, AllocError>
-    requires rows { length path.now.numbers.nodes ≡ length tracked.now }
+    requires rows { length path.now.numbers.nodes.items ≡ length tracked.now }
     requires nodes { path_end path.now ≤ size terms.old }
     ensures builds { Builds terms.old terms.new }
     ensures within { IfOk result (λ r. path_end r ≤ size terms.new) }
-    ensures rows { IfOk result (λ r. length r.numbers.nodes ≡ length tracked.now) }
+    ensures rows { IfOk result (λ r. length r.numbers.nodes.items ≡ length tracked.now) }
     ensures value { Gives terms.new result (λ w r. path_at w r ≡ shape_prepended tracked.now numbers.now (path_at w path.now)) }
 {
     let len = sym_longer(alloc, terms, &path.len, numbers.len() as u64)?;
@@ -173,7 +171,7 @@ fn sym_prepended(
         len,
         first,
         last,
-        numbers: Bits { nodes },
+        numbers: Bits { nodes: nodes.items },
     })
 }
 
@@ -221,11 +219,11 @@ fn set_path(
     before: SymPath,
     line: &SetAct,
 ) -> Result<SymPath, AllocError>
-    requires rows { length before.numbers.nodes ≡ length tracked.now }
+    requires rows { length before.numbers.nodes.items ≡ length tracked.now }
     requires nodes { path_end before ≤ size terms.old }
     ensures builds { Builds terms.old terms.new }
     ensures within { IfOk result (λ r. path_end r ≤ size terms.new) }
-    ensures rows { IfOk result (λ r. length r.numbers.nodes ≡ length tracked.now) }
+    ensures rows { IfOk result (λ r. length r.numbers.nodes.items ≡ length tracked.now) }
     ensures value { Gives terms.new result (λ w r. path_at w r ≡ path_set tracked.now external (path_at w before) line.now) }
 {
     match line {
@@ -244,23 +242,23 @@ fn set_marks(
     before: Bits,
     line: &SetAct,
 ) -> Result<Bits, AllocError>
-    requires rows { length before.nodes ≡ length tracked.now }
-    requires nodes { ids_end before.nodes ≤ size terms.old }
+    requires rows { length before.nodes.items ≡ length tracked.now }
+    requires nodes { ids_end before.nodes.items ≤ size terms.old }
     ensures builds { Builds terms.old terms.new }
-    ensures within { IfOk result (λ r. ids_end r.nodes ≤ size terms.new) }
-    ensures rows { IfOk result (λ r. length r.nodes ≡ length tracked.now) }
-    ensures value { Gives terms.new result (λ w r. bits w r.nodes ≡ marks_set tracked.now (bits w before.nodes) line.now) }
+    ensures within { IfOk result (λ r. ids_end r.nodes.items ≤ size terms.new) }
+    ensures rows { IfOk result (λ r. length r.nodes.items ≡ length tracked.now) }
+    ensures value { Gives terms.new result (λ w r. bits w r.nodes.items ≡ marks_set tracked.now (bits w before.nodes.items) line.now) }
 {
     let marks = before.nodes.as_slice();
     match line {
         SetAct::NoCommunity => {
             let nodes = sym_marks_with(alloc, terms, tracked, &[], false, marks)?;
-            Ok(Bits { nodes })
+            Ok(Bits { nodes: nodes.items })
         }
         SetAct::Community(values, additive) => {
             let values = values.as_slice();
             let nodes = sym_marks_with(alloc, terms, tracked, values, *additive, marks)?;
-            Ok(Bits { nodes })
+            Ok(Bits { nodes: nodes.items })
         }
         _ => Ok(before),
     }

@@ -67,17 +67,17 @@ short_held true tracked x (Some h) small is =
     subst P (ap len_of is) small
 
 pub short_seen : (w : Reading) (tracked : Tracked) (bgp : SymBgp) (line : Redist) (held : Slot)
-    → length bgp.len.nodes ≡ 32 → StandsForBgp w tracked bgp held.bgp
+    → length bgp.len.nodes.items ≡ 32 → StandsForBgp w tracked bgp held.bgp
     → IfSome (redistributed_route line held) IsShort
 short_seen w tracked bgp line held wide stands = by line.source
   where
     zero_short : 0 < 2 ^ 32
     zero_short = omega arith
 
-    small : number w bgp.len.nodes < 2 ^ 32
+    small : number w bgp.len.nodes.items < 2 ^ 32
     small =
-        let P : ℕ → Type 0 = λ n. number w bgp.len.nodes < 2 ^ n in
-        subst P wide (number_below w bgp.len.nodes)
+        let P : ℕ → Type 0 = λ n. number w bgp.len.nodes.items < 2 ^ n in
+        subst P wide (number_below w bgp.len.nodes.items)
 
     of_bgp : (o : Option BgpRec) → IfSome o (λ h. length h.path < 2 ^ 32)
         → IfSome (option_map (seen_of_bgp line) o) IsShort

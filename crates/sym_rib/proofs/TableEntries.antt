@@ -52,7 +52,7 @@ ospf_there false false x = refl
 pub entry_stands : (w : Reading) (files : List File) (failures : Failures) (router : ℕ) (file : File) (p : Prefix)
     (tracked : Tracked) (slot : SymSlot) (held : Slot) (own : Bool) → StandsForSlot w tracked slot held
     → entry_read files failures router file p
-    (if at w slot.bgp.valid then learnt_entry files router (number w slot.bgp.from.nodes) else None)
+    (if at w slot.bgp.valid then learnt_entry files router (number w slot.bgp.from.nodes.items) else None)
     (at w slot.ospf.valid && not own)
     ≡ entry_with files failures router file p held own
 unfolding entry_with
@@ -68,7 +68,7 @@ entry_stands w files failures router file p tracked slot held own stands =
     fold-append closer None (plain ++ by_bgp) by_own
     ∙ ap (λ best. fold closer best by_own) (fold-append closer None plain by_bgp) in
     let read : entry_read files failures router file p
-    (if at w slot.bgp.valid then learnt_entry files router (number w slot.bgp.from.nodes) else None)
+    (if at w slot.bgp.valid then learnt_entry files router (number w slot.bgp.from.nodes.items) else None)
     (at w slot.ospf.valid && not own)
     ≡ fold closer (fold closer (least_distance plain) by_bgp) by_own =
     ap₂ (λ b o. fold closer (fold closer (least_distance plain) (option_to_list b)) (option_to_list o)) bgp ospf in

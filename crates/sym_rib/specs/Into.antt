@@ -22,8 +22,8 @@ seen_of_bgp line h = record (plain_route line 1) { path = h.path; communities = 
 
 -- there is one node for each tracked number and community
 pub record HasTracked (tracked : Tracked) (s : SymBgp) : Type 0 where
-  pub numbers : length s.numbers.nodes ≡ length tracked.numbers
-  pub communities : length s.communities.nodes ≡ length tracked.communities
+  pub numbers : length s.numbers.nodes.items ≡ length tracked.numbers
+  pub communities : length s.communities.nodes.items ≡ length tracked.communities
 
 -- the greatest of the items' ends
 abbrev pub list_end : {A : Type 0} → (A → ℕ) → List A → ℕ

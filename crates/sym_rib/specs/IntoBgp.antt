@@ -10,11 +10,11 @@ use Rattle.term_arith.specs.Bits.{number, ids_end}
 
 -- the metric, where it is there
 abbrev pub metric_of : Reading → SymMetric → Option ℕ
-metric_of w s = if at w s.valid then Some (number w s.value.nodes) else None
+metric_of w s = if at w s.valid then Some (number w s.value.nodes.items) else None
 
 -- the least size of a store that has all nodes of the metric
 abbrev pub metric_end : SymMetric → ℕ
-metric_end s = max (s.valid.0 + 1) (ids_end s.value.nodes)
+metric_end s = max (s.valid.0 + 1) (ids_end s.value.nodes.items)
 
 -- a local route with these attributes: it has no next hop, no originator and no clusters
 abbrev pub local_with : Attributes → BgpRec

@@ -21,8 +21,8 @@ known_attributes weight local_pref origin type1 med = record {
 
 -- the record has no next hop, no originator and no clusters, and was learnt from no peer
 pub record IsOwn (w : Reading) (tracked : Tracked) (rec : SymMapRec) : Type 0 where
-  pub next_hop : number w rec.bgp.next_hop.nodes ≡ 0
-  pub originator : number w rec.bgp.originator.nodes ≡ 0
-  pub from : number w rec.bgp.from.nodes ≡ 0
-  pub cluster_len : number w rec.bgp.cluster_len.nodes ≡ 0
-  pub clusters : bits w rec.bgp.clusters.nodes ≡ map (has_address []) tracked.clusters
+  pub next_hop : number w rec.bgp.next_hop.nodes.items ≡ 0
+  pub originator : number w rec.bgp.originator.nodes.items ≡ 0
+  pub from : number w rec.bgp.from.nodes.items ≡ 0
+  pub cluster_len : number w rec.bgp.cluster_len.nodes.items ≡ 0
+  pub clusters : bits w rec.bgp.clusters.nodes.items ≡ map (has_address []) tracked.clusters

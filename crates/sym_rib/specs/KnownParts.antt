@@ -14,42 +14,44 @@ use Rattle.term_arith.specs.Bits.{bits, number, ids_end}
 
 abbrev pub known_path_at : Reading → KnownPath → PathShape
 known_path_at w s = record {
-  len = number w s.len.nodes;
-  first = number w s.first.nodes;
-  last = number w s.last.nodes;
-  numbers = bits w s.numbers.nodes;
+  len = number w s.len.nodes.items;
+  first = number w s.first.nodes.items;
+  last = number w s.last.nodes.items;
+  numbers = bits w s.numbers.nodes.items;
 }
 
 abbrev pub known_path_end : KnownPath → ℕ
 known_path_end s =
-    max (max (ids_end s.len.nodes) (ids_end s.first.nodes)) (max (ids_end s.last.nodes) (ids_end s.numbers.nodes))
+    max (max (ids_end s.len.nodes.items) (ids_end s.first.nodes.items))
+    (max (ids_end s.last.nodes.items) (ids_end s.numbers.nodes.items))
 
 abbrev pub own_part_end : OwnPart → ℕ
 own_part_end s =
-    max (max (ids_end s.next_hop.nodes) (ids_end s.originator.nodes))
-    (max (ids_end s.from.nodes) (max (ids_end s.cluster_len.nodes) (ids_end s.clusters.nodes)))
+    max (max (ids_end s.next_hop.nodes.items) (ids_end s.originator.nodes.items))
+    (max (ids_end s.from.nodes.items) (max (ids_end s.cluster_len.nodes.items) (ids_end s.clusters.nodes.items)))
 
 pub record IsOwnPart (w : Reading) (tracked : Tracked) (s : OwnPart) : Type 0 where
-  pub next_hop : number w s.next_hop.nodes ≡ 0
-  pub originator : number w s.originator.nodes ≡ 0
-  pub from : number w s.from.nodes ≡ 0
-  pub cluster_len : number w s.cluster_len.nodes ≡ 0
-  pub clusters : bits w s.clusters.nodes ≡ map (has_address []) tracked.clusters
+  pub next_hop : number w s.next_hop.nodes.items ≡ 0
+  pub originator : number w s.originator.nodes.items ≡ 0
+  pub from : number w s.from.nodes.items ≡ 0
+  pub cluster_len : number w s.cluster_len.nodes.items ≡ 0
+  pub clusters : bits w s.clusters.nodes.items ≡ map (has_address []) tracked.clusters
 
 abbrev pub known_preferences_end : KnownPreferences → ℕ
-known_preferences_end s = max (ids_end s.weight.nodes) (max (ids_end s.local_pref.nodes) (ids_end s.origin.nodes))
+known_preferences_end s =
+    max (ids_end s.weight.nodes.items) (max (ids_end s.local_pref.nodes.items) (ids_end s.origin.nodes.items))
 
 -- what route maps see of a record of these parts, and the least size of a store that has all its nodes
 abbrev pub parts_at : Reading → KnownPreferences → Bits → KnownRest → NodeId → RouteShape
 parts_at w preferences med rest type1 = record {
   preferences = record {
-    weight = number w preferences.weight.nodes;
-    local_pref = number w preferences.local_pref.nodes;
-    med = number w med.nodes;
-    origin = number w preferences.origin.nodes;
+    weight = number w preferences.weight.nodes.items;
+    local_pref = number w preferences.local_pref.nodes.items;
+    med = number w med.nodes.items;
+    origin = number w preferences.origin.nodes.items;
   };
   path = known_path_at w rest.path;
-  communities = bits w rest.communities.nodes;
+  communities = bits w rest.communities.nodes.items;
   type1 = at w type1;
 }
 
@@ -58,15 +60,15 @@ parts_end valid preferences med rest type1 =
     max (valid.0 + 1)
     (max
     (max
-    (max (max (ids_end preferences.weight.nodes) (ids_end preferences.local_pref.nodes))
-    (max (ids_end med.nodes) (ids_end preferences.origin.nodes)))
-    (max (known_path_end rest.path) (max (ids_end rest.communities.nodes) (type1.0 + 1))))
+    (max (max (ids_end preferences.weight.nodes.items) (ids_end preferences.local_pref.nodes.items))
+    (max (ids_end med.nodes.items) (ids_end preferences.origin.nodes.items)))
+    (max (known_path_end rest.path) (max (ids_end rest.communities.nodes.items) (type1.0 + 1))))
     (own_part_end rest.own))
 
 abbrev pub known_rest_end : KnownRest → ℕ
-known_rest_end s = max (known_path_end s.path) (max (ids_end s.communities.nodes) (own_part_end s.own))
+known_rest_end s = max (known_path_end s.path) (max (ids_end s.communities.nodes.items) (own_part_end s.own))
 
 -- the rest has one node for each tracked value
 pub record HasTrackedRows (tracked : Tracked) (s : KnownRest) : Type 0 where
-  pub numbers : length s.path.numbers.nodes ≡ length tracked.numbers
-  pub communities : length s.communities.nodes ≡ length tracked.communities
+  pub numbers : length s.path.numbers.nodes.items ≡ length tracked.numbers
+  pub communities : length s.communities.nodes.items ≡ length tracked.communities

@@ -26,7 +26,10 @@ number_of_source Ibgp = 4
 
 -- the entry, as if it were there
 abbrev pub rib_at : Reading → SymRib → RibEntry
-rib_at w s = record { source = source_of_number (number w s.source.nodes); distance = number w s.distance.nodes }
+rib_at w s = record {
+  source = source_of_number (number w s.source.nodes.items);
+  distance = number w s.distance.nodes.items;
+}
 
 -- the entry, where it is there
 abbrev pub rib_of : Reading → SymRib → Option RibEntry
@@ -34,7 +37,7 @@ rib_of w s = if at w s.valid then Some (rib_at w s) else None
 
 -- the least size of a store that has all nodes of the entry
 abbrev pub rib_end : SymRib → ℕ
-rib_end s = max (s.valid.0 + 1) (max (ids_end s.source.nodes) (ids_end s.distance.nodes))
+rib_end s = max (s.valid.0 + 1) (max (ids_end s.source.nodes.items) (ids_end s.distance.nodes.items))
 
 -- and all nodes of the slot
 abbrev pub slot_end : SymSlot → ℕ

@@ -40,8 +40,8 @@ fn direct_rib(
     len: u8,
 ) -> Result<SymRib, AllocError>
     requires long { len ≤ 32 }
-    requires wide { length dst.now.nodes ≡ 32 }
-    requires nodes { ids_end dst.now.nodes ≤ size terms.old }
+    requires wide { length dst.now.nodes.items ≡ 32 }
+    requires nodes { ids_end dst.now.nodes.items ≤ size terms.old }
     requires down { ids_end sym.now.down ≤ size terms.old }
     ensures builds { Builds terms.old terms.new }
     ensures within { IfOk result (λ r. rib_end r ≤ size terms.new) }
@@ -84,8 +84,8 @@ fn plain_rib(
     len: u8,
 ) -> Result<SymRib, AllocError>
     requires long { len ≤ 32 }
-    requires wide { length dst.now.nodes ≡ 32 }
-    requires nodes { ids_end dst.now.nodes ≤ size terms.old }
+    requires wide { length dst.now.nodes.items ≡ 32 }
+    requires nodes { ids_end dst.now.nodes.items ≤ size terms.old }
     requires down { ids_end sym.now.down ≤ size terms.old }
     ensures builds { Builds terms.old terms.new }
     ensures within { IfOk result (λ r. rib_end r ≤ size terms.new) }
@@ -120,8 +120,8 @@ fn table_rib(
     own: NodeId,
 ) -> Result<SymRib, AllocError>
     requires long { len ≤ 32 }
-    requires wide { length dst.now.nodes ≡ 32 }
-    requires nodes { ids_end dst.now.nodes ≤ size terms.old }
+    requires wide { length dst.now.nodes.items ≡ 32 }
+    requires nodes { ids_end dst.now.nodes.items ≤ size terms.old }
     requires down { ids_end sym.now.down ≤ size terms.old }
     requires slot { slot_end slot.now ≤ size terms.old }
     requires own { own.0 < size terms.old }
@@ -129,7 +129,7 @@ fn table_rib(
     ensures within { IfOk result (λ r. rib_end r ≤ size terms.new) }
     ensures value { Gives terms.new result (λ w r. rib_of w r
         ≡ entry_read net.now (failures_of w sym.now) router file.now (prefix_of w dst.now len)
-        (if at w slot.now.bgp.valid then learnt_entry net.now router (number w slot.now.bgp.from.nodes) else None)
+        (if at w slot.now.bgp.valid then learnt_entry net.now router (number w slot.now.bgp.from.nodes.items) else None)
         (at w slot.now.ospf.valid && not (at w own))) }
 {
     let plain = plain_rib(alloc, terms, net, sym, router, file, dst, len)?;
@@ -155,8 +155,8 @@ pub fn sym_entry(
     own_ospf: NodeId,
 ) -> Result<SymRib, AllocError>
     requires long { len ≤ 32 }
-    requires wide { length dst.now.nodes ≡ 32 }
-    requires nodes { ids_end dst.now.nodes ≤ size terms.old }
+    requires wide { length dst.now.nodes.items ≡ 32 }
+    requires nodes { ids_end dst.now.nodes.items ≤ size terms.old }
     requires down { ids_end sym.now.down ≤ size terms.old }
     requires slot { slot_end slot.now ≤ size terms.old }
     requires own { own_ospf.0 < size terms.old }

@@ -75,8 +75,8 @@ fn mapped_bgp(
     metric: SymMetric,
 ) -> Result<SymBgp, AllocError>
     requires long { len ≤ 32 }
-    requires wide { length dst.now.nodes ≡ 32 }
-    requires dst { ids_end dst.now.nodes ≤ size terms.old }
+    requires wide { length dst.now.nodes.items ≡ 32 }
+    requires dst { ids_end dst.now.nodes.items ≤ size terms.old }
     requires metric { metric_end metric ≤ size terms.old }
     ensures builds { Builds terms.old terms.new }
     ensures within { IfOk result (λ r. bgp_end r ≤ size terms.new) }
@@ -112,8 +112,8 @@ fn local_bgp(
     metric: SymMetric,
 ) -> Result<Option<SymBgp>, AllocError>
     requires long { len ≤ 32 }
-    requires wide { length dst.now.nodes ≡ 32 }
-    requires dst { ids_end dst.now.nodes ≤ size terms.old }
+    requires wide { length dst.now.nodes.items ≡ 32 }
+    requires dst { ids_end dst.now.nodes.items ≤ size terms.old }
     requires metric { metric_end metric ≤ size terms.old }
     ensures builds { Builds terms.old terms.new }
     ensures within { IfOk result (λ r. list_end bgp_end (option_to_list r) ≤ size terms.new) }
@@ -141,8 +141,8 @@ fn network_bgp(
     slot: &SymSlot,
 ) -> Result<Option<SymBgp>, AllocError>
     requires long { len ≤ 32 }
-    requires wide { length dst.now.nodes ≡ 32 }
-    requires dst { ids_end dst.now.nodes ≤ size terms.old }
+    requires wide { length dst.now.nodes.items ≡ 32 }
+    requires dst { ids_end dst.now.nodes.items ≤ size terms.old }
     requires slot { slot_end slot.now ≤ size terms.old }
     ensures builds { Builds terms.old terms.new }
     ensures within { IfOk result (λ r. list_end bgp_end (option_to_list r) ≤ size terms.new) }
@@ -185,8 +185,8 @@ fn line_bgp(
     slot: &SymSlot,
 ) -> Result<Option<SymBgp>, AllocError>
     requires long { len ≤ 32 }
-    requires wide { length dst.now.nodes ≡ 32 }
-    requires dst { ids_end dst.now.nodes ≤ size terms.old }
+    requires wide { length dst.now.nodes.items ≡ 32 }
+    requires dst { ids_end dst.now.nodes.items ≤ size terms.old }
     requires slot { slot_end slot.now ≤ size terms.old }
     ensures builds { Builds terms.old terms.new }
     ensures within { IfOk result (λ r. list_end bgp_end (option_to_list r) ≤ size terms.new) }
@@ -236,8 +236,8 @@ fn by_networks(
     slot: &SymSlot,
 ) -> Result<List<SymBgp>, AllocError>
     requires long { len ≤ 32 }
-    requires wide { length dst.now.nodes ≡ 32 }
-    requires dst { ids_end dst.now.nodes ≤ size terms.old }
+    requires wide { length dst.now.nodes.items ≡ 32 }
+    requires dst { ids_end dst.now.nodes.items ≤ size terms.old }
     requires slot { slot_end slot.now ≤ size terms.old }
     ensures builds { Builds terms.old terms.new }
     ensures within { IfOk result (λ r. list_end bgp_end r ≤ size terms.new) }
@@ -269,8 +269,8 @@ fn with_redistributed(
     before: List<SymBgp>,
 ) -> Result<List<SymBgp>, AllocError>
     requires long { len ≤ 32 }
-    requires wide { length dst.now.nodes ≡ 32 }
-    requires dst { ids_end dst.now.nodes ≤ size terms.old }
+    requires wide { length dst.now.nodes.items ≡ 32 }
+    requires dst { ids_end dst.now.nodes.items ≤ size terms.old }
     requires slot { slot_end slot.now ≤ size terms.old }
     requires before { list_end bgp_end before ≤ size terms.old }
     ensures builds { Builds terms.old terms.new }
@@ -304,8 +304,8 @@ fn of_process(
     slot: &SymSlot,
 ) -> Result<List<SymBgp>, AllocError>
     requires long { len ≤ 32 }
-    requires wide { length dst.now.nodes ≡ 32 }
-    requires dst { ids_end dst.now.nodes ≤ size terms.old }
+    requires wide { length dst.now.nodes.items ≡ 32 }
+    requires dst { ids_end dst.now.nodes.items ≤ size terms.old }
     requires slot { slot_end slot.now ≤ size terms.old }
     ensures builds { Builds terms.old terms.new }
     ensures within { IfOk result (λ r. list_end bgp_end r ≤ size terms.new) }
@@ -336,8 +336,8 @@ fn of_file(
     slot: &SymSlot,
 ) -> Result<List<SymBgp>, AllocError>
     requires long { len ≤ 32 }
-    requires wide { length dst.now.nodes ≡ 32 }
-    requires dst { ids_end dst.now.nodes ≤ size terms.old }
+    requires wide { length dst.now.nodes.items ≡ 32 }
+    requires dst { ids_end dst.now.nodes.items ≤ size terms.old }
     requires slot { slot_end slot.now ≤ size terms.old }
     ensures builds { Builds terms.old terms.new }
     ensures within { IfOk result (λ r. list_end bgp_end r ≤ size terms.new) }
@@ -370,8 +370,8 @@ pub fn sym_originate(
     slot: &SymSlot,
 ) -> Result<List<SymBgp>, AllocError>
     requires long { len ≤ 32 }
-    requires wide { length dst.now.nodes ≡ 32 }
-    requires dst { ids_end dst.now.nodes ≤ size terms.old }
+    requires wide { length dst.now.nodes.items ≡ 32 }
+    requires dst { ids_end dst.now.nodes.items ≤ size terms.old }
     requires slot { slot_end slot.now ≤ size terms.old }
     ensures builds { Builds terms.old terms.new }
     ensures within { IfOk result (λ r. list_end bgp_end r ≤ size terms.new) }

@@ -59,7 +59,7 @@ pub(crate) fn sym_from(
     ensures builds { Builds terms.old terms.new }
     ensures within { IfOk result (λ r. r.0 < size terms.new) }
     ensures value { Gives terms.new result (λ w r. at w r
-        ≡ origins.is_from source (source_of_number (number w rib.now.source.nodes))) }
+        ≡ origins.is_from source (source_of_number (number w rib.now.source.nodes.items))) }
 {
     match number_taken(source) {
         None => constant_node(terms, false),
@@ -71,8 +71,8 @@ pub(crate) fn sym_from(
 /// alone.
 fn sym_fits(terms: &mut Terms, line: &Redist, dst: &Bits, len: u8) -> Result<NodeId, AllocError>
     requires long { len ≤ 32 }
-    requires wide { length dst.now.nodes ≡ 32 }
-    requires dst { ids_end dst.now.nodes ≤ size terms.old }
+    requires wide { length dst.now.nodes.items ≡ 32 }
+    requires dst { ids_end dst.now.nodes.items ≤ size terms.old }
     ensures builds { Builds terms.old terms.new }
     ensures within { IfOk result (λ r. r.0 < size terms.new) }
     ensures value { Gives terms.new result (λ w r. at w r ≡ (not (origins.is_default (prefix_of w dst.now len))
@@ -96,13 +96,13 @@ fn sym_taken(
     rib: &SymRib,
 ) -> Result<NodeId, AllocError>
     requires long { len ≤ 32 }
-    requires wide { length dst.now.nodes ≡ 32 }
-    requires dst { ids_end dst.now.nodes ≤ size terms.old }
+    requires wide { length dst.now.nodes.items ≡ 32 }
+    requires dst { ids_end dst.now.nodes.items ≤ size terms.old }
     requires rib { rib_end rib.now ≤ size terms.old }
     ensures builds { Builds terms.old terms.new }
     ensures within { IfOk result (λ r. r.0 < size terms.new) }
     ensures value { Gives terms.new result (λ w r. at w r ≡ (at w rib.now.valid
-        && origins.is_taken line.now (prefix_of w dst.now len) (source_of_number (number w rib.now.source.nodes)))) }
+        && origins.is_taken line.now (prefix_of w dst.now len) (source_of_number (number w rib.now.source.nodes.items)))) }
 {
     let from = sym_from(terms, line.source, rib)?;
     let fits = sym_fits(terms, line, dst, len)?;
@@ -120,14 +120,14 @@ fn external_ospf(
     type1: NodeId,
     metric: &Bits,
 ) -> Result<SymOspf, AllocError>
-    requires wide { length metric.now.nodes ≡ 32 }
+    requires wide { length metric.now.nodes.items ≡ 32 }
     requires valid { valid.0 < size terms.old }
     requires type1 { type1.0 < size terms.old }
-    requires metric { ids_end metric.now.nodes ≤ size terms.old }
+    requires metric { ids_end metric.now.nodes.items ≤ size terms.old }
     ensures builds { Builds terms.old terms.new }
     ensures within { IfOk result (λ r. ospf_end r ≤ size terms.new) }
     ensures value { Gives terms.new result (λ w r. ospf_of w r
-        ≡ (if at w valid then Some (origins.external_record (at w type1) (number w metric.now.nodes)) else None)) }
+        ≡ (if at w valid then Some (origins.external_record (at w type1) (number w metric.now.nodes.items)) else None)) }
 {
     let one = constant(alloc, terms, 1, 2)?;
     let two = constant(alloc, terms, 2, 2)?;
@@ -232,8 +232,8 @@ fn left_rec(
     bgp: &SymBgp,
 ) -> Result<SymMapRec, AllocError>
     requires long { len ≤ 32 }
-    requires wide { length dst.now.nodes ≡ 32 }
-    requires dst { ids_end dst.now.nodes ≤ size terms.old }
+    requires wide { length dst.now.nodes.items ≡ 32 }
+    requires dst { ids_end dst.now.nodes.items ≤ size terms.old }
     requires rows { HasTracked tracked.now bgp.now }
     requires nodes { bgp_end bgp.now ≤ size terms.old }
     ensures builds { Builds terms.old terms.new }
@@ -269,8 +269,8 @@ fn line_ospf(
     slot: &SymSlot,
 ) -> Result<SymOspf, AllocError>
     requires long { len ≤ 32 }
-    requires wide { length dst.now.nodes ≡ 32 }
-    requires dst { ids_end dst.now.nodes ≤ size terms.old }
+    requires wide { length dst.now.nodes.items ≡ 32 }
+    requires dst { ids_end dst.now.nodes.items ≤ size terms.old }
     requires rows { HasTracked tracked.now slot.now.bgp }
     requires slot { slot_end slot.now ≤ size terms.old }
     ensures builds { Builds terms.old terms.new }
@@ -293,7 +293,7 @@ fn sym_other(terms: &mut Terms, rib: &SymRib) -> Result<NodeId, AllocError>
     ensures builds { Builds terms.old terms.new }
     ensures within { IfOk result (λ r. r.0 < size terms.new) }
     ensures value { Gives terms.new result (λ w r. at w r ≡ (at w rib.now.valid
-        && not (origins.is_ospf_entry (source_of_number (number w rib.now.source.nodes))))) }
+        && not (origins.is_ospf_entry (source_of_number (number w rib.now.source.nodes.items))))) }
 {
     let own = equal_number(terms, rib.source.nodes.as_slice(), 3)?;
     let other = negate(terms, own)?;
@@ -311,7 +311,7 @@ fn sym_gives(
     ensures builds { Builds terms.old terms.new }
     ensures within { IfOk result (λ r. r.0 < size terms.new) }
     ensures value { Gives terms.new result (λ w r. at w r ≡ ((len == 0) && (line.now.always || (at w rib.now.valid
-        && not (origins.is_ospf_entry (source_of_number (number w rib.now.source.nodes))))))) }
+        && not (origins.is_ospf_entry (source_of_number (number w rib.now.source.nodes.items))))))) }
 {
     if len != 0 {
         return constant_node(terms, false);
@@ -366,8 +366,8 @@ fn by_lines(
     slot: &SymSlot,
 ) -> Result<List<SymOspf>, AllocError>
     requires long { len ≤ 32 }
-    requires wide { length dst.now.nodes ≡ 32 }
-    requires dst { ids_end dst.now.nodes ≤ size terms.old }
+    requires wide { length dst.now.nodes.items ≡ 32 }
+    requires dst { ids_end dst.now.nodes.items ≤ size terms.old }
     requires rows { HasTracked tracked.now slot.now.bgp }
     requires slot { slot_end slot.now ≤ size terms.old }
     ensures builds { Builds terms.old terms.new }
@@ -425,8 +425,8 @@ fn of_process(
     slot: &SymSlot,
 ) -> Result<List<SymOspf>, AllocError>
     requires long { len ≤ 32 }
-    requires wide { length dst.now.nodes ≡ 32 }
-    requires dst { ids_end dst.now.nodes ≤ size terms.old }
+    requires wide { length dst.now.nodes.items ≡ 32 }
+    requires dst { ids_end dst.now.nodes.items ≤ size terms.old }
     requires rows { HasTracked tracked.now slot.now.bgp }
     requires slot { slot_end slot.now ≤ size terms.old }
     ensures builds { Builds terms.old terms.new }
@@ -452,8 +452,8 @@ fn of_file(
     slot: &SymSlot,
 ) -> Result<List<SymOspf>, AllocError>
     requires long { len ≤ 32 }
-    requires wide { length dst.now.nodes ≡ 32 }
-    requires dst { ids_end dst.now.nodes ≤ size terms.old }
+    requires wide { length dst.now.nodes.items ≡ 32 }
+    requires dst { ids_end dst.now.nodes.items ≤ size terms.old }
     requires rows { HasTracked tracked.now slot.now.bgp }
     requires slot { slot_end slot.now ≤ size terms.old }
     ensures builds { Builds terms.old terms.new }
@@ -485,8 +485,8 @@ pub fn sym_redistribute(
     slot: &SymSlot,
 ) -> Result<List<SymOspf>, AllocError>
     requires long { len ≤ 32 }
-    requires wide { length dst.now.nodes ≡ 32 }
-    requires dst { ids_end dst.now.nodes ≤ size terms.old }
+    requires wide { length dst.now.nodes.items ≡ 32 }
+    requires dst { ids_end dst.now.nodes.items ≤ size terms.old }
     requires rows { HasTracked (tracked_of net.now) slot.now.bgp }
     requires slot { slot_end slot.now ≤ size terms.old }
     ensures builds { Builds terms.old terms.new }

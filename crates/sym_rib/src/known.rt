@@ -30,24 +30,24 @@ use term_store::{NodeId, Terms};
 #[tactic(auto, using(crate::proofs::KnownRows::row_steps))]
 fn no_marks(alloc: Global, terms: &mut Terms, count: usize) -> Result<Bits, AllocError>
     ensures builds { Builds terms.old terms.new }
-    ensures within { IfOk result (λ r. ids_end r.nodes ≤ size terms.new) }
-    ensures width { IfOk result (λ r. length r.nodes ≡ count) }
-    ensures value { Gives terms.new result (λ w r. bits w r.nodes ≡ replicate count false) }
+    ensures within { IfOk result (λ r. ids_end r.nodes.items ≤ size terms.new) }
+    ensures width { IfOk result (λ r. length r.nodes.items ≡ count) }
+    ensures value { Gives terms.new result (λ w r. bits w r.nodes.items ≡ replicate count false) }
 {
     let mut nodes = List::new(alloc);
     for i in 0..count {
         let node = constant_node(terms, false)?;
         put(&mut nodes, node)?;
     }
-    Ok(Bits { nodes })
+    Ok(Bits { nodes: nodes.items })
 }
 
 /// A number of 32 bits that is known.
 pub(crate) fn word(alloc: Global, terms: &mut Terms, value: u32) -> Result<Bits, AllocError>
     ensures builds { Builds terms.old terms.new }
-    ensures within { IfOk result (λ r. ids_end r.nodes ≤ size terms.new) }
-    ensures width { IfOk result (λ r. length r.nodes ≡ 32) }
-    ensures value { Gives terms.new result (λ w r. number w r.nodes ≡ value) }
+    ensures within { IfOk result (λ r. ids_end r.nodes.items ≤ size terms.new) }
+    ensures width { IfOk result (λ r. length r.nodes.items ≡ 32) }
+    ensures value { Gives terms.new result (λ w r. number w r.nodes.items ≡ value) }
 {
     constant(alloc, terms, u64::from(value), 32)
 }
@@ -68,7 +68,7 @@ fn number_of_origin(origin: Origin) -> u64
 fn no_path(alloc: Global, terms: &mut Terms, tracked: &Tracked) -> Result<KnownPath, AllocError>
     ensures builds { Builds terms.old terms.new }
     ensures within { IfOk result (λ r. known_path_end r ≤ size terms.new) }
-    ensures rows { IfOk result (λ r. length r.numbers.nodes ≡ length tracked.now.numbers) }
+    ensures rows { IfOk result (λ r. length r.numbers.nodes.items ≡ length tracked.now.numbers) }
     ensures value { Gives terms.new result (λ w r. known_path_at w r ≡ path_shape tracked.now.numbers []) }
 {
     let len = word(alloc, terms, 0)?;
@@ -112,10 +112,10 @@ fn assembled(
     rest: KnownRest,
     type1: NodeId,
 ) -> SymMapRec
-    requires wide { length med.nodes ≡ 32 }
+    requires wide { length med.nodes.items ≡ 32 }
     ensures valid { result.bgp.valid ≡ valid }
-    ensures rows { length result.bgp.numbers.nodes ≡ length rest.path.numbers.nodes }
-    ensures marks { length result.bgp.communities.nodes ≡ length rest.communities.nodes }
+    ensures rows { length result.bgp.numbers.nodes.items ≡ length rest.path.numbers.nodes.items }
+    ensures marks { length result.bgp.communities.nodes.items ≡ length rest.communities.nodes.items }
     ensures nodes { map_rec_end result ≡ parts_end valid preferences med rest type1 }
     ensures own { (w : Reading) (tracked : TrackedOf) → IsOwnPart w tracked rest.own → IsOwn w tracked result }
     ensures value { (w : Reading) → attributes_at w result ≡ parts_at w preferences med rest type1 }
@@ -173,9 +173,9 @@ fn known_preferences(
 ) -> Result<KnownPreferences, AllocError>
     ensures builds { Builds terms.old terms.new }
     ensures within { IfOk result (λ r. known_preferences_end r ≤ size terms.new) }
-    ensures weight { Gives terms.new result (λ w r. number w r.weight.nodes ≡ weight) }
-    ensures local_pref { Gives terms.new result (λ w r. number w r.local_pref.nodes ≡ local_pref) }
-    ensures origin { Gives terms.new result (λ w r. number w r.origin.nodes ≡ origin_code origin) }
+    ensures weight { Gives terms.new result (λ w r. number w r.weight.nodes.items ≡ weight) }
+    ensures local_pref { Gives terms.new result (λ w r. number w r.local_pref.nodes.items ≡ local_pref) }
+    ensures origin { Gives terms.new result (λ w r. number w r.origin.nodes.items ≡ origin_code origin) }
 {
     let weight = word(alloc, terms, weight)?;
     let local_pref = word(alloc, terms, local_pref)?;
@@ -195,7 +195,7 @@ fn known_rest(alloc: Global, terms: &mut Terms, tracked: &Tracked) -> Result<Kno
     ensures rows { IfOk result (λ r. HasTrackedRows tracked.now r) }
     ensures own { Gives terms.new result (λ w r. IsOwnPart w tracked.now r.own) }
     ensures path { Gives terms.new result (λ w r. known_path_at w r.path ≡ path_shape tracked.now.numbers []) }
-    ensures communities { Gives terms.new result (λ w r. bits w r.communities.nodes
+    ensures communities { Gives terms.new result (λ w r. bits w r.communities.nodes.items
         ≡ map (carries []) tracked.now.communities) }
 {
     let path = no_path(alloc, terms, tracked)?;
@@ -220,9 +220,9 @@ pub(crate) fn known_rec(
     med: Bits,
     type1: bool,
 ) -> Result<SymMapRec, AllocError>
-    requires wide { length med.nodes ≡ 32 }
+    requires wide { length med.nodes.items ≡ 32 }
     requires valid { valid.0 < size terms.old }
-    requires med { ids_end med.nodes ≤ size terms.old }
+    requires med { ids_end med.nodes.items ≤ size terms.old }
     ensures builds { Builds terms.old terms.new }
     ensures within { IfOk result (λ r. map_rec_end r ≤ size terms.new) }
     ensures valid { IfOk result (λ r. r.bgp.valid ≡ valid) }
@@ -230,7 +230,7 @@ pub(crate) fn known_rec(
     ensures own { Gives terms.new result (λ w r. IsOwn w tracked.now r) }
     ensures value { Gives terms.new result (λ w r. attributes_at w r
         ≡ route_shape tracked.now
-        (known_attributes weight local_pref (origin_code origin) type1 (number w med.nodes))) }
+        (known_attributes weight local_pref (origin_code origin) type1 (number w med.nodes.items))) }
 {
     let preferences = known_preferences(alloc, terms, weight, local_pref, origin)?;
     let rest = known_rest(alloc, terms, tracked)?;
@@ -246,11 +246,11 @@ pub(crate) fn with_held(
 ) -> Result<SymMapRec, AllocError>
     ensures valid { IfOk result (λ r. r.bgp.valid ≡ held.now.valid) }
     ensures nodes { IfOk result (λ r. (n : ℕ) → map_rec_end rec ≤ n → bgp_end held.now ≤ n → map_rec_end r ≤ n) }
-    ensures rows { IfOk result (λ r. length r.bgp.numbers.nodes ≡ length held.now.numbers.nodes) }
-    ensures marks { IfOk result (λ r. length r.bgp.communities.nodes ≡ length held.now.communities.nodes) }
+    ensures rows { IfOk result (λ r. length r.bgp.numbers.nodes.items ≡ length held.now.numbers.nodes.items) }
+    ensures marks { IfOk result (λ r. length r.bgp.communities.nodes.items ≡ length held.now.communities.nodes.items) }
     ensures value { IfOk result (λ r. (w : Reading) → attributes_at w r
         ≡ record (attributes_at w rec)
-        { path = (bgp_at w held.now).path; communities = bits w held.now.communities.nodes }) }
+        { path = (bgp_at w held.now).path; communities = bits w held.now.communities.nodes.items }) }
 {
     let mut made = rec;
     made.bgp.valid = held.valid;

@@ -10,9 +10,9 @@ pub(crate) struct KnownPreferences {
     pub weight: Bits,
     pub local_pref: Bits,
     pub origin: Bits,
-    pub ghost weight_wide: { length weight.nodes ≡ 32 },
-    pub ghost local_pref_wide: { length local_pref.nodes ≡ 32 },
-    pub ghost origin_wide: { length origin.nodes ≡ 2 },
+    pub ghost weight_wide: { length weight.nodes.items ≡ 32 },
+    pub ghost local_pref_wide: { length local_pref.nodes.items ≡ 32 },
+    pub ghost origin_wide: { length origin.nodes.items ≡ 2 },
 }
 
 /// A path by its shape.
@@ -22,9 +22,9 @@ pub(crate) struct KnownPath {
     pub first: Bits,
     pub last: Bits,
     pub numbers: Bits,
-    pub ghost len_wide: { length len.nodes ≡ 32 },
-    pub ghost first_wide: { length first.nodes ≡ 32 },
-    pub ghost last_wide: { length last.nodes ≡ 32 },
+    pub ghost len_wide: { length len.nodes.items ≡ 32 },
+    pub ghost first_wide: { length first.nodes.items ≡ 32 },
+    pub ghost last_wide: { length last.nodes.items ≡ 32 },
 }
 
 /// What route maps neither see nor set.
@@ -35,10 +35,10 @@ pub(crate) struct OwnPart {
     pub from: Bits,
     pub cluster_len: Bits,
     pub clusters: Bits,
-    pub ghost next_hop_wide: { length next_hop.nodes ≡ 32 },
-    pub ghost originator_wide: { length originator.nodes ≡ 33 },
-    pub ghost from_wide: { length from.nodes ≡ 33 },
-    pub ghost cluster_len_wide: { length cluster_len.nodes ≡ 32 },
+    pub ghost next_hop_wide: { length next_hop.nodes.items ≡ 32 },
+    pub ghost originator_wide: { length originator.nodes.items ≡ 33 },
+    pub ghost from_wide: { length from.nodes.items ≡ 33 },
+    pub ghost cluster_len_wide: { length cluster_len.nodes.items ≡ 32 },
 }
 
 /// What a route that is known has beside its preferences.

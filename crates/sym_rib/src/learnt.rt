@@ -37,10 +37,10 @@ fn sym_is_from(
     from: &Bits,
     end: &SessionEnd,
 ) -> Result<NodeId, AllocError>
-    requires { ids_end from.now.nodes ≤ size terms.old }
+    requires { ids_end from.now.nodes.items ≤ size terms.old }
     ensures builds { Builds terms.old terms.new }
     ensures within { IfOk result (λ r. r.0 < size terms.new) }
-    ensures value { Gives terms.new result (λ w r. at w r ≡ is_from net.now router (number w from.now.nodes) end.now) }
+    ensures value { Gives terms.new result (λ w r. at w r ≡ is_from net.now router (number w from.now.nodes.items) end.now) }
 {
     if end.router != router {
         return constant_node(terms, false);
@@ -74,11 +74,11 @@ fn sym_learnt(
     from: &Bits,
     internal: bool,
 ) -> Result<NodeId, AllocError>
-    requires { ids_end from.now.nodes ≤ size terms.old }
+    requires { ids_end from.now.nodes.items ≤ size terms.old }
     ensures builds { Builds terms.old terms.new }
     ensures within { IfOk result (λ r. r.0 < size terms.new) }
     ensures value { Gives terms.new result (λ w r. at w r
-        ≡ option_map_or (is_of_kind internal) (end_numbered net.now router (number w from.now.nodes)) false) }
+        ≡ option_map_or (is_of_kind internal) (end_numbered net.now router (number w from.now.nodes.items)) false) }
 {
     let ends = net.ends();
     let mut rest = constant_node(terms, false)?;
@@ -103,7 +103,7 @@ pub(crate) fn bgp_rib(
     ensures builds { Builds terms.old terms.new }
     ensures within { IfOk result (λ r. rib_end r ≤ size terms.new) }
     ensures value { Gives terms.new result (λ w r. rib_of w r
-        ≡ (if at w bgp.now.valid then learnt_entry net.now router (number w bgp.now.from.nodes) else None)) }
+        ≡ (if at w bgp.now.valid then learnt_entry net.now router (number w bgp.now.from.nodes.items) else None)) }
 {
     let internal = sym_learnt(terms, net, router, &bgp.from, true)?;
     let external = sym_learnt(terms, net, router, &bgp.from, false)?;

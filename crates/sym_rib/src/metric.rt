@@ -10,5 +10,5 @@ use term_store::NodeId;
 pub(crate) struct SymMetric {
     pub valid: NodeId,
     pub value: Bits,
-    pub ghost wide: { length value.nodes ≡ 32 },
+    pub ghost wide: { length value.nodes.items ≡ 32 },
 }

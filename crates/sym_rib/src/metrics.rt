@@ -86,9 +86,9 @@ pub(crate) fn named_metric(
 fn ospf_metric(alloc: Global, terms: &mut Terms, ospf: &SymOspf) -> Result<Bits, AllocError>
     requires { ospf_end ospf.now ≤ size terms.old }
     ensures builds { Builds terms.old terms.new }
-    ensures within { IfOk result (λ r. ids_end r.nodes ≤ size terms.new) }
-    ensures width { IfOk result (λ r. length r.nodes ≡ 32) }
-    ensures value { Gives terms.new result (λ w r. number w r.nodes ≡ origins.ospf_metric (ospf_at w ospf.now)) }
+    ensures within { IfOk result (λ r. ids_end r.nodes.items ≤ size terms.new) }
+    ensures width { IfOk result (λ r. length r.nodes.items ≡ 32) }
+    ensures value { Gives terms.new result (λ w r. number w r.nodes.items ≡ origins.ospf_metric (ospf_at w ospf.now)) }
 {
     let internal = equal_number(terms, ospf.kind.nodes.as_slice(), 0)?;
     let type1 = equal_number(terms, ospf.kind.nodes.as_slice(), 1)?;
@@ -103,7 +103,7 @@ fn sym_takes_kind(terms: &mut Terms, line: &Redist, ospf: &SymOspf) -> Result<No
     ensures builds { Builds terms.old terms.new }
     ensures within { IfOk result (λ r. r.0 < size terms.new) }
     ensures value { Gives terms.new result (λ w r. at w r
-        ≡ origins.takes_kind line.now (kind_of_number (number w ospf.now.kind.nodes))) }
+        ≡ origins.takes_kind line.now (kind_of_number (number w ospf.now.kind.nodes.items))) }
 {
     let internal = equal_number(terms, ospf.kind.nodes.as_slice(), 0)?;
     let type1 = equal_number(terms, ospf.kind.nodes.as_slice(), 1)?;
@@ -155,7 +155,7 @@ fn is_from(terms: &mut Terms, rib: &SymRib, source: u64) -> Result<NodeId, Alloc
     requires { rib_end rib.now ≤ size terms.old }
     ensures builds { Builds terms.old terms.new }
     ensures within { IfOk result (λ r. r.0 < size terms.new) }
-    ensures value { Gives terms.new result (λ w r. at w r ≡ (number w rib.now.source.nodes == source)) }
+    ensures value { Gives terms.new result (λ w r. at w r ≡ (number w rib.now.source.nodes.items == source)) }
 {
     equal_number(terms, rib.source.nodes.as_slice(), source)
 }
@@ -175,7 +175,7 @@ fn by_source(
     ensures builds { Builds terms.old terms.new }
     ensures within { IfOk result (λ r. metric_end r ≤ size terms.new) }
     ensures value { Gives terms.new result (λ w r. metric_of w r ≡ (if at w rib.now.valid
-        then (if number w rib.now.source.nodes == 3 then metric_of w ospf.now
+        then (if number w rib.now.source.nodes.items == 3 then metric_of w ospf.now
         else (if at w zero then Some 0 else None)) else None)) }
 {
     let own = is_from(terms, rib, 3)?;
@@ -216,8 +216,8 @@ fn sym_subnet_over(
     x: &OspfInterface,
 ) -> Result<NodeId, AllocError>
     requires long { len ≤ 32 }
-    requires wide { length dst.now.nodes ≡ 32 }
-    requires dst { ids_end dst.now.nodes ≤ size terms.old }
+    requires wide { length dst.now.nodes.items ≡ 32 }
+    requires dst { ids_end dst.now.nodes.items ≤ size terms.old }
     ensures builds { Builds terms.old terms.new }
     ensures within { IfOk result (λ r. r.0 < size terms.new) }
     ensures value { Gives terms.new result (λ w r. at w r
@@ -239,8 +239,8 @@ fn sym_ospf_subnet(
     len: u8,
 ) -> Result<NodeId, AllocError>
     requires long { len ≤ 32 }
-    requires wide { length dst.now.nodes ≡ 32 }
-    requires dst { ids_end dst.now.nodes ≤ size terms.old }
+    requires wide { length dst.now.nodes.items ≡ 32 }
+    requires dst { ids_end dst.now.nodes.items ≤ size terms.old }
     ensures builds { Builds terms.old terms.new }
     ensures within { IfOk result (λ r. r.0 < size terms.new) }
     ensures value { Gives terms.new result (λ w r. at w r
@@ -265,8 +265,8 @@ fn sym_internal_subnet(
     len: u8,
 ) -> Result<NodeId, AllocError>
     requires long { len ≤ 32 }
-    requires wide { length dst.now.nodes ≡ 32 }
-    requires dst { ids_end dst.now.nodes ≤ size terms.old }
+    requires wide { length dst.now.nodes.items ≡ 32 }
+    requires dst { ids_end dst.now.nodes.items ≤ size terms.old }
     ensures builds { Builds terms.old terms.new }
     ensures within { IfOk result (λ r. r.0 < size terms.new) }
     ensures value { Gives terms.new result (λ w r. at w r
@@ -291,8 +291,8 @@ fn taken_from_ospf(
     slot: &SymSlot,
 ) -> Result<SymMetric, AllocError>
     requires long { len ≤ 32 }
-    requires wide { length dst.now.nodes ≡ 32 }
-    requires dst { ids_end dst.now.nodes ≤ size terms.old }
+    requires wide { length dst.now.nodes.items ≡ 32 }
+    requires dst { ids_end dst.now.nodes.items ≤ size terms.old }
     requires slot { slot_end slot.now ≤ size terms.old }
     ensures builds { Builds terms.old terms.new }
     ensures within { IfOk result (λ r. metric_end r ≤ size terms.new) }
@@ -341,8 +341,8 @@ pub(crate) fn sym_taken_metric(
     slot: &SymSlot,
 ) -> Result<SymMetric, AllocError>
     requires long { len ≤ 32 }
-    requires wide { length dst.now.nodes ≡ 32 }
-    requires dst { ids_end dst.now.nodes ≤ size terms.old }
+    requires wide { length dst.now.nodes.items ≡ 32 }
+    requires dst { ids_end dst.now.nodes.items ≤ size terms.old }
     requires slot { slot_end slot.now ≤ size terms.old }
     ensures builds { Builds terms.old terms.new }
     ensures within { IfOk result (λ r. metric_end r ≤ size terms.new) }

@@ -24,8 +24,8 @@ pub fn is_network(p: &Prefix, len: u8) -> bool
 /// The bits of an address above its `low` lowest ones.
 #[tactic(auto, using(std::proofs::lemmas::List::take_rest))]
 fn high_bits(address: &Bits, low: u8) -> &[NodeId]
-    requires { low ≤ length address.now.nodes }
-    ensures { result.now ≡ drop low address.now.nodes }
+    requires { low ≤ length address.now.nodes.items }
+    ensures { result.now ≡ drop low address.now.nodes.items }
 {
     &address.nodes.as_slice()[low as usize..]
 }
@@ -34,11 +34,11 @@ fn high_bits(address: &Bits, low: u8) -> &[NodeId]
 #[tactic(auto, using(crate::proofs::Networks::high_steps))]
 fn sym_high(terms: &mut Terms, address: &Bits, low: u8, value: u64) -> Result<NodeId, AllocError>
     requires low { low ≤ 32 }
-    requires wide { length address.now.nodes ≡ 32 }
-    requires nodes { ids_end address.now.nodes ≤ size terms.old }
+    requires wide { length address.now.nodes.items ≡ 32 }
+    requires nodes { ids_end address.now.nodes.items ≤ size terms.old }
     ensures builds { Builds terms.old terms.new }
     ensures within { IfOk result (λ r. r.0 < size terms.new) }
-    ensures value { Gives terms.new result (λ w r. at w r ≡ (number w address.now.nodes / 2 ^ low == value)) }
+    ensures value { Gives terms.new result (λ w r. at w r ≡ (number w address.now.nodes.items / 2 ^ low == value)) }
 {
     let bits = high_bits(address, low);
     equal_number(terms, bits, value)
@@ -47,12 +47,12 @@ fn sym_high(terms: &mut Terms, address: &Bits, low: u8, value: u64) -> Result<No
 /// Whether the first bits of a prefix are those of an address, as many as are asked for.
 fn sym_agrees(terms: &mut Terms, p: &Prefix, dst: &Bits, len: u8) -> Result<NodeId, AllocError>
     requires long { len ≤ 32 }
-    requires wide { length dst.now.nodes ≡ 32 }
-    requires nodes { ids_end dst.now.nodes ≤ size terms.old }
+    requires wide { length dst.now.nodes.items ≡ 32 }
+    requires nodes { ids_end dst.now.nodes.items ≤ size terms.old }
     ensures builds { Builds terms.old terms.new }
     ensures within { IfOk result (λ r. r.0 < size terms.new) }
     ensures value { Gives terms.new result (λ w r. at w r
-        ≡ (number w dst.now.nodes / block len == p.now.addr.0 / block len)) }
+        ≡ (number w dst.now.nodes.items / block len == p.now.addr.0 / block len)) }
 {
     let low = 32 - len;
     sym_high(terms, dst, low, u64::from(p.addr.0) >> low)
@@ -66,8 +66,8 @@ pub fn sym_same_prefix(
     len: u8,
 ) -> Result<NodeId, AllocError>
     requires long { len ≤ 32 }
-    requires wide { length dst.now.nodes ≡ 32 }
-    requires nodes { ids_end dst.now.nodes ≤ size terms.old }
+    requires wide { length dst.now.nodes.items ≡ 32 }
+    requires nodes { ids_end dst.now.nodes.items ≤ size terms.old }
     ensures builds { Builds terms.old terms.new }
     ensures within { IfOk result (λ r. r.0 < size terms.new) }
     ensures value { Gives terms.new result (λ w r. at w r ≡ same_prefix p.now (prefix_read w dst.now len)) }
@@ -84,8 +84,8 @@ pub fn sym_same_prefix(
 /// Whether the prefix of that length of a destination is a network of class A, B or C (RFC 791, section 3.2).
 pub(crate) fn sym_classful(terms: &mut Terms, dst: &Bits, len: u8) -> Result<NodeId, AllocError>
     requires long { len ≤ 32 }
-    requires wide { length dst.now.nodes ≡ 32 }
-    requires nodes { ids_end dst.now.nodes ≤ size terms.old }
+    requires wide { length dst.now.nodes.items ≡ 32 }
+    requires nodes { ids_end dst.now.nodes.items ≤ size terms.old }
     ensures builds { Builds terms.old terms.new }
     ensures within { IfOk result (λ r. r.0 < size terms.new) }
     ensures value { Gives terms.new result (λ w r. at w r ≡ origins.is_classful (prefix_read w dst.now len)) }

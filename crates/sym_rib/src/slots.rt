@@ -13,8 +13,8 @@ pub struct SymRib {
     pub valid: NodeId,
     pub source: Bits,
     pub distance: Bits,
-    pub ghost source_wide: { length source.nodes ≡ 3 },
-    pub ghost distance_wide: { length distance.nodes ≡ 8 },
+    pub ghost source_wide: { length source.nodes.items ≡ 3 },
+    pub ghost distance_wide: { length distance.nodes.items ≡ 8 },
 }
 
 /// What a router holds for one prefix of the destination, as terms: its OSPF route, its BGP route and the entry of its

@@ -62,8 +62,8 @@ fn sym_mapped(
     rec: &SymMapRec,
 ) -> Result<SymMapRec, AllocError>
     requires long { len ≤ 32 }
-    requires wide { length dst.now.nodes ≡ 32 }
-    requires dst { ids_end dst.now.nodes ≤ size terms.old }
+    requires wide { length dst.now.nodes.items ≡ 32 }
+    requires dst { ids_end dst.now.nodes.items ≤ size terms.old }
     requires marks { HasMarks tracked.now rec.now }
     requires nodes { map_rec_end rec.now ≤ size terms.old }
     ensures builds { Builds terms.old terms.new }
@@ -92,8 +92,8 @@ fn sym_named(
     rec: SymMapRec,
 ) -> Result<SymMapRec, AllocError>
     requires long { len ≤ 32 }
-    requires wide { length dst.now.nodes ≡ 32 }
-    requires dst { ids_end dst.now.nodes ≤ size terms.old }
+    requires wide { length dst.now.nodes.items ≡ 32 }
+    requires dst { ids_end dst.now.nodes.items ≤ size terms.old }
     requires marks { HasMarks tracked.now rec }
     requires nodes { map_rec_end rec ≤ size terms.old }
     ensures builds { Builds terms.old terms.new }
@@ -127,8 +127,8 @@ pub(crate) fn sym_through(
     rec: SymMapRec,
 ) -> Result<SymMapRec, AllocError>
     requires long { len ≤ 32 }
-    requires wide { length dst.now.nodes ≡ 32 }
-    requires dst { ids_end dst.now.nodes ≤ size terms.old }
+    requires wide { length dst.now.nodes.items ≡ 32 }
+    requires dst { ids_end dst.now.nodes.items ≤ size terms.old }
     requires marks { HasMarks tracked.now rec }
     requires nodes { map_rec_end rec ≤ size terms.old }
     ensures builds { Builds terms.old terms.new }

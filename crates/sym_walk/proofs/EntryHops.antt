@@ -31,14 +31,14 @@ use Rattle.sym_walk.proofs.OfferedHops.{slot_read}
 pub entry_by_number : (w : Reading) (files : List File) (world : World) (up own : List Addressed) (router : ℕ)
     (file : File) (len : ℕ) (s : SymSlot) →
     entry_of w files world up own router file len s
-    ≡ by_number (number w s.rib.source.nodes)
+    ≡ by_number (number w s.rib.source.nodes.items)
     (connected_hops files world.packet up own (prefix_at world.packet.dst len))
     (static_part files world.packet up own file.statics (prefix_at world.packet.dst len) (number w
-    s.rib.distance.nodes))
+    s.rib.distance.nodes.items))
     (ospf_hops files world router (prefix_at world.packet.dst len) (slot_of w s))
     (bgp_hops files world up own router (slot_of w s))
 entry_by_number w files world up own router file len s =
-    let n = number w s.rib.source.nodes in
+    let n = number w s.rib.source.nodes.items in
     by_tests (eqb n 0) (eqb n 1) (eqb n 2) refl (eqb n 3) refl where
       of_source : RibSource → List Hop
       of_source source = entry_hops files world up own router file (
@@ -46,7 +46,7 @@ entry_by_number w files world up own router file len s =
         slot_of w s,
         record {
           source = source;
-          distance = number w s.rib.distance.nodes;
+          distance = number w s.rib.distance.nodes.items;
         },
       )
 
@@ -55,7 +55,7 @@ entry_by_number w files world up own router file len s =
 
       static : List Hop
       static = static_part files world.packet up own file.statics (prefix_at world.packet.dst len) (number w
-          s.rib.distance.nodes)
+          s.rib.distance.nodes.items)
 
       ospf : List Hop
       ospf = ospf_hops files world router (prefix_at world.packet.dst len) (slot_of w s)
@@ -66,14 +66,14 @@ entry_by_number w files world up own router file len s =
       not_both : (n : ℕ) → eqb n 2 ≡ true → eqb n 3 ≡ false
       not_both n h = let two : n ≡ 2 = eqb-true n 2 h in ap (λ m. eqb m 3) two
 
-      by_tests : (a b c : Bool) → eqb (number w s.rib.source.nodes) 2 ≡ c → (d : Bool) →
-          eqb (number w s.rib.source.nodes) 3 ≡ d →
+      by_tests : (a b c : Bool) → eqb (number w s.rib.source.nodes.items) 2 ≡ c → (d : Bool) →
+          eqb (number w s.rib.source.nodes.items) 3 ≡ d →
           of_source (cond a Connected (cond b Static (cond c Ebgp (cond d Ospf Ibgp))))
           ≡ cond a connected (cond b static (cond d ospf bgp))
       by_tests true b c two d three = refl
       by_tests false true c two d three = refl
       by_tests false false true two d three =
-          let off : d ≡ false = sym three ∙ not_both (number w s.rib.source.nodes) two in
+          let off : d ≡ false = sym three ∙ not_both (number w s.rib.source.nodes.items) two in
           sym (ap (λ x. cond x ospf bgp) off)
       by_tests false false false two true three = refl
       by_tests false false false two false three = refl

@@ -6,9 +6,9 @@ use Rattle.sym_policy.specs.declared.records.SymPacket.{SymPacket}
 
 abbrev pub packet_of : Reading → SymPacket → Packet
 packet_of w packet = record {
-  src = record { 0 = number w packet.src.nodes };
-  dst = record { 0 = number w packet.dst.nodes };
-  proto = number w packet.proto.nodes;
-  sport = number w packet.sport.nodes;
-  dport = number w packet.dport.nodes;
+  src = record { 0 = number w packet.src.nodes.items };
+  dst = record { 0 = number w packet.dst.nodes.items };
+  proto = number w packet.proto.nodes.items;
+  sport = number w packet.sport.nodes.items;
+  dport = number w packet.dport.nodes.items;
 }

@@ -98,7 +98,7 @@ fn sym_left_at(
     a: &Bits,
 ) -> Result<NodeId, AllocError>
     requires here { here.0 < size terms.old }
-    requires nodes { ids_end a.now.nodes ≤ size terms.old }
+    requires nodes { ids_end a.now.nodes.items ≤ size terms.old }
     ensures builds { Builds terms.old terms.new }
     ensures within { IfOk result (λ r. r.0 < size terms.new) }
     ensures value { Gives terms.new result (λ w r. at w r ≡ (at w here && twins.is_target_end target (ends.Left
@@ -117,7 +117,7 @@ fn sym_left_at(
 /// Whether the question looks for a walk that leaves to that address at the router.
 pub(crate) fn sym_left(terms: &mut Terms, aim: &SymAim, a: &Bits) -> Result<NodeId, AllocError>
     requires here { aim.now.here.0 < size terms.old }
-    requires nodes { ids_end a.now.nodes ≤ size terms.old }
+    requires nodes { ids_end a.now.nodes.items ≤ size terms.old }
     ensures builds { Builds terms.old terms.new }
     ensures within { IfOk result (λ r. r.0 < size terms.new) }
     ensures value { Gives terms.new result (λ w r. at w r ≡ sought_by w aim.now (ends.Left (address_of w a.now))) }

@@ -139,8 +139,8 @@ fn sym_leads_at(
 ) -> Result<NodeId, AllocError>
     requires there { slice_get (ospf.advertised net.now) k ≡ Some p.now }
     requires rows { routes_end sym.now.igp ≤ size terms.old }
-    requires wide { length a.now.nodes ≡ 32 }
-    requires nodes { ids_end a.now.nodes ≤ size terms.old }
+    requires wide { length a.now.nodes.items ≡ 32 }
+    requires nodes { ids_end a.now.nodes.items ≤ size terms.old }
     requires behind { behind.0 < size terms.old }
     ensures builds { Builds terms.old terms.new }
     ensures within { IfOk result (λ r. r.0 < size terms.new) }
@@ -169,8 +169,8 @@ pub(crate) fn sym_leads(
     x: &Adjacency,
 ) -> Result<NodeId, AllocError>
     requires rows { routes_end sym.now.igp ≤ size terms.old }
-    requires wide { length a.now.nodes ≡ 32 }
-    requires nodes { ids_end a.now.nodes ≤ size terms.old }
+    requires wide { length a.now.nodes.items ≡ 32 }
+    requires nodes { ids_end a.now.nodes.items ≤ size terms.old }
     ensures builds { Builds terms.old terms.new }
     ensures within { IfOk result (λ r. r.0 < size terms.new) }
     ensures value { Gives terms.new result (λ w r. HasDistances w net.now sym.now →

@@ -59,7 +59,7 @@ fn sym_source(terms: &mut Terms, slot: &SymSlot, source: u64) -> Result<NodeId, 
     requires slot { slot_end slot.now ≤ size terms.old }
     ensures builds { Builds terms.old terms.new }
     ensures within { IfOk result (λ r. r.0 < size terms.new) }
-    ensures value { Gives terms.new result (λ w r. at w r ≡ (number w slot.now.rib.source.nodes == source)) }
+    ensures value { Gives terms.new result (λ w r. at w r ≡ (number w slot.now.rib.source.nodes.items == source)) }
 {
     equal_number(terms, slot.rib.source.nodes.as_slice(), source)
 }
@@ -89,7 +89,7 @@ fn sym_by_ospf(
     ensures value { Gives terms.new result (λ w r. (others : ListOf HopOf) →
         IsTwin (sought_by w aim.now) others (forwarding_of w rest.now) →
         IsTwin (sought_by w aim.now)
-        (if number w slot.now.rib.source.nodes == 3 then hops.ospf_hops net.now
+        (if number w slot.now.rib.source.nodes.items == 3 then hops.ospf_hops net.now
         (world_of w sym.now packet.now slots.now) router (prefix_at (address_of w packet.now.dst) len)
         (slot_of w slot.now) else others) (forwarding_of w r)) }
 {
@@ -125,9 +125,9 @@ fn sym_by_static(
     ensures value { Gives terms.new result (λ w r. (others : ListOf HopOf) →
         IsTwin (sought_by w aim.now) others (forwarding_of w rest.now) →
         IsTwin (sought_by w aim.now)
-        (if number w slot.now.rib.source.nodes == 1 then defined.static_part net.now (packet_of w packet.now)
+        (if number w slot.now.rib.source.nodes.items == 1 then defined.static_part net.now (packet_of w packet.now)
         (hops.all_up net.now (failures_of w sym.now)) (up_interfaces net.now (failures_of w sym.now) router)
-        file.now.statics (prefix_at (address_of w packet.now.dst) len) (number w slot.now.rib.distance.nodes)
+        file.now.statics (prefix_at (address_of w packet.now.dst) len) (number w slot.now.rib.distance.nodes.items)
         else others) (forwarding_of w r)) }
 {
     let test = sym_source(terms, slot, 1)?;
@@ -171,7 +171,7 @@ fn sym_by_connected(
     ensures value { Gives terms.new result (λ w r. (others : ListOf HopOf) →
         IsTwin (sought_by w aim.now) others (forwarding_of w rest.now) →
         IsTwin (sought_by w aim.now)
-        (if number w slot.now.rib.source.nodes == 0 then hops.connected_hops net.now (packet_of w packet.now)
+        (if number w slot.now.rib.source.nodes.items == 0 then hops.connected_hops net.now (packet_of w packet.now)
         (hops.all_up net.now (failures_of w sym.now)) (up_interfaces net.now (failures_of w sym.now) router)
         (prefix_at (address_of w packet.now.dst) len) else others) (forwarding_of w r)) }
 {

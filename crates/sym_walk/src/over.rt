@@ -44,8 +44,8 @@ pub(crate) fn sym_reaches(
     x: &Addressed,
 ) -> Result<NodeId, AllocError>
     requires downs { ids_end sym.now.down ≤ size terms.old }
-    requires wide { length a.now.nodes ≡ 32 }
-    requires nodes { ids_end a.now.nodes ≤ size terms.old }
+    requires wide { length a.now.nodes.items ≡ 32 }
+    requires nodes { ids_end a.now.nodes.items ≤ size terms.old }
     ensures builds { Builds terms.old terms.new }
     ensures within { IfOk result (λ r. r.0 < size terms.new) }
     ensures value { Gives terms.new result (λ w r. at w r ≡
@@ -76,8 +76,8 @@ fn sym_over_or(
     requires downs { ids_end sym.now.down ≤ size terms.old }
     requires packet { packet_end packet.now ≤ size terms.old }
     requires aim { aim.now.here.0 < size terms.old }
-    requires wide { length a.now.nodes ≡ 32 }
-    requires nodes { ids_end a.now.nodes ≤ size terms.old }
+    requires wide { length a.now.nodes.items ≡ 32 }
+    requires nodes { ids_end a.now.nodes.items ≤ size terms.old }
     requires rest { forwarding_end rest ≤ size terms.old }
     ensures builds { Builds terms.old terms.new }
     ensures within { IfOk result (λ r. forwarding_end r ≤ size terms.new) }
@@ -111,8 +111,8 @@ pub fn sym_send_over(
     requires downs { ids_end sym.now.down ≤ size terms.old }
     requires packet { packet_end packet.now ≤ size terms.old }
     requires aim { aim.now.here.0 < size terms.old }
-    requires wide { length a.now.nodes ≡ 32 }
-    requires nodes { ids_end a.now.nodes ≤ size terms.old }
+    requires wide { length a.now.nodes.items ≡ 32 }
+    requires nodes { ids_end a.now.nodes.items ≤ size terms.old }
     ensures builds { Builds terms.old terms.new }
     ensures within { IfOk result (λ r. forwarding_end r ≤ size terms.new) }
     ensures value { Gives terms.new result (λ w r. IsTwin (sought_by w aim.now)

@@ -28,12 +28,12 @@ fn sym_own_at(
     x: &Addressed,
 ) -> Result<NodeId, AllocError>
     requires downs { ids_end sym.now.down ≤ size terms.old }
-    requires nodes { ids_end a.now.nodes ≤ size terms.old }
+    requires nodes { ids_end a.now.nodes.items ≤ size terms.old }
     ensures builds { Builds terms.old terms.new }
     ensures within { IfOk result (λ r. r.0 < size terms.new) }
     ensures value { Gives terms.new result (λ w r. at w r ≡
         (((x.now.id.router == router) && is_up net.now (failures_of w sym.now) x.now)
-        && (x.now.addr.0 == number w a.now.nodes))) }
+        && (x.now.addr.0 == number w a.now.nodes.items))) }
 {
     if x.id.router != router {
         return constant_node(terms, false);
@@ -53,11 +53,11 @@ pub fn sym_own(
     a: &Bits,
 ) -> Result<NodeId, AllocError>
     requires downs { ids_end sym.now.down ≤ size terms.old }
-    requires nodes { ids_end a.now.nodes ≤ size terms.old }
+    requires nodes { ids_end a.now.nodes.items ≤ size terms.old }
     ensures builds { Builds terms.old terms.new }
     ensures within { IfOk result (λ r. r.0 < size terms.new) }
     ensures value { Gives terms.new result (λ w r. at w r ≡
-        list_any (λ x. x.addr.0 == number w a.now.nodes) (up_interfaces net.now (failures_of w sym.now) router)) }
+        list_any (λ x. x.addr.0 == number w a.now.nodes.items) (up_interfaces net.now (failures_of w sym.now) router)) }
 {
     let mut any = constant_node(terms, false)?;
     for x in net.addresses() {

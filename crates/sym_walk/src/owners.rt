@@ -41,7 +41,7 @@ pub(crate) fn sym_has(
     x: &Addressed,
 ) -> Result<NodeId, AllocError>
     requires downs { ids_end sym.now.down ≤ size terms.old }
-    requires nodes { ids_end a.now.nodes ≤ size terms.old }
+    requires nodes { ids_end a.now.nodes.items ≤ size terms.old }
     ensures builds { Builds terms.old terms.new }
     ensures within { IfOk result (λ r. r.0 < size terms.new) }
     ensures value { Gives terms.new result (λ w r. at w r ≡ (is_up net.now (failures_of w sym.now) x.now
@@ -71,7 +71,7 @@ fn put_owner(
     requires downs { ids_end sym.now.down ≤ size terms.old }
     requires packet { packet_end packet.now ≤ size terms.old }
     requires aim { aim.now.here.0 < size terms.old }
-    requires nodes { ids_end a.now.nodes ≤ size terms.old }
+    requires nodes { ids_end a.now.nodes.items ≤ size terms.old }
     requires rest { forwarding_end rest.old ≤ size terms.old }
     ensures builds { Builds terms.old terms.new }
     ensures within { OnOk result (forwarding_end rest.new ≤ size terms.new) }
@@ -106,7 +106,7 @@ pub(crate) fn sym_owner(
     requires downs { ids_end sym.now.down ≤ size terms.old }
     requires packet { packet_end packet.now ≤ size terms.old }
     requires aim { aim.now.here.0 < size terms.old }
-    requires nodes { ids_end a.now.nodes ≤ size terms.old }
+    requires nodes { ids_end a.now.nodes.items ≤ size terms.old }
     requires other { forwarding_end other ≤ size terms.old }
     ensures builds { Builds terms.old terms.new }
     ensures within { IfOk result (λ r. forwarding_end r ≤ size terms.new) }

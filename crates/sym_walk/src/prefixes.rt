@@ -25,8 +25,8 @@ fn open_bits(prefix: &Prefix) -> u8
 // The bits of an address above its `low` lowest ones.
 #[tactic(auto, using(std::proofs::lemmas::List::take_rest))]
 fn high_bits(address: &Bits, low: u8) -> &[NodeId]
-    requires { low ≤ length address.now.nodes }
-    ensures { result.now ≡ drop low address.now.nodes }
+    requires { low ≤ length address.now.nodes.items }
+    ensures { result.now ≡ drop low address.now.nodes.items }
 {
     &address.nodes.as_slice()[low as usize..]
 }
@@ -38,8 +38,8 @@ pub(crate) fn sym_covers(
     prefix: &Prefix,
     address: &Bits,
 ) -> Result<NodeId, AllocError>
-    requires wide { length address.now.nodes ≡ 32 }
-    requires nodes { ids_end address.now.nodes ≤ size terms.old }
+    requires wide { length address.now.nodes.items ≡ 32 }
+    requires nodes { ids_end address.now.nodes.items ≤ size terms.old }
     ensures builds { Builds terms.old terms.new }
     ensures within { IfOk result (λ r. r.0 < size terms.new) }
     ensures value { Gives terms.new result (λ w r. at w r ≡ covers prefix.now (address_of w address.now)) }
@@ -56,8 +56,8 @@ pub(crate) fn sym_is_prefix(
     address: &Bits,
     len: u8,
 ) -> Result<NodeId, AllocError>
-    requires wide { length address.now.nodes ≡ 32 }
-    requires nodes { ids_end address.now.nodes ≤ size terms.old }
+    requires wide { length address.now.nodes.items ≡ 32 }
+    requires nodes { ids_end address.now.nodes.items ≤ size terms.old }
     ensures builds { Builds terms.old terms.new }
     ensures within { IfOk result (λ r. r.0 < size terms.new) }
     ensures value { Gives terms.new result (λ w r. at w r ≡ same_prefix p.now (prefix_read w address.now len)) }

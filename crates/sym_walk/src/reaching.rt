@@ -49,7 +49,7 @@ fn sym_owner_also(
     requires downs { ids_end sym.now.down ≤ size terms.old }
     requires packet { packet_end packet.now ≤ size terms.old }
     requires aim { aim.now.here.0 < size terms.old }
-    requires nodes { ids_end a.now.nodes ≤ size terms.old }
+    requires nodes { ids_end a.now.nodes.items ≤ size terms.old }
     requires before { firsts.first_end before ≤ size terms.old }
     ensures builds { Builds terms.old terms.new }
     ensures within { IfOk result (λ r. firsts.first_end r ≤ size terms.new) }
@@ -83,7 +83,7 @@ fn sym_first_owner(
     requires downs { ids_end sym.now.down ≤ size terms.old }
     requires packet { packet_end packet.now ≤ size terms.old }
     requires aim { aim.now.here.0 < size terms.old }
-    requires nodes { ids_end a.now.nodes ≤ size terms.old }
+    requires nodes { ids_end a.now.nodes.items ≤ size terms.old }
     ensures builds { Builds terms.old terms.new }
     ensures within { IfOk result (λ r. firsts.first_end r ≤ size terms.new) }
     ensures value { Gives terms.new result (λ w r. firsts.IsFirstIn w (sought_by w aim.now)
@@ -111,7 +111,7 @@ fn sym_send_out(
     requires downs { ids_end sym.now.down ≤ size terms.old }
     requires packet { packet_end packet.now ≤ size terms.old }
     requires aim { aim.now.here.0 < size terms.old }
-    requires nodes { ids_end a.now.nodes ≤ size terms.old }
+    requires nodes { ids_end a.now.nodes.items ≤ size terms.old }
     ensures builds { Builds terms.old terms.new }
     ensures within { IfOk result (λ r. forwarding_end r ≤ size terms.new) }
     ensures value { Gives terms.new result (λ w r. IsTwin (sought_by w aim.now)
@@ -141,8 +141,8 @@ fn sym_over_also(
     requires downs { ids_end sym.now.down ≤ size terms.old }
     requires packet { packet_end packet.now ≤ size terms.old }
     requires aim { aim.now.here.0 < size terms.old }
-    requires wide { length a.now.nodes ≡ 32 }
-    requires nodes { ids_end a.now.nodes ≤ size terms.old }
+    requires wide { length a.now.nodes.items ≡ 32 }
+    requires nodes { ids_end a.now.nodes.items ≤ size terms.old }
     requires before { firsts.first_end before ≤ size terms.old }
     ensures builds { Builds terms.old terms.new }
     ensures within { IfOk result (λ r. firsts.first_end r ≤ size terms.new) }
@@ -177,8 +177,8 @@ pub(crate) fn sym_first_over(
     requires downs { ids_end sym.now.down ≤ size terms.old }
     requires packet { packet_end packet.now ≤ size terms.old }
     requires aim { aim.now.here.0 < size terms.old }
-    requires wide { length a.now.nodes ≡ 32 }
-    requires nodes { ids_end a.now.nodes ≤ size terms.old }
+    requires wide { length a.now.nodes.items ≡ 32 }
+    requires nodes { ids_end a.now.nodes.items ≤ size terms.old }
     ensures builds { Builds terms.old terms.new }
     ensures within { IfOk result (λ r. firsts.first_end r ≤ size terms.new) }
     ensures value { Gives terms.new result (λ w r. firsts.IsFirstIn w (sought_by w aim.now)

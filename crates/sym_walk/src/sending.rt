@@ -40,7 +40,7 @@ pub(crate) fn sym_leaves(
     a: &Bits,
 ) -> Result<SymForwarding, AllocError>
     requires aim { aim.now.here.0 < size terms.old }
-    requires nodes { ids_end a.now.nodes ≤ size terms.old }
+    requires nodes { ids_end a.now.nodes.items ≤ size terms.old }
     ensures builds { Builds terms.old terms.new }
     ensures within { IfOk result (λ r. forwarding_end r ≤ size terms.new) }
     ensures value { Gives terms.new result (λ w r. IsTwin (sought_by w aim.now) (Ends (Left (address_of w a.now)) ∷
@@ -67,7 +67,7 @@ pub(crate) fn sym_send_to(
     requires downs { ids_end sym.now.down ≤ size terms.old }
     requires packet { packet_end packet.now ≤ size terms.old }
     requires aim { aim.now.here.0 < size terms.old }
-    requires nodes { ids_end a.now.nodes ≤ size terms.old }
+    requires nodes { ids_end a.now.nodes.items ≤ size terms.old }
     ensures builds { Builds terms.old terms.new }
     ensures within { IfOk result (λ r. forwarding_end r ≤ size terms.new) }
     ensures value { Gives terms.new result (λ w r. IsTwin (sought_by w aim.now)

@@ -95,13 +95,13 @@ fn sym_taken(
     distance: &Bits,
     route: &StaticRoute,
 ) -> Result<NodeId, AllocError>
-    requires wide { length dst.now.nodes ≡ 32 }
-    requires nodes { ids_end dst.now.nodes ≤ size terms.old }
-    requires distance { ids_end distance.now.nodes ≤ size terms.old }
+    requires wide { length dst.now.nodes.items ≡ 32 }
+    requires nodes { ids_end dst.now.nodes.items ≤ size terms.old }
+    requires distance { ids_end distance.now.nodes.items ≤ size terms.old }
     ensures builds { Builds terms.old terms.new }
     ensures within { IfOk result (λ r. r.0 < size terms.new) }
     ensures value { Gives terms.new result (λ w r. at w r ≡
-        is_taken (prefix_read w dst.now len) (number w distance.now.nodes) route.now) }
+        is_taken (prefix_read w dst.now len) (number w distance.now.nodes.items) route.now) }
 {
     if route.distance == 255 {
         return constant_node(terms, false);
@@ -128,14 +128,14 @@ fn sym_static_or(
     requires downs { ids_end sym.now.down ≤ size terms.old }
     requires packet { packet_end packet.now ≤ size terms.old }
     requires aim { aim.now.here.0 < size terms.old }
-    requires distance { ids_end distance.now.nodes ≤ size terms.old }
+    requires distance { ids_end distance.now.nodes.items ≤ size terms.old }
     requires rest { forwarding_end rest ≤ size terms.old }
     ensures builds { Builds terms.old terms.new }
     ensures within { IfOk result (λ r. forwarding_end r ≤ size terms.new) }
     ensures value { Gives terms.new result (λ w r. (others : ListOf HopOf) →
         IsTwin (sought_by w aim.now) others (forwarding_of w rest) →
         IsTwin (sought_by w aim.now)
-        ((if is_taken (prefix_read w packet.now.dst len) (number w distance.now.nodes) route.now
+        ((if is_taken (prefix_read w packet.now.dst len) (number w distance.now.nodes.items) route.now
         then route_hops net.now (failures_of w sym.now) (packet_of w packet.now) router route.now else []) ++ others)
         (forwarding_of w r)) }
 {
@@ -161,13 +161,13 @@ pub fn sym_statics(
     requires downs { ids_end sym.now.down ≤ size terms.old }
     requires packet { packet_end packet.now ≤ size terms.old }
     requires aim { aim.now.here.0 < size terms.old }
-    requires distance { ids_end distance.now.nodes ≤ size terms.old }
+    requires distance { ids_end distance.now.nodes.items ≤ size terms.old }
     ensures builds { Builds terms.old terms.new }
     ensures within { IfOk result (λ r. forwarding_end r ≤ size terms.new) }
     ensures value { Gives terms.new result (λ w r. IsTwin (sought_by w aim.now)
         (flat_map (hops.static_hops net.now (packet_of w packet.now) (hops.all_up net.now (failures_of w sym.now))
         (up_interfaces net.now (failures_of w sym.now) router))
-        (filter (λ route. route.distance == number w distance.now.nodes)
+        (filter (λ route. route.distance == number w distance.now.nodes.items)
         (routing.static_routes (up_interfaces net.now (failures_of w sym.now) router) routes.now
         (prefix_at (address_of w packet.now.dst) len)))) (forwarding_of w r)) }
 {

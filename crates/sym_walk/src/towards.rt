@@ -50,8 +50,8 @@ fn sym_leads_over(
     x: &Adjacency,
 ) -> Result<NodeId, AllocError>
     requires net { net_end sym.now ≤ size terms.old }
-    requires wide { length a.now.nodes ≡ 32 }
-    requires nodes { ids_end a.now.nodes ≤ size terms.old }
+    requires wide { length a.now.nodes.items ≡ 32 }
+    requires nodes { ids_end a.now.nodes.items ≤ size terms.old }
     ensures builds { Builds terms.old terms.new }
     ensures within { IfOk result (λ r. r.0 < size terms.new) }
     ensures value { Gives terms.new result (λ w r. HasDistances w net.now sym.now →
@@ -81,8 +81,8 @@ fn sym_led_or(
     requires net { net_end sym.now ≤ size terms.old }
     requires packet { packet_end packet.now ≤ size terms.old }
     requires aim { aim.now.here.0 < size terms.old }
-    requires wide { length a.now.nodes ≡ 32 }
-    requires nodes { ids_end a.now.nodes ≤ size terms.old }
+    requires wide { length a.now.nodes.items ≡ 32 }
+    requires nodes { ids_end a.now.nodes.items ≤ size terms.old }
     requires rest { forwarding_end rest ≤ size terms.old }
     ensures builds { Builds terms.old terms.new }
     ensures within { IfOk result (λ r. forwarding_end r ≤ size terms.new) }
@@ -116,8 +116,8 @@ fn sym_led(
     requires net { net_end sym.now ≤ size terms.old }
     requires packet { packet_end packet.now ≤ size terms.old }
     requires aim { aim.now.here.0 < size terms.old }
-    requires wide { length a.now.nodes ≡ 32 }
-    requires nodes { ids_end a.now.nodes ≤ size terms.old }
+    requires wide { length a.now.nodes.items ≡ 32 }
+    requires nodes { ids_end a.now.nodes.items ≤ size terms.old }
     ensures builds { Builds terms.old terms.new }
     ensures within { IfOk result (λ r. forwarding_end r ≤ size terms.new) }
     ensures value { Gives terms.new result (λ w r. HasDistances w net.now sym.now → IsTwin (sought_by w aim.now)
@@ -148,8 +148,8 @@ fn sym_to_next_hop(
     requires net { net_end sym.now ≤ size terms.old }
     requires packet { packet_end packet.now ≤ size terms.old }
     requires aim { aim.now.here.0 < size terms.old }
-    requires wide { length a.now.nodes ≡ 32 }
-    requires nodes { ids_end a.now.nodes ≤ size terms.old }
+    requires wide { length a.now.nodes.items ≡ 32 }
+    requires nodes { ids_end a.now.nodes.items ≤ size terms.old }
     ensures builds { Builds terms.old terms.new }
     ensures within { IfOk result (λ r. forwarding_end r ≤ size terms.new) }
     ensures value { Gives terms.new result (λ w r. HasDistances w net.now sym.now → IsTwin (sought_by w aim.now)

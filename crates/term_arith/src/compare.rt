@@ -14,12 +14,12 @@ use term_store::{NodeId, Terms};
 
 /// Whether the first number is the smaller one. The widths are equal.
 pub fn less(terms: &mut Terms, a: &Bits, b: &Bits) -> Result<NodeId, AllocError>
-    requires same_width { length a.now.nodes ≡ length b.now.nodes }
-    requires first { ids_end a.now.nodes ≤ size terms.old }
-    requires second { ids_end b.now.nodes ≤ size terms.old }
+    requires same_width { length a.now.nodes.items ≡ length b.now.nodes.items }
+    requires first { ids_end a.now.nodes.items ≤ size terms.old }
+    requires second { ids_end b.now.nodes.items ≤ size terms.old }
     ensures builds { Builds terms.old terms.new }
     ensures within { IfOk result (λ r. r.0 < size terms.new) }
-    ensures value { Gives terms.new result (λ w r. at w r ≡ nat_lt (number w a.now.nodes) (number w b.now.nodes)) }
+    ensures value { Gives terms.new result (λ w r. at w r ≡ nat_lt (number w a.now.nodes.items) (number w b.now.nodes.items)) }
 {
     less_nodes(terms, a.nodes.as_slice(), b.nodes.as_slice())
 }
@@ -44,12 +44,12 @@ fn less_nodes(terms: &mut Terms, a: &[NodeId], b: &[NodeId]) -> Result<NodeId, A
 
 /// Whether two numbers of equal widths are equal.
 pub fn equal(terms: &mut Terms, a: &Bits, b: &Bits) -> Result<NodeId, AllocError>
-    requires same_width { length a.now.nodes ≡ length b.now.nodes }
-    requires first { ids_end a.now.nodes ≤ size terms.old }
-    requires second { ids_end b.now.nodes ≤ size terms.old }
+    requires same_width { length a.now.nodes.items ≡ length b.now.nodes.items }
+    requires first { ids_end a.now.nodes.items ≤ size terms.old }
+    requires second { ids_end b.now.nodes.items ≤ size terms.old }
     ensures builds { Builds terms.old terms.new }
     ensures within { IfOk result (λ r. r.0 < size terms.new) }
-    ensures value { Gives terms.new result (λ w r. at w r ≡ (number w a.now.nodes == number w b.now.nodes)) }
+    ensures value { Gives terms.new result (λ w r. at w r ≡ (number w a.now.nodes.items == number w b.now.nodes.items)) }
 {
     equal_nodes(terms, a.nodes.as_slice(), b.nodes.as_slice())
 }
@@ -138,18 +138,18 @@ pub fn choose(
     a: &Bits,
     b: &Bits,
 ) -> Result<Bits, AllocError>
-    requires same_width { length a.now.nodes ≡ length b.now.nodes }
+    requires same_width { length a.now.nodes.items ≡ length b.now.nodes.items }
     requires test { c.0 < size terms.old }
-    requires first { ids_end a.now.nodes ≤ size terms.old }
-    requires second { ids_end b.now.nodes ≤ size terms.old }
+    requires first { ids_end a.now.nodes.items ≤ size terms.old }
+    requires second { ids_end b.now.nodes.items ≤ size terms.old }
     ensures builds { Builds terms.old terms.new }
-    ensures within { IfOk result (λ r. ids_end r.nodes ≤ size terms.new) }
-    ensures width { IfOk result (λ r. length r.nodes ≡ length a.now.nodes) }
-    ensures value { Gives terms.new result (λ w r. bits w r.nodes ≡ (if at w c then bits w a.now.nodes else bits w b.now.nodes)) }
-    ensures number { Gives terms.new result (λ w r. number w r.nodes ≡ (if at w c then number w a.now.nodes else number w b.now.nodes)) }
+    ensures within { IfOk result (λ r. ids_end r.nodes.items ≤ size terms.new) }
+    ensures width { IfOk result (λ r. length r.nodes.items ≡ length a.now.nodes.items) }
+    ensures value { Gives terms.new result (λ w r. bits w r.nodes.items ≡ (if at w c then bits w a.now.nodes.items else bits w b.now.nodes.items)) }
+    ensures number { Gives terms.new result (λ w r. number w r.nodes.items ≡ (if at w c then number w a.now.nodes.items else number w b.now.nodes.items)) }
 {
     let nodes = choose_nodes(alloc, terms, c, a.nodes.as_slice(), b.nodes.as_slice())?;
-    Ok(Bits { nodes })
+    Ok(Bits { nodes: nodes.items })
 }
 
 /// The choice bit by bit.

@@ -18,9 +18,9 @@ pub fn constant(alloc: Global, terms: &mut Terms, value: u64, width: u8) -> Resu
     requires at_most_64 { width ≤ 64 }
     requires fits { value < 2 ^ width }
     ensures builds { Builds terms.old terms.new }
-    ensures within { IfOk result (λ r. ids_end r.nodes ≤ size terms.new) }
-    ensures width { IfOk result (λ r. length r.nodes ≡ width) }
-    ensures value { Gives terms.new result (λ w r. number w r.nodes ≡ value) }
+    ensures within { IfOk result (λ r. ids_end r.nodes.items ≤ size terms.new) }
+    ensures width { IfOk result (λ r. length r.nodes.items ≡ width) }
+    ensures value { Gives terms.new result (λ w r. number w r.nodes.items ≡ value) }
 {
     let mut nodes = List::new(alloc);
     let mut rest = value;
@@ -29,5 +29,5 @@ pub fn constant(alloc: Global, terms: &mut Terms, value: u64, width: u8) -> Resu
         put(&mut nodes, node)?;
         rest /= 2;
     }
-    Ok(Bits { nodes })
+    Ok(Bits { nodes: nodes.items })
 }

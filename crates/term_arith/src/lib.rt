@@ -18,7 +18,6 @@ pub use constants::constant;
 pub use count::at_most;
 pub use lists::{copy, fresh_bits};
 pub use masked::equal_masked;
-use mw_text::List;
 pub use sum::{Summed, add, add_within};
 use term_store::NodeId;
 pub use values::values_of;
@@ -26,5 +25,5 @@ pub use values::values_of;
 /// A number by its bits, lowest first.
 #[derive(Debug, Drop)]
 pub struct Bits {
-    pub nodes: List<NodeId>,
+    pub nodes: Vec<NodeId>,
 }

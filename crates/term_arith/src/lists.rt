@@ -44,29 +44,27 @@ pub fn any_of(terms: &mut Terms, ids: &[NodeId]) -> Result<NodeId, AllocError>
 
 /// A copy of a number's nodes.
 pub fn copy(alloc: Global, bits: &Bits) -> Result<Bits, AllocError>
-    ensures { IfOk result (λ r. r.nodes ≡ bits.now.nodes) }
+    ensures { IfOk result (λ r. r.nodes.items ≡ bits.now.nodes.items) }
 {
-    let items = Vec::from_slice(alloc, bits.nodes.as_slice())?;
-    Ok(Bits {
-        nodes: List { items },
-    })
+    let nodes = Vec::from_slice(alloc, bits.nodes.as_slice())?;
+    Ok(Bits { nodes })
 }
 
 /// A number of new variables, lowest bit first.
 #[tactic(auto, using(crate::proofs::NumberLemmas::fresh_steps))]
 pub fn fresh_bits(alloc: Global, terms: &mut Terms, width: u8) -> Result<Bits, AllocError>
     ensures grows { Grows terms.old terms.new }
-    ensures within { IfOk result (λ r. ids_end r.nodes ≤ size terms.new) }
-    ensures width { IfOk result (λ r. length r.nodes ≡ width) }
+    ensures within { IfOk result (λ r. ids_end r.nodes.items ≤ size terms.new) }
+    ensures width { IfOk result (λ r. length r.nodes.items ≡ width) }
     ensures vars { OnOk result (terms.new.vars ≡ terms.old.vars + width) }
-    ensures value { Gives terms.new result (λ w r. bits w r.nodes ≡ variables w terms.old.vars width) }
+    ensures value { Gives terms.new result (λ w r. bits w r.nodes.items ≡ variables w terms.old.vars width) }
 {
     let mut nodes = List::new(alloc);
     for i in 0..width {
         let node = terms.fresh()?;
         put(&mut nodes, node)?;
     }
-    Ok(Bits { nodes })
+    Ok(Bits { nodes: nodes.items })
 }
 
 /// Puts a node at the end of a list.

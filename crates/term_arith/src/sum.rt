@@ -46,18 +46,18 @@ struct Sum {
 /// The sum of two numbers of equal widths, one bit wider.
 #[tactic(auto, using(crate::proofs::NumberLemmas::ids_end_push))]
 pub fn add(alloc: Global, terms: &mut Terms, a: &Bits, b: &Bits) -> Result<Bits, AllocError>
-    requires same_width { length a.now.nodes ≡ length b.now.nodes }
-    requires first { ids_end a.now.nodes ≤ size terms.old }
-    requires second { ids_end b.now.nodes ≤ size terms.old }
+    requires same_width { length a.now.nodes.items ≡ length b.now.nodes.items }
+    requires first { ids_end a.now.nodes.items ≤ size terms.old }
+    requires second { ids_end b.now.nodes.items ≤ size terms.old }
     ensures builds { Builds terms.old terms.new }
-    ensures within { IfOk result (λ r. ids_end r.nodes ≤ size terms.new) }
-    ensures width { IfOk result (λ r. length r.nodes ≡ length a.now.nodes + 1) }
-    ensures value { Gives terms.new result (λ w r. number w r.nodes ≡ number w a.now.nodes + number w b.now.nodes) }
+    ensures within { IfOk result (λ r. ids_end r.nodes.items ≤ size terms.new) }
+    ensures width { IfOk result (λ r. length r.nodes.items ≡ length a.now.nodes.items + 1) }
+    ensures value { Gives terms.new result (λ w r. number w r.nodes.items ≡ number w a.now.nodes.items + number w b.now.nodes.items) }
 {
     let sum = add_nodes(alloc, terms, a.nodes.as_slice(), b.nodes.as_slice())?;
     let mut nodes = sum.low;
     put(&mut nodes, sum.carry)?;
-    Ok(Bits { nodes })
+    Ok(Bits { nodes: nodes.items })
 }
 
 /// A sum in the width of its operands, and whether it fits there.
@@ -74,20 +74,22 @@ pub fn add_within(
     a: &Bits,
     b: &Bits,
 ) -> Result<Summed, AllocError>
-    requires same_width { length a.now.nodes ≡ length b.now.nodes }
-    requires first { ids_end a.now.nodes ≤ size terms.old }
-    requires second { ids_end b.now.nodes ≤ size terms.old }
+    requires same_width { length a.now.nodes.items ≡ length b.now.nodes.items }
+    requires first { ids_end a.now.nodes.items ≤ size terms.old }
+    requires second { ids_end b.now.nodes.items ≤ size terms.old }
     ensures builds { Builds terms.old terms.new }
-    ensures within { IfOk result (λ r. ids_end r.sum.nodes ≤ size terms.new) }
+    ensures within { IfOk result (λ r. ids_end r.sum.nodes.items ≤ size terms.new) }
     ensures fits_within { IfOk result (λ r. r.fits.0 < size terms.new) }
-    ensures width { IfOk result (λ r. length r.sum.nodes ≡ length a.now.nodes) }
-    ensures fits { Gives terms.new result (λ w r. at w r.fits ≡ nat_lt (number w a.now.nodes + number w b.now.nodes) (2 ^ length a.now.nodes)) }
-    ensures value { Gives terms.new result (λ w r. at w r.fits ≡ true → number w r.sum.nodes ≡ number w a.now.nodes + number w b.now.nodes) }
+    ensures width { IfOk result (λ r. length r.sum.nodes.items ≡ length a.now.nodes.items) }
+    ensures fits { Gives terms.new result (λ w r. at w r.fits ≡ nat_lt (number w a.now.nodes.items + number w b.now.nodes.items) (2 ^ length a.now.nodes.items)) }
+    ensures value { Gives terms.new result (λ w r. at w r.fits ≡ true → number w r.sum.nodes.items ≡ number w a.now.nodes.items + number w b.now.nodes.items) }
 {
     let sum = add_nodes(alloc, terms, a.nodes.as_slice(), b.nodes.as_slice())?;
     let fits = negate(terms, sum.carry)?;
     Ok(Summed {
-        sum: Bits { nodes: sum.low },
+        sum: Bits {
+            nodes: sum.low.items,
+        },
         fits,
     })
 }

@@ -9,7 +9,7 @@ returns-clause-value c = λ w reads held all stands.
     let seen = c.in_ok-seen.ensures in
     let line = c.args.line.now in
     let bgp = c.args.bgp.now in
-    let wide : length bgp.len.nodes ≡ 32 = search rules in
+    let wide : length bgp.len.nodes.items ≡ 32 = search rules in
     left.value w reads (redistributed_route line held) all
     (short_seen w c.args.tracked.now bgp line held wide stands)
     (seen.value w (left.builds.reads w reads) held stands)

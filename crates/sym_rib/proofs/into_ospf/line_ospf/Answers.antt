@@ -25,7 +25,7 @@ returns-clause-value c = λ w reads held all stands.
     let line = c.args.line.now in
     let p = prefix_of w c.args.dst.now c.args.len in
     let there : Bool → Option OspfRec =
-    λ b. if b then Some (external_record (at w rec.type1) (number w rec.bgp.med.nodes)) else None in
+    λ b. if b then Some (external_record (at w rec.type1) (number w rec.bgp.med.nodes.items)) else None in
     made.value w reads
     ∙ ap there (valid.value w before_made ∙ ap (λ b. b && at w rec.bgp.valid) (taken.value w before_left))
     ∙ line_stands c.args.tracked.now line p (at w slot.rib.valid) (at w rec.bgp.valid) (rib_at w slot.rib)

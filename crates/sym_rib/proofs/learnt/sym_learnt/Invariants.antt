@@ -13,6 +13,7 @@ invariant-loop-i l = record {
   within : l.rest.0 < size l.terms;
   value : (w : Reading) → Reads w l.terms
       → at w l.rest
-      ≡ option_map_or (is_of_kind l.internal) (find (is_from l.net l.router (number w l.from.nodes)) (drop l.i l.ends))
+      ≡ option_map_or (is_of_kind l.internal)
+      (find (is_from l.net l.router (number w l.from.nodes.items)) (drop l.i l.ends))
       false;
 }

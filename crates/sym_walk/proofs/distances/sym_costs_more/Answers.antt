@@ -22,14 +22,14 @@ returns-clause-value c = λ w reads.
     let after_more = summed.builds.reads w after_summed in
     let near = c.args.near.now in
     let far = c.args.far.now in
-    let wide : length near.cost.nodes ≡ 32 = search rules in
-    let P : ℕ → Type 0 = λ n. number w near.cost.nodes < 2 ^ n in
-    let sum = number w c.in_ok-summed.summed.sum.nodes in
-    let rest = number w far.cost.nodes in
+    let wide : length near.cost.nodes.items ≡ 32 = search rules in
+    let P : ℕ → Type 0 = λ n. number w near.cost.nodes.items < 2 ^ n in
+    let sum = number w c.in_ok-summed.summed.sum.nodes.items in
+    let rest = number w far.cost.nodes.items in
     made.value w reads
     ∙ ap₂ (λ a b. a && b) (there.value w after_there) (exact.value w after_exact)
     ∙ sums (at w near.valid) (at w far.valid) (at w c.in_ok-summed.summed.fits) (at w c.in_ok-same.same)
-    (ospf_at w near) (ospf_at w far) c.args.cost sum (subst P wide (number_below w near.cost.nodes))
+    (ospf_at w near) (ospf_at w far) c.args.cost sum (subst P wide (number_below w near.cost.nodes.items))
     (summed.fits w after_summed ∙ ap₂ (λ n l. nat_lt (n + rest) (2 ^ l)) (more.value w after_more ∙ c.from.ensures)
     more.width)
     (λ fits. summed.value w after_summed fits ∙ ap (λ n. n + rest) (more.value w after_more ∙ c.from.ensures))

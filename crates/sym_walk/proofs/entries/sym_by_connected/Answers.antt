@@ -21,7 +21,7 @@ returns-clause-value c = λ w reads others twin.
     let slot = c.args.slot.now in
     let net = c.args.net.now in
     let failures = failures_of w c.args.sym.now in
-    chosen_lists (sought_by w c.args.aim.now) (at w c.in_ok-test.test) (eqb (number w slot.rib.source.nodes) 0)
+    chosen_lists (sought_by w c.args.aim.now) (at w c.in_ok-test.test) (eqb (number w slot.rib.source.nodes.items) 0)
     (connected_hops net (packet_of w c.args.packet.now) (all_up net failures) (up_interfaces net failures
     c.args.router) (prefix_at (address_of w c.args.packet.now.dst) c.args.len)) others
     (forwarding_of w c.in_ok-to.to) (forwarding_of w c.args.rest.now) (forwarding_of w c.in_ok-made.made)

@@ -17,7 +17,7 @@ returns-clause-value c = λ w reads others twin.
     let test = c.in_ok-test.ensures in
     let after_to = made.builds.reads w reads in
     let slot = c.args.slot.now in
-    chosen_lists (sought_by w c.args.aim.now) (at w c.in_ok-test.test) (eqb (number w slot.rib.source.nodes) 3)
+    chosen_lists (sought_by w c.args.aim.now) (at w c.in_ok-test.test) (eqb (number w slot.rib.source.nodes.items) 3)
     (ospf_hops c.args.net.now (world_of w c.args.sym.now c.args.packet.now c.args.slots.now) c.args.router
     (prefix_at (address_of w c.args.packet.now.dst) c.args.len) (slot_of w slot)) others
     (forwarding_of w c.in_ok-to.to) (forwarding_of w c.args.rest.now) (forwarding_of w c.in_ok-made.made)

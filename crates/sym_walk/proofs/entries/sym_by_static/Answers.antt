@@ -26,12 +26,12 @@ returns-clause-value c = λ w reads others twin.
     let failures = failures_of w c.args.sym.now in
     let P : List StaticRoute → Type 0 = λ routes. IsTwin (sought_by w c.args.aim.now)
     (static_part net (packet_of w c.args.packet.now) (all_up net failures) (up_interfaces net failures c.args.router)
-    routes (prefix_at (address_of w c.args.packet.now.dst) c.args.len) (number w slot.rib.distance.nodes))
+    routes (prefix_at (address_of w c.args.packet.now.dst) c.args.len) (number w slot.rib.distance.nodes.items))
     (forwarding_of w c.in_ok-to.to) in
-    chosen_lists (sought_by w c.args.aim.now) (at w c.in_ok-test.test) (eqb (number w slot.rib.source.nodes) 1)
+    chosen_lists (sought_by w c.args.aim.now) (at w c.in_ok-test.test) (eqb (number w slot.rib.source.nodes.items) 1)
     (static_part net (packet_of w c.args.packet.now) (all_up net failures) (up_interfaces net failures c.args.router)
     c.args.file.now.statics (prefix_at (address_of w c.args.packet.now.dst) c.args.len) (number w
-    slot.rib.distance.nodes)) others
+    slot.rib.distance.nodes.items)) others
     (forwarding_of w c.in_ok-to.to) (forwarding_of w c.args.rest.now) (forwarding_of w c.in_ok-made.made)
     (made.value w reads) (test.value w (to.builds.reads w after_to))
     (subst P c.as_slice.ensures (to.value w after_to)) twin

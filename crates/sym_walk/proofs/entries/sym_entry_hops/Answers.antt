@@ -31,11 +31,11 @@ returns-clause-value c = λ w reads needed.
     let up = all_up net failures in
     let own = up_interfaces net failures c.args.router in
     let p = prefix_at (address_of w c.args.packet.now.dst) c.args.len in
-    let n = number w slot.rib.source.nodes in
+    let n = number w slot.rib.source.nodes.items in
     let by_bgp = bgp_hops net world up own c.args.router (slot_of w slot) in
     let by_ospf = cond (eqb n 3) (ospf_hops net world c.args.router p (slot_of w slot)) by_bgp in
     let by_static = cond (eqb n 1) (static_part net (packet_of w c.args.packet.now) up own c.args.file.now.statics p
-    (number w slot.rib.distance.nodes)) by_ospf in
+    (number w slot.rib.distance.nodes.items)) by_ospf in
     let P : List Hop → Type 0 = λ hs. IsTwin (sought_by w c.args.aim.now) hs (forwarding_of w c.in_ok-made.made) in
     subst P (sym (entry_by_number w net world up own c.args.router c.args.file.now c.args.len slot))
     (made.value w reads by_static (plain.value w after_plain by_ospf

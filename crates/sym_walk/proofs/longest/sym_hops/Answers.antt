@@ -27,7 +27,7 @@ returns-clause-value c = λ w reads needed.
     let net = c.args.net.now in
     let mine = up_interfaces net (failures_of w c.args.sym.now) c.args.router in
     chosen_lists (sought_by w c.args.aim.now) (at w c.in_ok-own.own)
-    (list_any (λ x. x.addr.0 == number w c.args.packet.now.dst.nodes) mine)
+    (list_any (λ x. x.addr.0 == number w c.args.packet.now.dst.nodes.items) mine)
     (Ends Delivered ∷ [])
     (by_entry net (world_of w c.args.sym.now c.args.packet.now c.args.slots.now) c.args.router c.args.file.now
     (longest_below (tables_of w c.args.slots.now) c.args.router LENGTHS))

@@ -21,7 +21,7 @@ loop-i-preserved c = record {
       let failures = failures_of w c.args.sym.now in
       let packet = packet_of w c.args.packet.now in
       let key = prefix_of w c.args.packet.now.dst c.args.len in
-      let distance = number w c.args.distance.now.nodes in
+      let distance = number w c.args.distance.now.nodes.items in
       let all = c.args.routes.now in
       let step = c.in_ok-rest.ensures in
       let P : List Hop → Type 0 = λ hs. IsTwin (sought_by w c.args.aim.now) hs (forwarding_of w c.in_ok-rest.rest) in
@@ -39,6 +39,6 @@ returns-clause-value c = λ w reads.
     let all = c.args.routes.now in
     let P : List StaticRoute → Type 0 = λ xs. IsTwin (sought_by w c.args.aim.now)
     (routes_hops c.args.net.now (failures_of w c.args.sym.now) (packet_of w c.args.packet.now) c.args.router
-    (prefix_of w c.args.packet.now.dst c.args.len) (number w c.args.distance.now.nodes) xs) (forwarding_of w
+    (prefix_of w c.args.packet.now.dst c.args.len) (number w c.args.distance.now.nodes.items) xs) (forwarding_of w
     c.loop-i.rest) in
     subst P (ap (λ j. drop j all) none) (c.loop-i.invariant.value w reads)

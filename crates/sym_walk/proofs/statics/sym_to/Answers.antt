@@ -19,6 +19,7 @@ returns-clause-value c = λ w reads.
     (send_over net (packet_of w c.args.packet.now) (all_up net failures) (up_interfaces net failures c.args.router) b)
     (forwarding_of w c.in_ok-made.made) in
     let value = c.in_ok-bits.ensures.value w (made.builds.reads w reads) in
-    let same : number w c.in_ok-bits.bits.nodes ≡ c.args.a.0 = cc in
-    let one : record { 0 = number w c.in_ok-bits.bits.nodes } ≡ c.args.a = ap (λ (n : ℕ). record { 0 = n }) same in
+    let same : number w c.in_ok-bits.bits.nodes.items ≡ c.args.a.0 = cc in
+    let one : record { 0 = number w c.in_ok-bits.bits.nodes.items } ≡ c.args.a =
+    ap (λ (n : ℕ). record { 0 = n }) same in
     subst P one (made.value w reads)

@@ -19,5 +19,6 @@ loop-i-preserved c =
 
 pub returns-clause-value : goal.returns-clause-value
 returns-clause-value c =
-    λ w reads. constant_done w c.loop-i.nodes c.args.width c.loop-i.rest _ (omega arith) c.requires.fits
-    (c.loop-i.invariant.value w reads)
+    λ w reads. rw c.nodes-2.view_is
+    (constant_done w c.loop-i.nodes c.args.width c.loop-i.rest _ (omega arith) c.requires.fits
+    (c.loop-i.invariant.value w reads))
