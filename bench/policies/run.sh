@@ -2,7 +2,7 @@
 # Prints how many nodes and clauses access lists of 64 to 512 entries and route maps of 16 to 64 entries take, over records
 # of new variables, and in what time, the fastest of twenty rounds; and how many packets and routes a second go through the
 # plain list and map.
-# The program is proved and built in a folder of its own, from a copy of the crates; PROGRAM names one that was built
+# The program is built without proof in a folder of its own, from a copy of the crates; PROGRAM names one that was built
 # before.
 set -e
 top=$(cd "$(dirname "$0")/../.." && pwd)
@@ -14,15 +14,15 @@ if [ -z "${PROGRAM:-}" ]; then
     for crate in mw_text ios_ast route_record term_store term_arith resolution_check cnf_blaster ios_policy_reader \
         ios_reader policy_eval sym_policy; do
         cp -r "$top/crates/$crate" "$work/crates/$crate"
+        rm -rf "$work/crates/$crate/out"
         grep "^$crate:" "$top/crates.txt" >> "$work/crates.txt"
     done
     cp "$top/bench/policies/main.rt.in" "$nodes/src/main.rt"
     cp "$top/bench/policies/records.rt.in" "$nodes/src/records.rt"
     echo 'policy_nodes: sym_policy policy_eval ios_reader cnf_blaster term_arith term_store ios_ast route_record mw_text' \
         >> "$work/crates.txt"
-    cd "$nodes"
-    rt run > "$work/log" 2>&1 < /dev/null || { cat "$work/log"; exit 1; }
-    PROGRAM=$nodes/out/policy_nodes
+    "$top/tools/optimised_build.sh" "$nodes" "$work/policy_nodes"
+    PROGRAM=$work/policy_nodes
 fi
 # A list of so many entries: TCP from one network of 256 addresses to one of 64, at a range of ports, other ones in each.
 list() {

@@ -4,7 +4,8 @@
 # looks for walks of one hop, the second for walks of as many hops as there are routers. Behind them stand the nodes of the
 # second divided by the routers times the hops, and those that it has more than the first, divided likewise: for n routers
 # with so many interfaces each and m hops the terms grow as n times m.
-# The program is proved and built in a folder of its own, from a copy of the crates; PROGRAM names one that was built before.
+# The program is built without proof in a folder of its own, from a copy of the crates; PROGRAM names one that was built
+# before.
 # Needs Python 3.
 set -e
 top=$(cd "$(dirname "$0")/../.." && pwd)
@@ -12,23 +13,25 @@ if [ -z "${PROGRAM:-}" ]; then
     work=$(mktemp -d)
     trap 'rm -rf "$work"' EXIT
     walks=$work/crates/walk_nodes
-    mkdir -p "$walks/src" "$walks/specs"
+    mkdir -p "$walks/src" "$work/crates/random_networks/src"
     for crate in mw_text ios_ast route_record term_store term_arith ios_policy_reader ios_reader net_model policy_eval \
-        question_lang proto_ospf walk_def sym_policy sym_ospf sym_rib sym_forwarding sym_walk random_networks; do
+        question_lang proto_ospf walk_def sym_policy sym_ospf sym_rib sym_forwarding sym_walk; do
         cp -r "$top/crates/$crate" "$work/crates/$crate"
+        rm -rf "$work/crates/$crate/out"
         grep "^$crate:" "$top/crates.txt" >> "$work/crates.txt"
     done
-    # The world of new variables, and its proof.
-    cp "$top/crates/examples_worlds/src/symbolic.rt" "$walks/src/symbolic.rt"
-    cp "$top/crates/examples_worlds/specs/Lib.antt" "$walks/specs/Lib.antt"
-    cp -r "$top/crates/examples_worlds/proofs" "$walks/proofs"
-    find "$walks/proofs" -name '*.antt' -exec sed -i 's/Rattle\.examples_worlds\./Rattle.walk_nodes./' {} +
+    for file in "$top"/bench/random/networks/*.rt.in; do
+        cp "$file" "$work/crates/random_networks/src/$(basename "$file" .in)"
+    done
+    # The world of new variables.
+    cp "$top/bench/random/worlds/symbolic.rt.in" "$walks/src/symbolic.rt"
     cp "$top/bench/walks/main.rt.in" "$walks/src/main.rt"
-    printf 'walk_nodes: random_networks sym_walk question_lang sym_rib sym_policy net_model term_arith term_store route_record mw_text\n' \
-        >> "$work/crates.txt"
-    cd "$walks"
-    rt run > "$work/log" 2>&1 < /dev/null || { cat "$work/log"; exit 1; }
-    PROGRAM=$walks/out/walk_nodes
+    cat >> "$work/crates.txt" <<'END'
+random_networks: sym_rib sym_ospf sym_policy term_arith term_store net_model ios_reader ios_ast route_record mw_text
+walk_nodes: random_networks sym_walk question_lang sym_rib sym_policy net_model term_arith term_store route_record mw_text
+END
+    "$top/tools/optimised_build.sh" "$walks" "$work/walk_nodes"
+    PROGRAM=$work/walk_nodes
 fi
 for network in 'ring 8' 'ring 16' 'ring 32' 'ring 64' 'mesh 8'; do
     python3 - $network <<'END' | "$PROGRAM"
