@@ -63,7 +63,3 @@ pub offered_all : (files : List File) (failures : Failures) (packet : Packet) (t
 unfolding sent_by_ospf up_adjacencies
 offered_all files failures packet tables router p None = refl
 offered_all files failures packet tables router p (Some h) = refl
-
--- what stands past the end of a list of adjacencies
-abbrev pub no_adjacency : Adjacency
-no_adjacency = record { from = record { router = 0; at = 0 }; to = record { router = 0; at = 0 }; cost = 0 }
