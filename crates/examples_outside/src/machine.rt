@@ -1,7 +1,7 @@
 //! Calls over the files of the machine.
 
 use crate::copies::{Copied, copy_two};
-use mw_outside::{DirFiles, Failed, FileSink, Files, OutSink, ReadRefused, Sink, read_whole};
+use mw_outside::{Failed, FileSink, Files, OutSink, ReadRefused, Sink, read_whole};
 use std::fs::File;
 use std::time::UNIX_EPOCH;
 use std::{fs, io};
@@ -47,12 +47,7 @@ fn show_text(rt: &HostRuntime, bytes: &[u8]) -> io::Result<()> {
 }
 
 /// Reads a file whole.
-pub fn read(
-    rt: &HostRuntime,
-    files: &mut DirFiles<HostRuntime>,
-    name: &str,
-    limit: u64,
-) -> io::Result<()> {
+pub fn read(rt: &HostRuntime, files: &mut impl Files, name: &str, limit: u64) -> io::Result<()> {
     match read_whole(rt.alloc(), files, name, limit) {
         Ok(bytes) => show_text(rt, bytes.as_slice()),
         Err(refused) => show_refused(rt, refused),
@@ -60,12 +55,7 @@ pub fn read(
 }
 
 /// Reads a file whole, and says how many bytes came.
-pub fn count(
-    rt: &HostRuntime,
-    files: &mut DirFiles<HostRuntime>,
-    name: &str,
-    limit: u64,
-) -> io::Result<()> {
+pub fn count(rt: &HostRuntime, files: &mut impl Files, name: &str, limit: u64) -> io::Result<()> {
     match read_whole(rt.alloc(), files, name, limit) {
         Ok(bytes) => println!(rt; "{} bytes", bytes.as_slice().len()),
         Err(refused) => show_refused(rt, refused),
@@ -73,12 +63,7 @@ pub fn count(
 }
 
 /// Reads a piece of four bytes.
-pub fn piece(
-    rt: &HostRuntime,
-    files: &mut DirFiles<HostRuntime>,
-    name: &str,
-    at: u64,
-) -> io::Result<()> {
+pub fn piece(rt: &HostRuntime, files: &mut impl Files, name: &str, at: u64) -> io::Result<()> {
     let mut piece = *b"....";
     match files.read_at(name, at, &mut piece) {
         Ok(_) => show_text(rt, &piece),
@@ -113,12 +98,7 @@ fn show_copied(rt: &HostRuntime, copied: Copied) -> io::Result<()> {
 }
 
 /// Copies two files to the standard output.
-pub fn copy(
-    rt: &HostRuntime,
-    files: &mut DirFiles<HostRuntime>,
-    name: &str,
-    other: &str,
-) -> io::Result<()> {
+pub fn copy(rt: &HostRuntime, files: &mut impl Files, name: &str, other: &str) -> io::Result<()> {
     let mut out = OutSink::new(rt.stdout());
     let copied = copy_two(rt.alloc(), files, &mut out, name, other);
     show_copied(rt, copied)

@@ -13,7 +13,7 @@ mod machine;
 
 use crate::halting::show_halting;
 use crate::machine::{age, copy, count, create, fill, piece, read, remove, rename};
-use mw_outside::{DirFiles, NoSink, Sink};
+use mw_outside::{DirFiles, Files, NoSink, Sink};
 use std::io;
 
 fn number(word: &str) -> u64 {
@@ -30,7 +30,7 @@ fn show_nowhere(rt: &HostRuntime, text: &str) -> io::Result<()> {
 // An order that reads.
 fn take_read(
     rt: &HostRuntime,
-    files: &mut DirFiles<HostRuntime>,
+    files: &mut impl Files,
     word: &str,
     name: &str,
     rest: &str,
@@ -46,7 +46,7 @@ fn take_read(
 
 fn take_order(
     rt: &HostRuntime,
-    files: &mut DirFiles<HostRuntime>,
+    files: &mut impl Files,
     word: &str,
     name: &str,
     rest: &str,
@@ -64,7 +64,7 @@ fn take_order(
     }
 }
 
-fn take_line(rt: &HostRuntime, files: &mut DirFiles<HostRuntime>, line: &str) -> io::Result<()> {
+fn take_line(rt: &HostRuntime, files: &mut impl Files, line: &str) -> io::Result<()> {
     let (word, rest) = line.split_once(' ').unwrap_or((line, ""));
     let (name, rest) = rest.split_once(' ').unwrap_or((rest, ""));
     take_order(rt, files, word, name, rest)

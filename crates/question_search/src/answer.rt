@@ -22,16 +22,16 @@ use cex_json::Counterexample;
 use cnf_blaster::decoded;
 use mw_outside::Sink;
 use mw_text::List;
-use ospf_equations::is_meshed;
-use world_variables::decode;
 use net_model::Net;
+use ospf_equations::is_meshed;
 use question_lang::Question;
 use route_record::Environment;
-use run_answers::section::{write_end, write_opening};
 use run_answers::Verdict;
+use run_answers::section::{write_end, write_opening};
 use std::alloc::{AllocError, Global};
 use walk_def::World;
 use walk_finder::find_walk;
+use world_variables::decode;
 
 // A counterexample of that world, which something breaks.
 fn broken_world(

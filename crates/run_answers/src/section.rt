@@ -14,7 +14,11 @@ use run_inputs::text::joined;
 use std::alloc::Global;
 
 /// Opens the section of a question in the log.
-pub fn write_opening<L: Sink>(alloc: Global, question: &Question, log: &mut L) -> Result<(), SolveFault>
+pub fn write_opening<L: Sink>(
+    alloc: Global,
+    question: &Question,
+    log: &mut L,
+) -> Result<(), SolveFault>
     ensures takes { OnOk result (Takes (L.taken log.old) (L.taken log.new) (opening_text question.now)) }
     ensures part { TakesPart (L.taken log.old) (L.taken log.new) (opening_text question.now) }
     ensures fault { OnLogFault result (Rose (L.faults log.old) (L.faults log.new)) }

@@ -1,7 +1,7 @@
 use Rattle.std.proofs.Common.{map}
 use Rattle.std.specs.Prelude.{string_bytes}
 use Rattle.run_inputs.specs.Loading.{outcome_of}
-use Rattle.run_answers.proofs.Ending.{answered_from, cut_from, cut_nothing, not_unanswered}
+use Rattle.mw_verify.proofs.Ending.{answered_from, cut_from, cut_nothing, not_unanswered}
 use Rattle.mw_verify.proofs.running.run.Goals as goal
 
 pub returns-in-Ok-Some-clause-answered : goal.returns-in-Ok-Some-clause-answered

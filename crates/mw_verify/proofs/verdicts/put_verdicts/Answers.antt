@@ -1,7 +1,7 @@
 use Rattle.std.proofs.Common.{◌≡◌, ◌<◌, ◌∙◌, ℕ, ap, arith, get_or, length, subst}
 use Rattle.std.specs.Prelude.{◌⊎◌}
 use Rattle.mw_outside.specs.Faults.{Rose}
-use Rattle.run_answers.proofs.Answering.{put-cut, put-more}
+use Rattle.mw_verify.proofs.Answering.{put-cut, put-more}
 use Rattle.mw_verify.proofs.verdicts.put_verdicts.Goals as goal
 
 pub returns-in-Err-WriteFault-clause-answers : goal.returns-in-Err-WriteFault-clause-answers

@@ -1,5 +1,5 @@
 use Rattle.std.proofs.Common.{◌≡◌, take}
-use Rattle.run_answers.proofs.Answering.{PutOf}
+use Rattle.mw_verify.proofs.Answering.{PutOf}
 use Rattle.mw_verify.proofs.verdicts.put_verdicts.Given as goal
 
 -- a right answer to each question so far stands, and no write failed

@@ -9,7 +9,7 @@ use Rattle.run_answers.specs.declared.status.Status.{Status}
 use Rattle.run_answers.specs.declared.status.Status.TheVariants.{Good, Bad, Unknown, Usage, Refused, ReadFault}
 use Rattle.run_answers.specs.declared.status.Status.TheVariants.{WriteFault, Memory}
 use Rattle.run_answers.specs.Running.{AnswersSo, IsAnswered, OnAnswered, OnCut, OnUnanswered, Stands}
-use Rattle.run_answers.proofs.Answering.{put-none}
+use Rattle.mw_verify.proofs.Answering.{put-none}
 
 -- nothing stands, which is a front of what may
 pub nothing_stands : (outcome : Outcome) (taken logged : Option (List ℕ)) → Stands outcome taken taken logged logged
