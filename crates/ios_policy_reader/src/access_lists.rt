@@ -4,6 +4,7 @@ ghost use Rattle.std.specs.Prelude.{◌≡◌, OnOk, OnErr, position};
 ghost use Rattle.mw_text.specs.Text.{same_text};
 ghost use Rattle.ios_policy_reader.specs.Lists.{place_of, with_access_entry, is_opened, with_opened, with_entry_at};
 
+use crate::growing::{add_to, list_of_one};
 use ios_ast::{AccessEntry, AccessList};
 use mw_text::{List, same_bytes};
 use std::alloc::{AllocError, Global};
@@ -38,19 +39,20 @@ pub fn add_access_entry(
     ensures unchanged { OnErr result (lists.new ≡ lists.old) }
 {
     match place_of_access_list(lists.as_slice(), name.as_slice()) {
-        Some(at) => lists.items[at].entries.items.push(entry)?,
+        Some(at) => add_to(&mut lists.items[at].entries, entry),
         None => {
-            let mut entries = List::new(alloc);
-            entries.items.push(entry)?;
-            lists.items.push(AccessList {
-                name,
-                extended,
-                named: false,
-                entries,
-            })?;
+            let entries = list_of_one(alloc, entry)?;
+            add_to(
+                lists,
+                AccessList {
+                    name,
+                    extended,
+                    named: false,
+                    entries,
+                },
+            )
         }
     }
-    Ok(())
 }
 
 /// Whether an `ip access-list` line opened the list of that name.
@@ -91,8 +93,8 @@ pub fn add_entry_at(
     ensures ok { OnOk result (lists.new ≡ with_entry_at at entry lists.old) }
     ensures unchanged { OnErr result (lists.new ≡ lists.old) }
 {
-    if let Some(list) = lists.items.get_mut(at as usize) {
-        list.entries.items.push(entry)?;
+    match lists.items.get_mut(at as usize) {
+        Some(list) => add_to(&mut list.entries, entry),
+        None => Ok(()),
     }
-    Ok(())
 }

@@ -5,6 +5,7 @@ ghost use Rattle.std.specs.List.{list_any};
 ghost use Rattle.ios_policy_reader.specs.Lists.{changed_at};
 ghost use Rattle.ios_policy_reader.specs.Clauses.{match_of, community_act, act_of, clause_of, act_number, repeats, with_clause, open_entry, maps_with};
 
+use crate::growing::add_to;
 use crate::heads::Row;
 use crate::said::{Said, Tag, is_said, number_said};
 use crate::values::{ascending_numbers, numbers_said, uses_said};
@@ -126,10 +127,9 @@ fn add_to_entry(entry: &mut MapEntry, clause: MapClause) -> Result<(), AllocErro
     ensures unchanged { OnErr result (entry.new ≡ entry.old) }
 {
     match clause {
-        MapClause::Matching(one) => entry.matches.items.push(one)?,
-        MapClause::Setting(act) => entry.sets.items.push(act)?,
+        MapClause::Matching(one) => add_to(&mut entry.matches, one),
+        MapClause::Setting(act) => add_to(&mut entry.sets, act),
     }
-    Ok(())
 }
 
 /// Puts a line into the last of these entries.

@@ -1,6 +1,6 @@
 //! The grammar of a line as edges between states: what a word leads to.
 
-ghost use Rattle.std.specs.Prelude.{◌≡◌, ◌==◌, ℕ, ◌<◌, ◌^◌, ◌&&◌, length, Option, Some, None, if◌then◌else◌, option_map};
+ghost use Rattle.std.specs.Prelude.{◌≡◌, ◌==◌, ℕ, ◌<◌, ◌^◌, ◌&&◌, length, Option, Some, None, if◌then◌else◌, option_and_then, option_map};
 ghost use Rattle.std.specs.List.{list_any};
 ghost use Rattle.ios_policy_reader.specs.Edges.{said_by, said_back, prefix_by, nothing_where, word_where, address_where, is_end, ends_in, leaves, way_of, may_end};
 ghost use Rattle.ios_policy_reader.specs.Said.{address_said, is_classful};
@@ -15,7 +15,8 @@ use crate::said::{
 use crate::words::{
     is_table_word, read_community, read_port, read_port_from, read_ports, read_range,
 };
-use mw_text::{Addr, read_addr, read_prefix};
+use ios_ast::Pattern;
+use mw_text::{Addr, Prefix, read_addr, read_prefix};
 
 /// What a word has to be. Keywords stand in lower case and are filled up with blanks.
 #[derive(Clone, Copy)]
@@ -91,9 +92,46 @@ fn ports_if(ports: Option<(u16, u16)>) -> Option<Value>
     Some(Value::Ports(low, high))
 }
 
-fn address_if_class(address: Addr) -> Option<Value>
-    ensures { result ≡ address_where (is_classful address) address }
+fn number_if(number: Option<u32>) -> Option<Value>
+    ensures { result ≡ option_map (λ n. Value.Number n) number }
 {
+    Some(Value::Number(number?))
+}
+
+fn port_if(port: Option<u16>) -> Option<Value>
+    ensures { result ≡ option_map (λ n. Value.Number n) port }
+{
+    Some(Value::Number(u32::from(port?)))
+}
+
+fn length_if(len: Option<u8>) -> Option<Value>
+    ensures { result ≡ option_map (λ n. Value.Length n) len }
+{
+    Some(Value::Length(len?))
+}
+
+fn address_if(address: Option<Addr>) -> Option<Value>
+    ensures { result ≡ option_map (λ a. Value.Address a) address }
+{
+    Some(Value::Address(address?))
+}
+
+fn prefix_if(prefix: Option<Prefix>) -> Option<Value>
+    ensures { result ≡ option_map (λ p. Value.Prefix p) prefix }
+{
+    Some(Value::Prefix(prefix?))
+}
+
+fn pattern_if(pattern: Option<Pattern>) -> Option<Value>
+    ensures { result ≡ option_map (λ p. Value.Pattern p) pattern }
+{
+    Some(Value::Pattern(pattern?))
+}
+
+fn address_if_class(address: Option<Addr>) -> Option<Value>
+    ensures { result ≡ option_and_then (λ a. address_where (is_classful a) a) address }
+{
+    let address = address?;
     if has_class(address) {
         Some(Value::Address(address))
     } else {
@@ -127,11 +165,11 @@ fn say_back(takes: Takes, said: &[Said], word: &[u8]) -> Option<Value>
         }
         Takes::PortFrom(tag) => {
             let low = number_said(tag, said, 0).min(65_535);
-            Some(Value::Number(read_port_from(word, low)?))
+            number_if(read_port_from(word, low))
         }
         Takes::LengthFrom => {
             let low = least_length_said(said);
-            Some(Value::Number(read_range(word, low, 32)?))
+            number_if(read_range(word, low, 32))
         }
         _ => None,
     }
@@ -153,19 +191,19 @@ fn say(takes: Takes, said: &[Said], at: u32, word: &[u8]) -> Option<Value>
             }
         }
         Takes::Any => Some(Value::Word(at)),
-        Takes::Range(low, high) => Some(Value::Number(read_range(word, low, high)?)),
+        Takes::Range(low, high) => number_if(read_range(word, low, high)),
         Takes::AnyName => word_if(is_any_name(word), at),
         Takes::ListName => word_if(is_name_of_list(word), at),
         Takes::RouterName => word_if(is_router_name(word), at),
         Takes::Interface => word_if(is_interface_name(word), at),
-        Takes::AnyAddress => Some(Value::Address(read_addr(word)?)),
-        Takes::ClassAddress => address_if_class(read_addr(word)?),
-        Takes::AnyPrefix => Some(Value::Prefix(read_prefix(word)?)),
-        Takes::AnyCommunity => Some(Value::Number(read_community(word)?)),
-        Takes::Mask(least) => Some(Value::Length(read_mask(word, least)?)),
-        Takes::AnyPort => Some(Value::Number(u32::from(read_port(word)?))),
+        Takes::AnyAddress => address_if(read_addr(word)),
+        Takes::ClassAddress => address_if_class(read_addr(word)),
+        Takes::AnyPrefix => prefix_if(read_prefix(word)),
+        Takes::AnyCommunity => number_if(read_community(word)),
+        Takes::Mask(least) => length_if(read_mask(word, least)),
+        Takes::AnyPort => port_if(read_port(word)),
         Takes::AnyPorts => ports_if(read_ports(word)),
-        Takes::AnyPattern => Some(Value::Pattern(read_pattern(word)?)),
+        Takes::AnyPattern => pattern_if(read_pattern(word)),
         Takes::MaskOver
         | Takes::Once(_, _)
         | Takes::PortKey(_, _)

@@ -6,6 +6,7 @@ pub mod cause;
 pub mod clauses;
 pub mod edges;
 pub mod entries;
+pub mod growing;
 pub mod head_table;
 pub mod heads;
 pub mod laws;

@@ -4,6 +4,7 @@ ghost use Rattle.std.specs.Prelude.{◌≡◌, OnOk, OnErr, position};
 ghost use Rattle.mw_text.specs.Text.{same_text};
 ghost use Rattle.ios_policy_reader.specs.Lists.{place_of, with_prefix_entry, with_community_entry, with_path_entry, with_map_entry};
 
+use crate::growing::{add_to, list_of_one};
 use ios_ast::{
     AsPathEntry, AsPathList, CommunityEntry, CommunityList, MapEntry, PrefixEntry, PrefixList,
     RouteMap,
@@ -31,14 +32,12 @@ pub fn add_prefix_entry(
     ensures unchanged { OnErr result (lists.new ≡ lists.old) }
 {
     match place_of_prefix_list(lists.as_slice(), name.as_slice()) {
-        Some(at) => lists.items[at].entries.items.push(entry)?,
+        Some(at) => add_to(&mut lists.items[at].entries, entry),
         None => {
-            let mut entries = List::new(alloc);
-            entries.items.push(entry)?;
-            lists.items.push(PrefixList { name, entries })?;
+            let entries = list_of_one(alloc, entry)?;
+            add_to(lists, PrefixList { name, entries })
         }
     }
-    Ok(())
 }
 
 /// The place of the community list of that name.
@@ -61,14 +60,12 @@ pub fn add_community_entry(
     ensures unchanged { OnErr result (lists.new ≡ lists.old) }
 {
     match place_of_community_list(lists.as_slice(), name.as_slice()) {
-        Some(at) => lists.items[at].entries.items.push(entry)?,
+        Some(at) => add_to(&mut lists.items[at].entries, entry),
         None => {
-            let mut entries = List::new(alloc);
-            entries.items.push(entry)?;
-            lists.items.push(CommunityList { name, entries })?;
+            let entries = list_of_one(alloc, entry)?;
+            add_to(lists, CommunityList { name, entries })
         }
     }
-    Ok(())
 }
 
 /// The place of the AS-path list of that name.
@@ -91,14 +88,12 @@ pub fn add_path_entry(
     ensures unchanged { OnErr result (lists.new ≡ lists.old) }
 {
     match place_of_path_list(lists.as_slice(), name.as_slice()) {
-        Some(at) => lists.items[at].entries.items.push(entry)?,
+        Some(at) => add_to(&mut lists.items[at].entries, entry),
         None => {
-            let mut entries = List::new(alloc);
-            entries.items.push(entry)?;
-            lists.items.push(AsPathList { name, entries })?;
+            let entries = list_of_one(alloc, entry)?;
+            add_to(lists, AsPathList { name, entries })
         }
     }
-    Ok(())
 }
 
 /// The place of the route map of that name.
@@ -120,14 +115,12 @@ pub fn add_map_entry(
     ensures unchanged { OnErr result (maps.new ≡ maps.old) }
 {
     match place_of_map(maps.as_slice(), name.as_slice()) {
-        Some(at) => maps.items[at].entries.items.push(entry)?,
+        Some(at) => add_to(&mut maps.items[at].entries, entry),
         None => {
-            let mut entries = List::new(alloc);
-            entries.items.push(entry)?;
-            maps.items.push(RouteMap { name, entries })?;
+            let entries = list_of_one(alloc, entry)?;
+            add_to(maps, RouteMap { name, entries })
         }
     }
-    Ok(())
 }
 
 /// Where the route map of that name stands, or a new one would.
