@@ -13,17 +13,30 @@ top=$(cd "$(dirname "$0")/../.." && pwd)
 work=$(mktemp -d)
 trap 'rm -rf "$work"' EXIT
 
-# The crates that a program stands on, and the lines that it reads.
-plain='mw_text ios_ast route_record ios_policy_reader ios_reader'
-terms='term_store term_arith sym_policy'
-networks="$plain $terms net_model proto_ospf proto_rib policy_eval sym_ospf sym_rib"
-crates_of() {
+# The crates that a program names.
+networks='sym_rib sym_ospf sym_policy term_arith term_store proto_rib proto_ospf net_model ios_reader ios_ast route_record'
+named_by() {
     case $1 in
-    policies) echo "mw_text ios_ast route_record policy_eval $terms" ;;
-    files) echo "$plain" ;;
+    policies) echo 'sym_policy policy_eval term_arith term_store ios_ast route_record mw_text' ;;
+    files) echo 'ios_reader ios_ast mw_text' ;;
     twins) echo "$networks" ;;
-    worlds) echo "$networks question_lang walk_def sym_walk walk_finder" ;;
+    worlds) echo "$networks walk_finder sym_walk walk_def question_lang" ;;
     esac
+}
+
+# These crates and all that they stand on.
+with_below() {
+    awk -F: -v names="$*" '/^[a-z]/ { below[$1] = $2 }
+        END {
+            count = split(names, queue, " ")
+            for (i = 1; i <= count; i++) {
+                if (queue[i] in seen || !(queue[i] in below)) continue
+                seen[queue[i]] = 1
+                print queue[i]
+                more = split(below[queue[i]], next_names, " ")
+                for (j = 1; j <= more; j++) queue[++count] = next_names[j]
+            }
+        }' "$top/crates.txt"
 }
 lines_of() {
     case $1 in
@@ -46,8 +59,9 @@ lay() {
 }
 
 run() {
-    known=$(crates_of "$1")
-    [ -n "$known" ] || { echo "no such program: $1" >&2; exit 64; }
+    named=$(named_by "$1")
+    [ -n "$named" ] || { echo "no such program: $1" >&2; exit 64; }
+    known=$(with_below $named)
     rm -rf "$work/crates" "$work/crates.txt"
     mkdir "$work/crates"
     for crate in $known; do

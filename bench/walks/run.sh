@@ -14,8 +14,18 @@ if [ -z "${PROGRAM:-}" ]; then
     trap 'rm -rf "$work"' EXIT
     walks=$work/crates/walk_nodes
     mkdir -p "$walks/src" "$work/crates/random_networks/src"
-    for crate in mw_text ios_ast route_record term_store term_arith ios_policy_reader ios_reader net_model policy_eval \
-        question_lang proto_ospf walk_def sym_policy sym_ospf sym_rib sym_forwarding sym_walk; do
+    # The crates that the program and its networks name, and all that they stand on.
+    for crate in $(awk -F: -v names='sym_walk question_lang sym_rib ios_reader' '/^[a-z]/ { below[$1] = $2 }
+        END {
+            count = split(names, queue, " ")
+            for (i = 1; i <= count; i++) {
+                if (queue[i] in seen || !(queue[i] in below)) continue
+                seen[queue[i]] = 1
+                print queue[i]
+                more = split(below[queue[i]], next_names, " ")
+                for (j = 1; j <= more; j++) queue[++count] = next_names[j]
+            }
+        }' "$top/crates.txt"); do
         cp -r "$top/crates/$crate" "$work/crates/$crate"
         rm -rf "$work/crates/$crate/out"
         grep "^$crate:" "$top/crates.txt" >> "$work/crates.txt"
