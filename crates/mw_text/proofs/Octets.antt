@@ -8,16 +8,16 @@ joined_of high low = option_and_then (λ h. option_map (λ l. record { 0 = h * 6
 
 joined : (a b c d : Option ℕ)
     → option_and_then (λ first. option_and_then (λ second. option_and_then (λ third. option_and_then (λ fourth.
-      Some (record { 0 = ((first * 256 + second) * 256 + third) * 256 + fourth })) d) c) b) a
+    Some (record { 0 = ((first * 256 + second) * 256 + third) * 256 + fourth })) d) c) b) a
     ≡ joined_of (option_and_then (λ first. option_map (λ second. first * 256 + second) b) a)
-      (option_and_then (λ third. option_map (λ fourth. third * 256 + fourth) d) c)
+    (option_and_then (λ third. option_map (λ fourth. third * 256 + fourth) d) c)
 joined None b c d = refl
 joined (Some first) None c d = refl
 joined (Some first) (Some second) None d = refl
 joined (Some first) (Some second) (Some third) None = refl
 joined (Some first) (Some second) (Some third) (Some fourth) =
     let same : ((first * 256 + second) * 256 + third) * 256 + fourth
-        ≡ (first * 256 + second) * 65536 + (third * 256 + fourth) = omega arith in
+    ≡ (first * 256 + second) * 65536 + (third * 256 + fourth) = omega arith in
     let P : ℕ → Option Addr = λ n. Some (record { 0 = n }) in
     ap P same
 
