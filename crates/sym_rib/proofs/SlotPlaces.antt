@@ -3,7 +3,7 @@ use Rattle.std.proofs.Common.{◌≡◌, ℕ, zero, suc, ◌≤◌, List, [], �
 use Rattle.std.proofs.Common.{◌∙◌, rules, subst}
 use Rattle.std.specs.Prelude.{map, slice_get, option_copied, option_map, IfSome}
 use Rattle.std.specs.Borrow.{Bor}
-use Rattle.std.proofs.lemmas.Option.{slice_get-map}
+use Rattle.std.proofs.lemmas.Option.{same_Some, slice_get-map}
 use Rattle.term_store.specs.Terms.{Reading}
 use Rattle.sym_rib.specs.declared.slots.SymSlot.{SymSlot}
 use Rattle.sym_rib.specs.Slots.{slot_end}
@@ -24,8 +24,7 @@ pub slots_end_at : (slots : List SymSlot) (place : ℕ) (s : SymSlot) → slice_
     slot_end s ≤ slots_end slots
 slots_end_at [] place s h = cc
 slots_end_at (x ∷ rest) zero s h =
-    let same : x ≡ s = cc in
-    subst (λ (y : SymSlot). slot_end y ≤ max (slot_end x) (slots_end rest)) same
+    subst (λ (y : SymSlot). slot_end y ≤ max (slot_end x) (slots_end rest)) (same_Some x s h)
     (one_max (slot_end x) (slots_end rest))
 slots_end_at (x ∷ rest) (suc place) s h =
     other_max (slot_end x) (slots_end rest) (slot_end s) (slots_end_at rest place s h)
