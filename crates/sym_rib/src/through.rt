@@ -107,10 +107,7 @@ fn sym_named(
 {
     match map_named(policies, named) {
         None => dropped(terms, rec),
-        Some(map) => {
-            let left = sym_mapped(alloc, terms, tracked, policies, map, dst, len, &rec)?;
-            Ok(left)
-        }
+        Some(map) => sym_mapped(alloc, terms, tracked, policies, map, dst, len, &rec),
     }
 }
 
