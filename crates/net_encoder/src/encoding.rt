@@ -109,7 +109,7 @@ struct Rooted {
 }
 
 // The variables of a question are new, and the root says whether their values are a routing that breaks it.
-fn rooted(
+fn root_over_new(
     alloc: Global,
     terms: &mut Terms,
     net: &Net,
@@ -153,7 +153,7 @@ pub fn encode(
 {
     let lengths = copied(alloc, plan)?;
     let mut terms = Terms::new(alloc);
-    let made = rooted(alloc, &mut terms, net, question, lengths)?;
+    let made = root_over_new(alloc, &mut terms, net, question, lengths)?;
     terms.valuation_reads();
     all_distances_fit(net.routers());
     packets_fit(question.packets);

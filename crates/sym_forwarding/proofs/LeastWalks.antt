@@ -230,3 +230,7 @@ pub held_hops : (hops : Addr → List Hop) (b : Bool) (a : Addr) →
     cond b (hops a) [] ≡ option_map_or (λ (r : BgpRec). hops r.next_hop) (cond b (Some (route_towards a)) None) []
 held_hops hops true a = refl
 held_hops hops false a = refl
+
+-- what stands past the end of a list of adjacencies
+abbrev pub no_adjacency : Adjacency
+no_adjacency = record { from = record { router = 0; at = 0 }; to = record { router = 0; at = 0 }; cost = 0 }

@@ -1,19 +1,27 @@
 -- Over which adjacencies an OSPF entry sends, one adjacency at a time.
 use Rattle.std.proofs.Common.{◌≡◌, ℕ, ◌-◌, ◌<◌, ◌≤◌, Bool, true, false, ◌&&◌, cond, List, [], ◌∷◌}
-use Rattle.std.proofs.Common.{◌++◌, length, get_or, drop, Option, Some, None, refl}
-use Rattle.std.specs.Prelude.{filter, map}
+use Rattle.std.proofs.Common.{◌++◌, length, get_or, drop, Option, Some, None, refl, sym, ap, ◌∙◌}
+use Rattle.std.specs.Prelude.{◌*◌, ◌+◌, option_and_then, option_map, filter, map, slice_get}
 use Rattle.std.specs.Option.{option_map_or}
 use Rattle.mw_text.specs.declared.address.Prefix.{Prefix}
 use Rattle.ios_ast.specs.declared.file.File.{File}
 use Rattle.route_record.specs.declared.Failures.{Failures}
 use Rattle.route_record.specs.declared.OspfRec.{OspfRec}
 use Rattle.route_record.specs.declared.Packet.{Packet}
+use Rattle.route_record.specs.declared.Slot.{Slot}
 use Rattle.route_record.specs.declared.Tables.{Tables}
+use Rattle.route_record.specs.declared.TheConstants.{LENGTHS}
 use Rattle.net_model.specs.declared.adjacencies.Adjacency.{Adjacency}
 use Rattle.net_model.specs.Ospf.{adjacencies, up_adjacencies}
-use Rattle.net_model.specs.Sending.{sent_by_ospf}
+use Rattle.net_model.specs.OspfRoutes.{extended, offer_over}
+use Rattle.net_model.specs.Sending.{same_record, sent_by_ospf}
 use Rattle.question_lang.specs.declared.walk.Hop.{Hop}
 use Rattle.question_lang.specs.Hops.{send_adjacent}
+use Rattle.term_store.specs.Terms.{Reading}
+use Rattle.sym_policy.specs.Held.{ospf_of}
+use Rattle.sym_rib.specs.declared.slots.SymSlot.{SymSlot}
+use Rattle.sym_rib.specs.Worlds.{slot_of, tables_of}
+use Rattle.sym_rib.proofs.SlotPlaces.{slot_read}
 use Rattle.sym_forwarding.specs.Offers.{is_up_from, offered_hops, offers, offers_held}
 use Rattle.sym_forwarding.proofs.OwnerHops.{back}
 
@@ -64,6 +72,19 @@ unfolding sent_by_ospf up_adjacencies
 offered_all files failures packet tables router p None = refl
 offered_all files failures packet tables router p (Some h) = refl
 
--- what stands past the end of a list of adjacencies
-abbrev pub no_adjacency : Adjacency
-no_adjacency = record { from = record { router = 0; at = 0 }; to = record { router = 0; at = 0 }; cost = 0 }
+-- an offer that is there where the adjacency is up
+pub offered_where : (b : Bool) (offer over held : Option OspfRec) → offer ≡ cond b over None →
+    option_map_or (λ h. option_map_or (same_record h) offer false) held false
+    ≡ (b && option_map_or (λ h. option_map_or (same_record h) over false) held false)
+offered_where true offer over held is =
+    ap (λ (o : Option OspfRec). option_map_or (λ h. option_map_or (same_record h) o false) held false) is
+offered_where false offer over None is = refl
+offered_where false offer over (Some h) is = ap (λ (o : Option OspfRec). option_map_or (same_record h) o false) is
+
+-- what the slot of the far router offers, and nothing where there is none
+pub far_offer : (w : Reading) (slots : List SymSlot) (p : Prefix) (a : Adjacency) (s : SymSlot) →
+    slice_get slots (LENGTHS * a.to.router + p.len) ≡ Some s →
+    option_and_then (extended a.cost) (ospf_of w s.ospf) ≡ offer_over (tables_of w slots) p a
+far_offer w slots p a s there =
+    sym (ap (λ (o : Option Slot). option_and_then (extended a.cost) (option_and_then (λ (slot : Slot). slot.ospf) o))
+    (slot_read w slots (LENGTHS * a.to.router + p.len) ∙ ap (option_map (slot_of w)) there))

@@ -1,13 +1,15 @@
 //! Which OSPF records are offered over adjacencies, as terms (RFC 2328, section 16.1).
 
-ghost use Rattle.std.specs.Prelude.{◌≡◌, ◌<◌, ◌≤◌, ◌&&◌, false, IfOk};
-ghost use Rattle.std.specs.Prelude.{Some, None};
+ghost use Rattle.std.specs.Prelude.{◌≡◌, ℕ, ◌+◌, ◌*◌, ◌<◌, ◌≤◌, ◌==◌, ◌&&◌, ◌||◌, Bool, false, IfOk};
+ghost use Rattle.std.specs.Prelude.{IfSome, Some, None};
+ghost use Rattle.std.specs.Prelude.{if◌then◌else◌, length, slice_get, map, option_copied};
 ghost use Rattle.std.specs.Option.{option_map_or};
 ghost use Rattle.net_model.specs.Sending as sent;
 ghost use Rattle.sym_policy.specs.Held.{failures_of, ospf_of, ospf_end};
 ghost use Rattle.sym_policy.specs.Records.{prefix_of as prefix_read};
 ghost use Rattle.sym_forwarding.specs.Offers as defined;
-ghost use Rattle.sym_rib.specs.Worlds.{slots_end, tables_of};
+ghost use Rattle.route_record.specs.declared.TheConstants as constants;
+ghost use Rattle.sym_rib.specs.Worlds.{slot_of, slots_end, tables_of};
 ghost use Rattle.term_store.specs.Terms.{size, at};
 ghost use Rattle.term_store.specs.Reading.{Builds, Gives};
 ghost use Rattle.term_arith.specs.Bits.{ids_end};
@@ -37,7 +39,6 @@ fn sym_is_held(terms: &mut Terms, held: &SymOspf, offer: &SymOspf) -> Result<Nod
 }
 
 // Whether `up` is true and the far router of the adjacency offers the held route.
-#[tactic(auto, using(sym_rib::proofs::SlotPlaces::slot_read))]
 fn sym_offers(
     alloc: Global,
     terms: &mut Terms,
@@ -60,7 +61,8 @@ fn sym_offers(
         None => constant_node(terms, false),
         Some(far) => {
             let offer = sym_transfer(alloc, terms, &far.ospf, up, a.cost)?;
-            sym_is_held(terms, held, &offer)
+            let same = sym_is_held(terms, held, &offer)?;
+            Ok(same)
         }
     }
 }

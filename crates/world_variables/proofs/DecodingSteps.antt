@@ -1,18 +1,21 @@
--- What is read from a row of values, one after another.
-use Rattle.std.proofs.Common.{◌≡◌, ℕ, zero, suc, ◌+◌, ◌-◌, ◌*◌, ◌/◌, ◌^◌, ◌<◌, ◌≤◌, Bool, true, false, List, []}
+-- Addresses and slots that are read from a row of values, one after another.
+use Rattle.std.proofs.Common.{◌≡◌, ℕ, zero, suc, ◌+◌, ◌-◌, ◌*◌, ◌/◌, ◌%◌, ◌^◌, ◌<◌, ◌≤◌, Bool, true, false, List, []}
 use Rattle.std.proofs.Common.{◌∷◌, length, refl, sym, ap, subst, arith, ◌∙◌}
 use Rattle.std.specs.Prelude.{if◌then◌else◌, nat_lt}
 use Rattle.std.proofs.lemmas.Grind.{common_steps}
 use Rattle.std.proofs.lemmas.Nat.{pow-add, pow_pos}
 use Rattle.std.proofs.Math.Nat.{div-lt_iff_lt-mul, mul-le-mul_right, mul_comm}
+use Rattle.mw_text.specs.declared.address.Addr.{Addr}
 use Rattle.mw_text.specs.declared.address.Prefix.{Prefix}
 use Rattle.mw_text.specs.Address.{block}
 use Rattle.ios_ast.specs.declared.file.File.{File}
+use Rattle.route_record.specs.declared.Failures.{Failures}
 use Rattle.route_record.specs.declared.TheConstants.{LENGTHS}
 use Rattle.world_variables.specs.declared.widths.Widths.{Widths}
 use Rattle.world_variables.specs.Rooms.{most_cost, rooms_from, some_take, width_from, widths_of}
 use Rattle.failed_links.specs.Rows.{row}
-use Rattle.world_variables.specs.Unknowns.{unknowns_from}
+use Rattle.world_variables.specs.Slots.{slot_of, slots_of}
+use Rattle.world_variables.specs.Unknowns.{Unknown, unknowns_from}
 use Rattle.world_variables.proofs.RoomSteps.{rooms_long}
 use Rattle.world_variables.proofs.Steps.{rooms_at, unknowns_next, widths_next}
 

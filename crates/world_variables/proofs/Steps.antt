@@ -10,6 +10,7 @@ use Rattle.std.proofs.lemmas.Nat.{pow-add, pow_pos}
 use Rattle.term_store.specs.Terms.{Reading}
 use Rattle.term_arith.specs.Bits.{bits, number, variables}
 use Rattle.std.proofs.lemmas.Grind.{common_steps}
+use Rattle.failed_links.proofs.Steps.{grows_grown}
 use Rattle.world_variables.specs.declared.opens.SymOpen.{SymOpen}
 use Rattle.world_variables.specs.declared.widths.Widths.{Widths}
 use Rattle.world_variables.specs.Symbols.{open_end, open_of, opens_end}

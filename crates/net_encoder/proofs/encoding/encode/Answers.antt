@@ -20,7 +20,7 @@ returns-clause-sound c = λ valuation holds.
           all_found (λ (f : File). All FitsDistance f.statics) files router file fits found;
       packets = c.packets_fit.ensures;
     } in
-    let w = reading_of c.rooted.new.terms.nodes valuation in
+    let w = reading_of c.root_over_new.new.terms.nodes valuation in
     let found = (c.in_ok-made.ensures.value w (c.valuation_reads.ensures valuation)).sound holds in
     let none = c.new-terms.ensures.vars in
     let R : ℕ → Type 0 = λ from. is_routing files question (truth valuation) from ≡ true in
@@ -45,7 +45,7 @@ returns-clause-complete c = λ world environment walk breaking.
       packets = c.packets_fit.ensures;
     } in
     let bits = world_bits files question world in
-    let w = reading_of c.rooted.new.terms.nodes bits in
+    let w = reading_of c.root_over_new.new.terms.nodes bits in
     let here = c.routing_law.ensures.complete files question world environment walk (truth bits) 0 encodable breaking
     (c.row_law.ensures bits) in
     let none = sym c.new-terms.ensures.vars in

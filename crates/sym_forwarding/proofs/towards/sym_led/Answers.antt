@@ -9,8 +9,7 @@ use Rattle.sym_policy.specs.Packets.{packet_of}
 use Rattle.sym_forwarding.specs.Symbolic.{forwarding_of}
 use Rattle.sym_forwarding.specs.Towards.{led_hops}
 use Rattle.sym_forwarding.specs.Twins.{IsTwin}
-use Rattle.sym_forwarding.proofs.LeastWalks.{led_all, led_back}
-use Rattle.sym_walk.proofs.OfferedHops.{no_adjacency}
+use Rattle.sym_forwarding.proofs.LeastWalks.{led_all, led_back, no_adjacency}
 use Rattle.sym_forwarding.proofs.towards.sym_led.Goals as goal
 
 pub loop-i-init : goal.loop-i-init

@@ -9,7 +9,8 @@ use Rattle.sym_policy.specs.Packets.{packet_of}
 use Rattle.sym_forwarding.specs.Symbolic.{forwarding_of}
 use Rattle.sym_forwarding.specs.Twins.{IsTwin}
 use Rattle.sym_rib.specs.Worlds.{tables_of}
-use Rattle.sym_walk.proofs.OfferedHops.{no_adjacency, offered_all, offered_back}
+use Rattle.sym_forwarding.proofs.LeastWalks.{no_adjacency}
+use Rattle.sym_walk.proofs.OfferedHops.{offered_all, offered_back}
 use Rattle.sym_walk.proofs.adjacent.sym_ospf_hops.Goals as goal
 
 pub loop-i-preserved : goal.loop-i-preserved
