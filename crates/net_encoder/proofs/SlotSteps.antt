@@ -24,6 +24,7 @@ use Rattle.ospf_equations.specs.Equations.{AreBare, HaveTracked}
 use Rattle.world_variables.specs.Slots.{all_hold, slot_holds, slot_of, slots_of}
 use Rattle.world_variables.specs.Symbols.{open_of, open_end, opens_end}
 use Rattle.world_variables.specs.Unknowns.{Unknown}
+use Rattle.world_variables.proofs.DecodingSteps.{slots_next, slots_none}
 use Rattle.ospf_equations.proofs.EquationSteps.{items_at}
 
 -- ---- making slots

@@ -158,8 +158,10 @@ fn no_entry(alloc: Global, terms: &mut Terms) -> Result<SymRib, AllocError>
     })
 }
 
+// A route of the same nodes.
 fn copy_route(alloc: Global, rec: &SymOspf) -> Result<SymOspf, AllocError>
-    ensures { IfOk result (λ r. r ≡ rec.now) }
+    ensures within { IfOk result (λ r. ospf_end r ≡ ospf_end rec.now) }
+    ensures value { IfOk result (λ r. (w : Reading) → ospf_of w r ≡ ospf_of w rec.now) }
 {
     let kind = copy(alloc, &rec.kind)?;
     let metric = copy(alloc, &rec.metric)?;
