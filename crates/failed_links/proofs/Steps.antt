@@ -1,7 +1,7 @@
 -- Stores that grow, and numbers of new variables.
 use Rattle.std.proofs.Common.{◌≡◌, ℕ, zero, suc, ◌+◌, ◌*◌, ◌^◌, Bool, List, [], ◌∷◌, ◌++◌, length, refl, ap}
 use Rattle.std.proofs.Common.{arith}
-use Rattle.std.proofs.Common.{◌∙◌, false, ◌-◌}
+use Rattle.std.proofs.Common.{◌∙◌, false}
 use Rattle.std.proofs.lemmas.List.{map-append, length-map}
 use Rattle.std.proofs.Math.Nat.{mul_right_comm, pow-suc}
 use Rattle.term_store.specs.declared.NodeId.{NodeId}

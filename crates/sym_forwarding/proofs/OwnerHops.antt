@@ -18,7 +18,7 @@ use Rattle.net_model.specs.World.{is_up}
 use Rattle.question_lang.specs.declared.walk.Hop.{Hop}
 use Rattle.question_lang.specs.Hops.{all_up, arrive, send_to}
 use Rattle.sym_forwarding.specs.Owners.{connected_over, delivered_hop, has_address, over_hops, owner_hop}
-use Rattle.sym_ospf.proofs.Networks.{network_same}
+use Rattle.sym_interfaces.proofs.Networks.{network_same}
 
 -- the first of those that pass one test which passes another
 first_passing : {A B C : Type 0} (up has : A → Bool) (g : A → B) (f : B → C) (other : C) (x : A) (xs : List A) →

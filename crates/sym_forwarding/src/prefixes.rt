@@ -9,7 +9,7 @@ ghost use Rattle.term_arith.specs.Bits.{number, ids_end};
 
 use mw_text::Prefix;
 use std::alloc::AllocError;
-use sym_ospf::prefixes::is_network;
+use sym_interfaces::prefixes::is_network;
 use term_arith::gates::constant_node;
 use term_arith::{Bits, equal_number};
 use term_store::{NodeId, Terms};

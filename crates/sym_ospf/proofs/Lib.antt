@@ -1,8 +1,6 @@
-pub mod FailedLinks
 pub mod RouteKinds
 pub mod LeastOffers
 pub mod EquationTests
 pub mod FileRouters
 pub mod Solutions
 pub mod Reach
-pub mod Networks

@@ -10,12 +10,12 @@ ghost use Rattle.sym_policy.specs.Held.{failures_of, ospf_of, ospf_end};
 ghost use Rattle.sym_ospf.specs.Routes.{routes_end};
 ghost use Rattle.sym_ospf.specs.Rows.{net_end, distance_of, distance_end, nearer, own_offer, far_offer, costs_at};
 
-use crate::links::{sym_up, sym_up_at};
 use crate::parts::SymDistance;
 use mw_text::Prefix;
 use net_model::ospf::advertisement;
 use net_model::{Adjacency, Net, OspfInterface};
 use std::alloc::{AllocError, Global};
+use sym_interfaces::{sym_up, sym_up_at};
 use sym_policy::{SymNet, SymOspf};
 use term_arith::gates::{both, constant_node, either, negate};
 use term_arith::{add, choose, constant, less};

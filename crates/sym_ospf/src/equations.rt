@@ -30,7 +30,8 @@ fn sym_costs(
     requires sum { ids_end sum.now.nodes.items ≤ size terms.old }
     ensures builds { Builds terms.old terms.new }
     ensures within { IfOk result (λ r. r.0 < size terms.new) }
-    ensures value { Gives terms.new result (λ w r. at w r ≡ (number w rec.now.cost.nodes.items == number w sum.now.nodes.items)) }
+    ensures value { Gives terms.new result (λ w r. at w r
+        ≡ (number w rec.now.cost.nodes.items == number w sum.now.nodes.items)) }
 {
     let none = constant(alloc, terms, 0, 32)?;
     let cost = add(alloc, terms, &rec.cost, &none)?;

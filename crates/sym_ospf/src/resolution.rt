@@ -16,11 +16,11 @@ ghost use Rattle.sym_ospf.specs.Rows.{net_end, HasDistances};
 ghost use Rattle.sym_ospf.specs.Reached.{is_reached_by, found};
 
 use crate::distances::igp_of;
-use crate::links::sym_up;
 use crate::routes::{choose_ospf, known_ospf};
 use mw_text::Prefix;
 use net_model::{Addressed, Net};
 use std::alloc::{AllocError, Global};
+use sym_interfaces::sym_up;
 use sym_policy::{SymNet, SymOspf};
 use term_arith::gates::{both, constant_node, either};
 use term_arith::{Bits, equal_number};

@@ -10,11 +10,11 @@ ghost use Rattle.net_model.specs.Sessions as sessions;
 ghost use Rattle.sym_policy.specs.Held.{failures_of};
 ghost use Rattle.sym_ospf.specs.Rows.{net_end, HasDistances};
 
-use crate::links::sym_up_at;
 use crate::resolution::sym_resolve;
 use net_model::ends::neighbour_of;
 use net_model::{Far, Net, SessionEnd};
 use std::alloc::{AllocError, Global};
+use sym_interfaces::sym_up_at;
 use sym_policy::SymNet;
 use term_arith::constant;
 use term_arith::gates::{both, constant_node};

@@ -4,7 +4,7 @@ use Rattle.std.proofs.Common.{◌≡◌, ◌<◌, ◌≤◌, ◌^◌, Bool, true
 use Rattle.std.proofs.Common.{None}
 use Rattle.std.proofs.Common.{length}
 use Rattle.std.proofs.Common.{ap, ◌∙◌, arith}
-use Rattle.std.specs.Prelude.{IfSome}
+use Rattle.std.specs.Prelude.{IfSome, IfOk, Result, Ok, Err}
 use Rattle.std.specs.Option.{option_and_then, option_map}
 use Rattle.mw_text.specs.declared.address.Prefix.{Prefix}
 use Rattle.ios_ast.specs.declared.file.Use.{Use}
@@ -91,3 +91,9 @@ map_stands tracked policies entries p F before after None all short is value sta
     value ∙ ap (option_and_then F) is
 map_stands tracked policies entries p F before after (Some c) all short is value stands =
     stands c all is (short_left policies entries p c short)
+
+-- what follows from two facts of a result
+pub both_parts : {X Y : Type 0} (r : Result X Y) (P Q R : X → Type 0) → ((x : X) → P x → Q x → R x) → IfOk r P
+    → IfOk r Q → IfOk r R
+both_parts (Ok x) P Q R f p q = f x p q
+both_parts (Err e) P Q R f p q = tt

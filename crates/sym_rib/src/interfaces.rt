@@ -14,7 +14,7 @@ use crate::prefixes::sym_same_prefix;
 use mw_text::{Addr, contains};
 use net_model::{Addressed, Net};
 use std::alloc::{AllocError, Global};
-use sym_ospf::sym_up;
+use sym_interfaces::sym_up;
 use sym_policy::SymNet;
 use term_arith::Bits;
 use term_arith::gates::{both, constant_node, either};

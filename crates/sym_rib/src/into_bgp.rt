@@ -56,10 +56,9 @@ fn local_rec(
         (option_map (λ med. mapping.attributes_of (origins.local_route origin med)) (metric_of w metric))) }
 {
     let SymMetric { valid, value } = metric;
-    let rec = known_rec(
+    known_rec(
         alloc, terms, tracked, valid, 32_768, 100, origin, value, false,
-    )?;
-    Ok(rec)
+    )
 }
 
 /// A local route with that metric as the map of its line leaves it.
@@ -157,7 +156,7 @@ fn network_bgp(
     }
     let metric = sym_entry_metric(alloc, terms, slot)?;
     let here = metric_where(terms, metric, same)?;
-    let made = local_bgp(
+    local_bgp(
         alloc,
         terms,
         tracked,
@@ -167,8 +166,7 @@ fn network_bgp(
         len,
         Origin::Igp,
         here,
-    )?;
-    Ok(made)
+    )
 }
 
 /// The route that a `redistribute` line brings into BGP: never the default route.
@@ -200,7 +198,7 @@ fn line_bgp(
     }
     let taken = sym_taken_metric(alloc, terms, net, router, line, dst, len, slot)?;
     let metric = named_metric(alloc, terms, line, taken)?;
-    let made = local_bgp(
+    local_bgp(
         alloc,
         terms,
         tracked,
@@ -210,8 +208,7 @@ fn line_bgp(
         len,
         Origin::Incomplete,
         metric,
-    )?;
-    Ok(made)
+    )
 }
 
 /// Puts a record, if there is one, at the end.

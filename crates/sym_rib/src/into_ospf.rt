@@ -104,7 +104,8 @@ fn sym_taken(
     ensures builds { Builds terms.old terms.new }
     ensures within { IfOk result (λ r. r.0 < size terms.new) }
     ensures value { Gives terms.new result (λ w r. at w r ≡ (at w rib.now.valid
-        && origins.is_taken line.now (prefix_of w dst.now len) (source_of_number (number w rib.now.source.nodes.items)))) }
+        && origins.is_taken line.now (prefix_of w dst.now len)
+        (source_of_number (number w rib.now.source.nodes.items)))) }
 {
     let from = sym_from(terms, line.source, rib)?;
     let fits = sym_fits(terms, line, dst, len)?;
@@ -143,7 +144,8 @@ fn external_ospf(
     ensures builds { Builds terms.old terms.new }
     ensures within { IfOk result (λ r. ospf_end r ≤ size terms.new) }
     ensures value { Gives terms.new result (λ w r. ospf_of w r
-        ≡ (if at w valid then Some (origins.external_record (at w type1) (number w metric.now.nodes.items)) else None)) }
+        ≡ (if at w valid
+        then Some (origins.external_record (at w type1) (number w metric.now.nodes.items)) else None)) }
 {
     let kind = external_kind(alloc, terms, type1)?;
     let none = word(alloc, terms, 0)?;

@@ -40,7 +40,8 @@ fn sym_is_from(
     requires { ids_end from.now.nodes.items ≤ size terms.old }
     ensures builds { Builds terms.old terms.new }
     ensures within { IfOk result (λ r. r.0 < size terms.new) }
-    ensures value { Gives terms.new result (λ w r. at w r ≡ is_from net.now router (number w from.now.nodes.items) end.now) }
+    ensures value { Gives terms.new result (λ w r. at w r
+        ≡ is_from net.now router (number w from.now.nodes.items) end.now) }
 {
     if end.router != router {
         return constant_node(terms, false);

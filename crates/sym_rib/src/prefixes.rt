@@ -10,7 +10,7 @@ ghost use Rattle.term_arith.specs.Bits.{number, ids_end};
 
 use mw_text::Prefix;
 use std::alloc::AllocError;
-use sym_ospf::prefixes::is_network;
+use sym_interfaces::prefixes::is_network;
 use term_arith::gates::constant_node;
 use term_arith::{Bits, equal_number};
 use term_store::{NodeId, Terms};
@@ -25,7 +25,7 @@ fn high_bits(address: &Bits, low: u8) -> &[NodeId]
 }
 
 /// Whether the bits of an address above its `low` lowest ones are those of a number.
-#[tactic(auto, using(sym_ospf::proofs::Networks::high_steps))]
+#[tactic(auto, using(sym_interfaces::proofs::Networks::high_steps))]
 fn sym_high(terms: &mut Terms, address: &Bits, low: u8, value: u64) -> Result<NodeId, AllocError>
     requires low { low ≤ 32 }
     requires wide { length address.now.nodes.items ≡ 32 }

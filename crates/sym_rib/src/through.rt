@@ -76,8 +76,7 @@ fn sym_mapped(
         (option_and_then (mapped policies.now map.now.entries (prefix_of w dst.now len) false) held)) }
 {
     let side = Side::Redistribution;
-    let made = sym_route_map(alloc, terms, tracked, policies, map, dst, len, rec, side)?;
-    Ok(made)
+    sym_route_map(alloc, terms, tracked, policies, map, dst, len, rec, side)
 }
 
 /// What the map of that name makes of a record. A map that is not there drops every record.
@@ -107,10 +106,7 @@ fn sym_named(
 {
     match map_named(policies, named) {
         None => dropped(terms, rec),
-        Some(map) => {
-            let left = sym_mapped(alloc, terms, tracked, policies, map, dst, len, &rec)?;
-            Ok(left)
-        }
+        Some(map) => sym_mapped(alloc, terms, tracked, policies, map, dst, len, &rec),
     }
 }
 
@@ -142,9 +138,6 @@ pub(crate) fn sym_through(
 {
     match used {
         None => Ok(rec),
-        Some(named) => {
-            let left = sym_named(alloc, terms, tracked, policies, named, dst, len, rec)?;
-            Ok(left)
-        }
+        Some(named) => sym_named(alloc, terms, tracked, policies, named, dst, len, rec),
     }
 }

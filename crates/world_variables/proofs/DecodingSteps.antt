@@ -13,7 +13,6 @@ use Rattle.route_record.specs.declared.Failures.{Failures}
 use Rattle.route_record.specs.declared.TheConstants.{LENGTHS}
 use Rattle.world_variables.specs.declared.widths.Widths.{Widths}
 use Rattle.world_variables.specs.Rooms.{most_cost, rooms_from, some_take, width_from, widths_of}
-use Rattle.failed_links.specs.Rows.{row}
 use Rattle.world_variables.specs.Slots.{slot_of, slots_of}
 use Rattle.world_variables.specs.Unknowns.{Unknown, unknowns_from}
 use Rattle.world_variables.proofs.RoomSteps.{rooms_long}

@@ -8,7 +8,6 @@ use Rattle.std.proofs.lemmas.List.{drop_more, map-append}
 use Rattle.std.proofs.Math.Nat.{div-lt_iff_lt-mul, mul_comm}
 use Rattle.std.proofs.lemmas.Nat.{pow-add, pow_pos}
 use Rattle.term_store.specs.Terms.{Reading}
-use Rattle.term_arith.specs.Bits.{bits, number, variables}
 use Rattle.std.proofs.lemmas.Grind.{common_steps}
 use Rattle.failed_links.proofs.Steps.{grows_grown}
 use Rattle.world_variables.specs.declared.opens.SymOpen.{SymOpen}

@@ -1,6 +1,6 @@
 use Rattle.std.proofs.Common.{◌∙◌, sym}
 use Rattle.sym_policy.specs.Records.{address_of}
-use Rattle.sym_ospf.proofs.Networks.{network_other}
+use Rattle.sym_interfaces.proofs.Networks.{network_other}
 use Rattle.sym_forwarding.proofs.OwnerHops.{covers_network}
 use Rattle.sym_forwarding.proofs.prefixes.sym_is_prefix.Goals as goal
 

@@ -1,6 +1,7 @@
 use Rattle.std.proofs.Common.{ℕ, Option, ◌∙◌, ap}
 use Rattle.std.specs.Prelude.{◌==◌, unwrap_or}
 use Rattle.std.proofs.lemmas.Bool.{eqb-true, false_from_ne_true}
+use Rattle.std.proofs.lemmas.Result.{IfOk-weaker}
 use Rattle.std.specs.Option.{option_and_then, option_map}
 use Rattle.route_record.specs.declared.BgpRec.{BgpRec}
 use Rattle.route_record.specs.declared.Origin.TheVariants.{Incomplete}
@@ -12,10 +13,9 @@ use Rattle.sym_rib.proofs.LocalRoutes.{line_by}
 use Rattle.sym_rib.proofs.into_bgp.line_bgp.Goals as goal
 
 pub returns-clause-value : goal.returns-clause-value
-returns-clause-value c = λ w reads held all stands.
-    let made = c.in_ok-made.ensures in
+returns-clause-value c = IfOk-weaker c.local_bgp.result _ _ (λ rec read. λ w reads held all stands.
     let metric = c.in_ok-metric.ensures in
-    let before_made = made.builds.reads w reads in
+    let before_made = c.local_bgp.ensures.builds.reads w reads in
     let before_metric = metric.builds.reads w before_made in
     let p = prefix_of w c.args.dst.now c.args.len in
     let line = c.args.line.now in
@@ -26,8 +26,9 @@ returns-clause-value c = λ w reads held all stands.
     let of_entry : RibEntry → Option ℕ =
     λ e. taken_metric c.args.net.now c.args.router p held line e.source in
     let shaped : Option ℕ → Option BgpShape = λ m. option_map shape (option_and_then route m) in
-    made.value w reads all
+    read w reads all
     ∙ ap shaped (metric.value w before_made
     ∙ ap (option_map named) (c.in_ok-taken.ensures.value w before_metric held stands.ospf stands.rib))
     ∙ ap (option_map shape) (line_by (is_default p) route named of_entry held.rib
-    (false_from_ne_true (c.args.len == 0) (λ yes. c.if-len-eq0.false (eqb-true c.args.len 0 yes))))
+    (false_from_ne_true (c.args.len == 0) (λ yes. c.if-len-eq0.false (eqb-true c.args.len 0 yes)))))
+    c.local_bgp.ensures.value

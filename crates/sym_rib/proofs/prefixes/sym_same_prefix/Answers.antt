@@ -1,6 +1,6 @@
 use Rattle.std.proofs.Common.{◌∙◌, sym}
 use Rattle.sym_policy.specs.Records.{address_of}
-use Rattle.sym_ospf.proofs.Networks.{network_same, network_other}
+use Rattle.sym_interfaces.proofs.Networks.{network_same, network_other}
 use Rattle.sym_rib.proofs.prefixes.sym_same_prefix.Goals as goal
 
 pub returns-in_ok-same-clause-value : goal.returns-in_ok-same-clause-value

@@ -1,4 +1,5 @@
 use Rattle.std.proofs.Common.{Option, ◌∙◌, ap, sym, false}
+use Rattle.std.proofs.lemmas.Result.{IfOk-weaker}
 use Rattle.std.specs.Option.{option_and_then, option_map}
 use Rattle.ios_ast.specs.declared.file.Use.{Use}
 use Rattle.net_model.specs.Mapping.{through_map}
@@ -6,10 +7,11 @@ use Rattle.sym_policy.specs.Records.{prefix_of}
 use Rattle.sym_policy.specs.Shapes.{RouteShape, route_shape}
 use Rattle.sym_rib.proofs.through.sym_through.Goals as goal
 
-pub returns-in_ok-left-in-Some-clause-value : goal.returns-in_ok-left-in-Some-clause-value
-returns-in_ok-left-in-Some-clause-value c = λ w reads held all short is.
+pub returns-in-Some-clause-value : goal.returns-in-Some-clause-value
+returns-in-Some-clause-value c =
+    IfOk-weaker c.sym_named.result _ _ (λ left read. λ w reads held all short is.
     let p = prefix_of w c.args.dst.now c.args.len in
-    let left : Option Use → Option RouteShape =
+    let of_use : Option Use → Option RouteShape =
     λ used. option_map (route_shape c.args.tracked.now)
     (option_and_then (through_map c.args.policies.now used p false) held) in
-    c.in_ok-left-in-Some.ensures.value w reads held all short is ∙ ap left (sym c.in-Some.is)
+    read w reads held all short is ∙ ap of_use (sym c.in-Some.is)) c.sym_named.ensures.value

@@ -6,7 +6,7 @@ use Rattle.term_store.specs.Reading.{Reads, Builds}
 use Rattle.net_model.specs.Interfaces.{addressed}
 use Rattle.net_model.specs.World.{is_up}
 use Rattle.sym_policy.specs.Held.{failures_of}
-use Rattle.sym_ospf.proofs.links.sym_up_at.Given as goal
+use Rattle.sym_interfaces.proofs.links.sym_up_at.Given as goal
 
 abbrev pub invariant-loop-x : goal.invariant-loop-x
 invariant-loop-x l = record {

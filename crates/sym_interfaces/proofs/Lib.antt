@@ -1,0 +1,2 @@
+pub mod FailedLinks
+pub mod Networks
