@@ -21,9 +21,9 @@ fewer p q so (x ∷ xs) none = elim (cases_Bool (p x)) [
   | inr not_so ↦ elim (cases_Bool (q x)) [
     | inl is ↦ cc
     | inr fails ↦
-      let rest : list_any q xs ≡ false = sym (ap (λ b. b || list_any q xs) fails) ∙ none in
-      ap (λ b. b || list_any p xs) not_so ∙ fewer p q so xs rest
-    ]
+        let rest : list_any q xs ≡ false = sym (ap (λ b. b || list_any q xs) fails) ∙ none in
+        ap (λ b. b || list_any p xs) not_so ∙ fewer p q so xs rest
+  ]
 ]
 
 -- ---- one that none of the others removes
@@ -40,31 +40,31 @@ stays_too : {X : Type 0} (r : X → X → Bool) → Removes r → (x : X) (xs ys
 stays_too r is x xs [] some = cc
 stays_too r is x xs (m ∷ ys) some = elim (cases_Bool (list_any (r m) xs)) [
   | inl removed ↦
-    let rest : list_any (λ k. not (list_any (r k) xs)) ys ≡ true =
-        sym (ap (λ b. not b || list_any (λ k. not (list_any (r k) xs)) ys) removed) ∙ some in
-    more (not (list_any (r x) (x ∷ xs))) (not (list_any (r m) (x ∷ xs)))
-    (list_any (λ k. not (list_any (r k) (x ∷ xs))) ys) (stays_too r is x xs ys rest)
+      let rest : list_any (λ k. not (list_any (r k) xs)) ys ≡ true =
+      sym (ap (λ b. not b || list_any (λ k. not (list_any (r k) xs)) ys) removed) ∙ some in
+      more (not (list_any (r x) (x ∷ xs))) (not (list_any (r m) (x ∷ xs)))
+      (list_any (λ k. not (list_any (r k) (x ∷ xs))) ys) (stays_too r is x xs ys rest)
   | inr left ↦ elim (cases_Bool (r m x)) [
     | inl by_x ↦
-      let others = fewer (r x) (r m) (λ z so. is.transitive m x z by_x so) xs left in
-      let none : list_any (r x) (x ∷ xs) ≡ false = ap (λ b. b || list_any (r x) xs) (is.irreflexive x) ∙ others in
-      ap (λ b. not b || list_any (λ k. not (list_any (r k) (x ∷ xs))) (m ∷ ys)) none
+        let others = fewer (r x) (r m) (λ z so. is.transitive m x z by_x so) xs left in
+        let none : list_any (r x) (x ∷ xs) ≡ false = ap (λ b. b || list_any (r x) xs) (is.irreflexive x) ∙ others in
+        ap (λ b. not b || list_any (λ k. not (list_any (r k) (x ∷ xs))) (m ∷ ys)) none
     | inr not_by_x ↦
-      let none : list_any (r m) (x ∷ xs) ≡ false = ap (λ b. b || list_any (r m) xs) not_by_x ∙ left in
-      second (not (list_any (r x) (x ∷ xs))) (not (list_any (r m) (x ∷ xs)))
-      (list_any (λ k. not (list_any (r k) (x ∷ xs))) ys) (ap not none)
-    ]
+        let none : list_any (r m) (x ∷ xs) ≡ false = ap (λ b. b || list_any (r m) xs) not_by_x ∙ left in
+        second (not (list_any (r x) (x ∷ xs))) (not (list_any (r m) (x ∷ xs)))
+        (list_any (λ k. not (list_any (r k) (x ∷ xs))) ys) (ap not none)
+  ]
 ]
- where
-  more : (a b c : Bool) → (a || c) ≡ true → (a || (b || c)) ≡ true
-  more true b c h = refl
-  more false true c h = refl
-  more false false c h = h
+  where
+    more : (a b c : Bool) → (a || c) ≡ true → (a || (b || c)) ≡ true
+    more true b c h = refl
+    more false true c h = refl
+    more false false c h = h
 
-  second : (a b c : Bool) → b ≡ true → (a || (b || c)) ≡ true
-  second true b c h = refl
-  second false true c h = refl
-  second false false c h = cc
+    second : (a b c : Bool) → b ≡ true → (a || (b || c)) ≡ true
+    second true b c h = refl
+    second false true c h = refl
+    second false false c h = cc
 
 one_stays : {X : Type 0} (r : X → X → Bool) → Removes r → (x : X) (xs : List X) →
     list_any (λ m. not (list_any (r m) (x ∷ xs))) (x ∷ xs) ≡ true
@@ -77,8 +77,8 @@ some_left p [] some = cc
 some_left p (x ∷ xs) some = elim (cases_Bool (p x)) [
   | inl is ↦ λ none. let e : filter p (x ∷ xs) ≡ x ∷ filter p xs = rw is refl in cc
   | inr not_so ↦ λ none.
-    let e : filter p (x ∷ xs) ≡ filter p xs = rw not_so refl in
-    some_left p xs (sym (ap (λ b. b || list_any p xs) not_so) ∙ some) (sym e ∙ none)
+      let e : filter p (x ∷ xs) ≡ filter p xs = rw not_so refl in
+      some_left p xs (sym (ap (λ b. b || list_any p xs) not_so) ∙ some) (sym e ∙ none)
 ]
 
 -- ---- the steps
@@ -89,12 +89,12 @@ lesser n = record {
   irreflexive = λ x. alone (n x);
   transitive = λ x y z a b. along (n x) (n y) (n z) a b;
 }
- where
-  alone : (k : ℕ) → nat_lt k k ≡ false
-  alone k = grind (arith, nat_tests)
+  where
+    alone : (k : ℕ) → nat_lt k k ≡ false
+    alone k = grind (arith, nat_tests)
 
-  along : (k l m : ℕ) → nat_lt l k ≡ true → nat_lt m l ≡ true → nat_lt m k ≡ true
-  along k l m a b = grind (arith, nat_tests)
+    along : (k l m : ℕ) → nat_lt l k ≡ true → nat_lt m l ≡ true → nat_lt m k ≡ true
+    along k l m a b = grind (arith, nat_tests)
 
 -- the greater
 greater : {X : Type 0} (n : X → ℕ) → Removes (λ c other. nat_lt (n c) (n other))
@@ -102,12 +102,12 @@ greater n = record {
   irreflexive = λ x. alone (n x);
   transitive = λ x y z a b. along (n x) (n y) (n z) a b;
 }
- where
-  alone : (k : ℕ) → nat_lt k k ≡ false
-  alone k = grind (arith, nat_tests)
+  where
+    alone : (k : ℕ) → nat_lt k k ≡ false
+    alone k = grind (arith, nat_tests)
 
-  along : (k l m : ℕ) → nat_lt k l ≡ true → nat_lt l m ≡ true → nat_lt k m ≡ true
-  along k l m a b = grind (arith, nat_tests)
+    along : (k l m : ℕ) → nat_lt k l ≡ true → nat_lt l m ≡ true → nat_lt k m ≡ true
+    along k l m a b = grind (arith, nat_tests)
 
 -- what has a mark removes what has none
 marked : {X : Type 0} (b : X → Bool) → Removes (λ c other. not (b c) && b other)
@@ -115,15 +115,15 @@ marked b = record {
   irreflexive = λ x. alone (b x);
   transitive = λ x y z one two. never (b x) (b y) (b z) one two;
 }
- where
-  alone : (b : Bool) → (not b && b) ≡ false
-  alone true = refl
-  alone false = refl
+  where
+    alone : (b : Bool) → (not b && b) ≡ false
+    alone true = refl
+    alone false = refl
 
-  never : (a b c : Bool) → (not a && b) ≡ true → (not b && c) ≡ true → (not a && c) ≡ true
-  never true b c one two = cc
-  never false true c one two = cc
-  never false false c one two = cc
+    never : (a b c : Bool) → (not a && b) ≡ true → (not b && c) ≡ true → (not a && c) ≡ true
+    never true b c one two = cc
+    never false true c one two = cc
+    never false false c one two = cc
 
 -- the lesser MED, within one neighbouring AS or across all
 by_med : (always : Bool) → Removes (λ (c other : Key). (always || (c.first == other.first)) && nat_lt other.med c.med)
@@ -131,15 +131,15 @@ by_med always = record {
   irreflexive = λ x. alone always x.first x.med;
   transitive = λ x y z a b. along always x.first y.first z.first x.med y.med z.med a b;
 }
- where
-  alone : (always : Bool) (f m : ℕ) → ((always || (f == f)) && nat_lt m m) ≡ false
-  alone true f m = grind (arith, nat_tests)
-  alone false f m = grind (arith, nat_tests)
+  where
+    alone : (always : Bool) (f m : ℕ) → ((always || (f == f)) && nat_lt m m) ≡ false
+    alone true f m = grind (arith, nat_tests)
+    alone false f m = grind (arith, nat_tests)
 
-  along : (always : Bool) (f g h k l m : ℕ) → ((always || (f == g)) && nat_lt l k) ≡ true →
-      ((always || (g == h)) && nat_lt m l) ≡ true → ((always || (f == h)) && nat_lt m k) ≡ true
-  along true f g h k l m a b = grind (arith, nat_tests)
-  along false f g h k l m a b = grind (arith, nat_tests)
+    along : (always : Bool) (f g h k l m : ℕ) → ((always || (f == g)) && nat_lt l k) ≡ true →
+        ((always || (g == h)) && nat_lt m l) ≡ true → ((always || (f == h)) && nat_lt m k) ≡ true
+    along true f g h k l m a b = grind (arith, nat_tests)
+    along false f g h k l m a b = grind (arith, nat_tests)
 
 step_removes : (always : Bool) (s : Step) → Removes (removes always s)
 step_removes always Weight = greater (λ (k : Key). k.weight)
