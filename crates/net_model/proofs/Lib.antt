@@ -12,3 +12,4 @@ pub mod Costs
 pub mod Equations
 pub mod InOrder
 pub mod SubnetOrder
+pub mod Survivors

@@ -20,6 +20,9 @@ use Rattle.route_record.specs.Places.{slot_at}
 use Rattle.net_model.specs.declared.sessions.Far.{Far}
 use Rattle.net_model.specs.declared.sessions.Far.TheVariants.{Outside, Inside}
 use Rattle.net_model.specs.declared.sessions.SessionEnd.{SessionEnd}
+use Rattle.net_model.specs.declared.steps.Step.{Step}
+use Rattle.net_model.specs.declared.steps.Step.TheVariants.{Weight, Preference, Origination, PathLength, Origin, Med}
+use Rattle.net_model.specs.declared.steps.Step.TheVariants.{Session, Cost, Identifier, Clusters, Address}
 use Rattle.net_model.specs.Exports.{announced_message, exported, imported, router_id}
 use Rattle.route_record.specs.Origins.{origin_code}
 use Rattle.net_model.specs.Origins.{local_routes}
@@ -34,7 +37,7 @@ pub record Candidate : Type 0 where
   pub cost : ℕ
   pub peer_id : Addr
 
--- ---- the steps, each as: the second of two candidates removes the first
+-- ---- what the steps compare
 
 abbrev pub is_local : Learnt → Bool
 is_local Local = true
@@ -45,68 +48,86 @@ abbrev pub peer_address : Learnt → Addr
 peer_address Local = record { 0 = 0 }
 peer_address (Peer a) = a
 
-abbrev pub by_weight : Candidate → Candidate → Bool
-by_weight c other = nat_lt c.rec.weight other.rec.weight
-
-abbrev pub by_preference : Candidate → Candidate → Bool
-by_preference c other = nat_lt c.rec.local_pref other.rec.local_pref
-
-abbrev pub by_origination : Candidate → Candidate → Bool
-by_origination c other = not (is_local c.rec.from) && is_local other.rec.from
-
-abbrev pub by_path : Candidate → Candidate → Bool
-by_path c other = nat_lt (length other.rec.path) (length c.rec.path)
-
-abbrev pub by_origin : Candidate → Candidate → Bool
-by_origin c other = nat_lt (origin_code other.rec.origin) (origin_code c.rec.origin)
-
--- of one neighbouring AS, the first of the path, or of any where these are compared always
-abbrev pub by_med : Bool → Candidate → Candidate → Bool
-by_med always c other =
-    (always || (first_of c.rec.path == first_of other.rec.path)) && nat_lt other.rec.med c.rec.med
-
-abbrev pub by_session : Candidate → Candidate → Bool
-by_session c other = not c.external && other.external
-
-abbrev pub by_cost : Candidate → Candidate → Bool
-by_cost c other = nat_lt other.cost c.cost
-
 -- the originator identifies a reflected route (RFC 4456, section 9)
 abbrev pub identifier : Candidate → Addr
 identifier c = unwrap_or c.rec.originator c.peer_id
 
-abbrev pub by_identifier : Candidate → Candidate → Bool
-by_identifier c other = nat_lt (identifier other).0 (identifier c).0
+-- all that the steps compare of a candidate
+pub record Key : Type 0 where
+  pub weight : ℕ
+  pub local_pref : ℕ
+  pub local : Bool
+  pub len : ℕ
+  pub origin : ℕ
+  pub first : ℕ
+  pub med : ℕ
+  pub external : Bool
+  pub cost : ℕ
+  pub id : ℕ
+  pub clusters : ℕ
+  pub address : ℕ
 
-abbrev pub by_clusters : Candidate → Candidate → Bool
-by_clusters c other = nat_lt (length other.rec.clusters) (length c.rec.clusters)
+-- the neighbouring AS is the first of the path
+abbrev pub key_of : Candidate → Key
+key_of c = record {
+  weight = c.rec.weight;
+  local_pref = c.rec.local_pref;
+  local = is_local c.rec.from;
+  len = length c.rec.path;
+  origin = origin_code c.rec.origin;
+  first = first_of c.rec.path;
+  med = c.rec.med;
+  external = c.external;
+  cost = c.cost;
+  id = (identifier c).0;
+  clusters = length c.rec.clusters;
+  address = (peer_address c.rec.from).0;
+}
 
-abbrev pub by_address : Candidate → Candidate → Bool
-by_address c other = nat_lt (peer_address other.rec.from).0 (peer_address c.rec.from).0
+-- ---- the steps
 
--- what a step leaves: the candidates that no other which is left removes
-abbrev pub step : List Candidate → (Candidate → Candidate → Bool) → List Candidate
-step left removes = filter (λ c. not (list_any (removes c) left)) left
+-- The second of two removes the first in that step. The MED is compared within one neighbouring AS, or across all where
+-- `always` says so.
+abbrev pub removes : Bool → Step → Key → Key → Bool
+removes always Weight c other = nat_lt c.weight other.weight
+removes always Preference c other = nat_lt c.local_pref other.local_pref
+removes always Origination c other = not c.local && other.local
+removes always PathLength c other = nat_lt other.len c.len
+removes always Origin c other = nat_lt other.origin c.origin
+removes always Med c other = (always || (c.first == other.first)) && nat_lt other.med c.med
+removes always Session c other = not c.external && other.external
+removes always Cost c other = nat_lt other.cost c.cost
+removes always Identifier c other = nat_lt other.id c.id
+removes always Clusters c other = nat_lt other.clusters c.clusters
+removes always Address c other = nat_lt other.address c.address
 
 -- the steps up to the cost, and those after it
-abbrev pub up_to_cost : Bool → List (Candidate → Candidate → Bool)
-up_to_cost always =
-    by_weight ∷ by_preference ∷ by_origination ∷ by_path ∷ by_origin ∷ by_med always ∷ by_session ∷ by_cost ∷ []
+abbrev pub to_cost : List Step
+to_cost = Weight ∷ Preference ∷ Origination ∷ PathLength ∷ Origin ∷ Med ∷ Session ∷ Cost ∷ []
 
-abbrev pub after_cost : List (Candidate → Candidate → Bool)
-after_cost = by_identifier ∷ by_clusters ∷ by_address ∷ []
+abbrev pub after_cost : List Step
+after_cost = Identifier ∷ Clusters ∷ Address ∷ []
+
+-- what a step leaves of things that have keys: those that no other which is left removes
+abbrev pub step_by : {X : Type 0} → (X → Key) → Bool → List X → Step → List X
+step_by key always left s = filter (λ c. not (list_any (λ other. removes always s (key c) (key other)) left)) left
 
 -- Identifiers are compared where the router says so, or where no external route is left. Else the oldest of these is
 -- held, and a routing does not tell which that is.
-abbrev pub is_compared : Bool → List Candidate → Bool
-is_compared compare_id left = compare_id || not (list_any (λ c. c.external) left)
+abbrev pub is_compared_by : {X : Type 0} → (X → Key) → Bool → List X → Bool
+is_compared_by key compare_id left = compare_id || not (list_any (λ c. (key c).external) left)
 
-abbrev pub after : Bool → List Candidate → List Candidate
-after compare_id left = if is_compared compare_id left then fold step left after_cost else left
+abbrev pub compared_by : {X : Type 0} → (X → Key) → Bool → Bool → List X → List X
+compared_by key always compare_id left =
+    if is_compared_by key compare_id left then fold (step_by key always) left after_cost else left
+
+-- what all steps leave
+abbrev pub survivors_by : {X : Type 0} → (X → Key) → Bool → Bool → List X → List X
+survivors_by key always compare_id all = compared_by key always compare_id (fold (step_by key always) all to_cost)
 
 -- the candidates that all steps leave
 unfoldable pub survivors : Bool → Bool → List Candidate → List Candidate
-survivors always compare_id candidates = after compare_id (fold step candidates (up_to_cost always))
+survivors always compare_id candidates = survivors_by key_of always compare_id candidates
 
 -- ---- the candidates
 

@@ -1,9 +1,10 @@
 //! Laws about the definitions of a network. Each function only carries its law.
 
-ghost use Rattle.std.specs.Prelude.{◌≡◌, ◌<◌, ℕ, All, List as ListOf, Option as OptionOf};
+ghost use Rattle.std.specs.Prelude.{◌≡◌, ◌≢◌, ◌<◌, ℕ, All, Bool, [], List as ListOf, Option as OptionOf};
 ghost use Rattle.mw_text.specs.declared.address.Prefix.{Prefix as PrefixOf};
 ghost use Rattle.ios_ast.specs.declared.file.File.{File as FileOf};
 ghost use Rattle.route_record.specs.declared.Failures.{Failures as FailuresOf};
+ghost use Rattle.net_model.specs.Decisions.{Candidate, survivors};
 ghost use Rattle.net_model.specs.Distances.{AreDistances, IsInteriorDistance, interior_distance};
 ghost use Rattle.net_model.specs.Ospf.{adjacencies};
 
@@ -22,4 +23,12 @@ pub fn distance_equations_law()
     ensures { (files : ListOf FileOf) (failures : FailuresOf) (p : PrefixOf) (d : ℕ → OptionOf ℕ) →
         All (λ a. 0 < a.cost) (adjacencies files) → AreDistances files failures p d → (router : ℕ) →
         d router ≡ interior_distance files failures router p }
+{}
+
+/// The decision process leaves some candidate where there is one, with and without the age rule: so a router that has a
+/// candidate holds a route (RFC 4271, section 9.1.2.2).
+#[tactic(auto, using(crate::proofs::Survivors::some_survive))]
+pub fn survivors_law()
+    ensures { (always compare_id : Bool) (candidates : ListOf Candidate) → candidates ≢ [] →
+        survivors always compare_id candidates ≢ [] }
 {}

@@ -20,6 +20,7 @@ pub mod router_ids;
 pub mod routing;
 pub mod sessions;
 pub mod states;
+pub mod steps;
 pub mod tracking;
 pub mod undefined;
 
@@ -31,3 +32,4 @@ pub use network::Net;
 pub use ospf::OspfInterface;
 pub use refusals::{MOST_FILES, NetCause, NetRefused, refuse};
 pub use sessions::{Far, Peering, SessionEnd};
+pub use steps::Step;

@@ -1,6 +1,6 @@
 //! The network of a list of files.
 
-ghost use Rattle.std.specs.Prelude.{All, AllPairs, ◌≡◌, ◌≢◌, ◌≤◌, ◌<◌, IfOk, IfErr, IfSome, IsTrue, None, Some, position, true, length, slice_range};
+ghost use Rattle.std.specs.Prelude.{All, AllPairs, ◌≡◌, ◌≢◌, ◌≤◌, ◌<◌, IfOk, IfErr, IfSome, IsTrue, None, Some, position, true, length, map, slice_range};
 ghost use Rattle.std.specs.List.{list_all};
 ghost use Rattle.std.specs.List.Sorted.{IsNonDecreasingBy};
 ghost use Rattle.mw_text.specs.Address.{same_prefix};
@@ -251,11 +251,13 @@ impl Net {
     }
 
     /// The communities, AS numbers and cluster identifiers that the files name.
-    #[tactic(auto, using(crate::proofs::TrackedUp::communities_ascend, crate::proofs::TrackedUp::numbers_ascend))]
+    #[tactic(auto, using(crate::proofs::TrackedUp::communities_ascend, crate::proofs::TrackedUp::numbers_ascend, crate::proofs::TrackedUp::clusters_ascend, crate::proofs::TrackedUp::few_clusters))]
     pub fn tracked(&self) -> &Tracked
         ensures value { result.now ≡ values.tracked_of self.now }
         ensures communities { IsTrue (world.ascends (values.tracked_of self.now).communities) }
         ensures numbers { IsTrue (world.ascends (values.tracked_of self.now).numbers) }
+        ensures clusters { IsTrue (world.ascends (map (λ a. a.0) (values.tracked_of self.now).clusters)) }
+        ensures few { length (values.tracked_of self.now).clusters ≤ length self.now }
     {
         &self.parts.tracked
     }

@@ -10,9 +10,9 @@ use Rattle.std.proofs.lemmas.List.Quantifiers.{all_pairs_push}
 use Rattle.std.proofs.lemmas.Option.{slice_get_cases}
 use Rattle.net_model.specs.Decisions as decisions
 use Rattle.proto_bgp.specs.declared.decision.Candidate.{Candidate}
-use Rattle.proto_bgp.specs.declared.steps.Step.{Step}
-use Rattle.proto_bgp.specs.Places.{ArePlaces, candidate_at, candidates_at, places_left, removes_at}
-use Rattle.proto_bgp.specs.Steps.{rule, seen, steps_to_cost, steps_after_cost}
+use Rattle.net_model.specs.declared.steps.Step.{Step}
+use Rattle.proto_bgp.specs.Places.{ArePlaces, candidate_at, candidates_at, places_left, removes, removes_at}
+use Rattle.proto_bgp.specs.Steps.{seen}
 
 any_one : {X Y : Type 0} (f : X → Option Y) (q : Y → Bool) (x : X) (xs : List X) (o : Option Y) → f x ≡ o →
     list_any (λ z. option_map_or q (f z) false) xs ≡ list_any q (filter_map f xs) →
@@ -48,29 +48,29 @@ kept_found f p q (x ∷ xs) same =
 -- one step
 pub step_law : (always : Bool) (candidates : List Candidate) (left : List ℕ) (step : Step) →
     candidates_at candidates (places_left always candidates left step)
-    ≡ decisions.step (candidates_at candidates left) (rule always step)
+    ≡ decisions.step_by decisions.key_of always (candidates_at candidates left) step
 step_law always candidates left step =
-    kept_found (candidate_at candidates) (λ at. not (list_any (removes_at candidates (rule always step) at) left))
-    (λ c. not (list_any (rule always step c) (candidates_at candidates left))) left
+    kept_found (candidate_at candidates) (λ at. not (list_any (removes_at always step candidates at) left))
+    (λ c. not (list_any (removes always step c) (candidates_at candidates left))) left
     (λ at c e. ap (λ o. not (list_any (λ other. option_map_or (λ a.
-    option_map_or (rule always step a) (candidate_at candidates other) false) o false) left)) e
-    ∙ ap not (any_found (candidate_at candidates) (rule always step c) left))
+    option_map_or (removes always step a) (candidate_at candidates other) false) o false) left)) e
+    ∙ ap not (any_found (candidate_at candidates) (removes always step c) left))
 
 -- several steps
 pub steps_law : (always : Bool) (candidates : List Candidate) (left : List ℕ) (steps : List Step) →
     candidates_at candidates (fold (places_left always candidates) left steps)
-    ≡ fold decisions.step (candidates_at candidates left) (map (rule always) steps)
+    ≡ fold (decisions.step_by decisions.key_of always) (candidates_at candidates left) steps
 steps_law always candidates left [] = refl
 steps_law always candidates left (step ∷ steps) =
     steps_law always candidates (places_left always candidates left step) steps
-    ∙ ap (λ cs. fold decisions.step cs (map (rule always) steps)) (step_law always candidates left step)
+    ∙ ap (λ cs. fold (decisions.step_by decisions.key_of always) cs steps) (step_law always candidates left step)
 
 -- places stay places
 pub places_stay : (always : Bool) (candidates : List Candidate) (count : ℕ) (left : List ℕ) (steps : List Step) →
     ArePlaces count left → ArePlaces count (fold (places_left always candidates) left steps)
 places_stay always candidates count left [] are = are
 places_stay always candidates count left (step ∷ steps) are =
-    let p : ℕ → Bool = λ at. not (list_any (removes_at candidates (rule always step) at) left) in
+    let p : ℕ → Bool = λ at. not (list_any (removes_at always step candidates at) left) in
     places_stay always candidates count (places_left always candidates left step) steps (record {
       within = All-filter p (λ at. at < count) left are.within;
       ascending = AllPairs-filter (λ a b. a < b) p left are.ascending;
@@ -106,35 +106,35 @@ are_more places at are = record {
 
 to_cost : (always : Bool) (candidates : List Candidate) (all left : List ℕ) → candidates_at candidates all
     ≡ map seen candidates →
-    left ≡ fold (places_left always candidates) all steps_to_cost →
-    candidates_at candidates left ≡ fold decisions.step (map seen candidates) (decisions.up_to_cost always)
+    left ≡ fold (places_left always candidates) all decisions.to_cost →
+    candidates_at candidates left ≡ fold (decisions.step_by decisions.key_of always) (map seen candidates) decisions.to_cost
 to_cost always candidates all left every is =
-    ap (candidates_at candidates) is ∙ steps_law always candidates all steps_to_cost
-    ∙ ap (λ cs. fold decisions.step cs (decisions.up_to_cost always)) every
+    ap (candidates_at candidates) is ∙ steps_law always candidates all decisions.to_cost
+    ∙ ap (λ cs. fold (decisions.step_by decisions.key_of always) cs decisions.to_cost) every
 
 -- where identifiers are not compared, what the step of the cost leaves survives
 pub early_law : (always compare_id : Bool) (candidates : List Candidate) (all left : List ℕ) →
-    candidates_at candidates all ≡ map seen candidates → left ≡ fold (places_left always candidates) all steps_to_cost →
-    decisions.is_compared compare_id (candidates_at candidates left) ≡ false →
+    candidates_at candidates all ≡ map seen candidates → left ≡ fold (places_left always candidates) all decisions.to_cost →
+    decisions.is_compared_by decisions.key_of compare_id (candidates_at candidates left) ≡ false →
     candidates_at candidates left ≡ decisions.survivors always compare_id (map seen candidates)
 unfolding decisions.survivors
 early_law always compare_id candidates all left every is not_so =
-    let cs = fold decisions.step (map seen candidates) (decisions.up_to_cost always) in
+    let cs = fold (decisions.step_by decisions.key_of always) (map seen candidates) decisions.to_cost in
     let e : candidates_at candidates left ≡ cs = to_cost always candidates all left every is in
-    let t : decisions.is_compared compare_id cs ≡ false = ap (decisions.is_compared compare_id) (sym e) ∙ not_so in
-    e ∙ sym (ap (λ b. if b then fold decisions.step cs decisions.after_cost else cs) t)
+    let t : decisions.is_compared_by decisions.key_of compare_id cs ≡ false = ap (decisions.is_compared_by decisions.key_of compare_id) (sym e) ∙ not_so in
+    e ∙ sym (ap (λ b. if b then fold (decisions.step_by decisions.key_of always) cs decisions.after_cost else cs) t)
 
 -- where they are, what the last step leaves survives
 pub late_law : (always compare_id : Bool) (candidates : List Candidate) (all left held : List ℕ) →
-    candidates_at candidates all ≡ map seen candidates → left ≡ fold (places_left always candidates) all steps_to_cost →
-    decisions.is_compared compare_id (candidates_at candidates left) ≡ true →
-    held ≡ fold (places_left always candidates) left steps_after_cost →
+    candidates_at candidates all ≡ map seen candidates → left ≡ fold (places_left always candidates) all decisions.to_cost →
+    decisions.is_compared_by decisions.key_of compare_id (candidates_at candidates left) ≡ true →
+    held ≡ fold (places_left always candidates) left decisions.after_cost →
     candidates_at candidates held ≡ decisions.survivors always compare_id (map seen candidates)
 unfolding decisions.survivors
 late_law always compare_id candidates all left held every is so last =
-    let cs = fold decisions.step (map seen candidates) (decisions.up_to_cost always) in
+    let cs = fold (decisions.step_by decisions.key_of always) (map seen candidates) decisions.to_cost in
     let e : candidates_at candidates left ≡ cs = to_cost always candidates all left every is in
-    let t : decisions.is_compared compare_id cs ≡ true = ap (decisions.is_compared compare_id) (sym e) ∙ so in
-    ap (candidates_at candidates) last ∙ steps_law always candidates left steps_after_cost
-    ∙ ap (λ xs. fold decisions.step xs decisions.after_cost) e
-    ∙ sym (ap (λ b. if b then fold decisions.step cs decisions.after_cost else cs) t)
+    let t : decisions.is_compared_by decisions.key_of compare_id cs ≡ true = ap (decisions.is_compared_by decisions.key_of compare_id) (sym e) ∙ so in
+    ap (candidates_at candidates) last ∙ steps_law always candidates left decisions.after_cost
+    ∙ ap (λ xs. fold (decisions.step_by decisions.key_of always) xs decisions.after_cost) e
+    ∙ sym (ap (λ b. if b then fold (decisions.step_by decisions.key_of always) cs decisions.after_cost else cs) t)

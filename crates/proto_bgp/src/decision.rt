@@ -5,10 +5,11 @@ ghost use Rattle.std.specs.List.{list_any};
 ghost use Rattle.std.specs.Option.{option_map_or};
 ghost use Rattle.net_model.specs.Decisions as decisions;
 ghost use Rattle.proto_bgp.specs.Places.{ArePlaces, candidate_at, candidates_at, removes_at, places_left};
-ghost use Rattle.proto_bgp.specs.Steps.{rule, seen, steps_to_cost, steps_after_cost};
+ghost use Rattle.proto_bgp.specs.Steps.{seen};
 
-use crate::steps::{Step, removes};
+use crate::steps::removes;
 use mw_text::{Addr, List};
+use net_model::Step;
 use route_record::BgpRec;
 use std::alloc::{AllocError, Global};
 
@@ -24,7 +25,7 @@ pub struct Candidate {
 
 /// Whether the candidate at the second place removes that at the first.
 fn removes_at(always: bool, step: Step, candidates: &[Candidate], at: u64, other: u64) -> bool
-    ensures { result ≡ removes_at candidates.now (rule always step) at other }
+    ensures { result ≡ removes_at always step candidates.now at other }
 {
     match (candidates.get(at as usize), candidates.get(other as usize)) {
         (Some(c), Some(o)) => removes(always, step, c, o),
@@ -34,7 +35,7 @@ fn removes_at(always: bool, step: Step, candidates: &[Candidate], at: u64, other
 
 /// Whether a candidate that is left removes that at the place.
 fn is_removed(always: bool, step: Step, candidates: &[Candidate], left: &[u64], at: u64) -> bool
-    ensures { result ≡ list_any (removes_at candidates.now (rule always step) at) left.now }
+    ensures { result ≡ list_any (removes_at always step candidates.now at) left.now }
 {
     left.iter()
         .any(|other| removes_at(always, step, candidates, at, *other))
@@ -92,7 +93,7 @@ fn up_to_cost(
     candidates: &[Candidate],
     all: Vec<u64>,
 ) -> Result<Vec<u64>, AllocError>
-    ensures { IfOk result (λ kept. kept.items ≡ fold (places_left always candidates.now) all.items steps_to_cost) }
+    ensures { IfOk result (λ kept. kept.items ≡ fold (places_left always candidates.now) all.items decisions.to_cost) }
 {
     let steps = [
         Step::Weight,
@@ -114,7 +115,7 @@ fn after_cost(
     candidates: &[Candidate],
     all: Vec<u64>,
 ) -> Result<Vec<u64>, AllocError>
-    ensures { IfOk result (λ kept. kept.items ≡ fold (places_left always candidates.now) all.items steps_after_cost) }
+    ensures { IfOk result (λ kept. kept.items ≡ fold (places_left always candidates.now) all.items decisions.after_cost) }
 {
     let steps = [Step::Identifier, Step::Clusters, Step::Address];
     after_steps(alloc, always, &steps, candidates, all)
@@ -145,7 +146,7 @@ fn some_external(candidates: &[Candidate], left: &[u64]) -> bool
 
 /// Whether identifiers are compared: where the router says so, or where no external route is left.
 fn is_compared(compare_id: bool, candidates: &[Candidate], left: &[u64]) -> bool
-    ensures { result ≡ decisions.is_compared compare_id (candidates_at candidates.now left.now) }
+    ensures { result ≡ decisions.is_compared_by decisions.key_of compare_id (candidates_at candidates.now left.now) }
 {
     compare_id || !some_external(candidates, left)
 }

@@ -1,30 +1,15 @@
 //! The steps of the decision process (RFC 4271, section 9.1.2.2; RFC 4456, section 9; Cisco IOS, best path selection).
 
-ghost use Rattle.std.specs.Prelude.{◌≡◌, ◌==◌};
+ghost use Rattle.std.specs.Prelude.{◌≡◌, ◌==◌, ◌&&◌, ◌||◌, length, nat_lt, not};
 ghost use Rattle.net_model.specs.Decisions as decisions;
 ghost use Rattle.route_record.specs.Origins.{origin_code};
 ghost use Rattle.ios_ast.specs.Paths.{first_of};
-ghost use Rattle.proto_bgp.specs.Steps.{rule, seen};
+ghost use Rattle.proto_bgp.specs.Steps.{key, seen};
 
 use crate::decision::Candidate;
 use mw_text::Addr;
+use net_model::Step;
 use route_record::{Learnt, Origin};
-
-/// A step of the decision process, by what it looks at.
-#[derive(Clone, Copy)]
-pub enum Step {
-    Weight,
-    Preference,
-    Origination,
-    PathLength,
-    Origin,
-    Med,
-    Session,
-    Cost,
-    Identifier,
-    Clusters,
-    Address,
-}
 
 /// The code of an origin (RFC 4271, section 5.1.1).
 fn code_of(origin: Origin) -> u8
@@ -68,31 +53,31 @@ fn identifier(c: &Candidate) -> Addr
 }
 
 fn by_weight(c: &Candidate, other: &Candidate) -> bool
-    ensures { result ≡ decisions.by_weight (seen c.now) (seen other.now) }
+    ensures { result ≡ nat_lt c.now.rec.weight other.now.rec.weight }
 {
     c.rec.weight < other.rec.weight
 }
 
 fn by_preference(c: &Candidate, other: &Candidate) -> bool
-    ensures { result ≡ decisions.by_preference (seen c.now) (seen other.now) }
+    ensures { result ≡ nat_lt c.now.rec.local_pref other.now.rec.local_pref }
 {
     c.rec.local_pref < other.rec.local_pref
 }
 
 fn by_origination(c: &Candidate, other: &Candidate) -> bool
-    ensures { result ≡ decisions.by_origination (seen c.now) (seen other.now) }
+    ensures { result ≡ (not (key c.now).local && (key other.now).local) }
 {
     !is_local(c.rec.from) && is_local(other.rec.from)
 }
 
 fn by_path(c: &Candidate, other: &Candidate) -> bool
-    ensures { result ≡ decisions.by_path (seen c.now) (seen other.now) }
+    ensures { result ≡ nat_lt (length other.now.rec.path) (length c.now.rec.path) }
 {
     other.rec.path.items.len() < c.rec.path.items.len()
 }
 
 fn by_origin(c: &Candidate, other: &Candidate) -> bool
-    ensures { result ≡ decisions.by_origin (seen c.now) (seen other.now) }
+    ensures { result ≡ nat_lt (origin_code other.now.rec.origin) (origin_code c.now.rec.origin) }
 {
     code_of(other.rec.origin) < code_of(c.rec.origin)
 }
@@ -105,44 +90,44 @@ fn same_neighbour(c: &Candidate, other: &Candidate) -> bool
 }
 
 fn by_med(always: bool, c: &Candidate, other: &Candidate) -> bool
-    ensures { result ≡ decisions.by_med always (seen c.now) (seen other.now) }
+    ensures { result ≡ ((always || (first_of c.now.rec.path == first_of other.now.rec.path)) && nat_lt other.now.rec.med c.now.rec.med) }
 {
     (always || same_neighbour(c, other)) && other.rec.med < c.rec.med
 }
 
 fn by_session(c: &Candidate, other: &Candidate) -> bool
-    ensures { result ≡ decisions.by_session (seen c.now) (seen other.now) }
+    ensures { result ≡ (not c.now.external && other.now.external) }
 {
     !c.external && other.external
 }
 
 fn by_cost(c: &Candidate, other: &Candidate) -> bool
-    ensures { result ≡ decisions.by_cost (seen c.now) (seen other.now) }
+    ensures { result ≡ nat_lt other.now.cost c.now.cost }
 {
     other.cost < c.cost
 }
 
 fn by_identifier(c: &Candidate, other: &Candidate) -> bool
-    ensures { result ≡ decisions.by_identifier (seen c.now) (seen other.now) }
+    ensures { result ≡ nat_lt (key other.now).id (key c.now).id }
 {
     identifier(other).0 < identifier(c).0
 }
 
 fn by_clusters(c: &Candidate, other: &Candidate) -> bool
-    ensures { result ≡ decisions.by_clusters (seen c.now) (seen other.now) }
+    ensures { result ≡ nat_lt (length other.now.rec.clusters) (length c.now.rec.clusters) }
 {
     other.rec.clusters.items.len() < c.rec.clusters.items.len()
 }
 
 fn by_address(c: &Candidate, other: &Candidate) -> bool
-    ensures { result ≡ decisions.by_address (seen c.now) (seen other.now) }
+    ensures { result ≡ nat_lt (key other.now).address (key c.now).address }
 {
     peer_address(other.rec.from).0 < peer_address(c.rec.from).0
 }
 
 /// Whether `other` removes `c` in that step. With `always` the MED is compared across neighbouring AS numbers.
 pub fn removes(always: bool, step: Step, c: &Candidate, other: &Candidate) -> bool
-    ensures { result ≡ rule always step (seen c.now) (seen other.now) }
+    ensures { result ≡ decisions.removes always step (key c.now) (key other.now) }
 {
     match step {
         Step::Weight => by_weight(c, other),

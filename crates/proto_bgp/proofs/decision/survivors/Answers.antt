@@ -1,6 +1,6 @@
 use Rattle.std.proofs.Common.{length}
 use Rattle.proto_bgp.specs.Places.{ArePlaces}
-use Rattle.proto_bgp.specs.Steps.{steps_to_cost, steps_after_cost}
+use Rattle.net_model.specs.Decisions.{to_cost, after_cost}
 use Rattle.proto_bgp.proofs.StepLaws.{early_law, late_law, places_stay}
 use Rattle.proto_bgp.proofs.decision.survivors.Goals as goal
 
@@ -13,7 +13,7 @@ returns-then-not-is_compared-clause-survive c =
 pub returns-then-not-is_compared-clause-places : goal.returns-then-not-is_compared-clause-places
 returns-then-not-is_compared-clause-places c =
     rw c.in_ok-left.ensures (places_stay c.args.always_compare c.args.candidates.now (length c.args.candidates.now)
-    c.in_ok-all.all.items steps_to_cost c.in_ok-all.ensures.are)
+    c.in_ok-all.all.items to_cost c.in_ok-all.ensures.are)
 
 pub returns-clause-survive : goal.returns-clause-survive
 returns-clause-survive c =
@@ -24,6 +24,6 @@ pub returns-clause-places : goal.returns-clause-places
 returns-clause-places c =
     let left : ArePlaces (length c.args.candidates.now) c.in_ok-left.left.items =
     rw c.in_ok-left.ensures (places_stay c.args.always_compare c.args.candidates.now (length c.args.candidates.now)
-    c.in_ok-all.all.items steps_to_cost c.in_ok-all.ensures.are) in
+    c.in_ok-all.all.items to_cost c.in_ok-all.ensures.are) in
     rw c.in_ok-held.ensures (places_stay c.args.always_compare c.args.candidates.now (length c.args.candidates.now)
-    c.in_ok-left.left.items steps_after_cost left)
+    c.in_ok-left.left.items after_cost left)
