@@ -6,6 +6,7 @@ ghost use Rattle.ios_reader.specs.BgpRows.{names_remote, is_unnamed, with_router
 use crate::bgp::{bgp_network, redistribution};
 use crate::neighbours::{place_of_neighbour, put_neighbour};
 use ios_ast::{Bgp, Neighbour};
+use ios_policy_reader::growing::add_to;
 use ios_policy_reader::said::address_said_under;
 use ios_policy_reader::words::is_word;
 use ios_policy_reader::{Cause, Row, Said, Tag};
@@ -54,7 +55,7 @@ fn put_network(alloc: Global, line: &Line, said: &[Said], bgp: &mut Bgp) -> Resu
     ensures refused { IfErr result (λ cause. cause ≡ Cause.Memory) }
 {
     let network = bgp_network(alloc, line, said)?;
-    bgp.networks.items.push(network)?;
+    add_to(&mut bgp.networks, network)?;
     Ok(())
 }
 
@@ -63,7 +64,7 @@ fn put_redistribution(alloc: Global, line: &Line, said: &[Said], bgp: &mut Bgp) 
     ensures refused { IfErr result (λ cause. cause ≡ Cause.Memory) }
 {
     let redist = redistribution(alloc, line, said)?;
-    bgp.redistribute.items.push(redist)?;
+    add_to(&mut bgp.redistribute, redist)?;
     Ok(())
 }
 
@@ -79,12 +80,12 @@ pub fn put_in_bgp(
     ensures refused { IfErr result (λ cause. cause ≢ Cause.Memory → bgp_row row line.now said.now bgp.old ≡ Err cause) }
 {
     match row {
-        Row::RouterId => put_router_id(said, bgp)?,
+        Row::RouterId => return put_router_id(said, bgp),
+        Row::BgpNetwork => return put_network(alloc, line, said, bgp),
+        Row::BgpRedistribute => return put_redistribution(alloc, line, said, bgp),
+        Row::Neighbor => return put_neighbour(alloc, line, said, &mut bgp.neighbours),
         Row::AlwaysCompareMed => bgp.always_compare = true,
         Row::CompareRouterId => bgp.compare_routerid = true,
-        Row::BgpNetwork => put_network(alloc, line, said, bgp)?,
-        Row::BgpRedistribute => put_redistribution(alloc, line, said, bgp)?,
-        Row::Neighbor => put_neighbour(alloc, line, said, &mut bgp.neighbours)?,
         _ => (),
     }
     Ok(())

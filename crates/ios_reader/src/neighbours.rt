@@ -5,6 +5,7 @@ ghost use Rattle.ios_reader.specs.Neighbours.{place_of, use_of, with_new, with_f
 
 use crate::bgp::neighbour_named;
 use ios_ast::{MOST_NEIGHBOURS, Neighbour, Use};
+use ios_policy_reader::growing::add_to;
 use ios_policy_reader::said::{address_said_under, is_said, number_said};
 use ios_policy_reader::values::list_name;
 use ios_policy_reader::{Cause, Said, Tag};
@@ -24,14 +25,14 @@ fn put_new(line: u32, said: &[Said], neighbours: &mut List<Neighbour>) -> Result
     ensures ok { IfOk result (λ _. with_new line said.now neighbours.old ≡ Ok neighbours.new) }
     ensures refused { IfErr result (λ cause. cause ≢ Cause.Memory → with_new line said.now neighbours.old ≡ Err cause) }
 {
-    let neighbour = neighbour_named(line, said);
-    if place_of_neighbour(neighbours.as_slice(), neighbour.addr).is_some() {
+    let address = address_said_under(Tag::Address, said, Addr(0));
+    if place_of_neighbour(neighbours.as_slice(), address).is_some() {
         return Err(Cause::Repeated);
     }
     if neighbours.items.len() >= MOST_NEIGHBOURS {
         return Err(Cause::Limit);
     }
-    neighbours.items.push(neighbour)?;
+    add_to(neighbours, neighbour_named(line, said))?;
     Ok(())
 }
 

@@ -7,6 +7,7 @@ use crate::draft::Seen;
 use crate::names::use_said;
 use crate::ospf::{default_origin, ospf_network, redistribution};
 use ios_ast::Ospf;
+use ios_policy_reader::growing::add_to;
 use ios_policy_reader::said::{is_said, number_said};
 use ios_policy_reader::{Cause, Row, Said, Tag};
 use mw_text::Line;
@@ -29,7 +30,7 @@ fn put_network(line: &Line, said: &[Said], ospf: &mut Ospf) -> Result<(), Cause>
     ensures ok { IfOk result (λ _. ospf.new ≡ with_network line.now said.now ospf.old) }
     ensures refused { IfErr result (λ cause. cause ≡ Cause.Memory) }
 {
-    ospf.networks.items.push(ospf_network(line.number, said))?;
+    add_to(&mut ospf.networks, ospf_network(line.number, said))?;
     Ok(())
 }
 
@@ -42,7 +43,7 @@ fn put_passive(alloc: Global, line: &Line, said: &[Said], ospf: &mut Ospf) -> Re
         ospf.passive_default = true;
     } else {
         let name = use_said(alloc, Tag::Name, said, line)?;
-        ospf.passive.items.push(name)?;
+        add_to(&mut ospf.passive, name)?;
     }
     Ok(())
 }
@@ -53,7 +54,7 @@ fn put_active(alloc: Global, line: &Line, said: &[Said], ospf: &mut Ospf) -> Res
     ensures refused { IfErr result (λ cause. cause ≡ Cause.Memory) }
 {
     let name = use_said(alloc, Tag::Name, said, line)?;
-    ospf.active.items.push(name)?;
+    add_to(&mut ospf.active, name)?;
     Ok(())
 }
 
@@ -82,7 +83,7 @@ fn put_redistribution(
     ensures refused { IfErr result (λ cause. cause ≡ Cause.Memory) }
 {
     let redist = redistribution(alloc, line, said)?;
-    ospf.redistribute.items.push(redist)?;
+    add_to(&mut ospf.redistribute, redist)?;
     Ok(())
 }
 

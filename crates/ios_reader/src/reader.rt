@@ -1,6 +1,6 @@
 //! Reads a configuration file.
 
-ghost use Rattle.std.specs.Prelude.{◌≡◌, ◌≢◌, ◌+◌, ◌-◌, ◌≤◌, ◌<◌, ◌^◌, IfOk, IfErr, Ok, Err, drop, length, true};
+ghost use Rattle.std.specs.Prelude.{◌≡◌, ◌≢◌, ◌+◌, ◌-◌, ◌≤◌, ◌<◌, ◌^◌, IfOk, IfErr, OnOk, Ok, Err, drop, length, true};
 ghost use Rattle.std.specs.List.{All};
 ghost use Rattle.ios_ast.specs.Limits.{keeps_limits};
 ghost use Rattle.ios_ast.specs.declared.file.TheConstants.{MOST_POLICY_ENTRIES};
@@ -41,9 +41,10 @@ fn take_numbered(
     }
 }
 
-/// The file of all lines, which has a hostname.
-fn finish(draft: Draft) -> Result<File, Refused>
-    ensures { result ≡ finished draft }
+/// Refuses a draft without a hostname.
+fn check_hostname(draft: &Draft) -> Result<(), Refused>
+    ensures ok { OnOk result (finished draft.now ≡ Ok draft.now.file) }
+    ensures refused { IfErr result (λ refused. finished draft.now ≡ Err refused) }
 {
     if draft.file.hostname.items.is_empty() {
         Err(Refused {
@@ -51,7 +52,7 @@ fn finish(draft: Draft) -> Result<File, Refused>
             cause: Cause::NoHostname,
         })
     } else {
-        Ok(draft.file)
+        Ok(())
     }
 }
 
@@ -77,18 +78,28 @@ fn take_at(alloc: Global, lines: &[Line], at: usize, draft: &mut Draft) -> Resul
     }
 }
 
-/// The file of these lines.
+/// Takes all lines into the draft, whose file is then theirs.
 #[tactic(auto, using(crate::proofs::LineByLine::read_lines_done))]
+fn take_all(alloc: Global, lines: &[Line], draft: &mut Draft) -> Result<(), Refused>
+    requires few { All (λ line. length line.words < 2 ^ 32 - 1) lines.now }
+    ensures ok { IfOk result (λ _. read_lines draft.old lines.now ≡ Ok draft.new.file) }
+    ensures refused { IfErr result (λ refused. refused.cause ≢ Cause.Memory → read_lines draft.old lines.now ≡ Err refused) }
+{
+    for at in 0..lines.len() {
+        take_at(alloc, lines, at, draft)?;
+    }
+    check_hostname(draft)
+}
+
+/// The file of these lines.
 fn read_all(alloc: Global, lines: &[Line]) -> Result<File, Refused>
     requires few { All (λ line. length line.words < 2 ^ 32 - 1) lines.now }
     ensures ok { IfOk result (λ file. read_lines empty_draft lines.now ≡ Ok file) }
     ensures refused { IfErr result (λ refused. refused.cause ≢ Cause.Memory → read_lines empty_draft lines.now ≡ Err refused) }
 {
     let mut draft = new_draft(alloc);
-    for at in 0..lines.len() {
-        take_at(alloc, lines, at, &mut draft)?;
-    }
-    finish(draft)
+    take_all(alloc, lines, &mut draft)?;
+    Ok(draft.file)
 }
 
 /// The file that a text reads as. Each line is of the row with the longest head that fits where the line stands. A text

@@ -12,6 +12,7 @@ use crate::interfaces::{interface_named, static_route};
 use crate::names::name_said;
 use crate::ospf::ospf_process;
 use ios_ast::{Iface, MOST_INTERFACES};
+use ios_policy_reader::growing::add_to;
 use ios_policy_reader::said::number_said;
 use ios_policy_reader::{Cause, Row, Said, Tag};
 use mw_text::{Line, same_bytes};
@@ -50,8 +51,10 @@ fn put_interface(alloc: Global, line: &Line, said: &[Said], draft: &mut Draft) -
     if draft.file.interfaces.items.len() >= MOST_INTERFACES {
         return Err(Cause::Limit);
     }
-    let iface = interface_named(line.number, name);
-    draft.file.interfaces.items.push(iface)?;
+    add_to(
+        &mut draft.file.interfaces,
+        interface_named(line.number, name),
+    )?;
     draft.block = Block::Interface;
     draft.seen = Seen {
         address: false,
@@ -66,7 +69,7 @@ fn put_route(alloc: Global, line: &Line, said: &[Said], draft: &mut Draft) -> Re
     ensures refused { IfErr result (λ cause. cause ≡ Cause.Memory) }
 {
     let route = static_route(alloc, line, said)?;
-    draft.file.statics.items.push(route)?;
+    add_to(&mut draft.file.statics, route)?;
     Ok(())
 }
 
@@ -128,14 +131,16 @@ pub fn put_top(
     ensures refused { IfErr result (λ cause. cause ≢ Cause.Memory → top_row row line.now rest.now said.now draft.old ≡ Err cause) }
 {
     match row {
-        Row::Hostname => put_hostname(alloc, line, said, draft)?,
-        Row::InterfaceBlock => put_interface(alloc, line, said, draft)?,
-        Row::StaticRoute => put_route(alloc, line, said, draft)?,
-        Row::OspfBlock => put_ospf(alloc, line.number, said, draft)?,
-        Row::BgpBlock => put_bgp(alloc, line.number, said, draft)?,
-        Row::Banner => put_banner(line, rest, draft)?,
-        Row::IgnoredBlock => draft.block = Block::Ignored,
-        _ => (),
+        Row::Hostname => put_hostname(alloc, line, said, draft),
+        Row::InterfaceBlock => put_interface(alloc, line, said, draft),
+        Row::StaticRoute => put_route(alloc, line, said, draft),
+        Row::OspfBlock => put_ospf(alloc, line.number, said, draft),
+        Row::BgpBlock => put_bgp(alloc, line.number, said, draft),
+        Row::Banner => put_banner(line, rest, draft),
+        Row::IgnoredBlock => {
+            draft.block = Block::Ignored;
+            Ok(())
+        }
+        _ => Ok(()),
     }
-    Ok(())
 }
