@@ -1,6 +1,8 @@
 //! The arena's worked example: three clauses over three variables, a deletion and a compaction.
 
-use clause_arena::{Arena, ClauseRef};
+ghost use Rattle.std.specs.Prelude.{◌≡◌};
+
+use clause_arena::Arena;
 use resolution_check::Lit;
 use std::alloc::{AllocError, Global};
 use std::io;
@@ -20,7 +22,8 @@ fn third_number(alloc: Global) -> Result<u64, AllocError> {
     arena.delete(second);
     let mut reasons = [Some(third), None];
     arena.compact(&mut reasons);
-    match reasons[0] {
+    let reason = reasons[0];
+    match reason {
         Some(clause) => Ok(arena.id(clause)),
         None => Ok(0),
     }

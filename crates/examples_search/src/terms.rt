@@ -82,7 +82,7 @@ fn count(
     match name {
         "all" => all_of(terms, three),
         "any" => any_of(terms, three),
-        _ => at_most(alloc, terms, three, most as u32),
+        _ => at_most(alloc, terms, three, most.min(64) as u32),
     }
 }
 
