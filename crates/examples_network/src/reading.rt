@@ -76,6 +76,9 @@ pub enum Outcome {
 }
 
 fn file_outcome(alloc: Global, text: &str) -> Outcome {
+    if text.len() > LONGEST {
+        return Outcome::NotRead;
+    }
     match read_file(alloc, text.as_bytes()) {
         Ok(_) => Outcome::Taken,
         Err(refused) => Outcome::Refused(refused.line, refused.cause),
@@ -83,6 +86,9 @@ fn file_outcome(alloc: Global, text: &str) -> Outcome {
 }
 
 fn questions_outcome(alloc: Global, net: &Net, text: &str) -> Outcome {
+    if text.len() > LONGEST {
+        return Outcome::NotRead;
+    }
     match read_questions(alloc, text.as_bytes(), net) {
         Ok(_) => Outcome::Taken,
         Err(refused) => Outcome::Refused(refused.line, refused.cause),
@@ -91,9 +97,6 @@ fn questions_outcome(alloc: Global, net: &Net, text: &str) -> Outcome {
 
 /// Reads a text of a kind, and forgets what it read.
 pub fn read_outcome(alloc: Global, setup: &Setup, kind: &str, text: &str) -> Outcome {
-    if text.len() > LONGEST {
-        return Outcome::NotRead;
-    }
     match &setup.net {
         Some(net) if kind == "questions" => questions_outcome(alloc, net, text),
         _ => file_outcome(alloc, text),

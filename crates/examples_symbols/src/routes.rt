@@ -1,9 +1,9 @@
 //! The calls that make routes: through a map, over links, into and out of a table.
 
-ghost use Rattle.std.specs.Prelude.{◌≡◌, ◌≤◌, ◌<◌, IfOk, length, true};
+ghost use Rattle.std.specs.Prelude.{◌≡◌, ◌≤◌, IfOk, length, true};
 ghost use Rattle.term_store.specs.Terms.{size};
 ghost use Rattle.term_arith.specs.Bits.{ids_end};
-ghost use Rattle.sym_policy.specs.Held.{bgp_end};
+ghost use Rattle.net_model.specs.Tracked.{tracked_of};
 ghost use Rattle.sym_policy.specs.MapRecs.{HasMarks};
 ghost use Rattle.sym_rib.specs.Slots.{slot_end};
 ghost use Rattle.sym_rib.specs.Into.{HasTracked};
@@ -22,11 +22,19 @@ use term_arith::gates::constant_node;
 use term_arith::{Bits, fresh_bits};
 use term_store::Terms;
 
-/// Whether there is a node for each tracked number and community.
-fn has_tracked(tracked: &Tracked, bgp: &SymBgp) -> bool
-    ensures numbers { result ≡ true → length bgp.now.numbers.nodes.items ≡ length tracked.now.numbers }
-    ensures communities { result ≡ true → length bgp.now.communities.nodes.items ≡ length tracked.now.communities }
+/// Whether the record has a node for each tracked number and community.
+fn has_marks(tracked: &Tracked, rec: &SymMapRec) -> bool
+    ensures { result ≡ true → HasMarks tracked.now rec.now }
 {
+    rec.bgp.numbers.nodes.as_slice().len() == tracked.numbers.as_slice().len()
+        && rec.bgp.communities.nodes.as_slice().len() == tracked.communities.as_slice().len()
+}
+
+/// Whether the route has a node for each number and community that is tracked in the network.
+fn has_tracked(net: &Net, bgp: &SymBgp) -> bool
+    ensures { result ≡ true → HasTracked (tracked_of net.now) bgp.now }
+{
+    let tracked = net.tracked();
     bgp.numbers.nodes.as_slice().len() == tracked.numbers.as_slice().len()
         && bgp.communities.nodes.as_slice().len() == tracked.communities.as_slice().len()
 }
@@ -44,7 +52,7 @@ fn through(
     let type1 = terms.fresh()?;
     let bgp = fresh_bgp(alloc, terms, tracked)?;
     let rec = SymMapRec { bgp, type1 };
-    if !has_tracked(tracked, &rec.bgp) {
+    if !has_marks(tracked, &rec) {
         return Ok(None);
     }
     let made = sym_route_map(
@@ -169,7 +177,7 @@ pub fn redistributed(
     requires { len ≤ 32 }
 {
     let held = fresh_held(alloc, terms, net)?;
-    if !has_tracked(net.tracked(), &held.slot.bgp) {
+    if !has_tracked(net, &held.slot.bgp) {
         return Ok(List::new(alloc));
     }
     sym_redistribute(alloc, terms, net, router, &held.dst, len, &held.slot)
