@@ -9,7 +9,7 @@ ghost use Rattle.run_inputs.specs.Loading.{IsBudget, IsReady, outcome_of};
 
 use mw_outside::Sink;
 use question_lang::Question;
-use question_search::answer;
+use question_search::answer::answer;
 use run_answers::halt::put_lines;
 use run_answers::{Halt, Seen, Status, Verdict};
 use run_inputs::Work;

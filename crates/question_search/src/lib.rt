@@ -3,5 +3,3 @@
 
 pub mod answer;
 pub mod formula;
-
-pub use answer::answer;
