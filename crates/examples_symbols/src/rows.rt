@@ -23,7 +23,7 @@ fn put_route(routes: &mut List<SymOspf>, route: SymOspf) -> Result<(), AllocErro
 }
 
 /// So many OSPF routes.
-#[tactic(auto, using(crate::proofs::Rows::routes_end_push))]
+#[tactic(auto, using(crate::proofs::PushedRoutes::routes_end_push))]
 pub fn fresh_rows(
     alloc: Global,
     terms: &mut Terms,
