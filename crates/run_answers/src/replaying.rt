@@ -87,21 +87,24 @@ fn wanted_text(alloc: Global, part: Part, slots: &[Slot]) -> Result<List<u8>, Al
 fn difference_text(alloc: Global, net: &Net, differs: &Differs) -> Result<List<u8>, AllocError>
     ensures { IfOk result (λ text. text ≡ replays.difference_text net.now differs.now) }
 {
+    let name = list_of(alloc, router_name(net, differs.router))?;
     let len = differs.len.to_string(alloc)?;
     let held = write_part(alloc, &differs.held)?;
     let wanted = wanted_text(alloc, differs.part, differs.wanted.as_slice())?;
-    let pieces: [&[u8]; 9] = [
-        router_name(net, differs.router),
-        b" ",
-        len.as_bytes(),
-        b" ",
-        part_name(differs.part),
-        b" held ",
-        held.as_slice(),
-        b" wanted ",
-        wanted.as_slice(),
-    ];
-    joined(alloc, &pieces)
+    joined(
+        alloc,
+        &[
+            name.as_slice(),
+            b" ",
+            len.as_bytes(),
+            b" ",
+            part_name(differs.part),
+            b" held ",
+            held.as_slice(),
+            b" wanted ",
+            wanted.as_slice(),
+        ],
+    )
 }
 
 fn differs_line(alloc: Global, net: &Net, differs: &Differs) -> Result<List<u8>, AllocError>
