@@ -5,8 +5,6 @@ use crate::page::Page;
 use crate::routes::{best, entry, mapped, originated, redistributed, resolved, transferred};
 use crate::setup::{Setup, policies};
 use crate::values::{found_of, number_at, show_ospf, value_of};
-use crate::walks::show_walk;
-use mw_text::{Addr, read_addr};
 use net_model::Net;
 use std::alloc::{AllocError, Global};
 use sym_policy::{SymBgp, SymMapRec, SymOspf};
@@ -171,15 +169,6 @@ fn ask_redistributed(out: &mut Page, net: &Net, order: &str) -> Result<(), Alloc
     Ok(())
 }
 
-/// A walk to an address that breaks the last question.
-fn ask_walk(out: &mut Page, setup: &Setup, net: &Net, order: &str) {
-    let dst = read_addr(order.as_bytes()).unwrap_or(Addr(0));
-    match setup.questions.as_slice().last() {
-        Some(question) => show_walk(out, net, question, dst),
-        None => out.put(" no question"),
-    }
-}
-
 fn answer(
     out: &mut Page,
     setup: &Setup,
@@ -188,10 +177,6 @@ fn answer(
     order: &str,
 ) -> Result<(), AllocError> {
     match word {
-        "walk" => {
-            ask_walk(out, setup, net, order);
-            Ok(())
-        }
         "mapped" => ask_mapped(out, net, order),
         "entry" => ask_entry(out, net, order),
         "originated" => ask_originated(out, net, order),

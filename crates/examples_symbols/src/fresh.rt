@@ -196,21 +196,26 @@ fn assembled(terms: &Terms, valid: NodeId, parts: Parts, marks: Marks, sets: Set
     ensures within { bgp_end result ≤ size terms.now }
 {
     let _size = terms.len();
+    let Parts {
+        preferences,
+        path,
+        others,
+    } = parts;
     SymBgp {
         valid,
-        weight: parts.preferences.a,
-        local_pref: parts.preferences.b,
+        weight: preferences.a,
+        local_pref: preferences.b,
         origin: marks.origin,
-        med: parts.preferences.c,
-        next_hop: parts.others.a,
+        med: preferences.c,
+        next_hop: others.a,
         originator: marks.originator,
         from: marks.from,
-        len: parts.path.a,
-        first: parts.path.b,
-        last: parts.path.c,
+        len: path.a,
+        first: path.b,
+        last: path.c,
         numbers: sets.numbers,
         communities: sets.communities,
-        cluster_len: parts.others.b,
+        cluster_len: others.b,
         clusters: sets.clusters,
     }
 }

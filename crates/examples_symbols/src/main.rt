@@ -16,7 +16,6 @@ mod routes;
 mod rows;
 mod setup;
 mod values;
-mod walks;
 
 use crate::asked::ask;
 use crate::page::Page;
