@@ -168,7 +168,7 @@ pub fn speaker_of(
     end: &SessionEnd,
     held: &BgpRec,
 ) -> Result<Speaker, AllocError>
-    ensures { IfOk result (λ speaker. Speaks net.now end.now held.now speaker) }
+    ensures { IfOk result (λ speaker. Speaks net.now.files end.now held.now speaker) }
 {
     let files = net.routers();
     let from = learnt_over(files, net.ends(), end.router, held.from);

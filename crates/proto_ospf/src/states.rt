@@ -12,7 +12,7 @@ use std::alloc::{AllocError, Global};
 
 fn is_up_over(net: &Net, failures: &Failures, router: u32, a: &Adjacency) -> bool
     ensures { result ≡ ((a.now.from.router == router)
-        && (ospf.is_up_at net.now failures.now a.now.from && ospf.is_up_at net.now failures.now a.now.to)) }
+        && (ospf.is_up_at net.now.files failures.now a.now.from && ospf.is_up_at net.now.files failures.now a.now.to)) }
 {
     a.from.router == router && net.is_up(failures, a.from) && net.is_up(failures, a.to)
 }
@@ -25,7 +25,7 @@ pub fn up_adjacencies(
     failures: &Failures,
     router: u32,
 ) -> Result<List<Adjacency>, AllocError>
-    ensures { IfOk result (λ up. up ≡ ospf.up_adjacencies net.now failures.now router) }
+    ensures { IfOk result (λ up. up ≡ ospf.up_adjacencies net.now.files failures.now router) }
 {
     let mut up = List::new(alloc);
     for a in net.adjacencies() {
@@ -43,7 +43,7 @@ pub fn receivers(
     net: &Net,
     failures: &Failures,
 ) -> Result<List<Receiver>, AllocError>
-    ensures { IfOk result (λ routers. routers ≡ everywhere net.now (receiver net.now failures.now)) }
+    ensures { IfOk result (λ routers. routers ≡ everywhere net.now.files (receiver net.now.files failures.now)) }
 {
     let mut routers = List::new(alloc);
     for router in 0..net.routers().len() {

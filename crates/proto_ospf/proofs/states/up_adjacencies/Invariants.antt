@@ -8,6 +8,6 @@ abbrev pub invariant-loop-a : goal.invariant-loop-a
 invariant-loop-a l =
     l.up-inside.items.items
     ++ filter (λ a. (a.from.router == l.router)
-    && (is_up_at l.net l.failures a.from && is_up_at l.net l.failures a.to)) (drop l.a-index (adjacencies l.net))
+    && (is_up_at l.net.files l.failures a.from && is_up_at l.net.files l.failures a.to)) (drop l.a-index (adjacencies l.net.files))
     ≡ filter (λ a. (a.from.router == l.router)
-    && (is_up_at l.net l.failures a.from && is_up_at l.net l.failures a.to)) (adjacencies l.net)
+    && (is_up_at l.net.files l.failures a.from && is_up_at l.net.files l.failures a.to)) (adjacencies l.net.files)
