@@ -2,7 +2,7 @@
 
 ghost use Rattle.std.specs.Prelude.{◌≡◌, codes, option_and_then, option_map};
 ghost use Rattle.std.specs.List.{list_any};
-ghost use Rattle.net_model.specs.Sessions.{ends_of};
+ghost use Rattle.net_parts.specs.Sessions.{ends_of};
 ghost use Rattle.serde_json.specs.View.{view};
 ghost use Rattle.serde_json.specs.Find.{get};
 ghost use Rattle.cex_json.specs.Fields.{Reads, text_in as text_of};

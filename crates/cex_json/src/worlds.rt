@@ -2,8 +2,8 @@
 
 ghost use Rattle.std.specs.Prelude.{◌≡◌, IfOk, map, option_map, slice_get, string_bytes};
 ghost use Rattle.std.specs.Option.{option_copied};
-ghost use Rattle.net_model.specs.Sessions as sessions;
-ghost use Rattle.net_model.specs.World.{links_of};
+ghost use Rattle.net_parts.specs.Sessions as sessions;
+ghost use Rattle.net_parts.specs.World.{links_of};
 ghost use Rattle.serde_json.specs.View.{view};
 ghost use Rattle.cex_json.specs.Worlds as worlds;
 

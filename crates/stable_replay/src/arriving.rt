@@ -3,13 +3,13 @@
 ghost use Rattle.std.specs.Prelude.{◌≡◌, ◌==◌, ◌&&◌, ◌<◌, IfOk, Some, length, option_and_then, option_map, slice_get};
 ghost use Rattle.std.specs.List.{find};
 ghost use Rattle.std.specs.Option.{option_copied};
-ghost use Rattle.net_model.specs.Decisions as decisions;
-ghost use Rattle.net_model.specs.Exports as exports;
-ghost use Rattle.net_model.specs.Sessions as sessions;
+ghost use Rattle.net_parts.specs.Decisions as decisions;
+ghost use Rattle.net_parts.specs.Exports as exports;
+ghost use Rattle.net_parts.specs.Sessions as sessions;
 ghost use Rattle.route_record.specs.Places.{slot_at};
 
 use mw_text::{Addr, List, Prefix};
-use net_model::ends::neighbour_of;
+use net_parts::ends::neighbour_of;
 use net_model::{Far, Net, SessionEnd};
 use policy_eval::copy_list;
 use proto_bgp::{export, import};
@@ -132,7 +132,7 @@ fn from_inside(
 }
 
 // The message that arrives over the session of the end at that place.
-#[tactic(auto, unfolding(net_model::specs::Decisions::arriving))]
+#[tactic(auto, unfolding(net_parts::specs::Decisions::arriving))]
 fn arriving(
     alloc: Global,
     net: &Net,

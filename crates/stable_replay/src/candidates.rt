@@ -2,9 +2,9 @@
 
 ghost use Rattle.std.specs.Prelude.{◌≡◌, ◌≤◌, ◌++◌, [], IfOk, OnOk, Some, false, length, map, slice_get};
 ghost use Rattle.std.specs.Option.{option_map_or};
-ghost use Rattle.net_model.specs.Decisions as decisions;
-ghost use Rattle.net_model.specs.Exports.{router_id};
-ghost use Rattle.net_model.specs.Sessions as sessions;
+ghost use Rattle.net_parts.specs.Decisions as decisions;
+ghost use Rattle.net_parts.specs.Exports.{router_id};
+ghost use Rattle.net_parts.specs.Sessions as sessions;
 ghost use Rattle.proto_bgp.specs.Steps.{seen};
 ghost use Rattle.proto_rib.specs.Taken.{local_routes_at};
 ghost use Rattle.route_record.specs.Places.{slot_at};
@@ -15,7 +15,7 @@ use crate::underlay::Underlay;
 use ios_ast::{Bgp, File};
 use mw_text::{Addr, List, Prefix};
 use net_model::Net;
-use net_model::router_ids::router_id;
+use net_parts::router_ids::router_id;
 use proto_bgp::Candidate;
 use proto_rib::originate;
 use route_record::{BgpRec, Environment, Failures, Tables};
@@ -80,7 +80,7 @@ fn local_candidates(
 
 /// All BGP routes that the router may hold for the prefix, by its own slot and those of its neighbours: its local ones, and
 /// then by session what it has learnt.
-#[tactic(auto, using(crate::proofs::BgpParts::local_of), unfolding(net_model::specs::Decisions::candidates))]
+#[tactic(auto, using(crate::proofs::BgpParts::local_of), unfolding(net_parts::specs::Decisions::candidates))]
 pub fn candidates(
     alloc: Global,
     net: &Net,

@@ -1,8 +1,8 @@
 //! Whether tables are a stable routing.
 
 ghost use Rattle.std.specs.Prelude.{◌≡◌, ◌≢◌, ◌≤◌, ◌<◌, ◌*◌, IfErr, IfOk, MatchOption, length, map};
-ghost use Rattle.net_model.specs.Sessions.{ends_of};
-ghost use Rattle.net_model.specs.Stable.{Stable};
+ghost use Rattle.net_parts.specs.Sessions.{ends_of};
+ghost use Rattle.net_parts.specs.Stable.{Stable};
 ghost use Rattle.stable_replay.specs.Differences as differences;
 ghost use Rattle.stable_replay.specs.Underlays.{IsUnderlay};
 ghost use Rattle.stable_replay.specs.declared.differs.Differs.{Differs as Difference};

@@ -4,9 +4,9 @@ ghost use Rattle.std.specs.Prelude.{◌≡◌, ◌≤◌, [], false, IfOk, None,
 ghost use Rattle.std.specs.Bool.{Decides};
 ghost use Rattle.std.specs.List.{list_any};
 ghost use Rattle.std.specs.Option.{option_map_or};
-ghost use Rattle.net_model.specs.Decisions as decisions;
-ghost use Rattle.net_model.specs.Sessions.{ends_of};
-ghost use Rattle.net_model.specs.Stable as stable;
+ghost use Rattle.net_parts.specs.Decisions as decisions;
+ghost use Rattle.net_parts.specs.Sessions.{ends_of};
+ghost use Rattle.net_parts.specs.Stable as stable;
 ghost use Rattle.proto_bgp.specs.Places.{candidate_at, candidates_at};
 ghost use Rattle.proto_bgp.specs.Steps.{seen};
 ghost use Rattle.stable_replay.specs.Parts as parts;
@@ -108,7 +108,7 @@ fn test_left(
 }
 
 // Tests what is held against the candidates that the process leaves.
-#[tactic(auto, unfolding(net_model::specs::Decisions::DecidedByBgp))]
+#[tactic(auto, unfolding(net_parts::specs::Decisions::DecidedByBgp))]
 fn test_process(
     alloc: Global,
     net: &Net,

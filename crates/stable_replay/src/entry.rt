@@ -4,8 +4,8 @@ ghost use Rattle.std.specs.Prelude.{◌≡◌, IfOk, Some, false, slice_get};
 ghost use Rattle.std.specs.Bool.{Decides};
 ghost use Rattle.std.specs.List.{list_any};
 ghost use Rattle.std.specs.Option.{option_map_or};
-ghost use Rattle.net_model.specs.Entries as entries;
-ghost use Rattle.net_model.specs.OspfRoutes as routes;
+ghost use Rattle.net_parts.specs.Entries as entries;
+ghost use Rattle.net_parts.specs.OspfRoutes as routes;
 ghost use Rattle.stable_replay.specs.Parts as parts;
 
 use crate::ospf::origins;

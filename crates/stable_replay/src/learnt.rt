@@ -2,9 +2,9 @@
 
 ghost use Rattle.std.specs.Prelude.{◌≡◌, ◌==◌, ◌≤◌, ◌<◌, ◌++◌, false, IfOk, OnOk, Some, None, filter, length, map, option_map, slice_get, take, unwrap_or, if◌then◌else◌};
 ghost use Rattle.std.specs.List.{filter_map};
-ghost use Rattle.net_model.specs.Decisions as decisions;
-ghost use Rattle.net_model.specs.Resolution.{session_up};
-ghost use Rattle.net_model.specs.Sessions as sessions;
+ghost use Rattle.net_parts.specs.Decisions as decisions;
+ghost use Rattle.net_parts.specs.Resolution.{session_up};
+ghost use Rattle.net_parts.specs.Sessions as sessions;
 ghost use Rattle.proto_bgp.specs.Steps.{seen};
 ghost use Rattle.stable_replay.specs.Underlays.{IsUnderlay};
 ghost use Rattle.stable_replay.specs.Parts as parts;
@@ -12,7 +12,7 @@ ghost use Rattle.stable_replay.specs.Parts as parts;
 use crate::arriving::arrived;
 use crate::underlay::Underlay;
 use mw_text::{Addr, List, Prefix};
-use net_model::router_ids::router_id;
+use net_parts::router_ids::router_id;
 use net_model::{Far, Net, SessionEnd};
 use proto_bgp::Candidate;
 use proto_ospf::resolve_over;

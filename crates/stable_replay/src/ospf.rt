@@ -4,8 +4,8 @@ ghost use Rattle.std.specs.Prelude.{◌≡◌, ◌==◌, ◌&&◌, ◌++◌, ◌
 ghost use Rattle.std.specs.Bool.{Decides};
 ghost use Rattle.std.specs.List.{filter_map};
 ghost use Rattle.std.specs.Option.{option_map_or};
-ghost use Rattle.net_model.specs.OspfRoutes as routes;
-ghost use Rattle.net_model.specs.Stable as stable;
+ghost use Rattle.net_parts.specs.OspfRoutes as routes;
+ghost use Rattle.net_parts.specs.Stable as stable;
 ghost use Rattle.route_record.specs.Places.{slot_at};
 ghost use Rattle.stable_replay.specs.Parts as parts;
 ghost use Rattle.stable_replay.specs.Underlays.{IsUnderlay};
@@ -128,7 +128,7 @@ fn all_routes(
 }
 
 /// The OSPF record that the router holds in a stable routing, by the tables: none where it runs no OSPF.
-#[tactic(auto, using(crate::proofs::OspfParts::routes_of), unfolding(net_model::specs::OspfRoutes::held_by_ospf))]
+#[tactic(auto, using(crate::proofs::OspfParts::routes_of), unfolding(net_parts::specs::OspfRoutes::held_by_ospf))]
 pub fn wanted_ospf(
     alloc: Global,
     net: &Net,

@@ -1,7 +1,7 @@
 //! Whether a slot of the tables is stable.
 
 ghost use Rattle.std.specs.Prelude.{◌≡◌, ◌≤◌, IfOk, Some, length, map, slice_get};
-ghost use Rattle.net_model.specs.Sessions.{ends_of};
+ghost use Rattle.net_parts.specs.Sessions.{ends_of};
 ghost use Rattle.stable_replay.specs.Differences.{IsSlotTested};
 ghost use Rattle.stable_replay.specs.Parts as parts;
 ghost use Rattle.stable_replay.specs.Underlays.{IsUnderlay};

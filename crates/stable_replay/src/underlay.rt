@@ -1,7 +1,7 @@
 //! What the links that are up give, whatever the tables are.
 
 ghost use Rattle.std.specs.Prelude.{◌≡◌, ◌<◌, IfOk, length};
-ghost use Rattle.net_model.specs.Ospf.{up_adjacencies};
+ghost use Rattle.net_parts.specs.Ospf.{up_adjacencies};
 ghost use Rattle.stable_replay.specs.Underlays.{IsUnderlay};
 
 use mw_text::List;

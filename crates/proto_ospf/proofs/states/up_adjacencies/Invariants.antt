@@ -1,6 +1,6 @@
 use Rattle.std.proofs.Common.{◌≡◌, ◌++◌, drop, filter, ◌&&◌}
 use Rattle.std.specs.Prelude.{◌==◌}
-use Rattle.net_model.specs.Ospf.{adjacencies, is_up_at}
+use Rattle.net_parts.specs.Ospf.{adjacencies, is_up_at}
 use Rattle.proto_ospf.proofs.states.up_adjacencies.Given as goal
 
 -- those so far, with those of the adjacencies that are left, are all

@@ -1,8 +1,8 @@
 use Rattle.std.proofs.Common.{◌≡◌, ◌++◌, drop, filter, map}
 use Rattle.std.specs.Prelude.{◌==◌}
 use Rattle.std.specs.List.{filter_map}
-use Rattle.net_model.specs.Decisions.{learnt_candidate, numbered}
-use Rattle.net_model.specs.Sessions.{ends_of}
+use Rattle.net_parts.specs.Decisions.{learnt_candidate, numbered}
+use Rattle.net_parts.specs.Sessions.{ends_of}
 use Rattle.proto_bgp.specs.Steps.{seen}
 use Rattle.stable_replay.proofs.learnt.add_learnt.Given as goal
 
