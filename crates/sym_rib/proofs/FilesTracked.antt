@@ -20,7 +20,7 @@ use Rattle.net_model.specs.declared.tracking.Said.{Said}
 use Rattle.net_model.specs.declared.tracking.TheConstants.{NO_ADVERTISE, NO_EXPORT}
 use Rattle.net_model.specs.Tracked.{put_number, said_at, said_communities, said_in_list, said_in_map, said_in_paths}
 use Rattle.net_model.specs.Tracked.{said_as, said_in_pattern, said_numbers, tracked_of}
-use Rattle.sym_policy.specs.Shapes.{all_tracked, path_tracked, values_tracked}
+use Rattle.route_shapes.specs.Shapes.{all_tracked, path_tracked, values_tracked}
 
 -- ---- values that are put into a list stand there
 

@@ -16,7 +16,7 @@ use Rattle.route_record.specs.declared.RibSource.TheVariants.{Ebgp, Ibgp}
 use Rattle.net_model.specs.declared.sessions.SessionEnd.{SessionEnd}
 use Rattle.net_model.specs.Exports.{learnt_over}
 use Rattle.net_model.specs.Sessions.{ends_of, neighbour_of}
-use Rattle.sym_policy.specs.Held.{learnt_number}
+use Rattle.route_shapes.specs.Bgp.{learnt_number}
 use Rattle.sym_rib.specs.Sources.{is_from, end_numbered, is_of_kind, entry_over}
 
 -- what is found among the items from one on. The first half shows which item is met

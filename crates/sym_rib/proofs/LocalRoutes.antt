@@ -16,9 +16,10 @@ use Rattle.route_record.specs.Shape.{has_address}
 use Rattle.net_model.specs.Mapping.{attributes_of, through_map, with_attributes}
 use Rattle.net_model.specs.Origins.{local_route}
 use Rattle.sym_policy.specs.declared.records.SymMapRec.{SymMapRec}
-use Rattle.sym_policy.specs.Held.{BgpShape, bgp_at, bgp_end, bgp_of, bgp_shape}
+use Rattle.sym_policy.specs.Held.{bgp_at, bgp_end, bgp_of}
+use Rattle.route_shapes.specs.Bgp.{BgpShape, bgp_shape}
 use Rattle.sym_policy.specs.MapRecs.{KeepsRest, attributes_at, kept_end, map_rec_at, map_rec_end, seen_end}
-use Rattle.sym_policy.specs.Shapes.{RouteShape, route_shape}
+use Rattle.route_shapes.specs.Shapes.{RouteShape, route_shape}
 use Rattle.term_store.specs.Terms.{Reading, at}
 use Rattle.term_arith.specs.Bits.{bits, number}
 use Rattle.sym_rib.specs.IntoBgp.{local_with}

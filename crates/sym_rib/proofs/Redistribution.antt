@@ -18,8 +18,9 @@ use Rattle.route_record.specs.declared.tracked.Tracked.{Tracked}
 use Rattle.net_model.specs.Origins.{external_record, is_ospf_entry, is_taken, originated_default, plain_route}
 use Rattle.net_model.specs.Origins.{redistributed_route}
 use Rattle.sym_policy.specs.declared.records.SymBgp.{SymBgp}
-use Rattle.sym_policy.specs.Held.{BgpShape, StandsForBgp, bgp_at, bgp_shape, kind_of_number}
-use Rattle.sym_policy.specs.Shapes.{RouteShape, route_shape}
+use Rattle.sym_policy.specs.Held.{StandsForBgp, bgp_at, kind_of_number}
+use Rattle.route_shapes.specs.Bgp.{BgpShape, bgp_shape}
+use Rattle.route_shapes.specs.Shapes.{RouteShape, route_shape}
 use Rattle.term_store.specs.Terms.{Reading, at}
 use Rattle.term_arith.specs.Bits.{number}
 use Rattle.term_arith.proofs.NumberLemmas.{number_below}

@@ -17,7 +17,8 @@ use Rattle.route_record.specs.declared.tracked.Tracked.{Tracked}
 use Rattle.net_model.specs.Entries.{bgp_entry, entry_with, ospf_entry}
 use Rattle.net_model.specs.Exports.{learnt_over}
 use Rattle.net_model.specs.Routing.{candidates, closer, least_distance, up_interfaces}
-use Rattle.sym_policy.specs.Held.{BgpShape, bgp_at, bgp_shape, ospf_at}
+use Rattle.sym_policy.specs.Held.{bgp_at, ospf_at}
+use Rattle.route_shapes.specs.Bgp.{BgpShape, bgp_shape}
 use Rattle.term_store.specs.Terms.{Reading, at}
 use Rattle.term_arith.specs.Bits.{number}
 use Rattle.sym_rib.specs.declared.slots.SymSlot.{SymSlot}

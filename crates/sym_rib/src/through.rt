@@ -10,7 +10,7 @@ ghost use Rattle.ios_ast.specs.Setting.{Attributes};
 ghost use Rattle.net_model.specs.Mapping as mapping;
 ghost use Rattle.sym_policy.specs.MapRecs.{map_rec_at, map_rec_end, HasMarks, KeepsRest};
 ghost use Rattle.sym_policy.specs.Records.{prefix_of};
-ghost use Rattle.sym_policy.specs.Shapes.{all_tracked, route_shape};
+ghost use Rattle.route_shapes.specs.Shapes.{all_tracked, route_shape};
 ghost use Rattle.sym_rib.specs.Mapped.{IsShort, through_named};
 ghost use Rattle.term_store.specs.Terms.{Reading, size, at};
 ghost use Rattle.term_store.specs.Reading.{Reads, Builds, Gives};

@@ -3,7 +3,7 @@ use Rattle.std.specs.Option.{option_and_then, option_map}
 use Rattle.ios_ast.specs.Setting.{Attributes}
 use Rattle.net_model.specs.Mapping.{attributes_of, through_map}
 use Rattle.net_model.specs.Origins.{local_route}
-use Rattle.sym_policy.specs.Held.{bgp_shape}
+use Rattle.route_shapes.specs.Bgp.{bgp_shape}
 use Rattle.sym_policy.specs.Records.{prefix_of}
 use Rattle.sym_rib.specs.IntoBgp.{metric_of}
 use Rattle.sym_rib.proofs.LocalRoutes.{local_code, local_left, local_short, own_kept, record_end, record_stands}

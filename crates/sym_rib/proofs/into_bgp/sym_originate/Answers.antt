@@ -6,9 +6,9 @@ use Rattle.route_record.specs.declared.BgpRec.{BgpRec}
 use Rattle.route_record.specs.declared.tracked.Tracked.{Tracked}
 use Rattle.net_model.specs.Origins.{local_routes}
 use Rattle.net_model.specs.Tracked.{tracked_of}
-use Rattle.sym_policy.specs.Held.{bgp_shape}
+use Rattle.route_shapes.specs.Bgp.{bgp_shape}
 use Rattle.sym_policy.specs.Records.{prefix_of}
-use Rattle.sym_policy.specs.Shapes.{all_tracked}
+use Rattle.route_shapes.specs.Shapes.{all_tracked}
 use Rattle.sym_rib.specs.Slots.{StandsForSlot}
 use Rattle.sym_rib.proofs.FilesTracked.{files_tracked}
 use Rattle.sym_rib.proofs.into_bgp.sym_originate.Goals as goal

@@ -6,7 +6,7 @@ use Rattle.route_record.specs.declared.OspfRec.{OspfRec}
 use Rattle.route_record.specs.declared.tracked.Tracked.{Tracked}
 use Rattle.net_model.specs.Origins.{redistributed}
 use Rattle.sym_policy.specs.Records.{prefix_of}
-use Rattle.sym_policy.specs.Shapes.{all_tracked}
+use Rattle.route_shapes.specs.Shapes.{all_tracked}
 use Rattle.sym_rib.specs.Slots.{StandsForSlot}
 use Rattle.sym_rib.proofs.FilesTracked.{files_tracked}
 use Rattle.sym_rib.proofs.into_ospf.sym_redistribute.Goals as goal

@@ -1,7 +1,7 @@
 use Rattle.std.proofs.Common.{false}
 use Rattle.sym_policy.specs.MapRecs.{map_rec_at}
 use Rattle.sym_policy.specs.Records.{prefix_of}
-use Rattle.sym_policy.specs.Shapes.{shape_mapped}
+use Rattle.route_shapes.specs.Shapes.{shape_mapped}
 use Rattle.sym_rib.proofs.MapLaw.{both_parts, map_stands}
 use Rattle.sym_rib.proofs.through.sym_mapped.Goals as goal
 

@@ -5,7 +5,7 @@ use Rattle.ios_ast.specs.declared.policies.MapEntry.{MapEntry}
 use Rattle.ios_ast.specs.declared.policies.RouteMap.{RouteMap}
 use Rattle.ios_ast.specs.Maps.{mapped}
 use Rattle.sym_policy.specs.Records.{prefix_of}
-use Rattle.sym_policy.specs.Shapes.{RouteShape, route_shape}
+use Rattle.route_shapes.specs.Shapes.{RouteShape, route_shape}
 use Rattle.sym_rib.proofs.through.sym_named.Goals as goal
 
 pub returns-in-Some-clause-value : goal.returns-in-Some-clause-value
