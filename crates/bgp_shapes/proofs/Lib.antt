@@ -7,3 +7,5 @@ pub mod FlagLaw
 pub mod DecisionLaw
 pub mod HeldLaw
 pub mod CandidateLaw
+pub mod EndLaw
+pub mod LengthLaw

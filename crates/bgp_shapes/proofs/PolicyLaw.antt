@@ -47,27 +47,39 @@ set_one_code external r (Origin igp) h = set igp
 set_one_code external r (Prepend numbers) h = h
 set_one_code external r (Type1 type1) h = h
 
-set_all_code : (external : Bool) (r : Attributes) (lines : List SetAct) → HasCode r → HasCode (set_all external r lines)
-set_all_code external r [] h = h
-set_all_code external r (line ∷ lines) h = set_all_code external (set_one external r line) lines (set_one_code external r line h)
+-- what every set line keeps of a route, a map keeps, also where none is applied
+lines_keep : (P : Attributes → Type 0) (external : Bool) →
+    ((r : Attributes) (line : SetAct) → P r → P (set_one external r line)) → (r : Attributes) (lines : List SetAct) →
+    P r → P (set_all external r lines)
+lines_keep P external keeps r [] h = h
+lines_keep P external keeps r (line ∷ lines) h =
+    lines_keep P external keeps (set_one external r line) lines (keeps r line h)
 
-mapped_code : (policies : Policies) (entries : List MapEntry) (p : Prefix) (external : Bool) (r : Attributes)
-    → HasCode r → IfSome (mapped policies entries p external r) HasCode
-mapped_code policies entries p external r h = by (deciding policies p r entries)
+map_keeps : (P : Attributes → Type 0) (external : Bool) →
+    ((r : Attributes) (line : SetAct) → P r → P (set_one external r line)) → (policies : Policies)
+    (entries : List MapEntry) (p : Prefix) (r : Attributes) → P r → IfSome (mapped policies entries p external r) P
+map_keeps P external keeps policies entries p r h = by_entry (deciding policies p r entries)
   where
-    made : (e : MapEntry) (b : Bool) → IfSome (if b then Some (set_all external r e.sets) else None) HasCode
-    made e true = set_all_code external r e.sets h
-    made e false = tt
+    left : (e : MapEntry) (permit : Bool) → IfSome (if permit then Some (set_all external r e.sets) else None) P
+    left e true = lines_keep P external keeps r e.sets h
+    left e false = tt
 
-    by : (o : Option MapEntry)
-        → IfSome (option_and_then (λ e. if e.permit then Some (set_all external r e.sets) else None) o) HasCode
-    by None = tt
-    by (Some e) = made e e.permit
+    by_entry : (o : Option MapEntry) →
+        IfSome (option_and_then (λ e. if e.permit then Some (set_all external r e.sets) else None) o) P
+    by_entry None = tt
+    by_entry (Some e) = left e e.permit
 
-pub through_code : (policies : Policies) (used : Option Use) (p : Prefix) (external : Bool) (r : Attributes)
-    → HasCode r → IfSome (through_map policies used p external r) HasCode
-through_code policies None p external r h = h
-through_code policies (Some named) p external r h = mapped_code policies (entries_named policies named) p external r h
+pub through_keeps : (P : Attributes → Type 0) (external : Bool) →
+    ((r : Attributes) (line : SetAct) → P r → P (set_one external r line)) → (policies : Policies) (used : Option Use)
+    (p : Prefix) (r : Attributes) → P r → IfSome (through_map policies used p external r) P
+through_keeps P external keeps policies None p r h = h
+through_keeps P external keeps policies (Some named) p r h =
+    map_keeps P external keeps policies (entries_named policies named) p r h
+
+pub through_code : (policies : Policies) (used : Option Use) (p : Prefix) (external : Bool) (r : Attributes) →
+    HasCode r → IfSome (through_map policies used p external r) HasCode
+through_code policies used p external r h =
+    through_keeps HasCode external (set_one_code external) policies used p r h
 
 pub code_again : (n : ℕ) → n ≤ 2 → n ≡ origin_code (origin_of_code n)
 code_again zero h = refl
