@@ -20,15 +20,15 @@ use Rattle.route_record.specs.declared.Tables.{Tables}
 use Rattle.route_record.specs.declared.tracked.Tracked.{Tracked}
 use Rattle.route_record.specs.Places.{slot_at}
 use Rattle.route_record.proofs.Saturated.{saturated-none}
-use Rattle.net_model.specs.declared.sessions.Far.{Far}
-use Rattle.net_model.specs.declared.sessions.Far.TheVariants.{Outside, Inside}
-use Rattle.net_model.specs.declared.sessions.SessionEnd.{SessionEnd}
-use Rattle.net_model.specs.Decisions.{Candidate, arriving, candidates, learnt_candidate, local_candidate, numbered}
-use Rattle.net_model.specs.Decisions.{peer_identifier}
-use Rattle.net_model.specs.Exports.{announced_message, exported, imported}
-use Rattle.net_model.specs.Origins.{local_routes}
-use Rattle.net_model.specs.Resolution.{resolved, session_up}
-use Rattle.net_model.specs.Sessions.{ends_of, neighbour_of}
+use Rattle.net_parts.specs.declared.sessions.Far.{Far}
+use Rattle.net_parts.specs.declared.sessions.Far.TheVariants.{Outside, Inside}
+use Rattle.net_parts.specs.declared.sessions.SessionEnd.{SessionEnd}
+use Rattle.net_parts.specs.Decisions.{Candidate, arriving, candidates, learnt_candidate, local_candidate, numbered}
+use Rattle.net_parts.specs.Decisions.{peer_identifier}
+use Rattle.net_parts.specs.Exports.{announced_message, exported, imported}
+use Rattle.net_parts.specs.Origins.{local_routes}
+use Rattle.net_parts.specs.Resolution.{resolved, session_up}
+use Rattle.net_parts.specs.Sessions.{ends_of, neighbour_of}
 use Rattle.route_shapes.specs.Bgp.{BgpShape, bgp_shape}
 use Rattle.bgp_shapes.specs.Candidates.{ShapeAnnouncement, ShapeCandidate, ShapeSlot, announcement_shape}
 use Rattle.bgp_shapes.specs.Candidates.{candidate_shape, environment_shape, shape_announced, shape_arriving}

@@ -10,9 +10,9 @@ use Rattle.ios_ast.specs.declared.file.File.{File}
 use Rattle.route_record.specs.declared.BgpRec.{BgpRec}
 use Rattle.route_record.specs.declared.Learnt.{Learnt}
 use Rattle.route_record.specs.declared.Learnt.TheVariants.{Local, Peer}
-use Rattle.net_model.specs.declared.sessions.SessionEnd.{SessionEnd}
-use Rattle.net_model.specs.Exports.{learnt_over, may_reflect}
-use Rattle.net_model.specs.Sessions.{ends_of, neighbour_of}
+use Rattle.net_parts.specs.declared.sessions.SessionEnd.{SessionEnd}
+use Rattle.net_parts.specs.Exports.{learnt_over, may_reflect}
+use Rattle.net_parts.specs.Sessions.{ends_of, neighbour_of}
 use Rattle.route_shapes.specs.Bgp.{learnt_number}
 use Rattle.bgp_shapes.specs.Crossings.{Crossing, crossing, end_numbered, is_from}
 

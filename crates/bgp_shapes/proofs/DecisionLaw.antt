@@ -10,9 +10,9 @@ use Rattle.route_record.specs.declared.Learnt.{Learnt}
 use Rattle.route_record.specs.declared.Learnt.TheVariants.{Local, Peer}
 use Rattle.route_record.specs.declared.tracked.Tracked.{Tracked}
 use Rattle.route_record.proofs.Saturated.{saturated-small}
-use Rattle.net_model.specs.declared.steps.Step.{Step}
-use Rattle.net_model.specs.Decisions.{Candidate, Key, after_cost, compared_by, is_compared_by, is_local, key_of}
-use Rattle.net_model.specs.Decisions.{peer_address, removes, step_by, survivors, survivors_by, to_cost}
+use Rattle.net_parts.specs.declared.steps.Step.{Step}
+use Rattle.net_parts.specs.Decisions.{Candidate, Key, after_cost, compared_by, is_compared_by, is_local, key_of}
+use Rattle.net_parts.specs.Decisions.{peer_address, removes, step_by, survivors, survivors_by, to_cost}
 use Rattle.route_shapes.specs.Bgp.{address_number, learnt_number}
 use Rattle.bgp_shapes.specs.Candidates.{ShapeCandidate, address_or, candidate_shape, shape_key}
 use Rattle.bgp_shapes.specs.Lengths.{IsShort}

@@ -15,15 +15,15 @@ use Rattle.std.proofs.lemmas.Option.{slice_get-get_or, slice_get-map}
 use Rattle.ios_ast.specs.declared.bgp.Bgp.{Bgp}
 use Rattle.ios_ast.specs.declared.bgp.Neighbour.{Neighbour}
 use Rattle.ios_ast.specs.declared.file.File.{File}
-use Rattle.net_model.specs.declared.interfaces.Addressed.{Addressed}
-use Rattle.net_model.specs.declared.sessions.Far.TheVariants.{Outside, Inside}
-use Rattle.net_model.specs.declared.sessions.Peering.{Peering}
-use Rattle.net_model.specs.declared.sessions.SessionEnd.{SessionEnd}
-use Rattle.net_model.specs.Exports.{end_towards}
-use Rattle.net_model.specs.Interfaces.{addressed}
-use Rattle.net_model.specs.Sessions.{end_of, ends_of, far_of, has_session, is_external_peer, meet, names_other}
-use Rattle.net_model.specs.Sessions.{neighbour_of, peering, peerings, peerings_from, peerings_of, peerings_routers}
-use Rattle.net_model.specs.Sessions.{sessions, speaking, speaks_from}
+use Rattle.net_interfaces.specs.declared.interfaces.Addressed.{Addressed}
+use Rattle.net_parts.specs.declared.sessions.Far.TheVariants.{Outside, Inside}
+use Rattle.net_parts.specs.declared.sessions.Peering.{Peering}
+use Rattle.net_parts.specs.declared.sessions.SessionEnd.{SessionEnd}
+use Rattle.net_parts.specs.Exports.{end_towards}
+use Rattle.net_interfaces.specs.Interfaces.{addressed}
+use Rattle.net_parts.specs.Sessions.{end_of, ends_of, far_of, has_session, is_external_peer, meet, names_other}
+use Rattle.net_parts.specs.Sessions.{neighbour_of, peering, peerings, peerings_from, peerings_of, peerings_routers}
+use Rattle.net_parts.specs.Sessions.{sessions, speaking, speaks_from}
 
 -- the process of a router
 abbrev pub process_of : List File → ℕ → Option Bgp

@@ -11,10 +11,11 @@ use Rattle.ios_ast.specs.declared.bgp.Neighbour.{Neighbour}
 use Rattle.ios_ast.specs.declared.file.File.{File}
 use Rattle.ios_ast.specs.Deciding.{carries}
 use Rattle.ios_ast.specs.Setting.{Attributes}
-use Rattle.net_model.specs.declared.sessions.SessionEnd.{SessionEnd}
-use Rattle.net_model.specs.Exports as exports
-use Rattle.net_model.specs.Mapping.{attributes_of, through_map}
-use Rattle.net_model.specs.Sessions.{neighbour_of}
+use Rattle.net_parts.specs.declared.sessions.SessionEnd.{SessionEnd}
+use Rattle.net_parts.specs.Exports as exports
+use Rattle.ios_ast.specs.Maps.{through_map}
+use Rattle.net_parts.specs.Mapping.{attributes_of}
+use Rattle.net_parts.specs.Sessions.{neighbour_of}
 use Rattle.route_record.specs.declared.BgpMsg.{BgpMsg}
 use Rattle.route_record.specs.declared.BgpRec.{BgpRec}
 use Rattle.route_record.specs.declared.tracked.Tracked.{Tracked}

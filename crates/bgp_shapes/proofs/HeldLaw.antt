@@ -8,7 +8,7 @@ use Rattle.std.proofs.lemmas.List.Folds.{Any-from_list_any, list_any-from_Any}
 use Rattle.route_record.specs.declared.BgpRec.{BgpRec}
 use Rattle.route_record.specs.declared.tracked.Tracked.{Tracked}
 use Rattle.route_record.specs.Shape.{marked_number}
-use Rattle.net_model.specs.Decisions.{Candidate, IsHeld, survivors}
+use Rattle.net_parts.specs.Decisions.{Candidate, IsHeld, survivors}
 use Rattle.route_shapes.specs.Bgp.{BgpShape, bgp_shape}
 use Rattle.bgp_shapes.specs.Candidates.{ShapeCandidate, candidate_shape}
 use Rattle.bgp_shapes.specs.Held.{HasMarks, IsHeldByShape, held_shape, is_empty, same_marks, same_path, same_peers}

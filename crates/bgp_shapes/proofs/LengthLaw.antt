@@ -39,20 +39,21 @@ use Rattle.route_record.specs.declared.Slot.{Slot}
 use Rattle.route_record.specs.declared.Tables.{Tables}
 use Rattle.route_record.specs.declared.TheConstants.{LENGTHS}
 use Rattle.route_record.specs.Places.{slot_at}
-use Rattle.net_model.specs.declared.sessions.Far.{Far}
-use Rattle.net_model.specs.declared.sessions.Far.TheVariants.{Outside, Inside}
-use Rattle.net_model.specs.declared.sessions.SessionEnd.{SessionEnd}
-use Rattle.net_model.specs.declared.steps.Step.{Step}
-use Rattle.net_model.specs.Decisions.{Candidate, DecidedByBgp, IsHeld, Key, after_cost, arriving, candidates}
-use Rattle.net_model.specs.Decisions.{compared_by, is_compared_by, key_of, learnt_candidate, local_candidate, numbered}
-use Rattle.net_model.specs.Decisions.{peer_identifier, removes, step_by, survivors, survivors_by, to_cost}
-use Rattle.net_model.specs.Exports as exports
-use Rattle.net_model.specs.Mapping.{attributes_of, through_map, with_attributes}
-use Rattle.net_model.specs.Origins.{by_network, entry_metric, into_bgp, is_default, local_routes, local_through}
-use Rattle.net_model.specs.Origins.{taken_metric}
-use Rattle.net_model.specs.Resolution.{resolved, session_up}
-use Rattle.net_model.specs.Sessions.{ends_of, neighbour_of}
-use Rattle.net_model.specs.Stable.{IsDecided, Stable}
+use Rattle.net_parts.specs.declared.sessions.Far.{Far}
+use Rattle.net_parts.specs.declared.sessions.Far.TheVariants.{Outside, Inside}
+use Rattle.net_parts.specs.declared.sessions.SessionEnd.{SessionEnd}
+use Rattle.net_parts.specs.declared.steps.Step.{Step}
+use Rattle.net_parts.specs.Decisions.{Candidate, DecidedByBgp, IsHeld, Key, after_cost, arriving, candidates}
+use Rattle.net_parts.specs.Decisions.{compared_by, is_compared_by, key_of, learnt_candidate, local_candidate, numbered}
+use Rattle.net_parts.specs.Decisions.{peer_identifier, removes, step_by, survivors, survivors_by, to_cost}
+use Rattle.net_parts.specs.Exports as exports
+use Rattle.ios_ast.specs.Maps.{through_map}
+use Rattle.net_parts.specs.Mapping.{attributes_of, with_attributes}
+use Rattle.net_parts.specs.Origins.{by_network, entry_metric, into_bgp, is_default, local_routes, local_through}
+use Rattle.net_parts.specs.Origins.{taken_metric}
+use Rattle.net_parts.specs.Resolution.{resolved, session_up}
+use Rattle.net_parts.specs.Sessions.{ends_of, neighbour_of}
+use Rattle.net_parts.specs.Stable.{IsDecided, Stable}
 use Rattle.bgp_shapes.specs.Lengths.{IsShort}
 use Rattle.bgp_shapes.proofs.EndLaw.{IsAlike, NamesOnce, ends_alike, towards_alike}
 use Rattle.bgp_shapes.proofs.PolicyLaw.{through_keeps}

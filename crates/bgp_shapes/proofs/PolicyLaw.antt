@@ -15,8 +15,9 @@ use Rattle.ios_ast.specs.declared.policies.SetAct.TheVariants.{LocalPref, Metric
 use Rattle.ios_ast.specs.declared.policies.SetAct.TheVariants.{Origin, Prepend, Type1}
 use Rattle.ios_ast.specs.Maps.{deciding, mapped}
 use Rattle.ios_ast.specs.Setting.{Attributes, origin_set, set_all, set_one}
-use Rattle.net_model.specs.Exports.{is_metric, passes_paths, sets_metric}
-use Rattle.net_model.specs.Mapping.{entries_named, through_map, with_attributes}
+use Rattle.net_parts.specs.Exports.{is_metric, passes_paths, sets_metric}
+use Rattle.ios_ast.specs.Maps.{entries_named, through_map}
+use Rattle.net_parts.specs.Mapping.{with_attributes}
 use Rattle.route_record.specs.declared.BgpRec.{BgpRec}
 use Rattle.route_record.specs.declared.tracked.Tracked.{Tracked}
 use Rattle.route_record.specs.Origins.{origin_code, origin_of_code}

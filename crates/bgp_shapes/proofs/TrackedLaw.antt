@@ -18,12 +18,14 @@ use Rattle.ios_ast.specs.declared.policies.Pattern.TheVariants.{Empty, Any, Only
 use Rattle.ios_ast.specs.declared.policies.Policies.{Policies}
 use Rattle.ios_ast.specs.Deciding.{carries}
 use Rattle.route_record.specs.declared.tracked.Tracked.{Tracked}
-use Rattle.net_model.specs.declared.tracking.Said.{Said}
-use Rattle.net_model.specs.declared.tracking.TheConstants.{NO_ADVERTISE, NO_EXPORT}
-use Rattle.net_model.specs.Exports.{is_reflector, no_advertise, no_export, router_id}
-use Rattle.net_model.specs.Tracked.{clusters_from, put_number, reflects, said_as, said_at, said_communities}
-use Rattle.net_model.specs.Tracked.{said_in_list, said_in_map, said_in_paths, said_in_pattern, said_numbers}
-use Rattle.net_model.specs.Tracked.{tracked_clusters, tracked_communities, tracked_numbers}
+use Rattle.net_interfaces.specs.declared.values.Said.{Said}
+use Rattle.net_interfaces.specs.declared.values.TheConstants.{NO_ADVERTISE, NO_EXPORT}
+use Rattle.net_parts.specs.Exports.{is_reflector, no_advertise, no_export, router_id}
+use Rattle.net_interfaces.specs.Values.{put_number, said_as, said_at, said_communities}
+use Rattle.net_parts.specs.Tracked.{clusters_from, reflects}
+use Rattle.net_interfaces.specs.Values.{said_in_list, said_in_map, said_in_paths, said_in_pattern, said_numbers}
+use Rattle.net_interfaces.specs.Values.{tracked_communities, tracked_numbers}
+use Rattle.net_parts.specs.Tracked.{tracked_clusters}
 use Rattle.route_shapes.specs.Shapes.{all_tracked, path_tracked, pattern_tracked, values_tracked}
 use Rattle.bgp_shapes.specs.Messages.{cluster_numbers}
 use Rattle.bgp_shapes.specs.Tracking.{TracksNamed, TracksTests}

@@ -19,14 +19,14 @@ use Rattle.route_record.specs.declared.Tables.{Tables}
 use Rattle.route_record.specs.declared.tracked.Tracked.{Tracked}
 use Rattle.route_record.specs.Origins.{origin_code}
 use Rattle.route_record.specs.Places.{slot_at}
-use Rattle.net_model.specs.declared.sessions.Far.{Far}
-use Rattle.net_model.specs.declared.sessions.Far.TheVariants.{Outside, Inside}
-use Rattle.net_model.specs.declared.sessions.SessionEnd.{SessionEnd}
-use Rattle.net_model.specs.Decisions.{Candidate, Key, numbered, peer_identifier}
-use Rattle.net_model.specs.Exports.{router_id}
-use Rattle.net_model.specs.Origins.{local_routes}
-use Rattle.net_model.specs.Resolution.{resolved, session_up}
-use Rattle.net_model.specs.Sessions.{ends_of, neighbour_of}
+use Rattle.net_parts.specs.declared.sessions.Far.{Far}
+use Rattle.net_parts.specs.declared.sessions.Far.TheVariants.{Outside, Inside}
+use Rattle.net_parts.specs.declared.sessions.SessionEnd.{SessionEnd}
+use Rattle.net_parts.specs.Decisions.{Candidate, Key, numbered, peer_identifier}
+use Rattle.net_parts.specs.Exports.{router_id}
+use Rattle.net_parts.specs.Origins.{local_routes}
+use Rattle.net_parts.specs.Resolution.{resolved, session_up}
+use Rattle.net_parts.specs.Sessions.{ends_of, neighbour_of}
 use Rattle.route_shapes.specs.Bgp.{BgpShape, bgp_shape}
 use Rattle.route_shapes.specs.Shapes.{PathShape, path_shape}
 use Rattle.bgp_shapes.specs.Exporting.{shape_exported}

@@ -5,9 +5,9 @@ use Rattle.std.specs.Option.{option_map_or}
 use Rattle.ios_ast.specs.declared.bgp.Bgp.{Bgp}
 use Rattle.ios_ast.specs.declared.bgp.Neighbour.{Neighbour}
 use Rattle.ios_ast.specs.declared.file.File.{File}
-use Rattle.net_model.specs.declared.sessions.SessionEnd.{SessionEnd}
-use Rattle.net_model.specs.Exports.{learnt_id, may_reflect}
-use Rattle.net_model.specs.Sessions.{ends_of, neighbour_of}
+use Rattle.net_parts.specs.declared.sessions.SessionEnd.{SessionEnd}
+use Rattle.net_parts.specs.Exports.{learnt_id, may_reflect}
+use Rattle.net_parts.specs.Sessions.{ends_of, neighbour_of}
 
 -- whether the route may go, whether it gets the own address as next hop over an internal session, whether it is
 -- reflected, and the identifier of the peer from which it came

@@ -8,9 +8,9 @@ use Rattle.ios_ast.specs.declared.bgp.Neighbour.{Neighbour}
 use Rattle.ios_ast.specs.declared.file.File.{File}
 use Rattle.route_record.specs.declared.tracked.Tracked.{Tracked}
 use Rattle.route_record.specs.Shape.{saturated}
-use Rattle.net_model.specs.declared.sessions.SessionEnd.{SessionEnd}
-use Rattle.net_model.specs.Exports.{no_advertise, no_export, own_address, passes_prefixes, router_id}
-use Rattle.net_model.specs.Sessions.{neighbour_of}
+use Rattle.net_parts.specs.declared.sessions.SessionEnd.{SessionEnd}
+use Rattle.net_parts.specs.Exports.{no_advertise, no_export, own_address, passes_prefixes, router_id}
+use Rattle.net_parts.specs.Sessions.{neighbour_of}
 use Rattle.route_shapes.specs.Bgp.{BgpShape}
 use Rattle.route_shapes.specs.Shapes.{RouteShape, marked, marks_with, shape_prepended}
 use Rattle.bgp_shapes.specs.Crossings.{Crossing, crossing, end_numbered}

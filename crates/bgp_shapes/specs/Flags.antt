@@ -1,8 +1,8 @@
 -- The decision process over the keys of all candidates, with a flag beside each that says whether it is left.
 use Rattle.std.specs.Prelude.{◌&&◌, ◌||◌, Bool, false, not, List, [], ◌∷◌, fold, if◌then◌else◌}
 use Rattle.std.specs.List.{list_any}
-use Rattle.net_model.specs.declared.steps.Step.{Step}
-use Rattle.net_model.specs.Decisions.{Key, after_cost, removes, to_cost}
+use Rattle.net_parts.specs.declared.steps.Step.{Step}
+use Rattle.net_parts.specs.Decisions.{Key, after_cost, removes, to_cost}
 use Rattle.route_shapes.specs.Bgp.{BgpShape}
 use Rattle.bgp_shapes.specs.Candidates.{ShapeCandidate}
 use Rattle.bgp_shapes.specs.Held.{same_shape}

@@ -4,7 +4,7 @@ use Rattle.std.specs.Prelude.{MatchOption}
 use Rattle.std.specs.List.{list_any}
 use Rattle.route_record.specs.declared.tracked.Tracked.{Tracked}
 use Rattle.route_record.specs.Shape.{marked_number}
-use Rattle.net_model.specs.Decisions.{Candidate, survivors_by}
+use Rattle.net_parts.specs.Decisions.{Candidate, survivors_by}
 use Rattle.route_shapes.specs.Bgp.{BgpShape, bgp_shape}
 use Rattle.bgp_shapes.specs.Candidates.{ShapeCandidate, shape_key}
 

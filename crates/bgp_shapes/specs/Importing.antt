@@ -6,9 +6,9 @@ use Rattle.ios_ast.specs.declared.bgp.Bgp.{Bgp}
 use Rattle.ios_ast.specs.declared.bgp.Neighbour.{Neighbour}
 use Rattle.ios_ast.specs.declared.file.File.{File}
 use Rattle.route_record.specs.declared.tracked.Tracked.{Tracked}
-use Rattle.net_model.specs.declared.sessions.SessionEnd.{SessionEnd}
-use Rattle.net_model.specs.Exports.{is_reflector, most_numbers, passes_prefixes, router_id}
-use Rattle.net_model.specs.Sessions.{neighbour_of}
+use Rattle.net_parts.specs.declared.sessions.SessionEnd.{SessionEnd}
+use Rattle.net_parts.specs.Exports.{is_reflector, most_numbers, passes_prefixes, router_id}
+use Rattle.net_parts.specs.Sessions.{neighbour_of}
 use Rattle.route_shapes.specs.Bgp.{BgpShape}
 use Rattle.route_shapes.specs.Shapes.{marked}
 use Rattle.bgp_shapes.specs.Messages.{cluster_numbers, seen_by_maps, shape_passes_paths, shape_through_map, with_seen}

@@ -10,8 +10,8 @@ use Rattle.route_record.specs.declared.BgpMsg.{BgpMsg}
 use Rattle.route_record.specs.declared.BgpRec.{BgpRec}
 use Rattle.route_record.specs.declared.Learnt.TheVariants.{Local}
 use Rattle.route_record.specs.declared.tracked.Tracked.{Tracked}
-use Rattle.net_model.specs.Exports.{is_metric}
-use Rattle.net_model.specs.Mapping.{entries_named}
+use Rattle.net_parts.specs.Exports.{is_metric}
+use Rattle.ios_ast.specs.Maps.{entries_named}
 use Rattle.route_shapes.specs.Bgp.{BgpShape, bgp_shape}
 use Rattle.route_shapes.specs.Shapes.{PathShape, RouteShape, shape_mapped, shape_named, shape_route_taken}
 

@@ -4,8 +4,9 @@ use Rattle.ios_ast.specs.declared.bgp.Bgp.{Bgp}
 use Rattle.ios_ast.specs.declared.file.File.{File}
 use Rattle.ios_ast.specs.Deciding.{carries}
 use Rattle.route_record.specs.declared.tracked.Tracked.{Tracked}
-use Rattle.net_model.specs.Exports.{is_reflector, no_advertise, no_export, router_id}
-use Rattle.net_model.specs.Tracked.{tracked_clusters, tracked_communities, tracked_numbers}
+use Rattle.net_parts.specs.Exports.{is_reflector, no_advertise, no_export, router_id}
+use Rattle.net_interfaces.specs.Values.{tracked_communities, tracked_numbers}
+use Rattle.net_parts.specs.Tracked.{tracked_clusters}
 use Rattle.route_shapes.specs.Shapes.{all_tracked}
 use Rattle.bgp_shapes.specs.Messages.{cluster_numbers}
 

@@ -10,9 +10,9 @@ ghost use Rattle.route_record.specs.declared.Environment.{Environment as Environ
 ghost use Rattle.route_record.specs.declared.Failures.{Failures as FailuresOf};
 ghost use Rattle.route_record.specs.declared.Tables.{Tables as TablesOf};
 ghost use Rattle.route_record.specs.declared.tracked.Tracked.{Tracked as TrackedOf};
-ghost use Rattle.net_model.specs.declared.sessions.SessionEnd.{SessionEnd as SessionEndOf};
-ghost use Rattle.net_model.specs.Decisions.{Candidate, IsHeld, candidates, survivors, survivors_by};
-ghost use Rattle.net_model.specs.Exports.{exported, imported};
+ghost use Rattle.net_parts.specs.declared.sessions.SessionEnd.{SessionEnd as SessionEndOf};
+ghost use Rattle.net_parts.specs.Decisions.{Candidate, IsHeld, candidates, survivors, survivors_by};
+ghost use Rattle.net_parts.specs.Exports.{exported, imported};
 ghost use Rattle.route_shapes.specs.Bgp.{BgpShape, bgp_shape};
 ghost use Rattle.bgp_shapes.specs.Candidates.{candidate_shape, environment_shape, shape_candidates, shape_key, slots_shape};
 ghost use Rattle.bgp_shapes.specs.Exporting.{shape_exported};
