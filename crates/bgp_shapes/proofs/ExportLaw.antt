@@ -1,5 +1,6 @@
 -- What a router sends of the shape of a route is the shape of what it sends of the route.
-use Rattle.std.proofs.Common.{◌≡◌, ℕ, ◌+◌, ◌^◌, ◌≤◌, ◌==◌, ◌&&◌, ◌||◌, Bool, true, false, not, if◌then◌else◌, List, [], ◌∷◌, Option, Some, None}
+use Rattle.std.proofs.Common.{◌≡◌, ℕ, ◌+◌, ◌^◌, ◌==◌, ◌&&◌, ◌||◌, Bool, true, false, not, if◌then◌else◌, List, []}
+use Rattle.std.proofs.Common.{◌∷◌, Option, Some, None}
 use Rattle.std.proofs.Common.{length, map, refl, sym, ap, ◌∙◌, arith, nat_lt}
 use Rattle.std.specs.Prelude.{IfSome, slice_get, unwrap_or}
 use Rattle.std.specs.Option.{option_and_then, option_map, option_map_or}
@@ -16,24 +17,25 @@ use Rattle.net_parts.specs.Exports as exports
 use Rattle.ios_ast.specs.Maps.{through_map}
 use Rattle.net_parts.specs.Mapping.{attributes_of}
 use Rattle.net_parts.specs.Sessions.{neighbour_of}
+use Rattle.net_parts.specs.Tracked.{numbers_of}
 use Rattle.route_record.specs.declared.BgpMsg.{BgpMsg}
 use Rattle.route_record.specs.declared.BgpRec.{BgpRec}
 use Rattle.route_record.specs.declared.tracked.Tracked.{Tracked}
 use Rattle.route_record.specs.Origins.{origin_code, origin_of_code}
-use Rattle.route_record.specs.Shape.{has_address}
 use Rattle.route_shapes.specs.Bgp.{BgpShape, address_number, bgp_shape}
-use Rattle.route_record.specs.Shape.{saturated}
+use Rattle.route_record.specs.Shape.{has_address, saturated}
+use Rattle.route_record.proofs.OriginCodes.{code_again, code_small}
 use Rattle.route_record.proofs.Saturated.{saturated-none, saturated-sum, saturated-zero}
 use Rattle.route_shapes.specs.Shapes.{all_tracked, marks_with, path_shape, route_shape}
 use Rattle.route_shapes.proofs.ShapeLaw.{marked-map, marks_with-map, path_prepended}
-use Rattle.bgp_shapes.specs.Messages.{cluster_numbers, lacks_address, message_shape, shape_through_map}
+use Rattle.bgp_shapes.specs.Messages.{lacks_address, message_shape, shape_through_map}
 use Rattle.bgp_shapes.specs.Crossings.{Crossing, crossing, end_numbered}
 use Rattle.bgp_shapes.specs.Exporting.{external_shape, internal_shape, sent_marks, shape_exported, shape_may_go}
 use Rattle.bgp_shapes.specs.Exporting.{shape_message, shape_originator, shape_sent, shape_sent_by}
-use Rattle.bgp_shapes.proofs.PolicyLaw.{HasCode, cluster_front, code_again, metric_shape, paths_shape, through_code}
+use Rattle.bgp_shapes.proofs.PolicyLaw.{HasCode, cluster_front, metric_shape, paths_shape, through_code}
 use Rattle.bgp_shapes.proofs.PolicyLaw.{through_shape}
 use Rattle.bgp_shapes.specs.Tracking.{TracksTests}
-use Rattle.bgp_shapes.proofs.ImportLaw.{code_small, found_twice, where_some}
+use Rattle.bgp_shapes.proofs.ImportLaw.{found_twice, where_some}
 use Rattle.bgp_shapes.proofs.CrossingLaw.{learnt_numbered, may_cross}
 
 may_shape : (tracked : Tracked) (files : List File) (process : Bgp) (neighbour : Neighbour) (end : SessionEnd)
@@ -133,7 +135,7 @@ length_shape files process neighbour end held (Some from) = by from.internal
 clusters_shape : (tracked : Tracked) (files : List File) (process : Bgp) (neighbour : Neighbour) (end : SessionEnd)
     (held : BgpRec) (o : Option SessionEnd)
     → (if (crossing files process neighbour end o).reflected
-    then marks_with (cluster_numbers tracked) ((exports.router_id files end.router).0 ∷ []) true
+    then marks_with (numbers_of tracked.clusters) ((exports.router_id files end.router).0 ∷ []) true
     (map (has_address held.clusters) tracked.clusters)
     else map (has_address held.clusters) tracked.clusters)
     ≡ map (has_address (exports.reflected_clusters files end.router held o)) tracked.clusters
@@ -141,7 +143,7 @@ clusters_shape tracked files process neighbour end held None = refl
 clusters_shape tracked files process neighbour end held (Some from) = by from.internal
   where
     by : (b : Bool)
-        → (if b then marks_with (cluster_numbers tracked) ((exports.router_id files end.router).0 ∷ []) true
+        → (if b then marks_with (numbers_of tracked.clusters) ((exports.router_id files end.router).0 ∷ []) true
         (map (has_address held.clusters) tracked.clusters)
         else map (has_address held.clusters) tracked.clusters)
         ≡ map (has_address (if b then exports.router_id files end.router ∷ held.clusters else held.clusters))

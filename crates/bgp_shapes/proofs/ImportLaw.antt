@@ -1,6 +1,6 @@
 -- What a router makes of the shape of a message is the shape of what it makes of the message.
-use Rattle.std.proofs.Common.{◌≡◌, ℕ, ◌+◌, ◌^◌, ◌≤◌, ◌==◌, ◌&&◌, ◌||◌, Bool, true, false, not, nat_le, if◌then◌else◌, List, Option, Some, None}
-use Rattle.std.proofs.Common.{length, map, refl, sym, ap, ◌∙◌, arith}
+use Rattle.std.proofs.Common.{◌≡◌, ℕ, ◌+◌, ◌^◌, ◌==◌, ◌&&◌, ◌||◌, Bool, true, false, not, nat_le, if◌then◌else◌, List}
+use Rattle.std.proofs.Common.{Option, Some, None, length, map, refl, ap, ◌∙◌, arith}
 use Rattle.std.specs.Prelude.{IfSome, slice_get}
 use Rattle.std.specs.List.{list_any}
 use Rattle.std.specs.Option.{option_and_then, option_map, option_map_or}
@@ -19,19 +19,18 @@ use Rattle.net_parts.specs.Mapping.{attributes_of, with_attributes}
 use Rattle.net_parts.specs.Sessions.{neighbour_of}
 use Rattle.route_record.specs.declared.BgpMsg.{BgpMsg}
 use Rattle.route_record.specs.declared.BgpRec.{BgpRec}
-use Rattle.route_record.specs.declared.Origin.{Origin}
-use Rattle.route_record.specs.declared.Origin.TheVariants.{Igp, Egp, Incomplete}
 use Rattle.route_record.specs.declared.tracked.Tracked.{Tracked}
-use Rattle.route_record.specs.Origins.{origin_code}
 use Rattle.route_shapes.specs.Bgp.{BgpShape, address_number, bgp_shape}
 use Rattle.route_shapes.specs.Shapes.{all_tracked, route_shape}
+use Rattle.route_record.proofs.OriginCodes.{code_small}
 use Rattle.route_record.proofs.Saturated.{saturated-few}
 use Rattle.route_shapes.proofs.ShapeLaw.{marked-map}
-use Rattle.bgp_shapes.specs.Messages.{cluster_numbers, message_shape, with_seen}
+use Rattle.bgp_shapes.specs.Messages.{message_shape, with_seen}
 use Rattle.bgp_shapes.specs.Tracking.{TracksRouter, TracksTests}
-use Rattle.bgp_shapes.specs.Importing.{shape_is_acceptable, shape_if_short, shape_imported, shape_mapped_in, shape_received}
+use Rattle.bgp_shapes.specs.Importing.{shape_if_short, shape_imported, shape_is_acceptable, shape_mapped_in}
 use Rattle.bgp_shapes.specs.Importing.{shape_taken_in}
-use Rattle.bgp_shapes.proofs.PolicyLaw.{HasCode, cluster_marked, code_again, seen_shape, paths_shape, through_code, through_shape}
+use Rattle.bgp_shapes.proofs.PolicyLaw.{HasCode, cluster_marked, paths_shape, seen_shape, through_code}
+use Rattle.bgp_shapes.proofs.PolicyLaw.{through_shape}
 
 originator_is : (o : Option Addr) (own : Addr)
     → (address_number o == 2 ^ 32 + own.0) ≡ option_map_or (λ id. id.0 == own.0) o false
@@ -79,11 +78,6 @@ left_shape : (tracked : Tracked) (rec : BgpRec) (o : Option Attributes) → IfSo
 left_shape tracked rec None h = refl
 left_shape tracked rec (Some r) h =
     ap shape_if_short (seen_shape tracked rec r h) ∙ short_shape tracked (with_attributes rec r)
-
-pub code_small : (o : Origin) → origin_code o ≤ 2
-code_small Igp = omega arith
-code_small Egp = omega arith
-code_small Incomplete = omega arith
 
 mapped_in_shape : (tracked : Tracked) (file : File) (neighbour : Neighbour) (end : SessionEnd) (p : Prefix)
     (rec : BgpRec) → all_tracked tracked file.policies ≡ true

@@ -1,5 +1,6 @@
 -- Lists and maps of a neighbour answer for the shape of a route what they answer for the route.
-use Rattle.std.proofs.Common.{◌≡◌, ℕ, zero, suc, ◌≤◌, ◌+◌, ◌==◌, ◌||◌, ◌&&◌, Bool, true, false, if◌then◌else◌, List, [], ◌∷◌, Option, Some, None}
+use Rattle.std.proofs.Common.{◌≡◌, ℕ, ◌≤◌, ◌+◌, ◌==◌, ◌||◌, ◌&&◌, Bool, true, false, if◌then◌else◌, List, [], ◌∷◌}
+use Rattle.std.proofs.Common.{Option, Some, None}
 use Rattle.std.proofs.Common.{length, map, refl, sym, ap, ◌∙◌, arith}
 use Rattle.std.specs.Prelude.{IfSome}
 use Rattle.std.specs.List.{find, list_any, list_all}
@@ -20,14 +21,15 @@ use Rattle.ios_ast.specs.Maps.{entries_named, through_map}
 use Rattle.net_parts.specs.Mapping.{with_attributes}
 use Rattle.route_record.specs.declared.BgpRec.{BgpRec}
 use Rattle.route_record.specs.declared.tracked.Tracked.{Tracked}
-use Rattle.route_record.specs.Origins.{origin_code, origin_of_code}
+use Rattle.route_record.proofs.OriginCodes.{code_again}
 use Rattle.route_record.specs.Shape.{has_address}
 use Rattle.ios_ast.specs.Deciding.{carries}
+use Rattle.net_parts.specs.Tracked.{numbers_of}
 use Rattle.route_shapes.specs.Bgp.{BgpShape, bgp_shape}
 use Rattle.route_shapes.specs.Shapes.{all_tracked, marked, marks_with, path_shape, path_tracked, route_shape}
 use Rattle.route_shapes.proofs.ShapeLaw.{found_same, marked-map, marks_with-map, path_entries, shape_deciding-route_shape}
 use Rattle.route_shapes.proofs.ShapeLaw.{shape_mapped-route_shape}
-use Rattle.bgp_shapes.specs.Messages.{cluster_numbers, shape_passes_paths, shape_sets_metric, shape_through_map, with_seen}
+use Rattle.bgp_shapes.specs.Messages.{shape_passes_paths, shape_sets_metric, shape_through_map, with_seen}
 
 -- ---- the origin stays a code, on each side of a map's use
 
@@ -82,12 +84,6 @@ pub through_code : (policies : Policies) (used : Option Use) (p : Prefix) (exter
 through_code policies used p external r h =
     through_keeps HasCode external (set_one_code external) policies used p r h
 
-pub code_again : (n : ℕ) → n ≤ 2 → n ≡ origin_code (origin_of_code n)
-code_again zero h = refl
-code_again (suc zero) h = refl
-code_again (suc (suc zero)) h = refl
-code_again (suc (suc (suc n))) h = omega arith
-
 -- a route with what a map has left
 pub seen_shape : (tracked : Tracked) (rec : BgpRec) (r : Attributes) → HasCode r
     → with_seen (bgp_shape tracked rec) (route_shape tracked r) ≡ bgp_shape tracked (with_attributes rec r)
@@ -130,19 +126,19 @@ cluster_marks cs [] = refl
 cluster_marks cs (t ∷ ts) = ap (λ bs. has_address cs t ∷ bs) (cluster_marks cs ts)
 
 pub cluster_marked : (tracked : Tracked) (cs : List Addr) (id : Addr)
-    → carries (cluster_numbers tracked) id.0 ≡ true
-    → marked (cluster_numbers tracked) (map (has_address cs) tracked.clusters) id.0
+    → carries (numbers_of tracked.clusters) id.0 ≡ true
+    → marked (numbers_of tracked.clusters) (map (has_address cs) tracked.clusters) id.0
     ≡ list_any (λ y. y.0 == id.0) cs
 cluster_marked tracked cs id h =
-    ap (λ bs. marked (cluster_numbers tracked) bs id.0) (cluster_marks cs tracked.clusters)
-    ∙ marked-map (has_number cs) (cluster_numbers tracked) id.0 h
+    ap (λ bs. marked (numbers_of tracked.clusters) bs id.0) (cluster_marks cs tracked.clusters)
+    ∙ marked-map (has_number cs) (numbers_of tracked.clusters) id.0 h
 
 pub cluster_front : (tracked : Tracked) (cs : List Addr) (id : Addr)
-    → marks_with (cluster_numbers tracked) (id.0 ∷ []) true (map (has_address cs) tracked.clusters)
+    → marks_with (numbers_of tracked.clusters) (id.0 ∷ []) true (map (has_address cs) tracked.clusters)
     ≡ map (has_address (id ∷ cs)) tracked.clusters
 cluster_front tracked cs id =
-    ap (marks_with (cluster_numbers tracked) (id.0 ∷ []) true) (cluster_marks cs tracked.clusters)
-    ∙ marks_with-map (has_number cs) (has_number (id ∷ cs)) (cluster_numbers tracked) (id.0 ∷ []) true same
+    ap (marks_with (numbers_of tracked.clusters) (id.0 ∷ []) true) (cluster_marks cs tracked.clusters)
+    ∙ marks_with-map (has_number cs) (has_number (id ∷ cs)) (numbers_of tracked.clusters) (id.0 ∷ []) true same
     ∙ sym (cluster_marks (id ∷ cs) tracked.clusters)
   where
     same : (x : ℕ) → has_number (id ∷ cs) x ≡ (carries (id.0 ∷ []) x || (true && has_number cs x))

@@ -11,10 +11,11 @@ use Rattle.route_record.specs.Shape.{saturated}
 use Rattle.net_parts.specs.declared.sessions.SessionEnd.{SessionEnd}
 use Rattle.net_parts.specs.Exports.{no_advertise, no_export, own_address, passes_prefixes, router_id}
 use Rattle.net_parts.specs.Sessions.{neighbour_of}
+use Rattle.net_parts.specs.Tracked.{numbers_of}
 use Rattle.route_shapes.specs.Bgp.{BgpShape}
 use Rattle.route_shapes.specs.Shapes.{RouteShape, marked, marks_with, shape_prepended}
 use Rattle.bgp_shapes.specs.Crossings.{Crossing, crossing, end_numbered}
-use Rattle.bgp_shapes.specs.Messages.{cluster_numbers, lacks_address, seen_by_maps, shape_passes_paths}
+use Rattle.bgp_shapes.specs.Messages.{lacks_address, seen_by_maps, shape_passes_paths}
 use Rattle.bgp_shapes.specs.Messages.{shape_sets_metric, shape_through_map}
 
 -- the route may go: no community forbids it, and the session over which it came does not
@@ -62,7 +63,7 @@ internal_shape tracked neighbour own id s x r = record {
   originator = shape_originator s x;
   from = 0;
   cluster_len = if x.reflected then saturated (s.cluster_len + 1) else s.cluster_len;
-  clusters = if x.reflected then marks_with (cluster_numbers tracked) (id.0 ∷ []) true s.clusters else s.clusters;
+  clusters = if x.reflected then marks_with (numbers_of tracked.clusters) (id.0 ∷ []) true s.clusters else s.clusters;
 }
 
 -- the message of what the outgoing map leaves

@@ -9,16 +9,17 @@ use Rattle.route_record.specs.declared.tracked.Tracked.{Tracked}
 use Rattle.net_parts.specs.declared.sessions.SessionEnd.{SessionEnd}
 use Rattle.net_parts.specs.Exports.{is_reflector, most_numbers, passes_prefixes, router_id}
 use Rattle.net_parts.specs.Sessions.{neighbour_of}
+use Rattle.net_parts.specs.Tracked.{numbers_of}
 use Rattle.route_shapes.specs.Bgp.{BgpShape}
 use Rattle.route_shapes.specs.Shapes.{marked}
-use Rattle.bgp_shapes.specs.Messages.{cluster_numbers, seen_by_maps, shape_passes_paths, shape_through_map, with_seen}
+use Rattle.bgp_shapes.specs.Messages.{seen_by_maps, shape_passes_paths, shape_through_map, with_seen}
 
 -- no loop by the router's AS, by its identifier or by its cluster, and no path that is too long
 abbrev pub shape_is_acceptable : Tracked → List File → ℕ → Bgp → BgpShape → Bool
 shape_is_acceptable tracked files router process s =
     (not (marked tracked.numbers s.path.numbers process.asn) && nat_le s.path.len most_numbers)
     && (not (s.originator == 2 ^ 32 + (router_id files router).0)
-    && not (is_reflector process && marked (cluster_numbers tracked) s.clusters (router_id files router).0))
+    && not (is_reflector process && marked (numbers_of tracked.clusters) s.clusters (router_id files router).0))
 
 -- the route of a message before the incoming map
 abbrev pub shape_received : Neighbour → SessionEnd → BgpShape → BgpShape

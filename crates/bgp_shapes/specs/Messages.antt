@@ -1,5 +1,5 @@
 -- Messages by their shapes, and what the lists and route maps of a neighbour answer for the shape of a route.
-use Rattle.std.specs.Prelude.{ℕ, ◌^◌, Bool, false, true, nat_lt, List, Option, Some, map, unwrap_or}
+use Rattle.std.specs.Prelude.{ℕ, ◌^◌, Bool, false, true, nat_lt, Option, Some, unwrap_or}
 use Rattle.std.specs.List.{find, list_any}
 use Rattle.std.specs.Option.{option_map_or}
 use Rattle.mw_text.specs.declared.address.Prefix.{Prefix}
@@ -37,10 +37,6 @@ message_shape tracked m = bgp_shape tracked (as_route m)
 -- an address that may be missing is missing
 abbrev pub lacks_address : ℕ → Bool
 lacks_address n = nat_lt n (2 ^ 32)
-
--- the tracked clusters by their numbers
-abbrev pub cluster_numbers : Tracked → List ℕ
-cluster_numbers tracked = map (λ a. a.0) tracked.clusters
 
 -- what route maps see of a route, and the route with what a map has left of it
 abbrev pub seen_by_maps : BgpShape → RouteShape

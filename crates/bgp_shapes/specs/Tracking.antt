@@ -1,28 +1,19 @@
 -- What the tests of a network ask for is tracked.
-use Rattle.std.specs.Prelude.{◌≡◌, ℕ, true, map, List, Some, slice_get}
+use Rattle.std.specs.Prelude.{◌≡◌, ℕ, true, List, Some, slice_get}
 use Rattle.ios_ast.specs.declared.bgp.Bgp.{Bgp}
 use Rattle.ios_ast.specs.declared.file.File.{File}
 use Rattle.ios_ast.specs.Deciding.{carries}
 use Rattle.route_record.specs.declared.tracked.Tracked.{Tracked}
 use Rattle.net_parts.specs.Exports.{is_reflector, no_advertise, no_export, router_id}
-use Rattle.net_interfaces.specs.Values.{tracked_communities, tracked_numbers}
-use Rattle.net_parts.specs.Tracked.{tracked_clusters}
 use Rattle.route_shapes.specs.Shapes.{all_tracked}
-use Rattle.bgp_shapes.specs.Messages.{cluster_numbers}
-
--- the lists contain all that the files name
-pub record TracksNamed (files : List File) (tracked : Tracked) : Type 0 where
-  pub communities : (c : ℕ) → carries (tracked_communities files) c ≡ true → carries tracked.communities c ≡ true
-  pub numbers : (n : ℕ) → carries (tracked_numbers files) n ≡ true → carries tracked.numbers n ≡ true
-  pub clusters : (n : ℕ) → carries (map (λ a. a.0) (tracked_clusters files)) n ≡ true →
-      carries (cluster_numbers tracked) n ≡ true
+use Rattle.net_parts.specs.Tracked.{numbers_of}
 
 -- the tests of one router ask for tracked values alone: its AS number, its cluster where it reflects, and what its lists
 -- name
 pub record TracksRouter (files : List File) (router : ℕ) (file : File) (process : Bgp) (tracked : Tracked) : Type 0
     where
   pub number : carries tracked.numbers process.asn ≡ true
-  pub cluster : is_reflector process ≡ true → carries (cluster_numbers tracked) (router_id files router).0 ≡ true
+  pub cluster : is_reflector process ≡ true → carries (numbers_of tracked.clusters) (router_id files router).0 ≡ true
   pub policies : all_tracked tracked file.policies ≡ true
 
 -- so do those of all routers, and the well-known communities are tracked

@@ -20,17 +20,17 @@ ghost use Rattle.bgp_shapes.specs.Held.{HasMarks, IsHeldByShape, held_shape};
 ghost use Rattle.bgp_shapes.specs.Importing.{shape_imported};
 ghost use Rattle.bgp_shapes.specs.Lengths.{IsShort};
 ghost use Rattle.bgp_shapes.specs.Messages.{message_shape};
-ghost use Rattle.bgp_shapes.specs.Tracking.{TracksNamed, TracksTests};
+ghost use Rattle.bgp_shapes.specs.Tracking.{TracksNet, TracksTests};
 
 /// What the files of a network name is all that the tests of its routers ask for: lists that contain it are enough.
 pub fn tracked_law()
-    ensures { (files : ListOf FileOf) (tracked : TrackedOf) → TracksNamed files tracked → TracksTests files tracked }
+    ensures { (files : ListOf FileOf) (tracked : TrackedOf) → TracksNet files tracked → TracksTests files tracked }
 {}
 
 /// Import makes of the shape of a message the shape of what it makes of the message (RFC 4271, section 9.1.1).
 pub fn import_law()
     ensures { (tracked : TrackedOf) (files : ListOf FileOf) (end : SessionEndOf) (p : PrefixOf) (message : BgpMsgOf) →
-        TracksNamed files tracked →
+        TracksNet files tracked →
         shape_imported tracked files end p (message_shape tracked message)
         ≡ option_map (bgp_shape tracked) (imported files end p message) }
 {}
@@ -38,7 +38,7 @@ pub fn import_law()
 /// Export sends of the shape of a held route the shape of what it sends of the route (RFC 4271, section 9.1.3).
 pub fn export_law()
     ensures { (tracked : TrackedOf) (files : ListOf FileOf) (end : SessionEndOf) (p : PrefixOf) (held : BgpRecOf) →
-        TracksNamed files tracked →
+        TracksNet files tracked →
         shape_exported tracked files end p (bgp_shape tracked held)
         ≡ option_map (message_shape tracked) (exported files end p held) }
 {}
@@ -48,7 +48,7 @@ pub fn export_law()
 pub fn candidates_law()
     ensures { (tracked : TrackedOf) (files : ListOf FileOf) (failures : FailuresOf) (environment : EnvironmentOf)
         (tables : TablesOf) (router : ℕ) (file : FileOf) (process : BgpOf) (p : PrefixOf) →
-        TracksNamed files tracked →
+        TracksNet files tracked →
         map (candidate_shape tracked) (candidates files failures environment tables router file process p)
         ≡ shape_candidates tracked files failures (environment_shape tracked environment)
         (slots_shape tracked tables p.len) router file process p }

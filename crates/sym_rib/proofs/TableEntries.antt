@@ -24,7 +24,7 @@ use Rattle.term_arith.specs.Bits.{number}
 use Rattle.sym_rib.specs.declared.slots.SymSlot.{SymSlot}
 use Rattle.sym_rib.specs.Slots.{StandsForSlot}
 use Rattle.sym_rib.specs.Sources.{entry_over, entry_read, learnt_entry}
-use Rattle.sym_rib.proofs.LearntOver.{learnt_numbered}
+use Rattle.bgp_shapes.proofs.CrossingLaw.{learnt_numbered}
 
 -- the entry of a BGP route, by the shape that stands for it
 bgp_stands : (files : List File) (router : ℕ) (tracked : Tracked) (valid : Bool) (x : BgpShape) (held : Option BgpRec)

@@ -9,9 +9,9 @@ use Rattle.sym_rib.proofs.through.sym_through.Goals as goal
 
 pub returns-in-Some-clause-value : goal.returns-in-Some-clause-value
 returns-in-Some-clause-value c =
-    IfOk-weaker c.sym_named.result _ _ (λ left read. λ w reads held all short is.
+    IfOk-weaker c.sym_named.result _ _ (λ left read. λ w reads held all is.
     let p = prefix_of w c.args.dst.now c.args.len in
     let of_use : Option Use → Option RouteShape =
     λ used. option_map (route_shape c.args.tracked.now)
     (option_and_then (through_map c.args.policies.now used p false) held) in
-    read w reads held all short is ∙ ap of_use (sym c.in-Some.is)) c.sym_named.ensures.value
+    read w reads held all is ∙ ap of_use (sym c.in-Some.is)) c.sym_named.ensures.value
