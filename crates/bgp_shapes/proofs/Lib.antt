@@ -4,6 +4,7 @@ pub mod ImportLaw
 pub mod CrossingLaw
 pub mod ExportLaw
 pub mod FlagLaw
+pub mod NumberLaw
 pub mod DecisionLaw
 pub mod HeldLaw
 pub mod CandidateLaw

@@ -7,3 +7,4 @@ pub mod Candidates
 pub mod Lengths
 pub mod Held
 pub mod Flags
+pub mod Numbers
