@@ -1,6 +1,6 @@
 -- The two ends of a session are alike: both internal or both external. And so are all ends of one router towards one
 -- address, where its process names each address once.
-use Rattle.std.proofs.Common.{◌≡◌, ℕ, zero, suc, ◌+◌, ◌<◌, ◌≤◌, ◌×◌, ◌==◌, ◌&&◌, ◌||◌, not, Bool, true, false, List, []}
+use Rattle.std.proofs.Common.{◌≡◌, ℕ, zero, suc, ◌+◌, ◌<◌, ◌≤◌, ◌==◌, ◌&&◌, ◌||◌, not, Bool, true, false, List, []}
 use Rattle.std.proofs.Common.{◌∷◌, ◌++◌, length, get_or, map, filter, Option, Some, None, if◌then◌else◌, refl, sym, ap, ◌∙◌}
 use Rattle.std.proofs.Common.{arith, inl, inr}
 use Rattle.std.specs.Prelude.{All, option_and_then, position, slice_get, unwrap_or}
@@ -32,9 +32,9 @@ process_of files router = option_and_then (λ file. file.bgp) (slice_get files r
 -- ---- neighbour lines with their AS numbers
 
 -- a line of these, the first of which is at a place
-record IsAmong (router asn first : ℕ) (lines : List Neighbour) (a : Peering) : Type 0 where
-  router : a.router ≡ router
-  asn : a.asn ≡ asn
+record IsAmong (of with first : ℕ) (lines : List Neighbour) (a : Peering) : Type 0 where
+  router : a.router ≡ of
+  asn : a.asn ≡ with
   k : ℕ
   place : a.at ≡ first + k
   line : Neighbour
@@ -188,23 +188,23 @@ any_filtered : {X : Type 0} (p q : X → Bool) → ((x : X) → p x ≡ true →
     list_any p xs ≡ true → list_any p (filter q xs) ≡ true
 any_filtered p q keeps [] some = some
 any_filtered p q keeps (x ∷ xs) some =
-    by_test (p x) (q x) refl refl some
+    by_test (p x) (q x) refl refl (any_filtered p q keeps xs) some
   where
-    by_test : (a b : Bool) → p x ≡ a → q x ≡ b → (a || list_any p xs) ≡ true →
-        list_any p (if b then x ∷ filter q xs else filter q xs) ≡ true
-    by_test true true passes stays some = or_left (p x) (list_any p (filter q xs)) passes
-    by_test true false passes stays some = let kept = keeps x passes in cc
-    by_test false true passes stays some = or_right (p x) _ (any_filtered p q keeps xs some)
-    by_test false false passes stays some = any_filtered p q keeps xs some
+    by_test : (a b : Bool) → p x ≡ a → q x ≡ b → (list_any p xs ≡ true → list_any p (filter q xs) ≡ true) →
+        (a || list_any p xs) ≡ true → list_any p (if b then x ∷ filter q xs else filter q xs) ≡ true
+    by_test true true passes stays rest some = or_left (p x) (list_any p (filter q xs)) passes
+    by_test true false passes stays rest some = let kept = keeps x passes in cc
+    by_test false true passes stays rest some = or_right (p x) (list_any p (filter q xs)) (rest some)
+    by_test false false passes stays rest some = rest some
 
 place_below : {X : Type 0} (p : X → Bool) (xs : List X) → list_any p xs ≡ true → position_or_len p xs < length xs
 place_below p [] some = cc
-place_below p (x ∷ xs) some = by_test (p x) refl some
+place_below p (x ∷ xs) some = by_test (p x) refl (place_below p xs) some
   where
-    by_test : (b : Bool) → p x ≡ b → (b || list_any p xs) ≡ true →
-        (if b then 0 else 1 + position_or_len p xs) < suc (length xs)
-    by_test true is some = omega arith
-    by_test false is some = let deeper = place_below p xs some in omega (arith, deeper)
+    by_test : (b : Bool) → p x ≡ b → (list_any p xs ≡ true → position_or_len p xs < length xs) →
+        (b || list_any p xs) ≡ true → (if b then 0 else 1 + position_or_len p xs) < suc (length xs)
+    by_test true is rest some = omega arith
+    by_test false is rest some = let deeper = rest some in omega (arith, deeper)
 
 position_there : {X : Type 0} (p : X → Bool) (xs : List X) → list_any p xs ≡ true →
     position p xs ≡ Some (position_or_len p xs)
@@ -257,7 +257,8 @@ far_alike : (files : List File) (a : Peering) → Stands files a → (at : ℕ) 
     far_of (addressed files) (sessions files) a ≡ Inside at → slice_get (ends_of files) at ≡ Some other →
     (a.asn == a.remote) ≡ other.internal
 unfolding ends_of
-far_alike files a stands at other is there = by_peer (is_external_peer all a) refl is where
+far_alike files a stands at other is there = by_peer (is_external_peer (addressed files) a) refl is where
+  all : List Addressed
   all = addressed files
 
   others : List Peering
@@ -319,18 +320,16 @@ NamesOnce files =
 found_among : {X : Type 0} (P : X → Type 0) (p : X → Bool) (xs : List X) (k : ℕ) (x : X) → All P xs →
     slice_get xs k ≡ Some x → p x ≡ true → (y : X) × (find p xs ≡ Some y) × (p y ≡ true) × P y
 found_among P p [] k x all there passes = cc
-found_among P p (z ∷ zs) k x all there passes = by_test (p z) refl k there
+found_among P p (z ∷ zs) zero x all there passes =
+    let same : z ≡ x = cc in
+    (z, ap (λ b. if b then Some z else find p zs) (ap p same ∙ passes), ap p same ∙ passes, All-head P z zs all)
+found_among P p (z ∷ zs) (suc k) x all there passes =
+    by_test (p z) refl (found_among P p zs k x (All-tail P z zs all) there passes)
   where
-    Found : Bool → Type 0
-    Found b = (y : _) × ((if b then Some z else find p zs) ≡ Some y) × (p y ≡ true) × P y
-
-    by_test : (b : Bool) → p z ≡ b → (k : ℕ) → slice_get (z ∷ zs) k ≡ Some x → Found b
-    by_test true is k there = (z, refl, is, All-head P z zs all)
-    by_test false is zero there =
-        let same : z ≡ x = cc in
-        let no : p x ≡ false = ap p (sym same) ∙ is in
-        cc
-    by_test false is (suc k) there = found_among P p zs k x (All-tail P z zs all) there passes
+    by_test : (b : Bool) → p z ≡ b → (y : _) × (find p zs ≡ Some y) × (p y ≡ true) × P y →
+        (y : _) × ((if b then Some z else find p zs) ≡ Some y) × (p y ≡ true) × P y
+    by_test true is later = (z, refl, is, All-head P z zs all)
+    by_test false is later = later
 
 -- the end that is found by the address of an end's neighbour is internal where that one is
 pub towards_alike : (files : List File) → NamesOnce files → (k : ℕ) (end : SessionEnd) (neighbour : Neighbour) →

@@ -1,7 +1,7 @@
 -- In a stable routing 32 bits count the lists of every candidate. A path that was imported has at most 255 numbers. A
 -- cluster list that is not empty was made by a reflector whose own route has one cluster less, so that a list of n
 -- clusters comes with routes of n - 1, n - 2 and so on down to none, each held by another router.
-use Rattle.std.proofs.Common.{◌≡◌, ℕ, zero, suc, ◌+◌, ◌*◌, ◌^◌, ◌<◌, ◌≤◌, ◌×◌, ◌⊎◌, inl, inr, ◌==◌, ◌&&◌, ◌||◌, not}
+use Rattle.std.proofs.Common.{◌≡◌, ℕ, zero, suc, ◌+◌, ◌*◌, ◌^◌, ◌<◌, ◌≤◌, ◌⊎◌, inl, inr, ◌==◌, ◌&&◌, ◌||◌, not}
 use Rattle.std.proofs.Common.{Bool, true, false, List, [], ◌∷◌, ◌++◌, length, get_or, map, filter, fold, if◌then◌else◌}
 use Rattle.std.proofs.Common.{Option, Some, None, refl, sym, ap, ◌∙◌, subst, arith, eqb}
 use Rattle.std.specs.Prelude.{All, Any, IfSome, MatchOption, nat_le, option_and_then, option_map, slice_get, unwrap_or}
@@ -374,6 +374,7 @@ module _ (files : List File) (failures : Failures) (environment : Environment) (
   heard_from : (at : ℕ) (end : SessionEnd) (message : BgpMsg) →
       arriving files environment tables p at end ≡ Some message →
       (message.clusters ≡ []) ⊎ IsHeardFrom end message
+  unfolding arriving
   heard_from at end message arrived = by_far end.far refl arrived
     where
       some_then : {X Y : Type 0} (f : X → Option Y) (o : Option X) (y : Y) → option_and_then f o ≡ Some y →
@@ -388,7 +389,6 @@ module _ (files : List File) (failures : Failures) (environment : Environment) (
 
       by_far : (far : Far) → end.far ≡ far → arriving files environment tables p at (record end { far = far })
           ≡ Some message → (message.clusters ≡ []) ⊎ IsHeardFrom end message
-      unfolding arriving
       by_far Outside is arrived =
           let line = some_then _ (neighbour_of files end) message arrived in
           let said = some_from _ _ message line.2 in

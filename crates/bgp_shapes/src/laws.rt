@@ -13,6 +13,7 @@ ghost use Rattle.route_record.specs.declared.tracked.Tracked.{Tracked as Tracked
 ghost use Rattle.net_parts.specs.declared.sessions.SessionEnd.{SessionEnd as SessionEndOf};
 ghost use Rattle.net_parts.specs.Decisions.{Candidate, IsHeld, candidates, survivors, survivors_by};
 ghost use Rattle.net_parts.specs.Exports.{exported, imported};
+ghost use Rattle.net_parts.specs.Tracked.{TracksNet};
 ghost use Rattle.route_shapes.specs.Bgp.{BgpShape, bgp_shape};
 ghost use Rattle.bgp_shapes.specs.Candidates.{candidate_shape, environment_shape, shape_candidates, shape_key, slots_shape};
 ghost use Rattle.bgp_shapes.specs.Exporting.{shape_exported};
@@ -20,7 +21,7 @@ ghost use Rattle.bgp_shapes.specs.Held.{HasMarks, IsHeldByShape, held_shape};
 ghost use Rattle.bgp_shapes.specs.Importing.{shape_imported};
 ghost use Rattle.bgp_shapes.specs.Lengths.{IsShort};
 ghost use Rattle.bgp_shapes.specs.Messages.{message_shape};
-ghost use Rattle.bgp_shapes.specs.Tracking.{TracksNet, TracksTests};
+ghost use Rattle.bgp_shapes.specs.Tracking.{TracksTests};
 
 /// What the files of a network name is all that the tests of its routers ask for: lists that contain it are enough.
 pub fn tracked_law()
