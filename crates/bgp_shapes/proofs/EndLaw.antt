@@ -24,10 +24,7 @@ use Rattle.net_interfaces.specs.Interfaces.{addressed}
 use Rattle.net_parts.specs.Sessions.{end_of, ends_of, far_of, has_session, is_external_peer, meet, names_other}
 use Rattle.net_parts.specs.Sessions.{neighbour_of, peering, peerings, peerings_from, peerings_of, peerings_routers}
 use Rattle.net_parts.specs.Sessions.{sessions, speaking, speaks_from}
-
--- the process of a router
-abbrev pub process_of : List File → ℕ → Option Bgp
-process_of files router = option_and_then (λ file. file.bgp) (slice_get files router)
+use Rattle.bgp_shapes.specs.Lengths.{NamesOnce, process_of}
 
 -- ---- neighbour lines with their AS numbers
 
@@ -202,7 +199,7 @@ place_below p [] some = cc
 place_below p (x ∷ xs) some = by_test (p x) refl (place_below p xs) some
   where
     by_test : (b : Bool) → p x ≡ b → (list_any p xs ≡ true → position_or_len p xs < length xs) →
-        (b || list_any p xs) ≡ true → (if b then 0 else 1 + position_or_len p xs) < suc (length xs)
+        (b || list_any p xs) ≡ true → (if not b then 1 + position_or_len p xs else 0) < suc (length xs)
     by_test true is rest some = omega arith
     by_test false is rest some = let deeper = rest some in omega (arith, deeper)
 
@@ -310,12 +307,6 @@ ends_alike files =
     })
 
 -- ---- the end that an address finds
-
--- each process names the address of a neighbour once
-abbrev pub NamesOnce : List File → Type 0
-NamesOnce files =
-    (router : ℕ) (process : Bgp) → process_of files router ≡ Some process → (i j : ℕ) (x y : Neighbour) →
-    slice_get process.neighbours i ≡ Some x → slice_get process.neighbours j ≡ Some y → x.addr.0 ≡ y.addr.0 → x ≡ y
 
 found_among : {X : Type 0} (P : X → Type 0) (p : X → Bool) (xs : List X) (k : ℕ) (x : X) → All P xs →
     slice_get xs k ≡ Some x → p x ≡ true → (y : X) × (find p xs ≡ Some y) × (p y ≡ true) × P y

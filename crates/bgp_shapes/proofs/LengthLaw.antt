@@ -35,6 +35,7 @@ use Rattle.route_record.specs.declared.Environment.{Environment}
 use Rattle.route_record.specs.declared.Failures.{Failures}
 use Rattle.route_record.specs.declared.Learnt.{Learnt}
 use Rattle.route_record.specs.declared.Learnt.TheVariants.{Local, Peer}
+use Rattle.route_record.specs.declared.Origin.TheVariants.{Igp, Incomplete}
 use Rattle.route_record.specs.declared.Slot.{Slot}
 use Rattle.route_record.specs.declared.Tables.{Tables}
 use Rattle.route_record.specs.declared.TheConstants.{LENGTHS}
@@ -49,13 +50,14 @@ use Rattle.net_parts.specs.Decisions.{peer_identifier, removes, step_by, survivo
 use Rattle.net_parts.specs.Exports as exports
 use Rattle.ios_ast.specs.Maps.{through_map}
 use Rattle.net_parts.specs.Mapping.{attributes_of, with_attributes}
-use Rattle.net_parts.specs.Origins.{by_network, entry_metric, into_bgp, is_default, local_routes, local_through}
+use Rattle.net_parts.specs.Origins.{by_network, entry_metric, into_bgp, is_default, local_route, local_routes}
+use Rattle.net_parts.specs.Origins.{local_through}
 use Rattle.net_parts.specs.Origins.{taken_metric}
 use Rattle.net_parts.specs.Resolution.{resolved, session_up}
 use Rattle.net_parts.specs.Sessions.{ends_of, neighbour_of}
 use Rattle.net_parts.specs.Stable.{IsDecided, Stable}
-use Rattle.bgp_shapes.specs.Lengths.{IsShort}
-use Rattle.bgp_shapes.proofs.EndLaw.{IsAlike, NamesOnce, ends_alike, towards_alike}
+use Rattle.bgp_shapes.specs.Lengths.{IsShort, NamesOnce}
+use Rattle.bgp_shapes.proofs.EndLaw.{IsAlike, ends_alike, towards_alike}
 use Rattle.bgp_shapes.proofs.PolicyLaw.{through_keeps}
 
 -- ---- what holds of all that a call gives
@@ -72,14 +74,12 @@ if_true P false o holds = tt
 all_kept : {X Y : Type 0} (Q : X → Type 0) (P : Y → Type 0) (h : X → Option Y) → ((x : X) → Q x → IfSome (h x) P) →
     (xs : List X) → All Q xs → All P (filter_map h xs)
 all_kept Q P h gives [] all = All-nil P
-all_kept Q P h gives (x ∷ xs) all = by_item (h x) (gives x (All-head Q x xs all))
+all_kept Q P h gives (x ∷ xs) all =
+    by_item (h x) (gives x (All-head Q x xs all)) (all_kept Q P h gives xs (All-tail Q x xs all))
   where
-    rest : All P (filter_map h xs)
-    rest = all_kept Q P h gives xs (All-tail Q x xs all)
-
-    by_item : (o : Option _) → IfSome o P → All P (cons_option o (filter_map h xs))
-    by_item None holds = rest
-    by_item (Some y) holds = All-cons P y (filter_map h xs) holds rest
+    by_item : (o : Option _) → IfSome o P → All P (filter_map h xs) → All P (cons_option o (filter_map h xs))
+    by_item None holds rest = rest
+    by_item (Some y) holds rest = All-cons P y (filter_map h xs) holds rest
 
 all_such : {X : Type 0} (xs : List X) → All (λ x. Unit {0}) xs
 all_such xs k d within = tt
@@ -140,11 +140,11 @@ locals_bare files router file process p slot =
     (filter_map (into_bgp files router file p slot) process.redistribute)
     (all_kept (λ x. Unit {0}) IsBare (by_network file p slot) (λ line yes.
     if_then IsBare _ (λ entry. if_then IsBare _ (λ med.
-    if_true IsBare (same_prefix line.prefix p) _ (local_bare file line.map p _ refl refl))
+    if_true IsBare (same_prefix line.prefix p) _ (local_bare file line.map p (local_route Igp med) refl refl))
     (entry_metric slot entry.source)) slot.rib) process.networks (all_such process.networks))
     (all_kept (λ x. Unit {0}) IsBare (into_bgp files router file p slot) (λ line yes.
     if_then IsBare _ (λ entry. if_then IsBare _ (λ metric.
-    by_default (is_default p) _ (local_bare file line.map p _ refl refl))
+    by_default (is_default p) _ (local_bare file line.map p (local_route Incomplete (unwrap_or line.metric metric)) refl refl))
     (taken_metric files router p slot line entry.source)) slot.rib) process.redistribute
     (all_such process.redistribute))
   where
@@ -455,7 +455,7 @@ module _ (files : List File) (failures : Failures) (environment : Environment) (
         let end = learnt.end in
         let taken = learnt.taken in
         let is = learnt.is in
-        let alike = end_alike end is in
+        let alike = all_found (IsAlike files) (ends_of files) is.k end (ends_alike files) is.there in
         let found = towards_alike files once is.k end taken.neighbour is.there alike taken.named in
         let internal : end.internal ≡ true =
         alike.far heard.at heard.far heard.reached heard.there ∙ reflected.internal in
@@ -465,9 +465,6 @@ module _ (files : List File) (failures : Failures) (environment : Environment) (
               ∙ ap (λ r. exports.end_towards files r taken.neighbour.addr) (sym is.own) ∙ found.1,
           found.2 ∙ internal,
         )
-      where
-        end_alike : (end : SessionEnd) → IsEnd router (_, end) → IsAlike files end
-        end_alike end is = all_found (IsAlike files) (ends_of files) is.k end (ends_alike files) is.there
 
     -- a router holds a route with so many clusters
     abbrev Holds : ℕ → Type 0
@@ -521,14 +518,15 @@ module _ (files : List File) (failures : Failures) (environment : Environment) (
     all_fewer : (n q : ℕ) → q ≤ n → Holds n → Holds q
     all_fewer zero q below holds =
         let same : zero ≡ q = omega arith in subst Holds same holds
-    all_fewer (suc n) q below holds = by_order (cases_last q n below)
+    all_fewer (suc n) q below holds =
+        by_order (cases_last q n below) (λ less. all_fewer n q less (one_less n holds))
       where
         cases_last : (q n : ℕ) → q ≤ suc n → (q ≤ n) ⊎ (suc n ≡ q)
         cases_last q n below = grind arith
 
-        by_order : (q ≤ n) ⊎ (suc n ≡ q) → Holds q
-        by_order (inl less) = all_fewer n q less (one_less n holds)
-        by_order (inr same) = subst Holds same holds
+        by_order : (q ≤ n) ⊎ (suc n ≡ q) → (q ≤ n → Holds q) → Holds q
+        by_order (inl less) deeper = deeper less
+        by_order (inr same) deeper = subst Holds same holds
 
     -- ---- so there are fewer clusters than routers
 
@@ -539,7 +537,9 @@ module _ (files : List File) (failures : Failures) (environment : Environment) (
       any_count : (q router first n : ℕ) → first ≤ router → router < first + n → count router ≡ q →
           list_any (eqb q) (map count (range_with_len first n)) ≡ true
       any_count q router first zero low high is = absurd (omega arith)
-      any_count q router first (suc n) low high is = by_order (cases_first first router low)
+      any_count q router first (suc n) low high is =
+          by_order (cases_first first router low)
+          (λ later. any_count q router (first + 1) n later (omega (arith, high)) is)
         where
           cases_first : (a b : ℕ) → a ≤ b → (a ≡ b) ⊎ (a + 1 ≤ b)
           cases_first a b low = grind arith
@@ -547,11 +547,11 @@ module _ (files : List File) (failures : Failures) (environment : Environment) (
           rest : Bool
           rest = list_any (eqb q) (map count (range_with_len (first + 1) n))
 
-          by_order : (first ≡ router) ⊎ (first + 1 ≤ router) → (eqb q (count first) || rest) ≡ true
-          by_order (inl same) =
+          by_order : (first ≡ router) ⊎ (first + 1 ≤ router) → (first + 1 ≤ router → rest ≡ true) →
+              (eqb q (count first) || rest) ≡ true
+          by_order (inl same) deeper =
               or_left (eqb q (count first)) rest (eq-eqb q (count first) (sym is ∙ ap count (sym same)))
-          by_order (inr later) =
-              or_right (eqb q (count first)) rest (any_count q router (first + 1) n later (omega (arith, high)) is)
+          by_order (inr later) deeper = or_right (eqb q (count first)) rest (deeper later)
 
       fewer : (router : ℕ) (rec : BgpRec) → held router ≡ Some rec → length rec.clusters < routers
       fewer router rec holds =
@@ -612,7 +612,48 @@ module _ (files : List File) (failures : Failures) (environment : Environment) (
           short_path (inl bare) = let none = ap length bare.path in omega (arith, none)
           short_path (inr learnt) = let few = learnt.taken.few in omega (arith, few)
 
--- 32 bits count the lists of the candidates of a stable routing
+-- ---- stable routings
+
+module _ (files : List File) (destination : Addr) (failures : Failures) (environment : Environment) (tables : Tables)
+    (stable : Stable files destination failures environment tables) (len : ℕ) (below : len < LENGTHS) where
+  abbrev p : Prefix
+  p = prefix_at destination len
+
+  -- the slot of a router that holds a route
+  slot_of : (r : ℕ) (rec : BgpRec) (o : Option Slot) → slot_at tables r len ≡ o →
+      option_and_then (λ slot. slot.bgp) o ≡ Some rec →
+      (slot : Slot) × (slot_at tables r len ≡ Some slot) × (slot.bgp ≡ Some rec)
+  slot_of r rec None there holds = cc
+  slot_of r rec (Some slot) there holds = (slot, there, holds)
+
+  is_router : (r : ℕ) (rec : BgpRec) → held files failures environment tables p r ≡ Some rec → r < length files
+  is_router r rec holds =
+      let slot = slot_of r rec (slot_at tables r len) refl holds in
+      let place = slice_get_within tables.slots (LENGTHS * r + len) slot.0 slot.1 in
+      let size = stable.size in
+      omega (arith, place, size)
+
+  held_from : (r : ℕ) (rec : BgpRec) → held files failures environment tables p r ≡ Some rec →
+      IsFrom files failures environment tables p r rec
+  held_from r rec holds =
+      let slot = slot_of r rec (slot_at tables r len) refl holds in
+      let named = item_there files r (is_router r rec holds) in
+      let equations = stable.equations r len named.0 slot.0 named.1 below slot.1 in
+      decided_from files failures environment tables p r named.0 rec
+      (subst (IsDecided files failures environment tables r named.0 p) slot.2 equations.bgp)
+
+-- in a stable routing a held route has fewer clusters than there are routers
+pub stable_fewer : (files : List File) (destination : Addr) (failures : Failures) (environment : Environment)
+    (tables : Tables) → NamesOnce files → Stable files destination failures environment tables → (router len : ℕ)
+    (slot : Slot) (rec : BgpRec) → len < LENGTHS → slot_at tables router len ≡ Some slot → slot.bgp ≡ Some rec →
+    length rec.clusters < length files
+stable_fewer files destination failures environment tables once stable router len slot rec below there holds =
+    fewer files failures environment tables (prefix_at destination len) once
+    (held_from files destination failures environment tables stable len below) (length files)
+    (is_router files destination failures environment tables stable len below) router rec
+    (ap (option_and_then (λ (s : Slot). s.bgp)) there ∙ holds)
+
+-- and 32 bits count the lists of its candidates
 pub stable_short : (files : List File) (destination : Addr) (failures : Failures) (environment : Environment)
     (tables : Tables) → NamesOnce files → length files < 2 ^ 32 →
     Stable files destination failures environment tables → (router len : ℕ) (file : File) (process : Bgp) →
@@ -621,30 +662,8 @@ pub stable_short : (files : List File) (destination : Addr) (failures : Failures
 stable_short files destination failures environment tables once few stable router len file process below =
     let p = prefix_at destination len in
     All-weaker (λ c. IsFrom files failures environment tables p router c.rec) IsShort
-    (short files failures environment tables p once from (length files) within few router)
+    (short files failures environment tables p once
+    (held_from files destination failures environment tables stable len below) (length files)
+    (is_router files destination failures environment tables stable len below) few router)
     (candidates files failures environment tables router file process p)
     (candidates_from files failures environment tables p router file process)
-  where
-    by_slot : (r : ℕ) (rec : BgpRec) (o : Option Slot) → slot_at tables r len ≡ o →
-        option_and_then (λ slot. slot.bgp) o ≡ Some rec → (slot : Slot) × (slot_at tables r len ≡ Some slot)
-        × (slot.bgp ≡ Some rec)
-    by_slot r rec None there holds = cc
-    by_slot r rec (Some slot) there holds = (slot, there, holds)
-
-    within : (r : ℕ) (rec : BgpRec) → held files failures environment tables (prefix_at destination len) r ≡ Some rec →
-        r < length files
-    within r rec holds =
-        let slot = by_slot r rec (slot_at tables r len) refl holds in
-        let place = slice_get_within tables.slots (LENGTHS * r + len) slot.0 slot.1 in
-        let size = stable.size in
-        omega (arith, place, size)
-
-    from : (r : ℕ) (rec : BgpRec) → held files failures environment tables (prefix_at destination len) r ≡ Some rec →
-        IsFrom files failures environment tables (prefix_at destination len) r rec
-    from r rec holds =
-        let slot = by_slot r rec (slot_at tables r len) refl holds in
-        let named = item_there files r (within r rec holds) in
-        let equations = stable.equations r len named.0 slot.0 named.1 below slot.1 in
-        decided_from files failures environment tables (prefix_at destination len) r named.0 rec
-        (subst (IsDecided files failures environment tables r named.0 (prefix_at destination len)) slot.2
-        equations.bgp)

@@ -1,25 +1,32 @@
 //! Laws about BGP on shapes. Each function only carries its law.
 
-ghost use Rattle.std.specs.Prelude.{◌≡◌, ℕ, All, Bool, IfSome, List as ListOf, map, Option as OptionOf, option_map, true};
+ghost use Rattle.std.specs.Prelude.{◌≡◌, ◌<◌, ◌^◌, ℕ, All, Bool, IfSome, length, List as ListOf, map, Option as OptionOf};
+ghost use Rattle.std.specs.Prelude.{option_map, Some, true};
+ghost use Rattle.mw_text.specs.declared.address.Addr.{Addr as AddrOf};
 ghost use Rattle.mw_text.specs.declared.address.Prefix.{Prefix as PrefixOf};
+ghost use Rattle.mw_text.specs.Address.{prefix_at};
 ghost use Rattle.ios_ast.specs.declared.bgp.Bgp.{Bgp as BgpOf};
 ghost use Rattle.ios_ast.specs.declared.file.File.{File as FileOf};
 ghost use Rattle.route_record.specs.declared.BgpMsg.{BgpMsg as BgpMsgOf};
 ghost use Rattle.route_record.specs.declared.BgpRec.{BgpRec as BgpRecOf};
 ghost use Rattle.route_record.specs.declared.Environment.{Environment as EnvironmentOf};
 ghost use Rattle.route_record.specs.declared.Failures.{Failures as FailuresOf};
+ghost use Rattle.route_record.specs.declared.Slot.{Slot as SlotOf};
 ghost use Rattle.route_record.specs.declared.Tables.{Tables as TablesOf};
+ghost use Rattle.route_record.specs.declared.TheConstants.{LENGTHS};
+ghost use Rattle.route_record.specs.Places.{slot_at};
 ghost use Rattle.route_record.specs.declared.tracked.Tracked.{Tracked as TrackedOf};
 ghost use Rattle.net_parts.specs.declared.sessions.SessionEnd.{SessionEnd as SessionEndOf};
 ghost use Rattle.net_parts.specs.Decisions.{Candidate, IsHeld, candidates, survivors, survivors_by};
 ghost use Rattle.net_parts.specs.Exports.{exported, imported};
+ghost use Rattle.net_parts.specs.Stable.{Stable};
 ghost use Rattle.net_parts.specs.Tracked.{TracksNet};
 ghost use Rattle.route_shapes.specs.Bgp.{BgpShape, bgp_shape};
 ghost use Rattle.bgp_shapes.specs.Candidates.{candidate_shape, environment_shape, shape_candidates, shape_key, slots_shape};
 ghost use Rattle.bgp_shapes.specs.Exporting.{shape_exported};
 ghost use Rattle.bgp_shapes.specs.Held.{HasMarks, IsHeldByShape, held_shape};
 ghost use Rattle.bgp_shapes.specs.Importing.{shape_imported};
-ghost use Rattle.bgp_shapes.specs.Lengths.{IsShort};
+ghost use Rattle.bgp_shapes.specs.Lengths.{IsShort, NamesOnce};
 ghost use Rattle.bgp_shapes.specs.Messages.{message_shape};
 ghost use Rattle.bgp_shapes.specs.Tracking.{TracksTests};
 
@@ -53,6 +60,20 @@ pub fn candidates_law()
         map (candidate_shape tracked) (candidates files failures environment tables router file process p)
         ≡ shape_candidates tracked files failures (environment_shape tracked environment)
         (slots_shape tracked tables p.len) router file process p }
+{}
+
+/// In a stable routing 32 bits tell the lengths of every candidate's lists: a held route has fewer clusters than there
+/// are routers, since each cluster was put in front by another one, and an imported path has at most 255 numbers.
+pub fn length_law()
+    ensures fewer { (files : ListOf FileOf) (destination : AddrOf) (failures : FailuresOf) (environment : EnvironmentOf)
+        (tables : TablesOf) → NamesOnce files → Stable files destination failures environment tables →
+        (router len : ℕ) (slot : SlotOf) (held : BgpRecOf) → len < LENGTHS → slot_at tables router len ≡ Some slot →
+        slot.bgp ≡ Some held → length held.clusters < length files }
+    ensures short { (files : ListOf FileOf) (destination : AddrOf) (failures : FailuresOf) (environment : EnvironmentOf)
+        (tables : TablesOf) → NamesOnce files → length files < 2 ^ 32 →
+        Stable files destination failures environment tables → (router len : ℕ) (file : FileOf) (process : BgpOf) →
+        len < LENGTHS →
+        All IsShort (candidates files failures environment tables router file process (prefix_at destination len)) }
 {}
 
 /// The shapes of the candidates that survive the decision process are the shapes that survive it, where 32 bits tell the
