@@ -1,6 +1,6 @@
 -- Route maps over the shapes of routes: a path by its length, its ends and the tracked numbers that stand in it, and
 -- communities by the tracked ones among them.
-use Rattle.std.specs.Prelude.{ℕ, ◌+◌, ◌%◌, ◌^◌, ◌==◌, ◌&&◌, ◌||◌, nat_lt, Bool, true, false, if◌then◌else◌}
+use Rattle.std.specs.Prelude.{ℕ, ◌+◌, ◌==◌, ◌&&◌, ◌||◌, nat_lt, Bool, true, false, if◌then◌else◌}
 use Rattle.std.specs.Prelude.{List, [], ◌∷◌, Option, Some, None, length, map, fold}
 use Rattle.std.specs.List.{find, list_any, list_all}
 use Rattle.std.specs.Option.{option_and_then}
@@ -22,6 +22,7 @@ use Rattle.ios_ast.specs.Matching.{named_answer, access_named, prefixes_named, n
 use Rattle.ios_ast.specs.Paths.{first_of, last_of}
 use Rattle.ios_ast.specs.Setting.{Attributes, origin_set}
 use Rattle.route_record.specs.declared.tracked.Tracked.{Tracked}
+use Rattle.route_record.specs.Shape.{saturated}
 
 pub record PathShape : Type 0 where
   pub len : ℕ
@@ -45,7 +46,7 @@ pub record RouteShape : Type 0 where
 -- the shape of a path, and of what a route map sees of a route
 abbrev pub path_shape : List ℕ → List ℕ → PathShape
 path_shape tracked path = record {
-  len = length path;
+  len = saturated (length path);
   first = first_of path;
   last = last_of path;
   numbers = map (carries path) tracked;
@@ -120,10 +121,10 @@ marks_with [] values beside marks = []
 marks_with (t ∷ ts) values beside [] = []
 marks_with (t ∷ ts) values beside (b ∷ bs) = (carries values t || (beside && b)) ∷ marks_with ts values beside bs
 
--- the shape of a path with numbers in front; its length stands in 32 bits
+-- the shape of a path with numbers in front
 abbrev pub shape_prepended : List ℕ → List ℕ → PathShape → PathShape
 shape_prepended tracked numbers s = record {
-  len = (s.len + length numbers) % 2 ^ 32;
+  len = saturated (s.len + length numbers);
   first = if length numbers == 0 then s.first else first_of numbers;
   last = if s.len == 0 then last_of numbers else s.last;
   numbers = marks_with tracked numbers true s.numbers;

@@ -1,14 +1,13 @@
 -- A route map over shapes makes of a route's shape the shape of what the map makes of the route.
-use Rattle.std.proofs.Common.{◌≡◌, ℕ, ◌+◌, ◌-◌, ◌%◌, ◌^◌, ◌==◌, ◌<◌, ◌≤◌, nat_lt, ◌&&◌, ◌||◌, Bool, true, false}
+use Rattle.std.proofs.Common.{◌≡◌, ℕ, ◌+◌, ◌-◌, ◌==◌, nat_lt, ◌&&◌, ◌||◌, Bool, true, false}
 use Rattle.std.proofs.Common.{if◌then◌else◌}
 use Rattle.std.proofs.Common.{List, [], ◌∷◌, ◌++◌, Option, Some, None, length, map, get_or, refl, sym, ap, ◌∙◌, arith}
 use Rattle.std.specs.List.{find, list_any, list_all}
-use Rattle.std.specs.Option.{option_and_then, option_map, option_map_or, IfSome}
+use Rattle.std.specs.Option.{option_and_then, option_map, option_map_or}
 use Rattle.std.proofs.lemmas.Bool.{and_parts, eqb-true}
 use Rattle.std.proofs.lemmas.Bool.Decides.{nat_tests}
 use Rattle.std.proofs.lemmas.List.{length-append, append-nil, get_or-append_right}
 use Rattle.std.proofs.lemmas.List.Folds.{list_any-append}
-use Rattle.std.proofs.Math.Nat.{mod-eq_of_lt}
 use Rattle.mw_text.specs.declared.address.Prefix.{Prefix}
 use Rattle.ios_ast.specs.declared.file.Use.{Use}
 use Rattle.ios_ast.specs.declared.policies.AsPathEntry.{AsPathEntry}
@@ -29,13 +28,15 @@ use Rattle.ios_ast.specs.Matching.{names_of, list_permits, line_holds, lines_hol
 use Rattle.ios_ast.specs.Paths.{first_of, last_of, pattern_matches, path_permitted}
 use Rattle.ios_ast.specs.Setting.{Attributes, communities_set, set_one, set_all}
 use Rattle.route_record.specs.declared.tracked.Tracked.{Tracked}
-use Rattle.sym_policy.specs.Shapes.{path_shape, route_shape, marked, marks_taken, marks_permitted}
-use Rattle.sym_policy.specs.Shapes.{shape_matches, shape_taken, shape_permitted, shape_list_permits, shape_line_holds}
-use Rattle.sym_policy.specs.Shapes.{shape_route_taken, marks_with, shape_prepended, set_shape, set_shapes, shape_made}
-use Rattle.sym_policy.specs.Shapes.{shape_mapped, pattern_tracked, values_tracked, path_tracked, all_tracked}
+use Rattle.route_record.specs.Shape.{saturated}
+use Rattle.route_record.proofs.Saturated.{saturated-one, saturated-some, saturated-sum, saturated-zero}
+use Rattle.route_shapes.specs.Shapes.{path_shape, route_shape, marked, marks_taken, marks_permitted}
+use Rattle.route_shapes.specs.Shapes.{shape_matches, shape_taken, shape_permitted, shape_list_permits, shape_line_holds}
+use Rattle.route_shapes.specs.Shapes.{shape_route_taken, marks_with, shape_prepended, set_shape, set_shapes, shape_made}
+use Rattle.route_shapes.specs.Shapes.{shape_mapped, pattern_tracked, values_tracked, path_tracked, all_tracked}
 
 -- the marks of a tracked value say what the test does
-marked-map : (f : ℕ → Bool) (tracked : List ℕ) (x : ℕ) → carries tracked x ≡ true → marked tracked (map f tracked) x
+pub marked-map : (f : ℕ → Bool) (tracked : List ℕ) (x : ℕ) → carries tracked x ≡ true → marked tracked (map f tracked) x
     ≡ f x
 marked-map f [] x h = grind (arith)
 marked-map f (t ∷ ts) x h = by (t == x) refl (marked-map f ts x)
@@ -65,7 +66,7 @@ find_same good f g same (x ∷ xs) h =
     cc
 
 -- the item that is found is good
-found_same : {X : Type 0} (good f g p : X → Bool) → ((x : X) → good x ≡ true → f x ≡ g x) → (xs : List X)
+pub found_same : {X : Type 0} (good f g p : X → Bool) → ((x : X) → good x ≡ true → f x ≡ g x) → (xs : List X)
     → list_all good xs ≡ true → option_map_or f (find p xs) false ≡ option_map_or g (find p xs) false
 found_same good f g p same [] h = refl
 found_same good f g p same (x ∷ xs) h =
@@ -96,14 +97,14 @@ community_entries tracked held es h =
 
 pattern_shape : (tracked : List ℕ) (path : List ℕ) (p : Pattern) → pattern_tracked tracked p ≡ true
     → shape_matches tracked (path_shape tracked path) p ≡ pattern_matches p path
-pattern_shape tracked path Empty h = refl
+pattern_shape tracked path Empty h = saturated-zero (length path)
 pattern_shape tracked path Any h = refl
-pattern_shape tracked path (Only n) h = refl
-pattern_shape tracked path (First n) h = refl
-pattern_shape tracked path (Last n) h = refl
+pattern_shape tracked path (Only n) h = ap (λ b. b && (first_of path == n)) (saturated-one (length path))
+pattern_shape tracked path (First n) h = ap (λ b. b && (first_of path == n)) (saturated-some (length path))
+pattern_shape tracked path (Last n) h = ap (λ b. b && (last_of path == n)) (saturated-some (length path))
 pattern_shape tracked path (Has n) h = marked-map (carries path) tracked n h
 
-path_entries : (tracked : List ℕ) (path : List ℕ) (es : List AsPathEntry) → list_all (path_tracked tracked) es ≡ true
+pub path_entries : (tracked : List ℕ) (path : List ℕ) (es : List AsPathEntry) → list_all (path_tracked tracked) es ≡ true
     → shape_permitted tracked (path_shape tracked path) es ≡ path_permitted es path
 path_entries tracked path es h =
     ap (λ o. option_map_or (λ e. e.permit) o false)
@@ -127,7 +128,7 @@ list_shape policies tracked p path held h (Paths names) named =
     (λ l good. path_entries tracked.numbers path l.entries good) policies.as_paths (and_parts _ _ h).1
 
 -- tests that agree everywhere are one test
-one_test : {X Y : Type 0} (f g : X → Y) → ((x : X) → f x ≡ g x) → f ≡ g
+pub one_test : {X Y : Type 0} (f g : X → Y) → ((x : X) → f x ≡ g x) → f ≡ g
 one_test f g same = λ i x. same x i
 
 line_shape : (policies : Policies) (tracked : Tracked) (p : Prefix) (path held : List ℕ)
@@ -180,7 +181,7 @@ carries-with_communities held (c ∷ cs) x =
     swapped false false d = refl
 
 -- the marks after values were put in
-marks_with-map : (f g : ℕ → Bool) (tracked values : List ℕ) (beside : Bool)
+pub marks_with-map : (f g : ℕ → Bool) (tracked values : List ℕ) (beside : Bool)
     → ((x : ℕ) → g x ≡ (carries values x || (beside && f x)))
     → marks_with tracked values beside (map f tracked) ≡ map g tracked
 marks_with-map f g [] values beside h = refl
@@ -217,15 +218,14 @@ last-append numbers (x ∷ path) =
     (omega (arith, long))
     ∙ ap (λ k. get_or (x ∷ path) k 0) place)
 
-path_prepended : (tracked numbers path : List ℕ) → length (numbers ++ path) < 2 ^ 32
+pub path_prepended : (tracked numbers path : List ℕ)
     → shape_prepended tracked numbers (path_shape tracked path) ≡ path_shape tracked (numbers ++ path)
-path_prepended tracked numbers path small =
-    let total = length-append numbers path in
-    let fits : length path + length numbers < 2 ^ 32 = omega (arith, total) in
-    let len : (length path + length numbers) % 2 ^ 32 ≡ length (numbers ++ path) =
-    mod-eq_of_lt fits ∙ omega (arith, total) in
+path_prepended tracked numbers path =
+    let len : saturated (saturated (length path) + length numbers) ≡ saturated (length (numbers ++ path)) =
+    saturated-sum (length path) (length numbers) ∙ ap saturated (omega (arith, length-append numbers path)) in
     let first = first-append numbers path in
-    let last = last-append numbers path in
+    let last =
+    ap (λ b. if b then last_of numbers else last_of path) (saturated-zero (length path)) ∙ last-append numbers path in
     let marks = marks_with-map (carries path) (carries (numbers ++ path)) tracked numbers true
     (list_any-at numbers path) in
     λ i. record { len = len i; first = first i; last = last i; numbers = marks i }
@@ -233,79 +233,58 @@ path_prepended tracked numbers path small =
     list_any-at : (xs ys : List ℕ) (x : ℕ) → carries (xs ++ ys) x ≡ (carries xs x || carries ys x)
     list_any-at xs ys x = list_any-append (λ y. y == x) xs ys
 
--- one set line, where the path that it leaves has a length of 32 bits
+-- one set line
 set_one_shape : (tracked : Tracked) (external : Bool) (r : Attributes) (line : SetAct)
-    → length (set_one external r line).path < 2 ^ 32
     → set_shape tracked external (route_shape tracked r) line ≡ route_shape tracked (set_one external r line)
-set_one_shape tracked external r (LocalPref n) small = refl
-set_one_shape tracked external r (Metric n) small = refl
-set_one_shape tracked external r (Weight n) small = refl
-set_one_shape tracked external r NoCommunity small =
+set_one_shape tracked external r (LocalPref n) = refl
+set_one_shape tracked external r (Metric n) = refl
+set_one_shape tracked external r (Weight n) = refl
+set_one_shape tracked external r NoCommunity =
     ap (λ marks. record (route_shape tracked r) { communities = marks })
     (communities_shape tracked.communities r.communities [] false)
-set_one_shape tracked external r (Community values additive) small =
+set_one_shape tracked external r (Community values additive) =
     ap (λ marks. record (route_shape tracked r) { communities = marks })
     (communities_shape tracked.communities r.communities values additive)
-set_one_shape tracked external r (Origin igp) small = refl
-set_one_shape tracked true r (Prepend numbers) small =
-    ap (λ path. record (route_shape tracked r) { path = path }) (path_prepended tracked.numbers numbers r.path small)
-set_one_shape tracked false r (Prepend numbers) small = refl
-set_one_shape tracked external r (Type1 type1) small = refl
-
--- set lines never shorten a path
-set_one_longer : (external : Bool) (r : Attributes) (line : SetAct)
-    → length r.path ≤ length (set_one external r line).path
-set_one_longer external r (LocalPref n) = omega arith
-set_one_longer external r (Metric n) = omega arith
-set_one_longer external r (Weight n) = omega arith
-set_one_longer external r NoCommunity = omega arith
-set_one_longer external r (Community values additive) = omega arith
-set_one_longer external r (Origin igp) = omega arith
-set_one_longer true r (Prepend numbers) = omega (arith, length-append numbers r.path)
-set_one_longer false r (Prepend numbers) = omega arith
-set_one_longer external r (Type1 type1) = omega arith
-
-set_all_longer : (external : Bool) (r : Attributes) (lines : List SetAct)
-    → length r.path ≤ length (set_all external r lines).path
-set_all_longer external r [] = omega arith
-set_all_longer external r (line ∷ lines) =
-    let here = set_one_longer external r line in
-    let rest = set_all_longer external (set_one external r line) lines in
-    omega arith
+set_one_shape tracked external r (Origin igp) = refl
+set_one_shape tracked true r (Prepend numbers) =
+    ap (λ path. record (route_shape tracked r) { path = path }) (path_prepended tracked.numbers numbers r.path)
+set_one_shape tracked false r (Prepend numbers) = refl
+set_one_shape tracked external r (Type1 type1) = refl
 
 set_all_shape : (tracked : Tracked) (external : Bool) (r : Attributes) (lines : List SetAct)
-    → length (set_all external r lines).path < 2 ^ 32
     → set_shapes tracked external (route_shape tracked r) lines ≡ route_shape tracked (set_all external r lines)
-set_all_shape tracked external r [] small = refl
-set_all_shape tracked external r (line ∷ lines) small =
-    let longer = set_all_longer external (set_one external r line) lines in
-    ap (λ s. set_shapes tracked external s lines) (set_one_shape tracked external r line (omega arith))
-    ∙ set_all_shape tracked external (set_one external r line) lines small
+set_all_shape tracked external r [] = refl
+set_all_shape tracked external r (line ∷ lines) =
+    ap (λ s. set_shapes tracked external s lines) (set_one_shape tracked external r line)
+    ∙ set_all_shape tracked external (set_one external r line) lines
+
+-- the entry that decides over the shape of a route
+pub shape_deciding-route_shape : (policies : Policies) (entries : List MapEntry) (tracked : Tracked) (p : Prefix)
+    (r : Attributes) → all_tracked tracked policies ≡ true
+    → find (shape_route_taken policies tracked p (route_shape tracked r)) (in_order (λ e. e.seq) entries)
+    ≡ deciding policies p r entries
+shape_deciding-route_shape policies entries tracked p r h =
+    ap (λ test. find test (in_order (λ e. e.seq) entries)) (one_test _ _ (taken_shape policies tracked p r h))
 
 -- the map over shapes makes of the shape of a route the shape of what the map makes of the route
 pub shape_mapped-route_shape : (policies : Policies) (entries : List MapEntry) (tracked : Tracked) (p : Prefix)
     (external : Bool) (r : Attributes) → all_tracked tracked policies ≡ true
-    → IfSome (mapped policies entries p external r) (λ made. length made.path < 2 ^ 32)
     → shape_mapped policies entries tracked p external (route_shape tracked r)
     ≡ option_map (route_shape tracked) (mapped policies entries p external r)
-shape_mapped-route_shape policies entries tracked p external r h small =
-    ap (λ test. option_and_then (shape_made tracked external (route_shape tracked r))
-    (find test (in_order (λ e. e.seq) entries)))
-    (one_test _ _ (taken_shape policies tracked p r h))
-    ∙ by (deciding policies p r entries) small
+shape_mapped-route_shape policies entries tracked p external r h =
+    ap (option_and_then (shape_made tracked external (route_shape tracked r)))
+    (shape_deciding-route_shape policies entries tracked p r h)
+    ∙ by (deciding policies p r entries)
   where
     made : (e : MapEntry) (b : Bool)
-        → IfSome (if b then Some (set_all external r e.sets) else None) (λ made. length made.path < 2 ^ 32)
         → (if b then Some (set_shapes tracked external (route_shape tracked r) e.sets) else None)
         ≡ option_map (route_shape tracked) (if b then Some (set_all external r e.sets) else None)
-    made e true fits = ap Some (set_all_shape tracked external r e.sets fits)
-    made e false fits = refl
+    made e true = ap Some (set_all_shape tracked external r e.sets)
+    made e false = refl
 
     by : (decider : Option MapEntry)
-        → IfSome (option_and_then (λ e. if e.permit then Some (set_all external r e.sets) else None) decider)
-        (λ made. length made.path < 2 ^ 32)
         → option_and_then (shape_made tracked external (route_shape tracked r)) decider
         ≡ option_map (route_shape tracked)
         (option_and_then (λ e. if e.permit then Some (set_all external r e.sets) else None) decider)
-    by None fits = refl
-    by (Some e) fits = made e e.permit fits
+    by None = refl
+    by (Some e) = made e e.permit
