@@ -13,3 +13,5 @@ pub mod Equations
 pub mod InOrder
 pub mod SubnetOrder
 pub mod Survivors
+pub mod EndNumbers
+pub mod Heard

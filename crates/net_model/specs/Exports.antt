@@ -1,6 +1,6 @@
 -- What a router sends over a BGP session, and what it makes of what it receives (RFC 4271, sections 5 and 9; RFC 4456;
 -- RFC 1997).
-use Rattle.std.specs.Prelude.{ℕ, ◌==◌, ◌&&◌, ◌||◌, Bool, true, false, not, List, [], ◌∷◌, filter, fold, length, map}
+use Rattle.std.specs.Prelude.{ℕ, ◌+◌, ◌^◌, ◌==◌, ◌&&◌, ◌||◌, Bool, true, false, not, List, [], ◌∷◌, filter, fold, length, map}
 use Rattle.std.specs.Prelude.{max, nat_le, slice_get, Option, Some, None, option_and_then, option_map, unwrap_or}
 use Rattle.std.specs.Prelude.{if◌then◌else◌}
 use Rattle.std.specs.List.{find, list_any}
@@ -62,16 +62,29 @@ router_id files router =
 abbrev pub is_reflector : Bgp → Bool
 is_reflector process = list_any (λ neighbour. neighbour.client) process.neighbours
 
+-- the end is one of the router, and its neighbour has that address
+abbrev pub is_towards : List File → ℕ → Addr → SessionEnd → Bool
+is_towards files router a end =
+    (end.router == router) && option_map_or (λ neighbour. neighbour.addr.0 == a.0) (neighbour_of files end) false
+
 -- the end of the router whose neighbour has that address
 abbrev pub end_towards : List File → ℕ → Addr → Option SessionEnd
-end_towards files router a =
-    find (λ end. (end.router == router)
-    && option_map_or (λ neighbour. neighbour.addr.0 == a.0) (neighbour_of files end) false) (ends_of files)
+end_towards files router a = find (is_towards files router a) (ends_of files)
 
 -- the end over which a route was learnt
 abbrev pub learnt_over : List File → ℕ → Learnt → Option SessionEnd
 learnt_over files router Local = None
 learnt_over files router (Peer a) = end_towards files router a
+
+-- the end is one of the router, and the number stands for its neighbour: 2^32 and the address, where 0 stands for none
+abbrev pub is_from : List File → ℕ → ℕ → SessionEnd → Bool
+is_from files router n end =
+    (end.router == router)
+    && option_map_or (λ neighbour. 2 ^ 32 + neighbour.addr.0 == n) (neighbour_of files end) false
+
+-- the end over which a route with that number was learnt
+abbrev pub end_numbered : List File → ℕ → ℕ → Option SessionEnd
+end_numbered files router n = find (is_from files router n) (ends_of files)
 
 abbrev pub is_client : List File → SessionEnd → Bool
 is_client files end = option_map_or (λ neighbour. neighbour.client) (neighbour_of files end) false

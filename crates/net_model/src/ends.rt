@@ -48,9 +48,9 @@ fn is_at(files: &[File], end: &SessionEnd, a: Addr) -> bool
     }
 }
 
-fn is_towards(files: &[File], router: u32, a: Addr, end: &SessionEnd) -> bool
-    ensures { result ≡ ((end.now.router == router)
-        && option_map_or (λ neighbour. neighbour.addr.0 == a.0) (sessions.neighbour_of files.now end.now) false) }
+/// Whether the end is one of the router, and its neighbour has that address.
+pub fn is_towards(files: &[File], router: u32, a: Addr, end: &SessionEnd) -> bool
+    ensures { result ≡ exports.is_towards files.now router a end.now }
 {
     end.router == router && is_at(files, end, a)
 }
