@@ -6,7 +6,7 @@ ghost use Rattle.std.specs.Option.{option_copied, option_map_or};
 ghost use Rattle.net_model.specs.Exports as exports;
 ghost use Rattle.net_model.specs.Sessions as sessions;
 
-use crate::sessions::SessionEnd;
+use crate::sessions::{Far, SessionEnd};
 use ios_ast::{Bgp, File, Neighbour};
 use mw_text::Addr;
 use route_record::Learnt;
@@ -37,6 +37,13 @@ pub fn neighbour_of<'a>(files: &'a [File], end: &SessionEnd) -> Option<&'a Neigh
         None => None,
         Some(process) => process.neighbours.items.get(end.neighbour as usize),
     }
+}
+
+/// Whether an external peer lies at the far side.
+pub fn is_outside(end: &SessionEnd) -> bool
+    ensures { result ≡ sessions.is_outside end.now.far }
+{
+    matches!(end.far, Far::Outside)
 }
 
 fn is_at(files: &[File], end: &SessionEnd, a: Addr) -> bool
