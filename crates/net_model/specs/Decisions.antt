@@ -177,8 +177,8 @@ learnt_candidate files failures ids p at end received =
 abbrev pub local_candidate : List File → ℕ → BgpRec → Candidate
 local_candidate files router rec = record { rec = rec; external = false; cost = 0; peer_id = router_id files router }
 
--- the candidates of a router for a prefix by what it last received over each of its sessions (its Adj-RIBs-In, RFC 4271,
--- section 3.2): its local routes, and then by session what it learnt
+-- the candidates of a router for a prefix by what it last received over each of its sessions (its Adj-RIBs-In,
+-- RFC 4271, section 3.2): its local routes, and then by session what it learnt
 unfoldable pub candidates_from : List File → Failures → List Addr → (ℕ → SessionEnd → Option BgpMsg) → ℕ → Prefix
     → List BgpRec → List Candidate
 candidates_from files failures ids received router p local =

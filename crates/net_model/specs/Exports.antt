@@ -1,7 +1,7 @@
 -- What a router sends over a BGP session, and what it makes of what it receives (RFC 4271, sections 5 and 9; RFC 4456;
 -- RFC 1997).
-use Rattle.std.specs.Prelude.{ℕ, ◌+◌, ◌^◌, ◌==◌, ◌&&◌, ◌||◌, Bool, true, false, not, List, [], ◌∷◌, filter, fold, length, map}
-use Rattle.std.specs.Prelude.{max, nat_le, slice_get, Option, Some, None, option_and_then, option_map, unwrap_or}
+use Rattle.std.specs.Prelude.{ℕ, ◌+◌, ◌^◌, ◌==◌, ◌&&◌, ◌||◌, Bool, true, false, not, List, [], ◌∷◌, filter, fold}
+use Rattle.std.specs.Prelude.{length, map, max, nat_le, slice_get, Option, Some, None, option_and_then, option_map, unwrap_or}
 use Rattle.std.specs.Prelude.{if◌then◌else◌}
 use Rattle.std.specs.List.{find, list_any}
 use Rattle.std.specs.Option.{option_map_or}

@@ -36,9 +36,9 @@ fn offer_heard(heard: &[Option<OspfRec>], at: usize, a: &Adjacency) -> Option<Os
     offer(rec, a.cost)
 }
 
-/// The OSPF record that a router holds by its own origins and by what it last heard over each adjacency of the network, by
-/// its place, whether that is up or not: the first best of the origins and of what was heard over those adjacencies of the router that
-/// are up, with their costs added. Of an adjacency past the list nothing was heard. None where there is neither.
+/// The OSPF record that a router holds by its own origins and by what was last heard over each adjacency of the
+/// network, by its place: the first best of the origins and of what it heard over its own adjacencies that are up, with
+/// their costs added. Over an adjacency past the list nothing was heard. None where there is neither.
 pub fn held_from(
     net: &Net,
     failures: &Failures,

@@ -94,9 +94,10 @@ fn taken_candidate(
     })
 }
 
-/// What was last received over the session of the end at that place, as a candidate for the prefix. None where the session is
-/// down, nothing was received or a withdrawal, the router does not take the message (see `import`), or the next hop is not
-/// resolved (RFC 4271, section 9.1.2). `ids` are the identifiers of the external peers, in the order of their ends.
+/// What was last received over the session of the end at that place, as a candidate for the prefix. None where the
+/// session is down, nothing was received or a withdrawal, the router does not take the message (see `import`), or the
+/// next hop is not resolved (RFC 4271, section 9.1.2). `ids` are the identifiers of the external peers, in the order of
+/// their ends.
 pub fn learnt_candidate(
     alloc: Global,
     net: &Net,

@@ -36,7 +36,8 @@ fn of_routes(alloc: Global, own: Addr, routes: List<BgpRec>) -> Result<List<Cand
     Ok(made)
 }
 
-/// The candidates of the local routes that the router has for the prefix while it holds this slot (RFC 4271, section 9.4).
+/// The candidates of the local routes that the router has for the prefix while it holds this slot (RFC 4271, section
+/// 9.4).
 pub fn local_candidates(
     alloc: Global,
     net: &Net,

@@ -36,8 +36,8 @@ fn internal_origins(
     Ok(made)
 }
 
-/// The own origins of a router for the prefix while it holds this slot: of its interfaces, and what it takes from its own
-/// table.
+/// The own origins of a router for the prefix while it holds this slot: of its interfaces, and what it takes from its
+/// own table.
 pub fn origins(
     alloc: Global,
     net: &Net,
@@ -61,8 +61,8 @@ fn some_as_good(origins: &[OspfRec], held: &OspfRec) -> bool
     origins.iter().any(|o| prefer(o, held))
 }
 
-/// Whether an own origin of the router, while it holds this slot, is as good as the record: then no OSPF entry stands in its
-/// table (RFC 2328, section 16.4). False where it runs no OSPF.
+/// Whether an own origin of the router, while it holds this slot, is as good as the record, so that its table has no
+/// OSPF entry. False where it runs no OSPF.
 #[tactic(auto, using(crate::proofs::OspfParts::origins_of))]
 pub fn is_own(
     alloc: Global,
@@ -75,7 +75,8 @@ pub fn is_own(
     held: &OspfRec,
 ) -> Result<bool, AllocError>
     requires file { slice_get net.now.files router ≡ Some file.now }
-    ensures { IfOk result (λ own. own ≡ routes.is_own net.now.files failures.now router file.now p.now slot.now held.now) }
+    ensures { IfOk result (λ own. own
+        ≡ routes.is_own net.now.files failures.now router file.now p.now slot.now held.now) }
 {
     if file.ospf.is_none() {
         return Ok(false);
