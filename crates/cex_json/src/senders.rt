@@ -46,7 +46,7 @@ fn outer_end(files: &[File], ends: &[SessionEnd], router: u32, a: Addr) -> Optio
 }
 
 fn end_named(net: &Net, router: Option<u32>, a: Option<Addr>) -> Option<u32>
-    ensures { result ≡ around.end_named net.now router a }
+    ensures { result ≡ around.end_named net.now.files router a }
 {
     match router {
         None => None,
@@ -59,7 +59,7 @@ fn end_named(net: &Net, router: Option<u32>, a: Option<Addr>) -> Option<u32>
 
 #[tactic(auto, unfolding(crate::specs::Surroundings::end_in))]
 fn end_in(net: &Net, entry: &Value) -> Option<u32>
-    ensures { result ≡ around.end_in net.now (view entry.now) }
+    ensures { result ≡ around.end_in net.now.files (view entry.now) }
 {
     end_named(net, router_in(net, entry), addr_in(entry, "address"))
 }
@@ -92,7 +92,7 @@ fn later_length(so_far: &[Announcement], end: u32, entry: &Value) -> Option<u32>
 
 #[tactic(auto, unfolding(crate::specs::Surroundings::asn_of_end))]
 fn asn_of_end(net: &Net, at: u32) -> Option<u32>
-    ensures { result ≡ around.asn_of_end net.now at }
+    ensures { result ≡ around.asn_of_end net.now.files at }
 {
     match net.ends().get(at as usize) {
         None => None,
@@ -149,7 +149,7 @@ fn announcement_at(
     at: &str,
     entry: &Value,
 ) -> Result<Announcement, CexRefused>
-    ensures { Reads result (around.announcement_at net.now so_far.now at.now (view entry.now)) }
+    ensures { Reads result (around.announcement_at net.now.files so_far.now at.now (view entry.now)) }
 {
     let end = required(alloc, at, "address", end_in(net, entry))?;
     let communities = ascending_in(alloc, at, "communities", entry)?;
@@ -175,7 +175,7 @@ fn take_announcement(
     mut so_far: List<Announcement>,
     entry: &Value,
 ) -> Result<List<Announcement>, CexRefused>
-    ensures { Reads result (around.announcement_step net.now place so_far (view entry.now)) }
+    ensures { Reads result (around.announcement_step net.now.files place so_far (view entry.now)) }
 {
     let at = format!(in alloc; "announcements/{place}/")?;
     let next = announcement_at(alloc, net, so_far.as_slice(), at.as_str(), entry)?;
@@ -188,7 +188,7 @@ fn take_announcements(
     net: &Net,
     members: &[Value],
 ) -> Result<List<Announcement>, CexRefused>
-    ensures { Reads result (in_order (around.announcement_step net.now) 0 [] (items_view members.now)) }
+    ensures { Reads result (in_order (around.announcement_step net.now.files) 0 [] (items_view members.now)) }
 {
     let mut announced = List::new(alloc);
     for (place, entry) in members.iter().enumerate() {
@@ -204,7 +204,7 @@ pub fn announcements_in(
     net: &Net,
     text: &Value,
 ) -> Result<List<Announcement>, CexRefused>
-    ensures { Reads result (around.announcements_in net.now (view text.now)) }
+    ensures { Reads result (around.announcements_in net.now.files (view text.now)) }
 {
     let members = members_in(alloc, "", "announcements", text)?;
     take_announcements(alloc, net, members)
@@ -212,7 +212,7 @@ pub fn announcements_in(
 
 #[tactic(auto, unfolding(crate::specs::Surroundings::names_end))]
 fn names_end(net: &Net, entry: &Value, end: &SessionEnd) -> bool
-    ensures { result ≡ around.names_end net.now (view entry.now) end.now }
+    ensures { result ≡ around.names_end net.now.files (view entry.now) end.now }
 {
     match router_in(net, entry) {
         None => false,
@@ -224,7 +224,7 @@ fn names_end(net: &Net, entry: &Value, end: &SessionEnd) -> bool
 }
 
 fn wanted_end(net: &Net, ends: &[SessionEnd], place: usize, entry: &Value) -> Option<SessionEnd>
-    ensures { result ≡ passing (around.names_end net.now (view entry.now)) (slice_get ends.now place) }
+    ensures { result ≡ passing (around.names_end net.now.files (view entry.now)) (slice_get ends.now place) }
 {
     match ends.get(place) {
         None => None,
@@ -280,7 +280,7 @@ fn peer_at(
     at: &str,
     entry: &Value,
 ) -> Result<Addr, CexRefused>
-    ensures { Reads result (around.peer_at net.now format (slice_get ends.now place) at.now (view entry.now)) }
+    ensures { Reads result (around.peer_at net.now.files format (slice_get ends.now place) at.now (view entry.now)) }
 {
     let end = required(alloc, at, "address", wanted_end(net, ends, place, entry))?;
     let _known = required(
@@ -300,7 +300,7 @@ fn next_peer(
     place: usize,
     entry: &Value,
 ) -> Result<Addr, CexRefused>
-    ensures { Reads result (around.peer_at net.now format (slice_get ends.now place) (entry_path (codes "peers/") place) (view entry.now)) }
+    ensures { Reads result (around.peer_at net.now.files format (slice_get ends.now place) (entry_path (codes "peers/") place) (view entry.now)) }
 {
     let at = format!(in alloc; "peers/{place}/")?;
     peer_at(alloc, net, format, ends, place, at.as_str(), entry)
@@ -313,7 +313,7 @@ fn take_ids(
     ends: &[SessionEnd],
     members: &[Value],
 ) -> Result<List<Addr>, CexRefused>
-    ensures { Reads result (in_order (around.peer_step net.now format ends.now) 0 [] (items_view members.now)) }
+    ensures { Reads result (in_order (around.peer_step net.now.files format ends.now) 0 [] (items_view members.now)) }
 {
     let mut ids = List::new(alloc);
     for (place, entry) in members.iter().enumerate() {
@@ -345,7 +345,7 @@ fn complete_ids(alloc: Global, ids: List<Addr>, count: usize) -> Result<List<Add
 /// The identifiers of all external peers, in the order of their sessions.
 #[tactic(auto, unfolding(crate::specs::Surroundings::ids_in))]
 pub fn ids_in(alloc: Global, net: &Net, format: u32, text: &Value) -> Result<List<Addr>, CexRefused>
-    ensures { Reads result (around.ids_in net.now format (view text.now)) }
+    ensures { Reads result (around.ids_in net.now.files format (view text.now)) }
 {
     let members = members_in(alloc, "", "peers", text)?;
     let ends = external_ends(alloc, net)?;

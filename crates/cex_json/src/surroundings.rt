@@ -283,7 +283,7 @@ pub fn failures_in(
     most: Option<u32>,
     text: &Value,
 ) -> Result<List<u32>, CexRefused>
-    ensures { Reads result (around.failures_in net.now most (view text.now)) }
+    ensures { Reads result (around.failures_in net.now.files most (view text.now)) }
 {
     let members = members_in(alloc, "", "failures", text)?;
     let links = take_links(alloc, net.links(), members)?;

@@ -42,7 +42,7 @@ fn link_value(alloc: Global, links: &[Link], at: u32) -> Result<Value, AllocErro
 
 /// The failed links.
 pub fn failure_values(alloc: Global, net: &Net, failed: &[u32]) -> Result<Vec<Value>, AllocError>
-    ensures { IfOk result (λ values. map view values.items ≡ map (worlds.link_data (links_of net.now)) failed.now) }
+    ensures { IfOk result (λ values. map view values.items ≡ map (worlds.link_data (links_of net.now.files)) failed.now) }
 {
     let links = net.links();
     let mut values = Vec::new(alloc);
@@ -88,7 +88,7 @@ fn peer_value(
 
 /// The ends towards external peers.
 pub fn external_ends(alloc: Global, net: &Net) -> Result<Vec<SessionEnd>, AllocError>
-    ensures { IfOk result (λ ends. ends.items ≡ sessions.external_ends net.now) }
+    ensures { IfOk result (λ ends. ends.items ≡ sessions.external_ends net.now.files) }
 {
     net.ends()
         .iter()
@@ -132,14 +132,14 @@ fn peers_of(
 
 /// All external peers, with the identifiers that they have.
 pub fn peer_values(alloc: Global, net: &Net, ids: &[Addr]) -> Result<Vec<Value>, AllocError>
-    ensures { IfOk result (λ values. map view values.items ≡ worlds.peers_from net.now ids.now 0 (sessions.external_ends net.now)) }
+    ensures { IfOk result (λ values. map view values.items ≡ worlds.peers_from net.now.files ids.now 0 (sessions.external_ends net.now.files)) }
 {
     let ends = external_ends(alloc, net)?;
     peers_of(alloc, net.routers(), ends.as_slice(), ids)
 }
 
 fn end_address(alloc: Global, net: &Net, at: u32) -> Result<String, AllocError>
-    ensures { IfOk result (λ text. string_bytes text ≡ worlds.end_address net.now at) }
+    ensures { IfOk result (λ text. string_bytes text ≡ worlds.end_address net.now.files at) }
 {
     match net.ends().get(at as usize) {
         None => Ok(String::new(alloc)),
@@ -148,7 +148,7 @@ fn end_address(alloc: Global, net: &Net, at: u32) -> Result<String, AllocError>
 }
 
 fn end_router(net: &Net, at: u32) -> &[u8]
-    ensures { result.now ≡ worlds.end_router net.entry.now at }
+    ensures { result.now ≡ worlds.end_router net.entry.now.files at }
 {
     match net.ends().get(at as usize) {
         None => b"",
@@ -162,7 +162,7 @@ fn announcement_value(
     net: &Net,
     announcement: &Announcement,
 ) -> Result<Value, AllocError>
-    ensures { IfOk result (λ value. view value ≡ worlds.announcement_data net.now announcement.now) }
+    ensures { IfOk result (λ value. view value ≡ worlds.announcement_data net.now.files announcement.now) }
 {
     let address = end_address(alloc, net, announcement.end)?;
     let communities = number_values(alloc, announcement.communities.as_slice())?;
@@ -186,7 +186,7 @@ pub fn announcement_values(
     net: &Net,
     announced: &[Announcement],
 ) -> Result<Vec<Value>, AllocError>
-    ensures { IfOk result (λ values. map view values.items ≡ map (worlds.announcement_data net.now) announced.now) }
+    ensures { IfOk result (λ values. map view values.items ≡ map (worlds.announcement_data net.now.files) announced.now) }
 {
     let mut values = Vec::new(alloc);
     for announcement in announced {

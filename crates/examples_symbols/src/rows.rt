@@ -63,7 +63,7 @@ pub fn fresh_net(alloc: Global, terms: &mut Terms, net: &Net) -> Result<SymNet, 
 
 /// Whether there is a route of each router to each advertised prefix.
 pub fn has_rows(net: &Net, sym: &SymNet) -> bool
-    ensures { result ≡ true → length sym.now.igp ≡ length net.now * length (ospf.advertised net.now) }
+    ensures { result ≡ true → length sym.now.igp ≡ length net.now.files * length (ospf.advertised net.now.files) }
 {
     let columns = net.advertised().len();
     columns < 1000 && sym.igp.as_slice().len() == net.routers().len() * columns

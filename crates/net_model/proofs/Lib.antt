@@ -1,7 +1,9 @@
 pub mod Order
 pub mod Ascending
 pub mod FewLinks
+pub mod TrackedFew
 pub mod TrackedUp
+pub mod Tracking
 pub mod EndPlaces
 pub mod Defined
 pub mod LeastWalks

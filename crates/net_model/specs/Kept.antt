@@ -9,7 +9,7 @@ use Rattle.net_model.specs.Interfaces.{addressed}
 use Rattle.net_model.specs.Network.{IsNetwork}
 use Rattle.net_model.specs.Ospf.{adjacencies, advertised, ospf_interfaces}
 use Rattle.net_model.specs.Sessions.{ends_of}
-use Rattle.net_model.specs.Tracked.{tracked_of}
+use Rattle.net_model.specs.Tracked.{TracksNet}
 use Rattle.net_model.specs.World.{links_of}
 
 -- the identifiers of the routers from that number on
@@ -17,8 +17,8 @@ abbrev pub ids_from : List File → ℕ → List File → List Addr
 ids_from files router [] = []
 ids_from files router (file ∷ rest) = router_id files router ∷ ids_from files (router + 1) rest
 
--- the files are a network, and these are its interfaces, links, ends of sessions, adjacencies, and the values that it
--- names
+-- the files are a network, and these are its interfaces, links, ends of sessions, adjacencies, and values that it may
+-- track
 pub record IsKept (files : List File) (parts : Parts) : Type 0 where
   pub network : IsNetwork files
   pub few : length files ≤ MOST_FILES
@@ -28,5 +28,5 @@ pub record IsKept (files : List File) (parts : Parts) : Type 0 where
   pub running : parts.running ≡ ospf_interfaces files
   pub adjacencies : parts.adjacencies ≡ adjacencies files
   pub advertised : parts.advertised ≡ advertised files
-  pub tracked : parts.tracked ≡ tracked_of files
+  pub tracked : TracksNet files parts.tracked
   pub ids : parts.ids ≡ ids_from files 0 files

@@ -1,9 +1,15 @@
--- Which files are a network.
+-- Which files are a network, and what it is beside them.
 use Rattle.std.specs.Prelude.{◌≡◌, ◌&&◌, Bool, true, not, List, None, is_some}
 use Rattle.std.specs.List.{list_all}
 use Rattle.ios_ast.specs.declared.file.File.{File}
+use Rattle.route_record.specs.declared.tracked.Tracked.{Tracked}
 use Rattle.net_model.specs.Limits.{keeps_limits}
 use Rattle.net_model.specs.Refusals.{first_refusal}
+
+-- a network: the files of its routers, and the values that it tracks
+pub record Network : Type 0 where
+  pub files : List File
+  pub tracked : Tracked
 
 -- the files are a network: each keeps the limits of a file, and together they break no rule
 pub record IsNetwork (files : List File) : Type 0 where

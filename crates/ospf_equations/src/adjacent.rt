@@ -52,7 +52,7 @@ fn put_adjacency(
     ensures within { OnOk result (ups_end made.new ≤ size terms.new) }
     ensures value { Gives terms.new result (λ w _. (tables : Tables) → (p : Prefix) → offers_read w tables p made.new
         ≡ offers_read w tables p made.old
-        ++ option_to_list (offered_by net.now (failures_of w sym.now) tables router p a.now)) }
+        ++ option_to_list (offered_by net.now.files (failures_of w sym.now) tables router p a.now)) }
 {
     if a.from.router != router {
         return Ok(());
@@ -76,7 +76,7 @@ pub fn sym_adjacencies(
     ensures builds { Builds terms.old terms.new }
     ensures within { IfOk result (λ r. ups_end r ≤ size terms.new) }
     ensures value { Gives terms.new result (λ w r. (tables : Tables) → (p : Prefix) → offers_read w tables p r
-        ≡ offers_by net.now (failures_of w sym.now) tables router p (model.adjacencies net.now)) }
+        ≡ offers_by net.now.files (failures_of w sym.now) tables router p (model.adjacencies net.now.files)) }
 {
     let adjacencies = net.adjacencies();
     let mut made = List::new(alloc);

@@ -210,8 +210,8 @@ pub fn sym_held(
     ensures builds { Builds terms.old terms.new }
     ensures within { IfOk result (λ r. r.0 < size terms.new) }
     ensures value { Gives terms.new result (λ w r. at w r ≡ same_ospf (ospf_of w held.now) (first_best
-        (filter_map (ospf_of w) own ++ offers_by net.now (failures_of w sym.now) (tables_of w slots.now) router
-        (prefix_read w dst.now len) (model.adjacencies net.now)))) }
+        (filter_map (ospf_of w) own ++ offers_by net.now.files (failures_of w sym.now) (tables_of w slots.now) router
+        (prefix_read w dst.now len) (model.adjacencies net.now.files)))) }
 {
     let shown = if is_never(terms, held.valid) {
         &[]

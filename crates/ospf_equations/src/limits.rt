@@ -149,7 +149,7 @@ fn longest(alloc: Global, net: &Net, origin: u32, failures: u32) -> Result<u32, 
 /// limits of costs, and the packet and the failed links settle the rest of it. In a ring and a tree they have no more, and
 /// a search over other variables is faster there.
 pub fn is_meshed(net: &Net) -> bool
-    ensures { result ≡ nat_lt (length net.now) (length (model.adjacencies net.now) / 2) }
+    ensures { result ≡ nat_lt (length net.now.files) (length (model.adjacencies net.now.files) / 2) }
 {
     let routers = net.routers();
     let adjacencies = net.adjacencies();

@@ -342,9 +342,9 @@ pub fn export(
     p: &Prefix,
     held: &BgpRec,
 ) -> Result<Option<BgpMsg>, AllocError>
-    requires within { end < length (ends_of net.now) }
+    requires within { end < length (ends_of net.now.files) }
     ensures { IfOk result (λ msg. msg
-        ≡ option_and_then (λ at. exports.exported net.now at p.now held.now) (slice_get (ends_of net.now) end)) }
+        ≡ option_and_then (λ at. exports.exported net.now.files at p.now held.now) (slice_get (ends_of net.now.files) end)) }
 {
     let at = net.ends()[end as usize];
     let speaker = speaker_of(alloc, net, &at, held)?;

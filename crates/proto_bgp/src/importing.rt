@@ -171,9 +171,9 @@ pub fn import(
     p: &Prefix,
     msg: &BgpMsg,
 ) -> Result<Option<BgpRec>, AllocError>
-    requires within { end < length (ends_of net.now) }
+    requires within { end < length (ends_of net.now.files) }
     ensures { IfOk result (λ made. made
-        ≡ option_and_then (λ at. exports.imported net.now at p.now msg.now) (slice_get (ends_of net.now) end)) }
+        ≡ option_and_then (λ at. exports.imported net.now.files at p.now msg.now) (slice_get (ends_of net.now.files) end)) }
 {
     let at = net.ends()[end as usize];
     let own = router_id(alloc, net.routers(), net.addresses(), at.router)?;

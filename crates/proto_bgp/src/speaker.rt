@@ -167,7 +167,7 @@ pub fn speaker_of(
     end: &SessionEnd,
     held: &BgpRec,
 ) -> Result<Speaker, AllocError>
-    ensures { IfOk result (λ speaker. Speaks net.now end.now held.now speaker) }
+    ensures { IfOk result (λ speaker. Speaks net.now.files end.now held.now speaker) }
 {
     let files = net.routers();
     let from = net.learnt_over(end.router, held.from);

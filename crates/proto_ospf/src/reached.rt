@@ -28,7 +28,7 @@ pub fn all_distances(
     net: &Net,
     failures: &Failures,
 ) -> Result<List<Reached>, AllocError>
-    ensures { IfOk result (λ all. all ≡ all_reached net.now failures.now) }
+    ensures { IfOk result (λ all. all ≡ all_reached net.now.files failures.now) }
 {
     let routers = receivers(alloc, net, failures)?;
     let mut all = List::new(alloc);
@@ -60,8 +60,8 @@ pub fn resolve_over(
     router: u32,
     a: Addr,
 ) -> Option<u32>
-    requires all { all.now ≡ all_reached net.now failures.now }
-    ensures { result ≡ resolved net.now failures.now router a }
+    requires all { all.now ≡ all_reached net.now.files failures.now }
+    ensures { result ≡ resolved net.now.files failures.now router a }
 {
     if net.is_reached(failures, router, a) {
         return Some(0);
@@ -86,7 +86,7 @@ pub fn resolve(
     router: u32,
     a: Addr,
 ) -> Result<Option<u32>, AllocError>
-    ensures { IfOk result (λ cost. cost ≡ resolved net.now failures.now router a) }
+    ensures { IfOk result (λ cost. cost ≡ resolved net.now.files failures.now router a) }
 {
     if net.is_reached(failures, router, a) {
         return Ok(Some(0));

@@ -75,8 +75,8 @@ pub fn sent_towards(
     router: u32,
     a: Addr,
 ) -> Result<List<Adjacency>, AllocError>
-    requires all { all.now ≡ all_reached net.now failures.now }
-    ensures { IfOk result (λ over. over ≡ sending.sent_towards net.now failures.now router a) }
+    requires all { all.now ≡ all_reached net.now.files failures.now }
+    ensures { IfOk result (λ over. over ≡ sending.sent_towards net.now.files failures.now router a) }
 {
     let up = up_adjacencies(alloc, net, failures, router)?;
     steps(alloc, all, up.as_slice(), router, a)

@@ -13,8 +13,8 @@ use route_record::Failures;
 use std::alloc::{AllocError, Global};
 
 fn resolves_neighbour(net: &Net, failures: &Failures, all: &[Reached], end: &SessionEnd) -> bool
-    requires all { all.now ≡ all_reached net.now failures.now }
-    ensures { result ≡ resolution.resolves_neighbour net.now failures.now end.now }
+    requires all { all.now ≡ all_reached net.now.files failures.now }
+    ensures { result ≡ resolution.resolves_neighbour net.now.files failures.now end.now }
 {
     match neighbour_of(net.routers(), end) {
         None => false,
@@ -29,9 +29,9 @@ fn resolve_each_other(
     end: &SessionEnd,
     far: &SessionEnd,
 ) -> bool
-    requires all { all.now ≡ all_reached net.now failures.now }
-    ensures { result ≡ (resolution.resolves_neighbour net.now failures.now end.now
-        && resolution.resolves_neighbour net.now failures.now far.now) }
+    requires all { all.now ≡ all_reached net.now.files failures.now }
+    ensures { result ≡ (resolution.resolves_neighbour net.now.files failures.now end.now
+        && resolution.resolves_neighbour net.now.files failures.now far.now) }
 {
     resolves_neighbour(net, failures, all, end) && resolves_neighbour(net, failures, all, far)
 }
@@ -43,8 +43,8 @@ fn is_up_between(
     end: &SessionEnd,
     far: &SessionEnd,
 ) -> bool
-    requires all { all.now ≡ all_reached net.now failures.now }
-    ensures { result ≡ resolution.is_up_between net.now failures.now end.now far.now }
+    requires all { all.now ≡ all_reached net.now.files failures.now }
+    ensures { result ≡ resolution.is_up_between net.now.files failures.now end.now far.now }
 {
     net.is_up(failures, end.own)
         && net.is_up(failures, far.own)
@@ -55,8 +55,8 @@ fn is_up_between(
 /// is; towards another router where both interfaces are, and, over no shared subnet, where both resolve each other.
 #[tactic(auto, unfolding(net_model::specs::Resolution::session_up))]
 pub fn is_up_at_end(net: &Net, failures: &Failures, all: &[Reached], end: &SessionEnd) -> bool
-    requires all { all.now ≡ all_reached net.now failures.now }
-    ensures { result ≡ resolution.session_up net.now failures.now end.now }
+    requires all { all.now ≡ all_reached net.now.files failures.now }
+    ensures { result ≡ resolution.session_up net.now.files failures.now end.now }
 {
     match end.far {
         Far::Outside => net.is_up(failures, end.own),
@@ -74,8 +74,8 @@ pub fn sessions_up(
     failures: &Failures,
     all: &[Reached],
 ) -> Result<List<bool>, AllocError>
-    requires all { all.now ≡ all_reached net.now failures.now }
-    ensures { IfOk result (λ up. up ≡ map (resolution.session_up net.now failures.now) (ends_of net.now)) }
+    requires all { all.now ≡ all_reached net.now.files failures.now }
+    ensures { IfOk result (λ up. up ≡ map (resolution.session_up net.now.files failures.now) (ends_of net.now.files)) }
 {
     let mut up = List::new(alloc);
     for end in net.ends() {
@@ -93,8 +93,8 @@ pub fn session_up(
     failures: &Failures,
     end: u32,
 ) -> Result<bool, AllocError>
-    requires within { end < length (ends_of net.now) }
-    ensures { IfOk result (λ up. option_map (resolution.session_up net.now failures.now) (slice_get (ends_of net.now) end) ≡ Some up) }
+    requires within { end < length (ends_of net.now.files) }
+    ensures { IfOk result (λ up. option_map (resolution.session_up net.now.files failures.now) (slice_get (ends_of net.now.files) end) ≡ Some up) }
 {
     let all = all_distances(alloc, net, failures)?;
     let ends = net.ends();

@@ -11,13 +11,13 @@ use route_record::Failures;
 use std::alloc::{AllocError, Global};
 
 fn is_up(net: &Net, failures: &Failures, a: &Adjacency) -> bool
-    ensures { result ≡ ospf.is_adjacency_up net.now failures.now a.now }
+    ensures { result ≡ ospf.is_adjacency_up net.now.files failures.now a.now }
 {
     net.is_up(failures, a.from) && net.is_up(failures, a.to)
 }
 
 fn receives(net: &Net, failures: &Failures, router: u32, a: &Adjacency) -> bool
-    ensures { result ≡ ospf.receives net.now failures.now router a.now }
+    ensures { result ≡ ospf.receives net.now.files failures.now router a.now }
 {
     a.from.router == router && is_up(net, failures, a)
 }
@@ -28,7 +28,7 @@ pub fn adjacencies_up(
     net: &Net,
     failures: &Failures,
 ) -> Result<List<bool>, AllocError>
-    ensures { IfOk result (λ up. up ≡ map (ospf.is_adjacency_up net.now failures.now) (ospf.adjacencies net.now)) }
+    ensures { IfOk result (λ up. up ≡ map (ospf.is_adjacency_up net.now.files failures.now) (ospf.adjacencies net.now.files)) }
 {
     let mut up = List::new(alloc);
     for a in net.adjacencies() {
@@ -45,7 +45,7 @@ pub fn up_adjacencies(
     failures: &Failures,
     router: u32,
 ) -> Result<List<Adjacency>, AllocError>
-    ensures { IfOk result (λ up. up ≡ ospf.up_adjacencies net.now failures.now router) }
+    ensures { IfOk result (λ up. up ≡ ospf.up_adjacencies net.now.files failures.now router) }
 {
     let mut up = List::new(alloc);
     for a in net.adjacencies() {
@@ -63,7 +63,7 @@ pub fn receivers(
     net: &Net,
     failures: &Failures,
 ) -> Result<List<Receiver>, AllocError>
-    ensures { IfOk result (λ routers. routers ≡ everywhere net.now (receiver net.now failures.now)) }
+    ensures { IfOk result (λ routers. routers ≡ everywhere net.now.files (receiver net.now.files failures.now)) }
 {
     let mut routers = List::new(alloc);
     for router in 0..net.routers().len() {

@@ -270,7 +270,7 @@ pub fn redistribute(
     p: &Prefix,
     slot: &Slot,
 ) -> Result<List<OspfRec>, AllocError>
-    ensures { IfOk result (λ made. made ≡ redistributed_at net.now router p.now slot.now) }
+    ensures { IfOk result (λ made. made ≡ redistributed_at net.now.files router p.now slot.now) }
 {
     match net.routers().get(router as usize) {
         None => Ok(List::new(alloc)),

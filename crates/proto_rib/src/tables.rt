@@ -77,10 +77,10 @@ fn slot_of(
 /// The one stable routing for the destination `d` of a network in which no router runs OSPF or BGP, while no link has
 /// failed.
 pub fn tables_of(alloc: Global, net: &Net, d: Addr) -> Result<Tables, AllocError>
-    requires plain { runs_no_protocol net.now ≡ true }
-    ensures stable { IfOk result (λ tables. (environment : Environment) → Stable net.now d no_failures environment tables) }
+    requires plain { runs_no_protocol net.now.files ≡ true }
+    ensures stable { IfOk result (λ tables. (environment : Environment) → Stable net.now.files d no_failures environment tables) }
     ensures only { IfOk result (λ tables. (environment : Environment) (other : TablesOf) →
-        Stable net.now d no_failures environment other → other ≡ tables) }
+        Stable net.now.files d no_failures environment other → other ≡ tables) }
 {
     let mut slots = List::new(alloc);
     let routers = net.routers();

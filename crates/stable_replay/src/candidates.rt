@@ -54,7 +54,7 @@ fn local_routes(
     p: &Prefix,
 ) -> Result<List<BgpRec>, AllocError>
     ensures { IfOk result (λ made. made
-        ≡ option_map_or (local_routes_at net.now router p.now) (slot_at tables.now router p.now.len) []) }
+        ≡ option_map_or (local_routes_at net.now.files router p.now) (slot_at tables.now router p.now.len) []) }
 {
     match tables.slot(router, p.len) {
         None => Ok(List::new(alloc)),
@@ -70,8 +70,8 @@ fn local_candidates(
     router: u32,
     p: &Prefix,
 ) -> Result<List<Candidate>, AllocError>
-    ensures { IfOk result (λ made. map seen made ≡ map (decisions.local_candidate net.now router)
-        (option_map_or (local_routes_at net.now router p.now) (slot_at tables.now router p.now.len) [])) }
+    ensures { IfOk result (λ made. map seen made ≡ map (decisions.local_candidate net.now.files router)
+        (option_map_or (local_routes_at net.now.files router p.now) (slot_at tables.now router p.now.len) [])) }
 {
     let own = router_id(alloc, net.routers(), net.addresses(), router)?;
     let routes = local_routes(alloc, net, tables, router, p)?;
@@ -93,11 +93,11 @@ pub fn candidates(
     process: &Bgp,
     p: &Prefix,
 ) -> Result<List<Candidate>, AllocError>
-    requires underlay { IsUnderlay net.now failures.now underlay.now }
-    requires file { slice_get net.now router ≡ Some file.now }
+    requires underlay { IsUnderlay net.now.files failures.now underlay.now }
+    requires file { slice_get net.now.files router ≡ Some file.now }
     requires process { file.now.bgp ≡ Some process.now }
     ensures { IfOk result (λ made. map seen made
-        ≡ decisions.candidates net.now failures.now env.now tables.now router file.now process.now p.now) }
+        ≡ decisions.candidates net.now.files failures.now env.now tables.now router file.now process.now p.now) }
 {
     let mut made = local_candidates(alloc, net, tables, router, p)?;
     add_learnt(

@@ -77,9 +77,9 @@ pub fn test_slot(
     p: &Prefix,
     slot: &Slot,
 ) -> Result<Option<Differs>, AllocError>
-    requires underlay { IsUnderlay net.now failures.now underlay.now }
-    requires file { slice_get net.now router ≡ Some file.now }
-    ensures { IfOk result (IsSlotTested net.now failures.now env.now tables.now router file.now p.now slot.now) }
+    requires underlay { IsUnderlay net.now.files failures.now underlay.now }
+    requires file { slice_get net.now.files router ≡ Some file.now }
+    ensures { IfOk result (IsSlotTested net.now.files failures.now env.now tables.now router file.now p.now slot.now) }
 {
     if let Some(wanted) = test_ospf(
         alloc, net, failures, tables, underlay, router, file, p, &slot.ospf,

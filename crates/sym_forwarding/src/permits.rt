@@ -81,7 +81,7 @@ pub fn sym_permits_in(
     requires { packet_end packet.now ≤ size terms.old }
     ensures builds { Builds terms.old terms.new }
     ensures within { IfOk result (λ r. r.0 < size terms.new) }
-    ensures value { Gives terms.new result (λ w r. at w r ≡ hops.permits_in net.now (packet_of w packet.now) i) }
+    ensures value { Gives terms.new result (λ w r. at w r ≡ hops.permits_in net.now.files (packet_of w packet.now) i) }
 {
     match net.routers().get(i.router as usize) {
         None => constant_node(terms, true),
@@ -104,7 +104,7 @@ pub fn sym_permits_out(
     requires { packet_end packet.now ≤ size terms.old }
     ensures builds { Builds terms.old terms.new }
     ensures within { IfOk result (λ r. r.0 < size terms.new) }
-    ensures value { Gives terms.new result (λ w r. at w r ≡ hops.permits_out net.now (packet_of w packet.now) i) }
+    ensures value { Gives terms.new result (λ w r. at w r ≡ hops.permits_out net.now.files (packet_of w packet.now) i) }
 {
     match net.routers().get(i.router as usize) {
         None => constant_node(terms, true),

@@ -70,7 +70,7 @@ pub(crate) fn sym_send_to(
     ensures builds { Builds terms.old terms.new }
     ensures within { IfOk result (λ r. forwarding_end r ≤ size terms.new) }
     ensures value { Gives terms.new result (λ w r. IsTwin (sought_by w aim.now)
-        (hops.send_to net.now (packet_of w packet.now) (hops.all_up net.now (failures_of w sym.now)) out.now
+        (hops.send_to net.now.files (packet_of w packet.now) (hops.all_up net.now.files (failures_of w sym.now)) out.now
         (address_of w a.now) ∷ [])
         (forwarding_of w r)) }
 {

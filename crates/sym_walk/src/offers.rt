@@ -86,7 +86,7 @@ pub(crate) fn sym_sends_over(
     ensures builds { Builds terms.old terms.new }
     ensures within { IfOk result (λ r. r.0 < size terms.new) }
     ensures value { Gives terms.new result (λ w r. at w r ≡
-        (defined.is_up_from net.now (failures_of w sym.now) router a.now
+        (defined.is_up_from net.now.files (failures_of w sym.now) router a.now
         && defined.offers (tables_of w slots.now) (prefix_read w dst.now len) (ospf_of w held.now) a.now)) }
 {
     if a.from.router != router {

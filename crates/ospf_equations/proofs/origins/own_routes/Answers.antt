@@ -39,5 +39,5 @@ returns-clause-value c = λ w reads file process held found runs stands.
     ∙ filter_map-append (ospf_of w) c.in_ok-own.own c.in_ok-taken.taken
     ∙ ap (λ rs. rs ++ filter_map (ospf_of w) c.in_ok-taken.taken)
     (c.in_ok-own.ensures.value w (c.sym_redistribute.ensures.builds.reads w reads))
-    ∙ own_is c.args.net.now failures c.args.router file process p held
+    ∙ own_is c.args.net.now.files failures c.args.router file process p held
     (filter_map (ospf_of w) c.in_ok-taken.taken) taken

@@ -6,5 +6,5 @@ use Rattle.proto_ospf.proofs.reached.all_distances.Given as goal
 -- those so far, with those of the prefixes that are left, are all
 abbrev pub invariant-loop-p : goal.invariant-loop-p
 invariant-loop-p l =
-    l.all-inside.items.items ++ map (reached l.net l.failures) (drop l.p-index (advertised l.net))
-    ≡ map (reached l.net l.failures) (advertised l.net)
+    l.all-inside.items.items ++ map (reached l.net.files l.failures) (drop l.p-index (advertised l.net.files))
+    ≡ map (reached l.net.files l.failures) (advertised l.net.files)

@@ -6,5 +6,5 @@ use Rattle.proto_ospf.proofs.sessions.sessions_up.Given as goal
 -- those so far, with those of the ends that are left, are all
 abbrev pub invariant-loop-end : goal.invariant-loop-end
 invariant-loop-end l =
-    l.up-inside.items.items ++ map (session_up l.net l.failures) (drop l.end-index (ends_of l.net))
-    ≡ map (session_up l.net l.failures) (ends_of l.net)
+    l.up-inside.items.items ++ map (session_up l.net.files l.failures) (drop l.end-index (ends_of l.net.files))
+    ≡ map (session_up l.net.files l.failures) (ends_of l.net.files)

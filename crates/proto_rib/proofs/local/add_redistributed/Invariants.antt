@@ -7,5 +7,5 @@ use Rattle.proto_rib.proofs.local.add_redistributed.Given as goal
 abbrev pub invariant-loop-line : goal.invariant-loop-line
 invariant-loop-line l =
     l.out-inside.items.items
-    ++ filter_map (origins.into_bgp l.net l.router l.file l.p l.slot) (drop l.line-index l.line-items)
-    ≡ l.fn.out ++ filter_map (origins.into_bgp l.net l.router l.file l.p l.slot) l.process.redistribute
+    ++ filter_map (origins.into_bgp l.net.files l.router l.file l.p l.slot) (drop l.line-index l.line-items)
+    ≡ l.fn.out ++ filter_map (origins.into_bgp l.net.files l.router l.file l.p l.slot) l.process.redistribute

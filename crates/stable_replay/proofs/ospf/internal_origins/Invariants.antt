@@ -12,5 +12,5 @@ abbrev pub invariant-loop-x : goal.invariant-loop-x
 invariant-loop-x l =
     l.made-inside.items.items
     ++ map (λ x. record { kind = Internal; metric = 0; cost = x.cost }) (filter (λ x. (x.at.id.router == l.router)
-    && (same_prefix (advertisement x) l.p && is_up l.net l.failures x.at)) (drop l.x-index (ospf_interfaces l.net)))
-    ≡ internal_origins l.net l.failures l.router l.p
+    && (same_prefix (advertisement x) l.p && is_up l.net.files l.failures x.at)) (drop l.x-index (ospf_interfaces l.net.files)))
+    ≡ internal_origins l.net.files l.failures l.router l.p

@@ -11,7 +11,7 @@ use Rattle.sym_forwarding.proofs.distances.sym_leads.Goals as goal
 pub loop-k-preserved : goal.loop-k-preserved
 loop-k-preserved c =
     let step = c.in_ok-rest-2.ensures in
-    let net = c.args.net.now in
+    let net = c.args.net.now.files in
     let router = c.args.router in
     let none : Prefix = record { addr = record { 0 = 0 }; len = 0 } in
     let p = get_or c.advertised.result.now (c.loop-k.k - 1) none in

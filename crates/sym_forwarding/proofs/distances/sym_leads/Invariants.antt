@@ -12,6 +12,6 @@ abbrev pub invariant-loop-k : goal.invariant-loop-k
 invariant-loop-k l = record {
   builds : Builds l.fn.terms l.terms;
   within : l.rest.0 < size l.terms;
-  value : (w : Reading) → Reads w l.terms → HasDistances w l.net l.sym → at w l.rest
-      ≡ leads_by l.net (failures_of w l.sym) l.router (address_of w l.a) l.x (drop l.k (advertised l.net));
+  value : (w : Reading) → Reads w l.terms → HasDistances w l.net.files l.sym → at w l.rest
+      ≡ leads_by l.net.files (failures_of w l.sym) l.router (address_of w l.a) l.x (drop l.k (advertised l.net.files));
 }

@@ -15,7 +15,7 @@ invariant-loop-x l = record {
   builds : Builds l.fn.terms l.terms;
   within : first_end l.first ≤ size l.terms;
   value : (w : Reading) → Reads w l.terms → IsFirstIn w (sought_by w l.aim)
-      (reaches l.net (failures_of w l.sym) l.router (address_of w l.a))
-      (sent_to l.net (failures_of w l.sym) (packet_of w l.packet) (address_of w l.a))
-      (take l.x-index (addressed l.net)) l.first;
+      (reaches l.net.files (failures_of w l.sym) l.router (address_of w l.a))
+      (sent_to l.net.files (failures_of w l.sym) (packet_of w l.packet) (address_of w l.a))
+      (take l.x-index (addressed l.net.files)) l.first;
 }

@@ -15,6 +15,6 @@ invariant-loop-x l = record {
   builds : Builds l.fn.terms l.terms;
   within : first_end l.first ≤ size l.terms;
   value : (w : Reading) → Reads w l.terms → IsFirstIn w (sought_by w l.aim)
-      (is_owner l.net (failures_of w l.sym) l.subnet (address_of w l.a)) (owner_arrives l.net (packet_of w l.packet))
-      (take l.x-index (addressed l.net)) l.first;
+      (is_owner l.net.files (failures_of w l.sym) l.subnet (address_of w l.a)) (owner_arrives l.net.files (packet_of w l.packet))
+      (take l.x-index (addressed l.net.files)) l.first;
 }

@@ -18,7 +18,7 @@ returns-clause-value c = λ w reads has others twin.
     let to = c.in_ok-to.ensures in
     let before = made.builds.reads w reads in
     let x = c.args.x.now in
-    let net = c.args.net.now in
+    let net = c.args.net.now.files in
     let failures = failures_of w c.args.sym.now in
     united_twin (sought_by w c.args.aim.now) (at w c.in_ok-taken.taken)
     (is_up_from net failures c.args.router x

@@ -13,6 +13,6 @@ invariant-loop-x l = record {
   builds : Builds l.fn.terms l.terms;
   within : l.any.0 < size l.terms;
   value : (w : Reading) → Reads w l.terms → at w l.any
-      ≡ list_any (λ x. ((x.id.router == l.i.router) && (x.id.at == l.i.at)) && is_up l.net (failures_of w l.sym) x)
-      (take l.x-index (addressed l.net));
+      ≡ list_any (λ x. ((x.id.router == l.i.router) && (x.id.at == l.i.at)) && is_up l.net.files (failures_of w l.sym) x)
+      (take l.x-index (addressed l.net.files));
 }

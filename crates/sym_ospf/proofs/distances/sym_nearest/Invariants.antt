@@ -13,6 +13,6 @@ invariant-loop-a l = record {
   builds : Builds l.fn.terms l.terms;
   within : distance_end l.best ≤ size l.terms;
   value : (w : Reading) → Reads w l.terms → distance_of w l.best
-      ≡ far_after l.net (failures_of w l.sym) (costs_at w l.net l.sym l.k) l.router
-      (own_cost l.net (failures_of w l.sym) l.p l.router) (take l.a-index (adjacencies l.net));
+      ≡ far_after l.net.files (failures_of w l.sym) (costs_at w l.net.files l.sym l.k) l.router
+      (own_cost l.net.files (failures_of w l.sym) l.p l.router) (take l.a-index (adjacencies l.net.files));
 }

@@ -12,5 +12,5 @@ invariant-loop-x l = record {
   builds : Builds l.fn.terms l.terms;
   within : distance_end l.best ≤ size l.terms;
   value : (w : Reading) → Reads w l.terms → distance_of w l.best
-      ≡ own_after l.net (failures_of w l.sym) l.p l.router None (take l.x-index (ospf_interfaces l.net));
+      ≡ own_after l.net.files (failures_of w l.sym) l.p l.router None (take l.x-index (ospf_interfaces l.net.files));
 }

@@ -12,6 +12,6 @@ abbrev pub invariant-loop-k : goal.invariant-loop-k
 invariant-loop-k l = record {
   builds : Builds l.fn.terms l.terms;
   within : ospf_end l.rest ≤ size l.terms;
-  value : (w : Reading) → Reads w l.terms → HasDistances w l.net l.sym → ospf_of w l.rest
-      ≡ found l.net (failures_of w l.sym) l.router (address_of w l.a) (drop l.k (advertised l.net));
+  value : (w : Reading) → Reads w l.terms → HasDistances w l.net.files l.sym → ospf_of w l.rest
+      ≡ found l.net.files (failures_of w l.sym) l.router (address_of w l.a) (drop l.k (advertised l.net.files));
 }

@@ -13,6 +13,6 @@ invariant-loop-x l = record {
   builds : Builds l.fn.terms l.terms;
   within : l.any.0 < size l.terms;
   value : (w : Reading) → Reads w l.terms → at w l.any
-      ≡ list_any (is_reached_by l.net (failures_of w l.sym) l.router (address_of w l.a))
-      (take l.x-index (addressed l.net));
+      ≡ list_any (is_reached_by l.net.files (failures_of w l.sym) l.router (address_of w l.a))
+      (take l.x-index (addressed l.net.files));
 }

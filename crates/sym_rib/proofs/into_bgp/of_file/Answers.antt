@@ -11,5 +11,5 @@ returns-in_ok-made-in-Some-clause-value c = λ w reads held all stands.
     let p = prefix_of w c.args.dst.now c.args.len in
     let made : Option Bgp → List BgpShape =
     λ o. map (bgp_shape c.args.tracked.now) (option_map_or
-    (λ process. local_routes c.args.net.now c.args.router c.args.file.now process p held) o []) in
+    (λ process. local_routes c.args.net.now.files c.args.router c.args.file.now process p held) o []) in
     c.in_ok-made-in-Some.ensures.value w reads held all stands ∙ ap made (sym c.in-Some.is)

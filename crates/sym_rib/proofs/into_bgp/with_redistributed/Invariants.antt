@@ -20,5 +20,5 @@ invariant-loop-line l = record {
       → StandsForSlot w l.tracked l.slot held
       → filter_map (bgp_of w) l.made
       ≡ filter_map (bgp_of w) l.fn.before ++ map (bgp_shape l.tracked)
-      (filter_map (into_bgp l.net l.router l.file (prefix_of w l.dst l.len) held) (take l.line-index l.lines));
+      (filter_map (into_bgp l.net.files l.router l.file (prefix_of w l.dst l.len) held) (take l.line-index l.lines));
 }

@@ -16,5 +16,5 @@ invariant-loop-x l = record {
   value : (w : Reading) → Reads w l.terms
       → (at w l.any || list_any (λ x. (x.at.id.router == l.router)
       && same_prefix x.at.subnet (prefix_of w l.dst l.len)) (drop l.x-index l.x-items))
-      ≡ is_ospf_subnet l.net l.router (prefix_of w l.dst l.len);
+      ≡ is_ospf_subnet l.net.files l.router (prefix_of w l.dst l.len);
 }

@@ -19,7 +19,7 @@ returns-clause-value c = λ w reads others twin.
     let test = c.in_ok-test.ensures in
     let after_to = made.builds.reads w reads in
     let slot = c.args.slot.now in
-    let net = c.args.net.now in
+    let net = c.args.net.now.files in
     let failures = failures_of w c.args.sym.now in
     chosen_lists (sought_by w c.args.aim.now) (at w c.in_ok-test.test) (eqb (number w slot.rib.source.nodes.items) 0)
     (connected_hops net (packet_of w c.args.packet.now) (all_up net failures) (up_interfaces net failures

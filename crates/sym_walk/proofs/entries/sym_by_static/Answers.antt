@@ -22,7 +22,7 @@ returns-clause-value c = λ w reads others twin.
     let test = c.in_ok-test.ensures in
     let after_to = made.builds.reads w reads in
     let slot = c.args.slot.now in
-    let net = c.args.net.now in
+    let net = c.args.net.now.files in
     let failures = failures_of w c.args.sym.now in
     let P : List StaticRoute → Type 0 = λ routes. IsTwin (sought_by w c.args.aim.now)
     (static_part net (packet_of w c.args.packet.now) (all_up net failures) (up_interfaces net failures c.args.router)
