@@ -2,8 +2,8 @@
 
 ghost use Rattle.std.specs.Prelude.{◌≡◌, codes, option_and_then, option_map};
 ghost use Rattle.std.specs.List.{list_any};
-ghost use Rattle.net_model.specs.Exports as exports;
-ghost use Rattle.net_model.specs.Sessions.{ends_of};
+ghost use Rattle.net_parts.specs.Exports as exports;
+ghost use Rattle.net_parts.specs.Sessions.{ends_of};
 ghost use Rattle.serde_json.specs.View.{view};
 ghost use Rattle.serde_json.specs.Find.{get};
 ghost use Rattle.cex_json.specs.Fields.{Reads, text_in as text_of};
@@ -15,8 +15,8 @@ use crate::fields::{
 use crate::refused::CexRefused;
 use ios_ast::File;
 use mw_text::{Addr, List, read_addr, same_bytes};
-use net_model::ends::is_towards;
 use net_model::{Net, SessionEnd};
+use net_parts::ends::is_towards;
 use route_record::{BgpRec, Learnt, Origin, OspfKind, OspfRec, RibEntry, RibSource};
 use serde_json::Value;
 use std::alloc::Global;

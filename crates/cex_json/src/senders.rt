@@ -2,7 +2,7 @@
 
 ghost use Rattle.std.specs.Prelude.{◌≡◌, ◌≢◌, ◌≤◌, ◌∷◌, ◌++◌, ◌==◌, ◌&&◌, ◌||◌, true, false, [], Some, None, codes, length, nat_le, nat_lt, option_and_then, option_map, position, slice_get, if◌then◌else◌, IfSome};
 ghost use Rattle.std.specs.Option.{option_map_or};
-ghost use Rattle.net_model.specs.Sessions.{ends_of, external_ends as outer_ends};
+ghost use Rattle.net_parts.specs.Sessions.{ends_of, external_ends as outer_ends};
 ghost use Rattle.serde_json.specs.View.{view, items_view};
 ghost use Rattle.serde_json.specs.Find.{get};
 ghost use Rattle.cex_json.specs.Entries.{entry_path};
@@ -16,8 +16,8 @@ use crate::refused::CexRefused;
 use crate::worlds::external_ends;
 use ios_ast::File;
 use mw_text::{Addr, List};
-use net_model::ends::{is_outside, is_towards, neighbour_of};
 use net_model::{Net, SessionEnd};
+use net_parts::ends::{is_outside, is_towards, neighbour_of};
 use route_record::Announcement;
 use serde_json::Value;
 use std::alloc::Global;

@@ -1,8 +1,8 @@
 //! The JSON values of failed links, external peers and their announcements.
 
 ghost use Rattle.std.specs.Prelude.{◌≡◌, IfOk, map, option_map, slice_get, string_bytes};
-ghost use Rattle.net_model.specs.Sessions as sessions;
-ghost use Rattle.net_model.specs.World.{links_of};
+ghost use Rattle.net_parts.specs.Sessions as sessions;
+ghost use Rattle.net_parts.specs.World.{links_of};
 ghost use Rattle.serde_json.specs.View.{view};
 ghost use Rattle.cex_json.specs.Worlds as worlds;
 
@@ -10,8 +10,8 @@ use crate::parts::{addr_string, addr_value, router_name, text_value};
 use crate::routes::{number_values, origin_value};
 use ios_ast::File;
 use mw_text::{Addr, Prefix};
-use net_model::ends::{is_outside, neighbour_of};
 use net_model::{Link, Net, SessionEnd};
+use net_parts::ends::{is_outside, neighbour_of};
 use route_record::Announcement;
 use serde_json::{Value, json};
 use std::alloc::{AllocError, Global};

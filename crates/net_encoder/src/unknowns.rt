@@ -1,7 +1,7 @@
 //! The variables of a world as terms: its packet, its failed links, and what is open of its slots.
 
 ghost use Rattle.std.specs.Prelude.{◌≡◌, ◌+◌, ◌≤◌, ◌*◌, IfOk, OnOk, length, map};
-ghost use Rattle.net_model.specs.World.{links_of};
+ghost use Rattle.net_parts.specs.World.{links_of};
 ghost use Rattle.route_record.specs.declared.TheConstants as constants;
 ghost use Rattle.sym_ospf.specs.Rows.{net_end};
 ghost use Rattle.sym_policy.specs.Held.{failures_of};

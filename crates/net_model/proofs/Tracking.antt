@@ -10,17 +10,19 @@ use Rattle.mw_text.specs.declared.address.Addr.{Addr}
 use Rattle.ios_ast.specs.declared.file.File.{File}
 use Rattle.ios_ast.specs.Deciding.{carries}
 use Rattle.route_record.specs.declared.tracked.Tracked.{Tracked}
-use Rattle.net_model.specs.declared.refusals.TheConstants.{MOST_FILES}
-use Rattle.net_model.specs.declared.tracking.Said.{Said}
-use Rattle.net_model.specs.declared.tracking.TheConstants.{NO_ADVERTISE, NO_EXPORT}
-use Rattle.net_model.specs.Refusals.{first_refusal}
-use Rattle.net_model.specs.Tracked.{IsRoomFor, TracksNet, has_all, numbers_of, put_number, said_communities}
-use Rattle.net_model.specs.Tracked.{said_numbers, tracked_clusters, tracked_communities, tracked_numbers, tracked_of, united, united_addresses}
-use Rattle.net_model.specs.Tracked.{united_tracked}
-use Rattle.net_model.specs.World.{ascends}
-use Rattle.net_model.proofs.TrackedFew.{few_communities, few_numbers}
-use Rattle.net_model.proofs.TrackedUp.{all_put, clusters_ascend, communities_ascend, few_clusters, numbers_ascend}
-use Rattle.net_model.proofs.TrackedUp.{same_numbers}
+use Rattle.net_interfaces.specs.declared.interfaces.TheConstants.{MOST_FILES}
+use Rattle.net_interfaces.specs.declared.values.Said.{Said}
+use Rattle.net_interfaces.specs.declared.values.TheConstants.{NO_ADVERTISE, NO_EXPORT}
+use Rattle.net_refusals.specs.Refusals.{first_refusal}
+use Rattle.net_interfaces.specs.Values.{has_all, put_number, said_communities}
+use Rattle.net_parts.specs.Tracked.{IsRoomFor, TracksNet, numbers_of}
+use Rattle.net_interfaces.specs.Values.{said_numbers, tracked_communities, tracked_numbers, united}
+use Rattle.net_parts.specs.Tracked.{tracked_clusters, tracked_of, united_addresses}
+use Rattle.net_parts.specs.Tracked.{united_tracked}
+use Rattle.net_parts.specs.World.{ascends}
+use Rattle.net_refusals.proofs.TrackedFew.{few_communities, few_numbers}
+use Rattle.net_parts.proofs.TrackedUp.{all_put, clusters_ascend, communities_ascend, few_clusters, numbers_ascend}
+use Rattle.net_parts.proofs.TrackedUp.{same_numbers}
 
 -- ---- values that are put into a list stand there
 

@@ -1,16 +1,22 @@
--- What a network keeps beside its files.
+-- What contracts see of a network, and what it keeps beside its files.
 use Rattle.std.specs.Prelude.{◌≡◌, ℕ, ◌+◌, ◌≤◌, List, [], ◌∷◌, length}
 use Rattle.mw_text.specs.declared.address.Addr.{Addr}
 use Rattle.ios_ast.specs.declared.file.File.{File}
+use Rattle.route_record.specs.declared.tracked.Tracked.{Tracked}
 use Rattle.net_model.specs.declared.network.Parts.{Parts}
-use Rattle.net_model.specs.declared.refusals.TheConstants.{MOST_FILES}
-use Rattle.net_model.specs.Exports.{router_id}
-use Rattle.net_model.specs.Interfaces.{addressed}
-use Rattle.net_model.specs.Network.{IsNetwork}
-use Rattle.net_model.specs.Ospf.{adjacencies, advertised, ospf_interfaces}
-use Rattle.net_model.specs.Sessions.{ends_of}
-use Rattle.net_model.specs.Tracked.{TracksNet}
-use Rattle.net_model.specs.World.{links_of}
+use Rattle.net_interfaces.specs.declared.interfaces.TheConstants.{MOST_FILES}
+use Rattle.net_parts.specs.Exports.{router_id}
+use Rattle.net_interfaces.specs.Interfaces.{addressed}
+use Rattle.net_refusals.specs.Network.{IsNetwork}
+use Rattle.net_parts.specs.Ospf.{adjacencies, advertised, ospf_interfaces}
+use Rattle.net_parts.specs.Sessions.{ends_of}
+use Rattle.net_parts.specs.Tracked.{TracksNet}
+use Rattle.net_parts.specs.World.{links_of}
+
+-- a network: the files of its routers, and the values that it tracks
+pub record Network : Type 0 where
+  pub files : List File
+  pub tracked : Tracked
 
 -- the identifiers of the routers from that number on
 abbrev pub ids_from : List File → ℕ → List File → List Addr

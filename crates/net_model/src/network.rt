@@ -5,29 +5,30 @@ ghost use Rattle.std.specs.List.{list_all};
 ghost use Rattle.std.specs.List.Sorted.{IsNonDecreasingBy};
 ghost use Rattle.mw_text.specs.Address.{same_prefix};
 ghost use Rattle.mw_text.specs.Text.{same_text};
-ghost use Rattle.net_model.specs.Exports as exports;
-ghost use Rattle.net_model.specs.Exports.{router_id};
-ghost use Rattle.net_model.specs.Interfaces as interfaces;
+ghost use Rattle.net_parts.specs.Exports as exports;
+ghost use Rattle.net_parts.specs.Exports.{router_id};
+ghost use Rattle.net_interfaces.specs.Interfaces as interfaces;
 ghost use Rattle.net_model.specs.Kept.{IsKept, ids_from};
-ghost use Rattle.net_model.specs.Limits.{keeps_limits};
-ghost use Rattle.net_model.specs.Network.{IsNetwork};
-ghost use Rattle.net_model.specs.Ospf as ospf;
-ghost use Rattle.net_model.specs.Refusals.{first_refusal};
-ghost use Rattle.net_model.specs.Routing as routing;
-ghost use Rattle.net_model.specs.Sessions as sessions;
-ghost use Rattle.net_model.specs.Tracked as values;
-ghost use Rattle.net_model.specs.World as world;
+ghost use Rattle.net_interfaces.specs.Limits.{keeps_limits};
+ghost use Rattle.net_refusals.specs.Network.{IsNetwork};
+ghost use Rattle.net_parts.specs.Ospf as ospf;
+ghost use Rattle.net_refusals.specs.Refusals.{first_refusal};
+ghost use Rattle.net_parts.specs.Routing as routing;
+ghost use Rattle.net_parts.specs.Sessions as sessions;
+ghost use Rattle.net_parts.specs.Tracked as values;
+ghost use Rattle.net_parts.specs.World as world;
 
-use crate::adjacencies::{Adjacency, adjacencies};
-use crate::ends::{learnt_over, places_at};
-use crate::interfaces::{Addressed, IfaceId, addressed_of};
-use crate::links::{Link, link_place, links_of};
-use crate::ospf::{OspfInterface, advertised, ospf_cost, ospf_interfaces};
-use crate::refusals::{MOST_FILES, NetCause, NetRefused, refuse};
-use crate::router_ids::router_id;
-use crate::sessions::{SessionEnd, ends_of, peerings};
-use crate::states::{is_direct_over, is_reached_over, is_up, is_up_at, owner, subnet_of};
-use crate::tracking::{tracked_of, united_tracked};
+use net_parts::adjacencies::{Adjacency, adjacencies};
+use net_parts::ends::{learnt_over, places_at};
+use net_interfaces::interfaces::{Addressed, IfaceId, addressed_of};
+use net_parts::links::{Link, link_place, links_of};
+use net_parts::ospf::{OspfInterface, advertised, ospf_cost, ospf_interfaces};
+use net_interfaces::MOST_FILES;
+use net_refusals::{NetCause, NetRefused, refuse};
+use net_parts::router_ids::router_id;
+use net_parts::sessions::{SessionEnd, ends_of, peerings};
+use net_parts::states::{is_direct_over, is_reached_over, is_up, is_up_at, owner, subnet_of};
+use net_parts::tracking::{tracked_of, united_tracked};
 use ios_ast::File;
 use mw_text::{Addr, List, Prefix, same_bytes};
 use route_record::{Failures, Learnt, Tracked};
@@ -57,8 +58,7 @@ struct Parts {
 }
 
 impl Model for Net {
-    ghost use Rattle.net_model.specs.Kept.{IsKept};
-    ghost use Rattle.net_model.specs.Network.{Network};
+    ghost use Rattle.net_model.specs.Kept.{IsKept, Network};
 
     ghost Value = { Network };
 
@@ -144,7 +144,7 @@ fn parts_of(alloc: Global, files: &[File]) -> Result<Parts, AllocError>
 impl Net {
     /// The network of these files, each of one router; or why they form none, by the first rule that they break, with its
     /// file and line. Each file keeps the limits of a file and the range of OSPF costs, as every file that was read does.
-    #[tactic(auto, using(crate::proofs::Few::few_files, crate::proofs::TrackedUp::few_clusters))]
+    #[tactic(auto, using(net_refusals::proofs::Few::few_files, net_parts::proofs::TrackedUp::few_clusters))]
     pub fn build(alloc: Global, files: List<File>) -> Result<Net, NetRefused>
         requires limits { list_all keeps_limits files ≡ true }
         ensures ok { IfOk result (λ net. (net ≡ record { files = files; tracked = values.tracked_of files })
@@ -180,7 +180,7 @@ impl Net {
     }
 
     /// The links, ascending by their prefixes: a link is named by its place here.
-    #[tactic(auto, using(crate::proofs::Ascending::links_ascend, crate::proofs::FewLinks::few_links))]
+    #[tactic(auto, using(net_parts::proofs::Ascending::links_ascend, net_parts::proofs::FewLinks::few_links))]
     pub fn links(&self) -> &[Link]
         ensures value { result.now ≡ world.links_of self.now.files }
         ensures ascending { AllPairs world.IsBefore (world.links_of self.now.files) }
@@ -201,7 +201,7 @@ impl Net {
     }
 
     /// The ends of all BGP sessions, by router and then by neighbour line.
-    #[tactic(auto, using(crate::proofs::EndPlaces::ends_placed, crate::proofs::EndPlaces::ends_up))]
+    #[tactic(auto, using(net_parts::proofs::EndPlaces::ends_placed, net_parts::proofs::EndPlaces::ends_up))]
     pub fn ends(&self) -> &[SessionEnd]
         ensures value { result.now ≡ sessions.ends_of self.now.files }
         ensures placed { All (sessions.IsPlaced self.now.files) (sessions.ends_of self.now.files) }
@@ -228,7 +228,7 @@ impl Net {
     }
 
     /// The interfaces that run OSPF, shut down or not, in the order of the files.
-    #[tactic(auto, using(crate::proofs::Costs::interface_costs))]
+    #[tactic(auto, using(net_parts::proofs::Costs::interface_costs))]
     pub fn ospf_interfaces(&self) -> &[OspfInterface]
         ensures value { result.now ≡ ospf.ospf_interfaces self.now.files }
         ensures costs { All (λ x. (0 < x.cost) × (x.cost ≤ 65535)) (ospf.ospf_interfaces self.now.files) }
@@ -237,7 +237,7 @@ impl Net {
     }
 
     /// All OSPF adjacencies while no link fails, by `from` and then by `to`.
-    #[tactic(auto, using(crate::proofs::Costs::adjacency_costs))]
+    #[tactic(auto, using(net_parts::proofs::Costs::adjacency_costs))]
     pub fn adjacencies(&self) -> &[Adjacency]
         ensures value { result.now ≡ ospf.adjacencies self.now.files }
         ensures costs { All (λ a. (0 < a.cost) × (a.cost ≤ 65535)) (ospf.adjacencies self.now.files) }
@@ -246,7 +246,7 @@ impl Net {
     }
 
     /// Every prefix that some interface advertises by OSPF, ascending, each once.
-    #[tactic(auto, using(crate::proofs::Ascending::advertised_ascend))]
+    #[tactic(auto, using(net_parts::proofs::Ascending::advertised_ascend))]
     pub fn advertised(&self) -> &[Prefix]
         ensures value { result.now ≡ ospf.advertised self.now.files }
         ensures ascending { AllPairs (λ p q. IsTrue (world.comes_before p q)) (ospf.advertised self.now.files) }

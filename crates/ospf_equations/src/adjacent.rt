@@ -3,8 +3,8 @@
 ghost use Rattle.std.specs.Prelude.{◌≡◌, ℕ, ◌+◌, ◌≤◌, ◌<◌, ◌==◌, ◌&&◌, IfOk, OnOk, None, ◌++◌, ◌∷◌, [], if◌then◌else◌, max};
 ghost use Rattle.std.specs.Option.{option_to_list};
 ghost use Rattle.mw_text.specs.declared.address.Prefix.{Prefix};
-ghost use Rattle.net_model.specs.Ospf as model;
-ghost use Rattle.net_model.specs.OspfRoutes.{offer_over};
+ghost use Rattle.net_parts.specs.Ospf as model;
+ghost use Rattle.net_parts.specs.OspfRoutes.{offer_over};
 ghost use Rattle.route_record.specs.declared.Tables.{Tables};
 ghost use Rattle.sym_policy.specs.Held.{failures_of};
 ghost use Rattle.ospf_equations.specs.Adjacent.{offers_read, ups_end};

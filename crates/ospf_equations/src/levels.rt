@@ -4,8 +4,8 @@
 
 ghost use Rattle.std.specs.Prelude.{◌≡◌, ◌+◌, ◌≤◌, ◌<◌, ◌*◌, true, IfOk, None, ◌++◌, if◌then◌else◌};
 ghost use Rattle.std.specs.List.{filter_map, list_any};
-ghost use Rattle.net_model.specs.Ospf as model;
-ghost use Rattle.net_model.specs.OspfRoutes.{first_best, offer_over};
+ghost use Rattle.net_parts.specs.Ospf as model;
+ghost use Rattle.net_parts.specs.OspfRoutes.{first_best, offer_over};
 ghost use Rattle.sym_policy.specs.Held.{failures_of, ospf_of, ospf_end};
 ghost use Rattle.sym_policy.specs.Records.{prefix_of as prefix_read};
 ghost use Rattle.sym_rib.specs.Into.{list_end};

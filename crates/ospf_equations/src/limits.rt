@@ -1,7 +1,7 @@
 //! Which limits of costs are looked at. Whatever they are, a formula says the same: they only help a search.
 
 ghost use Rattle.std.specs.Prelude.{◌≡◌, ◌/◌, nat_lt, length};
-ghost use Rattle.net_model.specs.Ospf as model;
+ghost use Rattle.net_parts.specs.Ospf as model;
 
 use mw_text::List;
 use net_model::{Adjacency, Net, OspfInterface};

@@ -2,16 +2,16 @@
 
 ghost use Rattle.std.specs.Prelude.{◌≡◌, ◌==◌, ◌&&◌, ◌<◌, ◌≤◌, All, IfOk, length};
 ghost use Rattle.mw_text.specs.Address.{same_prefix};
-ghost use Rattle.net_model.specs.Distances as distances;
-ghost use Rattle.net_model.specs.Ospf as ospf;
-ghost use Rattle.net_model.specs.World.{is_up as is_up_in};
+ghost use Rattle.net_parts.specs.Distances as distances;
+ghost use Rattle.net_parts.specs.Ospf as ospf;
+ghost use Rattle.net_parts.specs.World.{is_up as is_up_in};
 ghost use Rattle.proto_ospf.specs.Origins as specs;
 ghost use Rattle.proto_ospf.specs.Rounds.{everywhere, interior_distances, receiver};
 
 use crate::rounds::{MOST_COST, Receiver, distances_after, lower, of_router};
 use crate::states::receivers;
 use mw_text::{List, Prefix};
-use net_model::ospf::advertisement;
+use net_parts::ospf::advertisement;
 use net_model::{Net, OspfInterface};
 use route_record::Failures;
 use std::alloc::{AllocError, Global};
@@ -38,7 +38,7 @@ pub fn originates(
 
 /// The least cost of an interface by which the router originates the prefix: one that advertises it and is up. None
 /// exactly where there is none.
-#[tactic(auto, unfolding(net_model::specs::Distances::own_cost))]
+#[tactic(auto, unfolding(net_parts::specs::Distances::own_cost))]
 pub fn own_cost(net: &Net, failures: &Failures, router: u32, p: &Prefix) -> Option<u32>
     ensures { result ≡ distances.own_cost net.now.files failures.now p.now router }
 {

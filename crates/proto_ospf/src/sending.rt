@@ -1,7 +1,7 @@
 //! Over which adjacencies a packet goes on towards an address that OSPF resolves.
 
 ghost use Rattle.std.specs.Prelude.{◌≡◌, IfOk, filter};
-ghost use Rattle.net_model.specs.Sending as sending;
+ghost use Rattle.net_parts.specs.Sending as sending;
 ghost use Rattle.proto_ospf.specs.Reached.{all_reached};
 ghost use Rattle.proto_ospf.specs.Steps as specs;
 
@@ -66,7 +66,7 @@ fn steps(
 
 /// The adjacencies over which a router sends towards an address, over these distances: each that is up and begins a least
 /// walk to the advertised prefix that contains the address; no one where none does.
-#[tactic(auto, using(crate::proofs::Steps::steps_are), unfolding(net_model::specs::Sending::sent_towards))]
+#[tactic(auto, using(crate::proofs::Steps::steps_are), unfolding(net_parts::specs::Sending::sent_towards))]
 pub fn sent_towards(
     alloc: Global,
     net: &Net,

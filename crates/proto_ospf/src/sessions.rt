@@ -1,14 +1,14 @@
 //! Which BGP sessions are up (RFC 4271, section 8.2).
 
 ghost use Rattle.std.specs.Prelude.{◌≡◌, ◌&&◌, ◌<◌, IfOk, Some, length, map, option_map, slice_get};
-ghost use Rattle.net_model.specs.Resolution as resolution;
-ghost use Rattle.net_model.specs.Sessions.{ends_of};
+ghost use Rattle.net_parts.specs.Resolution as resolution;
+ghost use Rattle.net_parts.specs.Sessions.{ends_of};
 ghost use Rattle.proto_ospf.specs.Reached.{all_reached};
 
 use crate::reached::{Reached, all_distances, resolve_over};
 use mw_text::List;
-use net_model::ends::neighbour_of;
 use net_model::{Far, Net, SessionEnd};
+use net_parts::ends::neighbour_of;
 use route_record::Failures;
 use std::alloc::{AllocError, Global};
 
@@ -53,7 +53,7 @@ fn is_up_between(
 
 /// Whether the session of an end is up, over these distances: towards an external peer where the router's own interface
 /// is; towards another router where both interfaces are, and, over no shared subnet, where both resolve each other.
-#[tactic(auto, unfolding(net_model::specs::Resolution::session_up))]
+#[tactic(auto, unfolding(net_parts::specs::Resolution::session_up))]
 pub fn is_up_at_end(net: &Net, failures: &Failures, all: &[Reached], end: &SessionEnd) -> bool
     requires all { all.now ≡ all_reached net.now.files failures.now }
     ensures { result ≡ resolution.session_up net.now.files failures.now end.now }

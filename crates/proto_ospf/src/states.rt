@@ -1,7 +1,7 @@
 //! Which interfaces and adjacencies are up while some links have failed.
 
 ghost use Rattle.std.specs.Prelude.{◌≡◌, IfOk, map};
-ghost use Rattle.net_model.specs.Ospf as ospf;
+ghost use Rattle.net_parts.specs.Ospf as ospf;
 ghost use Rattle.proto_ospf.specs.Rounds.{everywhere, receiver};
 
 use crate::rounds::Receiver;
@@ -38,7 +38,7 @@ pub fn adjacencies_up(
 }
 
 /// The adjacencies over which a router receives and that are up: both interfaces are (RFC 2328, section 9).
-#[tactic(auto, unfolding(net_model::specs::Ospf::up_adjacencies))]
+#[tactic(auto, unfolding(net_parts::specs::Ospf::up_adjacencies))]
 pub fn up_adjacencies(
     alloc: Global,
     net: &Net,

@@ -2,9 +2,9 @@
 
 ghost use Rattle.std.specs.Prelude.{◌≡◌, ◌∷◌, [], None, fold, map, option_and_then, option_map, if◌then◌else◌};
 ghost use Rattle.std.specs.Option.{option_to_list};
-ghost use Rattle.net_model.specs.Entries as entries;
-ghost use Rattle.net_model.specs.Exports as exports;
-ghost use Rattle.net_model.specs.Routing as routing;
+ghost use Rattle.net_parts.specs.Entries as entries;
+ghost use Rattle.net_parts.specs.Exports as exports;
+ghost use Rattle.net_parts.specs.Routing as routing;
 ghost use Rattle.proto_rib.specs.Taken.{entry_at};
 
 use crate::tables::closer_of;
@@ -110,7 +110,7 @@ fn closer_to(best: Option<RibEntry>, other: Option<RibEntry>) -> Option<RibEntry
     }
 }
 
-#[tactic(auto, using(crate::proofs::Entries::in_turn), unfolding(net_model::specs::Entries::entry_with))]
+#[tactic(auto, using(crate::proofs::Entries::in_turn), unfolding(net_parts::specs::Entries::entry_with))]
 fn entry_of(
     net: &Net,
     failures: &Failures,

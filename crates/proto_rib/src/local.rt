@@ -5,7 +5,7 @@ ghost use Rattle.std.specs.Prelude.{◌≡◌, ◌==◌, ◌&&◌, ◌++◌, [],
 ghost use Rattle.std.specs.List.{filter_map};
 ghost use Rattle.std.specs.Option.{option_map_or};
 ghost use Rattle.mw_text.specs.Address.{same_prefix};
-ghost use Rattle.net_model.specs.Origins as origins;
+ghost use Rattle.net_parts.specs.Origins as origins;
 ghost use Rattle.proto_rib.specs.Taken.{local_routes_at};
 
 use crate::prefixes::is_default;
@@ -241,7 +241,7 @@ fn add_redistributed(
     Ok(())
 }
 
-#[tactic(auto, unfolding(net_model::specs::Origins::local_routes))]
+#[tactic(auto, unfolding(net_parts::specs::Origins::local_routes))]
 fn of_process(
     alloc: Global,
     net: &Net,

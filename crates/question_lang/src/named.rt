@@ -16,7 +16,7 @@ use ios_policy_reader::said::{address_said_under, is_said};
 use ios_policy_reader::values::word_at;
 use ios_policy_reader::{Said, Tag, Value};
 use mw_text::{Addr, List, same_bytes};
-use net_model::sessions::{is_external_peer, peerings};
+use net_parts::sessions::{is_external_peer, peerings};
 use net_model::{Addressed, Net, Peering};
 use std::alloc::{AllocError, Global};
 

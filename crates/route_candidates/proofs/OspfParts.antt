@@ -6,7 +6,7 @@ use Rattle.ios_ast.specs.declared.file.File.{File}
 use Rattle.ios_ast.specs.declared.ospf.Ospf.{Ospf}
 use Rattle.route_record.specs.declared.Failures.{Failures}
 use Rattle.route_record.specs.declared.Slot.{Slot}
-use Rattle.net_model.specs.OspfRoutes.{own_origins}
+use Rattle.net_parts.specs.OspfRoutes.{own_origins}
 use Rattle.route_candidates.specs.Origins.{origins_at}
 
 -- by the slot of the router

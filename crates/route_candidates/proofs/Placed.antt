@@ -3,8 +3,8 @@ use Rattle.std.proofs.Common.{◌≡◌, ℕ, ◌<◌, List, length, Some, subst
 use Rattle.std.specs.Prelude.{All, slice_get}
 use Rattle.std.proofs.lemmas.Option.{get_or_from_slice_get, slice_get_within}
 use Rattle.ios_ast.specs.declared.file.File.{File}
-use Rattle.net_model.specs.declared.sessions.SessionEnd.{SessionEnd}
-use Rattle.net_model.specs.Sessions.{IsPlaced, ends_of}
+use Rattle.net_parts.specs.declared.sessions.SessionEnd.{SessionEnd}
+use Rattle.net_parts.specs.Sessions.{IsPlaced, ends_of}
 
 pub router_within : (files : List File) (at : ℕ) (end : SessionEnd) → All (IsPlaced files) (ends_of files) →
     slice_get (ends_of files) at ≡ Some end → end.router < length files

@@ -6,7 +6,7 @@ use Rattle.route_record.specs.declared.Failures.{Failures}
 use Rattle.route_record.specs.declared.OspfKind.TheVariants.{Internal}
 use Rattle.route_record.specs.declared.OspfRec.{OspfRec}
 use Rattle.route_record.specs.declared.Slot.{Slot}
-use Rattle.net_model.specs.Ospf.{origin_interfaces}
+use Rattle.net_parts.specs.Ospf.{origin_interfaces}
 use Rattle.proto_rib.specs.Taken.{redistributed_at}
 
 -- by its interfaces

@@ -2,9 +2,9 @@
 use Rattle.std.specs.Prelude.{◌≡◌, ◌≤◌, List, length, map}
 use Rattle.ios_ast.specs.declared.file.File.{File}
 use Rattle.route_record.specs.declared.Failures.{Failures}
-use Rattle.net_model.specs.Ospf as ospf
-use Rattle.net_model.specs.Resolution.{session_up}
-use Rattle.net_model.specs.Sessions.{ends_of}
+use Rattle.net_parts.specs.Ospf as ospf
+use Rattle.net_parts.specs.Resolution.{session_up}
+use Rattle.net_parts.specs.Sessions.{ends_of}
 use Rattle.proto_ospf.specs.Reached.{all_reached}
 use Rattle.route_candidates.specs.declared.underlay.Underlay.{Underlay}
 

@@ -2,8 +2,8 @@
 //! section 16.4).
 
 ghost use Rattle.std.specs.Prelude.{◌≡◌, Some, slice_get};
-ghost use Rattle.net_model.specs.Ospf as ospf;
-ghost use Rattle.net_model.specs.OspfRoutes as routes;
+ghost use Rattle.net_parts.specs.Ospf as ospf;
+ghost use Rattle.net_parts.specs.OspfRoutes as routes;
 ghost use Rattle.route_candidates.specs.Heard.{heard_in};
 ghost use Rattle.route_candidates.specs.Underlays.{IsUnderlay};
 

@@ -2,16 +2,16 @@
 
 ghost use Rattle.std.specs.Prelude.{◌≡◌, ◌<◌, IfOk, Some, length, option_map, slice_get, take, unwrap_or};
 ghost use Rattle.std.specs.Option.{option_map_or};
-ghost use Rattle.net_model.specs.Decisions as decisions;
-ghost use Rattle.net_model.specs.Exports.{router_id};
-ghost use Rattle.net_model.specs.Sessions as sessions;
+ghost use Rattle.net_parts.specs.Decisions as decisions;
+ghost use Rattle.net_parts.specs.Exports.{router_id};
+ghost use Rattle.net_parts.specs.Sessions as sessions;
 ghost use Rattle.proto_bgp.specs.Steps.{seen};
 ghost use Rattle.route_candidates.specs.Underlays.{IsUnderlay};
 
 use crate::underlay::{Underlay, is_session_up};
 use mw_text::{Addr, Prefix};
-use net_model::ends::is_outside;
 use net_model::{Far, Net, SessionEnd};
+use net_parts::ends::is_outside;
 use proto_bgp::{Candidate, import};
 use proto_ospf::resolve_over;
 use route_record::{BgpMsg, BgpRec, Failures};

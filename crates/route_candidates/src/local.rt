@@ -1,7 +1,7 @@
 //! The local BGP routes of a router, as routes that it may hold.
 
 ghost use Rattle.std.specs.Prelude.{◌≡◌, ◌<◌, IfOk, false, length, map};
-ghost use Rattle.net_model.specs.Decisions as decisions;
+ghost use Rattle.net_parts.specs.Decisions as decisions;
 ghost use Rattle.proto_bgp.specs.Steps.{seen};
 ghost use Rattle.proto_rib.specs.Taken.{local_routes_at};
 

@@ -2,7 +2,7 @@
 
 ghost use Rattle.std.specs.Prelude.{◌≡◌, IfOk, Some, slice_get};
 ghost use Rattle.std.specs.List.{list_any};
-ghost use Rattle.net_model.specs.OspfRoutes as routes;
+ghost use Rattle.net_parts.specs.OspfRoutes as routes;
 ghost use Rattle.route_candidates.specs.Origins as origins;
 
 use ios_ast::File;

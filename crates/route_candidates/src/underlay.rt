@@ -1,9 +1,9 @@
 //! What the links that are up give, whatever routes are held.
 
 ghost use Rattle.std.specs.Prelude.{◌≡◌, IfOk, Some, slice_get};
-ghost use Rattle.net_model.specs.Ospf as ospf;
-ghost use Rattle.net_model.specs.Resolution.{session_up};
-ghost use Rattle.net_model.specs.Sessions.{ends_of};
+ghost use Rattle.net_parts.specs.Ospf as ospf;
+ghost use Rattle.net_parts.specs.Resolution.{session_up};
+ghost use Rattle.net_parts.specs.Sessions.{ends_of};
 ghost use Rattle.route_candidates.specs.Underlays.{IsUnderlay};
 
 use mw_text::List;

@@ -3,7 +3,7 @@ use Rattle.std.specs.Prelude.{◌≡◌, ⊤, ℕ, ◌*◌, ◌≤◌, List, len
 use Rattle.world_variables.specs.Slots.{runs_no_bgp}
 use Rattle.cex_json.specs.declared.counterexample.Counterexample.{Counterexample}
 use Rattle.ios_ast.specs.declared.file.File.{File}
-use Rattle.net_model.specs.World.{IsEnvironment, IsFailureSet}
+use Rattle.net_parts.specs.World.{IsEnvironment, IsFailureSet}
 use Rattle.question_lang.specs.declared.question.Question.{Question}
 use Rattle.question_lang.specs.declared.reader.TheConstants.{MOST_QUESTIONS}
 use Rattle.question_lang.specs.Packets.{IsInSet}

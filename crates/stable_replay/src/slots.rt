@@ -1,16 +1,16 @@
 //! Whether a slot of the tables is stable.
 
 ghost use Rattle.std.specs.Prelude.{◌≡◌, ◌≤◌, IfOk, Some, length, map, slice_get};
-ghost use Rattle.net_model.specs.Sessions.{ends_of};
+ghost use Rattle.net_parts.specs.Sessions.{ends_of};
 ghost use Rattle.stable_replay.specs.Differences.{IsSlotTested};
 ghost use Rattle.stable_replay.specs.Parts as parts;
-ghost use Rattle.stable_replay.specs.Underlays.{IsUnderlay};
+ghost use Rattle.route_candidates.specs.Underlays.{IsUnderlay};
 
 use crate::decided::test_bgp;
 use crate::differs::{Differs, Part};
 use crate::entry::test_entry;
 use crate::ospf::test_ospf;
-use crate::underlay::Underlay;
+use route_candidates::Underlay;
 use ios_ast::File;
 use mw_text::{List, Prefix};
 use net_model::Net;

@@ -3,8 +3,8 @@
 ghost use Rattle.std.specs.Prelude.{◌≡◌, ℕ, ◌+◌, ◌*◌, ◌<◌, ◌≤◌, ◌==◌, ◌&&◌, Bool, false, IfOk, IfSome, Some, None};
 ghost use Rattle.std.specs.Prelude.{if◌then◌else◌, length, slice_get, option_and_then, option_copied, nat_lt};
 ghost use Rattle.mw_text.specs.Address.{covers};
-ghost use Rattle.net_model.specs.Ospf as ospf;
-ghost use Rattle.net_model.specs.Sending.{is_on_least_walk};
+ghost use Rattle.net_parts.specs.Ospf as ospf;
+ghost use Rattle.net_parts.specs.Sending.{is_on_least_walk};
 ghost use Rattle.sym_ospf.specs.Routes.{routes_end};
 ghost use Rattle.sym_ospf.specs.Rows.{HasDistances};
 ghost use Rattle.sym_policy.specs.Held.{failures_of, ospf_of, ospf_end};

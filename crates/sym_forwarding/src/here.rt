@@ -2,9 +2,9 @@
 
 ghost use Rattle.std.specs.Prelude.{◌≡◌, ℕ, ◌+◌, ◌<◌, ◌≤◌, ◌==◌, ◌&&◌, Bool, IfOk};
 ghost use Rattle.mw_text.specs.Address.{covers, same_prefix};
-ghost use Rattle.net_model.specs.Interfaces.{addressed};
-ghost use Rattle.net_model.specs.Routing.{is_direct, up_interfaces};
-ghost use Rattle.net_model.specs.World.{is_up};
+ghost use Rattle.net_interfaces.specs.Interfaces.{addressed};
+ghost use Rattle.net_parts.specs.Routing.{is_direct, up_interfaces};
+ghost use Rattle.net_parts.specs.World.{is_up};
 ghost use Rattle.sym_policy.specs.Held.{failures_of};
 ghost use Rattle.sym_policy.specs.Records.{packet_end};
 ghost use Rattle.sym_forwarding.specs.Here as targets;

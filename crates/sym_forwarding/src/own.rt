@@ -2,8 +2,8 @@
 
 ghost use Rattle.std.specs.Prelude.{◌≡◌, ℕ, ◌+◌, ◌<◌, ◌≤◌, ◌==◌, ◌&&◌, Bool, false, IfOk};
 ghost use Rattle.std.specs.List.{list_any};
-ghost use Rattle.net_model.specs.Routing.{up_interfaces};
-ghost use Rattle.net_model.specs.World.{is_up};
+ghost use Rattle.net_parts.specs.Routing.{up_interfaces};
+ghost use Rattle.net_parts.specs.World.{is_up};
 ghost use Rattle.sym_policy.specs.Held.{failures_of};
 ghost use Rattle.term_store.specs.Terms.{Reading, size, at};
 ghost use Rattle.term_store.specs.Reading.{Reads, Builds, Gives};

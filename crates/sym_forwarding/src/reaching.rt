@@ -3,8 +3,8 @@
 
 ghost use Rattle.std.specs.Prelude.{◌≡◌, ℕ, ◌+◌, ◌<◌, ◌≤◌, ◌==◌, ◌&&◌, Bool, IfOk, [], ◌∷◌, ◌++◌, length};
 ghost use Rattle.std.specs.Prelude.{List as ListOf};
-ghost use Rattle.net_model.specs.declared.interfaces.Addressed.{Addressed as AddressedOf};
-ghost use Rattle.net_model.specs.Interfaces.{addressed};
+ghost use Rattle.net_interfaces.specs.declared.interfaces.Addressed.{Addressed as AddressedOf};
+ghost use Rattle.net_interfaces.specs.Interfaces.{addressed};
 ghost use Rattle.question_lang.specs.Hops as hops;
 ghost use Rattle.sym_ospf.specs.Rows.{net_end};
 ghost use Rattle.sym_policy.specs.Held.{failures_of};

@@ -4,9 +4,9 @@ ghost use Rattle.std.specs.Prelude.{◌≡◌, ℕ, ◌+◌, ◌<◌, ◌≤◌,
 ghost use Rattle.std.specs.Prelude.{List as ListOf, if◌then◌else◌};
 ghost use Rattle.std.specs.List.{flat_map};
 ghost use Rattle.mw_text.specs.Address.{prefix_at};
-ghost use Rattle.net_model.specs.Routing as routing;
+ghost use Rattle.net_parts.specs.Routing as routing;
 ghost use Rattle.question_lang.specs.declared.walk.Hop.{Hop as HopOf};
-ghost use Rattle.net_model.specs.Routing.{up_interfaces};
+ghost use Rattle.net_parts.specs.Routing.{up_interfaces};
 ghost use Rattle.question_lang.specs.Hops as hops;
 ghost use Rattle.sym_policy.specs.Held.{failures_of};
 ghost use Rattle.sym_policy.specs.Records.{address_of, packet_end, prefix_of as prefix_read};

@@ -5,8 +5,8 @@ ghost use Rattle.std.specs.Option.{option_map_or};
 ghost use Rattle.term_store.specs.Terms.{size, at};
 ghost use Rattle.term_store.specs.Reading.{Builds, Gives};
 ghost use Rattle.term_arith.specs.Bits.{bits, ids_end};
-ghost use Rattle.net_model.specs.World as world;
-ghost use Rattle.net_model.specs.Ospf as ospf;
+ghost use Rattle.net_parts.specs.World as world;
+ghost use Rattle.net_parts.specs.Ospf as ospf;
 ghost use Rattle.sym_policy.specs.Held.{failures_of};
 
 use mw_text::Prefix;

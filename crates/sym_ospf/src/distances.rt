@@ -4,15 +4,15 @@ ghost use Rattle.std.specs.Prelude.{◌≡◌, ◌+◌, ◌*◌, ◌<◌, ◌≤
 ghost use Rattle.std.specs.Prelude.{length, option_map, slice_get};
 ghost use Rattle.term_store.specs.Terms.{size, at};
 ghost use Rattle.term_store.specs.Reading.{Builds, Gives};
-ghost use Rattle.net_model.specs.Distances.{own_cost, nearest, beyond};
-ghost use Rattle.net_model.specs.Ospf as ospf;
+ghost use Rattle.net_parts.specs.Distances.{own_cost, nearest, beyond};
+ghost use Rattle.net_parts.specs.Ospf as ospf;
 ghost use Rattle.sym_policy.specs.Held.{failures_of, ospf_of, ospf_end};
 ghost use Rattle.sym_ospf.specs.Routes.{routes_end};
 ghost use Rattle.sym_ospf.specs.Rows.{net_end, distance_of, distance_end, nearer, own_offer, far_offer, costs_at};
 
 use crate::parts::SymDistance;
 use mw_text::Prefix;
-use net_model::ospf::advertisement;
+use net_parts::ospf::advertisement;
 use net_model::{Adjacency, Net, OspfInterface};
 use std::alloc::{AllocError, Global};
 use sym_interfaces::{sym_up, sym_up_at};

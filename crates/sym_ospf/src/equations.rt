@@ -4,7 +4,7 @@ ghost use Rattle.std.specs.Prelude.{◌≡◌, ◌==◌, ◌+◌, ◌*◌, ◌<�
 ghost use Rattle.term_store.specs.Terms.{size, at};
 ghost use Rattle.term_store.specs.Reading.{Builds, Gives};
 ghost use Rattle.term_arith.specs.Bits.{number, ids_end};
-ghost use Rattle.net_model.specs.Ospf as ospf;
+ghost use Rattle.net_parts.specs.Ospf as ospf;
 ghost use Rattle.sym_policy.specs.Held.{ospf_at, ospf_of, ospf_end};
 ghost use Rattle.sym_ospf.specs.Rows.{net_end, distance_of, distance_end, is_internal, is_distance, equation};
 ghost use Rattle.sym_ospf.specs.Rows.{row_holds, rows_hold, HasDistances};

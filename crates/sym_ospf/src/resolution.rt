@@ -6,10 +6,10 @@ ghost use Rattle.mw_text.specs.Address.{covers};
 ghost use Rattle.term_store.specs.Terms.{size, at};
 ghost use Rattle.term_store.specs.Reading.{Builds, Gives};
 ghost use Rattle.term_arith.specs.Bits.{ids_end};
-ghost use Rattle.net_model.specs.Distances.{interior_distance};
-ghost use Rattle.net_model.specs.Ospf as ospf;
-ghost use Rattle.net_model.specs.Resolution.{resolved};
-ghost use Rattle.net_model.specs.Routing as routing;
+ghost use Rattle.net_parts.specs.Distances.{interior_distance};
+ghost use Rattle.net_parts.specs.Ospf as ospf;
+ghost use Rattle.net_parts.specs.Resolution.{resolved};
+ghost use Rattle.net_parts.specs.Routing as routing;
 ghost use Rattle.sym_policy.specs.Held.{failures_of, internal_route, ospf_of, ospf_end};
 ghost use Rattle.sym_policy.specs.Records.{address_of};
 ghost use Rattle.sym_ospf.specs.Rows.{net_end, HasDistances};
@@ -191,7 +191,7 @@ fn sym_far(
 /// How far the address is from the router, as an internal route with metric 0: cost 0 where an interface of the router
 /// that is up has it on its subnet, else the interior distance to the advertised prefix that contains it, and else none
 /// (RFC 4271, section 5.1.3). This holds under each reading in which the rows of `sym` are the interior distances.
-#[tactic(auto, unfolding(net_model::specs::Resolution::resolved), using(crate::proofs::Reach::resolved_is))]
+#[tactic(auto, unfolding(net_parts::specs::Resolution::resolved), using(crate::proofs::Reach::resolved_is))]
 pub fn sym_resolve(
     alloc: Global,
     terms: &mut Terms,

@@ -4,14 +4,14 @@ ghost use Rattle.std.specs.Prelude.{◌≡◌, ◌*◌, ◌<◌, ◌≤◌, ◌&
 ghost use Rattle.std.specs.Option.{option_map_or};
 ghost use Rattle.term_store.specs.Terms.{size, at};
 ghost use Rattle.term_store.specs.Reading.{Builds, Gives};
-ghost use Rattle.net_model.specs.Ospf as ospf;
-ghost use Rattle.net_model.specs.Resolution as resolution;
-ghost use Rattle.net_model.specs.Sessions as sessions;
+ghost use Rattle.net_parts.specs.Ospf as ospf;
+ghost use Rattle.net_parts.specs.Resolution as resolution;
+ghost use Rattle.net_parts.specs.Sessions as sessions;
 ghost use Rattle.sym_policy.specs.Held.{failures_of};
 ghost use Rattle.sym_ospf.specs.Rows.{net_end, HasDistances};
 
 use crate::resolution::sym_resolve;
-use net_model::ends::neighbour_of;
+use net_parts::ends::neighbour_of;
 use net_model::{Far, Net, SessionEnd};
 use std::alloc::{AllocError, Global};
 use sym_interfaces::sym_up_at;
@@ -95,7 +95,7 @@ fn sym_up_between(
 }
 
 /// Whether the session of an end is up.
-#[tactic(auto, unfolding(net_model::specs::Resolution::session_up))]
+#[tactic(auto, unfolding(net_parts::specs::Resolution::session_up))]
 fn sym_end_up(
     alloc: Global,
     terms: &mut Terms,

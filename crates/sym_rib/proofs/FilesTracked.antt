@@ -12,9 +12,10 @@ use Rattle.ios_ast.specs.declared.policies.CommunityList.{CommunityList}
 use Rattle.ios_ast.specs.declared.policies.Pattern.{Pattern}
 use Rattle.ios_ast.specs.declared.policies.Pattern.TheVariants.{Empty, Any, Only, First, Last, Has}
 use Rattle.ios_ast.specs.Deciding.{carries}
-use Rattle.net_model.specs.declared.tracking.Said.{Said}
-use Rattle.net_model.specs.Tracked.{TracksNet, said_as, said_at, said_communities, said_in_list, said_in_map}
-use Rattle.net_model.specs.Tracked.{said_in_paths, said_in_pattern, said_numbers}
+use Rattle.net_interfaces.specs.declared.values.Said.{Said}
+use Rattle.net_interfaces.specs.Values.{said_as, said_at, said_communities, said_in_list, said_in_map}
+use Rattle.net_parts.specs.Tracked.{TracksNet}
+use Rattle.net_interfaces.specs.Values.{said_in_paths, said_in_pattern, said_numbers}
 use Rattle.net_model.proofs.Tracking.{communities_tracked, numbers_tracked}
 use Rattle.route_record.specs.declared.tracked.Tracked.{Tracked}
 use Rattle.sym_policy.specs.Shapes.{all_tracked, path_tracked, values_tracked}

@@ -2,8 +2,8 @@
 
 ghost use Rattle.std.specs.Prelude.{◌≡◌, ◌==◌, ◌&&◌, ℕ, ◌+◌, ◌<◌, ◌≤◌, Bool, not, fold, map, if◌then◌else◌, Some};
 ghost use Rattle.std.specs.Prelude.{None, IfOk, length, slice_get, option_and_then};
-ghost use Rattle.net_model.specs.Entries as entries;
-ghost use Rattle.net_model.specs.Routing as routing;
+ghost use Rattle.net_parts.specs.Entries as entries;
+ghost use Rattle.net_parts.specs.Routing as routing;
 ghost use Rattle.route_record.specs.declared.Slot.{Slot};
 ghost use Rattle.sym_policy.specs.Held.{failures_of, ospf_end};
 ghost use Rattle.sym_policy.specs.Records.{prefix_of};
@@ -20,7 +20,7 @@ use crate::slots::{SymRib, SymSlot};
 use crate::statics::best_static;
 use ios_ast::File;
 use net_model::Net;
-use net_model::ends::file_of;
+use net_parts::ends::file_of;
 use route_record::RibSource;
 use std::alloc::{AllocError, Global};
 use sym_policy::{SymNet, SymOspf};

@@ -2,8 +2,8 @@
 
 ghost use Rattle.std.specs.Prelude.{◌≡◌, ◌==◌, ◌&&◌, ◌||◌, ℕ, ◌+◌, ◌<◌, ◌≤◌, Bool, false, IfOk, length};
 ghost use Rattle.mw_text.specs.Address.{covers, same_prefix};
-ghost use Rattle.net_model.specs.Routing as routing;
-ghost use Rattle.net_model.specs.World as world;
+ghost use Rattle.net_parts.specs.Routing as routing;
+ghost use Rattle.net_parts.specs.World as world;
 ghost use Rattle.sym_policy.specs.Held.{failures_of};
 ghost use Rattle.sym_policy.specs.Records.{prefix_of};
 ghost use Rattle.term_store.specs.Terms.{Reading, size, at};

@@ -13,7 +13,7 @@ ghost use Rattle.term_arith.specs.Bits.{number, ids_end};
 
 use crate::ribs::{choose_rib, entry_where};
 use crate::slots::SymRib;
-use net_model::ends::neighbour_of;
+use net_parts::ends::neighbour_of;
 use net_model::{Net, SessionEnd};
 use route_record::RibSource;
 use std::alloc::{AllocError, Global};

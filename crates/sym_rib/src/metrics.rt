@@ -3,7 +3,7 @@
 ghost use Rattle.std.specs.Prelude.{◌≡◌, ◌==◌, ◌&&◌, ◌||◌, ℕ, ◌+◌, ◌<◌, ◌≤◌, Bool, false, if◌then◌else◌, Some, None};
 ghost use Rattle.std.specs.Prelude.{IfOk, length, max, option_and_then, option_map, unwrap_or};
 ghost use Rattle.mw_text.specs.Address.{same_prefix};
-ghost use Rattle.net_model.specs.Origins as origins;
+ghost use Rattle.net_parts.specs.Origins as origins;
 ghost use Rattle.route_record.specs.declared.Slot.{Slot};
 ghost use Rattle.sym_policy.specs.Held.{kind_of_number, ospf_at, ospf_of, ospf_end};
 ghost use Rattle.sym_policy.specs.Records.{prefix_of};

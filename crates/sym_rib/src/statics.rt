@@ -2,7 +2,7 @@
 
 ghost use Rattle.std.specs.Prelude.{◌≡◌, ◌==◌, ◌&&◌, ℕ, ◌+◌, ◌<◌, ◌≤◌, Bool, true, false, fold, map, if◌then◌else◌};
 ghost use Rattle.std.specs.Prelude.{Some, None, IfOk, length};
-ghost use Rattle.net_model.specs.Routing as routing;
+ghost use Rattle.net_parts.specs.Routing as routing;
 ghost use Rattle.route_record.specs.declared.RibSource as source;
 ghost use Rattle.sym_policy.specs.Held.{failures_of};
 ghost use Rattle.sym_policy.specs.Records.{prefix_of};

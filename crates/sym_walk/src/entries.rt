@@ -4,7 +4,7 @@ ghost use Rattle.std.specs.Prelude.{◌≡◌, ◌<◌, ◌≤◌, ◌==◌, IfO
 ghost use Rattle.std.specs.Prelude.{if◌then◌else◌, length};
 ghost use Rattle.std.specs.Prelude.{List as ListOf};
 ghost use Rattle.mw_text.specs.Address.{prefix_at};
-ghost use Rattle.net_model.specs.Routing.{up_interfaces};
+ghost use Rattle.net_parts.specs.Routing.{up_interfaces};
 ghost use Rattle.question_lang.specs.declared.walk.Hop.{Hop as HopOf};
 ghost use Rattle.question_lang.specs.Hops as hops;
 ghost use Rattle.sym_ospf.specs.Rows.{net_end};

@@ -3,7 +3,7 @@
 ghost use Rattle.std.specs.Prelude.{◌≡◌, ℕ, ◌+◌, ◌*◌, ◌<◌, ◌≤◌, Bool, IfOk, [], ◌∷◌, if◌then◌else◌, length};
 ghost use Rattle.std.specs.Prelude.{List as ListOf, Option as OptionOf, Some, None};
 ghost use Rattle.std.specs.Option.{option_map_or};
-ghost use Rattle.net_model.specs.Routing.{up_interfaces};
+ghost use Rattle.net_parts.specs.Routing.{up_interfaces};
 ghost use Rattle.question_lang.specs.declared.walk.End.TheVariants.{NoRoute};
 ghost use Rattle.question_lang.specs.declared.walk.Hop.{Hop as HopOf};
 ghost use Rattle.question_lang.specs.declared.walk.Hop.TheVariants.{Ends};

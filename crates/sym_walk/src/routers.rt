@@ -19,7 +19,7 @@ ghost use Rattle.term_store.specs.Reading.{Reads, Builds, Gives};
 use crate::longest::sym_hops;
 use mw_text::List;
 use net_model::Net;
-use net_model::ends::file_of;
+use net_parts::ends::file_of;
 use question_lang::Kind;
 use std::alloc::{AllocError, Global};
 use sym_forwarding::{SymAim, SymForwarding, still_forwarding, sym_here};

@@ -2,8 +2,8 @@
 
 ghost use Rattle.std.specs.Prelude.{◌≡◌, ◌++◌, ◌∷◌, [], false, filter, map, IfOk, OnOk};
 ghost use Rattle.std.specs.Option.{option_map_or};
-ghost use Rattle.net_model.specs.OspfRoutes.{kind_rank, offer_over};
-ghost use Rattle.net_model.specs.Sending as sending;
+ghost use Rattle.net_parts.specs.OspfRoutes.{kind_rank, offer_over};
+ghost use Rattle.net_parts.specs.Sending as sending;
 ghost use Rattle.proto_ospf.specs.Reached.{all_reached};
 ghost use Rattle.question_lang.specs.Hops as hops;
 
@@ -62,7 +62,7 @@ fn offers(tables: &Tables, p: &Prefix, held: &OspfRec, a: &Adjacency) -> bool
 }
 
 // The adjacencies over which an OSPF entry sends.
-#[tactic(auto, unfolding(net_model::specs::Sending::sent_by_ospf))]
+#[tactic(auto, unfolding(net_parts::specs::Sending::sent_by_ospf))]
 fn sent_by_ospf(
     alloc: Global,
     net: &Net,

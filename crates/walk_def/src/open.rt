@@ -1,8 +1,8 @@
 //! Interfaces that are up while some links have failed.
 
 ghost use Rattle.std.specs.Prelude.{◌≡◌, ◌==◌, ◌&&◌, IfOk};
-ghost use Rattle.net_model.specs.Routing.{up_interfaces};
-ghost use Rattle.net_model.specs.World as world;
+ghost use Rattle.net_parts.specs.Routing.{up_interfaces};
+ghost use Rattle.net_parts.specs.World as world;
 ghost use Rattle.question_lang.specs.Hops as hops;
 
 use net_model::{Addressed, Net};

@@ -3,17 +3,17 @@
 ghost use Rattle.std.specs.Prelude.{◌≡◌, ◌==◌, ◌&&◌, ◌||◌, ℕ, ◌+◌, ◌*◌, ◌^◌, ◌<◌, ◌≤◌, Bool, false, IfOk, OnOk, ◌++◌, ◌∷◌, [], fold, is_some, length, max, not, slice_get};
 ghost use Rattle.std.specs.List.{list_any};
 ghost use Rattle.std.specs.Option.{option_map_or};
-ghost use Rattle.net_model.specs.Connected.{overlap};
-ghost use Rattle.net_model.specs.Ospf as model;
+ghost use Rattle.net_interfaces.specs.Connected.{overlap};
+ghost use Rattle.net_parts.specs.Ospf as model;
 ghost use Rattle.world_variables.specs.Rooms as room;
 ghost use Rattle.world_variables.specs.Rooms.{is_advertised, some_take, takes_routes, width_from};
 ghost use Rattle.route_record.specs.declared.TheConstants.{LENGTHS};
 
 use ios_ast::{File, Ospf};
 use mw_text::{List, Prefix};
-use net_model::connected::prefixes_overlap;
-use net_model::ends::file_of;
-use net_model::ospf::advertisement;
+use net_interfaces::connected::prefixes_overlap;
+use net_parts::ends::file_of;
+use net_parts::ospf::advertisement;
 use net_model::{Net, OspfInterface};
 use route_record::LENGTHS;
 use std::alloc::{AllocError, Global};

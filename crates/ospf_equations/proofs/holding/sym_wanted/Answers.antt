@@ -4,8 +4,8 @@ use Rattle.std.specs.List.{filter_map, list_any}
 use Rattle.std.specs.Option.{option_map_or}
 use Rattle.mw_text.specs.Address.{prefix_at}
 use Rattle.route_record.specs.declared.OspfRec.{OspfRec}
-use Rattle.net_model.specs.Ospf.{adjacencies}
-use Rattle.net_model.specs.OspfRoutes.{first_best, is_as_good}
+use Rattle.net_parts.specs.Ospf.{adjacencies}
+use Rattle.net_parts.specs.OspfRoutes.{first_best, is_as_good}
 use Rattle.term_store.specs.Terms.{at}
 use Rattle.sym_policy.specs.Held.{failures_of, ospf_of}
 use Rattle.sym_policy.specs.Records.{address_of}

@@ -1,8 +1,8 @@
 use Rattle.std.proofs.Common.{◌≡◌, ◌≤◌, ◌++◌, ap, ap₂, subst, sym, ◌∙◌, true, List}
 use Rattle.std.specs.List.{filter_map}
 use Rattle.route_record.specs.declared.OspfRec.{OspfRec}
-use Rattle.net_model.specs.Ospf.{adjacencies}
-use Rattle.net_model.specs.OspfRoutes.{first_best}
+use Rattle.net_parts.specs.Ospf.{adjacencies}
+use Rattle.net_parts.specs.OspfRoutes.{first_best}
 use Rattle.term_store.specs.Terms.{at, size}
 use Rattle.sym_policy.specs.declared.records.SymOspf.{SymOspf}
 use Rattle.sym_policy.specs.Held.{failures_of, ospf_of}

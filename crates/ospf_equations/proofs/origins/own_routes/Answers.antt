@@ -5,7 +5,7 @@ use Rattle.std.proofs.lemmas.List.Elements.{filter_map-append}
 use Rattle.ios_ast.specs.declared.file.File.{File}
 use Rattle.ios_ast.specs.declared.ospf.Ospf.{Ospf}
 use Rattle.route_record.specs.declared.OspfRec.{OspfRec}
-use Rattle.net_model.specs.Origins.{redistributed}
+use Rattle.net_parts.specs.Origins.{redistributed}
 use Rattle.term_store.specs.Terms.{size}
 use Rattle.sym_policy.specs.declared.records.SymOspf.{SymOspf}
 use Rattle.sym_policy.specs.Held.{failures_of, ospf_end, ospf_of}

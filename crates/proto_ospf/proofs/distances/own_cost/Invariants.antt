@@ -1,8 +1,8 @@
 use Rattle.std.proofs.Common.{◌≡◌, drop, filter, map, ◌&&◌, None}
 use Rattle.std.specs.Prelude.{◌==◌, fold}
 use Rattle.mw_text.specs.Address.{same_prefix}
-use Rattle.net_model.specs.Ospf.{advertisement, ospf_interfaces}
-use Rattle.net_model.specs.World.{is_up}
+use Rattle.net_parts.specs.Ospf.{advertisement, ospf_interfaces}
+use Rattle.net_parts.specs.World.{is_up}
 use Rattle.proto_ospf.specs.Rounds.{lower}
 use Rattle.proto_ospf.proofs.distances.own_cost.Given as goal
 

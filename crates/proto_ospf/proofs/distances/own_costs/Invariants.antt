@@ -1,6 +1,6 @@
 use Rattle.std.proofs.Common.{◌≡◌, map}
 use Rattle.std.specs.List.{range_with_len}
-use Rattle.net_model.specs.Distances.{own_cost}
+use Rattle.net_parts.specs.Distances.{own_cost}
 use Rattle.proto_ospf.proofs.distances.own_costs.Given as goal
 
 -- those so far are the first

@@ -1,5 +1,5 @@
 use Rattle.std.proofs.Common.{◌≡◌, ◌++◌, drop, map}
-use Rattle.net_model.specs.Ospf.{advertised}
+use Rattle.net_parts.specs.Ospf.{advertised}
 use Rattle.proto_ospf.specs.Reached.{reached}
 use Rattle.proto_ospf.proofs.reached.all_distances.Given as goal
 

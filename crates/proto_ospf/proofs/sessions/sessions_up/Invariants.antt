@@ -1,6 +1,6 @@
 use Rattle.std.proofs.Common.{◌≡◌, ◌++◌, drop, map}
-use Rattle.net_model.specs.Resolution.{session_up}
-use Rattle.net_model.specs.Sessions.{ends_of}
+use Rattle.net_parts.specs.Resolution.{session_up}
+use Rattle.net_parts.specs.Sessions.{ends_of}
 use Rattle.proto_ospf.proofs.sessions.sessions_up.Given as goal
 
 -- those so far, with those of the ends that are left, are all

@@ -1,5 +1,5 @@
 use Rattle.std.proofs.Common.{◌≡◌, ◌++◌, drop, map}
-use Rattle.net_model.specs.Ospf.{adjacencies, is_adjacency_up}
+use Rattle.net_parts.specs.Ospf.{adjacencies, is_adjacency_up}
 use Rattle.proto_ospf.proofs.states.adjacencies_up.Given as goal
 
 -- those so far, with those of the adjacencies that are left, are all

@@ -1,5 +1,5 @@
 use Rattle.std.proofs.Common.{◌≡◌, ◌++◌, drop, filter}
-use Rattle.net_model.specs.Ospf.{adjacencies, receives}
+use Rattle.net_parts.specs.Ospf.{adjacencies, receives}
 use Rattle.proto_ospf.proofs.states.up_adjacencies.Given as goal
 
 -- those so far, with those of the adjacencies that are left, are all

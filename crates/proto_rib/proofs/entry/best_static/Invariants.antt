@@ -1,5 +1,5 @@
 use Rattle.std.proofs.Common.{◌≡◌, drop, map, fold}
-use Rattle.net_model.specs.Routing as routing
+use Rattle.net_parts.specs.Routing as routing
 use Rattle.route_record.specs.declared.RibSource.TheVariants.{Static}
 use Rattle.proto_rib.proofs.entry.best_static.Given as goal
 

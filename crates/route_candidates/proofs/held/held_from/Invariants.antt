@@ -1,7 +1,7 @@
 use Rattle.std.proofs.Common.{◌≡◌, drop, filter, fold}
 use Rattle.std.specs.List.{enumerate_from, filter_map}
-use Rattle.net_model.specs.Ospf.{adjacencies, receives}
-use Rattle.net_model.specs.OspfRoutes.{better_of, first_best, offer_heard}
+use Rattle.net_parts.specs.Ospf.{adjacencies, receives}
+use Rattle.net_parts.specs.OspfRoutes.{better_of, first_best, offer_heard}
 use Rattle.route_candidates.specs.Heard.{heard_in}
 use Rattle.route_candidates.proofs.held.held_from.Given as goal
 

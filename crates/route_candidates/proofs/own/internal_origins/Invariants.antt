@@ -1,8 +1,8 @@
 use Rattle.std.proofs.Common.{◌≡◌, ◌++◌, drop, filter, map, ◌&&◌}
 use Rattle.std.specs.Prelude.{◌==◌}
 use Rattle.mw_text.specs.Address.{same_prefix}
-use Rattle.net_model.specs.Ospf.{advertisement, ospf_interfaces}
-use Rattle.net_model.specs.World.{is_up}
+use Rattle.net_parts.specs.Ospf.{advertisement, ospf_interfaces}
+use Rattle.net_parts.specs.World.{is_up}
 use Rattle.route_record.specs.declared.OspfKind.TheVariants.{Internal}
 use Rattle.route_candidates.specs.Origins.{internal_origins}
 use Rattle.route_candidates.proofs.own.internal_origins.Given as goal

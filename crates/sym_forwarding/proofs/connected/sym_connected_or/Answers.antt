@@ -3,7 +3,7 @@ use Rattle.std.specs.Prelude.{◌==◌}
 use Rattle.std.proofs.lemmas.Bool.{and_parts}
 use Rattle.mw_text.specs.declared.address.Prefix.{Prefix}
 use Rattle.mw_text.specs.Address.{same_prefix}
-use Rattle.net_model.specs.World.{is_up}
+use Rattle.net_parts.specs.World.{is_up}
 use Rattle.sym_policy.specs.Held.{failures_of}
 use Rattle.sym_policy.specs.Records.{prefix_of}
 use Rattle.sym_forwarding.specs.Aims.{sought_by}

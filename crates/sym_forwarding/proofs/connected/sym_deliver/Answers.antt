@@ -1,6 +1,6 @@
 use Rattle.question_lang.specs.declared.walk.End.TheVariants.{Delivered}
 use Rattle.question_lang.specs.declared.walk.Hop.TheVariants.{Ends}
-use Rattle.net_model.specs.Interfaces.{addressed}
+use Rattle.net_interfaces.specs.Interfaces.{addressed}
 use Rattle.sym_policy.specs.Held.{failures_of}
 use Rattle.sym_policy.specs.Records.{address_of}
 use Rattle.sym_forwarding.specs.Owners.{owner_hop}

@@ -1,8 +1,8 @@
 use Rattle.std.proofs.Common.{◌-◌, ◌∙◌, ap, arith, rules, cond, get_or, length, Bool}
 use Rattle.mw_text.specs.declared.address.Prefix.{Prefix}
 use Rattle.mw_text.specs.Address.{covers}
-use Rattle.net_model.specs.Ospf.{advertised}
-use Rattle.net_model.specs.Sending.{is_on_least_walk}
+use Rattle.net_parts.specs.Ospf.{advertised}
+use Rattle.net_parts.specs.Sending.{is_on_least_walk}
 use Rattle.sym_policy.specs.Held.{failures_of}
 use Rattle.sym_policy.specs.Records.{address_of}
 use Rattle.sym_forwarding.proofs.LeastWalks.{leads_back}

@@ -1,6 +1,6 @@
 use Rattle.std.proofs.Common.{◌∙◌, Bool, ap, cond, sym}
 use Rattle.mw_text.specs.Address.{covers}
-use Rattle.net_model.specs.Sending.{is_on_least_walk}
+use Rattle.net_parts.specs.Sending.{is_on_least_walk}
 use Rattle.sym_policy.specs.Held.{failures_of}
 use Rattle.sym_policy.specs.Records.{address_of}
 use Rattle.term_store.specs.Terms.{at}

@@ -1,5 +1,5 @@
 use Rattle.std.proofs.Common.{List, ◌≡◌, ◌∙◌, ap, sym, subst, arith, rules, drop}
-use Rattle.net_model.specs.declared.interfaces.Addressed.{Addressed}
+use Rattle.net_interfaces.specs.declared.interfaces.Addressed.{Addressed}
 use Rattle.question_lang.specs.declared.walk.Hop.{Hop}
 use Rattle.sym_policy.specs.Held.{failures_of}
 use Rattle.sym_policy.specs.Records.{address_of}

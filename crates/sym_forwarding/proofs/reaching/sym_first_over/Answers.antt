@@ -1,6 +1,6 @@
 use Rattle.std.proofs.Common.{List, subst, arith, rules, take}
-use Rattle.net_model.specs.declared.interfaces.Addressed.{Addressed}
-use Rattle.net_model.specs.Interfaces.{addressed}
+use Rattle.net_interfaces.specs.declared.interfaces.Addressed.{Addressed}
+use Rattle.net_interfaces.specs.Interfaces.{addressed}
 use Rattle.sym_policy.specs.Held.{failures_of}
 use Rattle.sym_policy.specs.Records.{address_of}
 use Rattle.sym_forwarding.specs.Aims.{sought_by}

@@ -1,7 +1,7 @@
 use Rattle.std.proofs.Common.{◌≤◌, take}
 use Rattle.term_store.specs.Terms.{Reading, size}
 use Rattle.term_store.specs.Reading.{Reads, Builds}
-use Rattle.net_model.specs.Interfaces.{addressed}
+use Rattle.net_interfaces.specs.Interfaces.{addressed}
 use Rattle.sym_policy.specs.Held.{failures_of}
 use Rattle.sym_policy.specs.Records.{address_of}
 use Rattle.sym_forwarding.specs.Aims.{sought_by}

@@ -1,6 +1,6 @@
 use Rattle.std.proofs.Common.{List, [], ◌∷◌, subst}
 use Rattle.std.specs.Option.{option_map_or}
-use Rattle.net_model.specs.Interfaces.{addressed}
+use Rattle.net_interfaces.specs.Interfaces.{addressed}
 use Rattle.question_lang.specs.declared.walk.End.TheVariants.{Left}
 use Rattle.question_lang.specs.declared.walk.Hop.{Hop}
 use Rattle.question_lang.specs.declared.walk.Hop.TheVariants.{Ends}

@@ -1,6 +1,6 @@
 use Rattle.std.proofs.Common.{List, ◌≡◌, ◌∙◌, ap, sym, subst, arith, rules, drop, length}
 use Rattle.std.proofs.lemmas.List.{drop_all}
-use Rattle.net_model.specs.declared.adjacencies.Adjacency.{Adjacency}
+use Rattle.net_parts.specs.declared.adjacencies.Adjacency.{Adjacency}
 use Rattle.question_lang.specs.declared.walk.Hop.{Hop}
 use Rattle.sym_policy.specs.Held.{failures_of}
 use Rattle.sym_policy.specs.Records.{address_of}

@@ -1,5 +1,5 @@
 use Rattle.std.proofs.Common.{◌&&◌, [], ◌∷◌}
-use Rattle.net_model.specs.Ospf.{advertised}
+use Rattle.net_parts.specs.Ospf.{advertised}
 use Rattle.question_lang.specs.Hops.{send_adjacent}
 use Rattle.sym_policy.specs.Held.{failures_of}
 use Rattle.sym_policy.specs.Records.{address_of}

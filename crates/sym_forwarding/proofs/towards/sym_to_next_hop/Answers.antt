@@ -1,7 +1,7 @@
 use Rattle.std.proofs.Common.{◌≡◌, Bool, List, cond, map, subst, ap₂}
 use Rattle.std.specs.List.{list_any}
-use Rattle.net_model.specs.Interfaces.{addressed}
-use Rattle.net_model.specs.Sending.{sent_towards}
+use Rattle.net_interfaces.specs.Interfaces.{addressed}
+use Rattle.net_parts.specs.Sending.{sent_towards}
 use Rattle.question_lang.specs.declared.walk.Hop.{Hop}
 use Rattle.question_lang.specs.Hops.{send_adjacent}
 use Rattle.sym_policy.specs.Held.{failures_of}

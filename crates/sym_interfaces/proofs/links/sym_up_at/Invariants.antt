@@ -3,8 +3,8 @@ use Rattle.std.specs.Prelude.{◌==◌, ◌&&◌}
 use Rattle.std.specs.List.{list_any}
 use Rattle.term_store.specs.Terms.{Reading, at, size}
 use Rattle.term_store.specs.Reading.{Reads, Builds}
-use Rattle.net_model.specs.Interfaces.{addressed}
-use Rattle.net_model.specs.World.{is_up}
+use Rattle.net_interfaces.specs.Interfaces.{addressed}
+use Rattle.net_parts.specs.World.{is_up}
 use Rattle.sym_policy.specs.Held.{failures_of}
 use Rattle.sym_interfaces.proofs.links.sym_up_at.Given as goal
 

@@ -1,5 +1,5 @@
 use Rattle.std.proofs.Common.{length, arith, ap}
-use Rattle.net_model.specs.Ospf.{advertised}
+use Rattle.net_parts.specs.Ospf.{advertised}
 use Rattle.sym_ospf.proofs.LeastOffers.{fits_product, fits_sum}
 use Rattle.sym_ospf.proofs.distances.igp_of.Goals as goal
 

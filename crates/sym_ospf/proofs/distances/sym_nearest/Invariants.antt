@@ -1,8 +1,8 @@
 use Rattle.std.proofs.Common.{◌≡◌, ◌≤◌, take}
 use Rattle.term_store.specs.Terms.{Reading, size}
 use Rattle.term_store.specs.Reading.{Reads, Builds}
-use Rattle.net_model.specs.Distances.{own_cost}
-use Rattle.net_model.specs.Ospf.{adjacencies}
+use Rattle.net_parts.specs.Distances.{own_cost}
+use Rattle.net_parts.specs.Ospf.{adjacencies}
 use Rattle.sym_policy.specs.Held.{failures_of}
 use Rattle.sym_ospf.specs.Rows.{costs_at, distance_end, distance_of}
 use Rattle.sym_ospf.proofs.LeastOffers.{far_after}

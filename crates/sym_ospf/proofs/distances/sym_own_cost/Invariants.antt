@@ -1,7 +1,7 @@
 use Rattle.std.proofs.Common.{◌≡◌, ◌≤◌, take, None}
 use Rattle.term_store.specs.Terms.{Reading, size}
 use Rattle.term_store.specs.Reading.{Reads, Builds}
-use Rattle.net_model.specs.Ospf.{ospf_interfaces}
+use Rattle.net_parts.specs.Ospf.{ospf_interfaces}
 use Rattle.sym_policy.specs.Held.{failures_of}
 use Rattle.sym_ospf.specs.Rows.{distance_end, distance_of}
 use Rattle.sym_ospf.proofs.LeastOffers.{own_after}

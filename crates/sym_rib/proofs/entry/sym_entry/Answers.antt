@@ -2,7 +2,7 @@ use Rattle.std.proofs.Common.{Option, ◌∙◌, ap}
 use Rattle.std.specs.Prelude.{option_and_then, slice_get}
 use Rattle.ios_ast.specs.declared.file.File.{File}
 use Rattle.route_record.specs.declared.RibEntry.{RibEntry}
-use Rattle.net_model.specs.Entries.{entry_with}
+use Rattle.net_parts.specs.Entries.{entry_with}
 use Rattle.sym_policy.specs.Held.{failures_of}
 use Rattle.sym_policy.specs.Records.{prefix_of}
 use Rattle.term_store.specs.Terms.{at}

@@ -2,8 +2,8 @@ use Rattle.std.proofs.Common.{◌≡◌, ◌<◌, ◌&&◌, ◌||◌, drop, filt
 use Rattle.std.specs.Prelude.{◌==◌}
 use Rattle.std.specs.List.{list_any}
 use Rattle.mw_text.specs.Address.{same_prefix}
-use Rattle.net_model.specs.Routing.{is_direct, up_interfaces}
-use Rattle.net_model.specs.World.{is_up}
+use Rattle.net_parts.specs.Routing.{is_direct, up_interfaces}
+use Rattle.net_parts.specs.World.{is_up}
 use Rattle.sym_policy.specs.Held.{failures_of}
 use Rattle.sym_policy.specs.Records.{prefix_of}
 use Rattle.term_store.specs.Terms.{Reading, at, size}

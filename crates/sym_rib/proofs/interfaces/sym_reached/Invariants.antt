@@ -2,8 +2,8 @@ use Rattle.std.proofs.Common.{◌≡◌, ◌<◌, ◌&&◌, ◌||◌, drop, filt
 use Rattle.std.specs.Prelude.{◌==◌}
 use Rattle.std.specs.List.{list_any}
 use Rattle.mw_text.specs.Address.{covers}
-use Rattle.net_model.specs.Routing.{is_reached, up_interfaces}
-use Rattle.net_model.specs.World.{is_up}
+use Rattle.net_parts.specs.Routing.{is_reached, up_interfaces}
+use Rattle.net_parts.specs.World.{is_up}
 use Rattle.sym_policy.specs.Held.{failures_of}
 use Rattle.term_store.specs.Terms.{Reading, at, size}
 use Rattle.term_store.specs.Reading.{Reads, Builds}

@@ -6,7 +6,7 @@ use Rattle.std.specs.Option.{option_and_then, option_map}
 use Rattle.route_record.specs.declared.BgpRec.{BgpRec}
 use Rattle.route_record.specs.declared.Origin.TheVariants.{Incomplete}
 use Rattle.route_record.specs.declared.RibEntry.{RibEntry}
-use Rattle.net_model.specs.Origins.{is_default, local_route, local_through, taken_metric}
+use Rattle.net_parts.specs.Origins.{is_default, local_route, local_through, taken_metric}
 use Rattle.sym_policy.specs.Held.{BgpShape, bgp_shape}
 use Rattle.sym_policy.specs.Records.{prefix_of}
 use Rattle.sym_rib.proofs.LocalRoutes.{line_by}

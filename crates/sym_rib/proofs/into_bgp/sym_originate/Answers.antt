@@ -4,7 +4,7 @@ use Rattle.std.specs.Option.{option_map_or}
 use Rattle.ios_ast.specs.declared.file.File.{File}
 use Rattle.route_record.specs.declared.BgpRec.{BgpRec}
 use Rattle.route_record.specs.declared.tracked.Tracked.{Tracked}
-use Rattle.net_model.specs.Origins.{local_routes}
+use Rattle.net_parts.specs.Origins.{local_routes}
 use Rattle.sym_policy.specs.Held.{bgp_shape}
 use Rattle.sym_policy.specs.Records.{prefix_of}
 use Rattle.sym_policy.specs.Shapes.{all_tracked}

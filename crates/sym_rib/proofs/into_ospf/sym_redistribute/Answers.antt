@@ -4,7 +4,7 @@ use Rattle.std.specs.Option.{option_map_or}
 use Rattle.ios_ast.specs.declared.file.File.{File}
 use Rattle.route_record.specs.declared.OspfRec.{OspfRec}
 use Rattle.route_record.specs.declared.tracked.Tracked.{Tracked}
-use Rattle.net_model.specs.Origins.{redistributed}
+use Rattle.net_parts.specs.Origins.{redistributed}
 use Rattle.sym_policy.specs.Records.{prefix_of}
 use Rattle.sym_policy.specs.Shapes.{all_tracked}
 use Rattle.sym_rib.specs.Slots.{StandsForSlot}

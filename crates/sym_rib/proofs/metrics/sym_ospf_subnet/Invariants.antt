@@ -2,7 +2,7 @@ use Rattle.std.proofs.Common.{◌≡◌, ◌<◌, ◌&&◌, ◌||◌, drop}
 use Rattle.std.specs.Prelude.{◌==◌}
 use Rattle.std.specs.List.{list_any}
 use Rattle.mw_text.specs.Address.{same_prefix}
-use Rattle.net_model.specs.Origins.{is_ospf_subnet}
+use Rattle.net_parts.specs.Origins.{is_ospf_subnet}
 use Rattle.sym_policy.specs.Records.{prefix_of}
 use Rattle.term_store.specs.Terms.{Reading, at, size}
 use Rattle.term_store.specs.Reading.{Reads, Builds}

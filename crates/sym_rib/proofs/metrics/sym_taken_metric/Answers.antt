@@ -1,7 +1,7 @@
 use Rattle.std.proofs.Common.{ℕ, Option, ◌∙◌, ap, sym}
 use Rattle.std.specs.Option.{option_and_then}
 use Rattle.ios_ast.specs.declared.ospf.Source.{Source}
-use Rattle.net_model.specs.Origins.{taken_metric}
+use Rattle.net_parts.specs.Origins.{taken_metric}
 use Rattle.sym_policy.specs.Records.{prefix_of}
 use Rattle.sym_rib.proofs.metrics.sym_taken_metric.Goals as goal
 

@@ -2,7 +2,7 @@ use Rattle.std.proofs.Common.{ℕ, Bool, Option, Some, None, ◌∙◌, ◌&&◌
 use Rattle.std.specs.Prelude.{◌==◌}
 use Rattle.std.specs.Option.{option_and_then}
 use Rattle.ios_ast.specs.declared.ospf.Source.TheVariants as source
-use Rattle.net_model.specs.Origins.{ospf_metric, taken_metric, takes_kind}
+use Rattle.net_parts.specs.Origins.{ospf_metric, taken_metric, takes_kind}
 use Rattle.route_record.specs.declared.RibEntry.{RibEntry}
 use Rattle.sym_policy.specs.Records.{prefix_of}
 use Rattle.term_store.specs.Terms.{at}

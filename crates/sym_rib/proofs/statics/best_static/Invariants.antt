@@ -1,5 +1,5 @@
 use Rattle.std.proofs.Common.{◌≡◌, ◌≤◌, drop, fold, map}
-use Rattle.net_model.specs.Routing.{closer, static_routes, up_interfaces}
+use Rattle.net_parts.specs.Routing.{closer, static_routes, up_interfaces}
 use Rattle.sym_policy.specs.Held.{failures_of}
 use Rattle.sym_policy.specs.Records.{prefix_of}
 use Rattle.term_store.specs.Terms.{Reading, size}

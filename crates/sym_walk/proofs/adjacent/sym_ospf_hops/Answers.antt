@@ -1,5 +1,5 @@
 use Rattle.std.proofs.Common.{List, ◌≡◌, ◌∙◌, ap, sym, subst, arith, rules, drop}
-use Rattle.net_model.specs.declared.adjacencies.Adjacency.{Adjacency}
+use Rattle.net_parts.specs.declared.adjacencies.Adjacency.{Adjacency}
 use Rattle.question_lang.specs.declared.walk.Hop.{Hop}
 use Rattle.sym_policy.specs.Held.{failures_of, ospf_of}
 use Rattle.sym_policy.specs.Records.{prefix_of}

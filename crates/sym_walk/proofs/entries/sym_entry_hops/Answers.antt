@@ -1,6 +1,6 @@
 use Rattle.std.proofs.Common.{List, cond, eqb, sym, subst}
 use Rattle.mw_text.specs.Address.{prefix_at}
-use Rattle.net_model.specs.Routing.{up_interfaces}
+use Rattle.net_parts.specs.Routing.{up_interfaces}
 use Rattle.question_lang.specs.declared.walk.Hop.{Hop}
 use Rattle.question_lang.specs.Hops.{all_up, bgp_hops, ospf_hops}
 use Rattle.sym_policy.specs.Held.{failures_of}

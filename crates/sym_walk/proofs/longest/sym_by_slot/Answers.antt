@@ -1,4 +1,4 @@
-use Rattle.net_model.specs.Routing.{up_interfaces}
+use Rattle.net_parts.specs.Routing.{up_interfaces}
 use Rattle.question_lang.specs.Hops.{all_up}
 use Rattle.sym_policy.specs.Held.{failures_of}
 use Rattle.sym_forwarding.specs.Aims.{sought_by}

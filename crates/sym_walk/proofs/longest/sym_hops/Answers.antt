@@ -1,7 +1,7 @@
 use Rattle.std.proofs.Common.{[], ◌∷◌}
 use Rattle.std.specs.Prelude.{◌==◌}
 use Rattle.std.specs.List.{list_any}
-use Rattle.net_model.specs.Routing.{up_interfaces}
+use Rattle.net_parts.specs.Routing.{up_interfaces}
 use Rattle.question_lang.specs.declared.walk.End.TheVariants.{Delivered}
 use Rattle.question_lang.specs.declared.walk.Hop.TheVariants.{Ends}
 use Rattle.question_lang.specs.Hops.{longest_below}

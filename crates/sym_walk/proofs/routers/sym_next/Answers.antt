@@ -2,7 +2,7 @@ use Rattle.std.proofs.Common.{◌∙◌, [], Option, ap, subst}
 use Rattle.std.specs.Prelude.{slice_get}
 use Rattle.std.specs.Option.{option_map_or}
 use Rattle.ios_ast.specs.declared.file.File.{File}
-use Rattle.net_model.specs.Routing.{up_interfaces}
+use Rattle.net_parts.specs.Routing.{up_interfaces}
 use Rattle.question_lang.specs.Hops.{all_up, hops_over}
 use Rattle.sym_policy.specs.Held.{failures_of}
 use Rattle.sym_forwarding.specs.Aims.{sought_by}

@@ -1,7 +1,7 @@
 use Rattle.std.proofs.Common.{◌≡◌, ◌++◌, drop, ◌==◌}
 use Rattle.std.specs.Prelude.{filter}
 use Rattle.std.specs.List.{flat_map}
-use Rattle.net_model.specs.Routing.{static_routes}
+use Rattle.net_parts.specs.Routing.{static_routes}
 use Rattle.question_lang.specs.Hops.{static_hops}
 use Rattle.walk_def.proofs.hops.static_hops_of.Given as goal
 

@@ -5,7 +5,7 @@ use Rattle.question_lang.specs.declared.question.Kind.TheVariants.{Alike}
 use Rattle.question_lang.specs.declared.question.Start.{Start}
 use Rattle.question_lang.specs.Breaking.{at_router}
 use Rattle.sym_forwarding.specs.Layers.{arrives}
-use Rattle.net_model.proofs.Defined.{none_here}
+use Rattle.net_parts.proofs.Defined.{none_here}
 use Rattle.walk_finder.specs.declared.rows.Row.{Row}
 use Rattle.walk_finder.specs.Following.{Arrives}
 use Rattle.walk_finder.specs.Rows.{table_of}

@@ -1,6 +1,6 @@
 use Rattle.std.proofs.Common.{List, sym, subst, ◌∙◌}
 use Rattle.question_lang.specs.declared.question.Kind.TheVariants.{Reach}
-use Rattle.net_model.proofs.Defined.{none_here}
+use Rattle.net_parts.proofs.Defined.{none_here}
 use Rattle.walk_finder.specs.declared.rows.Row.{Row}
 use Rattle.walk_finder.specs.Sought.{AreRows}
 use Rattle.walk_finder.proofs.ByKind.{reach_begins, reach_breaks}
