@@ -10,5 +10,4 @@ pub mod Costs
 pub mod Equations
 pub mod SubnetOrder
 pub mod Survivors
-pub mod EndNumbers
 pub mod Heard

@@ -1,7 +1,7 @@
 -- What a router sends over a BGP session, and what it makes of what it receives (RFC 4271, sections 5 and 9; RFC 4456;
 -- RFC 1997).
-use Rattle.std.specs.Prelude.{ℕ, ◌+◌, ◌^◌, ◌==◌, ◌&&◌, ◌||◌, Bool, true, false, not, List, [], ◌∷◌, filter, fold}
-use Rattle.std.specs.Prelude.{length, map, max, nat_le, slice_get, Option, Some, None, option_and_then, option_map, unwrap_or}
+use Rattle.std.specs.Prelude.{ℕ, ◌==◌, ◌&&◌, ◌||◌, Bool, true, false, not, List, [], ◌∷◌, filter, fold, length, map}
+use Rattle.std.specs.Prelude.{max, nat_le, slice_get, Option, Some, None, option_and_then, option_map, unwrap_or}
 use Rattle.std.specs.Prelude.{if◌then◌else◌}
 use Rattle.std.specs.List.{find, list_any}
 use Rattle.std.specs.Option.{option_map_or}
@@ -76,16 +76,6 @@ end_towards files router a = find (is_towards files router a) (ends_of files)
 abbrev pub learnt_over : List File → ℕ → Learnt → Option SessionEnd
 learnt_over files router Local = None
 learnt_over files router (Peer a) = end_towards files router a
-
--- the end is one of the router, and the number stands for its neighbour: 2^32 and the address, where 0 stands for none
-abbrev pub is_from : List File → ℕ → ℕ → SessionEnd → Bool
-is_from files router n end =
-    (end.router == router)
-    && option_map_or (λ neighbour. 2 ^ 32 + neighbour.addr.0 == n) (neighbour_of files end) false
-
--- the end over which a route with that number was learnt
-abbrev pub end_numbered : List File → ℕ → ℕ → Option SessionEnd
-end_numbered files router n = find (is_from files router n) (ends_of files)
 
 abbrev pub is_client : List File → SessionEnd → Bool
 is_client files end = option_map_or (λ neighbour. neighbour.client) (neighbour_of files end) false
