@@ -5,4 +5,3 @@ pub mod Slots
 pub mod Worlds
 pub mod Symbols
 pub mod Supported
-pub mod Breaking

@@ -14,7 +14,7 @@ ghost use Rattle.route_record.specs.declared.TheConstants.{LENGTHS};
 ghost use Rattle.route_record.specs.Places.{slot_at};
 ghost use Rattle.net_parts.specs.Ospf.{adjacencies};
 ghost use Rattle.net_parts.specs.Stable.{Stable};
-ghost use Rattle.world_variables.specs.Breaking.{IsBreaking};
+ghost use Rattle.question_lang.specs.Breaking.{IsBreaking};
 ghost use Rattle.failed_links.specs.Rows.{IsAt};
 ghost use Rattle.world_variables.specs.Supported.{AreOrigins, IsKept};
 ghost use Rattle.world_variables.specs.Worlds.{IsEncodable, is_routing, no_environment, world_bits, world_from};
