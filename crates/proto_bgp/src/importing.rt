@@ -2,6 +2,7 @@
 
 ghost use Rattle.std.specs.Prelude.{◌≡◌, ◌==◌, ◌&&◌, false, not, ◌<◌, length, slice_get, IfOk, option_and_then, unwrap_or, if◌then◌else◌};
 ghost use Rattle.std.specs.Option.{option_map_or};
+ghost use Rattle.ios_ast.specs.Maps as maps;
 ghost use Rattle.net_parts.specs.Exports as exports;
 ghost use Rattle.net_parts.specs.Mapping as mapping;
 ghost use Rattle.net_parts.specs.Sessions.{ends_of};
@@ -116,7 +117,7 @@ fn mapped_in(
 ) -> Result<Option<BgpRec>, AllocError>
     ensures { IfOk result (λ made. made
         ≡ option_and_then (λ r. exports.if_short (mapping.with_attributes (exports.received neighbour.now end.now msg.now) r))
-        (mapping.through_map file.now.policies neighbour.now.map_in p.now (not end.now.internal)
+        (maps.through_map file.now.policies neighbour.now.map_in p.now (not end.now.internal)
         (mapping.attributes_of (exports.received neighbour.now end.now msg.now)))) }
 {
     let rec = received(alloc, neighbour, end, msg)?;
