@@ -72,9 +72,9 @@ same_candidates files failures ids one other router p local same =
     (λ (e : ℕ × SessionEnd). learnt_candidate files failures ids p e.0 e.1 (other e.0 e.1))
     (λ (e : ℕ × SessionEnd). e.1.router == router) 0 (ends_of files)
     (λ k end there passes. let at : k ≡ 0 + k = omega arith in
-        subst (λ j. learnt_candidate files failures ids p j end (one j end)
-        ≡ learnt_candidate files failures ids p j end (other j end)) at
-        (by (session_up files failures end) k end refl there)))
+    subst (λ j. learnt_candidate files failures ids p j end (one j end)
+    ≡ learnt_candidate files failures ids p j end (other j end)) at
+    (by (session_up files failures end) k end refl there)))
   where
     by : (up : Bool) → (k : ℕ) (end : SessionEnd) → session_up files failures end ≡ up →
         slice_get (ends_of files) k ≡ Some end →
@@ -98,8 +98,8 @@ same_held files failures one other router origins same =
     (same_numbered (offer_heard one) (offer_heard other)
     (λ (over : ℕ × Adjacency). receives files failures router over.1) 0 (adjacencies files)
     (λ k a there passes. let at : k ≡ 0 + k = omega arith in
-        subst (λ j. offer_heard one (j, a) ≡ offer_heard other (j, a)) at
-        (ap (option_and_then (extended a.cost)) (same k a there passes))))
+    subst (λ j. offer_heard one (j, a) ≡ offer_heard other (j, a)) at
+    (ap (option_and_then (extended a.cost)) (same k a there passes))))
 
 -- by the tables a router holds the first best of its own origins and of what is offered to it
 pub held_by_offers : (files : List File) (failures : Failures) (tables : Tables) (router : ℕ) (file : File)

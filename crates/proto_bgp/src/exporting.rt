@@ -19,8 +19,8 @@ use crate::speaker::{
 };
 use ios_ast::{Bgp, File, MapEntry, Neighbour, Policies, SetAct, Use};
 use mw_text::{Addr, List, Prefix};
-use net_parts::ends::{file_of, neighbour_of};
 use net_model::{Net, SessionEnd};
+use net_parts::ends::{file_of, neighbour_of};
 use policy_eval::{copy_list, copy_route, deciding_entry, map_named, map_rec};
 use route_record::{BgpMsg, BgpRec, MapRec};
 use std::alloc::{AllocError, Global};

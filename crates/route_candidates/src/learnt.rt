@@ -123,8 +123,6 @@ pub fn learnt_candidate(
     }
     match import(alloc, net, at, p, msg)? {
         None => Ok(None),
-        Some(rec) => Ok(taken_candidate(
-            net, failures, ids, underlay, at, end, rec,
-        )),
+        Some(rec) => Ok(taken_candidate(net, failures, ids, underlay, at, end, rec)),
     }
 }

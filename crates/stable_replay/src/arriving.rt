@@ -9,8 +9,8 @@ ghost use Rattle.net_parts.specs.Sessions as sessions;
 ghost use Rattle.route_record.specs.Places.{slot_at};
 
 use mw_text::{Addr, List, Prefix};
-use net_parts::ends::neighbour_of;
 use net_model::{Far, Net, SessionEnd};
+use net_parts::ends::neighbour_of;
 use policy_eval::copy_list;
 use proto_bgp::export;
 use route_record::{Announcement, BgpMsg, BgpRec, Environment, Tables};

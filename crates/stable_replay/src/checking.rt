@@ -9,9 +9,9 @@ ghost use Rattle.stable_replay.specs.declared.differs.Differs.{Differs as Differ
 
 use crate::differs::{Differs, ReplayNo};
 use crate::slots::test_slot;
-use route_candidates::{Underlay, underlay_of};
 use mw_text::{Addr, prefix_of};
 use net_model::Net;
+use route_candidates::{Underlay, underlay_of};
 use route_record::{Environment, Failures, LENGTHS, Tables, read_tables};
 use std::alloc::{AllocError, Global};
 

@@ -10,11 +10,11 @@ use crate::decided::test_bgp;
 use crate::differs::{Differs, Part};
 use crate::entry::test_entry;
 use crate::ospf::test_ospf;
-use route_candidates::Underlay;
 use ios_ast::File;
 use mw_text::{List, Prefix};
 use net_model::Net;
 use policy_eval::copy_route;
+use route_candidates::Underlay;
 use route_record::{BgpRec, Environment, Failures, OspfRec, RibEntry, Slot, Tables};
 use std::alloc::{AllocError, Global};
 
