@@ -1,7 +1,7 @@
 use Rattle.std.proofs.Common.{◌≡◌, ◌++◌, false, map}
 use Rattle.std.specs.Vec.Iter.{into_iter_items}
 use Rattle.proto_bgp.specs.Steps.{seen}
-use Rattle.stable_replay.proofs.candidates.of_routes.Given as goal
+use Rattle.route_candidates.proofs.local.of_routes.Given as goal
 
 -- the candidates so far, with those of the routes that are left, are all
 abbrev pub invariant-loop-rec : goal.invariant-loop-rec
