@@ -14,10 +14,11 @@ use Rattle.std.specs.Str.{IsUtf8}
 use Rattle.mw_text.proofs.Lists.{all_at, none_passes}
 use Rattle.mw_text.specs.Text.{same_text}
 use Rattle.ios_ast.specs.declared.file.File.{File}
+use Rattle.ios_ast.proofs.KeptLimits.{limits_of}
 use Rattle.net_model.specs.declared.refusals.NetCause.TheVariants.{SameName}
 use Rattle.net_model.specs.declared.refusals.NetRefused.{NetRefused}
 use Rattle.net_model.specs.Interfaces.{addressed}
-use Rattle.net_model.specs.Limits.{has_cost_in_range, has_few_neighbours, keeps_limits}
+use Rattle.net_model.specs.Limits.{keeps_limits}
 use Rattle.net_model.specs.Network.{IsNetwork}
 use Rattle.net_model.specs.Refusals.{external_internal_peer, first_broken, first_from, first_refusal, line_if}
 use Rattle.net_model.specs.Refusals.{net_limit, next_hop_not_connected, refused_at, refused_by_addresses}
@@ -111,9 +112,7 @@ few_ends files net =
 
 few_ifaces : (file : File) → keeps_limits file ≡ true → length file.interfaces ≤ 2 ^ 32
 few_ifaces file keeps =
-    let few = (and_parts (nat_le (length file.interfaces) 64)
-    (has_few_neighbours file && list_all has_cost_in_range file.interfaces) keeps).0 in
-    omega (arith, leb-true (length file.interfaces) 64 few)
+    omega (arith, leb-true (length file.interfaces) 64 (limits_of file keeps).interfaces)
 
 -- ---- the network
 

@@ -16,7 +16,7 @@ use Rattle.net_model.specs.Refusals.{line_if, refused_at, refused_by_addresses, 
 use Rattle.net_model.specs.Refusals.{second_area_number}
 
 -- what comes after another answer is none where both are
-or_none : {A : Type 0} (a b : Option A) → option_or a b ≡ None → b ≡ None
+pub or_none : {A : Type 0} (a b : Option A) → option_or a b ≡ None → b ≡ None
 or_none None b none = none
 or_none (Some x) b none = cc
 
@@ -37,7 +37,7 @@ first_none cause at None later none = (refl, none)
 first_none cause at (Some n) later none = cc
 
 -- where no file breaks a rule, the file of a number does not
-none_at : (cause : NetCause) (all : List File) (at k : ℕ) (files : List File) (file : File) →
+pub none_at : (cause : NetCause) (all : List File) (at k : ℕ) (files : List File) (file : File) →
     first_from cause all at files ≡ None → slice_get files k ≡ Some file
     → broken_line cause all (take (at + k) all) file ≡ None
 none_at cause all at k [] file none found = cc

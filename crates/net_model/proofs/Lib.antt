@@ -13,3 +13,8 @@ pub mod Equations
 pub mod InOrder
 pub mod SubnetOrder
 pub mod Survivors
+pub mod Unbroken
+pub mod Placed
+pub mod OneSubnet
+pub mod OnlyOne
+pub mod NextHops
