@@ -1,7 +1,7 @@
 -- Lines of lists and route maps keep the lengths of prefix lists in their order.
-use Rattle.std.proofs.Common.{◌≡◌, ℕ, ◌<◌, Bool, true, false, List, [], ◌∷◌, ◌++◌, length, get_or, Option, Some, None, Ok}
-use Rattle.std.proofs.Common.{Err, refl, ◌∙◌, ◌&&◌}
-use Rattle.std.specs.Prelude.{IfOk, All, nat_lt, position, slice_set, if◌then◌else◌}
+use Rattle.std.proofs.Common.{◌≡◌, ℕ, ◌<◌, Bool, true, false, List, [], ◌∷◌, ◌++◌, length, get_or, Option, Some, None}
+use Rattle.std.proofs.Common.{Ok, Err, refl, ◌∙◌}
+use Rattle.std.specs.Prelude.{IfOk, All, nat_lt, position, slice_set}
 use Rattle.std.specs.List.{list_all}
 use Rattle.std.specs.Option.{option_map_or}
 use Rattle.std.proofs.lemmas.Bool.{and_from}

@@ -1,6 +1,6 @@
 -- A fact that the lines of lists and route maps keep, one kind after another, is kept by every line of a file.
 use Rattle.std.proofs.Common.{◌≡◌, ℕ, Bool, true, false, List, Option, Some, None, Result, Ok, Err, refl, if◌then◌else◌}
-use Rattle.std.specs.Prelude.{⊤, IfOk}
+use Rattle.std.specs.Prelude.{IfOk}
 use Rattle.std.specs.Option.{option_map_or}
 use Rattle.mw_text.specs.declared.words.Line.{Line}
 use Rattle.ios_ast.specs.declared.policies.Policies.{Policies}

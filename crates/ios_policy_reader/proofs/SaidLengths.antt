@@ -1,8 +1,9 @@
 -- A line of a prefix list says lengths in their order: its prefix's own, the least, the greatest, and 32.
-use Rattle.std.proofs.Common.{◌≡◌, ℕ, ◌+◌, ◌≤◌, Bool, true, false, ◌&&◌, ◌||◌, not, List, [], ◌∷◌, ◌++◌, min, max, nat_le}
-use Rattle.std.proofs.Common.{Option, Some, None, Result, Ok, Err, refl, ap, sym, subst, ◌∙◌, ◌⊎◌, inl, inr, arith, drop}
+use Rattle.std.proofs.Common.{◌≡◌, ℕ, ◌+◌, ◌≤◌, Bool, true, false, ◌&&◌, ◌||◌, not, List, [], ◌∷◌, ◌++◌, min, nat_le}
+use Rattle.std.proofs.Common.{Option, Some, None, Result, Ok, Err, refl, ap, sym, subst, ◌∙◌, ◌⊎◌, inl, inr, arith}
+use Rattle.std.proofs.Common.{drop, take}
 use Rattle.std.specs.Prelude.{⊤, ◌==◌, option_map, if◌then◌else◌}
-use Rattle.std.specs.List.{AllByRecursion}
+use Rattle.std.specs.List.{AllByRecursion, list_all}
 use Rattle.std.specs.Option.{option_map_or, option_or}
 use Rattle.std.proofs.lemmas.Bool.{and_from, and_parts, eqb-true, le-leb, leb-true}
 use Rattle.std.proofs.lemmas.List.Folds.{list_any-append}
@@ -209,7 +210,8 @@ with_prefix said p short stands =
     let no_low = stands.no_low refl in
     let no_high = stands.no_high refl in
     let owns : own next ≡ p.len = ap (λ q. q.len) (prefix_next said s) in
-    let has_low : has_said Low next ≡ false = has_next Low said s ∙ or_nothing (has_said Low said) false refl ∙ no_low in
+    let has_low : has_said Low next ≡ false = has_next Low said s ∙ or_nothing (has_said Low said) false refl
+    ∙ no_low in
     let has_high : has_said High next ≡ false = has_next High said s ∙ or_nothing (has_said High said) false refl
     ∙ no_high in
     let lows : low next ≡ p.len = number_next Low said s (own next) ∙ unsaid Low said (own next) no_low ∙ owns in
@@ -244,7 +246,17 @@ with_low said n from to stands =
     record {
       one = length_next said s ∙ stands.one ∙ sym owns;
       least =
-          omega (arith, owns, lows, from, stands.one, unsaid Low said 0 no_low, stands.least, stands.between, stands.most);
+          omega (
+            arith,
+            owns,
+            lows,
+            from,
+            stands.one,
+            unsaid Low said 0 no_low,
+            stands.least,
+            stands.between,
+            stands.most,
+          );
       between = omega (arith, lows, highs, to);
       most = omega (arith, highs);
       no_low = λ small. absurd cc;
@@ -375,22 +387,27 @@ high_step said at word v stands =
         subst (λ (w : Value). Stands 10 (said ++ record { tag = High; value = w } ∷ [])) same
         (with_high said n both.0 both.1 stands)
 
--- each edge of the table is quiet, or keeps the lengths
-abbrev Known : Edge → Type 0
-Known edge = (is_quiet edge ≡ true) ⊎ StepKept edge
+quiet_steps : (edges : List Edge) → list_all is_quiet edges ≡ true → AllByRecursion StepKept edges
+quiet_steps [] all = tt
+quiet_steps (edge ∷ rest) all =
+    let both = and_parts (is_quiet edge) (list_all is_quiet rest) all in
+    (quiet_kept edge both.0, quiet_steps rest both.1)
 
-known_steps : AllByRecursion Known PREFIX_LIST
-known_steps =
-    (inl refl, (inl refl, (inl refl, (inl refl, (inl refl, (inl refl, (inl refl, (inl refl, (inr prefix_step, (
-    inl refl, (inl refl, (inl refl, (inr low_step, (inl refl, (inl refl, (inr high_step, (inl refl, (inl refl, (
-    inl refl, tt)))))))))))))))))))
+joined : (front back : List Edge) → AllByRecursion StepKept front → AllByRecursion StepKept back →
+    AllByRecursion StepKept (front ++ back)
+joined [] back here there = there
+joined (edge ∷ front) back here there = (here.0, joined front back here.1 there)
 
-steps : (edges : List Edge) → AllByRecursion Known edges → AllByRecursion StepKept edges
-steps [] known = tt
-steps (edge ∷ rest) known = (by known.0, steps rest known.1) where
-  by : Known edge → StepKept edge
-  by (inl quiet) = quiet_kept edge quiet
-  by (inr kept) = kept
+-- each edge of the table is quiet, but the ninth, the thirteenth and the sixteenth, which say lengths
+table_steps : AllByRecursion StepKept PREFIX_LIST
+table_steps =
+    let after_low : AllByRecursion StepKept (drop 13 PREFIX_LIST) = joined (take 2 (drop 13 PREFIX_LIST))
+    (drop 15 PREFIX_LIST) (quiet_steps (take 2 (drop 13 PREFIX_LIST)) refl)
+    (high_step, quiet_steps (drop 16 PREFIX_LIST) refl) in
+    let after_prefix : AllByRecursion StepKept (drop 9 PREFIX_LIST) = joined (take 3 (drop 9 PREFIX_LIST))
+    (drop 12 PREFIX_LIST) (quiet_steps (take 3 (drop 9 PREFIX_LIST)) refl) (low_step, after_low) in
+    joined (take 8 PREFIX_LIST) (drop 8 PREFIX_LIST) (quiet_steps (take 8 PREFIX_LIST) refl)
+    (prefix_step, after_prefix)
 
 -- ---- along the table
 
@@ -455,7 +472,7 @@ by_row : (row : Row) (at : ℕ) (words : List (List ℕ)) (said : List Said) →
     read_from (edges_of row) (state_of row) [] at words ≡ Ok said → SaysLengths row said
 unfolding edges_of
 by_row PrefixList at words said is =
-    read_kept PREFIX_LIST (steps PREFIX_LIST known_steps) words 0 [] at said nothing_said is
+    read_kept PREFIX_LIST table_steps words 0 [] at said nothing_said is
 by_row _ at words said is = tt
 
 -- a line that was read says its lengths in order, where it says some

@@ -312,7 +312,8 @@ nowhere test xs none k d within = by (nat_lt (position_or_len test xs) (length x
       → nat_lt (position_or_len test xs) (length xs) ≡ found → not (test (get_or xs k d)) ≡ true
   by true wrong is = absurd cc
   by false right is =
-      ap not (fails_before_first test xs k d (omega (arith, ltb-false (position_or_len test xs) (length xs) is, within)))
+      let past = ltb-false (position_or_len test xs) (length xs) is in
+      ap not (fails_before_first test xs k d (omega (arith, past, within)))
 
 one_list : (said : List Said) (used : Use) (n : Neighbour) → (with_prefix_list said used n).addr ≡ n.addr
 one_list said used n = cond_both (is_inward said) _ _ (λ (m : Neighbour). m.addr ≡ n.addr) (λ _. refl) (λ _. refl)

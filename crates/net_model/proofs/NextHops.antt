@@ -1,8 +1,8 @@
 -- The next hop of a static route of a network lies on the subnet of one interface of the router.
-use Rattle.std.proofs.Common.{◌≡◌, ℕ, ◌<◌, Bool, true, false, ◌&&◌, not, List, Option, Some, None, get_or, refl, ap, sym}
+use Rattle.std.proofs.Common.{◌≡◌, ℕ, Bool, true, false, ◌&&◌, not, List, Option, Some, None, refl, ap, sym}
 use Rattle.std.proofs.Common.{subst, ◌∙◌}
 use Rattle.std.specs.Prelude.{Contains, slice_get}
-use Rattle.std.specs.List.{Any, list_any}
+use Rattle.std.specs.List.{list_any}
 use Rattle.std.specs.Option.{option_map_or}
 use Rattle.std.proofs.lemmas.Bool.{and_parts}
 use Rattle.std.proofs.lemmas.List.Folds.{Any-from_list_any}
@@ -20,7 +20,7 @@ use Rattle.ios_ast.specs.declared.file.Via.TheVariants.{Null0, Next, Out}
 use Rattle.net_model.specs.declared.interfaces.Addressed.{Addressed}
 use Rattle.net_model.specs.declared.refusals.NetCause.TheVariants.{NextHopNotConnected}
 use Rattle.net_model.specs.Connected.{is_connected, next_hop, reaches}
-use Rattle.net_model.specs.Interfaces.{LiesOnOne, addressed, addressed_iface}
+use Rattle.net_model.specs.Interfaces.{LiesOnOne, addressed_iface}
 use Rattle.net_model.specs.Network.{IsNetwork}
 use Rattle.net_model.specs.Refusals.{unconnected_route}
 use Rattle.net_model.proofs.Few.{no_line}

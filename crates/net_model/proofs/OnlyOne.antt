@@ -1,30 +1,26 @@
 -- What covers an address in a network: one subnet, one interface of a router, one advertised prefix.
-use Rattle.std.proofs.Common.{◌≡◌, ℕ, zero, suc, ◌+◌, ◌-◌, ◌*◌, ◌/◌, ◌<◌, Bool, true, false, ◌&&◌, List, [], ◌∷◌, cond, map}
+use Rattle.std.proofs.Common.{◌≡◌, ℕ, zero, suc, ◌-◌, ◌*◌, ◌/◌, Bool, true, false, List, [], ◌∷◌, cond, map}
 use Rattle.std.proofs.Common.{Option, Some, None, refl, ap, sym, subst, ◌∙◌, ◌⊎◌, inl, inr, arith}
-use Rattle.std.specs.Prelude.{◌==◌, All, Contains, filter, fold, not, option_and_then, option_map, slice_get}
+use Rattle.std.specs.Prelude.{All, Contains, option_map, slice_get}
 use Rattle.std.specs.Prelude.{if◌then◌else◌}
-use Rattle.std.specs.List.{Any, cons_option, filter_map, find, list_any}
-use Rattle.std.proofs.lemmas.Bool.{and_from, and_parts, eq-eqb, eqb-true}
+use Rattle.std.specs.List.{cons_option, filter_map, find}
+use Rattle.std.proofs.lemmas.Bool.{eq-eqb, eqb-true}
 use Rattle.std.proofs.lemmas.List.Elements.{All-cons, All-contains, All-contains_itself, All-head, All-map, All-nil}
-use Rattle.std.proofs.lemmas.List.Elements.{All-tail, All-weaker}
-use Rattle.std.proofs.lemmas.List.Folds.{Any-from_list_any}
+use Rattle.std.proofs.lemmas.List.Elements.{All-tail}
 use Rattle.std.proofs.lemmas.Nat.{pow_pos}
 use Rattle.std.proofs.lemmas.Option.{slice_get-get_or}
 use Rattle.std.proofs.Math.Nat.{mul-div_cancel}
-use Rattle.std.specs.Option.{option_map_or}
 use Rattle.mw_text.specs.declared.address.Addr.{Addr}
 use Rattle.mw_text.specs.declared.address.Prefix.{Prefix}
 use Rattle.mw_text.specs.Address.{block, covers, prefix_at}
 use Rattle.ios_ast.specs.declared.file.File.{File}
-use Rattle.ios_ast.specs.declared.file.Iface.{Iface}
-use Rattle.ios_ast.specs.declared.ospf.Ospf.{Ospf}
 use Rattle.net_model.specs.declared.interfaces.Addressed.{Addressed}
 use Rattle.net_model.specs.declared.ospf.OspfInterface.{OspfInterface}
 use Rattle.net_model.specs.Interfaces.{addressed, subnet_of}
 use Rattle.net_model.specs.Network.{IsNetwork}
-use Rattle.net_model.specs.Ospf.{advertised, advertisement, is_matched, ospf_at, ospf_interfaces, running, running_in}
-use Rattle.net_model.specs.World.{put_in_order}
+use Rattle.net_model.specs.Ospf.{advertised, advertisement, ospf_at, ospf_interfaces}
 use Rattle.net_model.proofs.Ascending.{fold_all}
+use Rattle.net_model.proofs.LeastWalks.{ospf_at-same}
 use Rattle.net_model.proofs.OneSubnet.{MeetOnOne, one_or_meet}
 use Rattle.net_model.proofs.Placed.{placed}
 
@@ -148,30 +144,6 @@ kept {B = B} Q P f each (x ∷ xs) all =
     by_first None is later = later
     by_first (Some y) is later = All-cons P y (filter_map f xs) (each x y (All-head Q x xs all) is) later
 
--- what runs OSPF is the interface itself
-runs_at : (files : List File) (x : Addressed) (u : OspfInterface) → ospf_at files x ≡ Some u → u.at ≡ x
-runs_at files x u = by_file (slice_get files x.id.router) where
-  by_iface : (process : Ospf) (iface : Option Iface) → option_map (λ i. running process i x) iface ≡ Some u → u.at ≡ x
-  by_iface process None is = absurd cc
-  by_iface process (Some i) is = let same : running process i x ≡ u = cc in ap (λ v. v.at) (sym same)
-
-  by_match : (matched : Bool) (process : Ospf) (file : File) →
-      (if matched then option_map (λ i. running process i x) (slice_get file.interfaces x.id.at) else None) ≡ Some u →
-      u.at ≡ x
-  by_match false process file is = absurd cc
-  by_match true process file is = by_iface process (slice_get file.interfaces x.id.at) is
-
-  by_process : (ospf : Option Ospf) (file : File) →
-      option_and_then (λ process. running_in file process x) ospf ≡ Some u → u.at ≡ x
-  by_process None file is = absurd cc
-  by_process (Some process) file is = by_match (is_matched process x.addr) process file is
-
-  by_file : (found : Option File) →
-      option_and_then (λ file. option_and_then (λ process. running_in file process x) file.ospf) found ≡ Some u →
-      u.at ≡ x
-  by_file None is = absurd cc
-  by_file (Some file) is = by_process file.ospf file is
-
 all_advertised : (files : List File) → All (IsAdvertised files) (advertised files)
 unfolding advertised ospf_interfaces
 all_advertised files =
@@ -181,7 +153,7 @@ all_advertised files =
     (kept (Contains all) (λ u. IsAdvertised files (advertisement u)) (ospf_at files)
     (λ x u has is. record {
       by = u;
-      has = subst (Contains all) (sym (runs_at files x u is)) has;
+      has = subst (Contains all) (sym (ospf_at-same files x u is)) has;
       is = refl;
     }) all (All-contains_itself all)))
     (All-nil (IsAdvertised files))

@@ -5,8 +5,8 @@ use Rattle.std.specs.Prelude.{fold, slice_get}
 use Rattle.std.specs.Option.{option_or}
 use Rattle.ios_ast.specs.declared.file.File.{File}
 use Rattle.net_model.specs.declared.refusals.NetCause.{NetCause}
-use Rattle.net_model.specs.declared.refusals.NetCause.TheVariants.{NextHopNotConnected, SameAddress, SubnetClash}
-use Rattle.net_model.specs.Refusals.{broken_line, earlier, external_internal_peer, first_broken, first_from}
+use Rattle.net_model.specs.declared.refusals.NetCause.TheVariants.{NextHopNotConnected, SubnetClash}
+use Rattle.net_model.specs.Refusals.{broken_line, earlier, external_internal_peer, first_broken}
 use Rattle.net_model.specs.Refusals.{first_refusal, least, net_limit, next_hop_not_connected, refused_by_addresses}
 use Rattle.net_model.specs.Refusals.{refused_by_uses, same_address, same_name, second_area_number, subnet_clash}
 use Rattle.net_model.specs.Refusals.{undefined}

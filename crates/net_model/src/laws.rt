@@ -41,8 +41,8 @@ pub fn survivors_law()
         survivors always compare_id candidates ≢ [] }
 {}
 
-/// The subnets of a network's interfaces that cover an address are one, so the first that does is the only one, and so the
-/// longest; and of one router's interfaces at most one has the address on its subnet.
+/// The subnets of a network's interfaces that cover an address are one, so the first that does is the only one, and so
+/// the longest; and of one router's interfaces at most one has the address on its subnet.
 pub fn subnets_law()
     ensures one { (files : ListOf FileOf) → IsNetwork files → (a : AddrOf) (x y : AddressedOf) →
         Contains (addressed files) x → Contains (addressed files) y →
@@ -54,8 +54,8 @@ pub fn subnets_law()
         covers x.subnet a ≡ true → covers y.subnet a ≡ true → x ≡ y }
 {}
 
-/// The advertised prefixes of a network that cover an address are one, so the first that does is the only one, and so the
-/// longest.
+/// The advertised prefixes of a network that cover an address are one, so the first that does is the only one, and so
+/// the longest.
 pub fn advertised_law()
     ensures one { (files : ListOf FileOf) → IsNetwork files → (a : AddrOf) (p q : PrefixOf) →
         Contains (advertised files) p → Contains (advertised files) q →

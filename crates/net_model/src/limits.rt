@@ -1,5 +1,5 @@
-//! What every file that was read keeps: so many interfaces and neighbours at most, OSPF costs in their range, the lengths
-//! of prefix lists in their order, each neighbour named once, and addresses by different lines.
+//! What every file that was read keeps: so many interfaces and neighbours at most, OSPF costs in their range, the
+//! lengths of prefix lists in their order, each neighbour named once, and addresses by different lines.
 
 ghost use Rattle.std.specs.Prelude.{◌≡◌};
 ghost use Rattle.std.specs.List.{list_all};
