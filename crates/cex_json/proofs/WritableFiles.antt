@@ -1,13 +1,13 @@
 -- Files that fit make a network that a text can speak of.
-use Rattle.std.proofs.Common.{◌≡◌, ℕ, zero, suc, ◌+◌, ◌^◌, ◌<◌, ◌≤◌, ◌⊎◌, ◌==◌, ◌&&◌, Bool, true, false, List}
-use Rattle.std.proofs.Common.{[], ◌∷◌, length, take, get_or, nat_le, Option, Some, None, inl, inr, refl, ap}
+use Rattle.std.proofs.Common.{◌≡◌, ℕ, zero, suc, ◌+◌, ◌^◌, ◌<◌, ◌≤◌, ◌⊎◌, ◌==◌, true, false, List}
+use Rattle.std.proofs.Common.{[], ◌∷◌, length, take, get_or, Option, Some, None, inl, inr, refl, ap}
 use Rattle.std.proofs.Common.{sym, ◌∙◌, arith}
-use Rattle.std.proofs.lemmas.Bool.{and_parts, cases_lt, false≢true, leb-true, or_parts}
+use Rattle.std.proofs.lemmas.Bool.{cases_lt, false≢true, leb-true}
 use Rattle.std.proofs.lemmas.List.{length-map}
 use Rattle.std.proofs.lemmas.List.Elements.{All-weaker}
 use Rattle.std.proofs.lemmas.Option.{slice_get-get_or}
 use Rattle.std.specs.Cmp.Lexicographic.{bytes_decides}
-use Rattle.std.specs.List.{list_all, list_any}
+use Rattle.std.specs.List.{list_any}
 use Rattle.std.specs.Option.{option_map_or, option_or}
 use Rattle.std.specs.Prelude.{slice_get}
 use Rattle.std.specs.Str.{IsUtf8}
@@ -20,7 +20,7 @@ use Rattle.net_model.specs.declared.refusals.NetRefused.{NetRefused}
 use Rattle.net_model.specs.Interfaces.{addressed}
 use Rattle.net_model.specs.Limits.{keeps_limits}
 use Rattle.net_model.specs.Network.{IsNetwork}
-use Rattle.net_model.specs.Refusals.{external_internal_peer, first_broken, first_from, first_refusal, line_if}
+use Rattle.net_model.specs.Refusals.{external_internal_peer, first_broken, first_from, first_refusal}
 use Rattle.net_model.specs.Refusals.{net_limit, next_hop_not_connected, refused_at, refused_by_addresses}
 use Rattle.net_model.specs.Refusals.{refused_by_uses}
 use Rattle.net_model.specs.Refusals.{same_address, same_name, same_name_line, second_area_number, subnet_clash}
