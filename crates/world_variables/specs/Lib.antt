@@ -4,5 +4,4 @@ pub mod Rooms
 pub mod Slots
 pub mod Worlds
 pub mod Symbols
-pub mod Supported
 pub mod Breaking

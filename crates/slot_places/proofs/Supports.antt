@@ -26,7 +26,7 @@ use Rattle.net_model.specs.OspfRoutes.{own_origins}
 use Rattle.net_model.specs.Stable.{Stable, held_ospf}
 use Rattle.net_model.proofs.LeastWalks.{in-cases, in-filter, in-filter_map}
 use Rattle.mw_text.specs.Members.{In}
-use Rattle.world_variables.specs.Supported.{AreOrigins, IsKept}
+use Rattle.slot_places.specs.Supported.{AreOrigins, IsKept}
 
 -- ---- the first best of some offers is one of them
 
