@@ -13,14 +13,14 @@ use Rattle.mw_text.specs.declared.address.Addr.{Addr}
 use Rattle.ios_ast.specs.declared.bgp.Bgp.{Bgp}
 use Rattle.ios_ast.specs.declared.bgp.Neighbour.{Neighbour}
 use Rattle.ios_ast.specs.declared.file.File.{File}
-use Rattle.net_model.specs.declared.interfaces.Addressed.{Addressed}
-use Rattle.net_model.specs.declared.sessions.Peering.{Peering}
-use Rattle.net_model.specs.declared.sessions.SessionEnd.{SessionEnd}
-use Rattle.net_model.specs.Interfaces.{addressed}
-use Rattle.net_model.specs.Sessions.{IsPlaced, end_of, ends_of, has_session, neighbour_of, peering, peerings}
-use Rattle.net_model.specs.Sessions.{peerings_from, peerings_of, peerings_routers, sessions, speaking, speaks_from}
-use Rattle.net_model.proofs.Ascending.{first, later}
-use Rattle.net_model.proofs.EndPlaces.{ends_placed}
+use Rattle.net_interfaces.specs.declared.interfaces.Addressed.{Addressed}
+use Rattle.net_parts.specs.declared.sessions.Peering.{Peering}
+use Rattle.net_parts.specs.declared.sessions.SessionEnd.{SessionEnd}
+use Rattle.net_interfaces.specs.Interfaces.{addressed}
+use Rattle.net_parts.specs.Sessions.{IsPlaced, end_of, ends_of, has_session, neighbour_of, peering, peerings}
+use Rattle.net_parts.specs.Sessions.{peerings_from, peerings_of, peerings_routers, sessions, speaking, speaks_from}
+use Rattle.net_interfaces.proofs.Pairs.{first, later}
+use Rattle.net_parts.proofs.EndPlaces.{ends_placed}
 use Rattle.cex_json.specs.Writable.{AreApart, AreNeighbours, IsNeighbour, end_key}
 use Rattle.cex_json.proofs.Inversion.{no_value, same_some}
 use Rattle.cex_json.proofs.Places.{pair_at}

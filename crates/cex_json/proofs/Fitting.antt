@@ -8,12 +8,12 @@ use Rattle.std.proofs.lemmas.Bool.{and_from, and_parts, leb-true}
 use Rattle.std.proofs.lemmas.List.Elements.{All-append, All-cons}
 use Rattle.std.proofs.lemmas.List.Quantifiers.{position-Some}
 use Rattle.mw_text.proofs.Lists.{below_below}
-use Rattle.net_model.specs.declared.links.Link.{Link}
+use Rattle.net_parts.specs.declared.links.Link.{Link}
 use Rattle.mw_text.specs.Address.{same_prefix}
 use Rattle.mw_text.specs.Digits.{prefix_of_text}
 use Rattle.ios_ast.specs.declared.file.File.{File}
 use Rattle.route_record.specs.declared.Failures.{Failures}
-use Rattle.net_model.specs.World.{IsFailureSet, ascends, links_of}
+use Rattle.net_parts.specs.World.{IsFailureSet, ascends, links_of}
 use Rattle.question_lang.specs.declared.question.Question.{Question}
 use Rattle.serde_json.specs.Data.{Data}
 use Rattle.cex_json.specs.declared.counterexample.Counterexample.{Counterexample}

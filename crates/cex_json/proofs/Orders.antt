@@ -9,7 +9,7 @@ use Rattle.std.specs.Option.{option_map_or}
 use Rattle.std.specs.Prelude.{AllPairs, slice_get}
 use Rattle.mw_text.proofs.Lists.{all_at, item_before}
 use Rattle.route_record.specs.declared.Announcement.{Announcement}
-use Rattle.net_model.specs.World.{IsEarlier, ascends}
+use Rattle.net_parts.specs.World.{IsEarlier, ascends}
 use Rattle.cex_json.specs.Fields.{is_above}
 use Rattle.cex_json.specs.Surroundings.{is_later}
 use Rattle.cex_json.specs.Writable.{EachSplit}

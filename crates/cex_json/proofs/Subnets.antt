@@ -12,10 +12,10 @@ use Rattle.mw_text.specs.Address.{block, prefix_at, same_prefix}
 use Rattle.ios_ast.specs.declared.file.File.{File}
 use Rattle.ios_ast.specs.declared.file.IfAddr.{IfAddr}
 use Rattle.ios_ast.specs.declared.file.Iface.{Iface}
-use Rattle.net_model.specs.declared.interfaces.Addressed.{Addressed}
-use Rattle.net_model.specs.Interfaces.{addressed, addressed_from, addressed_iface, addressed_routers}
-use Rattle.net_model.specs.Sessions.{peerings}
-use Rattle.net_model.specs.World.{comes_before, is_link, link_on, linked_subnets, links_of, put_in_order}
+use Rattle.net_interfaces.specs.declared.interfaces.Addressed.{Addressed}
+use Rattle.net_interfaces.specs.Interfaces.{addressed, addressed_from, addressed_iface, addressed_routers}
+use Rattle.net_parts.specs.Sessions.{peerings}
+use Rattle.net_parts.specs.World.{comes_before, is_link, link_on, linked_subnets, links_of, put_in_order}
 use Rattle.cex_json.specs.Writable.{IsOwnAddress, IsPrefix}
 
 -- ---- a subnet

@@ -15,9 +15,9 @@ use Rattle.ios_ast.specs.declared.bgp.Neighbour.{Neighbour}
 use Rattle.ios_ast.specs.declared.file.File.{File}
 use Rattle.route_record.specs.declared.Announcement.{Announcement}
 use Rattle.route_record.specs.declared.Environment.{Environment}
-use Rattle.net_model.specs.declared.sessions.SessionEnd.{SessionEnd}
-use Rattle.net_model.specs.Sessions.{ends_of, external_ends, is_outside, neighbour_of}
-use Rattle.net_model.specs.World.{BeginsWithPeer, IsAnnouncement, IsAsNumber, IsEarlier, IsEnvironment, ascends}
+use Rattle.net_parts.specs.declared.sessions.SessionEnd.{SessionEnd}
+use Rattle.net_parts.specs.Sessions.{ends_of, external_ends, is_outside, neighbour_of}
+use Rattle.net_parts.specs.World.{BeginsWithPeer, IsAnnouncement, IsAsNumber, IsEarlier, IsEnvironment, ascends}
 use Rattle.question_lang.specs.declared.question.Question.{Question}
 use Rattle.serde_json.specs.Data.{Data}
 use Rattle.serde_json.specs.Find.{get}

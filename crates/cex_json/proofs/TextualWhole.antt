@@ -17,10 +17,10 @@ use Rattle.ios_ast.specs.declared.file.File.{File}
 use Rattle.route_record.specs.declared.Announcement.{Announcement}
 use Rattle.route_record.specs.declared.Slot.{Slot}
 use Rattle.route_record.specs.declared.TheConstants.{LENGTHS}
-use Rattle.net_model.specs.declared.links.Link.{Link}
-use Rattle.net_model.specs.declared.sessions.SessionEnd.{SessionEnd}
-use Rattle.net_model.specs.Sessions.{ends_of, external_ends, is_outside, neighbour_of}
-use Rattle.net_model.specs.World.{IsAnnouncement, links_of}
+use Rattle.net_parts.specs.declared.links.Link.{Link}
+use Rattle.net_parts.specs.declared.sessions.SessionEnd.{SessionEnd}
+use Rattle.net_parts.specs.Sessions.{ends_of, external_ends, is_outside, neighbour_of}
+use Rattle.net_parts.specs.World.{IsAnnouncement, links_of}
 use Rattle.question_lang.specs.declared.question.Question.{Question}
 use Rattle.question_lang.specs.declared.question.Start.{Start}
 use Rattle.question_lang.specs.declared.walk.End.{End}

@@ -14,20 +14,20 @@ use Rattle.std.specs.Str.{IsUtf8}
 use Rattle.mw_text.proofs.Lists.{all_at, none_passes}
 use Rattle.mw_text.specs.Text.{same_text}
 use Rattle.ios_ast.specs.declared.file.File.{File}
-use Rattle.net_model.specs.declared.refusals.NetCause.TheVariants.{SameName}
-use Rattle.net_model.specs.declared.refusals.NetRefused.{NetRefused}
-use Rattle.net_model.specs.Interfaces.{addressed}
-use Rattle.net_model.specs.Limits.{has_cost_in_range, has_few_neighbours, keeps_limits}
-use Rattle.net_model.specs.Network.{IsNetwork}
-use Rattle.net_model.specs.Refusals.{external_internal_peer, first_broken, first_from, first_refusal, line_if}
-use Rattle.net_model.specs.Refusals.{net_limit, next_hop_not_connected, refused_at, refused_by_addresses}
-use Rattle.net_model.specs.Refusals.{refused_by_uses}
-use Rattle.net_model.specs.Refusals.{same_address, same_name, same_name_line, second_area_number, subnet_clash}
-use Rattle.net_model.specs.Refusals.{undefined}
-use Rattle.net_model.specs.Sessions.{end_of, ends_of, sessions}
-use Rattle.net_model.proofs.Few.{few_files, no_line}
-use Rattle.net_model.proofs.FewLinks.{few_links}
-use Rattle.net_model.proofs.Peers.{few_sessions}
+use Rattle.net_refusals.specs.declared.refusals.NetCause.TheVariants.{SameName}
+use Rattle.net_refusals.specs.declared.refusals.NetRefused.{NetRefused}
+use Rattle.net_interfaces.specs.Interfaces.{addressed}
+use Rattle.net_interfaces.specs.Limits.{has_cost_in_range, has_few_neighbours, keeps_limits}
+use Rattle.net_refusals.specs.Network.{IsNetwork}
+use Rattle.net_refusals.specs.Refusals.{external_internal_peer, first_broken, first_from, first_refusal, line_if}
+use Rattle.net_refusals.specs.Refusals.{net_limit, next_hop_not_connected, refused_at, refused_by_addresses}
+use Rattle.net_refusals.specs.Refusals.{refused_by_uses}
+use Rattle.net_refusals.specs.Refusals.{same_address, same_name, same_name_line, second_area_number, subnet_clash}
+use Rattle.net_refusals.specs.Refusals.{undefined}
+use Rattle.net_parts.specs.Sessions.{end_of, ends_of, sessions}
+use Rattle.net_refusals.proofs.Few.{few_files, no_line}
+use Rattle.net_parts.proofs.FewLinks.{few_links}
+use Rattle.net_parts.proofs.Peers.{few_sessions}
 use Rattle.cex_json.specs.Writable.{AreApart, AreTexts, AreWritableFiles, HasIfaceNames, IsHostName, IsWritableNet}
 use Rattle.cex_json.proofs.EndsApart.{ends_apart, neighbours_fit}
 use Rattle.cex_json.proofs.Subnets.{links_fit}

@@ -10,9 +10,9 @@ use Rattle.mw_text.specs.declared.address.Prefix.{Prefix}
 use Rattle.mw_text.specs.Address.{same_prefix}
 use Rattle.ios_ast.specs.declared.file.File.{File}
 use Rattle.route_record.specs.declared.Failures.{Failures}
-use Rattle.net_model.specs.declared.links.Link.{Link}
-use Rattle.net_model.specs.World.{IsBefore, IsFailureSet, ascends, comes_before, links_of}
-use Rattle.net_model.proofs.Ascending.{links_ascend}
+use Rattle.net_parts.specs.declared.links.Link.{Link}
+use Rattle.net_parts.specs.World.{IsBefore, IsFailureSet, ascends, comes_before, links_of}
+use Rattle.net_parts.proofs.Ascending.{links_ascend}
 use Rattle.serde_json.specs.Data.{Data}
 use Rattle.serde_json.specs.Find.{get}
 use Rattle.serde_json.specs.View.{items_of}

@@ -13,10 +13,10 @@ use Rattle.mw_text.specs.declared.address.Addr.{Addr}
 use Rattle.ios_ast.specs.declared.bgp.Neighbour.{Neighbour}
 use Rattle.ios_ast.specs.declared.file.File.{File}
 use Rattle.route_record.specs.declared.Announcement.{Announcement}
-use Rattle.net_model.specs.declared.sessions.SessionEnd.{SessionEnd}
-use Rattle.net_model.specs.Sessions.{IsPlaced, ends_of, external_ends, is_outside, neighbour_of}
-use Rattle.net_model.specs.World.{IsAnnouncement, IsAsNumber, IsEarlier}
-use Rattle.net_model.proofs.EndPlaces.{ends_placed}
+use Rattle.net_parts.specs.declared.sessions.SessionEnd.{SessionEnd}
+use Rattle.net_parts.specs.Sessions.{IsPlaced, ends_of, external_ends, is_outside, neighbour_of}
+use Rattle.net_parts.specs.World.{IsAnnouncement, IsAsNumber, IsEarlier}
+use Rattle.net_parts.proofs.EndPlaces.{ends_placed}
 use Rattle.serde_json.specs.Data.{Data, string}
 use Rattle.serde_json.specs.Find.{get}
 use Rattle.serde_json.specs.View.{items_of}

@@ -17,7 +17,7 @@ use Rattle.cex_json.specs.Fields.{◌>>=◌, in_order, object_in, required}
 use Rattle.cex_json.specs.Json.{array_of}
 use Rattle.cex_json.specs.Parts.{has_part, parts_data, slots_from}
 use Rattle.cex_json.specs.Writable.{AreNamed, AreWritableTables, IsWritableSlot}
-use Rattle.net_model.proofs.Defined.{none_here}
+use Rattle.net_parts.proofs.Defined.{none_here}
 use Rattle.cex_json.proofs.Filling.{one_more}
 use Rattle.cex_json.proofs.Sizes.{filled_length}
 use Rattle.cex_json.proofs.WrittenSlots.{slot_back}

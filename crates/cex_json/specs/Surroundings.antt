@@ -10,10 +10,10 @@ use Rattle.mw_text.specs.Digits.{prefix_of_text}
 use Rattle.ios_ast.specs.declared.file.File.{File}
 use Rattle.route_record.specs.declared.Announcement.{Announcement}
 use Rattle.route_record.specs.declared.Packet.{Packet}
-use Rattle.net_model.specs.declared.links.Link.{Link}
-use Rattle.net_model.specs.declared.sessions.SessionEnd.{SessionEnd}
-use Rattle.net_model.specs.Sessions.{ends_of, external_ends, is_outside, neighbour_of}
-use Rattle.net_model.specs.World.{links_of}
+use Rattle.net_parts.specs.declared.links.Link.{Link}
+use Rattle.net_parts.specs.declared.sessions.SessionEnd.{SessionEnd}
+use Rattle.net_parts.specs.Sessions.{ends_of, external_ends, is_outside, neighbour_of}
+use Rattle.net_parts.specs.World.{links_of}
 use Rattle.question_lang.specs.declared.question.PacketSet.{PacketSet}
 use Rattle.serde_json.specs.Data.{Data}
 use Rattle.serde_json.specs.Find.{get}

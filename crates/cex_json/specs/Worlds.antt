@@ -5,10 +5,10 @@ use Rattle.mw_text.specs.declared.address.Addr.{Addr}
 use Rattle.mw_text.specs.declared.address.Prefix.{Prefix}
 use Rattle.ios_ast.specs.declared.file.File.{File}
 use Rattle.route_record.specs.declared.Announcement.{Announcement}
-use Rattle.net_model.specs.declared.links.Link.{Link}
-use Rattle.net_model.specs.declared.sessions.SessionEnd.{SessionEnd}
-use Rattle.net_model.specs.Sessions.{ends_of, external_ends, neighbour_of}
-use Rattle.net_model.specs.World.{links_of}
+use Rattle.net_parts.specs.declared.links.Link.{Link}
+use Rattle.net_parts.specs.declared.sessions.SessionEnd.{SessionEnd}
+use Rattle.net_parts.specs.Sessions.{ends_of, external_ends, neighbour_of}
+use Rattle.net_parts.specs.World.{links_of}
 use Rattle.serde_json.specs.Data.{Data, string}
 use Rattle.cex_json.specs.Json.{array_of, number_of, object_of, text_of}
 use Rattle.cex_json.specs.Parts.{addr_data, addr_text, origin_text, router_name}

@@ -58,7 +58,7 @@ fn surroundings_of(
     net: &Net,
     cex: &Counterexample,
 ) -> Result<Map<String, Value>, AllocError>
-    ensures { IfOk result (λ fields. members_view fields.entries ≡ text.surroundings_of net.now cex.now) }
+    ensures { IfOk result (λ fields. members_view fields.entries ≡ text.surroundings_of net.now.files cex.now) }
 {
     let announcements = announcement_values(alloc, net, cex.env.announced.as_slice())?;
     let failures = failure_values(alloc, net, cex.failures.links.as_slice())?;
@@ -85,7 +85,7 @@ fn cex_value(
     questions: &[Question],
     cex: &Counterexample,
 ) -> Result<Value, AllocError>
-    ensures { IfOk result (λ value. view value ≡ text.cex_data net.now questions.now cex.now) }
+    ensures { IfOk result (λ value. view value ≡ text.cex_data net.now.files questions.now cex.now) }
 {
     let question = text_value(alloc, question_name(questions, cex.question))?;
     let slots = slot_values(alloc, net.routers(), cex.tables.slots.as_slice())?;
@@ -106,7 +106,7 @@ pub fn write_cex(
     questions: &[Question],
     cex: &Counterexample,
 ) -> Result<List<u8>, AllocError>
-    ensures { IfOk result (λ written. written ≡ text.cex_text net.now questions.now cex.now) }
+    ensures { IfOk result (λ written. written ≡ text.cex_text net.now.files questions.now cex.now) }
 {
     let value = cex_value(alloc, net, questions, cex)?;
     Ok(List {
@@ -124,7 +124,7 @@ fn tables_value(alloc: Global, files: &[File], tables: &Tables) -> Result<Value,
 /// The text of tables: compact JSON, the slots with a part in their order.
 #[tactic(auto, using(crate::proofs::Plain::tables_plain))]
 pub fn write_tables(alloc: Global, net: &Net, tables: &Tables) -> Result<List<u8>, AllocError>
-    ensures { IfOk result (λ written. written ≡ text.tables_text net.now tables.now) }
+    ensures { IfOk result (λ written. written ≡ text.tables_text net.now.files tables.now) }
 {
     let value = tables_value(alloc, net.routers(), tables)?;
     Ok(List {

@@ -2,7 +2,7 @@
 
 ghost use Rattle.std.specs.Prelude.{◌≡◌, codes, option_and_then, option_map};
 ghost use Rattle.std.specs.List.{list_any};
-ghost use Rattle.net_model.specs.Sessions.{ends_of};
+ghost use Rattle.net_parts.specs.Sessions.{ends_of};
 ghost use Rattle.serde_json.specs.View.{view};
 ghost use Rattle.serde_json.specs.Find.{get};
 ghost use Rattle.cex_json.specs.Fields.{Reads, text_in as text_of};
@@ -132,7 +132,7 @@ pub fn origin_in(alloc: Global, at: &str, part: &Value) -> Result<Origin, CexRef
 /// The router that the field `router` names.
 #[tactic(auto, unfolding(crate::specs::Entries::router_in))]
 pub fn router_in(net: &Net, part: &Value) -> Option<u32>
-    ensures { result ≡ entries.router_in net.now (view part.now) }
+    ensures { result ≡ entries.router_in net.now.files (view part.now) }
 {
     match text_in(part, "router") {
         None => None,
@@ -160,7 +160,7 @@ fn has_neighbour(files: &[File], ends: &[SessionEnd], router: u32, a: Addr) -> b
 }
 
 fn is_neighbour(net: &Net, router: Option<u32>, a: Addr) -> bool
-    ensures { result ≡ entries.is_neighbour net.now router a }
+    ensures { result ≡ entries.is_neighbour net.now.files router a }
 {
     match router {
         None => true,
@@ -169,7 +169,7 @@ fn is_neighbour(net: &Net, router: Option<u32>, a: Addr) -> bool
 }
 
 fn learnt_named(net: &Net, router: Option<u32>, word: &[u8]) -> Option<Learnt>
-    ensures { result ≡ entries.learnt_named net.now router word.now }
+    ensures { result ≡ entries.learnt_named net.now.files router word.now }
 {
     if same_bytes(word, b"local") {
         return Some(Learnt::Local);
@@ -187,7 +187,7 @@ fn learnt_named(net: &Net, router: Option<u32>, word: &[u8]) -> Option<Learnt>
 }
 
 fn learnt_in(net: &Net, router: Option<u32>, part: &Value) -> Option<Learnt>
-    ensures { result ≡ option_and_then (entries.learnt_named net.now router) (text_of (get (codes "from") (view part.now))) }
+    ensures { result ≡ option_and_then (entries.learnt_named net.now.files router) (text_of (get (codes "from") (view part.now))) }
 {
     match text_in(part, "from") {
         None => None,
@@ -213,7 +213,7 @@ fn front_in(
     at: &str,
     part: &Value,
 ) -> Result<BgpFront, CexRefused>
-    ensures { Reads result (entries.front_in net.now router at.now (view part.now)) }
+    ensures { Reads result (entries.front_in net.now.files router at.now (view part.now)) }
 {
     let clusters = addrs_in(alloc, at, "clusters", part)?;
     let communities = ascending_in(alloc, at, "communities", part)?;
@@ -243,7 +243,7 @@ pub fn bgp_in(
     at: &str,
     part: &Value,
 ) -> Result<BgpRec, CexRefused>
-    ensures { Reads result (entries.bgp_in net.now router at.now (view part.now)) }
+    ensures { Reads result (entries.bgp_in net.now.files router at.now (view part.now)) }
 {
     let front = front_in(alloc, net, router, at, part)?;
     let next_hop = required(alloc, at, "nexthop", addr_in(part, "nexthop"))?;

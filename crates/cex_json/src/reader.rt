@@ -3,7 +3,7 @@
 ghost use Rattle.std.specs.Prelude.{◌≡◌, ◌≢◌, ◌<◌, ◌*◌, length, Some, None, Ok, Err, IfOk, IfErr, option_map, position, slice_get};
 ghost use Rattle.std.specs.Option.{option_copied};
 ghost use Rattle.mw_text.specs.Text.{same_text};
-ghost use Rattle.net_model.specs.World.{IsEnvironment, IsFailureSet};
+ghost use Rattle.net_parts.specs.World.{IsEnvironment, IsFailureSet};
 ghost use Rattle.question_lang.specs.Packets.{IsInSet};
 ghost use Rattle.serde_json.specs.View.{view};
 ghost use Rattle.serde_json.specs.Read.{read};
@@ -110,7 +110,7 @@ fn surroundings_in(
     limits: &Limits,
     text: &Value,
 ) -> Result<Surroundings, CexRefused>
-    ensures { Reads result (reading.surroundings_in net.now limits.now (view text.now)) }
+    ensures { Reads result (reading.surroundings_in net.now.files limits.now (view text.now)) }
 {
     let announced = announcements_in(alloc, net, text)?;
     let links = failures_in(alloc, net, limits.failures, text)?;
@@ -132,7 +132,7 @@ fn walk_for(
     place: u32,
     text: &Value,
 ) -> Result<Option<Walk>, CexRefused>
-    ensures { Reads result (reading.walk_for net.now (slice_get questions.now place) (view text.now)) }
+    ensures { Reads result (reading.walk_for net.now.files (slice_get questions.now place) (view text.now)) }
 {
     match questions.get(place as usize) {
         None => Ok(None),
@@ -147,7 +147,7 @@ fn cex_in(
     questions: &[Question],
     text: &Value,
 ) -> Result<Counterexample, CexRefused>
-    ensures { Reads result (reading.cex_in net.now questions.now (view text.now)) }
+    ensures { Reads result (reading.cex_in net.now.files questions.now (view text.now)) }
 {
     let limits = limits_in(questions, text);
     let around = surroundings_in(alloc, net, &limits, text)?;
@@ -219,9 +219,9 @@ pub fn read_cex(
     questions: &[Question],
     bytes: &[u8],
 ) -> Result<Counterexample, CexRefused>
-    ensures ok { IfOk result (λ cex. reading.reading net.now questions.now bytes.now ≡ Ok cex) }
+    ensures ok { IfOk result (λ cex. reading.reading net.now.files questions.now bytes.now ≡ Ok cex) }
     ensures refused { IfErr result (λ refused. refused ≢ CexRefused.Memory →
-        reading.reading net.now questions.now bytes.now ≡ Err refused) }
+        reading.reading net.now.files questions.now bytes.now ≡ Err refused) }
 
     // The question is one of the list, the packet is in its set, the failed links are at most its number and the external
     // peers send what they may; each router has a slot for each length.
@@ -229,9 +229,9 @@ pub fn read_cex(
     ensures packet { IfOk result (λ cex. (question : Question) → slice_get questions.now cex.question ≡ Some question →
         IsInSet question.packets cex.packet) }
     ensures failures { IfOk result (λ cex. (question : Question) → slice_get questions.now cex.question ≡ Some question →
-        IsFailureSet net.now question.failures cex.failures) }
-    ensures environment { IfOk result (λ cex. IsEnvironment net.now cex.env) }
-    ensures slots { IfOk result (λ cex. length cex.tables.slots ≡ LENGTHS * length net.now) }
+        IsFailureSet net.now.files question.failures cex.failures) }
+    ensures environment { IfOk result (λ cex. IsEnvironment net.now.files cex.env) }
+    ensures slots { IfOk result (λ cex. length cex.tables.slots ≡ LENGTHS * length net.now.files) }
 {
     let text = value_of(alloc, bytes)?;
     let cex = cex_in(alloc, net, questions, &text)?;

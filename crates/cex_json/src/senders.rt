@@ -2,7 +2,7 @@
 
 ghost use Rattle.std.specs.Prelude.{◌≡◌, ◌≢◌, ◌≤◌, ◌∷◌, ◌++◌, ◌==◌, ◌&&◌, ◌||◌, true, false, [], Some, None, codes, length, nat_le, nat_lt, option_and_then, option_map, position, slice_get, if◌then◌else◌, IfSome};
 ghost use Rattle.std.specs.Option.{option_map_or};
-ghost use Rattle.net_model.specs.Sessions.{ends_of, external_ends as outer_ends};
+ghost use Rattle.net_parts.specs.Sessions.{ends_of, external_ends as outer_ends};
 ghost use Rattle.serde_json.specs.View.{view, items_view};
 ghost use Rattle.serde_json.specs.Find.{get};
 ghost use Rattle.cex_json.specs.Entries.{entry_path};
@@ -45,7 +45,7 @@ fn outer_end(files: &[File], ends: &[SessionEnd], router: u32, a: Addr) -> Optio
 }
 
 fn end_named(net: &Net, router: Option<u32>, a: Option<Addr>) -> Option<u32>
-    ensures { result ≡ around.end_named net.now router a }
+    ensures { result ≡ around.end_named net.now.files router a }
 {
     match router {
         None => None,
@@ -58,7 +58,7 @@ fn end_named(net: &Net, router: Option<u32>, a: Option<Addr>) -> Option<u32>
 
 #[tactic(auto, unfolding(crate::specs::Surroundings::end_in))]
 fn end_in(net: &Net, entry: &Value) -> Option<u32>
-    ensures { result ≡ around.end_in net.now (view entry.now) }
+    ensures { result ≡ around.end_in net.now.files (view entry.now) }
 {
     end_named(net, router_in(net, entry), addr_in(entry, "address"))
 }
@@ -91,7 +91,7 @@ fn later_length(so_far: &[Announcement], end: u32, entry: &Value) -> Option<u32>
 
 #[tactic(auto, unfolding(crate::specs::Surroundings::asn_of_end))]
 fn asn_of_end(net: &Net, at: u32) -> Option<u32>
-    ensures { result ≡ around.asn_of_end net.now at }
+    ensures { result ≡ around.asn_of_end net.now.files at }
 {
     match net.ends().get(at as usize) {
         None => None,
@@ -148,7 +148,7 @@ fn announcement_at(
     at: &str,
     entry: &Value,
 ) -> Result<Announcement, CexRefused>
-    ensures { Reads result (around.announcement_at net.now so_far.now at.now (view entry.now)) }
+    ensures { Reads result (around.announcement_at net.now.files so_far.now at.now (view entry.now)) }
 {
     let end = required(alloc, at, "address", end_in(net, entry))?;
     let communities = ascending_in(alloc, at, "communities", entry)?;
@@ -174,7 +174,7 @@ fn take_announcement(
     mut so_far: List<Announcement>,
     entry: &Value,
 ) -> Result<List<Announcement>, CexRefused>
-    ensures { Reads result (around.announcement_step net.now place so_far (view entry.now)) }
+    ensures { Reads result (around.announcement_step net.now.files place so_far (view entry.now)) }
 {
     let at = format!(in alloc; "announcements/{place}/")?;
     let next = announcement_at(alloc, net, so_far.as_slice(), at.as_str(), entry)?;
@@ -187,7 +187,7 @@ fn take_announcements(
     net: &Net,
     members: &[Value],
 ) -> Result<List<Announcement>, CexRefused>
-    ensures { Reads result (in_order (around.announcement_step net.now) 0 [] (items_view members.now)) }
+    ensures { Reads result (in_order (around.announcement_step net.now.files) 0 [] (items_view members.now)) }
 {
     let mut announced = List::new(alloc);
     for (place, entry) in members.iter().enumerate() {
@@ -203,7 +203,7 @@ pub fn announcements_in(
     net: &Net,
     text: &Value,
 ) -> Result<List<Announcement>, CexRefused>
-    ensures { Reads result (around.announcements_in net.now (view text.now)) }
+    ensures { Reads result (around.announcements_in net.now.files (view text.now)) }
 {
     let members = members_in(alloc, "", "announcements", text)?;
     take_announcements(alloc, net, members)
@@ -211,7 +211,7 @@ pub fn announcements_in(
 
 #[tactic(auto, unfolding(crate::specs::Surroundings::names_end))]
 fn names_end(net: &Net, entry: &Value, end: &SessionEnd) -> bool
-    ensures { result ≡ around.names_end net.now (view entry.now) end.now }
+    ensures { result ≡ around.names_end net.now.files (view entry.now) end.now }
 {
     match router_in(net, entry) {
         None => false,
@@ -223,7 +223,7 @@ fn names_end(net: &Net, entry: &Value, end: &SessionEnd) -> bool
 }
 
 fn wanted_end(net: &Net, ends: &[SessionEnd], place: usize, entry: &Value) -> Option<SessionEnd>
-    ensures { result ≡ passing (around.names_end net.now (view entry.now)) (slice_get ends.now place) }
+    ensures { result ≡ passing (around.names_end net.now.files (view entry.now)) (slice_get ends.now place) }
 {
     match ends.get(place) {
         None => None,
@@ -279,7 +279,7 @@ fn peer_at(
     at: &str,
     entry: &Value,
 ) -> Result<Addr, CexRefused>
-    ensures { Reads result (around.peer_at net.now format (slice_get ends.now place) at.now (view entry.now)) }
+    ensures { Reads result (around.peer_at net.now.files format (slice_get ends.now place) at.now (view entry.now)) }
 {
     let end = required(alloc, at, "address", wanted_end(net, ends, place, entry))?;
     let _known = required(
@@ -299,7 +299,7 @@ fn next_peer(
     place: usize,
     entry: &Value,
 ) -> Result<Addr, CexRefused>
-    ensures { Reads result (around.peer_at net.now format (slice_get ends.now place) (entry_path (codes "peers/") place) (view entry.now)) }
+    ensures { Reads result (around.peer_at net.now.files format (slice_get ends.now place) (entry_path (codes "peers/") place) (view entry.now)) }
 {
     let at = format!(in alloc; "peers/{place}/")?;
     peer_at(alloc, net, format, ends, place, at.as_str(), entry)
@@ -312,7 +312,7 @@ fn take_ids(
     ends: &[SessionEnd],
     members: &[Value],
 ) -> Result<List<Addr>, CexRefused>
-    ensures { Reads result (in_order (around.peer_step net.now format ends.now) 0 [] (items_view members.now)) }
+    ensures { Reads result (in_order (around.peer_step net.now.files format ends.now) 0 [] (items_view members.now)) }
 {
     let mut ids = List::new(alloc);
     for (place, entry) in members.iter().enumerate() {
@@ -344,7 +344,7 @@ fn complete_ids(alloc: Global, ids: List<Addr>, count: usize) -> Result<List<Add
 /// The identifiers of all external peers, in the order of their sessions.
 #[tactic(auto, unfolding(crate::specs::Surroundings::ids_in))]
 pub fn ids_in(alloc: Global, net: &Net, format: u32, text: &Value) -> Result<List<Addr>, CexRefused>
-    ensures { Reads result (around.ids_in net.now format (view text.now)) }
+    ensures { Reads result (around.ids_in net.now.files format (view text.now)) }
 {
     let members = members_in(alloc, "", "peers", text)?;
     let ends = external_ends(alloc, net)?;

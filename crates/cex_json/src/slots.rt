@@ -35,7 +35,7 @@ fn bgp_part(
     at: &str,
     entry: &Value,
 ) -> Result<Option<BgpRec>, CexRefused>
-    ensures { Reads result (entries.part_in (entries.bgp_in net.now router) at.now (codes "bgp") (get (codes "bgp") (view entry.now))) }
+    ensures { Reads result (entries.part_in (entries.bgp_in net.now.files router) at.now (codes "bgp") (get (codes "bgp") (view entry.now))) }
 {
     match entry.get("bgp") {
         None => Ok(None),
@@ -141,7 +141,7 @@ fn slot_at(
     so_far: List<Slot>,
     entry: &Value,
 ) -> Result<List<Slot>, CexRefused>
-    ensures { Reads result (entries.slot_at net.now at.now so_far (view entry.now)) }
+    ensures { Reads result (entries.slot_at net.now.files at.now so_far (view entry.now)) }
 {
     let known = router_in(net, entry);
     let bgp = bgp_part(alloc, net, known, at, entry)?;
@@ -159,7 +159,7 @@ fn take_slot(
     so_far: List<Slot>,
     entry: &Value,
 ) -> Result<List<Slot>, CexRefused>
-    ensures { Reads result (entries.slot_step net.now place so_far (view entry.now)) }
+    ensures { Reads result (entries.slot_step net.now.files place so_far (view entry.now)) }
 {
     let name = format!(in alloc; "{place}")?;
     check_object(alloc, "tables/", name.as_str(), entry)?;
@@ -168,7 +168,7 @@ fn take_slot(
 }
 
 fn take_slots(alloc: Global, net: &Net, members: &[Value]) -> Result<List<Slot>, CexRefused>
-    ensures { Reads result (in_order (entries.slot_step net.now) 0 [] (items_view members.now)) }
+    ensures { Reads result (in_order (entries.slot_step net.now.files) 0 [] (items_view members.now)) }
 {
     let mut slots = List::new(alloc);
     for (place, entry) in members.iter().enumerate() {
@@ -180,7 +180,7 @@ fn take_slots(alloc: Global, net: &Net, members: &[Value]) -> Result<List<Slot>,
 /// The slots of all routers and lengths.
 #[tactic(auto, unfolding(crate::specs::Entries::slots_in))]
 pub fn slots_in(alloc: Global, net: &Net, text: &Value) -> Result<List<Slot>, CexRefused>
-    ensures { Reads result (entries.slots_in net.now (view text.now)) }
+    ensures { Reads result (entries.slots_in net.now.files (view text.now)) }
 {
     let members = members_in(alloc, "", "tables", text)?;
     let slots = take_slots(alloc, net, members)?;

@@ -43,7 +43,7 @@ fn iface_at(file: &File, name: &[u8]) -> Option<u32>
 
 #[tactic(auto, unfolding(crate::specs::Standings::iface_named))]
 fn iface_named(net: &Net, router: u32, name: &[u8]) -> Option<u32>
-    ensures { result ≡ standings.iface_named net.now router name.now }
+    ensures { result ≡ standings.iface_named net.now.files router name.now }
 {
     match net.routers().get(router as usize) {
         None => None,
@@ -52,7 +52,7 @@ fn iface_named(net: &Net, router: u32, name: &[u8]) -> Option<u32>
 }
 
 fn iface_or_any(net: &Net, router: Option<u32>, name: &[u8]) -> Option<u32>
-    ensures { result ≡ standings.iface_or_any net.now router name.now }
+    ensures { result ≡ standings.iface_or_any net.now.files router name.now }
 {
     match router {
         None => Some(0),
@@ -61,7 +61,7 @@ fn iface_or_any(net: &Net, router: Option<u32>, name: &[u8]) -> Option<u32>
 }
 
 fn denied_at(net: &Net, router: Option<u32>, name: &[u8]) -> Option<End>
-    ensures { result ≡ standings.denied_at net.now router name.now }
+    ensures { result ≡ standings.denied_at net.now.files router name.now }
 {
     match router {
         None => None,
@@ -73,13 +73,13 @@ fn denied_at(net: &Net, router: Option<u32>, name: &[u8]) -> Option<End>
 }
 
 fn router_named(net: &Net, name: &[u8]) -> Option<u32>
-    ensures { result ≡ asking.router_named net.now name.now }
+    ensures { result ≡ asking.router_named net.now.files name.now }
 {
     net.router_named(name)
 }
 
 fn denied_with(net: &Net, rest: &[u8]) -> Option<End>
-    ensures { result ≡ option_and_then (λ cut. standings.denied_at net.now (asking.router_named net.now cut.0) cut.1) (cut_at 32 rest.now) }
+    ensures { result ≡ option_and_then (λ cut. standings.denied_at net.now.files (asking.router_named net.now.files cut.0) cut.1) (cut_at 32 rest.now) }
 {
     match cut(rest, b' ') {
         None => None,
@@ -97,7 +97,7 @@ fn left_with(rest: &[u8]) -> Option<End>
 }
 
 fn end_with(net: &Net, word: &[u8], rest: &[u8]) -> Option<End>
-    ensures { result ≡ standings.end_with net.now word.now rest.now }
+    ensures { result ≡ standings.end_with net.now.files word.now rest.now }
 {
     if same_bytes(word, b"left") {
         return left_with(rest);
@@ -134,7 +134,7 @@ fn end_alone(word: &[u8]) -> Option<End>
 
 #[tactic(auto, unfolding(crate::specs::Standings::end_said))]
 fn end_said(net: &Net, word: &[u8]) -> Option<End>
-    ensures { result ≡ standings.end_said net.now word.now }
+    ensures { result ≡ standings.end_said net.now.files word.now }
 {
     match cut(word, b' ') {
         None => end_alone(word),
@@ -143,7 +143,7 @@ fn end_said(net: &Net, word: &[u8]) -> Option<End>
 }
 
 fn end_in(net: &Net, part: &Value) -> Option<End>
-    ensures { result ≡ option_and_then (standings.end_said net.now) (fields.text_in (get (codes "end") (view part.now))) }
+    ensures { result ≡ option_and_then (standings.end_said net.now.files) (fields.text_in (get (codes "end") (view part.now))) }
 {
     match text_in(part, "end") {
         None => None,
@@ -152,7 +152,7 @@ fn end_in(net: &Net, part: &Value) -> Option<End>
 }
 
 fn iface_of(net: &Net, router: Option<u32>, value: &Value) -> Option<u32>
-    ensures { result ≡ standings.iface_in net.now router (Some (view value.now)) }
+    ensures { result ≡ standings.iface_in net.now.files router (Some (view value.now)) }
 {
     match text_of(value) {
         None => None,
@@ -161,7 +161,7 @@ fn iface_of(net: &Net, router: Option<u32>, value: &Value) -> Option<u32>
 }
 
 fn iface_or_absent(net: &Net, router: Option<u32>, hop: &Value) -> Option<Option<u32>>
-    ensures { result ≡ fields.absent_or (standings.iface_in net.now router) (get (codes "in") (view hop.now)) }
+    ensures { result ≡ fields.absent_or (standings.iface_in net.now.files router) (get (codes "in") (view hop.now)) }
 {
     match hop.get("in") {
         None => Some(None),
@@ -174,7 +174,7 @@ fn iface_or_absent(net: &Net, router: Option<u32>, hop: &Value) -> Option<Option
 
 #[tactic(auto, unfolding(crate::specs::Standings::hop_at))]
 fn hop_at(alloc: Global, net: &Net, at: &str, hop: &Value) -> Result<Start, CexRefused>
-    ensures { Reads result (standings.hop_at net.now at.now (view hop.now)) }
+    ensures { Reads result (standings.hop_at net.now.files at.now (view hop.now)) }
 {
     let known = router_in(net, hop);
     let iface = required(alloc, at, "in", iface_or_absent(net, known, hop))?;
@@ -189,7 +189,7 @@ fn take_hop(
     mut so_far: List<Start>,
     hop: &Value,
 ) -> Result<List<Start>, CexRefused>
-    ensures { Reads result (standings.hop_step net.now place so_far (view hop.now)) }
+    ensures { Reads result (standings.hop_step net.now.files place so_far (view hop.now)) }
 {
     let name = format!(in alloc; "{place}")?;
     check_object(alloc, "walk/hops/", name.as_str(), hop)?;
@@ -200,7 +200,7 @@ fn take_hop(
 }
 
 fn take_hops(alloc: Global, net: &Net, members: &[Value]) -> Result<List<Start>, CexRefused>
-    ensures { Reads result (in_order (standings.hop_step net.now) 0 [] (items_view members.now)) }
+    ensures { Reads result (in_order (standings.hop_step net.now.files) 0 [] (items_view members.now)) }
 {
     let mut hops = List::new(alloc);
     for (place, hop) in members.iter().enumerate() {
@@ -211,7 +211,7 @@ fn take_hops(alloc: Global, net: &Net, members: &[Value]) -> Result<List<Start>,
 
 #[tactic(auto, unfolding(crate::specs::Standings::walk_at))]
 fn walk_at(alloc: Global, net: &Net, at: &str, part: &Value) -> Result<Walk, CexRefused>
-    ensures { Reads result (standings.walk_at net.now at.now (view part.now)) }
+    ensures { Reads result (standings.walk_at net.now.files at.now (view part.now)) }
 {
     let end = required(alloc, at, "end", end_in(net, part))?;
     let members = members_in(alloc, at, "hops", part)?;
@@ -220,7 +220,7 @@ fn walk_at(alloc: Global, net: &Net, at: &str, part: &Value) -> Result<Walk, Cex
 }
 
 fn some_walk(alloc: Global, net: &Net, text: &Value) -> Result<Option<Walk>, CexRefused>
-    ensures { Reads result (standings.some_walk net.now (view text.now)) }
+    ensures { Reads result (standings.some_walk net.now.files (view text.now)) }
 {
     match text.get("walk") {
         None => Err(bad_field(alloc, "", "walk")),
@@ -244,7 +244,7 @@ pub fn walk_in(
     kind: &Kind,
     text: &Value,
 ) -> Result<Option<Walk>, CexRefused>
-    ensures { Reads result (standings.walk_in net.now kind.now (view text.now)) }
+    ensures { Reads result (standings.walk_in net.now.files kind.now (view text.now)) }
 {
     if asks_walk(kind) {
         some_walk(alloc, net, text)

@@ -3,8 +3,8 @@
 ghost use Rattle.std.specs.Prelude.{◌≡◌, ◌≢◌, ◌≤◌, ◌∷◌, ◌++◌, ◌==◌, ◌&&◌, ◌||◌, true, [], Some, None, Ok, Err, IfSome, codes, length, nat_le, option_and_then, option_map, position, slice_get, if◌then◌else◌};
 ghost use Rattle.std.specs.Option.{option_map_or};
 ghost use Rattle.mw_text.specs.Address.{covers, same_prefix};
-ghost use Rattle.net_model.specs.Sessions.{ends_of, external_ends as outer_ends};
-ghost use Rattle.net_model.specs.World.{links_of};
+ghost use Rattle.net_parts.specs.Sessions.{ends_of, external_ends as outer_ends};
+ghost use Rattle.net_parts.specs.World.{links_of};
 ghost use Rattle.serde_json.specs.View.{view, items_view};
 ghost use Rattle.serde_json.specs.Find.{get};
 ghost use Rattle.cex_json.specs.Fields as fields;
@@ -283,7 +283,7 @@ pub fn failures_in(
     most: Option<u32>,
     text: &Value,
 ) -> Result<List<u32>, CexRefused>
-    ensures { Reads result (around.failures_in net.now most (view text.now)) }
+    ensures { Reads result (around.failures_in net.now.files most (view text.now)) }
 {
     let members = members_in(alloc, "", "failures", text)?;
     let links = take_links(alloc, net.links(), members)?;

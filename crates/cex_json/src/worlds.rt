@@ -2,8 +2,8 @@
 
 ghost use Rattle.std.specs.Prelude.{◌≡◌, IfOk, map, option_map, slice_get, string_bytes};
 ghost use Rattle.std.specs.Option.{option_copied};
-ghost use Rattle.net_model.specs.Sessions as sessions;
-ghost use Rattle.net_model.specs.World.{links_of};
+ghost use Rattle.net_parts.specs.Sessions as sessions;
+ghost use Rattle.net_parts.specs.World.{links_of};
 ghost use Rattle.serde_json.specs.View.{view};
 ghost use Rattle.cex_json.specs.Worlds as worlds;
 
@@ -42,7 +42,7 @@ fn link_value(alloc: Global, links: &[Link], at: u32) -> Result<Value, AllocErro
 
 /// The failed links.
 pub fn failure_values(alloc: Global, net: &Net, failed: &[u32]) -> Result<Vec<Value>, AllocError>
-    ensures { IfOk result (λ values. map view values.items ≡ map (worlds.link_data (links_of net.now)) failed.now) }
+    ensures { IfOk result (λ values. map view values.items ≡ map (worlds.link_data (links_of net.now.files)) failed.now) }
 {
     let links = net.links();
     let mut values = Vec::new(alloc);
@@ -108,7 +108,7 @@ pub fn is_outside(end: &SessionEnd) -> bool
 
 /// The ends towards external peers.
 pub fn external_ends(alloc: Global, net: &Net) -> Result<Vec<SessionEnd>, AllocError>
-    ensures { IfOk result (λ ends. ends.items ≡ sessions.external_ends net.now) }
+    ensures { IfOk result (λ ends. ends.items ≡ sessions.external_ends net.now.files) }
 {
     net.ends()
         .iter()
@@ -152,14 +152,14 @@ fn peers_of(
 
 /// All external peers, with the identifiers that they have.
 pub fn peer_values(alloc: Global, net: &Net, ids: &[Addr]) -> Result<Vec<Value>, AllocError>
-    ensures { IfOk result (λ values. map view values.items ≡ worlds.peers_from net.now ids.now 0 (sessions.external_ends net.now)) }
+    ensures { IfOk result (λ values. map view values.items ≡ worlds.peers_from net.now.files ids.now 0 (sessions.external_ends net.now.files)) }
 {
     let ends = external_ends(alloc, net)?;
     peers_of(alloc, net.routers(), ends.as_slice(), ids)
 }
 
 fn end_address(alloc: Global, net: &Net, at: u32) -> Result<String, AllocError>
-    ensures { IfOk result (λ text. string_bytes text ≡ worlds.end_address net.now at) }
+    ensures { IfOk result (λ text. string_bytes text ≡ worlds.end_address net.now.files at) }
 {
     match net.ends().get(at as usize) {
         None => Ok(String::new(alloc)),
@@ -168,7 +168,7 @@ fn end_address(alloc: Global, net: &Net, at: u32) -> Result<String, AllocError>
 }
 
 fn end_router(net: &Net, at: u32) -> &[u8]
-    ensures { result.now ≡ worlds.end_router net.entry.now at }
+    ensures { result.now ≡ worlds.end_router net.entry.now.files at }
 {
     match net.ends().get(at as usize) {
         None => b"",
@@ -182,7 +182,7 @@ fn announcement_value(
     net: &Net,
     announcement: &Announcement,
 ) -> Result<Value, AllocError>
-    ensures { IfOk result (λ value. view value ≡ worlds.announcement_data net.now announcement.now) }
+    ensures { IfOk result (λ value. view value ≡ worlds.announcement_data net.now.files announcement.now) }
 {
     let address = end_address(alloc, net, announcement.end)?;
     let communities = number_values(alloc, announcement.communities.as_slice())?;
@@ -206,7 +206,7 @@ pub fn announcement_values(
     net: &Net,
     announced: &[Announcement],
 ) -> Result<Vec<Value>, AllocError>
-    ensures { IfOk result (λ values. map view values.items ≡ map (worlds.announcement_data net.now) announced.now) }
+    ensures { IfOk result (λ values. map view values.items ≡ map (worlds.announcement_data net.now.files) announced.now) }
 {
     let mut values = Vec::new(alloc);
     for announcement in announced {

@@ -23,7 +23,7 @@ use Rattle.route_record.specs.declared.OspfRec.{OspfRec}
 use Rattle.route_record.specs.declared.RibSource.TheVariants as source
 use Rattle.route_record.specs.declared.Slot.{Slot}
 use Rattle.route_record.specs.declared.Tables.{Tables}
-use Rattle.net_model.specs.Decisions.{Candidate}
+use Rattle.net_parts.specs.Decisions.{Candidate}
 
 abbrev pub address : ℕ → Addr
 address a = record { 0 = a }

@@ -2,10 +2,10 @@
 
 ghost use Rattle.std.specs.Prelude.{◌≡◌, true, false, [], ◌∷◌, Some, None, length, map, replicate, slice_get};
 ghost use Rattle.std.specs.Option.{option_and_then, option_map};
-ghost use Rattle.net_model.specs.Decisions.{survivors};
-ghost use Rattle.net_model.specs.Exports.{exported, imported};
-ghost use Rattle.net_model.specs.Resolution.{session_up};
-ghost use Rattle.net_model.specs.Sessions.{ends_of};
+ghost use Rattle.net_parts.specs.Decisions.{survivors};
+ghost use Rattle.net_parts.specs.Exports.{exported, imported};
+ghost use Rattle.net_parts.specs.Resolution.{session_up};
+ghost use Rattle.net_parts.specs.Sessions.{ends_of};
 ghost use Rattle.examples_definitions.specs.Networks.{address, candidate, edge, failed, learnt, message, prefix};
 
 /// E1 has an end towards the external peer, and each router has one towards the other. The session between loopbacks is up

@@ -2,10 +2,10 @@
 
 ghost use Rattle.std.specs.Prelude.{◌≡◌, true, false, [], ◌∷◌, Some, None};
 ghost use Rattle.route_record.specs.declared.OspfKind.TheVariants.{Internal, Ext1, Ext2};
-ghost use Rattle.net_model.specs.Distances.{interior_distance};
-ghost use Rattle.net_model.specs.OspfRoutes.{extended, is_as_good};
-ghost use Rattle.net_model.specs.Origins.{redistributed};
-ghost use Rattle.net_model.specs.Resolution.{resolved};
+ghost use Rattle.net_parts.specs.Distances.{interior_distance};
+ghost use Rattle.net_parts.specs.OspfRoutes.{extended, is_as_good};
+ghost use Rattle.net_parts.specs.Origins.{redistributed};
+ghost use Rattle.net_parts.specs.Resolution.{resolved};
 ghost use Rattle.examples_definitions.specs.Networks.{address, connected, connected_routes, failed, ospf, prefix, route, router, triangle};
 
 /// From the first router of the triangle to the loopback of the third, 10.9.0.3/32: directly; by the second router where

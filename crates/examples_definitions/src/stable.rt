@@ -4,9 +4,9 @@ ghost use Rattle.std.specs.Prelude.{◌≡◌, true, false, [], ◌∷◌, Some,
 ghost use Rattle.std.specs.Option.{option_map};
 ghost use Rattle.route_record.specs.declared.OspfKind.TheVariants.{Ext2};
 ghost use Rattle.route_record.specs.declared.RibSource.TheVariants as source;
-ghost use Rattle.net_model.specs.Decisions.{candidates};
-ghost use Rattle.net_model.specs.Entries.{table_entry};
-ghost use Rattle.net_model.specs.Stable.{held_ospf};
+ghost use Rattle.net_parts.specs.Decisions.{candidates};
+ghost use Rattle.net_parts.specs.Entries.{table_entry};
+ghost use Rattle.net_parts.specs.Stable.{held_ospf};
 ghost use Rattle.examples_definitions.specs.Networks.{empty, failed, learnt_route, local_route, nobody, outside, pair, route, slot_of_x, slot_of_y, supporting, tables_at_24, x, y};
 
 /// Each equation of the two slots holds: X has Y's route from OSPF and brings it into BGP, and Y has X's route from BGP and

@@ -3,7 +3,6 @@
 ghost use Rattle.std.specs.Prelude.{◌≡◌, ◌≤◌, IfOk, length, true};
 ghost use Rattle.term_store.specs.Terms.{size};
 ghost use Rattle.term_arith.specs.Bits.{ids_end};
-ghost use Rattle.net_model.specs.Tracked.{tracked_of};
 ghost use Rattle.sym_policy.specs.MapRecs.{HasMarks};
 ghost use Rattle.sym_rib.specs.Slots.{slot_end};
 ghost use Rattle.sym_rib.specs.Into.{HasTracked};
@@ -32,7 +31,7 @@ fn has_marks(tracked: &Tracked, rec: &SymMapRec) -> bool
 
 /// Whether the route has a node for each number and community that is tracked in the network.
 fn has_tracked(net: &Net, bgp: &SymBgp) -> bool
-    ensures { result ≡ true → HasTracked (tracked_of net.now) bgp.now }
+    ensures { result ≡ true → HasTracked net.now.tracked bgp.now }
 {
     let tracked = net.tracked();
     bgp.numbers.nodes.as_slice().len() == tracked.numbers.as_slice().len()

@@ -3,7 +3,7 @@
 ghost use Rattle.std.specs.Prelude.{◌≡◌, ◌*◌, ◌≤◌, ◌++◌, ◌∷◌, [], true, IfOk, OnOk, length};
 ghost use Rattle.term_store.specs.Terms.{size};
 ghost use Rattle.term_arith.specs.Bits.{ids_end};
-ghost use Rattle.net_model.specs.Ospf as ospf;
+ghost use Rattle.net_parts.specs.Ospf as ospf;
 ghost use Rattle.sym_ospf.specs.Routes.{routes_end};
 ghost use Rattle.sym_ospf.specs.Rows.{net_end};
 
@@ -63,7 +63,7 @@ pub fn fresh_net(alloc: Global, terms: &mut Terms, net: &Net) -> Result<SymNet, 
 
 /// Whether there is a route of each router to each advertised prefix.
 pub fn has_rows(net: &Net, sym: &SymNet) -> bool
-    ensures { result ≡ true → length sym.now.igp ≡ length net.now * length (ospf.advertised net.now) }
+    ensures { result ≡ true → length sym.now.igp ≡ length net.now.files * length (ospf.advertised net.now.files) }
 {
     let columns = net.advertised().len();
     columns < 1000 && sym.igp.as_slice().len() == net.routers().len() * columns

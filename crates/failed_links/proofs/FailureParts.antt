@@ -8,7 +8,7 @@ use Rattle.std.proofs.lemmas.Bool.{and_from, and_parts, cases_lt, eq-eqb, eqb-tr
 use Rattle.std.proofs.lemmas.List.Elements.{All-cons, All-head, All-nil, All-tail, All-weaker}
 use Rattle.ios_ast.specs.declared.file.File.{File}
 use Rattle.route_record.specs.declared.Failures.{Failures}
-use Rattle.net_model.specs.World.{IsFailureSet, ascends, links_of}
+use Rattle.net_parts.specs.World.{IsFailureSet, ascends, links_of}
 use Rattle.sym_policy.specs.Held.{positions}
 use Rattle.failed_links.specs.Failures.{downs_bits, downs_from, downs_width, failures_from, marks, none_of}
 use Rattle.failed_links.specs.Rows.{IsAt, row}

@@ -1,8 +1,10 @@
 -- What a route map makes of a route (Cisco IOS, `route-map`).
-use Rattle.std.specs.Prelude.{Bool, List, Option, Some, None, if◌then◌else◌}
+use Rattle.std.specs.Prelude.{Bool, List, [], Option, Some, None, if◌then◌else◌}
 use Rattle.std.specs.List.{find}
-use Rattle.std.specs.Option.{option_and_then}
+use Rattle.std.specs.Option.{option_and_then, option_map_or}
 use Rattle.mw_text.specs.declared.address.Prefix.{Prefix}
+use Rattle.mw_text.specs.Text.{same_text}
+use Rattle.ios_ast.specs.declared.file.Use.{Use}
 use Rattle.ios_ast.specs.declared.policies.MapEntry.{MapEntry}
 use Rattle.ios_ast.specs.declared.policies.Policies.{Policies}
 use Rattle.ios_ast.specs.Deciding.{in_order}
@@ -21,3 +23,13 @@ deciding policies p r entries = find (route_taken policies p r) (in_order (λ e.
 abbrev pub mapped : Policies → List MapEntry → Prefix → Bool → Attributes → Option Attributes
 mapped policies entries p external r =
     option_and_then (λ e. if e.permit then Some (set_all external r e.sets) else None) (deciding policies p r entries)
+
+-- the entries of the map of that name; a map that is not there has none, and so drops every route
+abbrev pub entries_named : Policies → Use → List MapEntry
+entries_named policies named =
+    option_map_or (λ map. map.entries) (find (λ map. same_text map.name named.name) policies.maps) []
+
+-- what the map that is applied, if one is, makes of a route to the prefix
+abbrev pub through_map : Policies → Option Use → Prefix → Bool → Attributes → Option Attributes
+through_map policies used p external r =
+    option_map_or (λ named. mapped policies (entries_named policies named) p external r) used (Some r)

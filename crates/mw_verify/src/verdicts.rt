@@ -25,11 +25,11 @@ fn put_verdict<O: Sink, L: Sink>(
     out: &mut O,
     log: &mut L,
 ) -> Result<Verdict, Halt>
-    requires no_bgp { runs_no_bgp loaded.now.net ≡ true }
+    requires no_bgp { runs_no_bgp loaded.now.net.files ≡ true }
     requires budget { IsBudget loaded.now.budget }
-    ensures ok { IfOk result (λ verdict. IsPut loaded.now.net loaded.now.questions loaded.now.budget number question.now verdict
+    ensures ok { IfOk result (λ verdict. IsPut loaded.now.net.files loaded.now.questions loaded.now.budget number question.now verdict
         (O.taken out.old) (O.taken out.new) (L.taken log.old) (L.taken log.new)) }
-    ensures cut { OnErr result (IsCutShort loaded.now.net loaded.now.questions loaded.now.budget number question.now
+    ensures cut { OnErr result (IsCutShort loaded.now.net.files loaded.now.questions loaded.now.budget number question.now
         (O.taken out.old) (O.taken out.new) (L.taken log.old) (L.taken log.new)) }
     ensures fault { OnWriteFault result (Rose (O.faults out.old) (O.faults out.new) ⊎ Rose (L.faults log.old) (L.faults log.new)) }
     ensures writes { UnlessWriteFault result ((O.faults out.new ≡ O.faults out.old) × (L.faults log.new ≡ L.faults log.old)) }

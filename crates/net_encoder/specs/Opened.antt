@@ -2,7 +2,7 @@
 use Rattle.std.specs.Prelude.{◌≡◌, ℕ, ◌*◌, ◌≤◌, true, List, Option, length, map}
 use Rattle.ios_ast.specs.declared.file.File.{File}
 use Rattle.route_record.specs.declared.TheConstants.{LENGTHS}
-use Rattle.net_model.specs.Tracked.{tracked_of}
+use Rattle.route_record.specs.declared.tracked.Tracked.{Tracked}
 use Rattle.question_lang.specs.declared.question.Question.{Question}
 use Rattle.question_lang.specs.declared.walk.Walk.{Walk}
 use Rattle.question_lang.specs.Breaking.{Breaks}
@@ -15,10 +15,10 @@ use Rattle.ospf_equations.specs.Equations.{AreBare, HaveTracked}
 use Rattle.net_encoder.specs.declared.unknowns.OpenWorld.{OpenWorld}
 
 -- its nodes stand in the store, and it has a slot for each router and length, with a node for all that is tracked
-pub record StandsIn (files : List File) (t : Store) (made : OpenWorld) : Type 0 where
+pub record StandsIn (files : List File) (tracked : Tracked) (t : Store) (made : OpenWorld) : Type 0 where
   pub within : whole_end made.world ≤ size t
   pub parts_within : opens_end made.parts ≤ size t
-  pub rows : HaveTracked (tracked_of files) made.world.slots
+  pub rows : HaveTracked tracked made.world.slots
   pub long : length made.parts ≡ LENGTHS * length files
 
 -- it reads as the world of the variables from one on

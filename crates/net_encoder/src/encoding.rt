@@ -89,11 +89,11 @@ fn root_of(
     question: &Question,
     open: &OpenWorld,
 ) -> Result<NodeId, AllocError>
-    requires stands { StandsIn net.now terms.old open.now }
+    requires stands { StandsIn net.now.files net.now.tracked terms.old open.now }
     ensures builds { Builds terms.old terms.new }
     ensures within { IfOk result (λ r. r.0 < size terms.new) }
-    ensures value { Gives terms.new result (λ w r. (from : ℕ) → ReadsAs net.now question.now from w open.now →
-        IsRoot net.now question.now from w r) }
+    ensures value { Gives terms.new result (λ w r. (from : ℕ) → ReadsAs net.now.files question.now from w open.now →
+        IsRoot net.now.files question.now from w r) }
 {
     let routing = sym_routing(alloc, terms, net, question, open)?;
     let broken = sym_breaks(alloc, terms, net, question, &open.world)?;
@@ -117,10 +117,10 @@ fn root_over_new(
     plan: Plan,
 ) -> Result<Rooted, AllocError>
     ensures root { IfOk result (λ r. r.root.0 < size terms.new) }
-    ensures vars { OnOk result (terms.new.vars ≡ terms.old.vars + world_width net.now question.now) }
+    ensures vars { OnOk result (terms.new.vars ≡ terms.old.vars + world_width net.now.files question.now) }
     ensures world { Gives terms.new result (λ w r. whole_of w r.world
-        ≡ world_from net.now question.now w.variable terms.old.vars) }
-    ensures value { Gives terms.new result (λ w r. IsRoot net.now question.now terms.old.vars w r.root) }
+        ≡ world_from net.now.files question.now w.variable terms.old.vars) }
+    ensures value { Gives terms.new result (λ w r. IsRoot net.now.files question.now terms.old.vars w r.root) }
 {
     let open = open_world(alloc, terms, net, question, plan)?;
     let root = root_of(alloc, terms, net, question, &open)?;
@@ -139,17 +139,17 @@ pub fn encode(
     question: &Question,
     plan: &Plan,
 ) -> Result<Encoding, AllocError>
-    requires no_bgp { runs_no_bgp net.now ≡ true }
+    requires no_bgp { runs_no_bgp net.now.files ≡ true }
     ensures root { IfOk result (λ e. e.root.0 < size e.terms) }
-    ensures vars { IfOk result (λ e. e.terms.vars ≡ world_width net.now question.now) }
+    ensures vars { IfOk result (λ e. e.terms.vars ≡ world_width net.now.files question.now) }
     ensures world { IfOk result (λ e. (w : Reading) → Reads w e.terms → whole_of w e.world
-        ≡ world_from net.now question.now w.variable 0) }
+        ≡ world_from net.now.files question.now w.variable 0) }
     ensures sound { IfOk result (λ e. (valuation : ListOf Bool) →
-        value_of e.terms.nodes valuation e.root.0 ≡ true → (walk : OptionOf WalkOf) × IsBreaking net.now question.now
-        (world_from net.now question.now (truth valuation) 0) no_environment walk) }
+        value_of e.terms.nodes valuation e.root.0 ≡ true → (walk : OptionOf WalkOf) × IsBreaking net.now.files question.now
+        (world_from net.now.files question.now (truth valuation) 0) no_environment walk) }
     ensures complete { IfOk result (λ e. (world : WorldOf) (environment : EnvironmentOf) (walk : OptionOf WalkOf) →
-        IsBreaking net.now question.now world environment walk →
-        value_of e.terms.nodes (world_bits net.now question.now world) e.root.0 ≡ true) }
+        IsBreaking net.now.files question.now world environment walk →
+        value_of e.terms.nodes (world_bits net.now.files question.now world) e.root.0 ≡ true) }
 {
     let lengths = copied(alloc, plan)?;
     let mut terms = Terms::new(alloc);

@@ -109,11 +109,11 @@ pub fn sym_routing(
     question: &Question,
     made: &OpenWorld,
 ) -> Result<NodeId, AllocError>
-    requires stands { StandsIn net.now terms.old made.now }
+    requires stands { StandsIn net.now.files net.now.tracked terms.old made.now }
     ensures builds { Builds terms.old terms.new }
     ensures within { IfOk result (λ r. r.0 < size terms.new) }
-    ensures value { Gives terms.new result (λ w r. (from : ℕ) → ReadsAs net.now question.now from w made.now →
-        at w r ≡ is_routing net.now question.now w.variable from) }
+    ensures value { Gives terms.new result (λ w r. (from : ℕ) → ReadsAs net.now.files question.now from w made.now →
+        at w r ≡ is_routing net.now.files question.now w.variable from) }
 {
     let _routers = net.routers();
     let world = &made.world;

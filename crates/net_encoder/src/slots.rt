@@ -1,7 +1,6 @@
 //! All slots of a routing as terms, and whether the routing is stable.
 
 ghost use Rattle.std.specs.Prelude.{◌≡◌, ℕ, ◌+◌, ◌≤◌, ◌<◌, ◌*◌, ◌/◌, ◌%◌, ◌&&◌, All, IfOk, OnOk, None, Some, ◌++◌, ◌∷◌, [], drop, length, map, slice_get};
-ghost use Rattle.net_model.specs.Tracked.{tracked_of};
 ghost use Rattle.route_record.specs.declared.TheConstants as constants;
 ghost use Rattle.sym_policy.specs.Held.{bgp_of, failures_of};
 ghost use Rattle.sym_policy.specs.Records.{address_of};
@@ -53,10 +52,10 @@ fn slot_at_place(
     requires part { open_end part.now ≤ size terms.old }
     ensures builds { Builds terms.old terms.new }
     ensures within { IfOk result (λ r. slot_end r ≤ size terms.new) }
-    ensures rows { IfOk result (λ r. HasTracked (tracked_of net.now) r.bgp) }
+    ensures rows { IfOk result (λ r. HasTracked net.now.tracked r.bgp) }
     ensures bare { Gives terms.new result (λ w r. bgp_of w r.bgp ≡ None) }
     ensures value { Gives terms.new result (λ w r. slot_read w r
-        ≡ slot_of net.now (failures_of w sym.now) (address_of w dst.now) (place / constants.LENGTHS)
+        ≡ slot_of net.now.files (failures_of w sym.now) (address_of w dst.now) (place / constants.LENGTHS)
         (place % constants.LENGTHS) (open_of w part.now)) }
 {
     let router = (place / LENGTHS) as u32;
@@ -80,16 +79,16 @@ fn holds_at_place(
     requires wide { length dst.now.nodes.items ≡ 32 }
     requires nodes { ids_end dst.now.nodes.items ≤ size terms.old }
     requires down { ids_end sym.now.down ≤ size terms.old }
-    requires rows { HaveTracked (tracked_of net.now) slots.now }
+    requires rows { HaveTracked net.now.tracked slots.now }
     requires slots { slots_end slots.now ≤ size terms.old }
     requires part { open_end part.now ≤ size terms.old }
     ensures builds { Builds terms.old terms.new }
     ensures within { IfOk result (λ r. r.0 < size terms.new) }
     ensures value { Gives terms.new result (λ w r. AreBare w slots.now →
         slice_get (map (slot_read w) slots.now) place
-        ≡ Some (slot_of net.now (failures_of w sym.now) (address_of w dst.now) (place / constants.LENGTHS)
+        ≡ Some (slot_of net.now.files (failures_of w sym.now) (address_of w dst.now) (place / constants.LENGTHS)
         (place % constants.LENGTHS) (open_of w part.now)) →
-        at w r ≡ slot_holds net.now (failures_of w sym.now) (address_of w dst.now) (tables_of w slots.now)
+        at w r ≡ slot_holds net.now.files (failures_of w sym.now) (address_of w dst.now) (tables_of w slots.now)
         (place / constants.LENGTHS) (place % constants.LENGTHS) (open_of w part.now)) }
 {
     let router = (place / LENGTHS) as u32;
@@ -109,18 +108,18 @@ pub fn slots(
     dst: &Bits,
     parts: &[SymOpen],
 ) -> Result<List<SymSlot>, AllocError>
-    requires few { length net.now ≤ 64 }
-    requires long { length parts.now ≡ constants.LENGTHS * length net.now }
+    requires few { length net.now.files ≤ 64 }
+    requires long { length parts.now ≡ constants.LENGTHS * length net.now.files }
     requires wide { length dst.now.nodes.items ≡ 32 }
     requires nodes { ids_end dst.now.nodes.items ≤ size terms.old }
     requires down { ids_end sym.now.down ≤ size terms.old }
     requires parts { opens_end parts.now ≤ size terms.old }
     ensures builds { Builds terms.old terms.new }
     ensures within { IfOk result (λ r. slots_end r ≤ size terms.new) }
-    ensures rows { IfOk result (λ r. HaveTracked (tracked_of net.now) r) }
+    ensures rows { IfOk result (λ r. HaveTracked net.now.tracked r) }
     ensures bare { Gives terms.new result (λ w r. AreBare w r) }
     ensures value { Gives terms.new result (λ w r. map (slot_read w) r
-        ≡ slots_of net.now (failures_of w sym.now) (address_of w dst.now) 0 (map (open_of w) parts.now)) }
+        ≡ slots_of net.now.files (failures_of w sym.now) (address_of w dst.now) 0 (map (open_of w) parts.now)) }
 {
     let mut made = List::new(alloc);
     for (place, part) in parts.iter().enumerate() {
@@ -142,20 +141,20 @@ pub fn sym_all_hold(
     parts: &[SymOpen],
     limits: &[u32],
 ) -> Result<NodeId, AllocError>
-    requires few { length net.now ≤ 64 }
-    requires long { length parts.now ≡ constants.LENGTHS * length net.now }
+    requires few { length net.now.files ≤ 64 }
+    requires long { length parts.now ≡ constants.LENGTHS * length net.now.files }
     requires wide { length dst.now.nodes.items ≡ 32 }
     requires nodes { ids_end dst.now.nodes.items ≤ size terms.old }
     requires down { ids_end sym.now.down ≤ size terms.old }
-    requires rows { HaveTracked (tracked_of net.now) slots.now }
+    requires rows { HaveTracked net.now.tracked slots.now }
     requires slots { slots_end slots.now ≤ size terms.old }
     requires parts { opens_end parts.now ≤ size terms.old }
     ensures builds { Builds terms.old terms.new }
     ensures within { IfOk result (λ r. r.0 < size terms.new) }
     ensures value { Gives terms.new result (λ w r. AreBare w slots.now →
         map (slot_read w) slots.now
-        ≡ slots_of net.now (failures_of w sym.now) (address_of w dst.now) 0 (map (open_of w) parts.now) →
-        at w r ≡ all_hold net.now (failures_of w sym.now) (address_of w dst.now) (tables_of w slots.now) 0
+        ≡ slots_of net.now.files (failures_of w sym.now) (address_of w dst.now) 0 (map (open_of w) parts.now) →
+        at w r ≡ all_hold net.now.files (failures_of w sym.now) (address_of w dst.now) (tables_of w slots.now) 0
         (map (open_of w) parts.now)) }
 {
     let mut all = constant_node(terms, true)?;

@@ -1,7 +1,6 @@
 //! The slots of a routing as terms: what is open of them, and the entries that follow.
 
 ghost use Rattle.std.specs.Prelude.{◌≡◌, ℕ, ◌+◌, ◌≤◌, ◌<◌, ◌*◌, IfOk, OnOk, Some, None, ◌++◌, ◌∷◌, [], length, map, max};
-ghost use Rattle.net_model.specs.Tracked.{tracked_of};
 ghost use Rattle.sym_policy.specs.Held.{bgp_of, bgp_end, failures_of, ospf_of, ospf_end};
 ghost use Rattle.sym_policy.specs.Records.{address_of};
 ghost use Rattle.sym_rib.specs.Into.{HasTracked};
@@ -211,10 +210,10 @@ pub fn slot(
     requires part { open_end part.now ≤ size terms.old }
     ensures builds { Builds terms.old terms.new }
     ensures within { IfOk result (λ r. slot_end r ≤ size terms.new) }
-    ensures rows { IfOk result (λ r. HasTracked (tracked_of net.now) r.bgp) }
+    ensures rows { IfOk result (λ r. HasTracked net.now.tracked r.bgp) }
     ensures bare { Gives terms.new result (λ w r. bgp_of w r.bgp ≡ None) }
     ensures value { Gives terms.new result (λ w r. slot_read w r
-        ≡ slot_of net.now (failures_of w sym.now) (address_of w dst.now) router len (open_of w part.now)) }
+        ≡ slot_of net.now.files (failures_of w sym.now) (address_of w dst.now) router len (open_of w part.now)) }
 {
     let before = bare_slot(alloc, terms, net.tracked(), &part.ospf)?;
     let rib = sym_entry(alloc, terms, net, sym, router, dst, len, &before, part.own)?;

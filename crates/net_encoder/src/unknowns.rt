@@ -1,7 +1,7 @@
 //! The variables of a world as terms: its packet, its failed links, and what is open of its slots.
 
 ghost use Rattle.std.specs.Prelude.{◌≡◌, ◌+◌, ◌≤◌, ◌*◌, IfOk, OnOk, length, map};
-ghost use Rattle.net_model.specs.World.{links_of};
+ghost use Rattle.net_parts.specs.World.{links_of};
 ghost use Rattle.route_record.specs.declared.TheConstants as constants;
 ghost use Rattle.sym_ospf.specs.Rows.{net_end};
 ghost use Rattle.sym_policy.specs.Held.{failures_of};
@@ -56,11 +56,11 @@ fn open_outside(
     ensures grows { Grows terms.old terms.new }
     ensures packet_within { IfOk result (λ r. packet_end r.packet ≤ size terms.new) }
     ensures net_within { IfOk result (λ r. net_end r.net ≤ size terms.new) }
-    ensures vars { OnOk result (terms.new.vars ≡ slots_start net.now question.now terms.old.vars) }
+    ensures vars { OnOk result (terms.new.vars ≡ slots_start net.now.files question.now terms.old.vars) }
     ensures packet { Gives terms.new result (λ w r. packet_of w r.packet
         ≡ packet_from question.now.packets w.variable terms.old.vars) }
     ensures failures { Gives terms.new result (λ w r. failures_of w r.net
-        ≡ failures_from question.now.failures (length (links_of net.now)) w.variable
+        ≡ failures_from question.now.failures (length (links_of net.now.files)) w.variable
         (downs_start question.now terms.old.vars)) }
 {
     let packet = packet_in(alloc, terms, question.packets)?;
@@ -80,14 +80,14 @@ fn open_slots(
     net: &Net,
     question: &Question,
 ) -> Result<List<SymOpen>, AllocError>
-    requires few { length net.now ≤ 64 }
+    requires few { length net.now.files ≤ 64 }
     ensures grows { Grows terms.old terms.new }
     ensures within { IfOk result (λ r. opens_end r ≤ size terms.new) }
-    ensures long { IfOk result (λ r. length r ≡ constants.LENGTHS * length net.now) }
+    ensures long { IfOk result (λ r. length r ≡ constants.LENGTHS * length net.now.files) }
     ensures vars { OnOk result (terms.new.vars
-        ≡ terms.old.vars + unknowns_width (room.widths_of net.now) (rooms_of net.now question.now)) }
+        ≡ terms.old.vars + unknowns_width (room.widths_of net.now.files) (rooms_of net.now.files question.now)) }
     ensures value { Gives terms.new result (λ w r. map (open_of w) r
-        ≡ unknowns_from (room.widths_of net.now) (rooms_of net.now question.now) w.variable terms.old.vars) }
+        ≡ unknowns_from (room.widths_of net.now.files) (rooms_of net.now.files question.now) w.variable terms.old.vars) }
 {
     let widths = widths_of(net);
     let rooms = rooms(alloc, net, &question.packets.dst)?;
@@ -105,9 +105,9 @@ pub fn open_world(
     plan: Plan,
 ) -> Result<OpenWorld, AllocError>
     ensures grows { Grows terms.old terms.new }
-    ensures stands { IfOk result (λ r. StandsIn net.now terms.new r) }
-    ensures vars { OnOk result (terms.new.vars ≡ terms.old.vars + world_width net.now question.now) }
-    ensures value { Gives terms.new result (λ w r. ReadsAs net.now question.now terms.old.vars w r) }
+    ensures stands { IfOk result (λ r. StandsIn net.now.files net.now.tracked terms.new r) }
+    ensures vars { OnOk result (terms.new.vars ≡ terms.old.vars + world_width net.now.files question.now) }
+    ensures value { Gives terms.new result (λ w r. ReadsAs net.now.files question.now terms.old.vars w r) }
 {
     let _routers = net.routers();
     let outside = open_outside(alloc, terms, net, question)?;

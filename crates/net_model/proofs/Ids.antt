@@ -3,7 +3,7 @@ use Rattle.std.proofs.Common.{◌≡◌, ℕ, zero, suc, ◌+◌, ◌<◌, List,
 use Rattle.std.specs.Prelude.{slice_index_or}
 use Rattle.mw_text.specs.declared.address.Addr.{Addr}
 use Rattle.ios_ast.specs.declared.file.File.{File}
-use Rattle.net_model.specs.Exports.{router_id}
+use Rattle.net_parts.specs.Exports.{router_id}
 use Rattle.net_model.specs.Kept.{ids_from}
 
 as_many_from : (files : List File) (router : ℕ) (rest : List File) → length (ids_from files router rest) ≡ length rest

@@ -1,15 +1,2 @@
-pub mod Order
-pub mod Ascending
-pub mod FewLinks
-pub mod TrackedUp
-pub mod EndPlaces
-pub mod Defined
-pub mod LeastWalks
-pub mod Peers
-pub mod Few
 pub mod Ids
-pub mod Costs
-pub mod Equations
-pub mod InOrder
-pub mod SubnetOrder
-pub mod Survivors
+pub mod Tracking

@@ -1,24 +1,30 @@
--- What a network keeps beside its files.
+-- What contracts see of a network, and what it keeps beside its files.
 use Rattle.std.specs.Prelude.{◌≡◌, ℕ, ◌+◌, ◌≤◌, List, [], ◌∷◌, length}
 use Rattle.mw_text.specs.declared.address.Addr.{Addr}
 use Rattle.ios_ast.specs.declared.file.File.{File}
+use Rattle.route_record.specs.declared.tracked.Tracked.{Tracked}
 use Rattle.net_model.specs.declared.network.Parts.{Parts}
-use Rattle.net_model.specs.declared.refusals.TheConstants.{MOST_FILES}
-use Rattle.net_model.specs.Exports.{router_id}
-use Rattle.net_model.specs.Interfaces.{addressed}
-use Rattle.net_model.specs.Network.{IsNetwork}
-use Rattle.net_model.specs.Ospf.{adjacencies, advertised, ospf_interfaces}
-use Rattle.net_model.specs.Sessions.{ends_of}
-use Rattle.net_model.specs.Tracked.{tracked_of}
-use Rattle.net_model.specs.World.{links_of}
+use Rattle.net_interfaces.specs.declared.interfaces.TheConstants.{MOST_FILES}
+use Rattle.net_parts.specs.Exports.{router_id}
+use Rattle.net_interfaces.specs.Interfaces.{addressed}
+use Rattle.net_refusals.specs.Network.{IsNetwork}
+use Rattle.net_parts.specs.Ospf.{adjacencies, advertised, ospf_interfaces}
+use Rattle.net_parts.specs.Sessions.{ends_of}
+use Rattle.net_parts.specs.Tracked.{TracksNet}
+use Rattle.net_parts.specs.World.{links_of}
+
+-- a network: the files of its routers, and the values that it tracks
+pub record Network : Type 0 where
+  pub files : List File
+  pub tracked : Tracked
 
 -- the identifiers of the routers from that number on
 abbrev pub ids_from : List File → ℕ → List File → List Addr
 ids_from files router [] = []
 ids_from files router (file ∷ rest) = router_id files router ∷ ids_from files (router + 1) rest
 
--- the files are a network, and these are its interfaces, links, ends of sessions, adjacencies, and the values that it
--- names
+-- the files are a network, and these are its interfaces, links, ends of sessions, adjacencies, and values that it may
+-- track
 pub record IsKept (files : List File) (parts : Parts) : Type 0 where
   pub network : IsNetwork files
   pub few : length files ≤ MOST_FILES
@@ -28,5 +34,5 @@ pub record IsKept (files : List File) (parts : Parts) : Type 0 where
   pub running : parts.running ≡ ospf_interfaces files
   pub adjacencies : parts.adjacencies ≡ adjacencies files
   pub advertised : parts.advertised ≡ advertised files
-  pub tracked : parts.tracked ≡ tracked_of files
+  pub tracked : TracksNet files parts.tracked
   pub ids : parts.ids ≡ ids_from files 0 files

@@ -10,7 +10,7 @@ use Rattle.std.proofs.Math.Bool.{or_assoc, or-false}
 use Rattle.mw_text.specs.declared.address.Prefix.{Prefix}
 use Rattle.route_record.specs.declared.OspfRec.{OspfRec}
 use Rattle.route_record.specs.declared.Tables.{Tables}
-use Rattle.net_model.specs.OspfRoutes.{offer_over}
+use Rattle.net_parts.specs.OspfRoutes.{offer_over}
 use Rattle.sym_rib.proofs.OneEach.{filter_map_push, list_end_push}
 use Rattle.term_store.specs.Terms.{Reading, at}
 use Rattle.ospf_equations.specs.Adjacent.{offer_read, offers_read, ups_end}

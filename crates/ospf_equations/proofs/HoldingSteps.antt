@@ -10,8 +10,8 @@ use Rattle.std.proofs.lemmas.Grind.{common_steps}
 use Rattle.std.proofs.Math.Bool.{or_assoc, or-false}
 use Rattle.std.proofs.lemmas.List.{drop_more, drop_all}
 use Rattle.route_record.specs.declared.OspfRec.{OspfRec}
-use Rattle.net_model.specs.OspfRoutes.{is_as_good, is_better}
-use Rattle.net_model.specs.Sending.{same_record}
+use Rattle.net_parts.specs.OspfRoutes.{is_as_good, is_better}
+use Rattle.net_parts.specs.Sending.{same_record}
 use Rattle.term_store.specs.Terms.{Reading}
 use Rattle.sym_policy.specs.declared.records.SymOspf.{SymOspf}
 use Rattle.sym_policy.specs.Held.{ospf_of, ospf_end}

@@ -12,9 +12,9 @@ use Rattle.route_record.specs.declared.OspfKind.{OspfKind}
 use Rattle.route_record.specs.declared.OspfKind.TheVariants.{Internal, Ext1, Ext2}
 use Rattle.route_record.specs.declared.OspfRec.{OspfRec}
 use Rattle.route_record.specs.declared.Tables.{Tables}
-use Rattle.net_model.specs.declared.adjacencies.Adjacency.{Adjacency}
-use Rattle.net_model.specs.OspfRoutes.{better_of, extended, first_best, is_better, kind_rank}
-use Rattle.net_model.specs.Sending.{same_record}
+use Rattle.net_parts.specs.declared.adjacencies.Adjacency.{Adjacency}
+use Rattle.net_parts.specs.OspfRoutes.{better_of, extended, first_best, is_better, kind_rank}
+use Rattle.net_parts.specs.Sending.{same_record}
 use Rattle.term_store.specs.Terms.{differ}
 use Rattle.sym_policy.specs.Held.{kind_of_number}
 use Rattle.ospf_equations.specs.Equations.{offers_by}

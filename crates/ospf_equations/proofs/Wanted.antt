@@ -16,10 +16,10 @@ use Rattle.route_record.specs.declared.OspfRec.{OspfRec}
 use Rattle.route_record.specs.declared.Slot.{Slot}
 use Rattle.route_record.specs.declared.Tables.{Tables}
 use Rattle.route_record.specs.Places.{slot_at}
-use Rattle.net_model.specs.declared.ospf.OspfInterface.{OspfInterface}
-use Rattle.net_model.specs.Origins.{redistributed}
-use Rattle.net_model.specs.Ospf.{adjacencies, ospf_interfaces, up_adjacencies}
-use Rattle.net_model.specs.OspfRoutes.{first_best, held_by_ospf, is_as_good, offer_over, own_origins}
+use Rattle.net_parts.specs.declared.ospf.OspfInterface.{OspfInterface}
+use Rattle.net_parts.specs.Origins.{redistributed}
+use Rattle.net_parts.specs.Ospf.{adjacencies, ospf_interfaces, up_adjacencies}
+use Rattle.net_parts.specs.OspfRoutes.{first_best, held_by_ospf, is_as_good, offer_over, own_origins}
 use Rattle.term_store.specs.Terms.{differ}
 use Rattle.sym_policy.specs.Held.{internal_route}
 use Rattle.ospf_equations.specs.Equations.{offers_by, originates, origins_by}

@@ -4,7 +4,7 @@ use Rattle.std.specs.List.{filter_map}
 use Rattle.mw_text.specs.declared.address.Prefix.{Prefix}
 use Rattle.route_record.specs.declared.OspfRec.{OspfRec}
 use Rattle.route_record.specs.declared.Tables.{Tables}
-use Rattle.net_model.specs.OspfRoutes.{offer_over}
+use Rattle.net_parts.specs.OspfRoutes.{offer_over}
 use Rattle.sym_rib.specs.Into.{list_end}
 use Rattle.term_store.specs.Terms.{Reading, at}
 use Rattle.ospf_equations.specs.declared.adjacent.SymAdjacency.{SymAdjacency}

@@ -8,11 +8,11 @@ use Rattle.route_record.specs.declared.Failures.{Failures}
 use Rattle.route_record.specs.declared.OspfRec.{OspfRec}
 use Rattle.route_record.specs.declared.tracked.Tracked.{Tracked}
 use Rattle.route_record.specs.declared.Tables.{Tables}
-use Rattle.net_model.specs.declared.adjacencies.Adjacency.{Adjacency}
-use Rattle.net_model.specs.declared.ospf.OspfInterface.{OspfInterface}
-use Rattle.net_model.specs.Ospf.{advertisement, is_up_at}
-use Rattle.net_model.specs.OspfRoutes.{offer_over}
-use Rattle.net_model.specs.World.{is_up}
+use Rattle.net_parts.specs.declared.adjacencies.Adjacency.{Adjacency}
+use Rattle.net_parts.specs.declared.ospf.OspfInterface.{OspfInterface}
+use Rattle.net_parts.specs.Ospf.{advertisement, is_up_at}
+use Rattle.net_parts.specs.OspfRoutes.{offer_over}
+use Rattle.net_parts.specs.World.{is_up}
 use Rattle.term_store.specs.Terms.{Reading}
 use Rattle.sym_policy.specs.Held.{bgp_of, internal_route}
 use Rattle.sym_rib.specs.declared.slots.SymSlot.{SymSlot}

@@ -3,7 +3,7 @@ use Rattle.std.specs.Prelude.{ℕ, ◌==◌, ◌&&◌, Bool, false, not, nat_lt,
 use Rattle.std.specs.Option.{option_map_or}
 use Rattle.mw_text.specs.declared.address.Prefix.{Prefix}
 use Rattle.route_record.specs.declared.OspfRec.{OspfRec}
-use Rattle.net_model.specs.OspfRoutes.{kind_rank}
+use Rattle.net_parts.specs.OspfRoutes.{kind_rank}
 
 -- the route is internal and costs no more than that
 abbrev pub is_within : ℕ → OspfRec → Bool

@@ -3,8 +3,8 @@
 ghost use Rattle.std.specs.Prelude.{◌≡◌, ℕ, ◌+◌, ◌≤◌, ◌<◌, ◌==◌, ◌&&◌, IfOk, OnOk, None, ◌++◌, ◌∷◌, [], if◌then◌else◌, max};
 ghost use Rattle.std.specs.Option.{option_to_list};
 ghost use Rattle.mw_text.specs.declared.address.Prefix.{Prefix};
-ghost use Rattle.net_model.specs.Ospf as model;
-ghost use Rattle.net_model.specs.OspfRoutes.{offer_over};
+ghost use Rattle.net_parts.specs.Ospf as model;
+ghost use Rattle.net_parts.specs.OspfRoutes.{offer_over};
 ghost use Rattle.route_record.specs.declared.Tables.{Tables};
 ghost use Rattle.sym_policy.specs.Held.{failures_of};
 ghost use Rattle.ospf_equations.specs.Adjacent.{offers_read, ups_end};
@@ -52,7 +52,7 @@ fn put_adjacency(
     ensures within { OnOk result (ups_end made.new ≤ size terms.new) }
     ensures value { Gives terms.new result (λ w _. (tables : Tables) → (p : Prefix) → offers_read w tables p made.new
         ≡ offers_read w tables p made.old
-        ++ option_to_list (offered_by net.now (failures_of w sym.now) tables router p a.now)) }
+        ++ option_to_list (offered_by net.now.files (failures_of w sym.now) tables router p a.now)) }
 {
     if a.from.router != router {
         return Ok(());
@@ -76,7 +76,7 @@ pub fn sym_adjacencies(
     ensures builds { Builds terms.old terms.new }
     ensures within { IfOk result (λ r. ups_end r ≤ size terms.new) }
     ensures value { Gives terms.new result (λ w r. (tables : Tables) → (p : Prefix) → offers_read w tables p r
-        ≡ offers_by net.now (failures_of w sym.now) tables router p (model.adjacencies net.now)) }
+        ≡ offers_by net.now.files (failures_of w sym.now) tables router p (model.adjacencies net.now.files)) }
 {
     let adjacencies = net.adjacencies();
     let mut made = List::new(alloc);

@@ -6,8 +6,7 @@ ghost use Rattle.std.specs.List.{filter_map, list_any};
 ghost use Rattle.std.specs.Option.{option_map_or};
 ghost use Rattle.ios_ast.specs.declared.file.File.{File as FileOf};
 ghost use Rattle.ios_ast.specs.declared.ospf.Ospf.{Ospf as OspfOf};
-ghost use Rattle.net_model.specs.OspfRoutes.{is_as_good};
-ghost use Rattle.net_model.specs.Tracked.{tracked_of};
+ghost use Rattle.net_parts.specs.OspfRoutes.{is_as_good};
 ghost use Rattle.route_record.specs.Places.{slot_at};
 ghost use Rattle.sym_policy.specs.Held.{bgp_of, failures_of, ospf_at, ospf_of, ospf_end};
 ghost use Rattle.sym_policy.specs.Records.{address_of};
@@ -24,7 +23,7 @@ ghost use Rattle.term_arith.specs.Bits.{ids_end};
 use crate::levels::sym_held;
 use crate::origins::own_routes;
 use net_model::Net;
-use net_model::ends::file_of;
+use net_parts::ends::file_of;
 use std::alloc::{AllocError, Global};
 use sym_ospf::sym_better;
 use sym_policy::{SymNet, SymOspf};
@@ -99,18 +98,18 @@ fn sym_wanted(
     requires wide { length dst.now.nodes.items ≡ 32 }
     requires nodes { ids_end dst.now.nodes.items ≤ size terms.old }
     requires down { ids_end sym.now.down ≤ size terms.old }
-    requires rows { HasTracked (tracked_of net.now) slot.now.bgp }
+    requires rows { HasTracked net.now.tracked slot.now.bgp }
     requires slots { slots_end slots.now ≤ size terms.old }
     requires slot { slot_end slot.now ≤ size terms.old }
     requires part { open_end part.now ≤ size terms.old }
     ensures builds { Builds terms.old terms.new }
     ensures within { IfOk result (λ r. r.0 < size terms.new) }
     ensures value { Gives terms.new result (λ w r. (file : FileOf) (process : OspfOf) →
-        slice_get net.now router ≡ Some file → file.ospf ≡ Some process → bgp_of w slot.now.bgp ≡ None →
+        slice_get net.now.files router ≡ Some file → file.ospf ≡ Some process → bgp_of w slot.now.bgp ≡ None →
         slot_at (tables_of w slots.now) router len ≡ Some (slot_read w slot.now) →
         slot_read w slot.now
-        ≡ slot_of net.now (failures_of w sym.now) (address_of w dst.now) router len (open_of w part.now) →
-        at w r ≡ is_wanted net.now (failures_of w sym.now) (address_of w dst.now) (tables_of w slots.now)
+        ≡ slot_of net.now.files (failures_of w sym.now) (address_of w dst.now) router len (open_of w part.now) →
+        at w r ≡ is_wanted net.now.files (failures_of w sym.now) (address_of w dst.now) (tables_of w slots.now)
         router len (open_of w part.now) file) }
 {
     let own = own_routes(alloc, terms, net, sym, router, dst, len, slot)?;
@@ -153,16 +152,16 @@ fn sym_runs(
     requires wide { length dst.now.nodes.items ≡ 32 }
     requires nodes { ids_end dst.now.nodes.items ≤ size terms.old }
     requires down { ids_end sym.now.down ≤ size terms.old }
-    requires rows { HaveTracked (tracked_of net.now) slots.now }
+    requires rows { HaveTracked net.now.tracked slots.now }
     requires slots { slots_end slots.now ≤ size terms.old }
     requires part { open_end part.now ≤ size terms.old }
     ensures builds { Builds terms.old terms.new }
     ensures within { IfOk result (λ r. r.0 < size terms.new) }
     ensures value { Gives terms.new result (λ w r. (file : FileOf) (process : OspfOf) →
-        slice_get net.now router ≡ Some file → file.ospf ≡ Some process → AreBare w slots.now →
+        slice_get net.now.files router ≡ Some file → file.ospf ≡ Some process → AreBare w slots.now →
         slot_at (tables_of w slots.now) router len
-        ≡ Some (slot_of net.now (failures_of w sym.now) (address_of w dst.now) router len (open_of w part.now)) →
-        at w r ≡ is_wanted net.now (failures_of w sym.now) (address_of w dst.now) (tables_of w slots.now)
+        ≡ Some (slot_of net.now.files (failures_of w sym.now) (address_of w dst.now) router len (open_of w part.now)) →
+        at w r ≡ is_wanted net.now.files (failures_of w sym.now) (address_of w dst.now) (tables_of w slots.now)
         router len (open_of w part.now) file) }
 {
     match slot_for(slots, router, len) {
@@ -194,15 +193,15 @@ pub fn sym_slot_holds(
     requires wide { length dst.now.nodes.items ≡ 32 }
     requires nodes { ids_end dst.now.nodes.items ≤ size terms.old }
     requires down { ids_end sym.now.down ≤ size terms.old }
-    requires rows { HaveTracked (tracked_of net.now) slots.now }
+    requires rows { HaveTracked net.now.tracked slots.now }
     requires slots { slots_end slots.now ≤ size terms.old }
     requires part { open_end part.now ≤ size terms.old }
     ensures builds { Builds terms.old terms.new }
     ensures within { IfOk result (λ r. r.0 < size terms.new) }
     ensures value { Gives terms.new result (λ w r. AreBare w slots.now →
         slot_at (tables_of w slots.now) router len
-        ≡ Some (slot_of net.now (failures_of w sym.now) (address_of w dst.now) router len (open_of w part.now)) →
-        at w r ≡ slot_holds net.now (failures_of w sym.now) (address_of w dst.now) (tables_of w slots.now)
+        ≡ Some (slot_of net.now.files (failures_of w sym.now) (address_of w dst.now) router len (open_of w part.now)) →
+        at w r ≡ slot_holds net.now.files (failures_of w sym.now) (address_of w dst.now) (tables_of w slots.now)
         router len (open_of w part.now)) }
 {
     match file_of(net.routers(), router) {

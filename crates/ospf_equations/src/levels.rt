@@ -4,8 +4,8 @@
 
 ghost use Rattle.std.specs.Prelude.{◌≡◌, ◌+◌, ◌≤◌, ◌<◌, ◌*◌, true, IfOk, None, ◌++◌, if◌then◌else◌};
 ghost use Rattle.std.specs.List.{filter_map, list_any};
-ghost use Rattle.net_model.specs.Ospf as model;
-ghost use Rattle.net_model.specs.OspfRoutes.{first_best, offer_over};
+ghost use Rattle.net_parts.specs.Ospf as model;
+ghost use Rattle.net_parts.specs.OspfRoutes.{first_best, offer_over};
 ghost use Rattle.sym_policy.specs.Held.{failures_of, ospf_of, ospf_end};
 ghost use Rattle.sym_policy.specs.Records.{prefix_of as prefix_read};
 ghost use Rattle.sym_rib.specs.Into.{list_end};
@@ -210,8 +210,8 @@ pub fn sym_held(
     ensures builds { Builds terms.old terms.new }
     ensures within { IfOk result (λ r. r.0 < size terms.new) }
     ensures value { Gives terms.new result (λ w r. at w r ≡ same_ospf (ospf_of w held.now) (first_best
-        (filter_map (ospf_of w) own ++ offers_by net.now (failures_of w sym.now) (tables_of w slots.now) router
-        (prefix_read w dst.now len) (model.adjacencies net.now)))) }
+        (filter_map (ospf_of w) own ++ offers_by net.now.files (failures_of w sym.now) (tables_of w slots.now) router
+        (prefix_read w dst.now len) (model.adjacencies net.now.files)))) }
 {
     let shown = if is_never(terms, held.valid) {
         &[]

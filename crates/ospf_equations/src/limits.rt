@@ -1,7 +1,7 @@
 //! Which limits of costs are looked at. Whatever they are, a formula says the same: they only help a search.
 
 ghost use Rattle.std.specs.Prelude.{◌≡◌, ◌/◌, nat_lt, length};
-ghost use Rattle.net_model.specs.Ospf as model;
+ghost use Rattle.net_parts.specs.Ospf as model;
 
 use mw_text::List;
 use net_model::{Adjacency, Net, OspfInterface};
@@ -149,7 +149,7 @@ fn longest(alloc: Global, net: &Net, origin: u32, failures: u32) -> Result<u32, 
 /// limits of costs, and the packet and the failed links settle the rest of it. In a ring and a tree they have no more, and
 /// a search over other variables is faster there.
 pub fn is_meshed(net: &Net) -> bool
-    ensures { result ≡ nat_lt (length net.now) (length (model.adjacencies net.now) / 2) }
+    ensures { result ≡ nat_lt (length net.now.files) (length (model.adjacencies net.now.files) / 2) }
 {
     let routers = net.routers();
     let adjacencies = net.adjacencies();

@@ -3,7 +3,7 @@
 ghost use Rattle.std.specs.Prelude.{◌≡◌, ℕ, ◌+◌, ◌≤◌, ◌<◌, ◌*◌, ◌==◌, ◌&&◌, IfOk, OnOk, Some, None, ◌++◌, ◌∷◌, [], if◌then◌else◌, length, max, map, slice_get};
 ghost use Rattle.std.specs.List.{filter_map};
 ghost use Rattle.std.specs.Option.{option_to_list};
-ghost use Rattle.net_model.specs.OspfRoutes.{offer_over};
+ghost use Rattle.net_parts.specs.OspfRoutes.{offer_over};
 ghost use Rattle.sym_policy.specs.Held.{ospf_of, ospf_end};
 ghost use Rattle.sym_policy.specs.Records.{prefix_of as prefix_read};
 ghost use Rattle.sym_rib.specs.Into.{list_end};

@@ -5,9 +5,8 @@ ghost use Rattle.std.specs.List.{filter_map};
 ghost use Rattle.std.specs.Option.{option_to_list, option_map_or};
 ghost use Rattle.ios_ast.specs.declared.file.File.{File as FileOf};
 ghost use Rattle.ios_ast.specs.declared.ospf.Ospf.{Ospf as OspfOf};
-ghost use Rattle.net_model.specs.Ospf as model;
-ghost use Rattle.net_model.specs.OspfRoutes.{own_origins};
-ghost use Rattle.net_model.specs.Tracked.{tracked_of};
+ghost use Rattle.net_parts.specs.Ospf as model;
+ghost use Rattle.net_parts.specs.OspfRoutes.{own_origins};
 ghost use Rattle.route_record.specs.declared.Slot.{Slot as SlotOf};
 ghost use Rattle.sym_policy.specs.Held.{failures_of, internal_route, ospf_of, ospf_end};
 ghost use Rattle.sym_policy.specs.Records.{prefix_of as prefix_read};
@@ -19,7 +18,7 @@ ghost use Rattle.term_store.specs.Reading.{Reads, Builds, Gives};
 ghost use Rattle.term_arith.specs.Bits.{ids_end};
 
 use mw_text::List;
-use net_model::ospf::advertisement;
+use net_parts::ospf::advertisement;
 use net_model::{Net, OspfInterface};
 use std::alloc::{AllocError, Global};
 use sym_ospf::{known_ospf, sym_up};
@@ -72,7 +71,7 @@ fn put_origin(
     ensures builds { Builds terms.old terms.new }
     ensures within { OnOk result (list_end ospf_end made.new ≤ size terms.new) }
     ensures value { Gives terms.new result (λ w _. filter_map (ospf_of w) made.new
-        ≡ filter_map (ospf_of w) made.old ++ option_to_list (origin_by net.now (failures_of w sym.now) router
+        ≡ filter_map (ospf_of w) made.old ++ option_to_list (origin_by net.now.files (failures_of w sym.now) router
         (prefix_read w dst.now len) x.now)) }
 {
     if x.at.id.router != router {
@@ -104,8 +103,8 @@ fn by_interfaces(
     ensures builds { Builds terms.old terms.new }
     ensures within { IfOk result (λ r. list_end ospf_end r ≤ size terms.new) }
     ensures value { Gives terms.new result (λ w r. filter_map (ospf_of w) r
-        ≡ origins_by net.now (failures_of w sym.now) router (prefix_read w dst.now len)
-        (model.ospf_interfaces net.now)) }
+        ≡ origins_by net.now.files (failures_of w sym.now) router (prefix_read w dst.now len)
+        (model.ospf_interfaces net.now.files)) }
 {
     let interfaces = net.ospf_interfaces();
     let mut made = List::new(alloc);
@@ -143,14 +142,14 @@ pub fn own_routes(
     requires wide { length dst.now.nodes.items ≡ 32 }
     requires nodes { ids_end dst.now.nodes.items ≤ size terms.old }
     requires down { ids_end sym.now.down ≤ size terms.old }
-    requires rows { HasTracked (tracked_of net.now) slot.now.bgp }
+    requires rows { HasTracked net.now.tracked slot.now.bgp }
     requires slot { slot_end slot.now ≤ size terms.old }
     ensures builds { Builds terms.old terms.new }
     ensures within { IfOk result (λ r. list_end ospf_end r ≤ size terms.new) }
     ensures value { Gives terms.new result (λ w r. (file : FileOf) (process : OspfOf) (held : SlotOf) →
-        slice_get net.now router ≡ Some file → file.ospf ≡ Some process →
-        StandsForSlot w (tracked_of net.now) slot.now held → filter_map (ospf_of w) r
-        ≡ own_origins net.now (failures_of w sym.now) router file process (prefix_read w dst.now len) held) }
+        slice_get net.now.files router ≡ Some file → file.ospf ≡ Some process →
+        StandsForSlot w net.now.tracked slot.now held → filter_map (ospf_of w) r
+        ≡ own_origins net.now.files (failures_of w sym.now) router file process (prefix_read w dst.now len) held) }
 {
     let own = by_interfaces(alloc, terms, net, sym, router, dst, len)?;
     let taken = sym_redistribute(alloc, terms, net, router, dst, len, slot)?;

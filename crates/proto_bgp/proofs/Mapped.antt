@@ -4,7 +4,7 @@ use Rattle.std.specs.Option.{option_and_then, option_map}
 use Rattle.policy_eval.specs.Attributes as policies
 use Rattle.policy_eval.specs.Routes.{as_map_rec}
 use Rattle.route_record.specs.declared.BgpRec.{BgpRec}
-use Rattle.net_model.specs.Mapping.{attributes_of}
+use Rattle.net_parts.specs.Mapping.{attributes_of}
 
 -- both readings of a route's attributes are one
 pub same_attributes : (rec : BgpRec) → policies.attributes_of (as_map_rec rec) ≡ attributes_of rec

@@ -9,14 +9,15 @@ use Rattle.ios_ast.specs.declared.bgp.Neighbour.{Neighbour}
 use Rattle.ios_ast.specs.declared.file.File.{File}
 use Rattle.mw_text.specs.declared.address.Addr.{Addr}
 use Rattle.mw_text.specs.declared.address.Prefix.{Prefix}
-use Rattle.net_model.specs.declared.sessions.SessionEnd.{SessionEnd}
-use Rattle.net_model.specs.Sessions.{neighbour_of}
+use Rattle.net_parts.specs.declared.sessions.SessionEnd.{SessionEnd}
+use Rattle.net_parts.specs.Sessions.{neighbour_of}
 use Rattle.route_record.specs.declared.BgpMsg.{BgpMsg}
 use Rattle.route_record.specs.declared.BgpRec.{BgpRec}
-use Rattle.net_model.specs.Exports as exports
+use Rattle.net_parts.specs.Exports as exports
 use Rattle.route_record.specs.Origins.{origin_of_code}
 use Rattle.route_record.proofs.OriginCodes.{code_back}
-use Rattle.net_model.specs.Mapping.{attributes_of, through_map, with_attributes}
+use Rattle.ios_ast.specs.Maps.{through_map}
+use Rattle.net_parts.specs.Mapping.{attributes_of, with_attributes}
 
 -- a message of what a map leaves is one of the route that it makes
 then_made : {A B C : Type 0} (g : A → B) (h : A → C) (k : B → C) (found : Option A) (made : B) →

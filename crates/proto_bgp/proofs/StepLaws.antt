@@ -8,9 +8,9 @@ use Rattle.std.proofs.lemmas.List.Elements.{All-filter, All-push, filter_map-app
 use Rattle.std.proofs.lemmas.List.Kept.{AllPairs-filter}
 use Rattle.std.proofs.lemmas.List.Quantifiers.{all_pairs_push}
 use Rattle.std.proofs.lemmas.Option.{slice_get_cases}
-use Rattle.net_model.specs.Decisions as decisions
+use Rattle.net_parts.specs.Decisions as decisions
 use Rattle.proto_bgp.specs.declared.decision.Candidate.{Candidate}
-use Rattle.net_model.specs.declared.steps.Step.{Step}
+use Rattle.net_parts.specs.declared.steps.Step.{Step}
 use Rattle.proto_bgp.specs.Places.{ArePlaces, candidate_at, candidates_at, places_left, removes, removes_at}
 use Rattle.proto_bgp.specs.Steps.{seen}
 

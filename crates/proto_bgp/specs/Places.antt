@@ -2,9 +2,9 @@
 use Rattle.std.specs.Prelude.{ℕ, ◌<◌, All, AllPairs, Bool, false, not, List, filter, slice_get, Option, option_map}
 use Rattle.std.specs.List.{filter_map, list_any}
 use Rattle.std.specs.Option.{option_map_or}
-use Rattle.net_model.specs.Decisions as decisions
+use Rattle.net_parts.specs.Decisions as decisions
 use Rattle.proto_bgp.specs.declared.decision.Candidate.{Candidate}
-use Rattle.net_model.specs.declared.steps.Step.{Step}
+use Rattle.net_parts.specs.declared.steps.Step.{Step}
 use Rattle.proto_bgp.specs.Steps.{seen}
 
 -- the candidate at a place

@@ -2,8 +2,8 @@
 use Rattle.std.specs.Prelude.{◌≡◌, List, option_and_then}
 use Rattle.ios_ast.specs.declared.file.File.{File}
 use Rattle.route_record.specs.declared.BgpRec.{BgpRec}
-use Rattle.net_model.specs.declared.sessions.SessionEnd.{SessionEnd}
-use Rattle.net_model.specs.Exports.{learnt_id, learnt_over, own_address, router_id}
+use Rattle.net_parts.specs.declared.sessions.SessionEnd.{SessionEnd}
+use Rattle.net_parts.specs.Exports.{learnt_id, learnt_over, own_address, router_id}
 use Rattle.proto_bgp.specs.declared.speaker.Speaker.{Speaker}
 
 -- the speaker's address and identifiers are those at the end, and the route was learnt over that end

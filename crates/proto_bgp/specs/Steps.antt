@@ -1,5 +1,5 @@
 -- A candidate as the decision process sees it.
-use Rattle.net_model.specs.Decisions as decisions
+use Rattle.net_parts.specs.Decisions as decisions
 use Rattle.proto_bgp.specs.declared.decision.Candidate.{Candidate}
 
 abbrev pub seen : Candidate → decisions.Candidate

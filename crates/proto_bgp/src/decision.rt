@@ -3,7 +3,7 @@
 ghost use Rattle.std.specs.Prelude.{◌≡◌, false, IfOk, fold, length, map};
 ghost use Rattle.std.specs.List.{list_any};
 ghost use Rattle.std.specs.Option.{option_map_or};
-ghost use Rattle.net_model.specs.Decisions as decisions;
+ghost use Rattle.net_parts.specs.Decisions as decisions;
 ghost use Rattle.proto_bgp.specs.Places.{ArePlaces, candidate_at, candidates_at, removes_at, places_left};
 ghost use Rattle.proto_bgp.specs.Steps.{seen};
 

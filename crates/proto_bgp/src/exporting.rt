@@ -5,9 +5,9 @@ ghost use Rattle.std.specs.List.{list_any};
 ghost use Rattle.std.specs.Option.{option_copied, option_map_or};
 ghost use Rattle.ios_ast.specs.Deciding.{carries};
 ghost use Rattle.ios_ast.specs.Maps.{deciding};
-ghost use Rattle.net_model.specs.Exports as exports;
-ghost use Rattle.net_model.specs.Mapping as mapping;
-ghost use Rattle.net_model.specs.Sessions.{ends_of};
+ghost use Rattle.net_parts.specs.Exports as exports;
+ghost use Rattle.net_parts.specs.Mapping as mapping;
+ghost use Rattle.net_parts.specs.Sessions.{ends_of};
 ghost use Rattle.policy_eval.specs.Attributes as policy;
 ghost use Rattle.proto_bgp.specs.Sending.{Speaks};
 
@@ -18,7 +18,7 @@ use crate::speaker::{
 };
 use ios_ast::{Bgp, File, MapEntry, Neighbour, Policies, SetAct, Use};
 use mw_text::{Addr, List, Prefix};
-use net_model::ends::{file_of, neighbour_of};
+use net_parts::ends::{file_of, neighbour_of};
 use net_model::{Net, SessionEnd};
 use policy_eval::{copy_list, copy_route, deciding_entry, map_named, map_rec};
 use route_record::{BgpMsg, BgpRec, MapRec};
@@ -287,7 +287,7 @@ fn mapped_out(
 }
 
 /// What the router at an end sends over the session of the route that it holds for the prefix, if anything.
-#[tactic(auto, unfolding(net_model::specs::Exports::exported))]
+#[tactic(auto, unfolding(net_parts::specs::Exports::exported))]
 fn exported(
     alloc: Global,
     files: &[File],
@@ -342,9 +342,9 @@ pub fn export(
     p: &Prefix,
     held: &BgpRec,
 ) -> Result<Option<BgpMsg>, AllocError>
-    requires within { end < length (ends_of net.now) }
+    requires within { end < length (ends_of net.now.files) }
     ensures { IfOk result (λ msg. msg
-        ≡ option_and_then (λ at. exports.exported net.now at p.now held.now) (slice_get (ends_of net.now) end)) }
+        ≡ option_and_then (λ at. exports.exported net.now.files at p.now held.now) (slice_get (ends_of net.now.files) end)) }
 {
     let at = net.ends()[end as usize];
     let speaker = speaker_of(alloc, net, &at, held)?;

@@ -2,16 +2,16 @@
 
 ghost use Rattle.std.specs.Prelude.{◌≡◌, ◌==◌, ◌&&◌, false, not, ◌<◌, length, slice_get, IfOk, option_and_then, unwrap_or, if◌then◌else◌};
 ghost use Rattle.std.specs.Option.{option_map_or};
-ghost use Rattle.net_model.specs.Exports as exports;
-ghost use Rattle.net_model.specs.Mapping as mapping;
-ghost use Rattle.net_model.specs.Sessions.{ends_of};
+ghost use Rattle.net_parts.specs.Exports as exports;
+ghost use Rattle.net_parts.specs.Mapping as mapping;
+ghost use Rattle.net_parts.specs.Sessions.{ends_of};
 
 use crate::policies::{passes_paths, passes_prefixes, through_map};
 use crate::routers::{carries, has_id, is_reflector};
 use ios_ast::{Bgp, File, Neighbour, Policies};
 use mw_text::{Addr, Prefix};
-use net_model::ends::{file_of, neighbour_of};
-use net_model::router_ids::router_id;
+use net_parts::ends::{file_of, neighbour_of};
+use net_parts::router_ids::router_id;
 use net_model::{Net, SessionEnd};
 use policy_eval::copy_list;
 use route_record::{BgpMsg, BgpRec, Learnt};
@@ -133,7 +133,7 @@ fn mapped_in(
 
 /// What the router at an end makes of a message that it receives over the session, if it takes it. `own` is the
 /// router's identifier.
-#[tactic(auto, unfolding(net_model::specs::Exports::imported))]
+#[tactic(auto, unfolding(net_parts::specs::Exports::imported))]
 fn imported(
     alloc: Global,
     files: &[File],
@@ -171,9 +171,9 @@ pub fn import(
     p: &Prefix,
     msg: &BgpMsg,
 ) -> Result<Option<BgpRec>, AllocError>
-    requires within { end < length (ends_of net.now) }
+    requires within { end < length (ends_of net.now.files) }
     ensures { IfOk result (λ made. made
-        ≡ option_and_then (λ at. exports.imported net.now at p.now msg.now) (slice_get (ends_of net.now) end)) }
+        ≡ option_and_then (λ at. exports.imported net.now.files at p.now msg.now) (slice_get (ends_of net.now.files) end)) }
 {
     let at = net.ends()[end as usize];
     let own = router_id(alloc, net.routers(), net.addresses(), at.router)?;

@@ -1,8 +1,8 @@
 //! The lists and route maps of a neighbour.
 
 ghost use Rattle.std.specs.Prelude.{◌≡◌, ◌∷◌, IfOk, option_map};
-ghost use Rattle.net_model.specs.Exports as exports;
-ghost use Rattle.net_model.specs.Mapping as mapping;
+ghost use Rattle.net_parts.specs.Exports as exports;
+ghost use Rattle.net_parts.specs.Mapping as mapping;
 
 use ios_ast::{Policies, Use};
 use mw_text::{List, Prefix};

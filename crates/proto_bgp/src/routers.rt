@@ -3,7 +3,7 @@
 ghost use Rattle.std.specs.Prelude.{◌≡◌, ◌==◌};
 ghost use Rattle.std.specs.List.{list_any};
 ghost use Rattle.ios_ast.specs.Deciding.{carries};
-ghost use Rattle.net_model.specs.Exports as exports;
+ghost use Rattle.net_parts.specs.Exports as exports;
 
 use ios_ast::Bgp;
 use mw_text::Addr;

@@ -3,16 +3,16 @@
 ghost use Rattle.std.specs.Prelude.{◌≡◌, ◌==◌, ◌&&◌, false, IfOk, option_and_then};
 ghost use Rattle.std.specs.List.{find};
 ghost use Rattle.std.specs.Option.{option_map_or};
-ghost use Rattle.net_model.specs.Exports as exports;
-ghost use Rattle.net_model.specs.Interfaces.{addressed};
-ghost use Rattle.net_model.specs.Sessions as sessions;
+ghost use Rattle.net_parts.specs.Exports as exports;
+ghost use Rattle.net_interfaces.specs.Interfaces.{addressed};
+ghost use Rattle.net_parts.specs.Sessions as sessions;
 ghost use Rattle.proto_bgp.specs.Sending.{Speaks};
 
 use crate::policies::with_front;
 use ios_ast::{File, Neighbour};
 use mw_text::{Addr, List};
-use net_model::ends::learnt_over;
-use net_model::router_ids::router_id;
+use net_parts::ends::learnt_over;
+use net_parts::router_ids::router_id;
 use net_model::{Addressed, Far, IfaceId, Net, SessionEnd};
 use policy_eval::copy_list;
 use route_record::{BgpRec, Learnt};
@@ -168,7 +168,7 @@ pub fn speaker_of(
     end: &SessionEnd,
     held: &BgpRec,
 ) -> Result<Speaker, AllocError>
-    ensures { IfOk result (λ speaker. Speaks net.now end.now held.now speaker) }
+    ensures { IfOk result (λ speaker. Speaks net.now.files end.now held.now speaker) }
 {
     let files = net.routers();
     let from = learnt_over(files, net.ends(), end.router, held.from);

@@ -1,7 +1,7 @@
 //! The steps of the decision process (RFC 4271, section 9.1.2.2; RFC 4456, section 9; Cisco IOS, best path selection).
 
 ghost use Rattle.std.specs.Prelude.{◌≡◌, ◌==◌, ◌&&◌, ◌||◌, length, nat_lt, not};
-ghost use Rattle.net_model.specs.Decisions as decisions;
+ghost use Rattle.net_parts.specs.Decisions as decisions;
 ghost use Rattle.route_record.specs.Origins.{origin_code};
 ghost use Rattle.ios_ast.specs.Paths.{first_of};
 ghost use Rattle.proto_bgp.specs.Steps.{key, seen};

@@ -7,10 +7,10 @@ use Rattle.std.proofs.lemmas.List.Elements.{All-cons, All-filter, All-head, All-
 use Rattle.mw_text.specs.declared.address.Prefix.{Prefix}
 use Rattle.ios_ast.specs.declared.file.File.{File}
 use Rattle.route_record.specs.declared.Failures.{Failures}
-use Rattle.net_model.specs.declared.adjacencies.Adjacency.{Adjacency}
-use Rattle.net_model.specs.declared.ospf.OspfInterface.{OspfInterface}
-use Rattle.net_model.specs.Distances.{own_cost}
-use Rattle.net_model.specs.Ospf.{adjacencies, origin_interfaces, ospf_interfaces, up_adjacencies}
+use Rattle.net_parts.specs.declared.adjacencies.Adjacency.{Adjacency}
+use Rattle.net_parts.specs.declared.ospf.OspfInterface.{OspfInterface}
+use Rattle.net_parts.specs.Distances.{own_cost}
+use Rattle.net_parts.specs.Ospf.{adjacencies, origin_interfaces, ospf_interfaces, up_adjacencies}
 use Rattle.proto_ospf.specs.declared.rounds.Receiver.{Receiver}
 use Rattle.proto_ospf.specs.Rounds.{AreCheap, AtMost, everywhere, lower, nearest, of_router, over, receiver, rounds}
 

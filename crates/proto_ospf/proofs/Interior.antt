@@ -14,16 +14,16 @@ use Rattle.ios_ast.specs.declared.file.File.{File}
 use Rattle.ios_ast.specs.declared.file.Iface.{Iface}
 use Rattle.ios_ast.specs.declared.file.IfAddr.{IfAddr}
 use Rattle.route_record.specs.declared.Failures.{Failures}
-use Rattle.net_model.specs.declared.adjacencies.Adjacency.{Adjacency}
-use Rattle.net_model.specs.declared.interfaces.Addressed.{Addressed}
-use Rattle.net_model.specs.Distances.{distance_within, interior_distance, least, own_cost}
-use Rattle.net_model.specs.Interfaces.{addressed, addressed_from, addressed_iface, addressed_routers}
-use Rattle.net_model.specs.World.{is_up}
+use Rattle.net_parts.specs.declared.adjacencies.Adjacency.{Adjacency}
+use Rattle.net_interfaces.specs.declared.interfaces.Addressed.{Addressed}
+use Rattle.net_parts.specs.Distances.{distance_within, interior_distance, least, own_cost}
+use Rattle.net_interfaces.specs.Interfaces.{addressed, addressed_from, addressed_iface, addressed_routers}
+use Rattle.net_parts.specs.World.{is_up}
 use Rattle.mw_text.specs.Address.{same_prefix}
 use Rattle.mw_text.proofs.Lists.{all_flat_map, filter_none}
-use Rattle.net_model.specs.Ospf.{adjacencies, adjacencies_of, adjacency, advertisement, are_adjacent}
-use Rattle.net_model.specs.Ospf.{is_up_at, ospf_at, ospf_interfaces, up_adjacencies}
-use Rattle.net_model.proofs.LeastWalks.{ospf_at-same}
+use Rattle.net_parts.specs.Ospf.{adjacencies, adjacencies_of, adjacency, advertisement, are_adjacent}
+use Rattle.net_parts.specs.Ospf.{is_up_at, ospf_at, ospf_interfaces, up_adjacencies}
+use Rattle.net_parts.proofs.LeastWalks.{ospf_at-same}
 use Rattle.proto_ospf.specs.Rounds.{everywhere, interior_distances, lower, nearest, of_router, over, receiver, rounds}
 use Rattle.proto_ospf.proofs.Bounds.{all_filter_map}
 

@@ -4,9 +4,9 @@ use Rattle.mw_text.specs.declared.address.Prefix.{Prefix}
 use Rattle.mw_text.specs.Address.{same_prefix}
 use Rattle.ios_ast.specs.declared.file.File.{File}
 use Rattle.route_record.specs.declared.Failures.{Failures}
-use Rattle.net_model.specs.Distances.{least, own_cost}
-use Rattle.net_model.specs.Ospf.{advertisement, ospf_interfaces}
-use Rattle.net_model.specs.World.{is_up}
+use Rattle.net_parts.specs.Distances.{least, own_cost}
+use Rattle.net_parts.specs.Ospf.{advertisement, ospf_interfaces}
+use Rattle.net_parts.specs.World.{is_up}
 use Rattle.proto_ospf.specs.Origins.{least_cost, origins}
 
 -- a filter of what a filter keeps

@@ -7,8 +7,8 @@ use Rattle.mw_text.specs.declared.address.Prefix.{Prefix}
 use Rattle.mw_text.specs.Address.{covers}
 use Rattle.ios_ast.specs.declared.file.File.{File}
 use Rattle.route_record.specs.declared.Failures.{Failures}
-use Rattle.net_model.specs.Distances.{interior_distance}
-use Rattle.net_model.specs.Ospf.{advertised}
+use Rattle.net_parts.specs.Distances.{interior_distance}
+use Rattle.net_parts.specs.Ospf.{advertised}
 use Rattle.proto_ospf.specs.Reached.{all_reached, reached, to_first}
 use Rattle.proto_ospf.proofs.Interior.{interior_there}
 

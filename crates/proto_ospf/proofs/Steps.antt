@@ -8,10 +8,10 @@ use Rattle.mw_text.specs.declared.address.Prefix.{Prefix}
 use Rattle.mw_text.specs.Address.{covers}
 use Rattle.ios_ast.specs.declared.file.File.{File}
 use Rattle.route_record.specs.declared.Failures.{Failures}
-use Rattle.net_model.specs.declared.adjacencies.Adjacency.{Adjacency}
-use Rattle.net_model.specs.Distances.{interior_distance}
-use Rattle.net_model.specs.Ospf.{advertised}
-use Rattle.net_model.specs.Sending.{is_on_least_walk}
+use Rattle.net_parts.specs.declared.adjacencies.Adjacency.{Adjacency}
+use Rattle.net_parts.specs.Distances.{interior_distance}
+use Rattle.net_parts.specs.Ospf.{advertised}
+use Rattle.net_parts.specs.Sending.{is_on_least_walk}
 use Rattle.proto_ospf.specs.Reached.{all_reached, reached}
 use Rattle.proto_ospf.specs.Rounds.{interior_distances, of_router}
 use Rattle.proto_ospf.specs.Steps.{is_step, steps}

@@ -4,10 +4,10 @@ use Rattle.mw_text.specs.declared.address.Prefix.{Prefix}
 use Rattle.mw_text.specs.Address.{same_prefix}
 use Rattle.ios_ast.specs.declared.file.File.{File}
 use Rattle.route_record.specs.declared.Failures.{Failures}
-use Rattle.net_model.specs.declared.ospf.OspfInterface.{OspfInterface}
-use Rattle.net_model.specs.Distances.{least}
-use Rattle.net_model.specs.Ospf.{advertisement, ospf_interfaces}
-use Rattle.net_model.specs.World.{is_up}
+use Rattle.net_parts.specs.declared.ospf.OspfInterface.{OspfInterface}
+use Rattle.net_parts.specs.Distances.{least}
+use Rattle.net_parts.specs.Ospf.{advertisement, ospf_interfaces}
+use Rattle.net_parts.specs.World.{is_up}
 
 -- those that advertise it and are up
 abbrev pub origins : List File → Failures → Prefix → List OspfInterface

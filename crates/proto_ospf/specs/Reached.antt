@@ -6,7 +6,7 @@ use Rattle.mw_text.specs.declared.address.Prefix.{Prefix}
 use Rattle.mw_text.specs.Address.{covers}
 use Rattle.ios_ast.specs.declared.file.File.{File}
 use Rattle.route_record.specs.declared.Failures.{Failures}
-use Rattle.net_model.specs.Ospf.{advertised}
+use Rattle.net_parts.specs.Ospf.{advertised}
 use Rattle.proto_ospf.specs.declared.reached.Reached.{Reached}
 use Rattle.proto_ospf.specs.Rounds.{interior_distances, of_router}
 

@@ -6,9 +6,9 @@ use Rattle.std.specs.Option.{option_map_or}
 use Rattle.mw_text.specs.declared.address.Prefix.{Prefix}
 use Rattle.ios_ast.specs.declared.file.File.{File}
 use Rattle.route_record.specs.declared.Failures.{Failures}
-use Rattle.net_model.specs.declared.adjacencies.Adjacency.{Adjacency}
-use Rattle.net_model.specs.Distances.{interior_distance}
-use Rattle.net_model.specs.Ospf.{up_adjacencies}
+use Rattle.net_parts.specs.declared.adjacencies.Adjacency.{Adjacency}
+use Rattle.net_parts.specs.Distances.{interior_distance}
+use Rattle.net_parts.specs.Ospf.{up_adjacencies}
 use Rattle.proto_ospf.specs.declared.rounds.Receiver.{Receiver}
 
 -- the distance of a router

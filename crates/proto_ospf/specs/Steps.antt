@@ -4,7 +4,7 @@ use Rattle.std.specs.List.{find}
 use Rattle.std.specs.Option.{option_map_or}
 use Rattle.mw_text.specs.declared.address.Addr.{Addr}
 use Rattle.mw_text.specs.Address.{covers}
-use Rattle.net_model.specs.declared.adjacencies.Adjacency.{Adjacency}
+use Rattle.net_parts.specs.declared.adjacencies.Adjacency.{Adjacency}
 use Rattle.proto_ospf.specs.declared.reached.Reached.{Reached}
 use Rattle.proto_ospf.specs.Rounds.{of_router}
 

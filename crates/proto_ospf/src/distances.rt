@@ -2,22 +2,22 @@
 
 ghost use Rattle.std.specs.Prelude.{◌≡◌, ◌==◌, ◌&&◌, ◌<◌, ◌≤◌, All, IfOk, length};
 ghost use Rattle.mw_text.specs.Address.{same_prefix};
-ghost use Rattle.net_model.specs.Distances as distances;
-ghost use Rattle.net_model.specs.Ospf as ospf;
-ghost use Rattle.net_model.specs.World.{is_up as is_up_in};
+ghost use Rattle.net_parts.specs.Distances as distances;
+ghost use Rattle.net_parts.specs.Ospf as ospf;
+ghost use Rattle.net_parts.specs.World.{is_up as is_up_in};
 ghost use Rattle.proto_ospf.specs.Origins as specs;
 ghost use Rattle.proto_ospf.specs.Rounds.{everywhere, interior_distances, receiver};
 
 use crate::rounds::{MOST_COST, Receiver, distances_after, lower, of_router};
 use crate::states::receivers;
 use mw_text::{List, Prefix};
-use net_model::ospf::advertisement;
+use net_parts::ospf::advertisement;
 use net_model::{Net, OspfInterface};
 use route_record::Failures;
 use std::alloc::{AllocError, Global};
 
 fn is_origin(net: &Net, failures: &Failures, p: &Prefix, x: &OspfInterface) -> bool
-    ensures { result ≡ (same_prefix (ospf.advertisement x.now) p.now && is_up_in net.now failures.now x.now.at) }
+    ensures { result ≡ (same_prefix (ospf.advertisement x.now) p.now && is_up_in net.now.files failures.now x.now.at) }
 {
     advertisement(x) == *p && net.is_up_with(failures, &x.at)
 }
@@ -31,16 +31,16 @@ pub fn originates(
     x: &OspfInterface,
 ) -> bool
     ensures { result ≡ ((x.now.at.id.router == router)
-        && (same_prefix (ospf.advertisement x.now) p.now && is_up_in net.now failures.now x.now.at)) }
+        && (same_prefix (ospf.advertisement x.now) p.now && is_up_in net.now.files failures.now x.now.at)) }
 {
     x.at.id.router == router && is_origin(net, failures, p, x)
 }
 
 /// The least cost of an interface by which the router originates the prefix: one that advertises it and is up. None
 /// exactly where there is none.
-#[tactic(auto, unfolding(net_model::specs::Distances::own_cost))]
+#[tactic(auto, unfolding(net_parts::specs::Distances::own_cost))]
 pub fn own_cost(net: &Net, failures: &Failures, router: u32, p: &Prefix) -> Option<u32>
-    ensures { result ≡ distances.own_cost net.now failures.now p.now router }
+    ensures { result ≡ distances.own_cost net.now.files failures.now p.now router }
 {
     let mut best = None;
     for x in net.ospf_interfaces() {
@@ -58,7 +58,7 @@ fn origins(
     failures: &Failures,
     p: &Prefix,
 ) -> Result<Vec<OspfInterface>, AllocError>
-    ensures { IfOk result (λ all. all.items ≡ specs.origins net.now failures.now p.now) }
+    ensures { IfOk result (λ all. all.items ≡ specs.origins net.now.files failures.now p.now) }
 {
     net.ospf_interfaces()
         .iter()
@@ -88,7 +88,7 @@ fn own_costs(
     failures: &Failures,
     p: &Prefix,
 ) -> Result<List<Option<u32>>, AllocError>
-    ensures { IfOk result (λ own. own ≡ everywhere net.now (distances.own_cost net.now failures.now p.now)) }
+    ensures { IfOk result (λ own. own ≡ everywhere net.now.files (distances.own_cost net.now.files failures.now p.now)) }
 {
     let origins = origins(alloc, net, failures, p)?;
     let mut own = List::new(alloc);
@@ -109,11 +109,11 @@ fn least_sums(
     own: &[Option<u32>],
     p: &Prefix,
 ) -> Result<List<Option<u32>>, AllocError>
-    requires receivers { receivers.now ≡ everywhere net.now (receiver net.now failures.now) }
-    requires own { own.now ≡ everywhere net.now (distances.own_cost net.now failures.now p.now) }
-    requires costs { All (λ x. (0 < x.cost) × (x.cost ≤ MOST_COST)) (ospf.ospf_interfaces net.now) }
-    requires costs_over { All (λ a. (0 < a.cost) × (a.cost ≤ MOST_COST)) (ospf.adjacencies net.now) }
-    ensures { IfOk result (λ all. all ≡ interior_distances net.now failures.now p.now) }
+    requires receivers { receivers.now ≡ everywhere net.now.files (receiver net.now.files failures.now) }
+    requires own { own.now ≡ everywhere net.now.files (distances.own_cost net.now.files failures.now p.now) }
+    requires costs { All (λ x. (0 < x.cost) × (x.cost ≤ MOST_COST)) (ospf.ospf_interfaces net.now.files) }
+    requires costs_over { All (λ a. (0 < a.cost) × (a.cost ≤ MOST_COST)) (ospf.adjacencies net.now.files) }
+    ensures { IfOk result (λ all. all ≡ interior_distances net.now.files failures.now p.now) }
 {
     let _failed = failures.links.as_slice();
     let _to = *p;
@@ -129,8 +129,8 @@ pub fn distances_over(
     receivers: &[Receiver],
     to: &Prefix,
 ) -> Result<List<Option<u32>>, AllocError>
-    requires receivers { receivers.now ≡ everywhere net.now (receiver net.now failures.now) }
-    ensures { IfOk result (λ all. all ≡ interior_distances net.now failures.now to.now) }
+    requires receivers { receivers.now ≡ everywhere net.now.files (receiver net.now.files failures.now) }
+    ensures { IfOk result (λ all. all ≡ interior_distances net.now.files failures.now to.now) }
 {
     let own = own_costs(alloc, net, failures, to)?;
     let _running = net.ospf_interfaces();
@@ -146,7 +146,7 @@ pub fn distances_to(
     failures: &Failures,
     to: &Prefix,
 ) -> Result<List<Option<u32>>, AllocError>
-    ensures { IfOk result (λ all. all ≡ interior_distances net.now failures.now to.now) }
+    ensures { IfOk result (λ all. all ≡ interior_distances net.now.files failures.now to.now) }
 {
     let routers = receivers(alloc, net, failures)?;
     distances_over(alloc, net, failures, routers.as_slice(), to)
@@ -162,7 +162,7 @@ pub fn igp_distance(
     router: u32,
     to: &Prefix,
 ) -> Result<Option<u32>, AllocError>
-    ensures { IfOk result (λ d. d ≡ distances.interior_distance net.now failures.now router to.now) }
+    ensures { IfOk result (λ d. d ≡ distances.interior_distance net.now.files failures.now router to.now) }
 {
     let all = distances_to(alloc, net, failures, to)?;
     Ok(of_router(all.as_slice(), router))

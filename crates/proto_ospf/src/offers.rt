@@ -1,7 +1,7 @@
 //! OSPF routes as they are offered and preferred (RFC 2328, section 16.4).
 
 ghost use Rattle.std.specs.Prelude.{◌≡◌, ◌<◌, ◌≤◌, ◌+◌, ◌^◌, Some};
-ghost use Rattle.net_model.specs.OspfRoutes as routes;
+ghost use Rattle.net_parts.specs.OspfRoutes as routes;
 
 use route_record::{OspfKind, OspfRec};
 

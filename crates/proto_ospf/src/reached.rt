@@ -3,7 +3,7 @@
 ghost use Rattle.std.specs.Prelude.{◌≡◌, IfOk};
 ghost use Rattle.std.specs.List.{find};
 ghost use Rattle.mw_text.specs.Address.{covers};
-ghost use Rattle.net_model.specs.Resolution.{resolved};
+ghost use Rattle.net_parts.specs.Resolution.{resolved};
 ghost use Rattle.proto_ospf.specs.Reached.{all_reached, to_first};
 ghost use Rattle.proto_ospf.specs.Reached as specs;
 
@@ -28,7 +28,7 @@ pub fn all_distances(
     net: &Net,
     failures: &Failures,
 ) -> Result<List<Reached>, AllocError>
-    ensures { IfOk result (λ all. all ≡ all_reached net.now failures.now) }
+    ensures { IfOk result (λ all. all ≡ all_reached net.now.files failures.now) }
 {
     let routers = receivers(alloc, net, failures)?;
     let mut all = List::new(alloc);
@@ -52,7 +52,7 @@ fn to_first(all: &[Reached], router: u32, a: Addr) -> Option<u32>
 
 /// The cost to an address, over these distances: 0 where it is on a subnet of an interface of the router that is up, else
 /// the interior distance to the advertised prefix that contains it. None exactly where it is not resolved.
-#[tactic(auto, using(crate::proofs::Resolved::first_is), unfolding(net_model::specs::Resolution::resolved))]
+#[tactic(auto, using(crate::proofs::Resolved::first_is), unfolding(net_parts::specs::Resolution::resolved))]
 pub fn resolve_over(
     net: &Net,
     failures: &Failures,
@@ -60,8 +60,8 @@ pub fn resolve_over(
     router: u32,
     a: Addr,
 ) -> Option<u32>
-    requires all { all.now ≡ all_reached net.now failures.now }
-    ensures { result ≡ resolved net.now failures.now router a }
+    requires all { all.now ≡ all_reached net.now.files failures.now }
+    ensures { result ≡ resolved net.now.files failures.now router a }
 {
     if net.is_reached(failures, router, a) {
         return Some(0);
@@ -78,7 +78,7 @@ fn first_over(advertised: &[Prefix], a: Addr) -> Option<Prefix>
 /// The cost to an address: 0 where it is on a subnet of an interface of the router that is up, else the interior distance
 /// to the advertised prefix that contains it. None exactly where it is not resolved. Of many addresses `resolve_over`
 /// answers the same over one table.
-#[tactic(auto, unfolding(net_model::specs::Resolution::resolved))]
+#[tactic(auto, unfolding(net_parts::specs::Resolution::resolved))]
 pub fn resolve(
     alloc: Global,
     net: &Net,
@@ -86,7 +86,7 @@ pub fn resolve(
     router: u32,
     a: Addr,
 ) -> Result<Option<u32>, AllocError>
-    ensures { IfOk result (λ cost. cost ≡ resolved net.now failures.now router a) }
+    ensures { IfOk result (λ cost. cost ≡ resolved net.now.files failures.now router a) }
 {
     if net.is_reached(failures, router, a) {
         return Ok(Some(0));

@@ -1,7 +1,7 @@
 //! Over which adjacencies a packet goes on towards an address that OSPF resolves.
 
 ghost use Rattle.std.specs.Prelude.{◌≡◌, IfOk, filter};
-ghost use Rattle.net_model.specs.Sending as sending;
+ghost use Rattle.net_parts.specs.Sending as sending;
 ghost use Rattle.proto_ospf.specs.Reached.{all_reached};
 ghost use Rattle.proto_ospf.specs.Steps as specs;
 
@@ -66,7 +66,7 @@ fn steps(
 
 /// The adjacencies over which a router sends towards an address, over these distances: each that is up and begins a least
 /// walk to the advertised prefix that contains the address; no one where none does.
-#[tactic(auto, using(crate::proofs::Steps::steps_are), unfolding(net_model::specs::Sending::sent_towards))]
+#[tactic(auto, using(crate::proofs::Steps::steps_are), unfolding(net_parts::specs::Sending::sent_towards))]
 pub fn sent_towards(
     alloc: Global,
     net: &Net,
@@ -75,8 +75,8 @@ pub fn sent_towards(
     router: u32,
     a: Addr,
 ) -> Result<List<Adjacency>, AllocError>
-    requires all { all.now ≡ all_reached net.now failures.now }
-    ensures { IfOk result (λ over. over ≡ sending.sent_towards net.now failures.now router a) }
+    requires all { all.now ≡ all_reached net.now.files failures.now }
+    ensures { IfOk result (λ over. over ≡ sending.sent_towards net.now.files failures.now router a) }
 {
     let up = up_adjacencies(alloc, net, failures, router)?;
     steps(alloc, all, up.as_slice(), router, a)

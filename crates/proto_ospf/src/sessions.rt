@@ -2,8 +2,8 @@
 
 ghost use Rattle.std.specs.Prelude.{◌≡◌, ◌&&◌, ◌<◌, IfOk, Some, false, is_some, length, map, option_and_then, option_map, slice_get};
 ghost use Rattle.std.specs.Option.{option_map_or};
-ghost use Rattle.net_model.specs.Resolution as resolution;
-ghost use Rattle.net_model.specs.Sessions.{ends_of, neighbour_of};
+ghost use Rattle.net_parts.specs.Resolution as resolution;
+ghost use Rattle.net_parts.specs.Sessions.{ends_of, neighbour_of};
 ghost use Rattle.proto_ospf.specs.Reached.{all_reached};
 
 use crate::reached::{Reached, all_distances, resolve_over};
@@ -33,7 +33,7 @@ fn addr_in(file: &File, at: u32) -> Option<Addr>
 
 /// The address of the neighbour of an end.
 pub fn neighbour_addr(net: &Net, end: &SessionEnd) -> Option<Addr>
-    ensures { result ≡ option_map (λ neighbour. neighbour.addr) (neighbour_of net.now end.now) }
+    ensures { result ≡ option_map (λ neighbour. neighbour.addr) (neighbour_of net.now.files end.now) }
 {
     match net.routers().get(end.router as usize) {
         None => None,
@@ -42,8 +42,8 @@ pub fn neighbour_addr(net: &Net, end: &SessionEnd) -> Option<Addr>
 }
 
 fn resolves_neighbour(net: &Net, failures: &Failures, all: &[Reached], end: &SessionEnd) -> bool
-    requires all { all.now ≡ all_reached net.now failures.now }
-    ensures { result ≡ resolution.resolves_neighbour net.now failures.now end.now }
+    requires all { all.now ≡ all_reached net.now.files failures.now }
+    ensures { result ≡ resolution.resolves_neighbour net.now.files failures.now end.now }
 {
     match neighbour_addr(net, end) {
         None => false,
@@ -58,9 +58,9 @@ fn resolve_each_other(
     end: &SessionEnd,
     far: &SessionEnd,
 ) -> bool
-    requires all { all.now ≡ all_reached net.now failures.now }
-    ensures { result ≡ (resolution.resolves_neighbour net.now failures.now end.now
-        && resolution.resolves_neighbour net.now failures.now far.now) }
+    requires all { all.now ≡ all_reached net.now.files failures.now }
+    ensures { result ≡ (resolution.resolves_neighbour net.now.files failures.now end.now
+        && resolution.resolves_neighbour net.now.files failures.now far.now) }
 {
     resolves_neighbour(net, failures, all, end) && resolves_neighbour(net, failures, all, far)
 }
@@ -72,8 +72,8 @@ fn is_up_between(
     end: &SessionEnd,
     far: &SessionEnd,
 ) -> bool
-    requires all { all.now ≡ all_reached net.now failures.now }
-    ensures { result ≡ resolution.is_up_between net.now failures.now end.now far.now }
+    requires all { all.now ≡ all_reached net.now.files failures.now }
+    ensures { result ≡ resolution.is_up_between net.now.files failures.now end.now far.now }
 {
     net.is_up(failures, end.own)
         && net.is_up(failures, far.own)
@@ -82,10 +82,10 @@ fn is_up_between(
 
 /// Whether the session of an end is up, over these distances: towards an external peer where the router's own interface
 /// is; towards another router where both interfaces are, and, over no shared subnet, where both resolve each other.
-#[tactic(auto, unfolding(net_model::specs::Resolution::session_up))]
+#[tactic(auto, unfolding(net_parts::specs::Resolution::session_up))]
 pub fn is_up_at_end(net: &Net, failures: &Failures, all: &[Reached], end: &SessionEnd) -> bool
-    requires all { all.now ≡ all_reached net.now failures.now }
-    ensures { result ≡ resolution.session_up net.now failures.now end.now }
+    requires all { all.now ≡ all_reached net.now.files failures.now }
+    ensures { result ≡ resolution.session_up net.now.files failures.now end.now }
 {
     match end.far {
         Far::Outside => net.is_up(failures, end.own),
@@ -103,8 +103,8 @@ pub fn sessions_up(
     failures: &Failures,
     all: &[Reached],
 ) -> Result<List<bool>, AllocError>
-    requires all { all.now ≡ all_reached net.now failures.now }
-    ensures { IfOk result (λ up. up ≡ map (resolution.session_up net.now failures.now) (ends_of net.now)) }
+    requires all { all.now ≡ all_reached net.now.files failures.now }
+    ensures { IfOk result (λ up. up ≡ map (resolution.session_up net.now.files failures.now) (ends_of net.now.files)) }
 {
     let mut up = List::new(alloc);
     for end in net.ends() {
@@ -122,8 +122,8 @@ pub fn session_up(
     failures: &Failures,
     end: u32,
 ) -> Result<bool, AllocError>
-    requires within { end < length (ends_of net.now) }
-    ensures { IfOk result (λ up. option_map (resolution.session_up net.now failures.now) (slice_get (ends_of net.now) end) ≡ Some up) }
+    requires within { end < length (ends_of net.now.files) }
+    ensures { IfOk result (λ up. option_map (resolution.session_up net.now.files failures.now) (slice_get (ends_of net.now.files) end) ≡ Some up) }
 {
     let all = all_distances(alloc, net, failures)?;
     let ends = net.ends();

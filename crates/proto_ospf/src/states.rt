@@ -1,7 +1,7 @@
 //! Which interfaces and adjacencies are up while some links have failed.
 
 ghost use Rattle.std.specs.Prelude.{◌≡◌, ◌==◌, ◌&&◌, filter, IfOk};
-ghost use Rattle.net_model.specs.Ospf as ospf;
+ghost use Rattle.net_parts.specs.Ospf as ospf;
 ghost use Rattle.proto_ospf.specs.Rounds.{everywhere, receiver};
 
 use crate::rounds::Receiver;
@@ -12,20 +12,20 @@ use std::alloc::{AllocError, Global};
 
 fn is_up_over(net: &Net, failures: &Failures, router: u32, a: &Adjacency) -> bool
     ensures { result ≡ ((a.now.from.router == router)
-        && (ospf.is_up_at net.now failures.now a.now.from && ospf.is_up_at net.now failures.now a.now.to)) }
+        && (ospf.is_up_at net.now.files failures.now a.now.from && ospf.is_up_at net.now.files failures.now a.now.to)) }
 {
     a.from.router == router && net.is_up(failures, a.from) && net.is_up(failures, a.to)
 }
 
 /// The adjacencies over which a router receives and that are up: both interfaces are (RFC 2328, section 9).
-#[tactic(auto, unfolding(net_model::specs::Ospf::up_adjacencies))]
+#[tactic(auto, unfolding(net_parts::specs::Ospf::up_adjacencies))]
 pub fn up_adjacencies(
     alloc: Global,
     net: &Net,
     failures: &Failures,
     router: u32,
 ) -> Result<List<Adjacency>, AllocError>
-    ensures { IfOk result (λ up. up ≡ ospf.up_adjacencies net.now failures.now router) }
+    ensures { IfOk result (λ up. up ≡ ospf.up_adjacencies net.now.files failures.now router) }
 {
     let mut up = List::new(alloc);
     for a in net.adjacencies() {
@@ -43,7 +43,7 @@ pub fn receivers(
     net: &Net,
     failures: &Failures,
 ) -> Result<List<Receiver>, AllocError>
-    ensures { IfOk result (λ routers. routers ≡ everywhere net.now (receiver net.now failures.now)) }
+    ensures { IfOk result (λ routers. routers ≡ everywhere net.now.files (receiver net.now.files failures.now)) }
 {
     let mut routers = List::new(alloc);
     for router in 0..net.routers().len() {

@@ -2,7 +2,7 @@
 use Rattle.std.proofs.Common.{◌≡◌, ◌∙◌, List, ◌++◌, Option, None, fold, ap}
 use Rattle.std.proofs.lemmas.List.Sums.{fold-append}
 use Rattle.route_record.specs.declared.RibEntry.{RibEntry}
-use Rattle.net_model.specs.Routing.{closer, least_distance}
+use Rattle.net_parts.specs.Routing.{closer, least_distance}
 
 -- the entries of four sources, taken in their turn
 pub in_turn : (direct statics bgp ospf : List RibEntry) →

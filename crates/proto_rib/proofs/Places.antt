@@ -18,19 +18,19 @@ use Rattle.route_record.specs.declared.RibEntry.{RibEntry}
 use Rattle.route_record.specs.declared.Slot.{Slot}
 use Rattle.route_record.specs.Fits.{FitsSlot}
 use Rattle.route_record.specs.declared.Tables.{Tables}
-use Rattle.net_model.specs.declared.interfaces.Addressed.{Addressed}
-use Rattle.net_model.specs.Interfaces.{addressed}
-use Rattle.net_model.proofs.Defined.{no_protocol}
-use Rattle.net_model.specs.Network.{runs_no_protocol}
-use Rattle.net_model.specs.Decisions.{DecidedByBgp}
-use Rattle.net_model.specs.Entries.{bgp_entry, entry_with, ospf_entry, own_is_as_good, table_entry}
-use Rattle.net_model.specs.OspfRoutes.{held_by_ospf}
-use Rattle.net_model.specs.Routing.{candidates, least_distance, open_interfaces}
+use Rattle.net_interfaces.specs.declared.interfaces.Addressed.{Addressed}
+use Rattle.net_interfaces.specs.Interfaces.{addressed}
+use Rattle.net_parts.proofs.Defined.{no_protocol}
+use Rattle.net_parts.specs.Protocols.{runs_no_protocol}
+use Rattle.net_parts.specs.Decisions.{DecidedByBgp}
+use Rattle.net_parts.specs.Entries.{bgp_entry, entry_with, ospf_entry, own_is_as_good, table_entry}
+use Rattle.net_parts.specs.OspfRoutes.{held_by_ospf}
+use Rattle.net_parts.specs.Routing.{candidates, least_distance, open_interfaces}
 use Rattle.std.specs.Option.{option_to_list}
-use Rattle.net_model.specs.World.{no_failures}
+use Rattle.net_parts.specs.World.{no_failures}
 use Rattle.route_record.specs.declared.TheConstants.{LENGTHS}
 use Rattle.route_record.specs.Places.{slot_at}
-use Rattle.net_model.specs.Stable.{IsStableSlot, Stable}
+use Rattle.net_parts.specs.Stable.{IsStableSlot, Stable}
 use Rattle.proto_rib.specs.Unfailed.{slot_over, IsSlotFor, IsSlotAt}
 
 slot_by_parts : (a b : Slot) → a.ospf ≡ b.ospf → a.bgp ≡ b.bgp → a.rib ≡ b.rib → a ≡ b

@@ -8,8 +8,8 @@ use Rattle.route_record.specs.declared.Failures.{Failures}
 use Rattle.route_record.specs.declared.OspfRec.{OspfRec}
 use Rattle.route_record.specs.declared.RibEntry.{RibEntry}
 use Rattle.route_record.specs.declared.Slot.{Slot}
-use Rattle.net_model.specs.Entries.{entry_with}
-use Rattle.net_model.specs.Origins.{local_routes, redistributed}
+use Rattle.net_parts.specs.Entries.{entry_with}
+use Rattle.net_parts.specs.Origins.{local_routes, redistributed}
 
 -- the local routes of the BGP process of the router at that place, none where it runs no BGP
 abbrev pub local_routes_at : List File → ℕ → Prefix → Slot → List BgpRec

@@ -5,9 +5,9 @@ use Rattle.mw_text.specs.declared.address.Prefix.{Prefix}
 use Rattle.mw_text.specs.Address.{prefix_at}
 use Rattle.ios_ast.specs.declared.file.File.{File}
 use Rattle.route_record.specs.declared.Slot.{Slot}
-use Rattle.net_model.specs.declared.interfaces.Addressed.{Addressed}
-use Rattle.net_model.specs.Interfaces.{addressed}
-use Rattle.net_model.specs.Routing.{candidates, least_distance, open_interfaces}
+use Rattle.net_interfaces.specs.declared.interfaces.Addressed.{Addressed}
+use Rattle.net_interfaces.specs.Interfaces.{addressed}
+use Rattle.net_parts.specs.Routing.{candidates, least_distance, open_interfaces}
 use Rattle.route_record.specs.declared.TheConstants.{LENGTHS}
 
 -- the slot of a router for a prefix, over all interfaces with an address

@@ -2,9 +2,9 @@
 
 ghost use Rattle.std.specs.Prelude.{◌≡◌, ◌∷◌, [], None, fold, map, option_and_then, option_map, if◌then◌else◌};
 ghost use Rattle.std.specs.Option.{option_to_list};
-ghost use Rattle.net_model.specs.Entries as entries;
-ghost use Rattle.net_model.specs.Exports as exports;
-ghost use Rattle.net_model.specs.Routing as routing;
+ghost use Rattle.net_parts.specs.Entries as entries;
+ghost use Rattle.net_parts.specs.Exports as exports;
+ghost use Rattle.net_parts.specs.Routing as routing;
 ghost use Rattle.proto_rib.specs.Taken.{entry_at};
 
 use crate::tables::closer_of;
@@ -16,7 +16,7 @@ use route_record::{BgpRec, Failures, RibEntry, RibSource, Slot};
 // Whether a static route counts: it goes to Null0 or its next hop is on the subnet of an interface that is up, and its
 // distance is not 255.
 fn counts(net: &Net, failures: &Failures, router: u32, route: &StaticRoute) -> bool
-    ensures { result ≡ routing.counts (routing.up_interfaces net.now failures.now router) route.now }
+    ensures { result ≡ routing.counts (routing.up_interfaces net.now.files failures.now router) route.now }
 {
     route.distance != 255
         && match &route.via {
@@ -28,7 +28,7 @@ fn counts(net: &Net, failures: &Failures, router: u32, route: &StaticRoute) -> b
 
 // The candidate of a connected subnet.
 fn connected(net: &Net, failures: &Failures, router: u32, p: &Prefix) -> Option<RibEntry>
-    ensures { result ≡ fold routing.closer None (if routing.is_direct (routing.up_interfaces net.now failures.now router) p.now
+    ensures { result ≡ fold routing.closer None (if routing.is_direct (routing.up_interfaces net.now.files failures.now router) p.now
         then record { source = RibSource.Connected; distance = 0 } ∷ [] else []) }
 {
     if net.is_direct(failures, router, p) {
@@ -51,7 +51,7 @@ fn best_static(
     first: Option<RibEntry>,
 ) -> Option<RibEntry>
     ensures { result ≡ fold routing.closer first (map (λ route. record { source = RibSource.Static; distance = route.distance })
-        (routing.static_routes (routing.up_interfaces net.now failures.now router) statics.now p.now)) }
+        (routing.static_routes (routing.up_interfaces net.now.files failures.now router) statics.now p.now)) }
 {
     let mut best = first;
     for route in statics {
@@ -70,7 +70,7 @@ fn best_static(
 fn bgp_entry(net: &Net, router: u32, held: &Option<BgpRec>) -> Option<RibEntry>
     ensures { result ≡ option_and_then (λ h. option_map (λ end.
         if end.internal then record { source = RibSource.Ibgp; distance = 200 } else record { source = RibSource.Ebgp; distance = 20 })
-        (exports.learnt_over net.now router h.from)) held.now }
+        (exports.learnt_over net.now.files router h.from)) held.now }
 {
     let rec = held.as_ref()?;
     let end = net.learnt_over(router, rec.from)?;
@@ -110,7 +110,7 @@ fn closer_to(best: Option<RibEntry>, other: Option<RibEntry>) -> Option<RibEntry
     }
 }
 
-#[tactic(auto, using(crate::proofs::Entries::in_turn), unfolding(net_model::specs::Entries::entry_with))]
+#[tactic(auto, using(crate::proofs::Entries::in_turn), unfolding(net_parts::specs::Entries::entry_with))]
 fn entry_of(
     net: &Net,
     failures: &Failures,
@@ -120,7 +120,7 @@ fn entry_of(
     slot: &Slot,
     own: bool,
 ) -> Option<RibEntry>
-    ensures { result ≡ entries.entry_with net.now failures.now router file.now p.now slot.now own }
+    ensures { result ≡ entries.entry_with net.now.files failures.now router file.now p.now slot.now own }
 {
     let direct = connected(net, failures, router, p);
     let best = best_static(net, failures, router, file.statics.as_slice(), p, direct);
@@ -139,7 +139,7 @@ pub fn best_entry(
     slot: &Slot,
     own_ospf: bool,
 ) -> Option<RibEntry>
-    ensures { result ≡ entry_at net.now failures.now router p.now slot.now own_ospf }
+    ensures { result ≡ entry_at net.now.files failures.now router p.now slot.now own_ospf }
 {
     match net.routers().get(router as usize) {
         None => None,

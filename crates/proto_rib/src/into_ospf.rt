@@ -4,8 +4,8 @@
 ghost use Rattle.std.specs.Prelude.{◌≡◌, [], IfOk, false, not, option_and_then, option_map};
 ghost use Rattle.std.specs.List.{filter_map};
 ghost use Rattle.std.specs.Option.{option_map_or};
-ghost use Rattle.net_model.specs.Mapping as mapping;
-ghost use Rattle.net_model.specs.Origins as origins;
+ghost use Rattle.net_parts.specs.Mapping as mapping;
+ghost use Rattle.net_parts.specs.Origins as origins;
 ghost use Rattle.policy_eval.specs.Attributes.{attributes_of};
 ghost use Rattle.proto_rib.specs.Taken.{redistributed_at};
 
@@ -234,7 +234,7 @@ fn by_lines(
     Ok(made)
 }
 
-#[tactic(auto, unfolding(net_model::specs::Origins::redistributed))]
+#[tactic(auto, unfolding(net_parts::specs::Origins::redistributed))]
 fn of_process(
     alloc: Global,
     file: &File,
@@ -276,7 +276,7 @@ pub fn redistribute(
     p: &Prefix,
     slot: &Slot,
 ) -> Result<List<OspfRec>, AllocError>
-    ensures { IfOk result (λ made. made ≡ redistributed_at net.now router p.now slot.now) }
+    ensures { IfOk result (λ made. made ≡ redistributed_at net.now.files router p.now slot.now) }
 {
     match net.routers().get(router as usize) {
         None => Ok(List::new(alloc)),

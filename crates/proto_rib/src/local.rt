@@ -5,7 +5,7 @@ ghost use Rattle.std.specs.Prelude.{◌≡◌, ◌==◌, ◌&&◌, ◌++◌, [],
 ghost use Rattle.std.specs.List.{filter_map};
 ghost use Rattle.std.specs.Option.{option_map_or};
 ghost use Rattle.mw_text.specs.Address.{same_prefix};
-ghost use Rattle.net_model.specs.Origins as origins;
+ghost use Rattle.net_parts.specs.Origins as origins;
 ghost use Rattle.proto_rib.specs.Taken.{local_routes_at};
 
 use crate::prefixes::is_default;
@@ -120,7 +120,7 @@ fn is_ospf_on(x: &OspfInterface, router: u32, p: &Prefix) -> bool
 }
 
 fn is_ospf_subnet(net: &Net, router: u32, p: &Prefix) -> bool
-    ensures { result ≡ origins.is_ospf_subnet net.now router p.now }
+    ensures { result ≡ origins.is_ospf_subnet net.now.files router p.now }
 {
     net.ospf_interfaces()
         .iter()
@@ -148,7 +148,7 @@ fn metric_from_ospf(slot: &Slot, line: &Redist) -> Option<u32>
 }
 
 fn metric_from_connected(net: &Net, router: u32, p: &Prefix, line: &Redist) -> Option<u32>
-    ensures { result ≡ (if line.now.internal && origins.is_ospf_subnet net.now router p.now then Some 0 else None) }
+    ensures { result ≡ (if line.now.internal && origins.is_ospf_subnet net.now.files router p.now then Some 0 else None) }
 {
     if line.internal && is_ospf_subnet(net, router, p) {
         Some(0)
@@ -166,7 +166,7 @@ fn taken_metric(
     line: &Redist,
     entry: RibSource,
 ) -> Option<u32>
-    ensures { result ≡ origins.taken_metric net.now router p.now slot.now line.now entry }
+    ensures { result ≡ origins.taken_metric net.now.files router p.now slot.now line.now entry }
 {
     match (line.source, entry) {
         (Source::Connected, RibSource::Connected) => Some(0),
@@ -187,7 +187,7 @@ fn into_bgp(
     slot: &Slot,
     line: &Redist,
 ) -> Result<Option<BgpRec>, AllocError>
-    ensures { IfOk result (λ made. made ≡ origins.into_bgp net.now router file.now p.now slot.now line.now) }
+    ensures { IfOk result (λ made. made ≡ origins.into_bgp net.now.files router file.now p.now slot.now line.now) }
 {
     let Some(entry) = slot.rib else {
         return Ok(None);
@@ -231,7 +231,7 @@ fn add_redistributed(
     slot: &Slot,
 ) -> Result<(), AllocError>
     ensures { OnOk result (out.new ≡ out.old
-        ++ filter_map (origins.into_bgp net.now router file.now p.now slot.now) process.now.redistribute) }
+        ++ filter_map (origins.into_bgp net.now.files router file.now p.now slot.now) process.now.redistribute) }
 {
     for line in process.redistribute.as_slice() {
         if let Some(rec) = into_bgp(alloc, net, router, file, p, slot, line)? {
@@ -241,7 +241,7 @@ fn add_redistributed(
     Ok(())
 }
 
-#[tactic(auto, unfolding(net_model::specs::Origins::local_routes))]
+#[tactic(auto, unfolding(net_parts::specs::Origins::local_routes))]
 fn of_process(
     alloc: Global,
     net: &Net,
@@ -251,7 +251,7 @@ fn of_process(
     p: &Prefix,
     slot: &Slot,
 ) -> Result<List<BgpRec>, AllocError>
-    ensures { IfOk result (λ made. made ≡ origins.local_routes net.now router file.now process.now p.now slot.now) }
+    ensures { IfOk result (λ made. made ≡ origins.local_routes net.now.files router file.now process.now p.now slot.now) }
 {
     let mut made = by_networks(alloc, file, process, p, slot)?;
     add_redistributed(alloc, &mut made, net, router, file, process, p, slot)?;
@@ -267,7 +267,7 @@ fn of_file(
     slot: &Slot,
 ) -> Result<List<BgpRec>, AllocError>
     ensures { IfOk result (λ made. made
-        ≡ option_map_or (λ process. origins.local_routes net.now router file.now process p.now slot.now) file.now.bgp []) }
+        ≡ option_map_or (λ process. origins.local_routes net.now.files router file.now process p.now slot.now) file.now.bgp []) }
 {
     match &file.bgp {
         None => Ok(List::new(alloc)),
@@ -284,7 +284,7 @@ pub fn originate(
     p: &Prefix,
     slot: &Slot,
 ) -> Result<List<BgpRec>, AllocError>
-    ensures { IfOk result (λ made. made ≡ local_routes_at net.now router p.now slot.now) }
+    ensures { IfOk result (λ made. made ≡ local_routes_at net.now.files router p.now slot.now) }
 {
     match net.routers().get(router as usize) {
         None => Ok(List::new(alloc)),

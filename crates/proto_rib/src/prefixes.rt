@@ -1,7 +1,7 @@
 //! Prefixes that redistribution treats apart.
 
 ghost use Rattle.std.specs.Prelude.{◌≡◌};
-ghost use Rattle.net_model.specs.Origins as origins;
+ghost use Rattle.net_parts.specs.Origins as origins;
 
 use mw_text::Prefix;
 

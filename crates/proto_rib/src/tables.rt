@@ -3,15 +3,15 @@
 ghost use Rattle.std.specs.Prelude.{◌≡◌, IfOk, true};
 ghost use Rattle.route_record.specs.declared.Environment.{Environment};
 ghost use Rattle.route_record.specs.declared.Tables.{Tables as TablesOf};
-ghost use Rattle.net_model.specs.Network.{runs_no_protocol};
-ghost use Rattle.net_model.specs.World.{no_failures};
-ghost use Rattle.net_model.specs.Routing.{candidates, closer, least_distance};
-ghost use Rattle.net_model.specs.Stable.{Stable};
+ghost use Rattle.net_parts.specs.Protocols.{runs_no_protocol};
+ghost use Rattle.net_parts.specs.World.{no_failures};
+ghost use Rattle.net_parts.specs.Routing.{candidates, closer, least_distance};
+ghost use Rattle.net_parts.specs.Stable.{Stable};
 ghost use Rattle.proto_rib.specs.Unfailed.{slot_over};
 
 use ios_ast::{File, StaticRoute};
 use mw_text::{Addr, List, Prefix, prefix_of};
-use net_model::routing::{is_direct, open_interfaces, route_counts};
+use net_parts::routing::{is_direct, open_interfaces, route_counts};
 use net_model::{Addressed, Net};
 use route_record::{LENGTHS, RibEntry, RibSource, Slot, Tables, read_tables};
 use std::alloc::{AllocError, Global};
@@ -77,10 +77,10 @@ fn slot_of(
 /// The one stable routing for the destination `d` of a network in which no router runs OSPF or BGP, while no link has
 /// failed.
 pub fn tables_of(alloc: Global, net: &Net, d: Addr) -> Result<Tables, AllocError>
-    requires plain { runs_no_protocol net.now ≡ true }
-    ensures stable { IfOk result (λ tables. (environment : Environment) → Stable net.now d no_failures environment tables) }
+    requires plain { runs_no_protocol net.now.files ≡ true }
+    ensures stable { IfOk result (λ tables. (environment : Environment) → Stable net.now.files d no_failures environment tables) }
     ensures only { IfOk result (λ tables. (environment : Environment) (other : TablesOf) →
-        Stable net.now d no_failures environment other → other ≡ tables) }
+        Stable net.now.files d no_failures environment other → other ≡ tables) }
 {
     let mut slots = List::new(alloc);
     let routers = net.routers();

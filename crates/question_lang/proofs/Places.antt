@@ -5,7 +5,7 @@ use Rattle.std.specs.List.{list_all}
 use Rattle.std.specs.Prelude.{nat_le}
 use Rattle.ios_ast.specs.declared.file.File.{File}
 use Rattle.ios_ast.specs.declared.file.TheConstants.{MOST_INTERFACES}
-use Rattle.net_model.specs.Limits.{keeps_limits}
+use Rattle.net_interfaces.specs.Limits.{keeps_limits}
 use Rattle.question_lang.specs.Naming.{interfaces_at}
 
 -- where the files keep their limits, a router has not too many interfaces

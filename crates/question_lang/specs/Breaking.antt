@@ -4,7 +4,7 @@ use Rattle.mw_text.specs.declared.address.Prefix.{Prefix}
 use Rattle.mw_text.specs.Address.{covers}
 use Rattle.ios_ast.specs.declared.file.File.{File}
 use Rattle.route_record.specs.declared.World.{World}
-use Rattle.net_model.specs.Routing.{up_interfaces, is_direct}
+use Rattle.net_parts.specs.Routing.{up_interfaces, is_direct}
 use Rattle.question_lang.specs.declared.question.Kind.{Kind}
 use Rattle.question_lang.specs.declared.question.Kind.TheVariants.{Reach, Isolate, Waypoint, NoLoop, NoBlackHole}
 use Rattle.question_lang.specs.declared.question.Kind.TheVariants.{Within, Alike, NoStable}

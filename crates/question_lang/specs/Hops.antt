@@ -22,13 +22,13 @@ use Rattle.route_record.specs.declared.Tables.{Tables}
 use Rattle.route_record.specs.declared.TheConstants.{LENGTHS}
 use Rattle.route_record.specs.declared.World.{World}
 use Rattle.route_record.specs.Places.{slot_at}
-use Rattle.net_model.specs.declared.interfaces.Addressed.{Addressed}
-use Rattle.net_model.specs.declared.interfaces.IfaceId.{IfaceId}
-use Rattle.net_model.specs.Interfaces.{addressed}
-use Rattle.net_model.specs.declared.adjacencies.Adjacency.{Adjacency}
-use Rattle.net_model.specs.Sending.{permitted_by_list, sent_by_ospf, sent_towards}
-use Rattle.net_model.specs.World.{is_up}
-use Rattle.net_model.specs.Routing.{up_interfaces, static_routes}
+use Rattle.net_interfaces.specs.declared.interfaces.Addressed.{Addressed}
+use Rattle.net_interfaces.specs.declared.interfaces.IfaceId.{IfaceId}
+use Rattle.net_interfaces.specs.Interfaces.{addressed}
+use Rattle.net_parts.specs.declared.adjacencies.Adjacency.{Adjacency}
+use Rattle.net_parts.specs.Sending.{permitted_by_list, sent_by_ospf, sent_towards}
+use Rattle.net_parts.specs.World.{is_up}
+use Rattle.net_parts.specs.Routing.{up_interfaces, static_routes}
 use Rattle.question_lang.specs.declared.walk.End.TheVariants.{Delivered, Left, NoRoute, Discarded, DeniedIn, DeniedOut}
 use Rattle.question_lang.specs.declared.walk.Hop.{Hop}
 use Rattle.question_lang.specs.declared.walk.Hop.TheVariants.{To, Ends}

@@ -19,10 +19,10 @@ use Rattle.ios_policy_reader.specs.declared.said.Value.TheVariants.{Prefix as Pr
 use Rattle.ios_policy_reader.specs.declared.said.Said.{Said}
 use Rattle.ios_policy_reader.specs.Said.{tag_number, has_said, address_under, prefix_said}
 use Rattle.ios_policy_reader.specs.Values.{word_at}
-use Rattle.net_model.specs.declared.interfaces.Addressed.{Addressed}
-use Rattle.net_model.specs.declared.sessions.Peering.{Peering}
-use Rattle.net_model.specs.Interfaces.{addressed}
-use Rattle.net_model.specs.Sessions.{peerings, is_external_peer}
+use Rattle.net_interfaces.specs.declared.interfaces.Addressed.{Addressed}
+use Rattle.net_parts.specs.declared.sessions.Peering.{Peering}
+use Rattle.net_interfaces.specs.Interfaces.{addressed}
+use Rattle.net_parts.specs.Sessions.{peerings, is_external_peer}
 use Rattle.question_lang.specs.declared.question.PacketSet.{PacketSet}
 use Rattle.question_lang.specs.declared.question.Start.{Start}
 use Rattle.question_lang.specs.declared.question.Target.{Target}

@@ -5,9 +5,9 @@ use Rattle.std.specs.List.{list_any}
 use Rattle.ios_ast.specs.declared.file.File.{File}
 use Rattle.route_record.specs.declared.Failures.{Failures}
 use Rattle.route_record.specs.declared.World.{World}
-use Rattle.net_model.specs.declared.interfaces.IfaceId.{IfaceId}
-use Rattle.net_model.specs.Interfaces.{addressed}
-use Rattle.net_model.specs.World.{is_up}
+use Rattle.net_interfaces.specs.declared.interfaces.IfaceId.{IfaceId}
+use Rattle.net_interfaces.specs.Interfaces.{addressed}
+use Rattle.net_parts.specs.World.{is_up}
 use Rattle.question_lang.specs.declared.question.Start.{Start}
 use Rattle.question_lang.specs.declared.walk.End.{End}
 use Rattle.question_lang.specs.declared.walk.End.TheVariants.{Delivered, Left, NoRoute, Discarded, DeniedIn, DeniedOut}

@@ -19,9 +19,9 @@ use net_model::Net;
 use std::alloc::{AllocError, Global};
 
 fn ends_said(net: &Net, words: &[List<u8>], said: &[Said]) -> Option<(Start, Target)>
-    requires peer { naming.is_peer_known net.now words.now said.now ≡ true }
-    ensures value { result ≡ asking.ends_of net.now words.now said.now }
-    ensures known { IfSome result (λ ends. known.IsStart net.now ends.0 × known.IsTarget net.now ends.1) }
+    requires peer { naming.is_peer_known net.now.files words.now said.now ≡ true }
+    ensures value { result ≡ asking.ends_of net.now.files words.now said.now }
+    ensures known { IfSome result (λ ends. known.IsStart net.now.files ends.0 × known.IsTarget net.now.files ends.1) }
 {
     let start = start_said(net, words, said)?;
     let target = target_said(net, words, said)?;
@@ -29,27 +29,27 @@ fn ends_said(net: &Net, words: &[List<u8>], said: &[Said]) -> Option<(Start, Tar
 }
 
 fn reach_said(net: &Net, words: &[List<u8>], said: &[Said]) -> Option<Kind>
-    requires peer { naming.is_peer_known net.now words.now said.now ≡ true }
-    ensures value { result ≡ asking.reach_of net.now words.now said.now }
-    ensures known { IfSome result (known.IsKnown net.now) }
+    requires peer { naming.is_peer_known net.now.files words.now said.now ≡ true }
+    ensures value { result ≡ asking.reach_of net.now.files words.now said.now }
+    ensures known { IfSome result (known.IsKnown net.now.files) }
 {
     let (start, target) = ends_said(net, words, said)?;
     Some(Kind::Reach(start, target))
 }
 
 fn isolate_said(net: &Net, words: &[List<u8>], said: &[Said]) -> Option<Kind>
-    requires peer { naming.is_peer_known net.now words.now said.now ≡ true }
-    ensures value { result ≡ asking.isolate_of net.now words.now said.now }
-    ensures known { IfSome result (known.IsKnown net.now) }
+    requires peer { naming.is_peer_known net.now.files words.now said.now ≡ true }
+    ensures value { result ≡ asking.isolate_of net.now.files words.now said.now }
+    ensures known { IfSome result (known.IsKnown net.now.files) }
 {
     let (start, target) = ends_said(net, words, said)?;
     Some(Kind::Isolate(start, target))
 }
 
 fn waypoint_said(net: &Net, words: &[List<u8>], said: &[Said]) -> Option<Kind>
-    requires peer { naming.is_peer_known net.now words.now said.now ≡ true }
-    ensures value { result ≡ asking.waypoint_of net.now words.now said.now }
-    ensures known { IfSome result (known.IsKnown net.now) }
+    requires peer { naming.is_peer_known net.now.files words.now said.now ≡ true }
+    ensures value { result ≡ asking.waypoint_of net.now.files words.now said.now }
+    ensures known { IfSome result (known.IsKnown net.now.files) }
 {
     let (start, target) = ends_said(net, words, said)?;
     let via = router_said(Tag::Waypoint, net, words, said)?;
@@ -57,9 +57,9 @@ fn waypoint_said(net: &Net, words: &[List<u8>], said: &[Said]) -> Option<Kind>
 }
 
 fn alike_said(net: &Net, words: &[List<u8>], said: &[Said]) -> Option<Kind>
-    requires peer { naming.is_peer_known net.now words.now said.now ≡ true }
-    ensures value { result ≡ asking.alike_of net.now words.now said.now }
-    ensures known { IfSome result (known.IsKnown net.now) }
+    requires peer { naming.is_peer_known net.now.files words.now said.now ≡ true }
+    ensures value { result ≡ asking.alike_of net.now.files words.now said.now }
+    ensures known { IfSome result (known.IsKnown net.now.files) }
 {
     let one = router_said(Tag::Start, net, words, said)?;
     let other = router_said(Tag::OtherStart, net, words, said)?;
@@ -68,24 +68,24 @@ fn alike_said(net: &Net, words: &[List<u8>], said: &[Said]) -> Option<Kind>
 }
 
 fn no_loop_said(net: &Net, words: &[List<u8>], said: &[Said]) -> Option<Kind>
-    ensures value { result ≡ asking.no_loop_of net.now words.now said.now }
-    ensures known { IfSome result (known.IsKnown net.now) }
+    ensures value { result ≡ asking.no_loop_of net.now.files words.now said.now }
+    ensures known { IfSome result (known.IsKnown net.now.files) }
 {
     let start = start_said(net, words, said)?;
     Some(Kind::NoLoop(start))
 }
 
 fn no_black_hole_said(net: &Net, words: &[List<u8>], said: &[Said]) -> Option<Kind>
-    ensures value { result ≡ asking.no_black_hole_of net.now words.now said.now }
-    ensures known { IfSome result (known.IsKnown net.now) }
+    ensures value { result ≡ asking.no_black_hole_of net.now.files words.now said.now }
+    ensures known { IfSome result (known.IsKnown net.now.files) }
 {
     let start = start_said(net, words, said)?;
     Some(Kind::NoBlackHole(start))
 }
 
 fn within_said(net: &Net, words: &[List<u8>], said: &[Said]) -> Option<Kind>
-    ensures value { result ≡ asking.within_of net.now words.now said.now }
-    ensures known { IfSome result (known.IsKnown net.now) }
+    ensures value { result ≡ asking.within_of net.now.files words.now said.now }
+    ensures known { IfSome result (known.IsKnown net.now.files) }
 {
     let start = start_said(net, words, said)?;
     Some(Kind::Within(number_said(Tag::Hops, said, 0), start))
@@ -93,9 +93,9 @@ fn within_said(net: &Net, words: &[List<u8>], said: &[Said]) -> Option<Kind>
 
 #[tactic(auto, unfolding(crate::specs::Asking::kind_of))]
 fn kind_said(net: &Net, form: Form, words: &[List<u8>], said: &[Said]) -> Option<Kind>
-    requires peer { naming.is_peer_known net.now words.now said.now ≡ true }
-    ensures value { result ≡ asking.kind_of net.now form words.now said.now }
-    ensures known { IfSome result (known.IsKnown net.now) }
+    requires peer { naming.is_peer_known net.now.files words.now said.now ≡ true }
+    ensures value { result ≡ asking.kind_of net.now.files form words.now said.now }
+    ensures known { IfSome result (known.IsKnown net.now.files) }
 {
     match form {
         Form::Reach => reach_said(net, words, said),
@@ -116,9 +116,9 @@ fn question_said(
     words: &[List<u8>],
     said: &[Said],
 ) -> Result<Option<Question>, AllocError>
-    requires peer { naming.is_peer_known net.now words.now said.now ≡ true }
-    ensures value { IfOk result (λ question. question ≡ asking.question_of net.now form words.now said.now) }
-    ensures known { IfOk result (λ question. IfSome question (λ q. known.IsKnown net.now q.kind)) }
+    requires peer { naming.is_peer_known net.now.files words.now said.now ≡ true }
+    ensures value { IfOk result (λ question. question ≡ asking.question_of net.now.files form words.now said.now) }
+    ensures known { IfOk result (λ question. IfSome question (λ q. known.IsKnown net.now.files q.kind)) }
 {
     let Some(kind) = kind_said(net, form, words, said) else {
         return Ok(None);
@@ -147,8 +147,8 @@ fn cause_against(
     words: &[List<u8>],
     said: &[Said],
 ) -> Result<Option<Cause>, AllocError>
-    ensures value { IfOk result (λ cause. cause ≡ asking.cause_against net.now questions.now words.now said.now) }
-    ensures peer { IfOk result (λ cause. cause ≡ None → naming.is_peer_known net.now words.now said.now ≡ true) }
+    ensures value { IfOk result (λ cause. cause ≡ asking.cause_against net.now.files questions.now words.now said.now) }
+    ensures peer { IfOk result (λ cause. cause ≡ None → naming.is_peer_known net.now.files words.now said.now ≡ true) }
     ensures few { IfOk result (λ cause. cause ≡ None → length questions.now < MOST_QUESTIONS) }
 {
     if has_name(questions, word_said(Tag::Name, words, said)) {
@@ -175,9 +175,9 @@ fn ask(
     words: &[List<u8>],
     said: &[Said],
 ) -> Result<Question, Cause>
-    ensures ok { IfOk result (λ question. asking.asked net.now questions.now form words.now said.now ≡ Ok question) }
-    ensures refused { IfErr result (λ cause. cause ≢ Cause.Memory → asking.asked net.now questions.now form words.now said.now ≡ Err cause) }
-    ensures known { IfOk result (λ question. known.IsKnown net.now question.kind) }
+    ensures ok { IfOk result (λ question. asking.asked net.now.files questions.now form words.now said.now ≡ Ok question) }
+    ensures refused { IfErr result (λ cause. cause ≢ Cause.Memory → asking.asked net.now.files questions.now form words.now said.now ≡ Err cause) }
+    ensures known { IfOk result (λ question. known.IsKnown net.now.files question.kind) }
     ensures few { IfOk result (λ _. length questions.now < MOST_QUESTIONS) }
 {
     if let Some(cause) = cause_against(alloc, net, questions, words, said)? {
@@ -198,9 +198,9 @@ pub fn read_question(
     words: &[List<u8>],
 ) -> Result<Question, Cause>
     requires few { length words.now < 2 ^ 32 - 1 }
-    ensures ok { IfOk result (λ question. asking.question_in net.now questions.now words.now ≡ Ok question) }
-    ensures refused { IfErr result (λ cause. cause ≢ Cause.Memory → asking.question_in net.now questions.now words.now ≡ Err cause) }
-    ensures known { IfOk result (λ question. known.IsKnown net.now question.kind) }
+    ensures ok { IfOk result (λ question. asking.question_in net.now.files questions.now words.now ≡ Ok question) }
+    ensures refused { IfErr result (λ cause. cause ≢ Cause.Memory → asking.question_in net.now.files questions.now words.now ≡ Err cause) }
+    ensures known { IfOk result (λ question. known.IsKnown net.now.files question.kind) }
     ensures few { IfOk result (λ _. length questions.now < MOST_QUESTIONS) }
 {
     let Some(form) = find_form(words) else {

@@ -16,7 +16,7 @@ use ios_policy_reader::said::{address_said_under, is_said};
 use ios_policy_reader::values::word_at;
 use ios_policy_reader::{Said, Tag, Value};
 use mw_text::{Addr, List, same_bytes};
-use net_model::sessions::{is_external_peer, peerings};
+use net_parts::sessions::{is_external_peer, peerings};
 use net_model::{Addressed, Net, Peering};
 use std::alloc::{AllocError, Global};
 
@@ -38,8 +38,8 @@ pub fn word_said<'w>(tag: Tag, words: &'w [List<u8>], said: &[Said]) -> &'w [u8]
 
 /// The router that was said last under a tag. None where none has that name.
 pub fn router_said(tag: Tag, net: &Net, words: &[List<u8>], said: &[Said]) -> Option<u32>
-    ensures value { result ≡ naming.router_under tag net.now words.now said.now }
-    ensures within { IfSome result (λ router. router < length net.now) }
+    ensures value { result ≡ naming.router_under tag net.now.files words.now said.now }
+    ensures within { IfSome result (λ router. router < length net.now.files) }
 {
     net.router_named(word_said(tag, words, said))
 }
@@ -54,14 +54,14 @@ fn names_router(tag: Tag) -> bool
 }
 
 fn is_known(net: &Net, words: &[List<u8>], one: Said) -> bool
-    ensures { result ≡ naming.is_known net.now words.now one }
+    ensures { result ≡ naming.is_known net.now.files words.now one }
 {
     !names_router(one.tag) || net.router_named(word_in(words, one.value)).is_some()
 }
 
 /// Whether each word that names a router names one of the network.
 pub fn are_routers_known(net: &Net, words: &[List<u8>], said: &[Said]) -> bool
-    ensures { result ≡ naming.are_routers_known net.now words.now said.now }
+    ensures { result ≡ naming.are_routers_known net.now.files words.now said.now }
 {
     said.iter().all(|one| is_known(net, words, *one))
 }
@@ -77,7 +77,7 @@ fn place_named(interfaces: &[Iface], name: &[u8]) -> Option<usize>
 
 #[tactic(auto, using(crate::proofs::Places::few_interfaces))]
 fn interfaces_at(net: &Net, router: u32) -> &[Iface]
-    ensures all { result.now ≡ naming.interfaces_at net.entry.now router }
+    ensures all { result.now ≡ naming.interfaces_at net.entry.now.files router }
     ensures few { length result.now ≤ MOST_INTERFACES }
 {
     match net.routers().get(router as usize) {
@@ -87,8 +87,8 @@ fn interfaces_at(net: &Net, router: u32) -> &[Iface]
 }
 
 fn iface_named(net: &Net, router: u32, name: &[u8]) -> Option<u32>
-    ensures place { result ≡ naming.iface_named net.now router name.now }
-    ensures within { IfSome result (λ at. at < length (naming.interfaces_at net.now router)) }
+    ensures place { result ≡ naming.iface_named net.now.files router name.now }
+    ensures within { IfSome result (λ at. at < length (naming.interfaces_at net.now.files router)) }
 {
     match place_named(interfaces_at(net, router), name) {
         None => None,
@@ -97,9 +97,9 @@ fn iface_named(net: &Net, router: u32, name: &[u8]) -> Option<u32>
 }
 
 fn start_at(net: &Net, words: &[List<u8>], said: &[Said], router: u32) -> Option<Start>
-    requires within { router < length net.now }
-    ensures value { result ≡ naming.start_at net.now words.now said.now router }
-    ensures known { IfSome result (known.IsStart net.now) }
+    requires within { router < length net.now.files }
+    ensures value { result ≡ naming.start_at net.now.files words.now said.now router }
+    ensures known { IfSome result (known.IsStart net.now.files) }
 {
     if !is_said(Tag::Entering, said) {
         return Some(Start {
@@ -117,8 +117,8 @@ fn start_at(net: &Net, words: &[List<u8>], said: &[Said], router: u32) -> Option
 /// Where the packets start. None where there is no such router, or the router has no such interface.
 #[tactic(auto, unfolding(crate::specs::Naming::start_of))]
 pub fn start_said(net: &Net, words: &[List<u8>], said: &[Said]) -> Option<Start>
-    ensures value { result ≡ naming.start_of net.now words.now said.now }
-    ensures known { IfSome result (known.IsStart net.now) }
+    ensures value { result ≡ naming.start_of net.now.files words.now said.now }
+    ensures known { IfSome result (known.IsStart net.now.files) }
 {
     let router = router_said(Tag::Start, net, words, said)?;
     start_at(net, words, said, router)
@@ -141,7 +141,7 @@ fn some_peer(addresses: &[Addressed], lines: &[Peering], router: u32, address: A
 /// Whether an external peer of the router has the address.
 #[tactic(auto, unfolding(crate::specs::Naming::is_peer))]
 fn is_peer(alloc: Global, net: &Net, router: u32, address: Addr) -> Result<bool, AllocError>
-    ensures { IfOk result (λ is. is ≡ naming.is_peer net.now router address) }
+    ensures { IfOk result (λ is. is ≡ naming.is_peer net.now.files router address) }
 {
     let lines = peerings(alloc, net.routers(), net.addresses())?;
     Ok(some_peer(net.addresses(), lines.as_slice(), router, address))
@@ -160,7 +160,7 @@ pub fn is_peer_known(
     words: &[List<u8>],
     said: &[Said],
 ) -> Result<bool, AllocError>
-    ensures { IfOk result (λ is. is ≡ naming.is_peer_known net.now words.now said.now) }
+    ensures { IfOk result (λ is. is ≡ naming.is_peer_known net.now.files words.now said.now) }
 {
     if !is_said(Tag::Peer, said) {
         return Ok(true);
@@ -173,8 +173,8 @@ pub fn is_peer_known(
 
 fn peer_said(net: &Net, words: &[List<u8>], said: &[Said]) -> Option<Target>
     requires said { has_said PeerTag said.now ≡ true }
-    ensures value { result ≡ option_map (λ router. Peer router (naming.peer_address said.now)) (naming.router_under RouterTag net.now words.now said.now) }
-    ensures known { naming.is_peer_known net.now words.now said.now ≡ true → IfSome result (known.IsTarget net.now) }
+    ensures value { result ≡ option_map (λ router. Peer router (naming.peer_address said.now)) (naming.router_under RouterTag net.now.files words.now said.now) }
+    ensures known { naming.is_peer_known net.now.files words.now said.now ≡ true → IfSome result (known.IsTarget net.now.files) }
 {
     let router = router_said(Tag::Router, net, words, said)?;
     Some(Target::Peer {
@@ -186,8 +186,8 @@ fn peer_said(net: &Net, words: &[List<u8>], said: &[Said]) -> Option<Target>
 /// Where the packets should end. None where there is no such router.
 #[tactic(auto, unfolding(crate::specs::Naming::target_of))]
 pub fn target_said(net: &Net, words: &[List<u8>], said: &[Said]) -> Option<Target>
-    ensures value { result ≡ naming.target_of net.now words.now said.now }
-    ensures known { naming.is_peer_known net.now words.now said.now ≡ true → IfSome result (known.IsTarget net.now) }
+    ensures value { result ≡ naming.target_of net.now.files words.now said.now }
+    ensures known { naming.is_peer_known net.now.files words.now said.now ≡ true → IfSome result (known.IsTarget net.now.files) }
 {
     if is_said(Tag::Peer, said) {
         return peer_said(net, words, said);

@@ -28,9 +28,9 @@ fn ask_at(
     line: &Line,
 ) -> Result<Question, Refused>
     requires words { length line.now.words < 2 ^ 32 - 1 }
-    ensures ok { IfOk result (λ question. asking.question_at net.now questions.now line.now ≡ Ok question) }
-    ensures refused { IfErr result (λ refused. refused.cause ≢ Cause.Memory → asking.question_at net.now questions.now line.now ≡ Err refused) }
-    ensures known { IfOk result (λ question. IsKnown net.now question.kind) }
+    ensures ok { IfOk result (λ question. asking.question_at net.now.files questions.now line.now ≡ Ok question) }
+    ensures refused { IfErr result (λ refused. refused.cause ≢ Cause.Memory → asking.question_at net.now.files questions.now line.now ≡ Err refused) }
+    ensures known { IfOk result (λ question. IsKnown net.now.files question.kind) }
     ensures few { IfOk result (λ _. length questions.now < MOST_QUESTIONS) }
 {
     match read_question(alloc, net, questions, line.words.as_slice()) {
@@ -62,11 +62,11 @@ fn next_questions(
     line: &Line,
 ) -> Result<List<Question>, Refused>
     requires words { length line.now.words < 2 ^ 32 - 1 }
-    requires known { AreKnown net.now questions }
+    requires known { AreKnown net.now.files questions }
     requires few { length questions ≤ MOST_QUESTIONS }
-    ensures ok { IfOk result (λ next. asking.next_asked net.now questions line.now ≡ Ok next) }
-    ensures refused { IfErr result (λ refused. refused.cause ≢ Cause.Memory → asking.next_asked net.now questions line.now ≡ Err refused) }
-    ensures known { IfOk result (AreKnown net.now) }
+    ensures ok { IfOk result (λ next. asking.next_asked net.now.files questions line.now ≡ Ok next) }
+    ensures refused { IfErr result (λ refused. refused.cause ≢ Cause.Memory → asking.next_asked net.now.files questions line.now ≡ Err refused) }
+    ensures known { IfOk result (AreKnown net.now.files) }
     ensures few { IfOk result (λ next. length next ≤ MOST_QUESTIONS) }
 {
     if says_nothing(line.words.as_slice()) {
@@ -79,9 +79,9 @@ fn next_questions(
 // The questions of all lines.
 fn read_all(alloc: Global, net: &Net, lines: &[Line]) -> Result<List<Question>, Refused>
     requires words { All (λ line. length line.words < 2 ^ 32 - 1) lines.now }
-    ensures ok { IfOk result (λ questions. in_turn (asking.next_asked net.now) [] lines.now ≡ Ok questions) }
-    ensures refused { IfErr result (λ refused. refused.cause ≢ Cause.Memory → in_turn (asking.next_asked net.now) [] lines.now ≡ Err refused) }
-    ensures known { IfOk result (AreKnown net.now) }
+    ensures ok { IfOk result (λ questions. in_turn (asking.next_asked net.now.files) [] lines.now ≡ Ok questions) }
+    ensures refused { IfErr result (λ refused. refused.cause ≢ Cause.Memory → in_turn (asking.next_asked net.now.files) [] lines.now ≡ Err refused) }
+    ensures known { IfOk result (AreKnown net.now.files) }
     ensures few { IfOk result (λ questions. length questions ≤ MOST_QUESTIONS) }
 {
     let mut questions = List::new(alloc);
@@ -100,9 +100,9 @@ fn read_all(alloc: Global, net: &Net, lines: &[Line]) -> Result<List<Question>, 
 /// (`UnknownPeer`), a question too many, no such interface of the router (`Undefined`). Want of memory is at line 0.
 pub fn read_questions(alloc: Global, bytes: &[u8], net: &Net) -> Result<List<Question>, Refused>
     requires { length bytes.now < 2 ^ 32 }
-    ensures ok { IfOk result (λ questions. asking.asking net.now bytes.now ≡ Ok questions) }
-    ensures refused { IfErr result (λ refused. refused.cause ≢ Cause.Memory → asking.asking net.now bytes.now ≡ Err refused) }
-    ensures known { IfOk result (AreKnown net.now) }
+    ensures ok { IfOk result (λ questions. asking.asking net.now.files bytes.now ≡ Ok questions) }
+    ensures refused { IfErr result (λ refused. refused.cause ≢ Cause.Memory → asking.asking net.now.files bytes.now ≡ Err refused) }
+    ensures known { IfOk result (AreKnown net.now.files) }
     ensures few { IfOk result (λ questions. length questions ≤ MOST_QUESTIONS) }
 {
     let lines = lines_of(alloc, bytes)?;

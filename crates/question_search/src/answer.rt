@@ -41,8 +41,8 @@ fn broken_world(
     question: &Question,
     world: World,
 ) -> Result<Counterexample, AllocError>
-    requires breaking { (walk : OptionOf WalkOf) × IsBreaking net.now question.now world no_environment walk }
-    ensures { IfOk result (verdicts.IsTrueCounterexample net.now number question.now) }
+    requires breaking { (walk : OptionOf WalkOf) × IsBreaking net.now.files question.now world no_environment walk }
+    ensures { IfOk result (verdicts.IsTrueCounterexample net.now.files number question.now) }
 {
     let walk = find_walk(alloc, net, &world, &question.kind)?;
     Ok(Counterexample {
@@ -67,10 +67,10 @@ fn counterexample_of(
     formula: &Formula,
     values: &[bool],
 ) -> Result<Counterexample, AllocError>
-    requires formula { IsFormula net.now question.now formula.now }
+    requires formula { IsFormula net.now.files question.now formula.now }
     requires values { length values.now ≡ formula.now.cnf.vars }
     requires satisfied { satisfies (truth values.now) formula.now.cnf.clauses ≡ true }
-    ensures { IfOk result (verdicts.IsTrueCounterexample net.now number question.now) }
+    ensures { IfOk result (verdicts.IsTrueCounterexample net.now.files number question.now) }
 {
     let roots = [formula.root];
     let row = decoded(
@@ -93,11 +93,11 @@ fn verdict_of(
     formula: &Formula,
     outcome: Outcome,
 ) -> Result<Verdict, AllocError>
-    requires formula { IsFormula net.now question.now formula.now }
+    requires formula { IsFormula net.now.files question.now formula.now }
     requires unsat { OnUnsat outcome (IsUnsatisfiable formula.now.cnf.clauses) }
     requires sat { OnSat outcome (λ values. satisfies (truth values) formula.now.cnf.clauses ≡ true) }
     requires values { OnSat outcome (λ values. length values ≡ formula.now.cnf.vars) }
-    ensures right { IfOk result (verdicts.IsRight net.now number question.now) }
+    ensures right { IfOk result (verdicts.IsRight net.now.files number question.now) }
     ensures shown { IfOk result (λ verdict. (budget : ℕ) (entries : ListOf Entry) →
         OnUnknown outcome (λ added. added ≡ budget) → Shows budget entries outcome →
         verdicts.ShowsVerdict budget entries verdict) }
@@ -127,10 +127,10 @@ fn search<L: Sink>(
     budget: u64,
     log: &mut L,
 ) -> Result<Searched, SolveFault>
-    requires no_bgp { runs_no_bgp net.now ≡ true }
+    requires no_bgp { runs_no_bgp net.now.files ≡ true }
     requires budget { IsBudget budget }
-    ensures found { IfOk result (λ s. IsFound net.now budget question.now s.formula s.outcome (L.taken log.old) (L.taken log.new)) }
-    ensures cut { OnErr result (IsUnfinished net.now budget question.now (L.taken log.old) (L.taken log.new)) }
+    ensures found { IfOk result (λ s. IsFound net.now.files budget question.now s.formula s.outcome (L.taken log.old) (L.taken log.new)) }
+    ensures cut { OnErr result (IsUnfinished net.now.files budget question.now (L.taken log.old) (L.taken log.new)) }
     ensures fault { OnLogFault result (Rose (L.faults log.old) (L.faults log.new)) }
     ensures stays { UnlessLogFault result (L.faults log.new ≡ L.faults log.old) }
 {
@@ -155,10 +155,10 @@ pub fn answer<L: Sink>(
     budget: u64,
     log: &mut L,
 ) -> Result<Verdict, SolveFault>
-    requires no_bgp { runs_no_bgp net.now ≡ true }
+    requires no_bgp { runs_no_bgp net.now.files ≡ true }
     requires budget { IsBudget budget }
-    ensures ok { IfOk result (λ verdict. IsLogged net.now budget number question.now verdict (L.taken log.old) (L.taken log.new)) }
-    ensures cut { OnErr result (IsUnfinished net.now budget question.now (L.taken log.old) (L.taken log.new)) }
+    ensures ok { IfOk result (λ verdict. IsLogged net.now.files budget number question.now verdict (L.taken log.old) (L.taken log.new)) }
+    ensures cut { OnErr result (IsUnfinished net.now.files budget question.now (L.taken log.old) (L.taken log.new)) }
     ensures fault { OnLogFault result (Rose (L.faults log.old) (L.faults log.new)) }
     ensures stays { UnlessLogFault result (L.faults log.new ≡ L.faults log.old) }
 {

@@ -34,8 +34,8 @@ fn single_lengths(alloc: Global) -> Result<Plan, AllocError> {
 
 /// The formula of a question over a network without BGP.
 pub fn formula_of(alloc: Global, net: &Net, question: &Question) -> Result<Formula, AllocError>
-    requires { runs_no_bgp net.now ≡ true }
-    ensures formula { IfOk result (IsFormula net.now question.now) }
+    requires { runs_no_bgp net.now.files ≡ true }
+    ensures formula { IfOk result (IsFormula net.now.files question.now) }
     ensures vars { IfOk result (λ formula. formula.cnf.vars ≤ 2 ^ 63) }
 {
     let plan = single_lengths(alloc)?;

@@ -42,9 +42,9 @@ pub fn put_lines<O: Sink>(
     out: &mut O,
 ) -> Result<(), Halt>
     ensures takes { OnOk result (Takes (O.taken out.old) (O.taken out.new)
-        (verdict_text loaded.now.net loaded.now.questions question.now verdict.now)) }
+        (verdict_text loaded.now.net.files loaded.now.questions question.now verdict.now)) }
     ensures part { TakesPart (O.taken out.old) (O.taken out.new)
-        (verdict_text loaded.now.net loaded.now.questions question.now verdict.now) }
+        (verdict_text loaded.now.net.files loaded.now.questions question.now verdict.now) }
     ensures fault { OnWriteFault result (Rose (O.faults out.old) (O.faults out.new)) }
     ensures writes { UnlessWriteFault result (O.faults out.new ≡ O.faults out.old) }
 {

@@ -37,8 +37,8 @@ fn replay_answer(
     questions: &[Question],
     cex: &Counterexample,
 ) -> Result<Option<ReplayNo>, AllocError>
-    requires { IsAdmitted net.now questions.now cex.now }
-    ensures { IfOk result (replays.AnswersReplay net.now questions.now cex.now) }
+    requires { IsAdmitted net.now.files questions.now cex.now }
+    ensures { IfOk result (replays.AnswersReplay net.now.files questions.now cex.now) }
 {
     let question = &questions[cex.question as usize];
     match replay(alloc, net, question, cex) {
@@ -58,7 +58,7 @@ fn part_name(part: Part) -> &'static [u8]
 }
 
 fn router_name(net: &Net, router: u32) -> &[u8]
-    ensures { result.now ≡ name_of net.now router }
+    ensures { result.now ≡ name_of net.now.files router }
 {
     match net.routers().get(router as usize) {
         Some(file) => file.hostname.as_slice(),
@@ -85,7 +85,7 @@ fn wanted_text(alloc: Global, part: Part, slots: &[Slot]) -> Result<List<u8>, Al
 }
 
 fn difference_text(alloc: Global, net: &Net, differs: &Differs) -> Result<List<u8>, AllocError>
-    ensures { IfOk result (λ text. text ≡ replays.difference_text net.now differs.now) }
+    ensures { IfOk result (λ text. text ≡ replays.difference_text net.now.files differs.now) }
 {
     let name = list_of(alloc, router_name(net, differs.router))?;
     let len = differs.len.to_string(alloc)?;
@@ -108,14 +108,14 @@ fn difference_text(alloc: Global, net: &Net, differs: &Differs) -> Result<List<u
 }
 
 fn differs_line(alloc: Global, net: &Net, differs: &Differs) -> Result<List<u8>, AllocError>
-    ensures { IfOk result (λ text. text ≡ replays.no_text net.now (ReplayNo.Differs differs.now)) }
+    ensures { IfOk result (λ text. text ≡ replays.no_text net.now.files (ReplayNo.Differs differs.now)) }
 {
     let difference = difference_text(alloc, net, differs)?;
     joined(alloc, &[b"no differs ", difference.as_slice(), b"\n"])
 }
 
 fn no_text(alloc: Global, net: &Net, why: &ReplayNo) -> Result<List<u8>, AllocError>
-    ensures { IfOk result (λ text. text ≡ replays.no_text net.now why.now) }
+    ensures { IfOk result (λ text. text ≡ replays.no_text net.now.files why.now) }
 {
     match why {
         ReplayNo::Differs(differs) => differs_line(alloc, net, differs),
@@ -126,7 +126,7 @@ fn no_text(alloc: Global, net: &Net, why: &ReplayNo) -> Result<List<u8>, AllocEr
 }
 
 fn replay_text(alloc: Global, net: &Net, answer: &Option<ReplayNo>) -> Result<List<u8>, AllocError>
-    ensures { IfOk result (λ text. text ≡ replays.replay_text net.now answer.now) }
+    ensures { IfOk result (λ text. text ≡ replays.replay_text net.now.files answer.now) }
 {
     match answer {
         None => list_of(alloc, b"yes\n"),
@@ -142,8 +142,8 @@ struct ReplayLine {
 }
 
 fn replay_line(alloc: Global, told: &Told) -> Result<ReplayLine, AllocError>
-    requires { IsAdmitted told.now.net told.now.questions told.now.cex }
-    ensures { IfOk result (λ line. replays.IsReplayLine told.now.net told.now.questions told.now.cex line.yes line.text) }
+    requires { IsAdmitted told.now.net.files told.now.questions told.now.cex }
+    ensures { IfOk result (λ line. replays.IsReplayLine told.now.net.files told.now.questions told.now.cex line.yes line.text) }
 {
     let answer = replay_answer(alloc, &told.net, told.questions.as_slice(), &told.cex)?;
     let yes = answer.is_none();
@@ -153,9 +153,9 @@ fn replay_line(alloc: Global, told: &Told) -> Result<ReplayLine, AllocError>
 
 /// Prints whether the counterexample is true.
 pub fn put_replay<O: Sink>(alloc: Global, told: &Told, out: &mut O) -> Status
-    requires { IsAdmitted told.now.net told.now.questions told.now.cex }
+    requires { IsAdmitted told.now.net.files told.now.questions told.now.cex }
     // Nothing of it is logged.
-    ensures answers { (logged : OptionOf (ListOf ℕ)) → AnswersSo (due.replaying told.now.net told.now.questions told.now.cex) result
+    ensures answers { (logged : OptionOf (ListOf ℕ)) → AnswersSo (due.replaying told.now.net.files told.now.questions told.now.cex) result
         (O.taken out.old) (O.taken out.new) logged logged (Rose (O.faults out.old) (O.faults out.new)) }
     ensures writes { result ≢ Status.WriteFault → O.faults out.new ≡ O.faults out.old }
 {

@@ -35,7 +35,7 @@ fn broken_lines(
     question: &Question,
     cex: &Counterexample,
 ) -> Result<List<u8>, AllocError>
-    ensures { IfOk result (λ text. text ≡ verdict_text net.now questions.now question.now (Verdict.Broken cex.now)) }
+    ensures { IfOk result (λ text. text ≡ verdict_text net.now.files questions.now question.now (Verdict.Broken cex.now)) }
 {
     let told = write_cex(alloc, net, questions, cex)?;
     let pieces: [&[u8]; 5] = [
@@ -70,7 +70,7 @@ pub fn verdict_lines(
     question: &Question,
     verdict: &Verdict,
 ) -> Result<List<u8>, AllocError>
-    ensures { IfOk result (λ text. text ≡ verdict_text net.now questions.now question.now verdict.now) }
+    ensures { IfOk result (λ text. text ≡ verdict_text net.now.files questions.now question.now verdict.now) }
 {
     match verdict {
         Verdict::Holds => holds_line(alloc, question),

@@ -4,7 +4,7 @@ use Rattle.std.specs.Prelude.{slice_get}
 use Rattle.std.proofs.lemmas.Option.{slice_get-get_or}
 use Rattle.cex_json.specs.declared.counterexample.Counterexample.{Counterexample}
 use Rattle.ios_ast.specs.declared.file.File.{File}
-use Rattle.net_model.specs.World.{IsEnvironment, IsFailureSet}
+use Rattle.net_parts.specs.World.{IsEnvironment, IsFailureSet}
 use Rattle.question_lang.specs.declared.question.Question.{Question}
 use Rattle.question_lang.specs.Packets.{IsInSet}
 use Rattle.route_record.specs.declared.TheConstants.{LENGTHS}

@@ -9,8 +9,8 @@ use Rattle.mw_text.specs.Text.{same_text}
 use Rattle.mw_outside.specs.Contents.{Contents, get}
 use Rattle.ios_ast.specs.declared.file.File.{File}
 use Rattle.ios_policy_reader.specs.declared.cause.Refused.{Refused}
-use Rattle.net_model.specs.declared.refusals.NetRefused.{NetRefused}
-use Rattle.net_model.specs.Refusals.{first_refusal}
+use Rattle.net_refusals.specs.declared.refusals.NetRefused.{NetRefused}
+use Rattle.net_refusals.specs.Refusals.{first_refusal}
 use Rattle.ios_reader.specs.Reading.{reading}
 use Rattle.cex_json.specs.declared.counterexample.Counterexample.{Counterexample}
 use Rattle.cex_json.specs.declared.refused.CexRefused.{CexRefused}

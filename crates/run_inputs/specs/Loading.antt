@@ -3,7 +3,7 @@ use Rattle.std.specs.Prelude.{◌≡◌, ⊤, ℕ, ◌*◌, ◌≤◌, List, len
 use Rattle.world_variables.specs.Slots.{runs_no_bgp}
 use Rattle.cex_json.specs.declared.counterexample.Counterexample.{Counterexample}
 use Rattle.ios_ast.specs.declared.file.File.{File}
-use Rattle.net_model.specs.World.{IsEnvironment, IsFailureSet}
+use Rattle.net_parts.specs.World.{IsEnvironment, IsFailureSet}
 use Rattle.question_lang.specs.declared.question.Question.{Question}
 use Rattle.question_lang.specs.declared.reader.TheConstants.{MOST_QUESTIONS}
 use Rattle.question_lang.specs.Packets.{IsInSet}
@@ -39,8 +39,8 @@ IsBudget budget = (1 ≤ budget) × (budget ≤ MOST_CONFLICTS)
 
 -- what the work of a command comes to
 abbrev pub outcome_of : Work → Outcome
-outcome_of (Answer loaded) = answering loaded.net loaded.questions loaded.budget
-outcome_of (Replay told) = replaying told.net told.questions told.cex
+outcome_of (Answer loaded) = answering loaded.net.files loaded.questions loaded.budget
+outcome_of (Replay told) = replaying told.net.files told.questions told.cex
 
 -- a counterexample as the reader leaves it: of one of the questions, with its packet in the set, its failures among
 -- those that are allowed, an environment of the network, and a slot for each router and length
@@ -55,5 +55,5 @@ pub record IsAdmitted (files : List File) (questions : List Question) (cex : Cou
 -- the work can be done: no router runs BGP and the questions are few, or the counterexample is admitted
 abbrev pub IsReady : Work → Type 0
 IsReady (Answer loaded) =
-    (runs_no_bgp loaded.net ≡ true) × (length loaded.questions ≤ MOST_QUESTIONS) × IsBudget loaded.budget
-IsReady (Replay told) = IsAdmitted told.net told.questions told.cex
+    (runs_no_bgp loaded.net.files ≡ true) × (length loaded.questions ≤ MOST_QUESTIONS) × IsBudget loaded.budget
+IsReady (Replay told) = IsAdmitted told.net.files told.questions told.cex

@@ -6,11 +6,11 @@ use Rattle.ios_policy_reader.specs.declared.cause.Cause.TheVariants.{UnknownComm
 use Rattle.ios_policy_reader.specs.declared.cause.Cause.TheVariants.{OutOfPlace, Limit, NoHostname, UnknownRouter}
 use Rattle.ios_policy_reader.specs.declared.cause.Cause.TheVariants.{UnknownPeer, TooManyQuestions, Undefined, Memory}
 use Rattle.ios_policy_reader.specs.declared.cause.Refused.{Refused}
-use Rattle.net_model.specs.declared.refusals.NetCause.{NetCause}
-use Rattle.net_model.specs.declared.refusals.NetCause.TheVariants as net
-use Rattle.net_model.specs.declared.refusals.NetCause.TheVariants.{SameName, SameAddress, SubnetClash}
-use Rattle.net_model.specs.declared.refusals.NetCause.TheVariants.{NextHopNotConnected, ExternalInternalPeer}
-use Rattle.net_model.specs.declared.refusals.NetCause.TheVariants.{SecondArea, NetLimit}
+use Rattle.net_refusals.specs.declared.refusals.NetCause.{NetCause}
+use Rattle.net_refusals.specs.declared.refusals.NetCause.TheVariants as net
+use Rattle.net_refusals.specs.declared.refusals.NetCause.TheVariants.{SameName, SameAddress, SubnetClash}
+use Rattle.net_refusals.specs.declared.refusals.NetCause.TheVariants.{NextHopNotConnected, ExternalInternalPeer}
+use Rattle.net_refusals.specs.declared.refusals.NetCause.TheVariants.{SecondArea, NetLimit}
 use Rattle.cex_json.specs.declared.refused.CexRefused.{CexRefused}
 use Rattle.cex_json.specs.declared.refused.CexRefused.TheVariants as cex
 use Rattle.cex_json.specs.declared.refused.CexRefused.TheVariants.{NotJson, Field}

@@ -247,9 +247,9 @@ fn stop_at_network(alloc: Global, texts: &[Text], why: NetRefused) -> Stop
 
 // The network, where `verify` can answer for it.
 fn answered_network(alloc: Global, texts: &[Text], net: Net) -> Result<Net, Stop>
-    ensures ok { IfOk result (λ answered. due.answered_network texts.now net ≡ Ok answered) }
-    ensures no_bgp { IfOk result (λ answered. runs_no_bgp answered ≡ true) }
-    ensures stop { IfErr result (λ stop. OnStop stop (λ line. due.answered_network texts.now net ≡ Err (due.refused line)) ⊥) }
+    ensures ok { IfOk result (λ answered. due.answered_network texts.now net.files ≡ Ok answered.files) }
+    ensures no_bgp { IfOk result (λ answered. runs_no_bgp answered.files ≡ true) }
+    ensures stop { IfErr result (λ stop. OnStop stop (λ line. due.answered_network texts.now net.files ≡ Err (due.refused line)) ⊥) }
 {
     match first_unbuilt(net.routers()) {
         None => Ok(net),
@@ -260,7 +260,7 @@ fn answered_network(alloc: Global, texts: &[Text], net: Net) -> Result<Net, Stop
 // The network of some files, where they form one.
 fn network_of(alloc: Global, texts: &[Text], files: List<File>) -> Result<Net, Stop>
     requires limits { list_all keeps_limits files ≡ true }
-    ensures ok { IfOk result (λ net. due.network_of texts.now files ≡ Ok net) }
+    ensures ok { IfOk result (λ net. due.network_of texts.now files ≡ Ok net.files) }
     ensures stop { IfErr result (λ stop. OnStop stop (λ line. due.network_of texts.now files ≡ Err (due.refused line)) ⊥) }
 {
     match Net::build(alloc, files) {
@@ -272,7 +272,7 @@ fn network_of(alloc: Global, texts: &[Text], files: List<File>) -> Result<Net, S
 /// The network of the texts.
 pub fn parse_network(alloc: Global, texts: &[Text]) -> Result<Net, Stop>
     requires { AreSmall texts.now }
-    ensures ok { IfOk result (λ net. due.network_due texts.now ≡ Ok net) }
+    ensures ok { IfOk result (λ net. due.network_due texts.now ≡ Ok net.files) }
     ensures stop { IfErr result (λ stop. OnStop stop (λ line. due.network_due texts.now ≡ Err (due.refused line)) ⊥) }
 {
     let files = parse_files(alloc, texts)?;
@@ -282,10 +282,10 @@ pub fn parse_network(alloc: Global, texts: &[Text]) -> Result<Net, Stop>
 /// The questions of the text over the network.
 pub fn read_asked(alloc: Global, asked: &Text, net: &Net) -> Result<List<Question>, Stop>
     requires { length asked.now.bytes ≤ MOST_BYTES }
-    ensures ok { IfOk result (λ questions. due.asked_of asked.now net.now ≡ Ok questions) }
-    ensures known { IfOk result (AreKnown net.now) }
+    ensures ok { IfOk result (λ questions. due.asked_of asked.now net.now.files ≡ Ok questions) }
+    ensures known { IfOk result (AreKnown net.now.files) }
     ensures few { IfOk result (λ questions. length questions ≤ MOST_QUESTIONS) }
-    ensures stop { IfErr result (λ stop. OnStop stop (λ line. due.asked_of asked.now net.now ≡ Err (due.refused line)) ⊥) }
+    ensures stop { IfErr result (λ stop. OnStop stop (λ line. due.asked_of asked.now net.now.files ≡ Err (due.refused line)) ⊥) }
 {
     match read_questions(alloc, asked.bytes.as_slice(), net) {
         Ok(questions) => Ok(questions),
@@ -305,9 +305,9 @@ pub struct Loaded {
 fn parse(alloc: Global, budget: u64, texts: &[Text], asked: &Text) -> Result<Loaded, Stop>
     requires texts { AreSmall texts.now }
     requires asked { length asked.now.bytes ≤ MOST_BYTES }
-    ensures ok { IfOk result (λ loaded. due.texts_due budget texts.now asked.now ≡ Ok (due.answering loaded.net loaded.questions budget)) }
+    ensures ok { IfOk result (λ loaded. due.texts_due budget texts.now asked.now ≡ Ok (due.answering loaded.net.files loaded.questions budget)) }
     ensures budget { IfOk result (λ loaded. loaded.budget ≡ budget) }
-    ensures no_bgp { IfOk result (λ loaded. runs_no_bgp loaded.net ≡ true) }
+    ensures no_bgp { IfOk result (λ loaded. runs_no_bgp loaded.net.files ≡ true) }
     ensures few { IfOk result (λ loaded. length loaded.questions ≤ MOST_QUESTIONS) }
     ensures stop { IfErr result (λ stop. OnStop stop (λ line. due.texts_due budget texts.now asked.now ≡ Err (due.refused line)) ⊥) }
 {
@@ -333,9 +333,9 @@ pub fn load<F: Files>(
 ) -> Result<Loaded, Stop>
     ensures kept { F.contents files.new ≡ F.contents files.old }
     ensures ok { IfOk result (λ loaded. IfSome (F.contents files.old) (λ contents.
-        due.files_due contents budget questions.now (map string_bytes names.now) ≡ Ok (due.answering loaded.net loaded.questions budget))) }
+        due.files_due contents budget questions.now (map string_bytes names.now) ≡ Ok (due.answering loaded.net.files loaded.questions budget))) }
     ensures budget { IfOk result (λ loaded. loaded.budget ≡ budget) }
-    ensures no_bgp { IfOk result (λ loaded. runs_no_bgp loaded.net ≡ true) }
+    ensures no_bgp { IfOk result (λ loaded. runs_no_bgp loaded.net.files ≡ true) }
     ensures few { IfOk result (λ loaded. length loaded.questions ≤ MOST_QUESTIONS) }
     ensures quiet { UnlessReadFault result (F.faults files.new ≡ F.faults files.old) }
     ensures name_stays { UnlessReadFault result (F.last_failed files.new ≡ F.last_failed files.old) }

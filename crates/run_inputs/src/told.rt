@@ -43,9 +43,9 @@ fn parse_cex(
     net: &Net,
     questions: &[Question],
 ) -> Result<Counterexample, Stop>
-    ensures ok { IfOk result (λ cex. due.cex_of told.now net.now questions.now ≡ Ok (due.replaying net.now questions.now cex)) }
-    ensures admitted { IfOk result (λ cex. IsAdmitted net.now questions.now cex) }
-    ensures stop { IfErr result (λ stop. OnStop stop (λ line. due.cex_of told.now net.now questions.now ≡ Err (due.refused line)) ⊥) }
+    ensures ok { IfOk result (λ cex. due.cex_of told.now net.now.files questions.now ≡ Ok (due.replaying net.now.files questions.now cex)) }
+    ensures admitted { IfOk result (λ cex. IsAdmitted net.now.files questions.now cex) }
+    ensures stop { IfErr result (λ stop. OnStop stop (λ line. due.cex_of told.now net.now.files questions.now ≡ Err (due.refused line)) ⊥) }
 {
     match read_cex(alloc, net, questions, told.bytes.as_slice()) {
         Ok(cex) => Ok(cex),
@@ -57,8 +57,8 @@ fn parse_cex(
 fn parse_replay(alloc: Global, texts: &[Text], asked: &Text, told: &Text) -> Result<Told, Stop>
     requires texts { AreSmall texts.now }
     requires asked { length asked.now.bytes ≤ MOST_BYTES }
-    ensures ok { IfOk result (λ work. due.replay_due texts.now asked.now told.now ≡ Ok (due.replaying work.net work.questions work.cex)) }
-    ensures admitted { IfOk result (λ work. IsAdmitted work.net work.questions work.cex) }
+    ensures ok { IfOk result (λ work. due.replay_due texts.now asked.now told.now ≡ Ok (due.replaying work.net.files work.questions work.cex)) }
+    ensures admitted { IfOk result (λ work. IsAdmitted work.net.files work.questions work.cex) }
     ensures stop { IfErr result (λ stop. OnStop stop (λ line. due.replay_due texts.now asked.now told.now ≡ Err (due.refused line)) ⊥) }
 {
     let net = parse_network(alloc, texts)?;
@@ -83,8 +83,8 @@ pub fn load_replay<F: Files>(
 ) -> Result<Told, Stop>
     ensures kept { F.contents files.new ≡ F.contents files.old }
     ensures ok { IfOk result (λ work. IfSome (F.contents files.old) (λ contents.
-        due.replayed_due contents cex.now questions.now (map string_bytes names.now) ≡ Ok (due.replaying work.net work.questions work.cex))) }
-    ensures admitted { IfOk result (λ work. IsAdmitted work.net work.questions work.cex) }
+        due.replayed_due contents cex.now questions.now (map string_bytes names.now) ≡ Ok (due.replaying work.net.files work.questions work.cex))) }
+    ensures admitted { IfOk result (λ work. IsAdmitted work.net.files work.questions work.cex) }
     ensures quiet { UnlessReadFault result (F.faults files.new ≡ F.faults files.old) }
     ensures name_stays { UnlessReadFault result (F.last_failed files.new ≡ F.last_failed files.old) }
     ensures stop { IfErr result (λ stop. OnStop stop

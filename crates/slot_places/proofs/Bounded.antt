@@ -18,8 +18,8 @@ use Rattle.route_record.specs.declared.Slot.{Slot}
 use Rattle.route_record.specs.declared.Tables.{Tables}
 use Rattle.route_record.specs.declared.TheConstants.{LENGTHS}
 use Rattle.route_record.specs.Places.{slot_at}
-use Rattle.net_model.specs.Ospf.{adjacencies}
-use Rattle.net_model.specs.Stable.{Stable}
+use Rattle.net_parts.specs.Ospf.{adjacencies}
+use Rattle.net_parts.specs.Stable.{Stable}
 use Rattle.mw_text.specs.Members.{In}
 use Rattle.mw_text.proofs.Lists.{in-from_any}
 use Rattle.slot_places.specs.Supported.{AreOrigins}

@@ -8,7 +8,7 @@ use Rattle.std.proofs.lemmas.Nat.{pow-add, pow_pos}
 use Rattle.mw_text.specs.declared.address.Addr.{Addr}
 use Rattle.mw_text.specs.declared.address.Prefix.{Prefix}
 use Rattle.mw_text.specs.Address.{block, covers, prefix_at, same_prefix}
-use Rattle.net_model.specs.Connected.{overlap}
+use Rattle.net_interfaces.specs.Connected.{overlap}
 use Rattle.slot_places.specs.Origins.{meets}
 
 coarser : (a b long short : ℕ) → short ≤ long → a / block long ≡ b / block long → a / block short ≡ b / block short

@@ -8,7 +8,7 @@ use Rattle.std.proofs.lemmas.Option.{same_Some}
 use Rattle.mw_text.specs.Members.{In}
 use Rattle.ios_ast.specs.Deciding.{in_order, put_by}
 use Rattle.std.specs.Prelude.{nat_le}
-use Rattle.net_model.proofs.LeastWalks.{in-left, in-right}
+use Rattle.net_parts.proofs.LeastWalks.{in-left, in-right}
 
 pub map-in : {X Y : Type 0} (f : X → Y) (xs : List X) (x : X) → In x xs → In (f x) (map f xs)
 map-in f [] x there = absurd there

@@ -9,7 +9,7 @@ use Rattle.std.proofs.lemmas.List.Kept.{AllPairs-cons}
 use Rattle.std.proofs.Math.Nat.{suc-mul}
 use Rattle.mw_text.specs.Members.{In}
 use Rattle.route_record.specs.declared.Plan.{Plan}
-use Rattle.net_model.proofs.LeastWalks.{in-cases, in-left, in-map, in-right}
+use Rattle.net_parts.proofs.LeastWalks.{in-cases, in-left, in-map, in-right}
 use Rattle.slot_places.specs.declared.places.Place.{Place}
 use Rattle.slot_places.specs.Places.{IsBefore, place, places_below}
 use Rattle.slot_places.specs.Plans.{has_slice, lens_below}

@@ -19,12 +19,12 @@ use Rattle.route_record.specs.declared.Slot.{Slot}
 use Rattle.route_record.specs.declared.Tables.{Tables}
 use Rattle.route_record.specs.declared.TheConstants.{LENGTHS}
 use Rattle.route_record.specs.Places.{slot_at}
-use Rattle.net_model.specs.declared.adjacencies.Adjacency.{Adjacency}
-use Rattle.net_model.specs.Ospf.{adjacencies, up_adjacencies}
-use Rattle.net_model.specs.OspfRoutes.{better_of, extended, first_best, held_by_ospf, is_better, offer_over}
-use Rattle.net_model.specs.OspfRoutes.{own_origins}
-use Rattle.net_model.specs.Stable.{Stable, held_ospf}
-use Rattle.net_model.proofs.LeastWalks.{in-cases, in-filter, in-filter_map}
+use Rattle.net_parts.specs.declared.adjacencies.Adjacency.{Adjacency}
+use Rattle.net_parts.specs.Ospf.{adjacencies, up_adjacencies}
+use Rattle.net_parts.specs.OspfRoutes.{better_of, extended, first_best, held_by_ospf, is_better, offer_over}
+use Rattle.net_parts.specs.OspfRoutes.{own_origins}
+use Rattle.net_parts.specs.Stable.{Stable, held_ospf}
+use Rattle.net_parts.proofs.LeastWalks.{in-cases, in-filter, in-filter_map}
 use Rattle.mw_text.specs.Members.{In}
 use Rattle.slot_places.specs.Supported.{AreOrigins, IsKept}
 

@@ -21,7 +21,7 @@ use Rattle.route_record.specs.declared.Tables.{Tables}
 use Rattle.route_record.specs.declared.TheConstants.{LENGTHS}
 use Rattle.route_record.specs.Fits.{FitsSlot}
 use Rattle.route_record.specs.Places.{slot_at}
-use Rattle.net_model.specs.Stable.{IsStableSlot, Stable}
+use Rattle.net_parts.specs.Stable.{IsStableSlot, Stable}
 use Rattle.slot_places.specs.declared.places.Place.{Place}
 use Rattle.slot_places.specs.Places.{is_at, item_at, place, places_below}
 use Rattle.slot_places.specs.Tables.{all_hold, empty_slot, row_from, rows_from, slot_among, tables_over, tabulated}

@@ -20,13 +20,13 @@ use Rattle.route_record.specs.declared.OspfRec.{OspfRec}
 use Rattle.route_record.specs.declared.RibSource.{RibSource}
 use Rattle.route_record.specs.declared.RibSource.TheVariants.{Connected, Static}
 use Rattle.route_record.specs.declared.Slot.{Slot}
-use Rattle.net_model.specs.declared.interfaces.Addressed.{Addressed}
-use Rattle.net_model.specs.declared.ospf.OspfInterface.{OspfInterface}
-use Rattle.net_model.specs.Connected.{overlap}
-use Rattle.net_model.specs.Interfaces.{addressed}
-use Rattle.net_model.specs.Mapping.{entries_named}
-use Rattle.net_model.specs.Origins.{external_record, redistributed}
-use Rattle.net_model.specs.Ospf.{advertisement, ospf_interfaces}
+use Rattle.net_interfaces.specs.declared.interfaces.Addressed.{Addressed}
+use Rattle.net_parts.specs.declared.ospf.OspfInterface.{OspfInterface}
+use Rattle.net_interfaces.specs.Connected.{overlap}
+use Rattle.net_interfaces.specs.Interfaces.{addressed}
+use Rattle.ios_ast.specs.Maps.{entries_named}
+use Rattle.net_parts.specs.Origins.{external_record, redistributed}
+use Rattle.net_parts.specs.Ospf.{advertisement, ospf_interfaces}
 
 -- the prefix has that length, and shares an address with the destinations
 abbrev pub meets : Prefix → ℕ → Prefix → Bool

@@ -8,9 +8,9 @@ use Rattle.mw_text.specs.declared.address.Prefix.{Prefix}
 use Rattle.ios_ast.specs.declared.file.File.{File}
 use Rattle.route_record.specs.declared.OspfRec.{OspfRec}
 use Rattle.route_record.specs.declared.TheConstants.{LENGTHS}
-use Rattle.net_model.specs.Interfaces.{addressed}
-use Rattle.net_model.specs.Ospf.{adjacencies}
-use Rattle.net_model.specs.OspfRoutes.{kind_rank}
+use Rattle.net_interfaces.specs.Interfaces.{addressed}
+use Rattle.net_parts.specs.Ospf.{adjacencies}
+use Rattle.net_parts.specs.OspfRoutes.{kind_rank}
 use Rattle.slot_places.specs.declared.rooms.Room.{Room}
 use Rattle.slot_places.specs.Origins.{is_static_at, is_subnet_at, origins_at}
 use Rattle.slot_places.specs.Values.{FitsField, field_of, once, width_for}

@@ -8,7 +8,7 @@ use Rattle.route_record.specs.declared.OspfRec.{OspfRec}
 use Rattle.route_record.specs.declared.Slot.{Slot}
 use Rattle.route_record.specs.declared.Tables.{Tables}
 use Rattle.route_record.specs.Places.{slot_at}
-use Rattle.net_model.specs.OspfRoutes.{own_origins}
+use Rattle.net_parts.specs.OspfRoutes.{own_origins}
 
 -- P is true of all that the processes of the routers originate for the prefix
 abbrev pub AreOrigins : List File → Failures → Tables → Prefix → (OspfRec → Type 0) → Type 0

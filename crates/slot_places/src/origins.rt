@@ -4,17 +4,17 @@
 ghost use Rattle.std.specs.Prelude.{◌≡◌, ◌++◌, ◌∷◌, [], IfOk, OnOk, filter, fold, map, unwrap_or};
 ghost use Rattle.std.specs.List.{flat_map};
 ghost use Rattle.std.specs.Option.{option_map_or};
-ghost use Rattle.net_model.specs.Interfaces.{addressed};
-ghost use Rattle.net_model.specs.Mapping.{entries_named};
-ghost use Rattle.net_model.specs.Origins as model;
-ghost use Rattle.net_model.specs.Ospf.{ospf_interfaces};
+ghost use Rattle.net_interfaces.specs.Interfaces.{addressed};
+ghost use Rattle.ios_ast.specs.Maps.{entries_named};
+ghost use Rattle.net_parts.specs.Origins as model;
+ghost use Rattle.net_parts.specs.Ospf.{ospf_interfaces};
 ghost use Rattle.slot_places.specs.Origins as origins;
 
 use ios_ast::{DefaultOrigin, File, MapEntry, Ospf, Redist, SetAct, Source, StaticRoute, Use};
 use mw_text::{List, Prefix};
-use net_model::connected::prefixes_overlap;
-use net_model::ends::file_of;
-use net_model::ospf::advertisement;
+use net_interfaces::connected::prefixes_overlap;
+use net_parts::ends::file_of;
+use net_parts::ospf::advertisement;
 use net_model::{Addressed, OspfInterface};
 use policy_eval::map_named;
 use proto_rib::into_ospf::redistribute_of;

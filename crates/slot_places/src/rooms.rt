@@ -2,8 +2,8 @@
 
 ghost use Rattle.std.specs.Prelude.{◌≡◌, ◌≤◌, ◌++◌, ◌∷◌, [], IfOk, OnOk, fold, length, map, max};
 ghost use Rattle.std.specs.Option.{option_copied};
-ghost use Rattle.net_model.specs.Ospf as model;
-ghost use Rattle.net_model.specs.OspfRoutes as routes;
+ghost use Rattle.net_parts.specs.Ospf as model;
+ghost use Rattle.net_parts.specs.OspfRoutes as routes;
 ghost use Rattle.slot_places.specs.Rooms as rooms;
 ghost use Rattle.slot_places.specs.Values.{once};
 
@@ -11,7 +11,7 @@ use crate::fields::{Field, field_of, put_once, width_for};
 use crate::origins::origins_at;
 use ios_ast::File;
 use mw_text::{List, Prefix};
-use net_model::ends::file_of;
+use net_parts::ends::file_of;
 use net_model::{Adjacency, Net};
 use route_record::{LENGTHS, OspfKind, OspfRec};
 use std::alloc::{AllocError, Global};
@@ -126,8 +126,8 @@ fn room_at(
     walk: u64,
 ) -> Result<Option<Room>, AllocError>
     requires small { walk ≤ 0xffff_ffff_ffff }
-    requires walk { walk ≡ rooms.dearest_walk net.now }
-    ensures { IfOk result (λ room. room ≡ rooms.room_at net.now destinations.now len) }
+    requires walk { walk ≡ rooms.dearest_walk net.now.files }
+    ensures { IfOk result (λ room. room ≡ rooms.room_at net.now.files destinations.now len) }
 {
     let origins = origins_at(
         alloc,
@@ -148,7 +148,7 @@ pub fn rooms(
     net: &Net,
     destinations: &Prefix,
 ) -> Result<List<Option<Room>>, AllocError>
-    ensures { IfOk result (λ all. all ≡ rooms.rooms_of net.now destinations.now) }
+    ensures { IfOk result (λ all. all ≡ rooms.rooms_of net.now.files destinations.now) }
 {
     let walk = dearest_walk(net.routers(), net.adjacencies());
     let mut made = List::new(alloc);

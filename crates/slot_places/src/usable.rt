@@ -2,7 +2,7 @@
 
 ghost use Rattle.std.specs.Prelude.{◌≡◌, ◌==◌, ◌&&◌, ◌<◌};
 ghost use Rattle.std.specs.List.{list_any};
-ghost use Rattle.net_model.specs.Interfaces.{addressed};
+ghost use Rattle.net_interfaces.specs.Interfaces.{addressed};
 ghost use Rattle.route_record.specs.declared.TheConstants as constants;
 ghost use Rattle.slot_places.specs.Origins as origins;
 ghost use Rattle.slot_places.specs.Rooms as rooms;
@@ -12,7 +12,7 @@ use crate::rooms::{Room, room_for};
 use ios_ast::File;
 use mw_text::Prefix;
 use net_model::Addressed;
-use net_model::ends::file_of;
+use net_parts::ends::file_of;
 
 fn is_subnet_of(x: &Addressed, destinations: &Prefix, router: u32, len: u8) -> bool
     ensures { result ≡ ((x.now.id.router == router) && origins.is_subnet_at destinations.now len x.now) }

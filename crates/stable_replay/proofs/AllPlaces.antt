@@ -13,7 +13,7 @@ use Rattle.route_record.specs.declared.Tables.{Tables}
 use Rattle.route_record.specs.declared.TheConstants.{LENGTHS}
 use Rattle.route_record.specs.Fits.{FitsSlot}
 use Rattle.route_record.specs.Places.{slot_at}
-use Rattle.net_model.specs.Stable.{IsStableSlot, Stable}
+use Rattle.net_parts.specs.Stable.{IsStableSlot, Stable}
 use Rattle.stable_replay.specs.declared.differs.Differs.{Differs}
 use Rattle.stable_replay.specs.declared.differs.Part.{Part}
 use Rattle.stable_replay.specs.declared.differs.Part.TheVariants.{Ospf, Bgp, Rib}

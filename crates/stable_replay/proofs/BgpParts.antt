@@ -6,7 +6,7 @@ use Rattle.mw_text.specs.declared.address.Prefix.{Prefix}
 use Rattle.ios_ast.specs.declared.bgp.Bgp.{Bgp}
 use Rattle.ios_ast.specs.declared.file.File.{File}
 use Rattle.route_record.specs.declared.Slot.{Slot}
-use Rattle.net_model.specs.Origins.{local_routes}
+use Rattle.net_parts.specs.Origins.{local_routes}
 use Rattle.proto_rib.specs.Taken.{local_routes_at}
 
 -- by its slot, if it has one

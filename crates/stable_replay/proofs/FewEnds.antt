@@ -3,10 +3,10 @@ use Rattle.std.proofs.Common.{◌≡◌, ◌≤◌, true, List, length, refl, ar
 use Rattle.std.proofs.lemmas.List.{length-map}
 use Rattle.std.specs.List.{list_all}
 use Rattle.ios_ast.specs.declared.file.File.{File}
-use Rattle.net_model.specs.Interfaces.{addressed}
-use Rattle.net_model.specs.Limits.{keeps_limits}
-use Rattle.net_model.specs.Sessions.{end_of, ends_of, sessions}
-use Rattle.net_model.proofs.Peers.{few_sessions}
+use Rattle.net_interfaces.specs.Interfaces.{addressed}
+use Rattle.net_interfaces.specs.Limits.{keeps_limits}
+use Rattle.net_parts.specs.Sessions.{end_of, ends_of, sessions}
+use Rattle.net_parts.proofs.Peers.{few_sessions}
 
 pub few_ends : (files : List File) → length files ≤ 64 → list_all keeps_limits files ≡ true
     → length (ends_of files) ≤ 4294967295

@@ -7,7 +7,7 @@ use Rattle.std.specs.Option.{option_map_or}
 use Rattle.std.proofs.lemmas.Bool.Decides.{Decides-at}
 use Rattle.std.proofs.lemmas.List.Folds.{Any-from_list_any, list_any-from_Any}
 use Rattle.route_record.specs.declared.BgpRec.{BgpRec}
-use Rattle.net_model.specs.Decisions as decisions
+use Rattle.net_parts.specs.Decisions as decisions
 use Rattle.proto_bgp.specs.declared.decision.Candidate.{Candidate}
 use Rattle.proto_bgp.specs.Places.{candidate_at, candidates_at}
 use Rattle.proto_bgp.proofs.StepLaws.{any_found}

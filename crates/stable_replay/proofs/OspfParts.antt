@@ -10,8 +10,8 @@ use Rattle.route_record.specs.declared.Failures.{Failures}
 use Rattle.route_record.specs.declared.Slot.{Slot}
 use Rattle.route_record.specs.declared.Tables.{Tables}
 use Rattle.route_record.specs.Places.{slot_at}
-use Rattle.net_model.specs.OspfRoutes.{first_best, held_by_ospf, offer_over, own_origins}
-use Rattle.net_model.specs.Ospf.{up_adjacencies}
+use Rattle.net_parts.specs.OspfRoutes.{first_best, held_by_ospf, offer_over, own_origins}
+use Rattle.net_parts.specs.Ospf.{up_adjacencies}
 use Rattle.stable_replay.specs.Parts.{origins_at, routes_at}
 
 -- by the slot of the router

@@ -10,8 +10,8 @@ use Rattle.route_record.specs.declared.Slot.{Slot}
 use Rattle.route_record.specs.declared.Tables.{Tables}
 use Rattle.route_record.specs.declared.TheConstants.{LENGTHS}
 use Rattle.route_record.specs.Places.{slot_at}
-use Rattle.net_model.specs.Entries.{table_entry}
-use Rattle.net_model.specs.Stable.{held_ospf, IsDecided, IsStableSlot}
+use Rattle.net_parts.specs.Entries.{table_entry}
+use Rattle.net_parts.specs.Stable.{held_ospf, IsDecided, IsStableSlot}
 use Rattle.stable_replay.specs.declared.differs.Differs.{Differs}
 use Rattle.stable_replay.specs.declared.differs.Part.{Part}
 use Rattle.stable_replay.specs.declared.differs.Part.TheVariants.{Ospf, Bgp, Rib}

@@ -14,11 +14,11 @@ use Rattle.route_record.specs.declared.RibEntry.{RibEntry}
 use Rattle.route_record.specs.declared.Slot.{Slot}
 use Rattle.route_record.specs.declared.Tables.{Tables}
 use Rattle.route_record.specs.Places.{slot_at}
-use Rattle.net_model.specs.declared.sessions.SessionEnd.{SessionEnd}
-use Rattle.net_model.specs.Decisions.{Candidate, candidates, peer_identifier, survivors}
-use Rattle.net_model.specs.Ospf.{origin_interfaces, up_adjacencies}
-use Rattle.net_model.specs.OspfRoutes.{offer_over}
-use Rattle.net_model.specs.Resolution.{resolved}
+use Rattle.net_parts.specs.declared.sessions.SessionEnd.{SessionEnd}
+use Rattle.net_parts.specs.Decisions.{Candidate, candidates, peer_identifier, survivors}
+use Rattle.net_parts.specs.Ospf.{origin_interfaces, up_adjacencies}
+use Rattle.net_parts.specs.OspfRoutes.{offer_over}
+use Rattle.net_parts.specs.Resolution.{resolved}
 use Rattle.proto_bgp.specs.declared.decision.Candidate.{Candidate as Decided}
 use Rattle.proto_bgp.specs.Places.{candidate_at}
 use Rattle.proto_rib.specs.Taken.{redistributed_at}

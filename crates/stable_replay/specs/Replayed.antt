@@ -2,7 +2,7 @@
 use Rattle.std.specs.Prelude.{◌≡◌, ◌≢◌, List, Option, Some, None}
 use Rattle.ios_ast.specs.declared.file.File.{File}
 use Rattle.route_record.specs.declared.World.{World}
-use Rattle.net_model.specs.Stable.{Stable}
+use Rattle.net_parts.specs.Stable.{Stable}
 use Rattle.cex_json.specs.declared.counterexample.Counterexample.{Counterexample}
 use Rattle.question_lang.specs.declared.question.Kind.TheVariants.{NoStable}
 use Rattle.question_lang.specs.declared.question.Question.{Question}

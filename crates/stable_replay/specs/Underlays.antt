@@ -2,8 +2,8 @@
 use Rattle.std.specs.Prelude.{◌≡◌, ◌≤◌, List, length, map}
 use Rattle.ios_ast.specs.declared.file.File.{File}
 use Rattle.route_record.specs.declared.Failures.{Failures}
-use Rattle.net_model.specs.Resolution.{session_up}
-use Rattle.net_model.specs.Sessions.{ends_of}
+use Rattle.net_parts.specs.Resolution.{session_up}
+use Rattle.net_parts.specs.Sessions.{ends_of}
 use Rattle.proto_ospf.specs.Reached.{all_reached}
 use Rattle.proto_ospf.specs.Rounds.{everywhere, receiver}
 use Rattle.stable_replay.specs.declared.underlay.Underlay.{Underlay}

@@ -3,13 +3,13 @@
 ghost use Rattle.std.specs.Prelude.{◌≡◌, ◌==◌, ◌&&◌, ◌<◌, IfOk, Some, length, option_and_then, option_map, slice_get};
 ghost use Rattle.std.specs.List.{find};
 ghost use Rattle.std.specs.Option.{option_copied};
-ghost use Rattle.net_model.specs.Decisions as decisions;
-ghost use Rattle.net_model.specs.Exports as exports;
-ghost use Rattle.net_model.specs.Sessions as sessions;
+ghost use Rattle.net_parts.specs.Decisions as decisions;
+ghost use Rattle.net_parts.specs.Exports as exports;
+ghost use Rattle.net_parts.specs.Sessions as sessions;
 ghost use Rattle.route_record.specs.Places.{slot_at};
 
 use mw_text::{Addr, List, Prefix};
-use net_model::ends::neighbour_of;
+use net_parts::ends::neighbour_of;
 use net_model::{Far, Net, SessionEnd};
 use policy_eval::copy_list;
 use proto_bgp::{export, import};
@@ -75,7 +75,7 @@ fn from_outside(
 ) -> Result<Option<BgpMsg>, AllocError>
     ensures { IfOk result (λ msg. msg
         ≡ option_and_then (λ neighbour. option_map (exports.announced_message neighbour.addr)
-        (find (λ a. (a.end == at) && (a.len == p.now.len)) env.now.announced)) (sessions.neighbour_of net.now end.now)) }
+        (find (λ a. (a.end == at) && (a.len == p.now.len)) env.now.announced)) (sessions.neighbour_of net.now.files end.now)) }
 {
     match neighbour_of(net.routers(), end) {
         None => Ok(None),
@@ -102,9 +102,9 @@ fn far_message(
     far_at: u32,
     far: &SessionEnd,
 ) -> Result<Option<BgpMsg>, AllocError>
-    requires is { slice_get (sessions.ends_of net.now) far_at ≡ Some far.now }
-    requires within { far_at < length (sessions.ends_of net.now) }
-    ensures { IfOk result (λ msg. msg ≡ option_and_then (exports.exported net.now far.now p.now)
+    requires is { slice_get (sessions.ends_of net.now.files) far_at ≡ Some far.now }
+    requires within { far_at < length (sessions.ends_of net.now.files) }
+    ensures { IfOk result (λ msg. msg ≡ option_and_then (exports.exported net.now.files far.now p.now)
         (option_and_then (λ slot. slot.bgp) (slot_at tables.now far.now.router p.now.len))) }
 {
     match held_at(tables, far.router, p.len) {
@@ -121,9 +121,9 @@ fn from_inside(
     p: &Prefix,
     far_at: u32,
 ) -> Result<Option<BgpMsg>, AllocError>
-    ensures { IfOk result (λ msg. msg ≡ option_and_then (λ far. option_and_then (exports.exported net.now far p.now)
+    ensures { IfOk result (λ msg. msg ≡ option_and_then (λ far. option_and_then (exports.exported net.now.files far p.now)
         (option_and_then (λ slot. slot.bgp) (slot_at tables.now far.router p.now.len)))
-        (slice_get (sessions.ends_of net.now) far_at)) }
+        (slice_get (sessions.ends_of net.now.files) far_at)) }
 {
     match net.ends().get(far_at as usize) {
         None => Ok(None),
@@ -132,7 +132,7 @@ fn from_inside(
 }
 
 // The message that arrives over the session of the end at that place.
-#[tactic(auto, unfolding(net_model::specs::Decisions::arriving))]
+#[tactic(auto, unfolding(net_parts::specs::Decisions::arriving))]
 fn arriving(
     alloc: Global,
     net: &Net,
@@ -142,7 +142,7 @@ fn arriving(
     at: u32,
     end: &SessionEnd,
 ) -> Result<Option<BgpMsg>, AllocError>
-    ensures { IfOk result (λ msg. msg ≡ decisions.arriving net.now env.now tables.now p.now at end.now) }
+    ensures { IfOk result (λ msg. msg ≡ decisions.arriving net.now.files env.now tables.now p.now at end.now) }
 {
     match end.far {
         Far::Outside => from_outside(alloc, net, env, p, at, end),
@@ -160,10 +160,10 @@ pub fn arrived(
     at: u32,
     end: &SessionEnd,
 ) -> Result<Option<BgpRec>, AllocError>
-    requires is { slice_get (sessions.ends_of net.now) at ≡ Some end.now }
-    requires within { at < length (sessions.ends_of net.now) }
-    ensures { IfOk result (λ rec. rec ≡ option_and_then (exports.imported net.now end.now p.now)
-        (decisions.arriving net.now env.now tables.now p.now at end.now)) }
+    requires is { slice_get (sessions.ends_of net.now.files) at ≡ Some end.now }
+    requires within { at < length (sessions.ends_of net.now.files) }
+    ensures { IfOk result (λ rec. rec ≡ option_and_then (exports.imported net.now.files end.now p.now)
+        (decisions.arriving net.now.files env.now tables.now p.now at end.now)) }
 {
     match arriving(alloc, net, env, tables, p, at, end)? {
         None => Ok(None),

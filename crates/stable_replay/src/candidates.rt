@@ -2,9 +2,9 @@
 
 ghost use Rattle.std.specs.Prelude.{◌≡◌, ◌≤◌, ◌++◌, [], IfOk, OnOk, Some, false, length, map, slice_get};
 ghost use Rattle.std.specs.Option.{option_map_or};
-ghost use Rattle.net_model.specs.Decisions as decisions;
-ghost use Rattle.net_model.specs.Exports.{router_id};
-ghost use Rattle.net_model.specs.Sessions as sessions;
+ghost use Rattle.net_parts.specs.Decisions as decisions;
+ghost use Rattle.net_parts.specs.Exports.{router_id};
+ghost use Rattle.net_parts.specs.Sessions as sessions;
 ghost use Rattle.proto_bgp.specs.Steps.{seen};
 ghost use Rattle.proto_rib.specs.Taken.{local_routes_at};
 ghost use Rattle.route_record.specs.Places.{slot_at};
@@ -15,7 +15,7 @@ use crate::underlay::Underlay;
 use ios_ast::{Bgp, File};
 use mw_text::{Addr, List, Prefix};
 use net_model::Net;
-use net_model::router_ids::router_id;
+use net_parts::router_ids::router_id;
 use proto_bgp::Candidate;
 use proto_rib::originate;
 use route_record::{BgpRec, Environment, Failures, Tables};
@@ -54,7 +54,7 @@ fn local_routes(
     p: &Prefix,
 ) -> Result<List<BgpRec>, AllocError>
     ensures { IfOk result (λ made. made
-        ≡ option_map_or (local_routes_at net.now router p.now) (slot_at tables.now router p.now.len) []) }
+        ≡ option_map_or (local_routes_at net.now.files router p.now) (slot_at tables.now router p.now.len) []) }
 {
     match tables.slot(router, p.len) {
         None => Ok(List::new(alloc)),
@@ -70,8 +70,8 @@ fn local_candidates(
     router: u32,
     p: &Prefix,
 ) -> Result<List<Candidate>, AllocError>
-    ensures { IfOk result (λ made. map seen made ≡ map (decisions.local_candidate net.now router)
-        (option_map_or (local_routes_at net.now router p.now) (slot_at tables.now router p.now.len) [])) }
+    ensures { IfOk result (λ made. map seen made ≡ map (decisions.local_candidate net.now.files router)
+        (option_map_or (local_routes_at net.now.files router p.now) (slot_at tables.now router p.now.len) [])) }
 {
     let own = router_id(alloc, net.routers(), net.addresses(), router)?;
     let routes = local_routes(alloc, net, tables, router, p)?;
@@ -80,7 +80,7 @@ fn local_candidates(
 
 /// All BGP routes that the router may hold for the prefix, by its own slot and those of its neighbours: its local ones, and
 /// then by session what it has learnt.
-#[tactic(auto, using(crate::proofs::BgpParts::local_of), unfolding(net_model::specs::Decisions::candidates))]
+#[tactic(auto, using(crate::proofs::BgpParts::local_of), unfolding(net_parts::specs::Decisions::candidates))]
 pub fn candidates(
     alloc: Global,
     net: &Net,
@@ -93,11 +93,11 @@ pub fn candidates(
     process: &Bgp,
     p: &Prefix,
 ) -> Result<List<Candidate>, AllocError>
-    requires underlay { IsUnderlay net.now failures.now underlay.now }
-    requires file { slice_get net.now router ≡ Some file.now }
+    requires underlay { IsUnderlay net.now.files failures.now underlay.now }
+    requires file { slice_get net.now.files router ≡ Some file.now }
     requires process { file.now.bgp ≡ Some process.now }
     ensures { IfOk result (λ made. map seen made
-        ≡ decisions.candidates net.now failures.now env.now tables.now router file.now process.now p.now) }
+        ≡ decisions.candidates net.now.files failures.now env.now tables.now router file.now process.now p.now) }
 {
     let mut made = local_candidates(alloc, net, tables, router, p)?;
     add_learnt(

@@ -1,8 +1,8 @@
 //! Whether tables are a stable routing.
 
 ghost use Rattle.std.specs.Prelude.{◌≡◌, ◌≢◌, ◌≤◌, ◌<◌, ◌*◌, IfErr, IfOk, MatchOption, length, map};
-ghost use Rattle.net_model.specs.Sessions.{ends_of};
-ghost use Rattle.net_model.specs.Stable.{Stable};
+ghost use Rattle.net_parts.specs.Sessions.{ends_of};
+ghost use Rattle.net_parts.specs.Stable.{Stable};
 ghost use Rattle.stable_replay.specs.Differences as differences;
 ghost use Rattle.stable_replay.specs.Underlays.{IsUnderlay};
 ghost use Rattle.stable_replay.specs.declared.differs.Differs.{Differs as Difference};
@@ -26,12 +26,12 @@ fn test_place(
     underlay: &Underlay,
     place: usize,
 ) -> Result<Option<Differs>, AllocError>
-    requires underlay { IsUnderlay net.now failures.now underlay.now }
-    requires size { length tables.now.slots ≡ LENGTHS * length net.now }
-    requires within { place < LENGTHS * length net.now }
+    requires underlay { IsUnderlay net.now.files failures.now underlay.now }
+    requires size { length tables.now.slots ≡ LENGTHS * length net.now.files }
+    requires within { place < LENGTHS * length net.now.files }
     ensures { IfOk result (λ found. MatchOption found
-        (differences.IsStableAt net.now d failures.now env.now tables.now place)
-        (differences.IsDifferenceAt net.now d failures.now env.now tables.now place)) }
+        (differences.IsStableAt net.now.files d failures.now env.now tables.now place)
+        (differences.IsDifferenceAt net.now.files d failures.now env.now tables.now place)) }
 {
     let routers = net.routers();
     let router = place / LENGTHS;
@@ -61,11 +61,11 @@ fn first_over(
     tables: &Tables,
     underlay: &Underlay,
 ) -> Result<Option<Differs>, AllocError>
-    requires underlay { IsUnderlay net.now failures.now underlay.now }
-    requires size { length tables.now.slots ≡ LENGTHS * length net.now }
+    requires underlay { IsUnderlay net.now.files failures.now underlay.now }
+    requires size { length tables.now.slots ≡ LENGTHS * length net.now.files }
     ensures { IfOk result (λ found. MatchOption found
-        (Stable net.now d failures.now env.now tables.now)
-        (differences.IsFirstDifference net.now d failures.now env.now tables.now)) }
+        (Stable net.now.files d failures.now env.now tables.now)
+        (differences.IsFirstDifference net.now.files d failures.now env.now tables.now)) }
 {
     read_tables(tables);
     for place in 0..LENGTHS * net.routers().len() {
@@ -85,10 +85,10 @@ fn first_difference(
     env: &Environment,
     tables: &Tables,
 ) -> Result<Option<Differs>, AllocError>
-    requires size { length tables.now.slots ≡ LENGTHS * length net.now }
+    requires size { length tables.now.slots ≡ LENGTHS * length net.now.files }
     ensures { IfOk result (λ found. MatchOption found
-        (Stable net.now d failures.now env.now tables.now)
-        (differences.IsFirstDifference net.now d failures.now env.now tables.now)) }
+        (Stable net.now.files d failures.now env.now tables.now)
+        (differences.IsFirstDifference net.now.files d failures.now env.now tables.now)) }
 {
     let underlay = underlay_of(alloc, net, failures)?;
     first_over(alloc, net, d, failures, env, tables, &underlay)
@@ -106,12 +106,12 @@ pub fn check(
     env: &Environment,
     tables: &Tables,
 ) -> Result<(), ReplayNo>
-    requires size { length tables.now.slots ≡ LENGTHS * length net.now }
-    ensures ok { IfOk result (λ _. Stable net.now d failures.now env.now tables.now) }
+    requires size { length tables.now.slots ≡ LENGTHS * length net.now.files }
+    ensures ok { IfOk result (λ _. Stable net.now.files d failures.now env.now tables.now) }
     ensures differs { IfErr result (λ why. why ≢ ReplayNo.Memory → (differs : Difference)
         × (why ≡ ReplayNo.Differs differs)
-        × differences.IsFirstDifference net.now d failures.now env.now tables.now differs) }
-    ensures unstable { IfErr result (λ why. why ≢ ReplayNo.Memory → Stable net.now d failures.now env.now tables.now → ⊥) }
+        × differences.IsFirstDifference net.now.files d failures.now env.now tables.now differs) }
+    ensures unstable { IfErr result (λ why. why ≢ ReplayNo.Memory → Stable net.now.files d failures.now env.now tables.now → ⊥) }
 {
     match first_difference(alloc, net, d, failures, env, tables) {
         Err(_) => Err(ReplayNo::Memory),

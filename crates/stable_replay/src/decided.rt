@@ -4,9 +4,9 @@ ghost use Rattle.std.specs.Prelude.{◌≡◌, ◌≤◌, [], false, IfOk, None,
 ghost use Rattle.std.specs.Bool.{Decides};
 ghost use Rattle.std.specs.List.{list_any};
 ghost use Rattle.std.specs.Option.{option_map_or};
-ghost use Rattle.net_model.specs.Decisions as decisions;
-ghost use Rattle.net_model.specs.Sessions.{ends_of};
-ghost use Rattle.net_model.specs.Stable as stable;
+ghost use Rattle.net_parts.specs.Decisions as decisions;
+ghost use Rattle.net_parts.specs.Sessions.{ends_of};
+ghost use Rattle.net_parts.specs.Stable as stable;
 ghost use Rattle.proto_bgp.specs.Places.{candidate_at, candidates_at};
 ghost use Rattle.proto_bgp.specs.Steps.{seen};
 ghost use Rattle.stable_replay.specs.Parts as parts;
@@ -108,7 +108,7 @@ fn test_left(
 }
 
 // Tests what is held against the candidates that the process leaves.
-#[tactic(auto, unfolding(net_model::specs::Decisions::DecidedByBgp))]
+#[tactic(auto, unfolding(net_parts::specs::Decisions::DecidedByBgp))]
 fn test_process(
     alloc: Global,
     net: &Net,
@@ -122,12 +122,12 @@ fn test_process(
     p: &Prefix,
     held: &Option<BgpRec>,
 ) -> Result<Option<List<Slot>>, AllocError>
-    requires underlay { IsUnderlay net.now failures.now underlay.now }
-    requires file { slice_get net.now router ≡ Some file.now }
+    requires underlay { IsUnderlay net.now.files failures.now underlay.now }
+    requires file { slice_get net.now.files router ≡ Some file.now }
     requires process { file.now.bgp ≡ Some process.now }
     ensures { IfOk result (parts.IsTested
-        (decisions.DecidedByBgp net.now failures.now env.now tables.now router file.now process.now p.now held.now)
-        (parts.bgp_slots (parts.left_by net.now failures.now env.now tables.now router file.now p.now process.now))) }
+        (decisions.DecidedByBgp net.now.files failures.now env.now tables.now router file.now process.now p.now held.now)
+        (parts.bgp_slots (parts.left_by net.now.files failures.now env.now tables.now router file.now p.now process.now))) }
 {
     let made = candidates(
         alloc, net, failures, env, tables, underlay, router, file, process, p,
@@ -159,11 +159,11 @@ pub fn test_bgp(
     p: &Prefix,
     held: &Option<BgpRec>,
 ) -> Result<Option<List<Slot>>, AllocError>
-    requires underlay { IsUnderlay net.now failures.now underlay.now }
-    requires file { slice_get net.now router ≡ Some file.now }
+    requires underlay { IsUnderlay net.now.files failures.now underlay.now }
+    requires file { slice_get net.now.files router ≡ Some file.now }
     ensures { IfOk result (parts.IsTested
-        (stable.IsDecided net.now failures.now env.now tables.now router file.now p.now held.now)
-        (parts.bgp_wanted net.now failures.now env.now tables.now router file.now p.now)) }
+        (stable.IsDecided net.now.files failures.now env.now tables.now router file.now p.now held.now)
+        (parts.bgp_wanted net.now.files failures.now env.now tables.now router file.now p.now)) }
 {
     match &file.bgp {
         None => Ok(test_none(alloc, held)),

@@ -4,8 +4,8 @@ ghost use Rattle.std.specs.Prelude.{◌≡◌, IfOk, Some, false, slice_get};
 ghost use Rattle.std.specs.Bool.{Decides};
 ghost use Rattle.std.specs.List.{list_any};
 ghost use Rattle.std.specs.Option.{option_map_or};
-ghost use Rattle.net_model.specs.Entries as entries;
-ghost use Rattle.net_model.specs.OspfRoutes as routes;
+ghost use Rattle.net_parts.specs.Entries as entries;
+ghost use Rattle.net_parts.specs.OspfRoutes as routes;
 ghost use Rattle.stable_replay.specs.Parts as parts;
 
 use crate::ospf::origins;
@@ -36,8 +36,8 @@ fn is_own(
     slot: &Slot,
     held: &OspfRec,
 ) -> Result<bool, AllocError>
-    requires file { slice_get net.now router ≡ Some file.now }
-    ensures { IfOk result (λ own. own ≡ routes.is_own net.now failures.now router file.now p.now slot.now held.now) }
+    requires file { slice_get net.now.files router ≡ Some file.now }
+    ensures { IfOk result (λ own. own ≡ routes.is_own net.now.files failures.now router file.now p.now slot.now held.now) }
 {
     if file.ospf.is_none() {
         return Ok(false);
@@ -56,8 +56,8 @@ fn own_is_as_good(
     p: &Prefix,
     slot: &Slot,
 ) -> Result<bool, AllocError>
-    requires file { slice_get net.now router ≡ Some file.now }
-    ensures { IfOk result (λ own. own ≡ entries.own_is_as_good net.now failures.now router file.now p.now slot.now) }
+    requires file { slice_get net.now.files router ≡ Some file.now }
+    ensures { IfOk result (λ own. own ≡ entries.own_is_as_good net.now.files failures.now router file.now p.now slot.now) }
 {
     match &slot.ospf {
         None => Ok(false),
@@ -75,8 +75,8 @@ pub fn wanted_entry(
     p: &Prefix,
     slot: &Slot,
 ) -> Result<Option<RibEntry>, AllocError>
-    requires file { slice_get net.now router ≡ Some file.now }
-    ensures { IfOk result (λ wanted. wanted ≡ entries.table_entry net.now failures.now router file.now p.now slot.now) }
+    requires file { slice_get net.now.files router ≡ Some file.now }
+    ensures { IfOk result (λ wanted. wanted ≡ entries.table_entry net.now.files failures.now router file.now p.now slot.now) }
 {
     let own = own_is_as_good(alloc, net, failures, router, file, p, slot)?;
     Ok(best_entry(net, failures, router, p, slot, own))
@@ -136,10 +136,10 @@ pub fn test_entry(
     p: &Prefix,
     slot: &Slot,
 ) -> Result<Option<List<Slot>>, AllocError>
-    requires file { slice_get net.now router ≡ Some file.now }
+    requires file { slice_get net.now.files router ≡ Some file.now }
     ensures { IfOk result (parts.IsTested
-        (slot.now.rib ≡ entries.table_entry net.now failures.now router file.now p.now slot.now)
-        (parts.rib_slots (entries.table_entry net.now failures.now router file.now p.now slot.now))) }
+        (slot.now.rib ≡ entries.table_entry net.now.files failures.now router file.now p.now slot.now)
+        (parts.rib_slots (entries.table_entry net.now.files failures.now router file.now p.now slot.now))) }
 {
     let wanted = wanted_entry(alloc, net, failures, router, file, p, slot)?;
     if same_entry(&slot.rib, &wanted) {

@@ -2,9 +2,9 @@
 
 ghost use Rattle.std.specs.Prelude.{◌≡◌, ◌==◌, ◌≤◌, ◌<◌, ◌++◌, false, IfOk, OnOk, Some, None, filter, length, map, option_map, slice_get, take, unwrap_or, if◌then◌else◌};
 ghost use Rattle.std.specs.List.{filter_map};
-ghost use Rattle.net_model.specs.Decisions as decisions;
-ghost use Rattle.net_model.specs.Resolution.{session_up};
-ghost use Rattle.net_model.specs.Sessions as sessions;
+ghost use Rattle.net_parts.specs.Decisions as decisions;
+ghost use Rattle.net_parts.specs.Resolution.{session_up};
+ghost use Rattle.net_parts.specs.Sessions as sessions;
 ghost use Rattle.proto_bgp.specs.Steps.{seen};
 ghost use Rattle.stable_replay.specs.Underlays.{IsUnderlay};
 ghost use Rattle.stable_replay.specs.Parts as parts;
@@ -12,7 +12,7 @@ ghost use Rattle.stable_replay.specs.Parts as parts;
 use crate::arriving::arrived;
 use crate::underlay::Underlay;
 use mw_text::{Addr, List, Prefix};
-use net_model::router_ids::router_id;
+use net_parts::router_ids::router_id;
 use net_model::{Far, Net, SessionEnd};
 use proto_bgp::Candidate;
 use proto_ospf::resolve_over;
@@ -55,8 +55,8 @@ fn peer_identifier(
     at: u32,
     end: &SessionEnd,
 ) -> Result<Addr, AllocError>
-    requires within { at < length (sessions.ends_of net.now) }
-    ensures { IfOk result (λ id. id ≡ decisions.peer_identifier net.now env.now at end.now) }
+    requires within { at < length (sessions.ends_of net.now.files) }
+    ensures { IfOk result (λ id. id ≡ decisions.peer_identifier net.now.files env.now at end.now) }
 {
     match end.far {
         Far::Outside => Ok(outside_id(net.ends(), env, at)),
@@ -69,9 +69,9 @@ fn peer_identifier(
 
 // Whether the session of the end at that place is up.
 fn is_up(net: &Net, failures: &Failures, underlay: &Underlay, at: u32, end: &SessionEnd) -> bool
-    requires underlay { IsUnderlay net.now failures.now underlay.now }
-    requires is { slice_get (sessions.ends_of net.now) at ≡ Some end.now }
-    ensures { result ≡ session_up net.now failures.now end.now }
+    requires underlay { IsUnderlay net.now.files failures.now underlay.now }
+    requires is { slice_get (sessions.ends_of net.now.files) at ≡ Some end.now }
+    ensures { result ≡ session_up net.now.files failures.now end.now }
 {
     let _files = net.routers();
     let _failed = failures.links.as_slice();
@@ -92,9 +92,9 @@ fn resolved_candidate(
     end: &SessionEnd,
     rec: BgpRec,
 ) -> Result<Option<Candidate>, AllocError>
-    requires underlay { IsUnderlay net.now failures.now underlay.now }
-    requires within { at < length (sessions.ends_of net.now) }
-    ensures { IfOk result (λ made. option_map seen made ≡ parts.resolved_as net.now failures.now env.now at end.now rec) }
+    requires underlay { IsUnderlay net.now.files failures.now underlay.now }
+    requires within { at < length (sessions.ends_of net.now.files) }
+    ensures { IfOk result (λ made. option_map seen made ≡ parts.resolved_as net.now.files failures.now env.now at end.now rec) }
 {
     let Some(cost) = resolve_over(
         net,
@@ -126,11 +126,11 @@ fn learnt_candidate(
     at: u32,
     end: &SessionEnd,
 ) -> Result<Option<Candidate>, AllocError>
-    requires underlay { IsUnderlay net.now failures.now underlay.now }
-    requires is { slice_get (sessions.ends_of net.now) at ≡ Some end.now }
-    requires within { at < length (sessions.ends_of net.now) }
+    requires underlay { IsUnderlay net.now.files failures.now underlay.now }
+    requires is { slice_get (sessions.ends_of net.now.files) at ≡ Some end.now }
+    requires within { at < length (sessions.ends_of net.now.files) }
     ensures { IfOk result (λ made. option_map seen made
-        ≡ decisions.learnt_candidate net.now failures.now env.now tables.now p.now (at, end.now)) }
+        ≡ decisions.learnt_candidate net.now.files failures.now env.now tables.now p.now (at, end.now)) }
 {
     if !is_up(net, failures, underlay, at, end) {
         return Ok(None);
@@ -153,10 +153,10 @@ pub fn add_learnt(
     router: u32,
     p: &Prefix,
 ) -> Result<(), AllocError>
-    requires underlay { IsUnderlay net.now failures.now underlay.now }
+    requires underlay { IsUnderlay net.now.files failures.now underlay.now }
     ensures { OnOk result (map seen out.new ≡ map seen out.old
-        ++ filter_map (decisions.learnt_candidate net.now failures.now env.now tables.now p.now)
-        (filter (λ e. e.1.router == router) (decisions.numbered 0 (sessions.ends_of net.now)))) }
+        ++ filter_map (decisions.learnt_candidate net.now.files failures.now env.now tables.now p.now)
+        (filter (λ e. e.1.router == router) (decisions.numbered 0 (sessions.ends_of net.now.files)))) }
 {
     for (at, end) in net.ends().iter().enumerate() {
         if end.router == router {

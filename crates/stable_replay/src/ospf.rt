@@ -4,8 +4,8 @@ ghost use Rattle.std.specs.Prelude.{◌≡◌, ◌==◌, ◌&&◌, ◌++◌, ◌
 ghost use Rattle.std.specs.Bool.{Decides};
 ghost use Rattle.std.specs.List.{filter_map};
 ghost use Rattle.std.specs.Option.{option_map_or};
-ghost use Rattle.net_model.specs.OspfRoutes as routes;
-ghost use Rattle.net_model.specs.Stable as stable;
+ghost use Rattle.net_parts.specs.OspfRoutes as routes;
+ghost use Rattle.net_parts.specs.Stable as stable;
 ghost use Rattle.route_record.specs.Places.{slot_at};
 ghost use Rattle.stable_replay.specs.Parts as parts;
 ghost use Rattle.stable_replay.specs.Underlays.{IsUnderlay};
@@ -27,7 +27,7 @@ fn internal_origins(
     router: u32,
     p: &Prefix,
 ) -> Result<List<OspfRec>, AllocError>
-    ensures { IfOk result (λ made. made ≡ parts.internal_origins net.now failures.now router p.now) }
+    ensures { IfOk result (λ made. made ≡ parts.internal_origins net.now.files failures.now router p.now) }
 {
     let mut made = List::new(alloc);
     for x in net.ospf_interfaces() {
@@ -51,7 +51,7 @@ pub fn origins(
     p: &Prefix,
     slot: &Slot,
 ) -> Result<List<OspfRec>, AllocError>
-    ensures { IfOk result (λ made. made ≡ parts.origins_at net.now failures.now router p.now slot.now) }
+    ensures { IfOk result (λ made. made ≡ parts.origins_at net.now.files failures.now router p.now slot.now) }
 {
     let mut made = internal_origins(alloc, net, failures, router, p)?;
     let taken = redistribute(alloc, net, router, p, slot)?;
@@ -69,7 +69,7 @@ fn held_origins(
     p: &Prefix,
 ) -> Result<List<OspfRec>, AllocError>
     ensures { IfOk result (λ made. made
-        ≡ option_map_or (parts.origins_at net.now failures.now router p.now) (slot_at tables.now router p.now.len) []) }
+        ≡ option_map_or (parts.origins_at net.now.files failures.now router p.now) (slot_at tables.now router p.now.len) []) }
 {
     match tables.slot(router, p.len) {
         None => Ok(List::new(alloc)),
@@ -117,9 +117,9 @@ fn all_routes(
     router: u32,
     p: &Prefix,
 ) -> Result<List<OspfRec>, AllocError>
-    requires underlay { IsUnderlay net.now failures.now underlay.now }
-    requires within { router < length net.now }
-    ensures { IfOk result (λ all. all ≡ parts.routes_at net.now failures.now tables.now router p.now) }
+    requires underlay { IsUnderlay net.now.files failures.now underlay.now }
+    requires within { router < length net.now.files }
+    ensures { IfOk result (λ all. all ≡ parts.routes_at net.now.files failures.now tables.now router p.now) }
 {
     let mut all = held_origins(alloc, net, failures, tables, router, p)?;
     let over = adjacencies_of(net, failures, underlay, router);
@@ -128,7 +128,7 @@ fn all_routes(
 }
 
 /// The OSPF record that the router holds in a stable routing, by the tables: none where it runs no OSPF.
-#[tactic(auto, using(crate::proofs::OspfParts::routes_of), unfolding(net_model::specs::OspfRoutes::held_by_ospf))]
+#[tactic(auto, using(crate::proofs::OspfParts::routes_of), unfolding(net_parts::specs::OspfRoutes::held_by_ospf))]
 pub fn wanted_ospf(
     alloc: Global,
     net: &Net,
@@ -139,9 +139,9 @@ pub fn wanted_ospf(
     file: &File,
     p: &Prefix,
 ) -> Result<Option<OspfRec>, AllocError>
-    requires underlay { IsUnderlay net.now failures.now underlay.now }
-    requires file { slice_get net.now router ≡ Some file.now }
-    ensures { IfOk result (λ wanted. wanted ≡ stable.held_ospf net.now failures.now tables.now router file.now p.now) }
+    requires underlay { IsUnderlay net.now.files failures.now underlay.now }
+    requires file { slice_get net.now.files router ≡ Some file.now }
+    ensures { IfOk result (λ wanted. wanted ≡ stable.held_ospf net.now.files failures.now tables.now router file.now p.now) }
 {
     if file.ospf.is_none() {
         return Ok(None);
@@ -203,11 +203,11 @@ pub fn test_ospf(
     p: &Prefix,
     held: &Option<OspfRec>,
 ) -> Result<Option<List<Slot>>, AllocError>
-    requires underlay { IsUnderlay net.now failures.now underlay.now }
-    requires file { slice_get net.now router ≡ Some file.now }
+    requires underlay { IsUnderlay net.now.files failures.now underlay.now }
+    requires file { slice_get net.now.files router ≡ Some file.now }
     ensures { IfOk result (parts.IsTested
-        (held.now ≡ stable.held_ospf net.now failures.now tables.now router file.now p.now)
-        (parts.ospf_slots (stable.held_ospf net.now failures.now tables.now router file.now p.now))) }
+        (held.now ≡ stable.held_ospf net.now.files failures.now tables.now router file.now p.now)
+        (parts.ospf_slots (stable.held_ospf net.now.files failures.now tables.now router file.now p.now))) }
 {
     let wanted = wanted_ospf(alloc, net, failures, tables, underlay, router, file, p)?;
     if same_ospf(held, &wanted) {

@@ -67,8 +67,8 @@ fn has_walk(
     world: &World,
     walk: &Option<Walk>,
 ) -> Result<bool, AllocError>
-    ensures yes { IfOk result (λ yes. yes ≡ true → replayed.IsNoWalkIn net.now question.now world.now walk.now → ⊥) }
-    ensures no { IfOk result (λ yes. yes ≡ false → replayed.IsNoWalkIn net.now question.now world.now walk.now) }
+    ensures yes { IfOk result (λ yes. yes ≡ true → replayed.IsNoWalkIn net.now.files question.now world.now walk.now → ⊥) }
+    ensures no { IfOk result (λ yes. yes ≡ false → replayed.IsNoWalkIn net.now.files question.now world.now walk.now) }
 {
     match walk {
         None => Ok(asks_no_stable(&question.kind)),
@@ -84,8 +84,8 @@ fn breaks_so(
     world: &World,
     walk: &Option<Walk>,
 ) -> Result<bool, AllocError>
-    ensures yes { IfOk result (λ yes. yes ≡ true → Breaks net.now world.now question.now.kind walk.now) }
-    ensures no { IfOk result (λ yes. yes ≡ false → Breaks net.now world.now question.now.kind walk.now → ⊥) }
+    ensures yes { IfOk result (λ yes. yes ≡ true → Breaks net.now.files world.now question.now.kind walk.now) }
+    ensures no { IfOk result (λ yes. yes ≡ false → Breaks net.now.files world.now question.now.kind walk.now → ⊥) }
 {
     breaks(alloc, net, question, world, walk.as_ref())
 }
@@ -110,10 +110,10 @@ pub fn replay(
     question: &Question,
     cex: &Counterexample,
 ) -> Result<(), ReplayNo>
-    requires size { length cex.now.tables.slots ≡ LENGTHS * length net.now }
-    ensures ok { IfOk result (λ _. replayed.IsReplayed net.now question.now cex.now) }
-    ensures refused { IfErr result (replayed.IsRefusedSo net.now question.now cex.now) }
-    ensures untrue { IfErr result (λ why. why ≢ ReplayNo.Memory → replayed.IsReplayed net.now question.now cex.now → ⊥) }
+    requires size { length cex.now.tables.slots ≡ LENGTHS * length net.now.files }
+    ensures ok { IfOk result (λ _. replayed.IsReplayed net.now.files question.now cex.now) }
+    ensures refused { IfErr result (replayed.IsRefusedSo net.now.files question.now cex.now) }
+    ensures untrue { IfErr result (λ why. why ≢ ReplayNo.Memory → replayed.IsReplayed net.now.files question.now cex.now → ⊥) }
 {
     check(
         alloc,

@@ -1,7 +1,7 @@
 //! Whether a slot of the tables is stable.
 
 ghost use Rattle.std.specs.Prelude.{◌≡◌, ◌≤◌, IfOk, Some, length, map, slice_get};
-ghost use Rattle.net_model.specs.Sessions.{ends_of};
+ghost use Rattle.net_parts.specs.Sessions.{ends_of};
 ghost use Rattle.stable_replay.specs.Differences.{IsSlotTested};
 ghost use Rattle.stable_replay.specs.Parts as parts;
 ghost use Rattle.stable_replay.specs.Underlays.{IsUnderlay};
@@ -77,9 +77,9 @@ pub fn test_slot(
     p: &Prefix,
     slot: &Slot,
 ) -> Result<Option<Differs>, AllocError>
-    requires underlay { IsUnderlay net.now failures.now underlay.now }
-    requires file { slice_get net.now router ≡ Some file.now }
-    ensures { IfOk result (IsSlotTested net.now failures.now env.now tables.now router file.now p.now slot.now) }
+    requires underlay { IsUnderlay net.now.files failures.now underlay.now }
+    requires file { slice_get net.now.files router ≡ Some file.now }
+    ensures { IfOk result (IsSlotTested net.now.files failures.now env.now tables.now router file.now p.now slot.now) }
 {
     if let Some(wanted) = test_ospf(
         alloc, net, failures, tables, underlay, router, file, p, &slot.ospf,

@@ -1,7 +1,7 @@
 //! What the links that are up give, whatever the tables are.
 
 ghost use Rattle.std.specs.Prelude.{◌≡◌, ◌<◌, IfOk, length};
-ghost use Rattle.net_model.specs.Ospf.{up_adjacencies};
+ghost use Rattle.net_parts.specs.Ospf.{up_adjacencies};
 ghost use Rattle.stable_replay.specs.Underlays.{IsUnderlay};
 
 use mw_text::List;
@@ -21,7 +21,7 @@ pub struct Underlay {
 /// That of a network while these links have failed.
 #[tactic(auto, using(crate::proofs::FewEnds::few_ends))]
 pub fn underlay_of(alloc: Global, net: &Net, failures: &Failures) -> Result<Underlay, AllocError>
-    ensures { IfOk result (IsUnderlay net.now failures.now) }
+    ensures { IfOk result (IsUnderlay net.now.files failures.now) }
 {
     let _routers = net.routers();
     let receivers = receivers(alloc, net, failures)?;
@@ -42,9 +42,9 @@ pub fn adjacencies_of<'a>(
     underlay: &'a Underlay,
     router: u32,
 ) -> &'a [Adjacency]
-    requires underlay { IsUnderlay net.now failures.now underlay.now }
-    requires within { router < length net.now }
-    ensures { result.now ≡ up_adjacencies net.now failures.now router }
+    requires underlay { IsUnderlay net.now.files failures.now underlay.now }
+    requires within { router < length net.now.files }
+    ensures { result.now ≡ up_adjacencies net.now.files failures.now router }
 {
     let _files = net.routers();
     let _failed = failures.links.as_slice();

@@ -6,7 +6,7 @@ use Rattle.std.specs.Prelude.{Contains, slice_get}
 use Rattle.std.proofs.lemmas.Bool.{or_cases, or_left, or_right}
 use Rattle.std.proofs.lemmas.List.{length-map}
 use Rattle.mw_text.proofs.Lists.{item_there}
-use Rattle.net_model.specs.declared.interfaces.IfaceId.{IfaceId}
+use Rattle.net_interfaces.specs.declared.interfaces.IfaceId.{IfaceId}
 use Rattle.question_lang.specs.declared.question.Start.{Start}
 use Rattle.question_lang.specs.declared.walk.End.{End}
 use Rattle.question_lang.specs.declared.walk.End.TheVariants.{Delivered, Left, NoRoute, Discarded, DeniedIn, DeniedOut}

@@ -7,7 +7,7 @@ use Rattle.std.proofs.lemmas.Bool.{and_from, and_parts, or_cases, or_left, or_ri
 use Rattle.std.proofs.lemmas.List.Elements.{All-from_recursion, recursion_from_All}
 use Rattle.ios_ast.specs.declared.file.File.{File}
 use Rattle.route_record.specs.declared.World.{World}
-use Rattle.net_model.specs.declared.interfaces.IfaceId.{IfaceId}
+use Rattle.net_interfaces.specs.declared.interfaces.IfaceId.{IfaceId}
 use Rattle.question_lang.specs.declared.question.Kind.{Kind}
 use Rattle.question_lang.specs.declared.question.Kind.TheVariants.{Reach, Isolate, Waypoint, NoLoop, NoBlackHole}
 use Rattle.question_lang.specs.declared.question.Kind.TheVariants.{Within, Alike, NoStable}

@@ -9,7 +9,7 @@ use Rattle.mw_text.proofs.Lists.{item_there}
 use Rattle.question_lang.specs.declared.walk.End.{End}
 use Rattle.question_lang.specs.declared.walk.Hop.{Hop}
 use Rattle.question_lang.specs.declared.walk.Hop.TheVariants.{To}
-use Rattle.net_model.specs.declared.interfaces.IfaceId.{IfaceId}
+use Rattle.net_interfaces.specs.declared.interfaces.IfaceId.{IfaceId}
 use Rattle.walk_def.specs.Marks.{is_inside, known}
 use Rattle.sym_forwarding.specs.Layers.{Edge, Forwarding, leads, sends_on}
 use Rattle.sym_forwarding.specs.Forwardings.{IsForwarding, sends_to}

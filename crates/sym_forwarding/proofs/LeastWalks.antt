@@ -17,10 +17,10 @@ use Rattle.route_record.specs.declared.BgpRec.{BgpRec}
 use Rattle.route_record.specs.declared.Failures.{Failures}
 use Rattle.route_record.specs.declared.OspfRec.{OspfRec}
 use Rattle.route_record.specs.declared.Packet.{Packet}
-use Rattle.net_model.specs.declared.adjacencies.Adjacency.{Adjacency}
-use Rattle.net_model.specs.Distances.{interior_distance}
-use Rattle.net_model.specs.Ospf.{adjacencies, advertised, up_adjacencies}
-use Rattle.net_model.specs.Sending.{is_on_least_walk, sent_towards}
+use Rattle.net_parts.specs.declared.adjacencies.Adjacency.{Adjacency}
+use Rattle.net_parts.specs.Distances.{interior_distance}
+use Rattle.net_parts.specs.Ospf.{adjacencies, advertised, up_adjacencies}
+use Rattle.net_parts.specs.Sending.{is_on_least_walk, sent_towards}
 use Rattle.question_lang.specs.declared.walk.Hop.{Hop}
 use Rattle.question_lang.specs.Hops.{send_adjacent}
 use Rattle.term_store.specs.Terms.{Reading}

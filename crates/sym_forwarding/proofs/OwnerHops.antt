@@ -13,8 +13,8 @@ use Rattle.mw_text.specs.Address.{block, covers, prefix_at, same_prefix}
 use Rattle.ios_ast.specs.declared.file.File.{File}
 use Rattle.route_record.specs.declared.Failures.{Failures}
 use Rattle.route_record.specs.declared.Packet.{Packet}
-use Rattle.net_model.specs.declared.interfaces.Addressed.{Addressed}
-use Rattle.net_model.specs.World.{is_up}
+use Rattle.net_interfaces.specs.declared.interfaces.Addressed.{Addressed}
+use Rattle.net_parts.specs.World.{is_up}
 use Rattle.question_lang.specs.declared.walk.Hop.{Hop}
 use Rattle.question_lang.specs.Hops.{all_up, arrive, send_to}
 use Rattle.sym_forwarding.specs.Owners.{connected_over, delivered_hop, has_address, over_hops, owner_hop}

@@ -13,8 +13,8 @@ use Rattle.ios_ast.specs.declared.file.Via.{Via}
 use Rattle.ios_ast.specs.declared.file.Via.TheVariants.{Null0, Next, Out}
 use Rattle.route_record.specs.declared.Failures.{Failures}
 use Rattle.route_record.specs.declared.Packet.{Packet}
-use Rattle.net_model.specs.declared.interfaces.Addressed.{Addressed}
-use Rattle.net_model.specs.Routing.{counts, up_interfaces}
+use Rattle.net_interfaces.specs.declared.interfaces.Addressed.{Addressed}
+use Rattle.net_parts.specs.Routing.{counts, up_interfaces}
 use Rattle.question_lang.specs.declared.walk.Hop.{Hop}
 use Rattle.question_lang.specs.Hops.{all_up, send_over, send_to, static_hops}
 use Rattle.sym_forwarding.specs.Statics.{is_taken, leads_on, route_hops, routes_hops}

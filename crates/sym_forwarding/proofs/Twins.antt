@@ -8,7 +8,7 @@ use Rattle.question_lang.specs.declared.walk.End.{End}
 use Rattle.question_lang.specs.declared.walk.End.TheVariants.{DeniedIn}
 use Rattle.question_lang.specs.declared.walk.Hop.{Hop}
 use Rattle.question_lang.specs.declared.walk.Hop.TheVariants.{To, Ends}
-use Rattle.net_model.specs.declared.interfaces.IfaceId.{IfaceId}
+use Rattle.net_interfaces.specs.declared.interfaces.IfaceId.{IfaceId}
 use Rattle.sym_forwarding.specs.Choices.{IsChosen, IsUnion}
 use Rattle.sym_forwarding.specs.Forwardings.{sends_to}
 use Rattle.sym_forwarding.specs.Layers.{Forwarding, silent}

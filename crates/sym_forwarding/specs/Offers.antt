@@ -7,10 +7,10 @@ use Rattle.route_record.specs.declared.Failures.{Failures}
 use Rattle.route_record.specs.declared.OspfRec.{OspfRec}
 use Rattle.route_record.specs.declared.Packet.{Packet}
 use Rattle.route_record.specs.declared.Tables.{Tables}
-use Rattle.net_model.specs.declared.adjacencies.Adjacency.{Adjacency}
-use Rattle.net_model.specs.Ospf.{is_up_at}
-use Rattle.net_model.specs.OspfRoutes.{offer_over}
-use Rattle.net_model.specs.Sending.{same_record}
+use Rattle.net_parts.specs.declared.adjacencies.Adjacency.{Adjacency}
+use Rattle.net_parts.specs.Ospf.{is_up_at}
+use Rattle.net_parts.specs.OspfRoutes.{offer_over}
+use Rattle.net_parts.specs.Sending.{same_record}
 use Rattle.question_lang.specs.declared.walk.Hop.{Hop}
 use Rattle.question_lang.specs.Hops.{send_adjacent}
 

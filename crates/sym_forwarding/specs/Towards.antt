@@ -10,10 +10,10 @@ use Rattle.ios_ast.specs.declared.file.File.{File}
 use Rattle.route_record.specs.declared.Failures.{Failures}
 use Rattle.route_record.specs.declared.OspfRec.{OspfRec}
 use Rattle.route_record.specs.declared.Packet.{Packet}
-use Rattle.net_model.specs.declared.adjacencies.Adjacency.{Adjacency}
-use Rattle.net_model.specs.Ospf.{advertised}
-use Rattle.net_model.specs.Routing.{up_interfaces}
-use Rattle.net_model.specs.Sending.{is_on_least_walk, sent_towards}
+use Rattle.net_parts.specs.declared.adjacencies.Adjacency.{Adjacency}
+use Rattle.net_parts.specs.Ospf.{advertised}
+use Rattle.net_parts.specs.Routing.{up_interfaces}
+use Rattle.net_parts.specs.Sending.{is_on_least_walk, sent_towards}
 use Rattle.question_lang.specs.declared.walk.Hop.{Hop}
 use Rattle.question_lang.specs.Hops.{all_up, send_adjacent, send_over}
 use Rattle.sym_forwarding.specs.Offers.{is_up_from}

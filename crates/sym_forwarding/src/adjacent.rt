@@ -36,7 +36,7 @@ pub fn sym_up_from(
     ensures builds { Builds terms.old terms.new }
     ensures within { IfOk result (λ r. r.0 < size terms.new) }
     ensures value { Gives terms.new result (λ w r. at w r ≡
-        defined.is_up_from net.now (failures_of w sym.now) router a.now) }
+        defined.is_up_from net.now.files (failures_of w sym.now) router a.now) }
 {
     if a.from.router != router {
         return constant_node(terms, false);
@@ -60,7 +60,7 @@ pub fn sym_send_adjacent(
     ensures builds { Builds terms.old terms.new }
     ensures within { IfOk result (λ r. forwarding_end r ≤ size terms.new) }
     ensures value { Gives terms.new result (λ w r. IsTwin (sought_by w aim.now)
-        (hops.send_adjacent net.now (packet_of w packet.now) a.now ∷ []) (forwarding_of w r)) }
+        (hops.send_adjacent net.now.files (packet_of w packet.now) a.now ∷ []) (forwarding_of w r)) }
 {
     let on = sym_arrive(alloc, terms, net, packet, aim, a.to)?;
     let made = sym_depart(alloc, terms, net, packet, aim, a.from, &on)?;

@@ -34,7 +34,7 @@ fn sym_begin_in(
     ensures builds { Builds terms.old terms.new }
     ensures within { IfOk result (λ r. beginning_end r ≤ size terms.new) }
     ensures value { Gives terms.new result (λ w r. beginning_of w r ≡
-        begins_in net.now (failures_of w sym.now) (packet_of w packet.now) i) }
+        begins_in net.now.files (failures_of w sym.now) (packet_of w packet.now) i) }
 {
     let up = sym_up_at(alloc, terms, net, sym, i)?;
     let permit = sym_permits_in(alloc, terms, net, packet, i)?;
@@ -58,7 +58,7 @@ pub fn sym_begin(
     ensures builds { Builds terms.old terms.new }
     ensures within { IfOk result (λ r. beginning_end r ≤ size terms.new) }
     ensures value { Gives terms.new result (λ w r. beginning_of w r ≡
-        begins_at net.now (failures_of w sym.now) (packet_of w packet.now) start) }
+        begins_at net.now.files (failures_of w sym.now) (packet_of w packet.now) start) }
 {
     match start.iface {
         None => {

@@ -3,9 +3,9 @@
 ghost use Rattle.std.specs.Prelude.{◌≡◌, ℕ, ◌+◌, ◌<◌, ◌≤◌, ◌==◌, ◌&&◌, Bool, IfOk, [], ◌∷◌, if◌then◌else◌, length};
 ghost use Rattle.std.specs.Prelude.{List as ListOf};
 ghost use Rattle.mw_text.specs.Address.{prefix_at, same_prefix};
-ghost use Rattle.net_model.specs.Interfaces.{addressed};
-ghost use Rattle.net_model.specs.Routing.{up_interfaces};
-ghost use Rattle.net_model.specs.World.{is_up};
+ghost use Rattle.net_interfaces.specs.Interfaces.{addressed};
+ghost use Rattle.net_parts.specs.Routing.{up_interfaces};
+ghost use Rattle.net_parts.specs.World.{is_up};
 ghost use Rattle.question_lang.specs.declared.walk.Hop.{Hop as HopOf};
 ghost use Rattle.question_lang.specs.Hops as hops;
 ghost use Rattle.sym_policy.specs.Held.{failures_of};
@@ -49,7 +49,7 @@ fn sym_deliver(
     ensures builds { Builds terms.old terms.new }
     ensures within { IfOk result (λ r. forwarding_end r ≤ size terms.new) }
     ensures value { Gives terms.new result (λ w r. IsTwin (sought_by w aim.now)
-        (delivered_hop net.now (failures_of w sym.now) (packet_of w packet.now) x.now.subnet x.now ∷ [])
+        (delivered_hop net.now.files (failures_of w sym.now) (packet_of w packet.now) x.now.subnet x.now ∷ [])
         (forwarding_of w r)) }
 {
     let delivered = sym_ends(alloc, terms, aim, End::Delivered)?;
@@ -85,7 +85,7 @@ fn sym_connects(
     ensures builds { Builds terms.old terms.new }
     ensures within { IfOk result (λ r. r.0 < size terms.new) }
     ensures value { Gives terms.new result (λ w r. at w r ≡
-        (((x.now.id.router == router) && is_up net.now (failures_of w sym.now) x.now)
+        (((x.now.id.router == router) && is_up net.now.files (failures_of w sym.now) x.now)
         && same_prefix x.now.subnet (prefix_read w packet.now.dst len))) }
 {
     if x.id.router != router {
@@ -118,9 +118,9 @@ fn sym_connected_or(
     ensures within { IfOk result (λ r. forwarding_end r ≤ size terms.new) }
     ensures value { Gives terms.new result (λ w r. (others : ListOf HopOf) →
         IsTwin (sought_by w aim.now) others (forwarding_of w rest) →
-        IsTwin (sought_by w aim.now) (if ((x.now.id.router == router) && is_up net.now (failures_of w sym.now) x.now)
+        IsTwin (sought_by w aim.now) (if ((x.now.id.router == router) && is_up net.now.files (failures_of w sym.now) x.now)
         && same_prefix x.now.subnet (prefix_read w packet.now.dst len)
-        then delivered_hop net.now (failures_of w sym.now) (packet_of w packet.now)
+        then delivered_hop net.now.files (failures_of w sym.now) (packet_of w packet.now)
         (prefix_read w packet.now.dst len) x.now ∷ [] else others) (forwarding_of w r)) }
 {
     if x.id.router != router {
@@ -150,8 +150,8 @@ pub fn sym_connected(
     ensures builds { Builds terms.old terms.new }
     ensures within { IfOk result (λ r. forwarding_end r ≤ size terms.new) }
     ensures value { Gives terms.new result (λ w r. IsTwin (sought_by w aim.now)
-        (hops.connected_hops net.now (packet_of w packet.now) (hops.all_up net.now (failures_of w sym.now))
-        (up_interfaces net.now (failures_of w sym.now) router) (prefix_at (address_of w packet.now.dst) len))
+        (hops.connected_hops net.now.files (packet_of w packet.now) (hops.all_up net.now.files (failures_of w sym.now))
+        (up_interfaces net.now.files (failures_of w sym.now) router) (prefix_at (address_of w packet.now.dst) len))
         (forwarding_of w r)) }
 {
     let all = net.addresses();

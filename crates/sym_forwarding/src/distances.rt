@@ -3,8 +3,8 @@
 ghost use Rattle.std.specs.Prelude.{◌≡◌, ℕ, ◌+◌, ◌*◌, ◌<◌, ◌≤◌, ◌==◌, ◌&&◌, Bool, false, IfOk, IfSome, Some, None};
 ghost use Rattle.std.specs.Prelude.{if◌then◌else◌, length, slice_get, option_and_then, option_copied, nat_lt};
 ghost use Rattle.mw_text.specs.Address.{covers};
-ghost use Rattle.net_model.specs.Ospf as ospf;
-ghost use Rattle.net_model.specs.Sending.{is_on_least_walk};
+ghost use Rattle.net_parts.specs.Ospf as ospf;
+ghost use Rattle.net_parts.specs.Sending.{is_on_least_walk};
 ghost use Rattle.sym_ospf.specs.Routes.{routes_end};
 ghost use Rattle.sym_ospf.specs.Rows.{HasDistances};
 ghost use Rattle.sym_policy.specs.Held.{failures_of, ospf_of, ospf_end};
@@ -34,8 +34,8 @@ fn at_row(rows: &[SymOspf], row: usize, width: usize, k: usize) -> Option<&SymOs
 
 // The route of a router to the advertised prefix at a place. A number that is no router's has none.
 fn distance_of<'a>(net: &Net, sym: &'a SymNet, router: u32, k: usize) -> Option<&'a SymOspf>
-    ensures value { option_copied result ≡ (if nat_lt router (length net.now)
-        then slice_get sym.now.igp (router * length (ospf.advertised net.now) + k) else None) }
+    ensures value { option_copied result ≡ (if nat_lt router (length net.now.files)
+        then slice_get sym.now.igp (router * length (ospf.advertised net.now.files) + k) else None) }
     ensures within { IfSome result (λ r. ospf_end r.now ≤ routes_end sym.now.igp) }
 {
     if (router as usize) < net.routers().len() {
@@ -111,12 +111,12 @@ fn sym_on_least_walk(
     p: &Prefix,
     x: &Adjacency,
 ) -> Result<NodeId, AllocError>
-    requires there { slice_get (ospf.advertised net.now) k ≡ Some p.now }
+    requires there { slice_get (ospf.advertised net.now.files) k ≡ Some p.now }
     requires rows { routes_end sym.now.igp ≤ size terms.old }
     ensures builds { Builds terms.old terms.new }
     ensures within { IfOk result (λ r. r.0 < size terms.new) }
-    ensures value { Gives terms.new result (λ w r. HasDistances w net.now sym.now →
-        at w r ≡ is_on_least_walk net.now (failures_of w sym.now) router p.now x.now) }
+    ensures value { Gives terms.new result (λ w r. HasDistances w net.now.files sym.now →
+        at w r ≡ is_on_least_walk net.now.files (failures_of w sym.now) router p.now x.now) }
 {
     let near = distance_of(net, sym, router, k);
     let far = distance_of(net, sym, x.to.router, k);
@@ -137,16 +137,16 @@ fn sym_leads_at(
     x: &Adjacency,
     behind: NodeId,
 ) -> Result<NodeId, AllocError>
-    requires there { slice_get (ospf.advertised net.now) k ≡ Some p.now }
+    requires there { slice_get (ospf.advertised net.now.files) k ≡ Some p.now }
     requires rows { routes_end sym.now.igp ≤ size terms.old }
     requires wide { length a.now.nodes.items ≡ 32 }
     requires nodes { ids_end a.now.nodes.items ≤ size terms.old }
     requires behind { behind.0 < size terms.old }
     ensures builds { Builds terms.old terms.new }
     ensures within { IfOk result (λ r. r.0 < size terms.new) }
-    ensures value { Gives terms.new result (λ w r. HasDistances w net.now sym.now →
+    ensures value { Gives terms.new result (λ w r. HasDistances w net.now.files sym.now →
         at w r ≡ (if covers p.now (address_of w a.now)
-        then is_on_least_walk net.now (failures_of w sym.now) router p.now x.now else at w behind)) }
+        then is_on_least_walk net.now.files (failures_of w sym.now) router p.now x.now else at w behind)) }
 {
     let inside = sym_covers(terms, p, a)?;
     if is_never(terms, inside) {
@@ -173,9 +173,9 @@ pub(crate) fn sym_leads(
     requires nodes { ids_end a.now.nodes.items ≤ size terms.old }
     ensures builds { Builds terms.old terms.new }
     ensures within { IfOk result (λ r. r.0 < size terms.new) }
-    ensures value { Gives terms.new result (λ w r. HasDistances w net.now sym.now →
-        at w r ≡ leads_by net.now (failures_of w sym.now) router (address_of w a.now) x.now
-        (ospf.advertised net.now)) }
+    ensures value { Gives terms.new result (λ w r. HasDistances w net.now.files sym.now →
+        at w r ≡ leads_by net.now.files (failures_of w sym.now) router (address_of w a.now) x.now
+        (ospf.advertised net.now.files)) }
 {
     let mut rest = constant_node(terms, false)?;
     for k in (0..net.advertised().len()).rev() {

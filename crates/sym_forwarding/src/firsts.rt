@@ -3,7 +3,7 @@
 
 ghost use Rattle.std.specs.Prelude.{◌≡◌, ℕ, ◌+◌, ◌<◌, ◌≤◌, ◌&&◌, ◌||◌, not, Bool, false, IfOk, [], ◌∷◌, ◌++◌};
 ghost use Rattle.std.specs.Prelude.{List as ListOf};
-ghost use Rattle.net_model.specs.declared.interfaces.Addressed.{Addressed};
+ghost use Rattle.net_interfaces.specs.declared.interfaces.Addressed.{Addressed};
 ghost use Rattle.question_lang.specs.declared.walk.Hop.{Hop as HopOf};
 ghost use Rattle.question_lang.specs.declared.walk.End.{End as EndOf};
 ghost use Rattle.sym_forwarding.specs.Choices.{IsUnion};

@@ -2,9 +2,9 @@
 
 ghost use Rattle.std.specs.Prelude.{◌≡◌, ℕ, ◌+◌, ◌<◌, ◌≤◌, ◌==◌, ◌&&◌, Bool, IfOk};
 ghost use Rattle.mw_text.specs.Address.{covers, same_prefix};
-ghost use Rattle.net_model.specs.Interfaces.{addressed};
-ghost use Rattle.net_model.specs.Routing.{is_direct, up_interfaces};
-ghost use Rattle.net_model.specs.World.{is_up};
+ghost use Rattle.net_interfaces.specs.Interfaces.{addressed};
+ghost use Rattle.net_parts.specs.Routing.{is_direct, up_interfaces};
+ghost use Rattle.net_parts.specs.World.{is_up};
 ghost use Rattle.sym_policy.specs.Held.{failures_of};
 ghost use Rattle.sym_policy.specs.Records.{packet_end};
 ghost use Rattle.sym_forwarding.specs.Here as targets;
@@ -37,7 +37,7 @@ fn sym_on(
     ensures builds { Builds terms.old terms.new }
     ensures within { IfOk result (λ r. r.0 < size terms.new) }
     ensures value { Gives terms.new result (λ w r. at w r ≡
-        (((x.now.id.router == router) && is_up net.now (failures_of w sym.now) x.now) && same_prefix x.now.subnet
+        (((x.now.id.router == router) && is_up net.now.files (failures_of w sym.now) x.now) && same_prefix x.now.subnet
         p.now)) }
 {
     if x.id.router == router && x.subnet == *p {
@@ -59,7 +59,7 @@ fn sym_direct(
     requires downs { ids_end sym.now.down ≤ size terms.old }
     ensures builds { Builds terms.old terms.new }
     ensures within { IfOk result (λ r. r.0 < size terms.new) }
-    ensures value { Gives terms.new result (λ w r. at w r ≡ is_direct (up_interfaces net.now (failures_of w sym.now)
+    ensures value { Gives terms.new result (λ w r. at w r ≡ is_direct (up_interfaces net.now.files (failures_of w sym.now)
         router) p.now) }
 {
     let mut any = constant_node(terms, false)?;
@@ -85,7 +85,7 @@ fn sym_target(
     ensures builds { Builds terms.old terms.new }
     ensures within { IfOk result (λ r. r.0 < size terms.new) }
     ensures value { Gives terms.new result (λ w r. at w r ≡
-        targets.is_target_router net.now (failures_of w sym.now) (packet_of w packet.now) router target) }
+        targets.is_target_router net.now.files (failures_of w sym.now) (packet_of w packet.now) router target) }
 {
     match target {
         Target::Router(r) => constant_node(terms, router == r),
@@ -113,7 +113,7 @@ pub fn sym_here(
     ensures builds { Builds terms.old terms.new }
     ensures within { IfOk result (λ r. r.0 < size terms.new) }
     ensures value { Gives terms.new result (λ w r. at w r ≡
-        targets.ends_here net.now (failures_of w sym.now) (packet_of w packet.now) router kind) }
+        targets.ends_here net.now.files (failures_of w sym.now) (packet_of w packet.now) router kind) }
 {
     match kind {
         Kind::Reach(_, target) => sym_target(alloc, terms, net, sym, packet, router, target),

@@ -67,7 +67,7 @@ pub(crate) fn sym_arrive(
     ensures builds { Builds terms.old terms.new }
     ensures within { IfOk result (λ r. forwarding_end r ≤ size terms.new) }
     ensures value { Gives terms.new result (λ w r. IsTwin (sought_by w aim.now)
-        (hops.arrive net.now (packet_of w packet.now) i ∷ []) (forwarding_of w r)) }
+        (hops.arrive net.now.files (packet_of w packet.now) i ∷ []) (forwarding_of w r)) }
 {
     let permit = sym_permits_in(alloc, terms, net, packet, i)?;
     let denied = sym_end(terms, aim, End::DeniedIn(i))?;
@@ -95,7 +95,7 @@ pub(crate) fn sym_depart(
     ensures within { IfOk result (λ r. forwarding_end r ≤ size terms.new) }
     ensures value { Gives terms.new result (λ w r. (hop : HopOf) →
         IsTwin (sought_by w aim.now) (hop ∷ []) (forwarding_of w on.now)
-        → IsTwin (sought_by w aim.now) (hops.depart net.now (packet_of w packet.now) out hop ∷ []) (forwarding_of w
+        → IsTwin (sought_by w aim.now) (hops.depart net.now.files (packet_of w packet.now) out hop ∷ []) (forwarding_of w
         r)) }
 {
     let permit = sym_permits_out(alloc, terms, net, packet, out)?;

@@ -3,9 +3,9 @@
 ghost use Rattle.std.specs.Prelude.{◌≡◌, ℕ, ◌+◌, ◌<◌, ◌≤◌, ◌==◌, ◌&&◌, Bool, IfOk, [], ◌∷◌, if◌then◌else◌, length};
 ghost use Rattle.std.specs.Prelude.{List as ListOf};
 ghost use Rattle.mw_text.specs.Address.{covers};
-ghost use Rattle.net_model.specs.Interfaces.{addressed};
-ghost use Rattle.net_model.specs.Routing.{up_interfaces};
-ghost use Rattle.net_model.specs.World.{is_up};
+ghost use Rattle.net_interfaces.specs.Interfaces.{addressed};
+ghost use Rattle.net_parts.specs.Routing.{up_interfaces};
+ghost use Rattle.net_parts.specs.World.{is_up};
 ghost use Rattle.question_lang.specs.declared.walk.Hop.{Hop as HopOf};
 ghost use Rattle.question_lang.specs.Hops as hops;
 ghost use Rattle.sym_policy.specs.Held.{failures_of};
@@ -47,7 +47,7 @@ pub(crate) fn sym_reaches(
     ensures builds { Builds terms.old terms.new }
     ensures within { IfOk result (λ r. r.0 < size terms.new) }
     ensures value { Gives terms.new result (λ w r. at w r ≡
-        (((x.now.id.router == router) && is_up net.now (failures_of w sym.now) x.now)
+        (((x.now.id.router == router) && is_up net.now.files (failures_of w sym.now) x.now)
         && covers x.now.subnet (address_of w a.now))) }
 {
     if x.id.router != router {
@@ -81,9 +81,9 @@ fn sym_over_or(
     ensures within { IfOk result (λ r. forwarding_end r ≤ size terms.new) }
     ensures value { Gives terms.new result (λ w r. (others : ListOf HopOf) →
         IsTwin (sought_by w aim.now) others (forwarding_of w rest) →
-        IsTwin (sought_by w aim.now) (if ((x.now.id.router == router) && is_up net.now (failures_of w sym.now) x.now)
+        IsTwin (sought_by w aim.now) (if ((x.now.id.router == router) && is_up net.now.files (failures_of w sym.now) x.now)
         && covers x.now.subnet (address_of w a.now)
-        then hops.send_to net.now (packet_of w packet.now) (hops.all_up net.now (failures_of w sym.now)) x.now
+        then hops.send_to net.now.files (packet_of w packet.now) (hops.all_up net.now.files (failures_of w sym.now)) x.now
         (address_of w a.now) ∷ [] else others) (forwarding_of w r)) }
 {
     if x.id.router != router {
@@ -114,8 +114,8 @@ pub fn sym_send_over(
     ensures builds { Builds terms.old terms.new }
     ensures within { IfOk result (λ r. forwarding_end r ≤ size terms.new) }
     ensures value { Gives terms.new result (λ w r. IsTwin (sought_by w aim.now)
-        (hops.send_over net.now (packet_of w packet.now) (hops.all_up net.now (failures_of w sym.now))
-        (up_interfaces net.now (failures_of w sym.now) router) (address_of w a.now)) (forwarding_of w r)) }
+        (hops.send_over net.now.files (packet_of w packet.now) (hops.all_up net.now.files (failures_of w sym.now))
+        (up_interfaces net.now.files (failures_of w sym.now) router) (address_of w a.now)) (forwarding_of w r)) }
 {
     let all = net.addresses();
     let never = constant_node(terms, false)?;

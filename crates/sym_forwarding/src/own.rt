@@ -2,8 +2,8 @@
 
 ghost use Rattle.std.specs.Prelude.{◌≡◌, ℕ, ◌+◌, ◌<◌, ◌≤◌, ◌==◌, ◌&&◌, Bool, false, IfOk};
 ghost use Rattle.std.specs.List.{list_any};
-ghost use Rattle.net_model.specs.Routing.{up_interfaces};
-ghost use Rattle.net_model.specs.World.{is_up};
+ghost use Rattle.net_parts.specs.Routing.{up_interfaces};
+ghost use Rattle.net_parts.specs.World.{is_up};
 ghost use Rattle.sym_policy.specs.Held.{failures_of};
 ghost use Rattle.term_store.specs.Terms.{Reading, size, at};
 ghost use Rattle.term_store.specs.Reading.{Reads, Builds, Gives};
@@ -32,7 +32,7 @@ fn sym_own_at(
     ensures builds { Builds terms.old terms.new }
     ensures within { IfOk result (λ r. r.0 < size terms.new) }
     ensures value { Gives terms.new result (λ w r. at w r ≡
-        (((x.now.id.router == router) && is_up net.now (failures_of w sym.now) x.now)
+        (((x.now.id.router == router) && is_up net.now.files (failures_of w sym.now) x.now)
         && (x.now.addr.0 == number w a.now.nodes.items))) }
 {
     if x.id.router != router {
@@ -57,7 +57,7 @@ pub fn sym_own(
     ensures builds { Builds terms.old terms.new }
     ensures within { IfOk result (λ r. r.0 < size terms.new) }
     ensures value { Gives terms.new result (λ w r. at w r ≡
-        list_any (λ x. x.addr.0 == number w a.now.nodes.items) (up_interfaces net.now (failures_of w sym.now) router)) }
+        list_any (λ x. x.addr.0 == number w a.now.nodes.items) (up_interfaces net.now.files (failures_of w sym.now) router)) }
 {
     let mut any = constant_node(terms, false)?;
     for x in net.addresses() {

@@ -2,8 +2,8 @@
 
 ghost use Rattle.std.specs.Prelude.{◌≡◌, ℕ, ◌+◌, ◌<◌, ◌≤◌, ◌==◌, ◌&&◌, Bool, IfOk, OnOk, [], ◌∷◌, if◌then◌else◌};
 ghost use Rattle.mw_text.specs.Address.{same_prefix};
-ghost use Rattle.net_model.specs.Interfaces.{addressed};
-ghost use Rattle.net_model.specs.World.{is_up};
+ghost use Rattle.net_interfaces.specs.Interfaces.{addressed};
+ghost use Rattle.net_parts.specs.World.{is_up};
 ghost use Rattle.question_lang.specs.declared.walk.Hop.{Hop as HopOf};
 ghost use Rattle.question_lang.specs.Hops as hops;
 ghost use Rattle.sym_policy.specs.Held.{failures_of};
@@ -44,7 +44,7 @@ pub(crate) fn sym_has(
     requires nodes { ids_end a.now.nodes.items ≤ size terms.old }
     ensures builds { Builds terms.old terms.new }
     ensures within { IfOk result (λ r. r.0 < size terms.new) }
-    ensures value { Gives terms.new result (λ w r. at w r ≡ (is_up net.now (failures_of w sym.now) x.now
+    ensures value { Gives terms.new result (λ w r. at w r ≡ (is_up net.now.files (failures_of w sym.now) x.now
         && has_address subnet.now (address_of w a.now) x.now)) }
 {
     if x.subnet != *subnet {
@@ -77,9 +77,9 @@ fn put_owner(
     ensures within { OnOk result (forwarding_end rest.new ≤ size terms.new) }
     ensures value { Gives terms.new result (λ w _. (hop : HopOf) →
         IsTwin (sought_by w aim.now) (hop ∷ []) (forwarding_of w rest.old)
-        → IsTwin (sought_by w aim.now) ((if is_up net.now (failures_of w sym.now) x.now && has_address subnet.now
+        → IsTwin (sought_by w aim.now) ((if is_up net.now.files (failures_of w sym.now) x.now && has_address subnet.now
         (address_of w a.now) x.now
-        then hops.arrive net.now (packet_of w packet.now) x.now.id else hop) ∷ []) (forwarding_of w rest.new)) }
+        then hops.arrive net.now.files (packet_of w packet.now) x.now.id else hop) ∷ []) (forwarding_of w rest.new)) }
 {
     if x.subnet != *subnet {
         return Ok(());
@@ -112,9 +112,9 @@ pub(crate) fn sym_owner(
     ensures within { IfOk result (λ r. forwarding_end r ≤ size terms.new) }
     ensures value { Gives terms.new result (λ w r. (hop : HopOf) →
         IsTwin (sought_by w aim.now) (hop ∷ []) (forwarding_of w other)
-        → IsTwin (sought_by w aim.now) (owner_hop net.now (failures_of w sym.now) (packet_of w packet.now)
+        → IsTwin (sought_by w aim.now) (owner_hop net.now.files (failures_of w sym.now) (packet_of w packet.now)
         subnet.now (address_of w a.now)
-        hop (addressed net.now) ∷ []) (forwarding_of w r)) }
+        hop (addressed net.now.files) ∷ []) (forwarding_of w r)) }
 {
     let all = net.addresses();
     let mut rest = other;

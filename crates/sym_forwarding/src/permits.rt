@@ -4,7 +4,7 @@ ghost use Rattle.std.specs.Prelude.{◌≡◌, ℕ, ◌+◌, ◌<◌, ◌≤◌,
 ghost use Rattle.std.specs.List.{find};
 ghost use Rattle.std.specs.Option.{option_copied};
 ghost use Rattle.mw_text.specs.Text.{same_text};
-ghost use Rattle.net_model.specs.Sending.{permitted_by_list};
+ghost use Rattle.net_parts.specs.Sending.{permitted_by_list};
 ghost use Rattle.question_lang.specs.Hops as hops;
 ghost use Rattle.sym_policy.specs.Records.{packet_end};
 ghost use Rattle.sym_policy.specs.Packets.{packet_of};
@@ -30,7 +30,7 @@ fn find_list<'a>(file: &'a File, name: &[u8]) -> Option<&'a AccessList>
 }
 
 // Whether the access list of that name in the file permits the packet. One that is not there denies.
-#[tactic(auto, unfolding(net_model::specs::Sending::permitted_by_list))]
+#[tactic(auto, unfolding(net_parts::specs::Sending::permitted_by_list))]
 fn sym_list_permits(
     alloc: Global,
     terms: &mut Terms,
@@ -81,7 +81,7 @@ pub fn sym_permits_in(
     requires { packet_end packet.now ≤ size terms.old }
     ensures builds { Builds terms.old terms.new }
     ensures within { IfOk result (λ r. r.0 < size terms.new) }
-    ensures value { Gives terms.new result (λ w r. at w r ≡ hops.permits_in net.now (packet_of w packet.now) i) }
+    ensures value { Gives terms.new result (λ w r. at w r ≡ hops.permits_in net.now.files (packet_of w packet.now) i) }
 {
     match net.routers().get(i.router as usize) {
         None => constant_node(terms, true),
@@ -104,7 +104,7 @@ pub fn sym_permits_out(
     requires { packet_end packet.now ≤ size terms.old }
     ensures builds { Builds terms.old terms.new }
     ensures within { IfOk result (λ r. r.0 < size terms.new) }
-    ensures value { Gives terms.new result (λ w r. at w r ≡ hops.permits_out net.now (packet_of w packet.now) i) }
+    ensures value { Gives terms.new result (λ w r. at w r ≡ hops.permits_out net.now.files (packet_of w packet.now) i) }
 {
     match net.routers().get(i.router as usize) {
         None => constant_node(terms, true),

@@ -3,8 +3,8 @@
 
 ghost use Rattle.std.specs.Prelude.{◌≡◌, ℕ, ◌+◌, ◌<◌, ◌≤◌, ◌==◌, ◌&&◌, Bool, IfOk, [], ◌∷◌, ◌++◌, length};
 ghost use Rattle.std.specs.Prelude.{List as ListOf};
-ghost use Rattle.net_model.specs.declared.interfaces.Addressed.{Addressed as AddressedOf};
-ghost use Rattle.net_model.specs.Interfaces.{addressed};
+ghost use Rattle.net_interfaces.specs.declared.interfaces.Addressed.{Addressed as AddressedOf};
+ghost use Rattle.net_interfaces.specs.Interfaces.{addressed};
 ghost use Rattle.question_lang.specs.Hops as hops;
 ghost use Rattle.sym_ospf.specs.Rows.{net_end};
 ghost use Rattle.sym_policy.specs.Held.{failures_of};
@@ -54,11 +54,11 @@ fn sym_owner_also(
     ensures builds { Builds terms.old terms.new }
     ensures within { IfOk result (λ r. firsts.first_end r ≤ size terms.new) }
     ensures value { Gives terms.new result (λ w r. (xs : ListOf AddressedOf) → firsts.IsFirstIn w (sought_by w aim.now)
-        (firsts.is_owner net.now (failures_of w sym.now) subnet.now (address_of w a.now))
-        (firsts.owner_arrives net.now (packet_of w packet.now)) xs before →
+        (firsts.is_owner net.now.files (failures_of w sym.now) subnet.now (address_of w a.now))
+        (firsts.owner_arrives net.now.files (packet_of w packet.now)) xs before →
         firsts.IsFirstIn w (sought_by w aim.now)
-        (firsts.is_owner net.now (failures_of w sym.now) subnet.now (address_of w a.now))
-        (firsts.owner_arrives net.now (packet_of w packet.now)) (xs ++ x.now ∷ []) r) }
+        (firsts.is_owner net.now.files (failures_of w sym.now) subnet.now (address_of w a.now))
+        (firsts.owner_arrives net.now.files (packet_of w packet.now)) (xs ++ x.now ∷ []) r) }
 {
     if x.subnet != *subnet {
         return Ok(before);
@@ -87,8 +87,8 @@ fn sym_first_owner(
     ensures builds { Builds terms.old terms.new }
     ensures within { IfOk result (λ r. firsts.first_end r ≤ size terms.new) }
     ensures value { Gives terms.new result (λ w r. firsts.IsFirstIn w (sought_by w aim.now)
-        (firsts.is_owner net.now (failures_of w sym.now) subnet.now (address_of w a.now))
-        (firsts.owner_arrives net.now (packet_of w packet.now)) (addressed net.now) r) }
+        (firsts.is_owner net.now.files (failures_of w sym.now) subnet.now (address_of w a.now))
+        (firsts.owner_arrives net.now.files (packet_of w packet.now)) (addressed net.now.files) r) }
 {
     let mut first = no_first(alloc, terms)?;
     for x in net.addresses() {
@@ -115,7 +115,7 @@ fn sym_send_out(
     ensures builds { Builds terms.old terms.new }
     ensures within { IfOk result (λ r. forwarding_end r ≤ size terms.new) }
     ensures value { Gives terms.new result (λ w r. IsTwin (sought_by w aim.now)
-        (hops.send_to net.now (packet_of w packet.now) (hops.all_up net.now (failures_of w sym.now)) out.now
+        (hops.send_to net.now.files (packet_of w packet.now) (hops.all_up net.now.files (failures_of w sym.now)) out.now
         (address_of w a.now) ∷ []) (forwarding_of w r)) }
 {
     let left = sym_leaves(alloc, terms, aim, a)?;
@@ -147,11 +147,11 @@ fn sym_over_also(
     ensures builds { Builds terms.old terms.new }
     ensures within { IfOk result (λ r. firsts.first_end r ≤ size terms.new) }
     ensures value { Gives terms.new result (λ w r. (xs : ListOf AddressedOf) → firsts.IsFirstIn w (sought_by w aim.now)
-        (firsts.reaches net.now (failures_of w sym.now) router (address_of w a.now))
-        (firsts.sent_to net.now (failures_of w sym.now) (packet_of w packet.now) (address_of w a.now)) xs before →
+        (firsts.reaches net.now.files (failures_of w sym.now) router (address_of w a.now))
+        (firsts.sent_to net.now.files (failures_of w sym.now) (packet_of w packet.now) (address_of w a.now)) xs before →
         firsts.IsFirstIn w (sought_by w aim.now)
-        (firsts.reaches net.now (failures_of w sym.now) router (address_of w a.now))
-        (firsts.sent_to net.now (failures_of w sym.now) (packet_of w packet.now) (address_of w a.now))
+        (firsts.reaches net.now.files (failures_of w sym.now) router (address_of w a.now))
+        (firsts.sent_to net.now.files (failures_of w sym.now) (packet_of w packet.now) (address_of w a.now))
         (xs ++ x.now ∷ []) r) }
 {
     let here = sym_reaches(alloc, terms, net, sym, router, a, x)?;
@@ -182,9 +182,9 @@ pub(crate) fn sym_first_over(
     ensures builds { Builds terms.old terms.new }
     ensures within { IfOk result (λ r. firsts.first_end r ≤ size terms.new) }
     ensures value { Gives terms.new result (λ w r. firsts.IsFirstIn w (sought_by w aim.now)
-        (firsts.reaches net.now (failures_of w sym.now) router (address_of w a.now))
-        (firsts.sent_to net.now (failures_of w sym.now) (packet_of w packet.now) (address_of w a.now))
-        (addressed net.now) r) }
+        (firsts.reaches net.now.files (failures_of w sym.now) router (address_of w a.now))
+        (firsts.sent_to net.now.files (failures_of w sym.now) (packet_of w packet.now) (address_of w a.now))
+        (addressed net.now.files) r) }
 {
     let mut first = no_first(alloc, terms)?;
     for x in net.addresses() {

@@ -3,9 +3,9 @@
 ghost use Rattle.std.specs.Prelude.{◌≡◌, ℕ, ◌+◌, ◌<◌, ◌≤◌, ◌==◌, ◌&&◌, Bool, IfOk, [], ◌∷◌, if◌then◌else◌};
 ghost use Rattle.std.specs.Prelude.{List as ListOf, length, drop};
 ghost use Rattle.mw_text.specs.Address.{covers, block};
-ghost use Rattle.net_model.specs.Interfaces.{addressed};
-ghost use Rattle.net_model.specs.Routing.{up_interfaces};
-ghost use Rattle.net_model.specs.World.{is_up};
+ghost use Rattle.net_interfaces.specs.Interfaces.{addressed};
+ghost use Rattle.net_parts.specs.Routing.{up_interfaces};
+ghost use Rattle.net_parts.specs.World.{is_up};
 ghost use Rattle.question_lang.specs.declared.walk.End.TheVariants.{Left};
 ghost use Rattle.question_lang.specs.declared.walk.Hop.{Hop as HopOf};
 ghost use Rattle.question_lang.specs.declared.walk.Hop.TheVariants.{Ends};
@@ -70,7 +70,7 @@ pub(crate) fn sym_send_to(
     ensures builds { Builds terms.old terms.new }
     ensures within { IfOk result (λ r. forwarding_end r ≤ size terms.new) }
     ensures value { Gives terms.new result (λ w r. IsTwin (sought_by w aim.now)
-        (hops.send_to net.now (packet_of w packet.now) (hops.all_up net.now (failures_of w sym.now)) out.now
+        (hops.send_to net.now.files (packet_of w packet.now) (hops.all_up net.now.files (failures_of w sym.now)) out.now
         (address_of w a.now) ∷ [])
         (forwarding_of w r)) }
 {

@@ -4,9 +4,9 @@ ghost use Rattle.std.specs.Prelude.{◌≡◌, ℕ, ◌+◌, ◌<◌, ◌≤◌,
 ghost use Rattle.std.specs.Prelude.{List as ListOf, if◌then◌else◌};
 ghost use Rattle.std.specs.List.{flat_map};
 ghost use Rattle.mw_text.specs.Address.{prefix_at};
-ghost use Rattle.net_model.specs.Routing as routing;
+ghost use Rattle.net_parts.specs.Routing as routing;
 ghost use Rattle.question_lang.specs.declared.walk.Hop.{Hop as HopOf};
-ghost use Rattle.net_model.specs.Routing.{up_interfaces};
+ghost use Rattle.net_parts.specs.Routing.{up_interfaces};
 ghost use Rattle.question_lang.specs.Hops as hops;
 ghost use Rattle.sym_policy.specs.Held.{failures_of};
 ghost use Rattle.sym_policy.specs.Records.{address_of, packet_end, prefix_of as prefix_read};
@@ -52,8 +52,8 @@ fn sym_to(
     ensures builds { Builds terms.old terms.new }
     ensures within { IfOk result (λ r. forwarding_end r ≤ size terms.new) }
     ensures value { Gives terms.new result (λ w r. IsTwin (sought_by w aim.now)
-        (hops.send_over net.now (packet_of w packet.now) (hops.all_up net.now (failures_of w sym.now))
-        (up_interfaces net.now (failures_of w sym.now) router) a) (forwarding_of w r)) }
+        (hops.send_over net.now.files (packet_of w packet.now) (hops.all_up net.now.files (failures_of w sym.now))
+        (up_interfaces net.now.files (failures_of w sym.now) router) a) (forwarding_of w r)) }
 {
     let bits = constant(alloc, terms, u64::from(a.0), 32)?;
     let made = sym_send_over(alloc, terms, net, sym, packet, aim, router, &bits)?;
@@ -77,8 +77,8 @@ pub fn sym_static(
     ensures builds { Builds terms.old terms.new }
     ensures within { IfOk result (λ r. forwarding_end r ≤ size terms.new) }
     ensures value { Gives terms.new result (λ w r. IsTwin (sought_by w aim.now)
-        (hops.static_hops net.now (packet_of w packet.now) (hops.all_up net.now (failures_of w sym.now))
-        (up_interfaces net.now (failures_of w sym.now) router) route.now) (forwarding_of w r)) }
+        (hops.static_hops net.now.files (packet_of w packet.now) (hops.all_up net.now.files (failures_of w sym.now))
+        (up_interfaces net.now.files (failures_of w sym.now) router) route.now) (forwarding_of w r)) }
 {
     match &route.via {
         Via::Null0 => sym_ends(alloc, terms, aim, End::Discarded),
@@ -136,7 +136,7 @@ fn sym_static_or(
         IsTwin (sought_by w aim.now) others (forwarding_of w rest) →
         IsTwin (sought_by w aim.now)
         ((if is_taken (prefix_read w packet.now.dst len) (number w distance.now.nodes.items) route.now
-        then route_hops net.now (failures_of w sym.now) (packet_of w packet.now) router route.now else []) ++ others)
+        then route_hops net.now.files (failures_of w sym.now) (packet_of w packet.now) router route.now else []) ++ others)
         (forwarding_of w r)) }
 {
     let taken = sym_taken(terms, &packet.dst, len, distance, route)?;
@@ -165,10 +165,10 @@ pub fn sym_statics(
     ensures builds { Builds terms.old terms.new }
     ensures within { IfOk result (λ r. forwarding_end r ≤ size terms.new) }
     ensures value { Gives terms.new result (λ w r. IsTwin (sought_by w aim.now)
-        (flat_map (hops.static_hops net.now (packet_of w packet.now) (hops.all_up net.now (failures_of w sym.now))
-        (up_interfaces net.now (failures_of w sym.now) router))
+        (flat_map (hops.static_hops net.now.files (packet_of w packet.now) (hops.all_up net.now.files (failures_of w sym.now))
+        (up_interfaces net.now.files (failures_of w sym.now) router))
         (filter (λ route. route.distance == number w distance.now.nodes.items)
-        (routing.static_routes (up_interfaces net.now (failures_of w sym.now) router) routes.now
+        (routing.static_routes (up_interfaces net.now.files (failures_of w sym.now) router) routes.now
         (prefix_at (address_of w packet.now.dst) len)))) (forwarding_of w r)) }
 {
     let never = constant_node(terms, false)?;

@@ -4,8 +4,8 @@
 ghost use Rattle.std.specs.Prelude.{◌≡◌, ℕ, ◌+◌, ◌<◌, ◌≤◌, ◌==◌, ◌&&◌, Bool, true, IfOk, [], ◌∷◌, ◌++◌, length, map};
 ghost use Rattle.std.specs.Prelude.{if◌then◌else◌, List as ListOf};
 ghost use Rattle.std.specs.Option.{option_map_or};
-ghost use Rattle.net_model.specs.Ospf as ospf;
-ghost use Rattle.net_model.specs.Sending.{sent_towards};
+ghost use Rattle.net_parts.specs.Ospf as ospf;
+ghost use Rattle.net_parts.specs.Sending.{sent_towards};
 ghost use Rattle.question_lang.specs.declared.walk.Hop.{Hop as HopOf};
 ghost use Rattle.question_lang.specs.Hops as hops;
 ghost use Rattle.sym_ospf.specs.Routes.{routes_end};
@@ -53,10 +53,10 @@ fn sym_leads_over(
     requires nodes { ids_end a.now.nodes.items ≤ size terms.old }
     ensures builds { Builds terms.old terms.new }
     ensures within { IfOk result (λ r. r.0 < size terms.new) }
-    ensures value { Gives terms.new result (λ w r. HasDistances w net.now sym.now →
-        at w r ≡ (is_up_from net.now (failures_of w sym.now) router x.now
-        && defined.leads_by net.now (failures_of w sym.now) router (address_of w a.now) x.now
-        (ospf.advertised net.now))) }
+    ensures value { Gives terms.new result (λ w r. HasDistances w net.now.files sym.now →
+        at w r ≡ (is_up_from net.now.files (failures_of w sym.now) router x.now
+        && defined.leads_by net.now.files (failures_of w sym.now) router (address_of w a.now) x.now
+        (ospf.advertised net.now.files))) }
 {
     let up = sym_up_from(alloc, terms, net, sym, router, x)?;
     let leads = sym_leads(alloc, terms, net, sym, router, a, x)?;
@@ -85,12 +85,12 @@ fn sym_led_or(
     requires rest { forwarding_end rest ≤ size terms.old }
     ensures builds { Builds terms.old terms.new }
     ensures within { IfOk result (λ r. forwarding_end r ≤ size terms.new) }
-    ensures value { Gives terms.new result (λ w r. HasDistances w net.now sym.now → (others : ListOf HopOf) →
+    ensures value { Gives terms.new result (λ w r. HasDistances w net.now.files sym.now → (others : ListOf HopOf) →
         IsTwin (sought_by w aim.now) others (forwarding_of w rest) →
         IsTwin (sought_by w aim.now)
-        ((if is_up_from net.now (failures_of w sym.now) router x.now
-        && defined.leads_by net.now (failures_of w sym.now) router (address_of w a.now) x.now (ospf.advertised net.now)
-        then hops.send_adjacent net.now (packet_of w packet.now) x.now ∷ [] else []) ++ others) (forwarding_of w r)) }
+        ((if is_up_from net.now.files (failures_of w sym.now) router x.now
+        && defined.leads_by net.now.files (failures_of w sym.now) router (address_of w a.now) x.now (ospf.advertised net.now.files)
+        then hops.send_adjacent net.now.files (packet_of w packet.now) x.now ∷ [] else []) ++ others) (forwarding_of w r)) }
 {
     if x.from.router != router {
         return Ok(rest);
@@ -119,9 +119,9 @@ fn sym_led(
     requires nodes { ids_end a.now.nodes.items ≤ size terms.old }
     ensures builds { Builds terms.old terms.new }
     ensures within { IfOk result (λ r. forwarding_end r ≤ size terms.new) }
-    ensures value { Gives terms.new result (λ w r. HasDistances w net.now sym.now → IsTwin (sought_by w aim.now)
-        (map (hops.send_adjacent net.now (packet_of w packet.now))
-        (sent_towards net.now (failures_of w sym.now) router (address_of w a.now))) (forwarding_of w r)) }
+    ensures value { Gives terms.new result (λ w r. HasDistances w net.now.files sym.now → IsTwin (sought_by w aim.now)
+        (map (hops.send_adjacent net.now.files (packet_of w packet.now))
+        (sent_towards net.now.files (failures_of w sym.now) router (address_of w a.now))) (forwarding_of w r)) }
 {
     let all = net.adjacencies();
     let mut rest = still_forwarding(alloc, terms)?;
@@ -151,8 +151,8 @@ fn sym_to_next_hop(
     requires nodes { ids_end a.now.nodes.items ≤ size terms.old }
     ensures builds { Builds terms.old terms.new }
     ensures within { IfOk result (λ r. forwarding_end r ≤ size terms.new) }
-    ensures value { Gives terms.new result (λ w r. HasDistances w net.now sym.now → IsTwin (sought_by w aim.now)
-        (defined.hops_towards net.now (failures_of w sym.now) (packet_of w packet.now) router (address_of w a.now))
+    ensures value { Gives terms.new result (λ w r. HasDistances w net.now.files sym.now → IsTwin (sought_by w aim.now)
+        (defined.hops_towards net.now.files (failures_of w sym.now) (packet_of w packet.now) router (address_of w a.now))
         (forwarding_of w r)) }
 {
     let over = sym_first_over(alloc, terms, net, sym, packet, aim, router, a)?;
@@ -179,9 +179,9 @@ pub fn sym_bgp_hops(
     requires held { bgp_end held.now ≤ size terms.old }
     ensures builds { Builds terms.old terms.new }
     ensures within { IfOk result (λ r. forwarding_end r ≤ size terms.new) }
-    ensures value { Gives terms.new result (λ w r. (at w held.now.valid ≡ true → HasDistances w net.now sym.now) →
+    ensures value { Gives terms.new result (λ w r. (at w held.now.valid ≡ true → HasDistances w net.now.files sym.now) →
         IsTwin (sought_by w aim.now)
-        (option_map_or (λ route. defined.hops_towards net.now (failures_of w sym.now) (packet_of w packet.now) router
+        (option_map_or (λ route. defined.hops_towards net.now.files (failures_of w sym.now) (packet_of w packet.now) router
         route.next_hop) (towards_of w held.now) []) (forwarding_of w r)) }
 {
     let none = still_forwarding(alloc, terms)?;

@@ -13,8 +13,8 @@ use Rattle.std.proofs.lemmas.Option.{slice_get_cases}
 use Rattle.mw_text.specs.declared.address.Prefix.{Prefix}
 use Rattle.mw_text.specs.Address.{same_prefix}
 use Rattle.ios_ast.specs.declared.file.File.{File}
-use Rattle.net_model.specs.declared.links.Link.{Link}
-use Rattle.net_model.specs.World.{IsBefore, is_failed, links_of}
+use Rattle.net_parts.specs.declared.links.Link.{Link}
+use Rattle.net_parts.specs.World.{IsBefore, is_failed, links_of}
 use Rattle.term_store.specs.declared.NodeId.{NodeId}
 use Rattle.term_store.specs.Terms.{Reading, at}
 use Rattle.term_arith.specs.Bits.{bits}

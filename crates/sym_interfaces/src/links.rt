@@ -5,8 +5,8 @@ ghost use Rattle.std.specs.Option.{option_map_or};
 ghost use Rattle.term_store.specs.Terms.{size, at};
 ghost use Rattle.term_store.specs.Reading.{Builds, Gives};
 ghost use Rattle.term_arith.specs.Bits.{bits, ids_end};
-ghost use Rattle.net_model.specs.World as world;
-ghost use Rattle.net_model.specs.Ospf as ospf;
+ghost use Rattle.net_parts.specs.World as world;
+ghost use Rattle.net_parts.specs.Ospf as ospf;
 ghost use Rattle.sym_policy.specs.Held.{failures_of};
 
 use mw_text::Prefix;
@@ -37,7 +37,7 @@ fn sym_failed(terms: &mut Terms, net: &Net, sym: &SymNet, p: &Prefix) -> Result<
     requires nodes { ids_end sym.now.down ≤ size terms.old }
     ensures builds { Builds terms.old terms.new }
     ensures within { IfOk result (λ r. r.0 < size terms.new) }
-    ensures value { Gives terms.new result (λ w r. at w r ≡ world.is_failed net.now (failures_of w sym.now) p.now) }
+    ensures value { Gives terms.new result (λ w r. at w r ≡ world.is_failed net.now.files (failures_of w sym.now) p.now) }
 {
     let _links = net.links();
     node_at(terms, sym.down.as_slice(), net.link_at(p))
@@ -55,7 +55,7 @@ pub fn sym_up(
     requires nodes { ids_end sym.now.down ≤ size terms.old }
     ensures builds { Builds terms.old terms.new }
     ensures within { IfOk result (λ r. r.0 < size terms.new) }
-    ensures value { Gives terms.new result (λ w r. at w r ≡ world.is_up net.now (failures_of w sym.now) x.now) }
+    ensures value { Gives terms.new result (λ w r. at w r ≡ world.is_up net.now.files (failures_of w sym.now) x.now) }
 {
     if x.shutdown {
         return constant_node(terms, false);
@@ -80,7 +80,7 @@ fn sym_or_up(
     ensures within { IfOk result (λ r. r.0 < size terms.new) }
     ensures value { Gives terms.new result (λ w r. at w r
         ≡ (at w any || (((x.now.id.router == i.router) && (x.now.id.at == i.at))
-        && world.is_up net.now (failures_of w sym.now) x.now))) }
+        && world.is_up net.now.files (failures_of w sym.now) x.now))) }
 {
     if x.id.router == i.router && x.id.at == i.at {
         let up = sym_up(alloc, terms, net, sym, x)?;
@@ -101,7 +101,7 @@ pub fn sym_up_at(
     requires nodes { ids_end sym.now.down ≤ size terms.old }
     ensures builds { Builds terms.old terms.new }
     ensures within { IfOk result (λ r. r.0 < size terms.new) }
-    ensures value { Gives terms.new result (λ w r. at w r ≡ ospf.is_up_at net.now (failures_of w sym.now) i) }
+    ensures value { Gives terms.new result (λ w r. at w r ≡ ospf.is_up_at net.now.files (failures_of w sym.now) i) }
 {
     let mut any = constant_node(terms, false)?;
     for x in net.addresses() {

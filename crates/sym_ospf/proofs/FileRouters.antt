@@ -6,11 +6,11 @@ use Rattle.mw_text.specs.declared.address.Prefix.{Prefix}
 use Rattle.mw_text.specs.Address.{same_prefix}
 use Rattle.ios_ast.specs.declared.file.File.{File}
 use Rattle.route_record.specs.declared.Failures.{Failures}
-use Rattle.net_model.specs.declared.ospf.OspfInterface.{OspfInterface}
-use Rattle.net_model.specs.Distances.{own_cost}
-use Rattle.net_model.specs.Ospf.{advertisement, origin_interfaces, ospf_interfaces}
-use Rattle.net_model.specs.World.{is_up}
-use Rattle.net_model.proofs.LeastWalks.{in-filter, in-map, interface_below, least-is}
+use Rattle.net_parts.specs.declared.ospf.OspfInterface.{OspfInterface}
+use Rattle.net_parts.specs.Distances.{own_cost}
+use Rattle.net_parts.specs.Ospf.{advertisement, origin_interfaces, ospf_interfaces}
+use Rattle.net_parts.specs.World.{is_up}
+use Rattle.net_parts.proofs.LeastWalks.{in-filter, in-map, interface_below, least-is}
 
 pub own_within : (files : List File) (failures : Failures) (p : Prefix) (router m : ℕ)
     → own_cost files failures p router ≡ Some m → router < length files

@@ -15,11 +15,11 @@ use Rattle.mw_text.specs.declared.address.Prefix.{Prefix}
 use Rattle.mw_text.specs.Address.{same_prefix}
 use Rattle.ios_ast.specs.declared.file.File.{File}
 use Rattle.route_record.specs.declared.Failures.{Failures}
-use Rattle.net_model.specs.declared.adjacencies.Adjacency.{Adjacency}
-use Rattle.net_model.specs.declared.ospf.OspfInterface.{OspfInterface}
-use Rattle.net_model.specs.Distances.{beyond, least, nearest, own_cost}
-use Rattle.net_model.specs.Ospf.{adjacencies, advertised, advertisement, is_up_at, ospf_interfaces, up_adjacencies}
-use Rattle.net_model.specs.World.{is_up}
+use Rattle.net_parts.specs.declared.adjacencies.Adjacency.{Adjacency}
+use Rattle.net_parts.specs.declared.ospf.OspfInterface.{OspfInterface}
+use Rattle.net_parts.specs.Distances.{beyond, least, nearest, own_cost}
+use Rattle.net_parts.specs.Ospf.{adjacencies, advertised, advertisement, is_up_at, ospf_interfaces, up_adjacencies}
+use Rattle.net_parts.specs.World.{is_up}
 use Rattle.term_store.specs.Terms.{Reading}
 use Rattle.sym_policy.specs.declared.records.SymNet.{SymNet}
 use Rattle.sym_policy.specs.Held.{ospf_of}

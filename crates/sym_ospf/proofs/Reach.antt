@@ -14,15 +14,15 @@ use Rattle.mw_text.specs.Address.{covers}
 use Rattle.ios_ast.specs.declared.file.File.{File}
 use Rattle.route_record.specs.declared.Failures.{Failures}
 use Rattle.route_record.specs.declared.OspfRec.{OspfRec}
-use Rattle.net_model.specs.declared.adjacencies.Adjacency.{Adjacency}
-use Rattle.net_model.specs.declared.interfaces.Addressed.{Addressed}
-use Rattle.net_model.specs.Distances.{IsInteriorDistance, IsWalkSum, interior_distance}
-use Rattle.net_model.specs.Interfaces.{addressed}
-use Rattle.net_model.specs.Ospf.{advertised, up_adjacencies}
-use Rattle.net_model.specs.Routing.{is_reached, up_interfaces}
-use Rattle.net_model.specs.World.{is_up}
-use Rattle.net_model.proofs.LeastWalks.{contains-in, is_interior}
-use Rattle.net_model.proofs.LeastWalks.{up_below}
+use Rattle.net_parts.specs.declared.adjacencies.Adjacency.{Adjacency}
+use Rattle.net_interfaces.specs.declared.interfaces.Addressed.{Addressed}
+use Rattle.net_parts.specs.Distances.{IsInteriorDistance, IsWalkSum, interior_distance}
+use Rattle.net_interfaces.specs.Interfaces.{addressed}
+use Rattle.net_parts.specs.Ospf.{advertised, up_adjacencies}
+use Rattle.net_parts.specs.Routing.{is_reached, up_interfaces}
+use Rattle.net_parts.specs.World.{is_up}
+use Rattle.net_parts.proofs.LeastWalks.{contains-in, is_interior}
+use Rattle.net_parts.proofs.LeastWalks.{up_below}
 use Rattle.term_store.specs.Terms.{Reading}
 use Rattle.sym_policy.specs.declared.records.SymNet.{SymNet}
 use Rattle.sym_policy.specs.declared.records.SymOspf.{SymOspf}

@@ -7,7 +7,7 @@ use Rattle.std.proofs.lemmas.Bool.Decides.{nat_tests}
 use Rattle.std.proofs.lemmas.List.{drop_more, drop_all}
 use Rattle.route_record.specs.declared.OspfKind.TheVariants.{Internal, Ext1, Ext2}
 use Rattle.route_record.specs.declared.OspfRec.{OspfRec}
-use Rattle.net_model.specs.OspfRoutes.{kind_rank, is_type2, is_better, better_of}
+use Rattle.net_parts.specs.OspfRoutes.{kind_rank, is_type2, is_better, better_of}
 use Rattle.term_store.specs.Terms.{Reading, at}
 use Rattle.sym_policy.specs.declared.records.SymOspf.{SymOspf}
 use Rattle.sym_policy.specs.Held.{kind_of_number, ospf_at, ospf_of, ospf_end}

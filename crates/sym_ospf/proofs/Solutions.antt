@@ -14,15 +14,15 @@ use Rattle.route_record.specs.declared.Failures.{Failures}
 use Rattle.route_record.specs.declared.OspfKind.{OspfKind}
 use Rattle.route_record.specs.declared.OspfKind.TheVariants.{Internal, Ext1, Ext2}
 use Rattle.route_record.specs.declared.OspfRec.{OspfRec}
-use Rattle.net_model.specs.declared.adjacencies.Adjacency.{Adjacency}
-use Rattle.net_model.specs.Distances.{AreDistances, IsInteriorDistance, IsWalkSum, beyond, interior_distance, least}
-use Rattle.net_model.specs.Distances.{nearest, own_cost}
-use Rattle.net_model.specs.Ospf.{adjacencies, advertised, up_adjacencies}
-use Rattle.net_model.proofs.Equations.{solution_is}
-use Rattle.net_model.proofs.LeastWalks.{contains-in, filter_map-in, in-cases, in-contains, in-filter_map, in-left}
+use Rattle.net_parts.specs.declared.adjacencies.Adjacency.{Adjacency}
+use Rattle.net_parts.specs.Distances.{AreDistances, IsInteriorDistance, IsWalkSum, beyond, interior_distance, least}
+use Rattle.net_parts.specs.Distances.{nearest, own_cost}
+use Rattle.net_parts.specs.Ospf.{adjacencies, advertised, up_adjacencies}
+use Rattle.net_parts.proofs.Equations.{solution_is}
+use Rattle.net_parts.proofs.LeastWalks.{contains-in, filter_map-in, in-cases, in-contains, in-filter_map, in-left}
 use Rattle.mw_text.specs.Members.{In}
-use Rattle.net_model.proofs.LeastWalks.{in-option, in-right, is_interior, least-is, least-some, option-in}
-use Rattle.net_model.proofs.LeastWalks.{up_below}
+use Rattle.net_parts.proofs.LeastWalks.{in-option, in-right, is_interior, least-is, least-some, option-in}
+use Rattle.net_parts.proofs.LeastWalks.{up_below}
 use Rattle.term_store.specs.Terms.{Reading}
 use Rattle.sym_policy.specs.declared.records.SymNet.{SymNet}
 use Rattle.sym_policy.specs.Held.{failures_of, internal_route}

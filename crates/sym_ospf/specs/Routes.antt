@@ -1,7 +1,7 @@
 -- OSPF routes as terms, one after another.
 use Rattle.std.specs.Prelude.{ℕ, max, List, [], ◌∷◌, Option, Some, None}
 use Rattle.route_record.specs.declared.OspfRec.{OspfRec}
-use Rattle.net_model.specs.OspfRoutes.{better_of}
+use Rattle.net_parts.specs.OspfRoutes.{better_of}
 use Rattle.sym_policy.specs.declared.records.SymOspf.{SymOspf}
 use Rattle.sym_policy.specs.Held.{ospf_end}
 

@@ -8,11 +8,11 @@ use Rattle.route_record.specs.declared.Failures.{Failures}
 use Rattle.route_record.specs.declared.OspfKind.{OspfKind}
 use Rattle.route_record.specs.declared.OspfKind.TheVariants.{Internal, Ext1, Ext2}
 use Rattle.route_record.specs.declared.OspfRec.{OspfRec}
-use Rattle.net_model.specs.declared.adjacencies.Adjacency.{Adjacency}
-use Rattle.net_model.specs.declared.ospf.OspfInterface.{OspfInterface}
-use Rattle.net_model.specs.Distances.{beyond, interior_distance, nearest}
-use Rattle.net_model.specs.Ospf.{advertised, advertisement, is_up_at}
-use Rattle.net_model.specs.World.{is_up}
+use Rattle.net_parts.specs.declared.adjacencies.Adjacency.{Adjacency}
+use Rattle.net_parts.specs.declared.ospf.OspfInterface.{OspfInterface}
+use Rattle.net_parts.specs.Distances.{beyond, interior_distance, nearest}
+use Rattle.net_parts.specs.Ospf.{advertised, advertisement, is_up_at}
+use Rattle.net_parts.specs.World.{is_up}
 use Rattle.mw_text.specs.Address.{same_prefix}
 use Rattle.mw_text.specs.Members.{all_below}
 use Rattle.term_store.specs.Terms.{Reading, at}

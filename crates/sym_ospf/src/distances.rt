@@ -4,15 +4,15 @@ ghost use Rattle.std.specs.Prelude.{◌≡◌, ◌+◌, ◌*◌, ◌<◌, ◌≤
 ghost use Rattle.std.specs.Prelude.{length, option_map, slice_get};
 ghost use Rattle.term_store.specs.Terms.{size, at};
 ghost use Rattle.term_store.specs.Reading.{Builds, Gives};
-ghost use Rattle.net_model.specs.Distances.{own_cost, nearest, beyond};
-ghost use Rattle.net_model.specs.Ospf as ospf;
+ghost use Rattle.net_parts.specs.Distances.{own_cost, nearest, beyond};
+ghost use Rattle.net_parts.specs.Ospf as ospf;
 ghost use Rattle.sym_policy.specs.Held.{failures_of, ospf_of, ospf_end};
 ghost use Rattle.sym_ospf.specs.Routes.{routes_end};
 ghost use Rattle.sym_ospf.specs.Rows.{net_end, distance_of, distance_end, nearer, own_offer, far_offer, costs_at};
 
 use crate::parts::SymDistance;
 use mw_text::Prefix;
-use net_model::ospf::advertisement;
+use net_parts::ospf::advertisement;
 use net_model::{Adjacency, Net, OspfInterface};
 use std::alloc::{AllocError, Global};
 use sym_interfaces::{sym_up, sym_up_at};
@@ -88,7 +88,7 @@ fn sym_own_after(
     ensures builds { Builds terms.old terms.new }
     ensures within { IfOk result (λ r. distance_end r ≤ size terms.new) }
     ensures value { Gives terms.new result (λ w r. distance_of w r
-        ≡ nearer (distance_of w best) (own_offer net.now (failures_of w sym.now) p.now router x.now)) }
+        ≡ nearer (distance_of w best) (own_offer net.now.files (failures_of w sym.now) p.now router x.now)) }
 {
     if x.at.id.router != router || advertisement(x) != *p {
         return Ok(best);
@@ -112,7 +112,7 @@ fn sym_own_cost(
     ensures builds { Builds terms.old terms.new }
     ensures within { IfOk result (λ r. distance_end r ≤ size terms.new) }
     ensures value { Gives terms.new result (λ w r. distance_of w r
-        ≡ own_cost net.now (failures_of w sym.now) p.now router) }
+        ≡ own_cost net.now.files (failures_of w sym.now) p.now router) }
 {
     let mut best = no_distance(alloc, terms)?;
     for x in net.ospf_interfaces() {
@@ -145,10 +145,10 @@ fn sym_sum(
 /// The route of a router of the files to the advertised prefix at a place.
 #[tactic(auto, using(crate::proofs::LeastOffers::held_steps))]
 pub(crate) fn igp_of<'a>(net: &Net, sym: &'a SymNet, router: u32, k: usize) -> &'a SymOspf
-    requires rows { length sym.now.igp ≡ length net.now * length (ospf.advertised net.now) }
-    requires router { router < length net.now }
-    requires place { k < length (ospf.advertised net.now) }
-    ensures value { slice_get sym.now.igp (router * length (ospf.advertised net.now) + k) ≡ Some result.now }
+    requires rows { length sym.now.igp ≡ length net.now.files * length (ospf.advertised net.now.files) }
+    requires router { router < length net.now.files }
+    requires place { k < length (ospf.advertised net.now.files) }
+    ensures value { slice_get sym.now.igp (router * length (ospf.advertised net.now.files) + k) ≡ Some result.now }
     ensures within { ospf_end result.now ≤ routes_end sym.now.igp }
 {
     let rows = sym.igp.as_slice();
@@ -167,14 +167,14 @@ fn sym_beyond(
     up: NodeId,
     a: &Adjacency,
 ) -> Result<SymDistance, AllocError>
-    requires rows { length sym.now.igp ≡ length net.now * length (ospf.advertised net.now) }
-    requires place { k < length (ospf.advertised net.now) }
+    requires rows { length sym.now.igp ≡ length net.now.files * length (ospf.advertised net.now.files) }
+    requires place { k < length (ospf.advertised net.now.files) }
     requires nodes { net_end sym.now ≤ size terms.old }
     requires up { up.0 < size terms.old }
     ensures builds { Builds terms.old terms.new }
     ensures within { IfOk result (λ r. distance_end r ≤ size terms.new) }
     ensures value { Gives terms.new result (λ w r. distance_of w r
-        ≡ (if at w up then beyond (costs_at w net.now sym.now k) a.now else None)) }
+        ≡ (if at w up then beyond (costs_at w net.now.files sym.now k) a.now else None)) }
 {
     if (a.to.router as usize) < net.routers().len() {
         let far = igp_of(net, sym, a.to.router, k);
@@ -196,15 +196,15 @@ fn sym_far_after(
     a: &Adjacency,
     best: SymDistance,
 ) -> Result<SymDistance, AllocError>
-    requires rows { length sym.now.igp ≡ length net.now * length (ospf.advertised net.now) }
-    requires place { k < length (ospf.advertised net.now) }
+    requires rows { length sym.now.igp ≡ length net.now.files * length (ospf.advertised net.now.files) }
+    requires place { k < length (ospf.advertised net.now.files) }
     requires nodes { net_end sym.now ≤ size terms.old }
     requires best { distance_end best ≤ size terms.old }
     ensures builds { Builds terms.old terms.new }
     ensures within { IfOk result (λ r. distance_end r ≤ size terms.new) }
     ensures value { Gives terms.new result (λ w r. distance_of w r
         ≡ nearer (distance_of w best)
-        (far_offer net.now (failures_of w sym.now) (costs_at w net.now sym.now k) router a.now)) }
+        (far_offer net.now.files (failures_of w sym.now) (costs_at w net.now.files sym.now k) router a.now)) }
 {
     if a.from.router != router {
         return Ok(best);
@@ -227,13 +227,13 @@ pub(crate) fn sym_nearest(
     k: usize,
     p: &Prefix,
 ) -> Result<SymDistance, AllocError>
-    requires rows { length sym.now.igp ≡ length net.now * length (ospf.advertised net.now) }
-    requires place { k < length (ospf.advertised net.now) }
+    requires rows { length sym.now.igp ≡ length net.now.files * length (ospf.advertised net.now.files) }
+    requires place { k < length (ospf.advertised net.now.files) }
     requires nodes { net_end sym.now ≤ size terms.old }
     ensures builds { Builds terms.old terms.new }
     ensures within { IfOk result (λ r. distance_end r ≤ size terms.new) }
     ensures value { Gives terms.new result (λ w r. distance_of w r
-        ≡ nearest net.now (failures_of w sym.now) p.now (costs_at w net.now sym.now k) router) }
+        ≡ nearest net.now.files (failures_of w sym.now) p.now (costs_at w net.now.files sym.now k) router) }
 {
     let mut best = sym_own_cost(alloc, terms, net, sym, router, p)?;
     for a in net.adjacencies() {

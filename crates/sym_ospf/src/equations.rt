@@ -4,7 +4,7 @@ ghost use Rattle.std.specs.Prelude.{◌≡◌, ◌==◌, ◌+◌, ◌*◌, ◌<�
 ghost use Rattle.term_store.specs.Terms.{size, at};
 ghost use Rattle.term_store.specs.Reading.{Builds, Gives};
 ghost use Rattle.term_arith.specs.Bits.{number, ids_end};
-ghost use Rattle.net_model.specs.Ospf as ospf;
+ghost use Rattle.net_parts.specs.Ospf as ospf;
 ghost use Rattle.sym_policy.specs.Held.{ospf_at, ospf_of, ospf_end};
 ghost use Rattle.sym_ospf.specs.Rows.{net_end, distance_of, distance_end, is_internal, is_distance, equation};
 ghost use Rattle.sym_ospf.specs.Rows.{row_holds, rows_hold, HasDistances};
@@ -95,13 +95,13 @@ fn sym_equation(
     router: u32,
     k: usize,
 ) -> Result<NodeId, AllocError>
-    requires rows { length sym.now.igp ≡ length net.now * length (ospf.advertised net.now) }
-    requires place { k < length (ospf.advertised net.now) }
-    requires router { router < length net.now }
+    requires rows { length sym.now.igp ≡ length net.now.files * length (ospf.advertised net.now.files) }
+    requires place { k < length (ospf.advertised net.now.files) }
+    requires router { router < length net.now.files }
     requires nodes { net_end sym.now ≤ size terms.old }
     ensures builds { Builds terms.old terms.new }
     ensures within { IfOk result (λ r. r.0 < size terms.new) }
-    ensures value { Gives terms.new result (λ w r. at w r ≡ equation w net.now sym.now router k) }
+    ensures value { Gives terms.new result (λ w r. at w r ≡ equation w net.now.files sym.now router k) }
 {
     let p = net.advertised()[k];
     let least = sym_nearest(alloc, terms, net, sym, router, k, &p)?;
@@ -118,12 +118,12 @@ fn sym_row(
     sym: &SymNet,
     router: u32,
 ) -> Result<NodeId, AllocError>
-    requires rows { length sym.now.igp ≡ length net.now * length (ospf.advertised net.now) }
-    requires router { router < length net.now }
+    requires rows { length sym.now.igp ≡ length net.now.files * length (ospf.advertised net.now.files) }
+    requires router { router < length net.now.files }
     requires nodes { net_end sym.now ≤ size terms.old }
     ensures builds { Builds terms.old terms.new }
     ensures within { IfOk result (λ r. r.0 < size terms.new) }
-    ensures value { Gives terms.new result (λ w r. at w r ≡ row_holds w net.now sym.now router) }
+    ensures value { Gives terms.new result (λ w r. at w r ≡ row_holds w net.now.files sym.now router) }
 {
     let mut all = constant_node(terms, true)?;
     for k in 0..net.advertised().len() {
@@ -136,11 +136,11 @@ fn sym_row(
 /// Whether the equations hold at all routers.
 #[tactic(auto, using(crate::proofs::EquationTests::all_steps))]
 fn sym_rows(alloc: Global, terms: &mut Terms, net: &Net, sym: &SymNet) -> Result<NodeId, AllocError>
-    requires rows { length sym.now.igp ≡ length net.now * length (ospf.advertised net.now) }
+    requires rows { length sym.now.igp ≡ length net.now.files * length (ospf.advertised net.now.files) }
     requires nodes { net_end sym.now ≤ size terms.old }
     ensures builds { Builds terms.old terms.new }
     ensures within { IfOk result (λ r. r.0 < size terms.new) }
-    ensures value { Gives terms.new result (λ w r. at w r ≡ rows_hold w net.now sym.now) }
+    ensures value { Gives terms.new result (λ w r. at w r ≡ rows_hold w net.now.files sym.now) }
 {
     let mut all = constant_node(terms, true)?;
     for router in 0..net.routers().len() {
@@ -160,12 +160,12 @@ pub fn sym_igp(
     net: &Net,
     sym: &SymNet,
 ) -> Result<NodeId, AllocError>
-    requires rows { length sym.now.igp ≡ length net.now * length (ospf.advertised net.now) }
+    requires rows { length sym.now.igp ≡ length net.now.files * length (ospf.advertised net.now.files) }
     requires nodes { net_end sym.now ≤ size terms.old }
     ensures builds { Builds terms.old terms.new }
     ensures within { IfOk result (λ r. r.0 < size terms.new) }
-    ensures sound { Gives terms.new result (λ w r. at w r ≡ true → HasDistances w net.now sym.now) }
-    ensures complete { Gives terms.new result (λ w r. HasDistances w net.now sym.now → at w r ≡ true) }
+    ensures sound { Gives terms.new result (λ w r. at w r ≡ true → HasDistances w net.now.files sym.now) }
+    ensures complete { Gives terms.new result (λ w r. HasDistances w net.now.files sym.now → at w r ≡ true) }
 {
     let _adjacencies = net.adjacencies();
     sym_rows(alloc, terms, net, sym)

@@ -6,10 +6,10 @@ ghost use Rattle.mw_text.specs.Address.{covers};
 ghost use Rattle.term_store.specs.Terms.{size, at};
 ghost use Rattle.term_store.specs.Reading.{Builds, Gives};
 ghost use Rattle.term_arith.specs.Bits.{ids_end};
-ghost use Rattle.net_model.specs.Distances.{interior_distance};
-ghost use Rattle.net_model.specs.Ospf as ospf;
-ghost use Rattle.net_model.specs.Resolution.{resolved};
-ghost use Rattle.net_model.specs.Routing as routing;
+ghost use Rattle.net_parts.specs.Distances.{interior_distance};
+ghost use Rattle.net_parts.specs.Ospf as ospf;
+ghost use Rattle.net_parts.specs.Resolution.{resolved};
+ghost use Rattle.net_parts.specs.Routing as routing;
 ghost use Rattle.sym_policy.specs.Held.{failures_of, internal_route, ospf_of, ospf_end};
 ghost use Rattle.sym_policy.specs.Records.{address_of};
 ghost use Rattle.sym_ospf.specs.Rows.{net_end, HasDistances};
@@ -65,7 +65,7 @@ fn sym_reached_by(
     ensures builds { Builds terms.old terms.new }
     ensures within { IfOk result (λ r. r.0 < size terms.new) }
     ensures value { Gives terms.new result (λ w r. at w r
-        ≡ is_reached_by net.now (failures_of w sym.now) router (address_of w a.now) x.now) }
+        ≡ is_reached_by net.now.files (failures_of w sym.now) router (address_of w a.now) x.now) }
 {
     if x.id.router != router {
         return constant_node(terms, false);
@@ -91,7 +91,7 @@ fn sym_reached(
     ensures builds { Builds terms.old terms.new }
     ensures within { IfOk result (λ r. r.0 < size terms.new) }
     ensures value { Gives terms.new result (λ w r. at w r
-        ≡ routing.is_reached (routing.up_interfaces net.now (failures_of w sym.now) router) (address_of w a.now)) }
+        ≡ routing.is_reached (routing.up_interfaces net.now.files (failures_of w sym.now) router) (address_of w a.now)) }
 {
     let mut any = constant_node(terms, false)?;
     for x in net.addresses() {
@@ -113,19 +113,19 @@ fn sym_found_at(
     a: &Bits,
     behind: &SymOspf,
 ) -> Result<SymOspf, AllocError>
-    requires rows { length sym.now.igp ≡ length net.now * length (ospf.advertised net.now) }
-    requires router { router < length net.now }
-    requires place { k < length (ospf.advertised net.now) }
-    requires there { slice_get (ospf.advertised net.now) k ≡ Some p.now }
+    requires rows { length sym.now.igp ≡ length net.now.files * length (ospf.advertised net.now.files) }
+    requires router { router < length net.now.files }
+    requires place { k < length (ospf.advertised net.now.files) }
+    requires there { slice_get (ospf.advertised net.now.files) k ≡ Some p.now }
     requires wide { length a.now.nodes.items ≡ 32 }
     requires address { ids_end a.now.nodes.items ≤ size terms.old }
     requires nodes { net_end sym.now ≤ size terms.old }
     requires behind { ospf_end behind.now ≤ size terms.old }
     ensures builds { Builds terms.old terms.new }
     ensures within { IfOk result (λ r. ospf_end r ≤ size terms.new) }
-    ensures value { Gives terms.new result (λ w r. HasDistances w net.now sym.now → ospf_of w r
+    ensures value { Gives terms.new result (λ w r. HasDistances w net.now.files sym.now → ospf_of w r
         ≡ (if covers p.now (address_of w a.now)
-        then option_map internal_route (interior_distance net.now (failures_of w sym.now) router p.now)
+        then option_map internal_route (interior_distance net.now.files (failures_of w sym.now) router p.now)
         else ospf_of w behind.now)) }
 {
     let inside = sym_contains(terms, p, a)?;
@@ -144,15 +144,15 @@ fn sym_found(
     router: u32,
     a: &Bits,
 ) -> Result<SymOspf, AllocError>
-    requires rows { length sym.now.igp ≡ length net.now * length (ospf.advertised net.now) }
-    requires router { router < length net.now }
+    requires rows { length sym.now.igp ≡ length net.now.files * length (ospf.advertised net.now.files) }
+    requires router { router < length net.now.files }
     requires wide { length a.now.nodes.items ≡ 32 }
     requires address { ids_end a.now.nodes.items ≤ size terms.old }
     requires nodes { net_end sym.now ≤ size terms.old }
     ensures builds { Builds terms.old terms.new }
     ensures within { IfOk result (λ r. ospf_end r ≤ size terms.new) }
-    ensures value { Gives terms.new result (λ w r. HasDistances w net.now sym.now → ospf_of w r
-        ≡ found net.now (failures_of w sym.now) router (address_of w a.now) (ospf.advertised net.now)) }
+    ensures value { Gives terms.new result (λ w r. HasDistances w net.now.files sym.now → ospf_of w r
+        ≡ found net.now.files (failures_of w sym.now) router (address_of w a.now) (ospf.advertised net.now.files)) }
 {
     let mut rest = known_ospf(alloc, terms, false, 0)?;
     for k in (0..net.advertised().len()).rev() {
@@ -172,14 +172,14 @@ fn sym_far(
     router: u32,
     a: &Bits,
 ) -> Result<SymOspf, AllocError>
-    requires rows { length sym.now.igp ≡ length net.now * length (ospf.advertised net.now) }
+    requires rows { length sym.now.igp ≡ length net.now.files * length (ospf.advertised net.now.files) }
     requires wide { length a.now.nodes.items ≡ 32 }
     requires address { ids_end a.now.nodes.items ≤ size terms.old }
     requires nodes { net_end sym.now ≤ size terms.old }
     ensures builds { Builds terms.old terms.new }
     ensures within { IfOk result (λ r. ospf_end r ≤ size terms.new) }
-    ensures value { Gives terms.new result (λ w r. HasDistances w net.now sym.now → ospf_of w r
-        ≡ found net.now (failures_of w sym.now) router (address_of w a.now) (ospf.advertised net.now)) }
+    ensures value { Gives terms.new result (λ w r. HasDistances w net.now.files sym.now → ospf_of w r
+        ≡ found net.now.files (failures_of w sym.now) router (address_of w a.now) (ospf.advertised net.now.files)) }
 {
     if (router as usize) < net.routers().len() {
         sym_found(alloc, terms, net, sym, router, a)
@@ -191,7 +191,7 @@ fn sym_far(
 /// How far the address is from the router, as an internal route with metric 0: cost 0 where an interface of the router
 /// that is up has it on its subnet, else the interior distance to the advertised prefix that contains it, and else none
 /// (RFC 4271, section 5.1.3). This holds under each reading in which the rows of `sym` are the interior distances.
-#[tactic(auto, unfolding(net_model::specs::Resolution::resolved), using(crate::proofs::Reach::resolved_is))]
+#[tactic(auto, unfolding(net_parts::specs::Resolution::resolved), using(crate::proofs::Reach::resolved_is))]
 pub fn sym_resolve(
     alloc: Global,
     terms: &mut Terms,
@@ -200,14 +200,14 @@ pub fn sym_resolve(
     router: u32,
     a: &Bits,
 ) -> Result<SymOspf, AllocError>
-    requires rows { length sym.now.igp ≡ length net.now * length (ospf.advertised net.now) }
+    requires rows { length sym.now.igp ≡ length net.now.files * length (ospf.advertised net.now.files) }
     requires wide { length a.now.nodes.items ≡ 32 }
     requires address { ids_end a.now.nodes.items ≤ size terms.old }
     requires nodes { net_end sym.now ≤ size terms.old }
     ensures builds { Builds terms.old terms.new }
     ensures within { IfOk result (λ r. ospf_end r ≤ size terms.new) }
-    ensures value { Gives terms.new result (λ w r. HasDistances w net.now sym.now → ospf_of w r
-        ≡ option_map internal_route (resolved net.now (failures_of w sym.now) router (address_of w a.now))) }
+    ensures value { Gives terms.new result (λ w r. HasDistances w net.now.files sym.now → ospf_of w r
+        ≡ option_map internal_route (resolved net.now.files (failures_of w sym.now) router (address_of w a.now))) }
 {
     let reached = sym_reached(alloc, terms, net, sym, router, a)?;
     let far = sym_far(alloc, terms, net, sym, router, a)?;

@@ -5,8 +5,8 @@ ghost use Rattle.std.specs.Prelude.{Some, None, option_and_then};
 ghost use Rattle.std.specs.List.{filter_map};
 ghost use Rattle.term_store.specs.Terms.{size, at};
 ghost use Rattle.term_store.specs.Reading.{Builds, Gives};
-ghost use Rattle.net_model.specs.OspfRoutes.{kind_rank, is_type2, is_better, first_best, extended};
-ghost use Rattle.net_model.specs.Sending.{same_record};
+ghost use Rattle.net_parts.specs.OspfRoutes.{kind_rank, is_type2, is_better, first_best, extended};
+ghost use Rattle.net_parts.specs.Sending.{same_record};
 ghost use Rattle.sym_policy.specs.Held.{ospf_at, ospf_of, ospf_end, internal_route};
 ghost use Rattle.sym_ospf.specs.Routes.{routes_end, kept};
 

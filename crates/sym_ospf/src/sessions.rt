@@ -4,14 +4,14 @@ ghost use Rattle.std.specs.Prelude.{◌≡◌, ◌*◌, ◌<◌, ◌≤◌, ◌&
 ghost use Rattle.std.specs.Option.{option_map_or};
 ghost use Rattle.term_store.specs.Terms.{size, at};
 ghost use Rattle.term_store.specs.Reading.{Builds, Gives};
-ghost use Rattle.net_model.specs.Ospf as ospf;
-ghost use Rattle.net_model.specs.Resolution as resolution;
-ghost use Rattle.net_model.specs.Sessions as sessions;
+ghost use Rattle.net_parts.specs.Ospf as ospf;
+ghost use Rattle.net_parts.specs.Resolution as resolution;
+ghost use Rattle.net_parts.specs.Sessions as sessions;
 ghost use Rattle.sym_policy.specs.Held.{failures_of};
 ghost use Rattle.sym_ospf.specs.Rows.{net_end, HasDistances};
 
 use crate::resolution::sym_resolve;
-use net_model::ends::neighbour_of;
+use net_parts::ends::neighbour_of;
 use net_model::{Far, Net, SessionEnd};
 use std::alloc::{AllocError, Global};
 use sym_interfaces::sym_up_at;
@@ -29,12 +29,12 @@ fn sym_resolves(
     sym: &SymNet,
     end: &SessionEnd,
 ) -> Result<NodeId, AllocError>
-    requires rows { length sym.now.igp ≡ length net.now * length (ospf.advertised net.now) }
+    requires rows { length sym.now.igp ≡ length net.now.files * length (ospf.advertised net.now.files) }
     requires nodes { net_end sym.now ≤ size terms.old }
     ensures builds { Builds terms.old terms.new }
     ensures within { IfOk result (λ r. r.0 < size terms.new) }
-    ensures value { Gives terms.new result (λ w r. HasDistances w net.now sym.now → at w r
-        ≡ resolution.resolves_neighbour net.now (failures_of w sym.now) end.now) }
+    ensures value { Gives terms.new result (λ w r. HasDistances w net.now.files sym.now → at w r
+        ≡ resolution.resolves_neighbour net.now.files (failures_of w sym.now) end.now) }
 {
     match neighbour_of(net.routers(), end) {
         None => constant_node(terms, false),
@@ -55,13 +55,13 @@ fn sym_meet(
     end: &SessionEnd,
     far: &SessionEnd,
 ) -> Result<NodeId, AllocError>
-    requires rows { length sym.now.igp ≡ length net.now * length (ospf.advertised net.now) }
+    requires rows { length sym.now.igp ≡ length net.now.files * length (ospf.advertised net.now.files) }
     requires nodes { net_end sym.now ≤ size terms.old }
     ensures builds { Builds terms.old terms.new }
     ensures within { IfOk result (λ r. r.0 < size terms.new) }
-    ensures value { Gives terms.new result (λ w r. HasDistances w net.now sym.now → at w r
-        ≡ (end.now.shared || (resolution.resolves_neighbour net.now (failures_of w sym.now) end.now
-        && resolution.resolves_neighbour net.now (failures_of w sym.now) far.now))) }
+    ensures value { Gives terms.new result (λ w r. HasDistances w net.now.files sym.now → at w r
+        ≡ (end.now.shared || (resolution.resolves_neighbour net.now.files (failures_of w sym.now) end.now
+        && resolution.resolves_neighbour net.now.files (failures_of w sym.now) far.now))) }
 {
     if end.shared {
         return constant_node(terms, true);
@@ -80,12 +80,12 @@ fn sym_up_between(
     end: &SessionEnd,
     far: &SessionEnd,
 ) -> Result<NodeId, AllocError>
-    requires rows { length sym.now.igp ≡ length net.now * length (ospf.advertised net.now) }
+    requires rows { length sym.now.igp ≡ length net.now.files * length (ospf.advertised net.now.files) }
     requires nodes { net_end sym.now ≤ size terms.old }
     ensures builds { Builds terms.old terms.new }
     ensures within { IfOk result (λ r. r.0 < size terms.new) }
-    ensures value { Gives terms.new result (λ w r. HasDistances w net.now sym.now → at w r
-        ≡ resolution.is_up_between net.now (failures_of w sym.now) end.now far.now) }
+    ensures value { Gives terms.new result (λ w r. HasDistances w net.now.files sym.now → at w r
+        ≡ resolution.is_up_between net.now.files (failures_of w sym.now) end.now far.now) }
 {
     let own = sym_up_at(alloc, terms, net, sym, end.own)?;
     let other = sym_up_at(alloc, terms, net, sym, far.own)?;
@@ -95,7 +95,7 @@ fn sym_up_between(
 }
 
 /// Whether the session of an end is up.
-#[tactic(auto, unfolding(net_model::specs::Resolution::session_up))]
+#[tactic(auto, unfolding(net_parts::specs::Resolution::session_up))]
 fn sym_end_up(
     alloc: Global,
     terms: &mut Terms,
@@ -103,12 +103,12 @@ fn sym_end_up(
     sym: &SymNet,
     end: &SessionEnd,
 ) -> Result<NodeId, AllocError>
-    requires rows { length sym.now.igp ≡ length net.now * length (ospf.advertised net.now) }
+    requires rows { length sym.now.igp ≡ length net.now.files * length (ospf.advertised net.now.files) }
     requires nodes { net_end sym.now ≤ size terms.old }
     ensures builds { Builds terms.old terms.new }
     ensures within { IfOk result (λ r. r.0 < size terms.new) }
-    ensures value { Gives terms.new result (λ w r. HasDistances w net.now sym.now → at w r
-        ≡ resolution.session_up net.now (failures_of w sym.now) end.now) }
+    ensures value { Gives terms.new result (λ w r. HasDistances w net.now.files sym.now → at w r
+        ≡ resolution.session_up net.now.files (failures_of w sym.now) end.now) }
 {
     match end.far {
         Far::Outside => sym_up_at(alloc, terms, net, sym, end.own),
@@ -130,13 +130,13 @@ pub fn sym_session_up(
     sym: &SymNet,
     end: u32,
 ) -> Result<NodeId, AllocError>
-    requires rows { length sym.now.igp ≡ length net.now * length (ospf.advertised net.now) }
+    requires rows { length sym.now.igp ≡ length net.now.files * length (ospf.advertised net.now.files) }
     requires nodes { net_end sym.now ≤ size terms.old }
     ensures builds { Builds terms.old terms.new }
     ensures within { IfOk result (λ r. r.0 < size terms.new) }
-    ensures value { Gives terms.new result (λ w r. HasDistances w net.now sym.now → at w r
-        ≡ option_map_or (resolution.session_up net.now (failures_of w sym.now))
-        (slice_get (sessions.ends_of net.now) end) false) }
+    ensures value { Gives terms.new result (λ w r. HasDistances w net.now.files sym.now → at w r
+        ≡ option_map_or (resolution.session_up net.now.files (failures_of w sym.now))
+        (slice_get (sessions.ends_of net.now.files) end) false) }
 {
     match net.ends().get(end as usize) {
         None => constant_node(terms, false),

@@ -6,7 +6,7 @@ use Rattle.std.specs.Prelude.{◌==◌}
 use Rattle.std.proofs.lemmas.Bool.Decides.{nat_tests}
 use Rattle.mw_text.specs.declared.address.Addr.{Addr}
 use Rattle.mw_text.specs.Address.{prefix_at}
-use Rattle.net_model.specs.Origins.{is_classful}
+use Rattle.net_parts.specs.Origins.{is_classful}
 
 pub class_a : (d : Addr) (len : ℕ) → len ≡ 8 → is_classful (prefix_at d len) ≡ (d.0 / 2 ^ 31 == 0)
 class_a d len is = ap (λ n. is_classful (prefix_at d n)) is ∙ at_eight d.0

@@ -13,7 +13,7 @@ use Rattle.route_record.specs.declared.RibEntry.{RibEntry}
 use Rattle.route_record.specs.declared.RibSource.{RibSource}
 use Rattle.route_record.specs.declared.RibSource.TheVariants.{Connected, Static, Ebgp, Ospf, Ibgp}
 use Rattle.route_record.specs.declared.Slot.{Slot}
-use Rattle.net_model.specs.Origins.{entry_metric, is_from, is_ospf_subnet, ospf_metric, taken_metric, takes_kind}
+use Rattle.net_parts.specs.Origins.{entry_metric, is_from, is_ospf_subnet, ospf_metric, taken_metric, takes_kind}
 use Rattle.sym_policy.specs.Held.{kind_of_number}
 use Rattle.sym_rib.specs.Slots.{source_of_number}
 use Rattle.sym_rib.proofs.SourceLaw.{apart, chosen}

@@ -13,9 +13,9 @@ use Rattle.route_record.specs.declared.Learnt.{Learnt}
 use Rattle.route_record.specs.declared.Learnt.TheVariants.{Local, Peer}
 use Rattle.route_record.specs.declared.RibEntry.{RibEntry}
 use Rattle.route_record.specs.declared.RibSource.TheVariants.{Ebgp, Ibgp}
-use Rattle.net_model.specs.declared.sessions.SessionEnd.{SessionEnd}
-use Rattle.net_model.specs.Exports.{learnt_over}
-use Rattle.net_model.specs.Sessions.{ends_of, neighbour_of}
+use Rattle.net_parts.specs.declared.sessions.SessionEnd.{SessionEnd}
+use Rattle.net_parts.specs.Exports.{learnt_over}
+use Rattle.net_parts.specs.Sessions.{ends_of, neighbour_of}
 use Rattle.sym_policy.specs.Held.{learnt_number}
 use Rattle.sym_rib.specs.Sources.{is_from, end_numbered, is_of_kind, entry_over}
 

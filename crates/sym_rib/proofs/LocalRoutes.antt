@@ -13,8 +13,9 @@ use Rattle.route_record.specs.declared.RibEntry.{RibEntry}
 use Rattle.route_record.specs.declared.tracked.Tracked.{Tracked}
 use Rattle.route_record.specs.Origins.{origin_code, origin_of_code}
 use Rattle.route_record.specs.Shape.{has_address}
-use Rattle.net_model.specs.Mapping.{attributes_of, through_map, with_attributes}
-use Rattle.net_model.specs.Origins.{local_route}
+use Rattle.ios_ast.specs.Maps.{through_map}
+use Rattle.net_parts.specs.Mapping.{attributes_of, with_attributes}
+use Rattle.net_parts.specs.Origins.{local_route}
 use Rattle.sym_policy.specs.declared.records.SymMapRec.{SymMapRec}
 use Rattle.sym_policy.specs.Held.{BgpShape, bgp_at, bgp_end, bgp_of, bgp_shape}
 use Rattle.sym_policy.specs.MapRecs.{KeepsRest, attributes_at, kept_end, map_rec_at, map_rec_end, seen_end}

@@ -15,7 +15,7 @@ use Rattle.ios_ast.specs.declared.policies.SetAct.TheVariants.{LocalPref, Metric
 use Rattle.ios_ast.specs.declared.policies.SetAct.TheVariants.{Origin, Prepend, Type1}
 use Rattle.ios_ast.specs.Maps.{deciding, mapped}
 use Rattle.ios_ast.specs.Setting.{Attributes, origin_set, set_all, set_one}
-use Rattle.net_model.specs.Mapping.{entries_named, through_map}
+use Rattle.ios_ast.specs.Maps.{entries_named, through_map}
 use Rattle.route_record.specs.declared.tracked.Tracked.{Tracked}
 use Rattle.sym_policy.specs.Shapes.{RouteShape, all_tracked, route_shape}
 use Rattle.sym_rib.specs.Mapped.{HasOriginCode, IsShort}

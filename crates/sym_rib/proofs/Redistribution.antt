@@ -15,8 +15,8 @@ use Rattle.route_record.specs.declared.OspfRec.{OspfRec}
 use Rattle.route_record.specs.declared.RibEntry.{RibEntry}
 use Rattle.route_record.specs.declared.Slot.{Slot}
 use Rattle.route_record.specs.declared.tracked.Tracked.{Tracked}
-use Rattle.net_model.specs.Origins.{external_record, is_ospf_entry, is_taken, originated_default, plain_route}
-use Rattle.net_model.specs.Origins.{redistributed_route}
+use Rattle.net_parts.specs.Origins.{external_record, is_ospf_entry, is_taken, originated_default, plain_route}
+use Rattle.net_parts.specs.Origins.{redistributed_route}
 use Rattle.sym_policy.specs.declared.records.SymBgp.{SymBgp}
 use Rattle.sym_policy.specs.Held.{BgpShape, StandsForBgp, bgp_at, bgp_shape, kind_of_number}
 use Rattle.sym_policy.specs.Shapes.{RouteShape, route_shape}

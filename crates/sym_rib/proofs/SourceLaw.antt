@@ -7,7 +7,7 @@ use Rattle.ios_ast.specs.declared.ospf.Source.{Source}
 use Rattle.ios_ast.specs.declared.ospf.Source.TheVariants as source
 use Rattle.route_record.specs.declared.RibSource.{RibSource}
 use Rattle.route_record.specs.declared.RibSource.TheVariants.{Connected, Static, Ebgp, Ospf, Ibgp}
-use Rattle.net_model.specs.Origins.{is_from, is_ospf_entry}
+use Rattle.net_parts.specs.Origins.{is_from, is_ospf_entry}
 use Rattle.sym_rib.specs.Into.{source_taken}
 use Rattle.sym_rib.specs.Slots.{source_of_number}
 

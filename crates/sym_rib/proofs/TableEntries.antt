@@ -14,9 +14,9 @@ use Rattle.route_record.specs.declared.RibEntry.{RibEntry}
 use Rattle.route_record.specs.declared.RibSource.TheVariants.{Ospf}
 use Rattle.route_record.specs.declared.Slot.{Slot}
 use Rattle.route_record.specs.declared.tracked.Tracked.{Tracked}
-use Rattle.net_model.specs.Entries.{bgp_entry, entry_with, ospf_entry}
-use Rattle.net_model.specs.Exports.{learnt_over}
-use Rattle.net_model.specs.Routing.{candidates, closer, least_distance, up_interfaces}
+use Rattle.net_parts.specs.Entries.{bgp_entry, entry_with, ospf_entry}
+use Rattle.net_parts.specs.Exports.{learnt_over}
+use Rattle.net_parts.specs.Routing.{candidates, closer, least_distance, up_interfaces}
 use Rattle.sym_policy.specs.Held.{BgpShape, bgp_at, bgp_shape, ospf_at}
 use Rattle.term_store.specs.Terms.{Reading, at}
 use Rattle.term_arith.specs.Bits.{number}

@@ -5,7 +5,7 @@ use Rattle.ios_ast.specs.declared.ospf.Source.TheVariants as source
 use Rattle.ios_ast.specs.declared.ospf.Redist.{Redist}
 use Rattle.ios_ast.specs.Setting.{Attributes}
 use Rattle.route_record.specs.declared.BgpRec.{BgpRec}
-use Rattle.net_model.specs.Origins.{plain_route}
+use Rattle.net_parts.specs.Origins.{plain_route}
 use Rattle.route_record.specs.declared.tracked.Tracked.{Tracked}
 use Rattle.sym_policy.specs.declared.records.SymBgp.{SymBgp}
 

@@ -5,7 +5,7 @@ use Rattle.ios_ast.specs.declared.file.Use.{Use}
 use Rattle.ios_ast.specs.declared.policies.Policies.{Policies}
 use Rattle.ios_ast.specs.Maps.{mapped}
 use Rattle.ios_ast.specs.Setting.{Attributes}
-use Rattle.net_model.specs.Mapping.{entries_named}
+use Rattle.ios_ast.specs.Maps.{entries_named}
 
 -- the path's length fits 32 bits
 abbrev pub IsShort : Attributes → Type 0

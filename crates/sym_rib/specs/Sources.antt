@@ -10,10 +10,10 @@ use Rattle.ios_ast.specs.declared.file.StaticRoute.{StaticRoute}
 use Rattle.route_record.specs.declared.RibEntry.{RibEntry}
 use Rattle.route_record.specs.declared.Failures.{Failures}
 use Rattle.route_record.specs.declared.RibSource.TheVariants.{Static, Ebgp, Ospf, Ibgp}
-use Rattle.net_model.specs.declared.interfaces.Addressed.{Addressed}
-use Rattle.net_model.specs.declared.sessions.SessionEnd.{SessionEnd}
-use Rattle.net_model.specs.Routing.{candidates, closer, counts, least_distance, up_interfaces}
-use Rattle.net_model.specs.Sessions.{ends_of, neighbour_of}
+use Rattle.net_interfaces.specs.declared.interfaces.Addressed.{Addressed}
+use Rattle.net_parts.specs.declared.sessions.SessionEnd.{SessionEnd}
+use Rattle.net_parts.specs.Routing.{candidates, closer, counts, least_distance, up_interfaces}
+use Rattle.net_parts.specs.Sessions.{ends_of, neighbour_of}
 
 -- the closer of two entries that may be there, of equal distances the first
 abbrev pub closer_of : Option RibEntry → Option RibEntry → Option RibEntry

@@ -2,9 +2,8 @@
 
 ghost use Rattle.std.specs.Prelude.{◌≡◌, ◌==◌, ◌&&◌, ℕ, ◌+◌, ◌<◌, ◌≤◌, Bool, not, fold, map, if◌then◌else◌, Some};
 ghost use Rattle.std.specs.Prelude.{None, IfOk, length, slice_get, option_and_then};
-ghost use Rattle.net_model.specs.Entries as entries;
-ghost use Rattle.net_model.specs.Routing as routing;
-ghost use Rattle.net_model.specs.Tracked.{tracked_of};
+ghost use Rattle.net_parts.specs.Entries as entries;
+ghost use Rattle.net_parts.specs.Routing as routing;
 ghost use Rattle.route_record.specs.declared.Slot.{Slot};
 ghost use Rattle.sym_policy.specs.Held.{failures_of, ospf_end};
 ghost use Rattle.sym_policy.specs.Records.{prefix_of};
@@ -21,7 +20,7 @@ use crate::slots::{SymRib, SymSlot};
 use crate::statics::best_static;
 use ios_ast::File;
 use net_model::Net;
-use net_model::ends::file_of;
+use net_parts::ends::file_of;
 use route_record::RibSource;
 use std::alloc::{AllocError, Global};
 use sym_policy::{SymNet, SymOspf};
@@ -46,7 +45,7 @@ fn direct_rib(
     ensures builds { Builds terms.old terms.new }
     ensures within { IfOk result (λ r. rib_end r ≤ size terms.new) }
     ensures value { Gives terms.new result (λ w r. rib_of w r
-        ≡ (if routing.is_direct (routing.up_interfaces net.now (failures_of w sym.now) router) (prefix_of w dst.now len)
+        ≡ (if routing.is_direct (routing.up_interfaces net.now.files (failures_of w sym.now) router) (prefix_of w dst.now len)
         then Some (record { source = RibSource.Connected; distance = 0 }) else None)) }
 {
     let direct = sym_direct(alloc, terms, net, sym, router, dst, len)?;
@@ -90,7 +89,7 @@ fn plain_rib(
     ensures builds { Builds terms.old terms.new }
     ensures within { IfOk result (λ r. rib_end r ≤ size terms.new) }
     ensures value { Gives terms.new result (λ w r. rib_of w r ≡ routing.least_distance (routing.candidates
-        (routing.up_interfaces net.now (failures_of w sym.now) router) file.now.statics (prefix_of w dst.now len))) }
+        (routing.up_interfaces net.now.files (failures_of w sym.now) router) file.now.statics (prefix_of w dst.now len))) }
 {
     let direct = direct_rib(alloc, terms, net, sym, router, dst, len)?;
     best_static(
@@ -128,8 +127,8 @@ fn table_rib(
     ensures builds { Builds terms.old terms.new }
     ensures within { IfOk result (λ r. rib_end r ≤ size terms.new) }
     ensures value { Gives terms.new result (λ w r. rib_of w r
-        ≡ entry_read net.now (failures_of w sym.now) router file.now (prefix_of w dst.now len)
-        (if at w slot.now.bgp.valid then learnt_entry net.now router (number w slot.now.bgp.from.nodes.items) else None)
+        ≡ entry_read net.now.files (failures_of w sym.now) router file.now (prefix_of w dst.now len)
+        (if at w slot.now.bgp.valid then learnt_entry net.now.files router (number w slot.now.bgp.from.nodes.items) else None)
         (at w slot.now.ospf.valid && not (at w own))) }
 {
     let plain = plain_rib(alloc, terms, net, sym, router, file, dst, len)?;
@@ -162,9 +161,9 @@ pub fn sym_entry(
     requires own { own_ospf.0 < size terms.old }
     ensures builds { Builds terms.old terms.new }
     ensures within { IfOk result (λ r. rib_end r ≤ size terms.new) }
-    ensures value { Gives terms.new result (λ w r. (held : Slot) → StandsForSlot w (tracked_of net.now) slot.now held
-        → rib_of w r ≡ option_and_then (λ file. entries.entry_with net.now (failures_of w sym.now) router file
-        (prefix_of w dst.now len) held (at w own_ospf)) (slice_get net.now router)) }
+    ensures value { Gives terms.new result (λ w r. (held : Slot) → StandsForSlot w net.now.tracked slot.now held
+        → rib_of w r ≡ option_and_then (λ file. entries.entry_with net.now.files (failures_of w sym.now) router file
+        (prefix_of w dst.now len) held (at w own_ospf)) (slice_get net.now.files router)) }
 {
     match file_of(net.routers(), router) {
         None => {

@@ -2,8 +2,8 @@
 
 ghost use Rattle.std.specs.Prelude.{◌≡◌, ◌==◌, ◌&&◌, ◌||◌, ℕ, ◌+◌, ◌<◌, ◌≤◌, Bool, false, IfOk, length};
 ghost use Rattle.mw_text.specs.Address.{covers, same_prefix};
-ghost use Rattle.net_model.specs.Routing as routing;
-ghost use Rattle.net_model.specs.World as world;
+ghost use Rattle.net_parts.specs.Routing as routing;
+ghost use Rattle.net_parts.specs.World as world;
 ghost use Rattle.sym_policy.specs.Held.{failures_of};
 ghost use Rattle.sym_policy.specs.Records.{prefix_of};
 ghost use Rattle.term_store.specs.Terms.{Reading, size, at};
@@ -38,7 +38,7 @@ fn sym_direct_over(
     ensures builds { Builds terms.old terms.new }
     ensures within { IfOk result (λ r. r.0 < size terms.new) }
     ensures value { Gives terms.new result (λ w r. at w r ≡ (((x.now.id.router == router)
-        && world.is_up net.now (failures_of w sym.now) x.now) && same_prefix x.now.subnet (prefix_of w dst.now len))) }
+        && world.is_up net.now.files (failures_of w sym.now) x.now) && same_prefix x.now.subnet (prefix_of w dst.now len))) }
 {
     if x.id.router != router {
         return constant_node(terms, false);
@@ -65,7 +65,7 @@ pub(crate) fn sym_direct(
     ensures builds { Builds terms.old terms.new }
     ensures within { IfOk result (λ r. r.0 < size terms.new) }
     ensures value { Gives terms.new result (λ w r. at w r
-        ≡ routing.is_direct (routing.up_interfaces net.now (failures_of w sym.now) router) (prefix_of w dst.now len)) }
+        ≡ routing.is_direct (routing.up_interfaces net.now.files (failures_of w sym.now) router) (prefix_of w dst.now len)) }
 {
     let mut any = constant_node(terms, false)?;
     for x in net.addresses() {
@@ -89,7 +89,7 @@ fn sym_reached_over(
     ensures builds { Builds terms.old terms.new }
     ensures within { IfOk result (λ r. r.0 < size terms.new) }
     ensures value { Gives terms.new result (λ w r. at w r ≡ (((x.now.id.router == router)
-        && world.is_up net.now (failures_of w sym.now) x.now) && covers x.now.subnet a)) }
+        && world.is_up net.now.files (failures_of w sym.now) x.now) && covers x.now.subnet a)) }
 {
     if x.id.router == router && contains(&x.subnet, a) {
         sym_up(alloc, terms, net, sym, x)
@@ -111,7 +111,7 @@ pub(crate) fn sym_reached(
     ensures builds { Builds terms.old terms.new }
     ensures within { IfOk result (λ r. r.0 < size terms.new) }
     ensures value { Gives terms.new result (λ w r. at w r
-        ≡ routing.is_reached (routing.up_interfaces net.now (failures_of w sym.now) router) a) }
+        ≡ routing.is_reached (routing.up_interfaces net.now.files (failures_of w sym.now) router) a) }
 {
     let mut any = constant_node(terms, false)?;
     for x in net.addresses() {

@@ -6,9 +6,8 @@ ghost use Rattle.std.specs.Prelude.{if◌then◌else◌, Some, None, IfOk, OnOk,
 ghost use Rattle.std.specs.Prelude.{option_and_then, slice_get};
 ghost use Rattle.std.specs.List.{filter_map};
 ghost use Rattle.std.specs.Option.{option_map, option_map_or, option_to_list};
-ghost use Rattle.net_model.specs.Mapping as mapping;
-ghost use Rattle.net_model.specs.Origins as origins;
-ghost use Rattle.net_model.specs.Tracked.{tracked_of};
+ghost use Rattle.net_parts.specs.Mapping as mapping;
+ghost use Rattle.net_parts.specs.Origins as origins;
 ghost use Rattle.route_record.specs.declared.Slot.{Slot};
 ghost use Rattle.sym_policy.specs.Held.{bgp_of, bgp_shape, bgp_end, ospf_of};
 ghost use Rattle.sym_policy.specs.MapRecs.{attributes_at, map_rec_at, map_rec_end, HasMarks};
@@ -31,7 +30,7 @@ use crate::through::sym_through;
 use ios_ast::{Bgp, BgpNet, File, Redist, Use};
 use mw_text::List;
 use net_model::Net;
-use net_model::ends::file_of;
+use net_parts::ends::file_of;
 use route_record::{Origin, Tracked};
 use std::alloc::{AllocError, Global};
 use sym_policy::{SymBgp, SymMapRec};
@@ -191,7 +190,7 @@ fn line_bgp(
     ensures value { Gives terms.new result (λ w r. (held : Slot) → all_tracked tracked.now file.now.policies ≡ true
         → StandsForSlot w tracked.now slot.now held
         → option_and_then (bgp_of w) r ≡ option_map (bgp_shape tracked.now)
-        (origins.into_bgp net.now router file.now (prefix_of w dst.now len) held line.now)) }
+        (origins.into_bgp net.now.files router file.now (prefix_of w dst.now len) held line.now)) }
 {
     if len == 0 {
         return Ok(None);
@@ -275,7 +274,7 @@ fn with_redistributed(
     ensures value { Gives terms.new result (λ w r. (held : Slot) → all_tracked tracked.now file.now.policies ≡ true
         → StandsForSlot w tracked.now slot.now held
         → filter_map (bgp_of w) r ≡ filter_map (bgp_of w) before ++ map (bgp_shape tracked.now)
-        (filter_map (origins.into_bgp net.now router file.now (prefix_of w dst.now len) held) lines.now)) }
+        (filter_map (origins.into_bgp net.now.files router file.now (prefix_of w dst.now len) held) lines.now)) }
 {
     let mut made = before;
     for line in lines {
@@ -309,7 +308,7 @@ fn of_process(
     ensures value { Gives terms.new result (λ w r. (held : Slot) → all_tracked tracked.now file.now.policies ≡ true
         → StandsForSlot w tracked.now slot.now held
         → filter_map (bgp_of w) r ≡ map (bgp_shape tracked.now)
-        (origins.local_routes net.now router file.now process.now (prefix_of w dst.now len) held)) }
+        (origins.local_routes net.now.files router file.now process.now (prefix_of w dst.now len) held)) }
 {
     let networks = process.networks.as_slice();
     let made = by_networks(alloc, terms, tracked, file, networks, dst, len, slot)?;
@@ -341,7 +340,7 @@ fn of_file(
     ensures value { Gives terms.new result (λ w r. (held : Slot) → all_tracked tracked.now file.now.policies ≡ true
         → StandsForSlot w tracked.now slot.now held
         → filter_map (bgp_of w) r ≡ map (bgp_shape tracked.now) (option_map_or (λ process.
-        origins.local_routes net.now router file.now process (prefix_of w dst.now len) held) file.now.bgp [])) }
+        origins.local_routes net.now.files router file.now process (prefix_of w dst.now len) held) file.now.bgp [])) }
 {
     match &file.bgp {
         None => Ok(List::new(alloc)),
@@ -372,10 +371,10 @@ pub fn sym_originate(
     requires slot { slot_end slot.now ≤ size terms.old }
     ensures builds { Builds terms.old terms.new }
     ensures within { IfOk result (λ r. list_end bgp_end r ≤ size terms.new) }
-    ensures value { Gives terms.new result (λ w r. (held : Slot) → StandsForSlot w (tracked_of net.now) slot.now held
-        → filter_map (bgp_of w) r ≡ map (bgp_shape (tracked_of net.now)) (option_map_or (λ file. option_map_or
-        (λ process. origins.local_routes net.now router file process (prefix_of w dst.now len) held) file.bgp [])
-        (slice_get net.now router) [])) }
+    ensures value { Gives terms.new result (λ w r. (held : Slot) → StandsForSlot w net.now.tracked slot.now held
+        → filter_map (bgp_of w) r ≡ map (bgp_shape net.now.tracked) (option_map_or (λ file. option_map_or
+        (λ process. origins.local_routes net.now.files router file process (prefix_of w dst.now len) held) file.bgp [])
+        (slice_get net.now.files router) [])) }
 {
     match file_of(net.routers(), router) {
         None => Ok(List::new(alloc)),

@@ -6,9 +6,8 @@ ghost use Rattle.std.specs.Prelude.{false, true, not, if◌then◌else◌, Some,
 ghost use Rattle.std.specs.Prelude.{option_and_then, slice_get};
 ghost use Rattle.std.specs.List.{filter_map};
 ghost use Rattle.std.specs.Option.{option_map, option_map_or, option_to_list};
-ghost use Rattle.net_model.specs.Mapping as mapping;
-ghost use Rattle.net_model.specs.Origins as origins;
-ghost use Rattle.net_model.specs.Tracked.{tracked_of};
+ghost use Rattle.net_parts.specs.Mapping as mapping;
+ghost use Rattle.net_parts.specs.Origins as origins;
 ghost use Rattle.route_record.specs.declared.BgpRec.{BgpRec as BgpOf};
 ghost use Rattle.route_record.specs.declared.Slot.{Slot};
 ghost use Rattle.sym_policy.specs.Held.{ospf_of, ospf_end, bgp_end, StandsForBgp};
@@ -30,7 +29,7 @@ use crate::through::sym_through;
 use ios_ast::{DefaultOrigin, File, Ospf, Redist, Source};
 use mw_text::List;
 use net_model::Net;
-use net_model::ends::file_of;
+use net_parts::ends::file_of;
 use route_record::{Origin, Tracked};
 use std::alloc::{AllocError, Global};
 use sym_policy::{SymBgp, SymMapRec, SymOspf};
@@ -506,14 +505,14 @@ pub fn sym_redistribute(
     requires long { len ≤ 32 }
     requires wide { length dst.now.nodes.items ≡ 32 }
     requires dst { ids_end dst.now.nodes.items ≤ size terms.old }
-    requires rows { HasTracked (tracked_of net.now) slot.now.bgp }
+    requires rows { HasTracked net.now.tracked slot.now.bgp }
     requires slot { slot_end slot.now ≤ size terms.old }
     ensures builds { Builds terms.old terms.new }
     ensures within { IfOk result (λ r. list_end ospf_end r ≤ size terms.new) }
-    ensures value { Gives terms.new result (λ w r. (held : Slot) → StandsForSlot w (tracked_of net.now) slot.now held
+    ensures value { Gives terms.new result (λ w r. (held : Slot) → StandsForSlot w net.now.tracked slot.now held
         → filter_map (ospf_of w) r ≡ option_map_or (λ file. option_map_or (λ process.
         origins.redistributed file process (prefix_of w dst.now len) held) file.ospf [])
-        (slice_get net.now router) []) }
+        (slice_get net.now.files router) []) }
 {
     match file_of(net.routers(), router) {
         None => Ok(List::new(alloc)),

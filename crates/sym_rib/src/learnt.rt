@@ -13,7 +13,7 @@ ghost use Rattle.term_arith.specs.Bits.{number, ids_end};
 
 use crate::ribs::{choose_rib, entry_where};
 use crate::slots::SymRib;
-use net_model::ends::neighbour_of;
+use net_parts::ends::neighbour_of;
 use net_model::{Net, SessionEnd};
 use route_record::RibSource;
 use std::alloc::{AllocError, Global};
@@ -41,7 +41,7 @@ fn sym_is_from(
     ensures builds { Builds terms.old terms.new }
     ensures within { IfOk result (λ r. r.0 < size terms.new) }
     ensures value { Gives terms.new result (λ w r. at w r
-        ≡ is_from net.now router (number w from.now.nodes.items) end.now) }
+        ≡ is_from net.now.files router (number w from.now.nodes.items) end.now) }
 {
     if end.router != router {
         return constant_node(terms, false);
@@ -79,7 +79,7 @@ fn sym_learnt(
     ensures builds { Builds terms.old terms.new }
     ensures within { IfOk result (λ r. r.0 < size terms.new) }
     ensures value { Gives terms.new result (λ w r. at w r
-        ≡ option_map_or (is_of_kind internal) (end_numbered net.now router (number w from.now.nodes.items)) false) }
+        ≡ option_map_or (is_of_kind internal) (end_numbered net.now.files router (number w from.now.nodes.items)) false) }
 {
     let ends = net.ends();
     let mut rest = constant_node(terms, false)?;
@@ -104,7 +104,7 @@ pub(crate) fn bgp_rib(
     ensures builds { Builds terms.old terms.new }
     ensures within { IfOk result (λ r. rib_end r ≤ size terms.new) }
     ensures value { Gives terms.new result (λ w r. rib_of w r
-        ≡ (if at w bgp.now.valid then learnt_entry net.now router (number w bgp.now.from.nodes.items) else None)) }
+        ≡ (if at w bgp.now.valid then learnt_entry net.now.files router (number w bgp.now.from.nodes.items) else None)) }
 {
     let internal = sym_learnt(terms, net, router, &bgp.from, true)?;
     let external = sym_learnt(terms, net, router, &bgp.from, false)?;

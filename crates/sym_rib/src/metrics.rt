@@ -3,7 +3,7 @@
 ghost use Rattle.std.specs.Prelude.{◌≡◌, ◌==◌, ◌&&◌, ◌||◌, ℕ, ◌+◌, ◌<◌, ◌≤◌, Bool, false, if◌then◌else◌, Some, None};
 ghost use Rattle.std.specs.Prelude.{IfOk, length, max, option_and_then, option_map, unwrap_or};
 ghost use Rattle.mw_text.specs.Address.{same_prefix};
-ghost use Rattle.net_model.specs.Origins as origins;
+ghost use Rattle.net_parts.specs.Origins as origins;
 ghost use Rattle.route_record.specs.declared.Slot.{Slot};
 ghost use Rattle.sym_policy.specs.Held.{kind_of_number, ospf_at, ospf_of, ospf_end};
 ghost use Rattle.sym_policy.specs.Records.{prefix_of};
@@ -255,7 +255,7 @@ fn sym_ospf_subnet(
     ensures builds { Builds terms.old terms.new }
     ensures within { IfOk result (λ r. r.0 < size terms.new) }
     ensures value { Gives terms.new result (λ w r. at w r
-        ≡ origins.is_ospf_subnet net.now router (prefix_of w dst.now len)) }
+        ≡ origins.is_ospf_subnet net.now.files router (prefix_of w dst.now len)) }
 {
     let mut any = constant_node(terms, false)?;
     for x in net.ospf_interfaces() {
@@ -281,7 +281,7 @@ fn sym_internal_subnet(
     ensures builds { Builds terms.old terms.new }
     ensures within { IfOk result (λ r. r.0 < size terms.new) }
     ensures value { Gives terms.new result (λ w r. at w r
-        ≡ (line.now.internal && origins.is_ospf_subnet net.now router (prefix_of w dst.now len))) }
+        ≡ (line.now.internal && origins.is_ospf_subnet net.now.files router (prefix_of w dst.now len))) }
 {
     if !line.internal {
         return constant_node(terms, false);
@@ -309,7 +309,7 @@ fn taken_from_ospf(
     ensures within { IfOk result (λ r. metric_end r ≤ size terms.new) }
     ensures value { Gives terms.new result (λ w r. (held : Slot) (process : ℕ)
         → ospf_of w slot.now.ospf ≡ held.ospf → rib_of w slot.now.rib ≡ held.rib
-        → metric_of w r ≡ option_and_then (λ entry. origins.taken_metric net.now router (prefix_of w dst.now len) held
+        → metric_of w r ≡ option_and_then (λ entry. origins.taken_metric net.now.files router (prefix_of w dst.now len) held
         (record line.now { source = Source.Ospf process }) entry.source) held.rib) }
 {
     let connected = is_from(terms, &slot.rib, 0)?;
@@ -359,7 +359,7 @@ pub(crate) fn sym_taken_metric(
     ensures within { IfOk result (λ r. metric_end r ≤ size terms.new) }
     ensures value { Gives terms.new result (λ w r. (held : Slot)
         → ospf_of w slot.now.ospf ≡ held.ospf → rib_of w slot.now.rib ≡ held.rib
-        → metric_of w r ≡ option_and_then (λ entry. origins.taken_metric net.now router (prefix_of w dst.now len) held
+        → metric_of w r ≡ option_and_then (λ entry. origins.taken_metric net.now.files router (prefix_of w dst.now len) held
         line.now entry.source) held.rib) }
 {
     match line.source {

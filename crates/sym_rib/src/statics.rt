@@ -2,7 +2,7 @@
 
 ghost use Rattle.std.specs.Prelude.{◌≡◌, ◌==◌, ◌&&◌, ℕ, ◌+◌, ◌<◌, ◌≤◌, Bool, true, false, fold, map, if◌then◌else◌};
 ghost use Rattle.std.specs.Prelude.{Some, None, IfOk, length};
-ghost use Rattle.net_model.specs.Routing as routing;
+ghost use Rattle.net_parts.specs.Routing as routing;
 ghost use Rattle.route_record.specs.declared.RibSource as source;
 ghost use Rattle.sym_policy.specs.Held.{failures_of};
 ghost use Rattle.sym_policy.specs.Records.{prefix_of};
@@ -39,7 +39,7 @@ fn sym_counts(
     ensures builds { Builds terms.old terms.new }
     ensures within { IfOk result (λ r. r.0 < size terms.new) }
     ensures value { Gives terms.new result (λ w r. at w r
-        ≡ routing.counts (routing.up_interfaces net.now (failures_of w sym.now) router) route.now) }
+        ≡ routing.counts (routing.up_interfaces net.now.files (failures_of w sym.now) router) route.now) }
 {
     if route.distance == 255 {
         return constant_node(terms, false);
@@ -69,7 +69,7 @@ fn static_rib(
     ensures builds { Builds terms.old terms.new }
     ensures within { IfOk result (λ r. rib_end r ≤ size terms.new) }
     ensures value { Gives terms.new result (λ w r. rib_of w r
-        ≡ static_entry (routing.up_interfaces net.now (failures_of w sym.now) router)
+        ≡ static_entry (routing.up_interfaces net.now.files (failures_of w sym.now) router)
         (prefix_of w dst.now len) route.now) }
 {
     let same = sym_same_prefix(terms, &route.prefix, dst, len)?;
@@ -98,7 +98,7 @@ fn after_static(
     ensures builds { Builds terms.old terms.new }
     ensures within { IfOk result (λ r. rib_end r ≤ size terms.new) }
     ensures value { Gives terms.new result (λ w r. rib_of w r ≡ closer_of (rib_of w best)
-        (static_entry (routing.up_interfaces net.now (failures_of w sym.now) router)
+        (static_entry (routing.up_interfaces net.now.files (failures_of w sym.now) router)
         (prefix_of w dst.now len) route.now)) }
 {
     if route.prefix.len != len {
@@ -129,7 +129,7 @@ pub(crate) fn best_static(
     ensures within { IfOk result (λ r. rib_end r ≤ size terms.new) }
     ensures value { Gives terms.new result (λ w r. rib_of w r
         ≡ fold routing.closer (rib_of w first) (map static_candidate
-        (routing.static_routes (routing.up_interfaces net.now (failures_of w sym.now) router) statics.now
+        (routing.static_routes (routing.up_interfaces net.now.files (failures_of w sym.now) router) statics.now
         (prefix_of w dst.now len)))) }
 {
     let mut best = first;

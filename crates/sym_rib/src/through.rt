@@ -7,7 +7,7 @@ ghost use Rattle.std.specs.Option.{option_and_then, option_copied, option_map};
 ghost use Rattle.mw_text.specs.Text.{same_text};
 ghost use Rattle.ios_ast.specs.Maps.{mapped};
 ghost use Rattle.ios_ast.specs.Setting.{Attributes};
-ghost use Rattle.net_model.specs.Mapping as mapping;
+ghost use Rattle.net_parts.specs.Mapping as mapping;
 ghost use Rattle.sym_policy.specs.MapRecs.{map_rec_at, map_rec_end, HasMarks, KeepsRest};
 ghost use Rattle.sym_policy.specs.Records.{prefix_of};
 ghost use Rattle.sym_policy.specs.Shapes.{all_tracked, route_shape};

@@ -11,10 +11,10 @@ use Rattle.route_record.specs.declared.Packet.{Packet}
 use Rattle.route_record.specs.declared.Slot.{Slot}
 use Rattle.route_record.specs.declared.Tables.{Tables}
 use Rattle.route_record.specs.declared.TheConstants.{LENGTHS}
-use Rattle.net_model.specs.declared.adjacencies.Adjacency.{Adjacency}
-use Rattle.net_model.specs.Ospf.{adjacencies, up_adjacencies}
-use Rattle.net_model.specs.OspfRoutes.{extended, offer_over}
-use Rattle.net_model.specs.Sending.{same_record, sent_by_ospf}
+use Rattle.net_parts.specs.declared.adjacencies.Adjacency.{Adjacency}
+use Rattle.net_parts.specs.Ospf.{adjacencies, up_adjacencies}
+use Rattle.net_parts.specs.OspfRoutes.{extended, offer_over}
+use Rattle.net_parts.specs.Sending.{same_record, sent_by_ospf}
 use Rattle.question_lang.specs.declared.walk.Hop.{Hop}
 use Rattle.question_lang.specs.Hops.{send_adjacent}
 use Rattle.term_store.specs.Terms.{Reading}

@@ -20,12 +20,12 @@ use Rattle.route_record.specs.declared.tracked.Tracked.{Tracked}
 use Rattle.route_record.specs.declared.TheConstants.{LENGTHS}
 use Rattle.route_record.specs.declared.World.{World}
 use Rattle.route_record.specs.Places.{slot_at}
-use Rattle.net_model.specs.declared.adjacencies.Adjacency.{Adjacency}
-use Rattle.net_model.specs.declared.interfaces.Addressed.{Addressed}
-use Rattle.net_model.specs.Ospf.{up_adjacencies}
-use Rattle.net_model.specs.OspfRoutes.{extended, offer_over}
-use Rattle.net_model.specs.Routing.{up_interfaces}
-use Rattle.net_model.specs.Sending.{same_record, sent_by_ospf}
+use Rattle.net_parts.specs.declared.adjacencies.Adjacency.{Adjacency}
+use Rattle.net_interfaces.specs.declared.interfaces.Addressed.{Addressed}
+use Rattle.net_parts.specs.Ospf.{up_adjacencies}
+use Rattle.net_parts.specs.OspfRoutes.{extended, offer_over}
+use Rattle.net_parts.specs.Routing.{up_interfaces}
+use Rattle.net_parts.specs.Sending.{same_record, sent_by_ospf}
 use Rattle.question_lang.specs.declared.walk.End.TheVariants.{NoRoute, Delivered}
 use Rattle.question_lang.specs.declared.walk.Hop.TheVariants.{Ends}
 use Rattle.question_lang.specs.Hops.{all_up, bgp_hops, entry_at, entry_hops, hops_over, longest_below, next_hops}

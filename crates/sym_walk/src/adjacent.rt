@@ -5,8 +5,8 @@ ghost use Rattle.std.specs.Prelude.{if◌then◌else◌, length};
 ghost use Rattle.std.specs.Prelude.{List as ListOf, map};
 ghost use Rattle.std.specs.Option.{option_map_or};
 ghost use Rattle.mw_text.specs.Address.{prefix_at};
-ghost use Rattle.net_model.specs.Ospf.{adjacencies};
-ghost use Rattle.net_model.specs.Sending.{sent_by_ospf};
+ghost use Rattle.net_parts.specs.Ospf.{adjacencies};
+ghost use Rattle.net_parts.specs.Sending.{sent_by_ospf};
 ghost use Rattle.question_lang.specs.declared.walk.Hop.{Hop as HopOf};
 ghost use Rattle.question_lang.specs.Hops as hops;
 ghost use Rattle.sym_policy.specs.Held.{failures_of, ospf_of, ospf_end};
@@ -56,9 +56,9 @@ fn sym_adjacent_or(
     ensures value { Gives terms.new result (λ w r. (others : ListOf HopOf) →
         IsTwin (sought_by w aim.now) others (forwarding_of w rest) →
         IsTwin (sought_by w aim.now)
-        ((if defined.is_up_from net.now (failures_of w sym.now) router a.now
+        ((if defined.is_up_from net.now.files (failures_of w sym.now) router a.now
         && defined.offers (tables_of w slots.now) (prefix_read w packet.now.dst len) (ospf_of w held.now) a.now
-        then hops.send_adjacent net.now (packet_of w packet.now) a.now ∷ [] else []) ++ others) (forwarding_of w r)) }
+        then hops.send_adjacent net.now.files (packet_of w packet.now) a.now ∷ [] else []) ++ others) (forwarding_of w r)) }
 {
     if a.from.router != router {
         return Ok(rest);
@@ -102,7 +102,7 @@ pub fn sym_ospf_hops(
     ensures builds { Builds terms.old terms.new }
     ensures within { IfOk result (λ r. forwarding_end r ≤ size terms.new) }
     ensures value { Gives terms.new result (λ w r. IsTwin (sought_by w aim.now)
-        (option_map_or (λ h. map (hops.send_adjacent net.now (packet_of w packet.now)) (sent_by_ospf net.now
+        (option_map_or (λ h. map (hops.send_adjacent net.now.files (packet_of w packet.now)) (sent_by_ospf net.now.files
         (failures_of w sym.now) (tables_of w slots.now) router (prefix_at (address_of w packet.now.dst) len) h))
         (ospf_of w held.now) []) (forwarding_of w r)) }
 {

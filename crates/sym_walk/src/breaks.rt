@@ -80,7 +80,7 @@ fn sym_start(
     ensures builds { Builds terms.old terms.new }
     ensures within { IfOk result (λ r. beginning_end r ≤ size terms.new) }
     ensures value { Gives terms.new result (λ w r. (start : StartOf) → start_asked kind ≡ Some start →
-        beginning_of w r ≡ begins_at net.now (failures_of w sym.now) (packet_of w packet.now) start) }
+        beginning_of w r ≡ begins_at net.now.files (failures_of w sym.now) (packet_of w packet.now) start) }
 {
     match start_of(kind) {
         None => no_start(terms),
@@ -104,12 +104,12 @@ pub fn sym_breaks(
     requires nodes { whole_end world.now ≤ size terms.old }
     ensures builds { Builds terms.old terms.new }
     ensures within { IfOk result (λ r. r.0 < size terms.new) }
-    ensures sound { Gives terms.new result (λ w r. DistancesWhereNeeded w net.now world.now.net world.now.slots →
+    ensures sound { Gives terms.new result (λ w r. DistancesWhereNeeded w net.now.files world.now.net world.now.slots →
         at w r ≡ true →
-        (walk : OptionOf WalkOf) × Breaks net.now (whole_of w world.now) question.now.kind walk) }
-    ensures complete { Gives terms.new result (λ w r. DistancesWhereNeeded w net.now world.now.net world.now.slots →
+        (walk : OptionOf WalkOf) × Breaks net.now.files (whole_of w world.now) question.now.kind walk) }
+    ensures complete { Gives terms.new result (λ w r. DistancesWhereNeeded w net.now.files world.now.net world.now.slots →
         (walk : OptionOf WalkOf) →
-        Breaks net.now (whole_of w world.now) question.now.kind walk → at w r ≡ true) }
+        Breaks net.now.files (whole_of w world.now) question.now.kind walk → at w r ≡ true) }
 {
     let kind = question.kind;
     let begin = sym_start(alloc, terms, net, &world.net, &world.packet, kind)?;

@@ -4,7 +4,7 @@ ghost use Rattle.std.specs.Prelude.{◌≡◌, ◌<◌, ◌≤◌, ◌==◌, IfO
 ghost use Rattle.std.specs.Prelude.{if◌then◌else◌, length};
 ghost use Rattle.std.specs.Prelude.{List as ListOf};
 ghost use Rattle.mw_text.specs.Address.{prefix_at};
-ghost use Rattle.net_model.specs.Routing.{up_interfaces};
+ghost use Rattle.net_parts.specs.Routing.{up_interfaces};
 ghost use Rattle.question_lang.specs.declared.walk.Hop.{Hop as HopOf};
 ghost use Rattle.question_lang.specs.Hops as hops;
 ghost use Rattle.sym_ospf.specs.Rows.{net_end};
@@ -69,7 +69,7 @@ fn sym_by_ospf(
     ensures value { Gives terms.new result (λ w r. (others : ListOf HopOf) →
         IsTwin (sought_by w aim.now) others (forwarding_of w rest.now) →
         IsTwin (sought_by w aim.now)
-        (if number w slot.now.rib.source.nodes.items == 3 then hops.ospf_hops net.now
+        (if number w slot.now.rib.source.nodes.items == 3 then hops.ospf_hops net.now.files
         (world_of w sym.now packet.now slots.now) router (prefix_at (address_of w packet.now.dst) len)
         (slot_of w slot.now) else others) (forwarding_of w r)) }
 {
@@ -105,8 +105,8 @@ fn sym_by_static(
     ensures value { Gives terms.new result (λ w r. (others : ListOf HopOf) →
         IsTwin (sought_by w aim.now) others (forwarding_of w rest.now) →
         IsTwin (sought_by w aim.now)
-        (if number w slot.now.rib.source.nodes.items == 1 then defined.static_part net.now (packet_of w packet.now)
-        (hops.all_up net.now (failures_of w sym.now)) (up_interfaces net.now (failures_of w sym.now) router)
+        (if number w slot.now.rib.source.nodes.items == 1 then defined.static_part net.now.files (packet_of w packet.now)
+        (hops.all_up net.now.files (failures_of w sym.now)) (up_interfaces net.now.files (failures_of w sym.now) router)
         file.now.statics (prefix_at (address_of w packet.now.dst) len) (number w slot.now.rib.distance.nodes.items)
         else others) (forwarding_of w r)) }
 {
@@ -151,8 +151,8 @@ fn sym_by_connected(
     ensures value { Gives terms.new result (λ w r. (others : ListOf HopOf) →
         IsTwin (sought_by w aim.now) others (forwarding_of w rest.now) →
         IsTwin (sought_by w aim.now)
-        (if number w slot.now.rib.source.nodes.items == 0 then hops.connected_hops net.now (packet_of w packet.now)
-        (hops.all_up net.now (failures_of w sym.now)) (up_interfaces net.now (failures_of w sym.now) router)
+        (if number w slot.now.rib.source.nodes.items == 0 then hops.connected_hops net.now.files (packet_of w packet.now)
+        (hops.all_up net.now.files (failures_of w sym.now)) (up_interfaces net.now.files (failures_of w sym.now) router)
         (prefix_at (address_of w packet.now.dst) len) else others) (forwarding_of w r)) }
 {
     let test = sym_source(terms, slot, 0)?;
@@ -184,10 +184,10 @@ pub fn sym_entry_hops(
     requires slot { slot_end slot.now ≤ size terms.old }
     ensures builds { Builds terms.old terms.new }
     ensures within { IfOk result (λ r. forwarding_end r ≤ size terms.new) }
-    ensures value { Gives terms.new result (λ w r. DistancesIfNeeded w net.now sym.now slot.now →
+    ensures value { Gives terms.new result (λ w r. DistancesIfNeeded w net.now.files sym.now slot.now →
         IsTwin (sought_by w aim.now)
-        (defined.entry_of w net.now (world_of w sym.now packet.now slots.now)
-        (hops.all_up net.now (failures_of w sym.now)) (up_interfaces net.now (failures_of w sym.now) router) router
+        (defined.entry_of w net.now.files (world_of w sym.now packet.now slots.now)
+        (hops.all_up net.now.files (failures_of w sym.now)) (up_interfaces net.now.files (failures_of w sym.now) router) router
         file.now len slot.now) (forwarding_of w r)) }
 {
     let bgp = sym_bgp_hops(alloc, terms, net, sym, packet, aim, router, &slot.bgp)?;

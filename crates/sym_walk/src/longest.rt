@@ -3,7 +3,7 @@
 ghost use Rattle.std.specs.Prelude.{◌≡◌, ℕ, ◌+◌, ◌*◌, ◌<◌, ◌≤◌, Bool, IfOk, [], ◌∷◌, if◌then◌else◌, length};
 ghost use Rattle.std.specs.Prelude.{List as ListOf, Option as OptionOf, Some, None};
 ghost use Rattle.std.specs.Option.{option_map_or};
-ghost use Rattle.net_model.specs.Routing.{up_interfaces};
+ghost use Rattle.net_parts.specs.Routing.{up_interfaces};
 ghost use Rattle.question_lang.specs.declared.walk.End.TheVariants.{NoRoute};
 ghost use Rattle.question_lang.specs.declared.walk.Hop.{Hop as HopOf};
 ghost use Rattle.question_lang.specs.declared.walk.Hop.TheVariants.{Ends};
@@ -59,12 +59,12 @@ fn sym_by_slot(
     requires rest { forwarding_end rest ≤ size terms.old }
     ensures builds { Builds terms.old terms.new }
     ensures within { IfOk result (λ r. forwarding_end r ≤ size terms.new) }
-    ensures value { Gives terms.new result (λ w r. DistancesIfNeeded w net.now sym.now slot.now →
+    ensures value { Gives terms.new result (λ w r. DistancesIfNeeded w net.now.files sym.now slot.now →
         (others : ListOf HopOf) →
         IsTwin (sought_by w aim.now) others (forwarding_of w rest) →
-        IsTwin (sought_by w aim.now) (if at w slot.now.rib.valid then defined.entry_of w net.now
-        (world_of w sym.now packet.now slots.now) (hops.all_up net.now (failures_of w sym.now))
-        (up_interfaces net.now (failures_of w sym.now) router) router file.now len slot.now else others)
+        IsTwin (sought_by w aim.now) (if at w slot.now.rib.valid then defined.entry_of w net.now.files
+        (world_of w sym.now packet.now slots.now) (hops.all_up net.now.files (failures_of w sym.now))
+        (up_interfaces net.now.files (failures_of w sym.now) router) router file.now len slot.now else others)
         (forwarding_of w r)) }
 {
     let to = sym_entry_hops(
@@ -96,11 +96,11 @@ fn sym_longer(
     requires rest { forwarding_end rest ≤ size terms.old }
     ensures builds { Builds terms.old terms.new }
     ensures within { IfOk result (λ r. forwarding_end r ≤ size terms.new) }
-    ensures value { Gives terms.new result (λ w r. DistancesWhereNeeded w net.now sym.now slots.now →
+    ensures value { Gives terms.new result (λ w r. DistancesWhereNeeded w net.now.files sym.now slots.now →
         (shorter : OptionOf (ℕ × Slot × RibEntry)) →
-        IsTwin (sought_by w aim.now) (defined.by_entry net.now (world_of w sym.now packet.now slots.now) router file.now
+        IsTwin (sought_by w aim.now) (defined.by_entry net.now.files (world_of w sym.now packet.now slots.now) router file.now
         shorter) (forwarding_of w rest) →
-        IsTwin (sought_by w aim.now) (defined.by_entry net.now (world_of w sym.now packet.now slots.now) router file.now
+        IsTwin (sought_by w aim.now) (defined.by_entry net.now.files (world_of w sym.now packet.now slots.now) router file.now
         (defined.longer (tables_of w slots.now) router len shorter)) (forwarding_of w r)) }
 {
     match slot_for(slots, router, len) {
@@ -132,9 +132,9 @@ fn sym_longest(
     requires aim { aim.now.here.0 < size terms.old }
     ensures builds { Builds terms.old terms.new }
     ensures within { IfOk result (λ r. forwarding_end r ≤ size terms.new) }
-    ensures value { Gives terms.new result (λ w r. DistancesWhereNeeded w net.now sym.now slots.now →
+    ensures value { Gives terms.new result (λ w r. DistancesWhereNeeded w net.now.files sym.now slots.now →
         IsTwin (sought_by w aim.now)
-        (defined.by_entry net.now (world_of w sym.now packet.now slots.now) router file.now
+        (defined.by_entry net.now.files (world_of w sym.now packet.now slots.now) router file.now
         (hops.longest_below (tables_of w slots.now) router constants.LENGTHS)) (forwarding_of w r)) }
 {
     let mut rest = sym_ends(alloc, terms, aim, End::NoRoute)?;
@@ -165,10 +165,10 @@ pub fn sym_hops(
     requires aim { aim.now.here.0 < size terms.old }
     ensures builds { Builds terms.old terms.new }
     ensures within { IfOk result (λ r. forwarding_end r ≤ size terms.new) }
-    ensures value { Gives terms.new result (λ w r. DistancesWhereNeeded w net.now sym.now slots.now →
+    ensures value { Gives terms.new result (λ w r. DistancesWhereNeeded w net.now.files sym.now slots.now →
         IsTwin (sought_by w aim.now)
-        (hops.hops_over net.now (world_of w sym.now packet.now slots.now) (hops.all_up net.now (failures_of w sym.now))
-        (up_interfaces net.now (failures_of w sym.now) router) router file.now) (forwarding_of w r)) }
+        (hops.hops_over net.now.files (world_of w sym.now packet.now slots.now) (hops.all_up net.now.files (failures_of w sym.now))
+        (up_interfaces net.now.files (failures_of w sym.now) router) router file.now) (forwarding_of w r)) }
 {
     let own = sym_own(alloc, terms, net, sym, router, &packet.dst)?;
     let here = sym_ends(alloc, terms, aim, End::Delivered)?;

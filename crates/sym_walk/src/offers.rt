@@ -4,7 +4,7 @@ ghost use Rattle.std.specs.Prelude.{◌≡◌, ℕ, ◌+◌, ◌*◌, ◌<◌, �
 ghost use Rattle.std.specs.Prelude.{IfSome, Some, None};
 ghost use Rattle.std.specs.Prelude.{if◌then◌else◌, length, slice_get, map, option_copied};
 ghost use Rattle.std.specs.Option.{option_map_or};
-ghost use Rattle.net_model.specs.Sending as sent;
+ghost use Rattle.net_parts.specs.Sending as sent;
 ghost use Rattle.sym_policy.specs.Held.{failures_of, ospf_of, ospf_end};
 ghost use Rattle.sym_policy.specs.Records.{prefix_of as prefix_read};
 ghost use Rattle.sym_forwarding.specs.Offers as defined;
@@ -86,7 +86,7 @@ pub(crate) fn sym_sends_over(
     ensures builds { Builds terms.old terms.new }
     ensures within { IfOk result (λ r. r.0 < size terms.new) }
     ensures value { Gives terms.new result (λ w r. at w r ≡
-        (defined.is_up_from net.now (failures_of w sym.now) router a.now
+        (defined.is_up_from net.now.files (failures_of w sym.now) router a.now
         && defined.offers (tables_of w slots.now) (prefix_read w dst.now len) (ospf_of w held.now) a.now)) }
 {
     if a.from.router != router {

@@ -19,7 +19,7 @@ ghost use Rattle.term_store.specs.Reading.{Reads, Builds, Gives};
 use crate::longest::sym_hops;
 use mw_text::List;
 use net_model::Net;
-use net_model::ends::file_of;
+use net_parts::ends::file_of;
 use question_lang::Kind;
 use std::alloc::{AllocError, Global};
 use sym_forwarding::{SymAim, SymForwarding, still_forwarding, sym_here};
@@ -44,8 +44,8 @@ fn sym_next(
     requires aim { aim.now.here.0 < size terms.old }
     ensures builds { Builds terms.old terms.new }
     ensures within { IfOk result (λ r. forwarding_end r ≤ size terms.new) }
-    ensures value { Gives terms.new result (λ w r. DistancesWhereNeeded w net.now sym.now slots.now → IsTwin (sought_by w aim.now)
-        (hops.next_hops net.now (world_of w sym.now packet.now slots.now) router) (forwarding_of w r)) }
+    ensures value { Gives terms.new result (λ w r. DistancesWhereNeeded w net.now.files sym.now slots.now → IsTwin (sought_by w aim.now)
+        (hops.next_hops net.now.files (world_of w sym.now packet.now slots.now) router) (forwarding_of w r)) }
 {
     match file_of(net.routers(), router) {
         None => {
@@ -75,9 +75,9 @@ fn sym_router(
     requires packet { packet_end packet.now ≤ size terms.old }
     ensures builds { Builds terms.old terms.new }
     ensures within { IfOk result (λ r. forwarding_end r ≤ size terms.new) }
-    ensures value { Gives terms.new result (λ w r. DistancesWhereNeeded w net.now sym.now slots.now → IsTwin
-        (is_sought kind (ends_here net.now (failures_of w sym.now) (packet_of w packet.now) router kind))
-        (hops.next_hops net.now (world_of w sym.now packet.now slots.now) router) (forwarding_of w r)) }
+    ensures value { Gives terms.new result (λ w r. DistancesWhereNeeded w net.now.files sym.now slots.now → IsTwin
+        (is_sought kind (ends_here net.now.files (failures_of w sym.now) (packet_of w packet.now) router kind))
+        (hops.next_hops net.now.files (world_of w sym.now packet.now slots.now) router) (forwarding_of w r)) }
 {
     let here = sym_here(alloc, terms, net, sym, packet, router, kind)?;
     let aim = SymAim { kind, here };
@@ -99,7 +99,7 @@ fn with_one(
 
 // How many routers there are.
 fn router_count(net: &Net) -> u32
-    ensures { result ≡ length net.now }
+    ensures { result ≡ length net.now.files }
 {
     net.routers().len() as u32
 }
@@ -123,9 +123,9 @@ fn add_router(
     requires table { table_end table ≤ size terms.old }
     ensures builds { Builds terms.old terms.new }
     ensures within { IfOk result (λ r. table_end r ≤ size terms.new) }
-    ensures value { Gives terms.new result (λ w r. DistancesWhereNeeded w net.now sym.now slots.now →
-        AreTwins net.now (world_of w sym.now packet.now slots.now) kind router (table_of w table) →
-        AreTwins net.now (world_of w sym.now packet.now slots.now) kind (router + 1) (table_of w r)) }
+    ensures value { Gives terms.new result (λ w r. DistancesWhereNeeded w net.now.files sym.now slots.now →
+        AreTwins net.now.files (world_of w sym.now packet.now slots.now) kind router (table_of w table) →
+        AreTwins net.now.files (world_of w sym.now packet.now slots.now) kind (router + 1) (table_of w r)) }
 {
     let one = sym_router(alloc, terms, net, sym, slots, packet, kind, router)?;
     let made = with_one(table, one)?;
@@ -148,9 +148,9 @@ pub fn sym_table(
     requires packet { packet_end packet.now ≤ size terms.old }
     ensures builds { Builds terms.old terms.new }
     ensures within { IfOk result (λ r. table_end r ≤ size terms.new) }
-    ensures value { Gives terms.new result (λ w r. DistancesWhereNeeded w net.now sym.now slots.now →
-        AreTwins net.now (world_of w sym.now packet.now slots.now) kind
-        (length net.now) (table_of w r)) }
+    ensures value { Gives terms.new result (λ w r. DistancesWhereNeeded w net.now.files sym.now slots.now →
+        AreTwins net.now.files (world_of w sym.now packet.now slots.now) kind
+        (length net.now.files) (table_of w r)) }
 {
     let mut table = List::new(alloc);
     for router in 0..router_count(net) {

@@ -9,8 +9,8 @@ use Rattle.std.proofs.lemmas.Option.{slice_get_within}
 use Rattle.mw_text.proofs.Lists.{item_there}
 use Rattle.ios_ast.specs.declared.file.File.{File}
 use Rattle.route_record.specs.declared.World.{World}
-use Rattle.net_model.specs.declared.interfaces.IfaceId.{IfaceId}
-use Rattle.net_model.specs.Routing.{up_interfaces}
+use Rattle.net_interfaces.specs.declared.interfaces.IfaceId.{IfaceId}
+use Rattle.net_parts.specs.Routing.{up_interfaces}
 use Rattle.question_lang.specs.declared.question.Start.{Start}
 use Rattle.question_lang.specs.declared.question.Target.{Target}
 use Rattle.question_lang.specs.declared.question.Target.TheVariants.{Router, Subnet, Peer}

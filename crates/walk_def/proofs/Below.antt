@@ -9,8 +9,8 @@ use Rattle.std.proofs.lemmas.List.Folds.{list_all-append}
 use Rattle.ios_ast.specs.declared.file.File.{File}
 use Rattle.ios_ast.specs.declared.file.Iface.{Iface}
 use Rattle.ios_ast.specs.declared.file.IfAddr.{IfAddr}
-use Rattle.net_model.specs.declared.interfaces.Addressed.{Addressed}
-use Rattle.net_model.specs.Interfaces.{addressed, addressed_from, addressed_routers, addressed_iface}
+use Rattle.net_interfaces.specs.declared.interfaces.Addressed.{Addressed}
+use Rattle.net_interfaces.specs.Interfaces.{addressed, addressed_from, addressed_routers, addressed_iface}
 
 -- the interface is of a router below the bound
 abbrev pub of_router_below : ℕ → Addressed → Bool

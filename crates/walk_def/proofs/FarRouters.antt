@@ -13,14 +13,14 @@ use Rattle.ios_ast.specs.declared.ospf.Ospf.{Ospf}
 use Rattle.route_record.specs.declared.Failures.{Failures}
 use Rattle.route_record.specs.declared.OspfRec.{OspfRec}
 use Rattle.route_record.specs.declared.Tables.{Tables}
-use Rattle.net_model.specs.declared.adjacencies.Adjacency.{Adjacency}
-use Rattle.net_model.specs.declared.interfaces.Addressed.{Addressed}
-use Rattle.net_model.specs.declared.ospf.OspfInterface.{OspfInterface}
-use Rattle.net_model.specs.Interfaces.{addressed}
-use Rattle.net_model.specs.Ospf.{adjacencies, adjacencies_of, adjacency, advertised, are_adjacent, is_matched, ospf_at}
-use Rattle.net_model.specs.Ospf.{ospf_interfaces, running, running_in, up_adjacencies}
-use Rattle.net_model.specs.OspfRoutes.{offer_over}
-use Rattle.net_model.specs.Sending.{is_on_least_walk, same_record, sent_by_ospf, sent_towards}
+use Rattle.net_parts.specs.declared.adjacencies.Adjacency.{Adjacency}
+use Rattle.net_interfaces.specs.declared.interfaces.Addressed.{Addressed}
+use Rattle.net_parts.specs.declared.ospf.OspfInterface.{OspfInterface}
+use Rattle.net_interfaces.specs.Interfaces.{addressed}
+use Rattle.net_parts.specs.Ospf.{adjacencies, adjacencies_of, adjacency, advertised, are_adjacent, is_matched, ospf_at}
+use Rattle.net_parts.specs.Ospf.{ospf_interfaces, running, running_in, up_adjacencies}
+use Rattle.net_parts.specs.OspfRoutes.{offer_over}
+use Rattle.net_parts.specs.Sending.{is_on_least_walk, same_record, sent_by_ospf, sent_towards}
 use Rattle.walk_def.proofs.Below.{PassesIfThere, all-append, all-filter, below-all, of_router_below}
 
 -- the interface is of a router below the bound

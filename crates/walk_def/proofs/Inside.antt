@@ -20,15 +20,15 @@ use Rattle.route_record.specs.declared.RibSource.TheVariants.{Connected, Static,
 use Rattle.route_record.specs.declared.Slot.{Slot}
 use Rattle.route_record.specs.declared.TheConstants.{LENGTHS}
 use Rattle.route_record.specs.declared.World.{World}
-use Rattle.net_model.specs.declared.interfaces.Addressed.{Addressed}
-use Rattle.net_model.specs.declared.interfaces.IfaceId.{IfaceId}
-use Rattle.net_model.specs.Interfaces.{addressed}
-use Rattle.net_model.specs.declared.adjacencies.Adjacency.{Adjacency}
-use Rattle.net_model.specs.Sending.{sent_by_ospf, sent_towards}
+use Rattle.net_interfaces.specs.declared.interfaces.Addressed.{Addressed}
+use Rattle.net_interfaces.specs.declared.interfaces.IfaceId.{IfaceId}
+use Rattle.net_interfaces.specs.Interfaces.{addressed}
+use Rattle.net_parts.specs.declared.adjacencies.Adjacency.{Adjacency}
+use Rattle.net_parts.specs.Sending.{sent_by_ospf, sent_towards}
 use Rattle.walk_def.proofs.Below.{PassesIfThere, all-append, all-filter, below-all, found_passes, of_router_below}
 use Rattle.walk_def.proofs.FarRouters.{leads_below, sent_below, towards_below}
-use Rattle.net_model.specs.Routing.{static_routes, up_interfaces}
-use Rattle.net_model.specs.World.{is_up}
+use Rattle.net_parts.specs.Routing.{static_routes, up_interfaces}
+use Rattle.net_parts.specs.World.{is_up}
 use Rattle.question_lang.specs.declared.walk.End.{End}
 use Rattle.question_lang.specs.declared.walk.End.TheVariants.{Left, DeniedIn, DeniedOut}
 use Rattle.question_lang.specs.declared.walk.Hop.{Hop}

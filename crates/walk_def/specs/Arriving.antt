@@ -3,7 +3,7 @@ use Rattle.std.specs.Prelude.{◌≡◌, ℕ, Bool, true, false, List, ◌++◌,
 use Rattle.std.specs.List.{list_any}
 use Rattle.ios_ast.specs.declared.file.File.{File}
 use Rattle.route_record.specs.declared.World.{World}
-use Rattle.net_model.specs.declared.interfaces.IfaceId.{IfaceId}
+use Rattle.net_interfaces.specs.declared.interfaces.IfaceId.{IfaceId}
 use Rattle.question_lang.specs.declared.question.Start.{Start}
 use Rattle.question_lang.specs.declared.question.Target.{Target}
 use Rattle.question_lang.specs.declared.question.Target.TheVariants.{Router, Subnet, Peer}

@@ -2,8 +2,8 @@
 
 ghost use Rattle.std.specs.Prelude.{◌≡◌, ◌++◌, ◌∷◌, [], false, filter, map, IfOk, OnOk};
 ghost use Rattle.std.specs.Option.{option_map_or};
-ghost use Rattle.net_model.specs.OspfRoutes.{kind_rank, offer_over};
-ghost use Rattle.net_model.specs.Sending as sending;
+ghost use Rattle.net_parts.specs.OspfRoutes.{kind_rank, offer_over};
+ghost use Rattle.net_parts.specs.Sending as sending;
 ghost use Rattle.proto_ospf.specs.Reached.{all_reached};
 ghost use Rattle.question_lang.specs.Hops as hops;
 
@@ -17,7 +17,7 @@ use std::alloc::{AllocError, Global};
 
 // The hop over an adjacency.
 fn hop_over(net: &Net, packet: &Packet, a: &Adjacency) -> Hop
-    ensures { result ≡ hops.send_adjacent net.now packet.now a.now }
+    ensures { result ≡ hops.send_adjacent net.now.files packet.now a.now }
 {
     depart(net, packet, a.from, arrive(net, packet, a.to))
 }
@@ -62,7 +62,7 @@ fn offers(tables: &Tables, p: &Prefix, held: &OspfRec, a: &Adjacency) -> bool
 }
 
 // The adjacencies over which an OSPF entry sends.
-#[tactic(auto, unfolding(net_model::specs::Sending::sent_by_ospf))]
+#[tactic(auto, unfolding(net_parts::specs::Sending::sent_by_ospf))]
 fn sent_by_ospf(
     alloc: Global,
     net: &Net,
@@ -72,7 +72,7 @@ fn sent_by_ospf(
     held: &OspfRec,
 ) -> Result<List<Adjacency>, AllocError>
     ensures { IfOk result (λ over. over
-        ≡ sending.sent_by_ospf net.now world.now.failures world.now.tables router p.now held.now) }
+        ≡ sending.sent_by_ospf net.now.files world.now.failures world.now.tables router p.now held.now) }
 {
     let up = up_adjacencies(alloc, net, &world.failures, router)?;
     let items = up
@@ -91,7 +91,7 @@ fn hops_over(
     packet: &Packet,
     over: &[Adjacency],
 ) -> Result<List<Hop>, AllocError>
-    ensures { IfOk result (λ all. all ≡ map (hops.send_adjacent net.now packet.now) over.now) }
+    ensures { IfOk result (λ all. all ≡ map (hops.send_adjacent net.now.files packet.now) over.now) }
 {
     let items = over
         .iter()
@@ -109,8 +109,8 @@ pub fn held_hops_of(
     p: &Prefix,
     held: &OspfRec,
 ) -> Result<List<Hop>, AllocError>
-    ensures { IfOk result (λ all. all ≡ map (hops.send_adjacent net.now world.now.packet)
-        (sending.sent_by_ospf net.now world.now.failures world.now.tables router p.now held.now)) }
+    ensures { IfOk result (λ all. all ≡ map (hops.send_adjacent net.now.files world.now.packet)
+        (sending.sent_by_ospf net.now.files world.now.failures world.now.tables router p.now held.now)) }
 {
     let over = sent_by_ospf(alloc, net, world, router, p, held)?;
     hops_over(alloc, net, &world.packet, over.as_slice())
@@ -125,9 +125,9 @@ pub fn hops_towards(
     router: u32,
     a: Addr,
 ) -> Result<List<Hop>, AllocError>
-    requires all { all.now ≡ all_reached net.now world.now.failures }
-    ensures { IfOk result (λ to. to ≡ map (hops.send_adjacent net.now world.now.packet)
-        (sending.sent_towards net.now world.now.failures router a)) }
+    requires all { all.now ≡ all_reached net.now.files world.now.failures }
+    ensures { IfOk result (λ to. to ≡ map (hops.send_adjacent net.now.files world.now.packet)
+        (sending.sent_towards net.now.files world.now.failures router a)) }
 {
     let over = sent_towards(alloc, net, &world.failures, all, router, a)?;
     hops_over(alloc, net, &world.packet, over.as_slice())

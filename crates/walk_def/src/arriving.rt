@@ -30,16 +30,16 @@ pub fn target_end(target: &Target) -> End
 }
 
 fn is_on_subnet(net: &Net, world: &World, p: &Prefix, router: u32) -> bool
-    ensures yes { result ≡ true → IsOnSubnet net.now world.now p.now router }
-    ensures no { result ≡ false → IsOnSubnet net.now world.now p.now router → ⊥ }
+    ensures yes { result ≡ true → IsOnSubnet net.now.files world.now p.now router }
+    ensures no { result ≡ false → IsOnSubnet net.now.files world.now p.now router → ⊥ }
 {
     net.is_direct(&world.failures, router, p) && contains(p, world.packet.dst)
 }
 
 /// Whether a walk to the target ends at that router.
 pub fn is_target_router(net: &Net, world: &World, target: &Target, at: u32) -> bool
-    ensures yes { result ≡ true → arriving.IsTargetRouter net.now world.now target.now at }
-    ensures no { result ≡ false → arriving.IsTargetRouter net.now world.now target.now at → ⊥ }
+    ensures yes { result ≡ true → arriving.IsTargetRouter net.now.files world.now target.now at }
+    ensures no { result ≡ false → arriving.IsTargetRouter net.now.files world.now target.now at → ⊥ }
 {
     match target {
         Target::Router(router) => at == *router,
@@ -49,8 +49,8 @@ pub fn is_target_router(net: &Net, world: &World, target: &Target, at: u32) -> b
 }
 
 fn lands(net: &Net, world: &World, target: &Target, router: u32, own: &[Hop]) -> bool
-    ensures yes { result ≡ true → arriving.Lands net.now world.now target.now router own.now }
-    ensures no { result ≡ false → arriving.Lands net.now world.now target.now router own.now → ⊥ }
+    ensures yes { result ≡ true → arriving.Lands net.now.files world.now target.now router own.now }
+    ensures no { result ≡ false → arriving.Lands net.now.files world.now target.now router own.now → ⊥ }
 {
     let end = Hop::Ends(target_end(target));
     stands_in(own, &end) && is_target_router(net, world, target, router)
@@ -58,9 +58,9 @@ fn lands(net: &Net, world: &World, target: &Target, router: u32, own: &[Hop]) ->
 
 #[tactic(auto, using(crate::proofs::Arrivals::landing_mark))]
 fn landing_mark(net: &Net, world: &World, hops: &[List<Hop>], target: &Target, at: u32) -> bool
-    requires sent { AreSent net.now world.now hops.now }
+    requires sent { AreSent net.now.files world.now hops.now }
     requires within { at < length hops.now }
-    ensures { arriving.IsLandingMark net.now world.now target.now hops.now at result }
+    ensures { arriving.IsLandingMark net.now.files world.now target.now hops.now at result }
 {
     lands(net, world, target, at, hops[at as usize].as_slice())
 }
@@ -74,9 +74,9 @@ fn landing(
     target: &Target,
 ) -> Result<Vec<bool>, AllocError>
     requires few { length hops.now < 2 ^ 32 }
-    requires sent { AreSent net.now world.now hops.now }
+    requires sent { AreSent net.now.files world.now hops.now }
     ensures len { IfOk result (λ marks. length marks.items ≡ length hops.now) }
-    ensures landing { IfOk result (λ marks. arriving.AreLanding net.now world.now target.now hops.now marks.items) }
+    ensures landing { IfOk result (λ marks. arriving.AreLanding net.now.files world.now target.now hops.now marks.items) }
 {
     let mut marks = Vec::new(alloc);
     for at in 0..hops.len() {
@@ -144,8 +144,8 @@ pub fn none_arrives(
     start: u32,
     target: &Target,
 ) -> Result<bool, AllocError>
-    ensures yes { IfOk result (λ none. none ≡ true → NoneArrives net.now world.now (at_router start) target.now) }
-    ensures no { IfOk result (λ none. none ≡ false → NoneArrives net.now world.now (at_router start) target.now → ⊥) }
+    ensures yes { IfOk result (λ none. none ≡ true → NoneArrives net.now.files world.now (at_router start) target.now) }
+    ensures no { IfOk result (λ none. none ≡ false → NoneArrives net.now.files world.now (at_router start) target.now → ⊥) }
 {
     let hops = all_hops(alloc, net, world)?;
     let landing = landing(alloc, net, world, hops.as_slice(), target)?;

@@ -64,8 +64,8 @@ fn begins_at(start: &Start, walk: &Walk) -> bool
 // Whether the last standing is at a router where a walk to the target ends.
 #[tactic(auto, using(crate::proofs::Lasts::no_last, crate::proofs::Lasts::last_in, crate::proofs::Lasts::not_last))]
 fn stops_at(net: &Net, world: &World, target: &Target, standings: &[Start]) -> bool
-    ensures yes { result ≡ true → LastIn (IsTargetRouter net.now world.now target.now) standings.now }
-    ensures no { result ≡ false → LastIn (IsTargetRouter net.now world.now target.now) standings.now → ⊥ }
+    ensures yes { result ≡ true → LastIn (IsTargetRouter net.now.files world.now target.now) standings.now }
+    ensures no { result ≡ false → LastIn (IsTargetRouter net.now.files world.now target.now) standings.now → ⊥ }
 {
     if standings.is_empty() {
         return false;
@@ -77,8 +77,8 @@ fn stops_at(net: &Net, world: &World, target: &Target, standings: &[Start]) -> b
 // Whether the walk ends at the target.
 #[tactic(auto, using(crate::proofs::Arrivals::at_target, crate::proofs::Arrivals::from_target))]
 fn ends_at(net: &Net, world: &World, target: &Target, walk: &Walk) -> bool
-    ensures yes { result ≡ true → breaking.EndsAt net.now world.now target.now walk.now }
-    ensures no { result ≡ false → breaking.EndsAt net.now world.now target.now walk.now → ⊥ }
+    ensures yes { result ≡ true → breaking.EndsAt net.now.files world.now target.now walk.now }
+    ensures no { result ≡ false → breaking.EndsAt net.now.files world.now target.now walk.now → ⊥ }
 {
     let end = target_end(target);
     is_same_end(&walk.end, &end) && stops_at(net, world, target, walk.hops.as_slice())
@@ -86,8 +86,8 @@ fn ends_at(net: &Net, world: &World, target: &Target, walk: &Walk) -> bool
 
 // It ends, and not at the target.
 fn breaks_reach(net: &Net, world: &World, start: &Start, target: &Target, walk: &Walk) -> bool
-    ensures yes { result ≡ true → breaking.BreaksBy net.now world.now (Kind.Reach start.now target.now) walk.now }
-    ensures no { result ≡ false → breaking.BreaksBy net.now world.now (Kind.Reach start.now target.now) walk.now → ⊥ }
+    ensures yes { result ≡ true → breaking.BreaksBy net.now.files world.now (Kind.Reach start.now target.now) walk.now }
+    ensures no { result ≡ false → breaking.BreaksBy net.now.files world.now (Kind.Reach start.now target.now) walk.now → ⊥ }
 {
     begins_at(start, walk)
         && !is_same_end(&walk.end, &End::Open)
@@ -96,8 +96,8 @@ fn breaks_reach(net: &Net, world: &World, start: &Start, target: &Target, walk: 
 
 // It ends at the target.
 fn breaks_isolate(net: &Net, world: &World, start: &Start, target: &Target, walk: &Walk) -> bool
-    ensures yes { result ≡ true → breaking.BreaksBy net.now world.now (Kind.Isolate start.now target.now) walk.now }
-    ensures no { result ≡ false → breaking.BreaksBy net.now world.now (Kind.Isolate start.now target.now) walk.now → ⊥ }
+    ensures yes { result ≡ true → breaking.BreaksBy net.now.files world.now (Kind.Isolate start.now target.now) walk.now }
+    ensures no { result ≡ false → breaking.BreaksBy net.now.files world.now (Kind.Isolate start.now target.now) walk.now → ⊥ }
 {
     begins_at(start, walk) && ends_at(net, world, target, walk)
 }
@@ -120,9 +120,9 @@ fn breaks_waypoint(
     via: u32,
     walk: &Walk,
 ) -> bool
-    ensures yes { result ≡ true → breaking.BreaksBy net.now world.now (Kind.Waypoint start.now target.now via) walk.now }
+    ensures yes { result ≡ true → breaking.BreaksBy net.now.files world.now (Kind.Waypoint start.now target.now via) walk.now }
     ensures no { result ≡ false →
-        breaking.BreaksBy net.now world.now (Kind.Waypoint start.now target.now via) walk.now → ⊥ }
+        breaking.BreaksBy net.now.files world.now (Kind.Waypoint start.now target.now via) walk.now → ⊥ }
 {
     begins_at(start, walk) && ends_at(net, world, target, walk) && avoids(walk.hops.as_slice(), via)
 }
@@ -171,9 +171,9 @@ fn is_alone(
     walk: &Walk,
 ) -> Result<bool, AllocError>
     ensures yes { IfOk result (λ yes. yes ≡ true → breaking.BeginsAt (breaking.at_router from) walk.now
-        × breaking.NoneArrives net.now world.now (breaking.at_router other) target.now) }
+        × breaking.NoneArrives net.now.files world.now (breaking.at_router other) target.now) }
     ensures no { IfOk result (λ yes. yes ≡ false → breaking.BeginsAt (breaking.at_router from) walk.now
-        × breaking.NoneArrives net.now world.now (breaking.at_router other) target.now → ⊥) }
+        × breaking.NoneArrives net.now.files world.now (breaking.at_router other) target.now → ⊥) }
 {
     let start = Start {
         router: from,
@@ -196,9 +196,9 @@ fn breaks_alike(
     walk: &Walk,
 ) -> Result<bool, AllocError>
     ensures yes { IfOk result (λ yes. yes ≡ true →
-        breaking.BreaksBy net.now world.now (Kind.Alike a b target.now) walk.now) }
+        breaking.BreaksBy net.now.files world.now (Kind.Alike a b target.now) walk.now) }
     ensures no { IfOk result (λ yes. yes ≡ false →
-        breaking.BreaksBy net.now world.now (Kind.Alike a b target.now) walk.now → ⊥) }
+        breaking.BreaksBy net.now.files world.now (Kind.Alike a b target.now) walk.now → ⊥) }
 {
     if !ends_at(net, world, target, walk) {
         return Ok(false);
@@ -217,8 +217,8 @@ fn breaks_by(
     world: &World,
     walk: &Walk,
 ) -> Result<bool, AllocError>
-    ensures yes { IfOk result (λ yes. yes ≡ true → breaking.BreaksBy net.now world.now kind.now walk.now) }
-    ensures no { IfOk result (λ yes. yes ≡ false → breaking.BreaksBy net.now world.now kind.now walk.now → ⊥) }
+    ensures yes { IfOk result (λ yes. yes ≡ true → breaking.BreaksBy net.now.files world.now kind.now walk.now) }
+    ensures no { IfOk result (λ yes. yes ≡ false → breaking.BreaksBy net.now.files world.now kind.now walk.now → ⊥) }
 {
     match kind {
         Kind::Reach(start, target) => Ok(breaks_reach(net, world, start, target, walk)),
@@ -241,8 +241,8 @@ fn breaks_with(
     world: &World,
     walk: &Walk,
 ) -> Result<bool, AllocError>
-    ensures yes { IfOk result (λ yes. yes ≡ true → breaking.Breaks net.now world.now kind.now (Some walk.now)) }
-    ensures no { IfOk result (λ yes. yes ≡ false → breaking.Breaks net.now world.now kind.now (Some walk.now) → ⊥) }
+    ensures yes { IfOk result (λ yes. yes ≡ true → breaking.Breaks net.now.files world.now kind.now (Some walk.now)) }
+    ensures no { IfOk result (λ yes. yes ≡ false → breaking.Breaks net.now.files world.now kind.now (Some walk.now) → ⊥) }
 {
     if !is_walk(alloc, net, world, walk)? {
         return Ok(false);
@@ -268,9 +268,9 @@ pub fn breaks(
     walk: Option<&Walk>,
 ) -> Result<bool, AllocError>
     ensures yes { IfOk result (λ yes. yes ≡ true →
-        breaking.Breaks net.now world.now question.now.kind (option_copied walk.entry)) }
+        breaking.Breaks net.now.files world.now question.now.kind (option_copied walk.entry)) }
     ensures no { IfOk result (λ yes. yes ≡ false →
-        breaking.Breaks net.now world.now question.now.kind (option_copied walk.entry) → ⊥) }
+        breaking.Breaks net.now.files world.now question.now.kind (option_copied walk.entry) → ⊥) }
 {
     match walk {
         None => Ok(asks_no_stable(&question.kind)),

@@ -4,7 +4,7 @@ ghost use Rattle.std.specs.Prelude.{◌≡◌};
 ghost use Rattle.std.specs.List.{find};
 ghost use Rattle.std.specs.Option.{option_copied};
 ghost use Rattle.mw_text.specs.Text.{same_text};
-ghost use Rattle.net_model.specs.Sending.{permitted_by_list};
+ghost use Rattle.net_parts.specs.Sending.{permitted_by_list};
 ghost use Rattle.question_lang.specs.Hops as hops;
 
 use ios_ast::{AccessList, File, Use};
@@ -25,7 +25,7 @@ fn find_list<'a>(file: &'a File, name: &[u8]) -> Option<&'a AccessList>
 }
 
 // Whether the access list of that name in the file permits the packet. One that is not there denies.
-#[tactic(auto, unfolding(net_model::specs::Sending::permitted_by_list))]
+#[tactic(auto, unfolding(net_parts::specs::Sending::permitted_by_list))]
 fn list_permits(file: &File, named: &Use, packet: &Packet) -> bool
     ensures { result ≡ permitted_by_list file.now named.now packet.now }
 {
@@ -48,7 +48,7 @@ fn permits(file: &File, packet: &Packet, list: &Option<Use>) -> bool
 /// Whether the in list of the interface permits the packet.
 #[tactic(auto, unfolding(question_lang::specs::Hops::permits_in))]
 pub fn permits_in(net: &Net, packet: &Packet, i: IfaceId) -> bool
-    ensures { result ≡ hops.permits_in net.now packet.now i }
+    ensures { result ≡ hops.permits_in net.now.files packet.now i }
 {
     match net.routers().get(i.router as usize) {
         None => true,
@@ -61,7 +61,7 @@ pub fn permits_in(net: &Net, packet: &Packet, i: IfaceId) -> bool
 
 #[tactic(auto, unfolding(question_lang::specs::Hops::permits_out))]
 fn permits_out(net: &Net, packet: &Packet, i: IfaceId) -> bool
-    ensures { result ≡ hops.permits_out net.now packet.now i }
+    ensures { result ≡ hops.permits_out net.now.files packet.now i }
 {
     match net.routers().get(i.router as usize) {
         None => true,
@@ -74,7 +74,7 @@ fn permits_out(net: &Net, packet: &Packet, i: IfaceId) -> bool
 
 /// What becomes of a packet that comes in at an interface: its in list tests it.
 pub fn arrive(net: &Net, packet: &Packet, i: IfaceId) -> Hop
-    ensures { result ≡ hops.arrive net.now packet.now i }
+    ensures { result ≡ hops.arrive net.now.files packet.now i }
 {
     if permits_in(net, packet, i) {
         Hop::To(i)
@@ -85,7 +85,7 @@ pub fn arrive(net: &Net, packet: &Packet, i: IfaceId) -> Hop
 
 /// What becomes of a packet that goes out of an interface: its out list tests it before this hop.
 pub fn depart(net: &Net, packet: &Packet, out: IfaceId, hop: Hop) -> Hop
-    ensures { result ≡ hops.depart net.now packet.now out hop }
+    ensures { result ≡ hops.depart net.now.files packet.now out hop }
 {
     if permits_out(net, packet, out) {
         hop

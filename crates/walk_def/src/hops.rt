@@ -4,8 +4,8 @@ ghost use Rattle.std.specs.Prelude.{◌≡◌, ◌<◌, ◌^◌, ◌==◌, ◌&&
 ghost use Rattle.std.specs.List.{find, flat_map, list_any};
 ghost use Rattle.std.specs.Option.{option_copied, option_map_or};
 ghost use Rattle.mw_text.specs.Address.{covers, same_prefix};
-ghost use Rattle.net_model.specs.Routing.{static_routes};
-ghost use Rattle.net_model.specs.Sending.{sent_towards};
+ghost use Rattle.net_parts.specs.Routing.{static_routes};
+ghost use Rattle.net_parts.specs.Sending.{sent_towards};
 ghost use Rattle.proto_ospf.specs.Reached.{all_reached};
 ghost use Rattle.question_lang.specs.Hops as hops;
 ghost use Rattle.walk_def.specs.Sending.{AreSent};
@@ -15,7 +15,7 @@ use crate::filters::{arrive, depart};
 use crate::open::{all_up, own_up};
 use ios_ast::{File, StaticRoute, Via};
 use mw_text::{Addr, List, Prefix, contains, prefix_of};
-use net_model::routing::route_counts;
+use net_parts::routing::route_counts;
 use net_model::{Addressed, IfaceId, Net};
 use proto_ospf::{Reached, all_distances};
 use question_lang::{End, Hop};
@@ -40,7 +40,7 @@ fn owner_of(up: &[Addressed], subnet: &Prefix, a: Addr) -> Option<IfaceId>
 
 // To the router that has the address on the subnet, else this end.
 fn hop_or(net: &Net, packet: &Packet, up: &[Addressed], subnet: &Prefix, a: Addr, end: End) -> Hop
-    ensures { result ≡ option_map_or (hops.arrive net.now packet.now) (hops.owner_on up.now subnet.now a) (Hop.Ends end) }
+    ensures { result ≡ option_map_or (hops.arrive net.now.files packet.now) (hops.owner_on up.now subnet.now a) (Hop.Ends end) }
 {
     match owner_of(up, subnet, a) {
         None => Hop::Ends(end),
@@ -49,7 +49,7 @@ fn hop_or(net: &Net, packet: &Packet, up: &[Addressed], subnet: &Prefix, a: Addr
 }
 
 fn hop_to(net: &Net, packet: &Packet, up: &[Addressed], out: &Addressed, a: Addr) -> Hop
-    ensures { result ≡ hops.send_to net.now packet.now up.now out.now a }
+    ensures { result ≡ hops.send_to net.now.files packet.now up.now out.now a }
 {
     let hop = hop_or(net, packet, up, &out.subnet, a, End::Left(a));
     depart(net, packet, out.id, hop)
@@ -70,7 +70,7 @@ fn push_over(
     own: &[Addressed],
     a: Addr,
 ) -> Result<(), AllocError>
-    ensures { OnOk result (out.new ≡ out.old ++ hops.send_over net.now packet.now up.now own.now a) }
+    ensures { OnOk result (out.new ≡ out.old ++ hops.send_over net.now.files packet.now up.now own.now a) }
 {
     if let Some(x) = find_over(own, a) {
         out.items.push(hop_to(net, packet, up, x, a))?;
@@ -87,7 +87,7 @@ fn push_static(
     own: &[Addressed],
     route: &StaticRoute,
 ) -> Result<(), AllocError>
-    ensures { OnOk result (out.new ≡ out.old ++ hops.static_hops net.now packet.now up.now own.now route.now) }
+    ensures { OnOk result (out.new ≡ out.old ++ hops.static_hops net.now.files packet.now up.now own.now route.now) }
 {
     match &route.via {
         Via::Null0 => {
@@ -110,7 +110,7 @@ fn static_hops_of(
     p: &Prefix,
     distance: u8,
 ) -> Result<List<Hop>, AllocError>
-    ensures { IfOk result (λ all. all ≡ flat_map (hops.static_hops net.now packet.now up.now own.now)
+    ensures { IfOk result (λ all. all ≡ flat_map (hops.static_hops net.now.files packet.now up.now own.now)
         (filter (λ route. route.distance == distance) (static_routes own.now statics.now p.now))) }
 {
     let mut out = List::new(alloc);
@@ -129,8 +129,8 @@ fn find_direct<'a>(own: &'a [Addressed], p: &Prefix) -> Option<&'a Addressed>
 }
 
 fn connected_hop(net: &Net, packet: &Packet, up: &[Addressed], out: &Addressed, p: &Prefix) -> Hop
-    ensures { result ≡ hops.depart net.now packet.now out.now.id
-        (option_map_or (hops.arrive net.now packet.now) (hops.owner_on up.now p.now packet.now.dst) (Hop.Ends End.Delivered)) }
+    ensures { result ≡ hops.depart net.now.files packet.now out.now.id
+        (option_map_or (hops.arrive net.now.files packet.now) (hops.owner_on up.now p.now packet.now.dst) (Hop.Ends End.Delivered)) }
 {
     let hop = hop_or(net, packet, up, p, packet.dst, End::Delivered);
     depart(net, packet, out.id, hop)
@@ -144,7 +144,7 @@ fn connected_hops_of(
     own: &[Addressed],
     p: &Prefix,
 ) -> Result<List<Hop>, AllocError>
-    ensures { IfOk result (λ all. all ≡ hops.connected_hops net.now packet.now up.now own.now p.now) }
+    ensures { IfOk result (λ all. all ≡ hops.connected_hops net.now.files packet.now up.now own.now p.now) }
 {
     let mut out = List::new(alloc);
     if let Some(x) = find_direct(own, p) {
@@ -168,7 +168,7 @@ fn hops_out(
     own: &[Addressed],
     a: Addr,
 ) -> Result<List<Hop>, AllocError>
-    ensures { IfOk result (λ all. all ≡ hops.send_over net.now packet.now up.now own.now a) }
+    ensures { IfOk result (λ all. all ≡ hops.send_over net.now.files packet.now up.now own.now a) }
 {
     let mut out = List::new(alloc);
     push_over(&mut out, net, packet, up, own, a)?;
@@ -187,10 +187,10 @@ fn next_hops_of(
     router: u32,
     a: Addr,
 ) -> Result<List<Hop>, AllocError>
-    requires all { all.now ≡ all_reached net.now world.now.failures }
+    requires all { all.now ≡ all_reached net.now.files world.now.failures }
     ensures { IfOk result (λ to. to ≡ if list_any (λ x. covers x.subnet a) own.now
-        then hops.send_over net.now world.now.packet up.now own.now a
-        else map (hops.send_adjacent net.now world.now.packet) (sent_towards net.now world.now.failures router a)) }
+        then hops.send_over net.now.files world.now.packet up.now own.now a
+        else map (hops.send_adjacent net.now.files world.now.packet) (sent_towards net.now.files world.now.failures router a)) }
 {
     if some_subnet_has(own, a) {
         return hops_out(alloc, net, &world.packet, up, own, a);
@@ -209,8 +209,8 @@ fn bgp_hops_of(
     router: u32,
     slot: &Slot,
 ) -> Result<List<Hop>, AllocError>
-    requires all { all.now ≡ all_reached net.now world.now.failures }
-    ensures { IfOk result (λ to. to ≡ hops.bgp_hops net.now world.now up.now own.now router slot.now) }
+    requires all { all.now ≡ all_reached net.now.files world.now.failures }
+    ensures { IfOk result (λ to. to ≡ hops.bgp_hops net.now.files world.now up.now own.now router slot.now) }
 {
     match &slot.bgp {
         None => Ok(List::new(alloc)),
@@ -227,7 +227,7 @@ fn ospf_hops_of(
     p: &Prefix,
     slot: &Slot,
 ) -> Result<List<Hop>, AllocError>
-    ensures { IfOk result (λ to. to ≡ hops.ospf_hops net.now world.now router p.now slot.now) }
+    ensures { IfOk result (λ to. to ≡ hops.ospf_hops net.now.files world.now router p.now slot.now) }
 {
     match &slot.ospf {
         None => Ok(List::new(alloc)),
@@ -249,8 +249,8 @@ fn entry_hops_of(
     file: &File,
     found: &Longest<'_>,
 ) -> Result<List<Hop>, AllocError>
-    requires all { all.now ≡ all_reached net.now world.now.failures }
-    ensures { IfOk result (λ to. to ≡ hops.entry_hops net.now world.now up.now own.now router file.now
+    requires all { all.now ≡ all_reached net.now.files world.now.failures }
+    ensures { IfOk result (λ to. to ≡ hops.entry_hops net.now.files world.now up.now own.now router file.now
         (found.now.0, found.now.1.now, found.now.2)) }
 {
     let (len, slot, entry) = found;
@@ -325,8 +325,8 @@ fn hops_of(
     router: u32,
     file: &File,
 ) -> Result<List<Hop>, AllocError>
-    requires all { all.now ≡ all_reached net.now world.now.failures }
-    ensures { IfOk result (λ to. to ≡ hops.hops_over net.now world.now up.now own.now router file.now) }
+    requires all { all.now ≡ all_reached net.now.files world.now.failures }
+    ensures { IfOk result (λ to. to ≡ hops.hops_over net.now.files world.now up.now own.now router file.now) }
 {
     if is_own(own, world.packet.dst) {
         return one_hop(alloc, End::Delivered);
@@ -339,7 +339,7 @@ fn hops_of(
 
 // The file of a router.
 fn file_of(net: &Net, router: u32) -> Option<&File>
-    ensures value { option_copied result ≡ slice_get net.entry.now router }
+    ensures value { option_copied result ≡ slice_get net.entry.now.files router }
 {
     net.routers().get(router as usize)
 }
@@ -353,8 +353,8 @@ pub fn list_hops(
     all: &[Reached],
     router: u32,
 ) -> Result<List<Hop>, AllocError>
-    requires all { all.now ≡ all_reached net.now world.now.failures }
-    ensures { IfOk result (λ to. to ≡ hops.next_hops net.now world.now router) }
+    requires all { all.now ≡ all_reached net.now.files world.now.failures }
+    ensures { IfOk result (λ to. to ≡ hops.next_hops net.now.files world.now router) }
 {
     let up = all_up(alloc, net, &world.failures)?;
     let own = own_up(alloc, net, &world.failures, router)?;
@@ -375,9 +375,9 @@ pub fn list_hops(
 
 /// The next hops of each router.
 pub fn all_hops(alloc: Global, net: &Net, world: &World) -> Result<List<List<Hop>>, AllocError>
-    ensures len { IfOk result (λ hops. length hops ≡ length net.now) }
+    ensures len { IfOk result (λ hops. length hops ≡ length net.now.files) }
     ensures few { IfOk result (λ hops. length hops < 2 ^ 32) }
-    ensures sent { IfOk result (λ hops. AreSent net.now world.now hops) }
+    ensures sent { IfOk result (λ hops. AreSent net.now.files world.now hops) }
 {
     let distances = all_distances(alloc, net, &world.failures)?;
     let mut hops = List::new(alloc);

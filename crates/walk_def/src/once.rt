@@ -64,7 +64,7 @@ pub fn next_hops(
     world: &World,
     router: u32,
 ) -> Result<List<Hop>, AllocError>
-    ensures { IfOk result (λ all. AreOnce all (hops.next_hops net.now world.now router)) }
+    ensures { IfOk result (λ all. AreOnce all (hops.next_hops net.now.files world.now router)) }
 {
     let distances = all_distances(alloc, net, &world.failures)?;
     let all = list_hops(alloc, net, world, distances.as_slice(), router)?;

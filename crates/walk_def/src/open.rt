@@ -1,8 +1,8 @@
 //! Interfaces that are up while some links have failed.
 
 ghost use Rattle.std.specs.Prelude.{◌≡◌, ◌==◌, ◌&&◌, IfOk};
-ghost use Rattle.net_model.specs.Routing.{up_interfaces};
-ghost use Rattle.net_model.specs.World as world;
+ghost use Rattle.net_parts.specs.Routing.{up_interfaces};
+ghost use Rattle.net_parts.specs.World as world;
 ghost use Rattle.question_lang.specs.Hops as hops;
 
 use net_model::{Addressed, Net};
@@ -11,7 +11,7 @@ use std::alloc::{AllocError, Global};
 
 /// All interfaces that have an address and are up.
 pub fn all_up(alloc: Global, net: &Net, failures: &Failures) -> Result<Vec<Addressed>, AllocError>
-    ensures { IfOk result (λ up. up.items ≡ hops.all_up net.now failures.now) }
+    ensures { IfOk result (λ up. up.items ≡ hops.all_up net.now.files failures.now) }
 {
     net.addresses()
         .iter()
@@ -21,7 +21,7 @@ pub fn all_up(alloc: Global, net: &Net, failures: &Failures) -> Result<Vec<Addre
 }
 
 fn is_up_on(net: &Net, failures: &Failures, router: u32, x: &Addressed) -> bool
-    ensures { result ≡ ((x.now.id.router == router) && world.is_up net.now failures.now x.now) }
+    ensures { result ≡ ((x.now.id.router == router) && world.is_up net.now.files failures.now x.now) }
 {
     x.id.router == router && net.is_up_with(failures, x)
 }
@@ -33,7 +33,7 @@ pub fn own_up(
     failures: &Failures,
     router: u32,
 ) -> Result<Vec<Addressed>, AllocError>
-    ensures { IfOk result (λ up. up.items ≡ up_interfaces net.now failures.now router) }
+    ensures { IfOk result (λ up. up.items ≡ up_interfaces net.now.files failures.now router) }
 {
     net.addresses()
         .iter()

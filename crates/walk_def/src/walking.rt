@@ -18,15 +18,15 @@ use std::alloc::{AllocError, Global};
 
 // Whether a packet comes in at the interface, and its in list says so.
 fn is_tested_in(net: &Net, world: &World, i: IfaceId, says: bool) -> bool
-    ensures yes { result ≡ true → walks.IsTestedIn net.now world.now i says }
-    ensures no { result ≡ false → walks.IsTestedIn net.now world.now i says → ⊥ }
+    ensures yes { result ≡ true → walks.IsTestedIn net.now.files world.now i says }
+    ensures no { result ≡ false → walks.IsTestedIn net.now.files world.now i says → ⊥ }
 {
     net.is_up(&world.failures, i) && permits_in(net, &world.packet, i) == says
 }
 
 fn may_begin(net: &Net, world: &World, start: &Start) -> bool
-    ensures yes { result ≡ true → walks.MayBegin net.now world.now start.now }
-    ensures no { result ≡ false → walks.MayBegin net.now world.now start.now → ⊥ }
+    ensures yes { result ≡ true → walks.MayBegin net.now.files world.now start.now }
+    ensures no { result ≡ false → walks.MayBegin net.now.files world.now start.now → ⊥ }
 {
     match start.iface {
         None => true,
@@ -41,8 +41,8 @@ fn may_begin(net: &Net, world: &World, start: &Start) -> bool
 }
 
 fn is_denied_at_once(net: &Net, world: &World, end: &End) -> bool
-    ensures yes { result ≡ true → walks.IsDeniedAtOnce net.now world.now end.now }
-    ensures no { result ≡ false → walks.IsDeniedAtOnce net.now world.now end.now → ⊥ }
+    ensures yes { result ≡ true → walks.IsDeniedAtOnce net.now.files world.now end.now }
+    ensures no { result ≡ false → walks.IsDeniedAtOnce net.now.files world.now end.now → ⊥ }
 {
     match end {
         End::DeniedIn(i) => is_tested_in(net, world, *i, false),
@@ -77,9 +77,9 @@ fn leads_to(
     from: &Start,
     to: &Start,
 ) -> Result<bool, AllocError>
-    requires all { all.now ≡ all_reached net.now world.now.failures }
-    ensures yes { IfOk result (λ leads. leads ≡ true → walks.LeadsTo (next_hops net.now world.now) from.now to.now) }
-    ensures no { IfOk result (λ leads. leads ≡ false → walks.LeadsTo (next_hops net.now world.now) from.now to.now → ⊥) }
+    requires all { all.now ≡ all_reached net.now.files world.now.failures }
+    ensures yes { IfOk result (λ leads. leads ≡ true → walks.LeadsTo (next_hops net.now.files world.now) from.now to.now) }
+    ensures no { IfOk result (λ leads. leads ≡ false → walks.LeadsTo (next_hops net.now.files world.now) from.now to.now → ⊥) }
 {
     let own = list_hops(alloc, net, world, all, from.router)?;
     Ok(leads_in(own.as_slice(), to))
@@ -114,10 +114,10 @@ fn may_end(
     now: &Start,
     end: &End,
 ) -> Result<bool, AllocError>
-    requires all { all.now ≡ all_reached net.now world.now.failures }
-    ensures yes { IfOk result (λ may. may ≡ true → walks.MayEnd (next_hops net.now world.now) before.now now.now end.now) }
+    requires all { all.now ≡ all_reached net.now.files world.now.failures }
+    ensures yes { IfOk result (λ may. may ≡ true → walks.MayEnd (next_hops net.now.files world.now) before.now now.now end.now) }
     ensures no { IfOk result (λ may. may ≡ false →
-        walks.MayEnd (next_hops net.now world.now) before.now now.now end.now → ⊥) }
+        walks.MayEnd (next_hops net.now.files world.now) before.now now.now end.now → ⊥) }
 {
     let own = list_hops(alloc, net, world, all, now.router)?;
     Ok(may_end_by(own.as_slice(), before, now, end))
@@ -133,10 +133,10 @@ fn goes_on(
     standings: &[Start],
     end: &End,
 ) -> Result<bool, AllocError>
-    requires all { all.now ≡ all_reached net.now world.now.failures }
+    requires all { all.now ≡ all_reached net.now.files world.now.failures }
     requires some { 0 < length standings.now }
-    ensures yes { IfOk result (λ goes. goes ≡ true → walks.GoesOn (next_hops net.now world.now) [] standings.now end.now) }
-    ensures no { IfOk result (λ goes. goes ≡ false → walks.GoesOn (next_hops net.now world.now) [] standings.now end.now → ⊥) }
+    ensures yes { IfOk result (λ goes. goes ≡ true → walks.GoesOn (next_hops net.now.files world.now) [] standings.now end.now) }
+    ensures no { IfOk result (λ goes. goes ≡ false → walks.GoesOn (next_hops net.now.files world.now) [] standings.now end.now → ⊥) }
 {
     let last = standings.len() - 1;
     for at in 0..last {
@@ -163,8 +163,8 @@ fn is_walk_over(
     standings: &[Start],
     end: &End,
 ) -> Result<bool, AllocError>
-    ensures yes { IfOk result (λ yes. yes ≡ true → walks.IsWalkOver net.now world.now standings.now end.now) }
-    ensures no { IfOk result (λ yes. yes ≡ false → walks.IsWalkOver net.now world.now standings.now end.now → ⊥) }
+    ensures yes { IfOk result (λ yes. yes ≡ true → walks.IsWalkOver net.now.files world.now standings.now end.now) }
+    ensures no { IfOk result (λ yes. yes ≡ false → walks.IsWalkOver net.now.files world.now standings.now end.now → ⊥) }
 {
     if standings.is_empty() {
         return Ok(is_denied_at_once(net, world, end));
@@ -179,8 +179,8 @@ fn is_walk_over(
 /// Whether it is a walk of the world's packet: it begins where the packet may come in, each standing is led to by a next
 /// hop of the one before it, and it may end so. One that stands nowhere was denied where it would begin.
 pub fn is_walk(alloc: Global, net: &Net, world: &World, walk: &Walk) -> Result<bool, AllocError>
-    ensures yes { IfOk result (λ yes. yes ≡ true → walks.IsWalk net.now world.now walk.now) }
-    ensures no { IfOk result (λ yes. yes ≡ false → walks.IsWalk net.now world.now walk.now → ⊥) }
+    ensures yes { IfOk result (λ yes. yes ≡ true → walks.IsWalk net.now.files world.now walk.now) }
+    ensures no { IfOk result (λ yes. yes ≡ false → walks.IsWalk net.now.files world.now walk.now → ⊥) }
 {
     is_walk_over(alloc, net, world, walk.hops.as_slice(), &walk.end)
 }

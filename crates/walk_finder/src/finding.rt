@@ -27,8 +27,8 @@ fn denied_at(
     world: &World,
     i: IfaceId,
 ) -> Result<Option<Walk>, AllocError>
-    ensures some { IfOk result (λ found. IfSome found (IsDeniedWalk net.now world.now i)) }
-    ensures none { IfOk result (λ found. found ≡ None → IsTestedIn net.now world.now i false → ⊥) }
+    ensures some { IfOk result (λ found. IfSome found (IsDeniedWalk net.now.files world.now i)) }
+    ensures none { IfOk result (λ found. found ≡ None → IsTestedIn net.now.files world.now i false → ⊥) }
 {
     let walk = Walk {
         hops: List::new(alloc),
@@ -48,8 +48,8 @@ fn find_denied(
     start: Start,
 ) -> Result<Option<Walk>, AllocError>
     ensures some { IfOk result (λ found. IfSome found (λ walk. (target : TargetOf) →
-        breaking.Breaks net.now world.now (Kind.Reach start target) (Some walk))) }
-    ensures none { IfOk result (λ found. found ≡ None → IsDenied net.now world.now start → ⊥) }
+        breaking.Breaks net.now.files world.now (Kind.Reach start target) (Some walk))) }
+    ensures none { IfOk result (λ found. found ≡ None → IsDenied net.now.files world.now start → ⊥) }
 {
     match start.iface {
         None => Ok(None),
@@ -84,8 +84,8 @@ fn reach_walk(
     start: Start,
     target: Target,
 ) -> Result<Option<Walk>, AllocError>
-    requires { IsBroken net.now world.now (Kind.Reach start target) }
-    ensures { IfOk result (breaking.Breaks net.now world.now (Kind.Reach start target)) }
+    requires { IsBroken net.now.files world.now (Kind.Reach start target) }
+    ensures { IfOk result (breaking.Breaks net.now.files world.now (Kind.Reach start target)) }
 {
     let denied = find_denied(alloc, net, world, start)?;
     if denied.is_some() {
@@ -104,8 +104,8 @@ fn isolate_walk(
     start: Start,
     target: Target,
 ) -> Result<Option<Walk>, AllocError>
-    requires { IsBroken net.now world.now (Kind.Isolate start target) }
-    ensures { IfOk result (breaking.Breaks net.now world.now (Kind.Isolate start target)) }
+    requires { IsBroken net.now.files world.now (Kind.Isolate start target) }
+    ensures { IfOk result (breaking.Breaks net.now.files world.now (Kind.Isolate start target)) }
 {
     let rows = rows_of(alloc, net, world, &Kind::Isolate(start, target))?;
     let found = find_end(alloc, rows.as_slice(), start)?;
@@ -135,8 +135,8 @@ fn waypoint_walk(
     target: Target,
     via: u32,
 ) -> Result<Option<Walk>, AllocError>
-    requires { IsBroken net.now world.now (Kind.Waypoint start target via) }
-    ensures { IfOk result (breaking.Breaks net.now world.now (Kind.Waypoint start target via)) }
+    requires { IsBroken net.now.files world.now (Kind.Waypoint start target via) }
+    ensures { IfOk result (breaking.Breaks net.now.files world.now (Kind.Waypoint start target via)) }
 {
     let rows = rows_of(alloc, net, world, &Kind::Waypoint(start, target, via))?;
     let others = without(alloc, rows, via);
@@ -151,8 +151,8 @@ fn loop_walk(
     world: &World,
     start: Start,
 ) -> Result<Option<Walk>, AllocError>
-    requires { IsBroken net.now world.now (Kind.NoLoop start) }
-    ensures { IfOk result (breaking.Breaks net.now world.now (Kind.NoLoop start)) }
+    requires { IsBroken net.now.files world.now (Kind.NoLoop start) }
+    ensures { IfOk result (breaking.Breaks net.now.files world.now (Kind.NoLoop start)) }
 {
     let rows = rows_of(alloc, net, world, &Kind::NoLoop(start))?;
     let walk = find_round(alloc, rows.as_slice(), start)?;
@@ -166,8 +166,8 @@ fn lost_walk(
     world: &World,
     start: Start,
 ) -> Result<Option<Walk>, AllocError>
-    requires { IsBroken net.now world.now (Kind.NoBlackHole start) }
-    ensures { IfOk result (breaking.Breaks net.now world.now (Kind.NoBlackHole start)) }
+    requires { IsBroken net.now.files world.now (Kind.NoBlackHole start) }
+    ensures { IfOk result (breaking.Breaks net.now.files world.now (Kind.NoBlackHole start)) }
 {
     let rows = rows_of(alloc, net, world, &Kind::NoBlackHole(start))?;
     let found = find_end(alloc, rows.as_slice(), start)?;
@@ -182,8 +182,8 @@ fn long_walk(
     most: u32,
     start: Start,
 ) -> Result<Option<Walk>, AllocError>
-    requires { IsBroken net.now world.now (Kind.Within most start) }
-    ensures { IfOk result (breaking.Breaks net.now world.now (Kind.Within most start)) }
+    requires { IsBroken net.now.files world.now (Kind.Within most start) }
+    ensures { IfOk result (breaking.Breaks net.now.files world.now (Kind.Within most start)) }
 {
     let rows = rows_of(alloc, net, world, &Kind::Within(most, start))?;
     let walk = find_hops(alloc, rows.as_slice(), start, most as usize + 1)?;
@@ -209,8 +209,8 @@ fn alike_walk(
     b: u32,
     target: Target,
 ) -> Result<Option<Walk>, AllocError>
-    requires { IsBroken net.now world.now (Kind.Alike a b target) }
-    ensures { IfOk result (breaking.Breaks net.now world.now (Kind.Alike a b target)) }
+    requires { IsBroken net.now.files world.now (Kind.Alike a b target) }
+    ensures { IfOk result (breaking.Breaks net.now.files world.now (Kind.Alike a b target)) }
 {
     let rows = rows_of(alloc, net, world, &Kind::Alike(a, b, target))?;
     let first = find_end(alloc, rows.as_slice(), at_router(a))?;
@@ -229,8 +229,8 @@ pub fn find_walk(
     world: &World,
     kind: &Kind,
 ) -> Result<Option<Walk>, AllocError>
-    requires { IsBroken net.now world.now kind.now }
-    ensures { IfOk result (breaking.Breaks net.now world.now kind.now) }
+    requires { IsBroken net.now.files world.now kind.now }
+    ensures { IfOk result (breaking.Breaks net.now.files world.now kind.now) }
 {
     match *kind {
         Kind::Reach(start, target) => reach_walk(alloc, net, world, start, target),

@@ -19,16 +19,16 @@ use walk_def::hops::list_hops;
 
 // Whether a walk that ends so at that router ends at the target.
 fn is_at_target(net: &Net, world: &World, target: &Target, router: u32, end: &End) -> bool
-    ensures yes { result ≡ true → IsAtTarget net.now world.now target.now router end.now }
-    ensures no { result ≡ false → IsAtTarget net.now world.now target.now router end.now → ⊥ }
+    ensures yes { result ≡ true → IsAtTarget net.now.files world.now target.now router end.now }
+    ensures no { result ≡ false → IsAtTarget net.now.files world.now target.now router end.now → ⊥ }
 {
     is_same_end(end, &target_end(target)) && is_target_router(net, world, target, router)
 }
 
 // Whether the question looks for walks that end so at that router.
 fn is_sought(net: &Net, world: &World, kind: &Kind, router: u32, end: &End) -> bool
-    ensures yes { result ≡ true → IsSought net.now world.now kind.now router end.now }
-    ensures no { result ≡ false → IsSought net.now world.now kind.now router end.now → ⊥ }
+    ensures yes { result ≡ true → IsSought net.now.files world.now kind.now router end.now }
+    ensures no { result ≡ false → IsSought net.now.files world.now kind.now router end.now → ⊥ }
 {
     match kind {
         Kind::Reach(_, target) => !is_at_target(net, world, target, router, end),
@@ -44,9 +44,9 @@ fn is_sought(net: &Net, world: &World, kind: &Kind, router: u32, end: &End) -> b
 
 // The end of the hop, where it is one that the question looks for.
 fn sought_here(net: &Net, world: &World, kind: &Kind, router: u32, hop: &Hop) -> Option<End>
-    ensures some { IfSome result (λ end. (hop.now ≡ Hop.Ends end) × IsSought net.now world.now kind.now router end) }
+    ensures some { IfSome result (λ end. (hop.now ≡ Hop.Ends end) × IsSought net.now.files world.now kind.now router end) }
     ensures none { result ≡ None → (end : EndOf) → hop.now ≡ Hop.Ends end →
-        IsSought net.now world.now kind.now router end → ⊥ }
+        IsSought net.now.files world.now kind.now router end → ⊥ }
 {
     match hop {
         Hop::To(_) => None,
@@ -63,9 +63,9 @@ fn sought_here(net: &Net, world: &World, kind: &Kind, router: u32, hop: &Hop) ->
 // The first end among the hops of a router that the question looks for.
 fn sought_end(net: &Net, world: &World, kind: &Kind, router: u32, own: &[Hop]) -> Option<End>
     ensures some { IfSome result (λ end. Contains own.now (Hop.Ends end)
-        × IsSought net.now world.now kind.now router end) }
+        × IsSought net.now.files world.now kind.now router end) }
     ensures none { result ≡ None → (end : EndOf) → Contains own.now (Hop.Ends end) →
-        IsSought net.now world.now kind.now router end → ⊥ }
+        IsSought net.now.files world.now kind.now router end → ⊥ }
 {
     for hop in own {
         if let Some(end) = sought_here(net, world, kind, router, hop) {
@@ -83,8 +83,8 @@ fn row_of(
     kind: &Kind,
     router: u32,
 ) -> Result<Row, AllocError>
-    requires { all.now ≡ all_reached net.now world.now.failures }
-    ensures { IfOk result (IsRow net.now world.now kind.now router) }
+    requires { all.now ≡ all_reached net.now.files world.now.failures }
+    ensures { IfOk result (IsRow net.now.files world.now kind.now router) }
 {
     let hops = list_hops(alloc, net, world, all, router)?;
     let end = sought_end(net, world, kind, router, hops.as_slice());
@@ -98,7 +98,7 @@ pub fn rows_of(
     world: &World,
     kind: &Kind,
 ) -> Result<List<Row>, AllocError>
-    ensures { IfOk result (AreRows net.now world.now kind.now) }
+    ensures { IfOk result (AreRows net.now.files world.now kind.now) }
 {
     let distances = all_distances(alloc, net, &world.failures)?;
     let mut rows = List::new(alloc);

@@ -17,9 +17,9 @@ use Rattle.route_record.specs.declared.Slot.{Slot}
 use Rattle.route_record.specs.declared.Tables.{Tables}
 use Rattle.route_record.specs.declared.TheConstants.{LENGTHS}
 use Rattle.route_record.specs.Places.{slot_at}
-use Rattle.net_model.specs.Decisions.{DecidedByBgp}
-use Rattle.net_model.specs.Entries.{entry_with, own_is_as_good, table_entry}
-use Rattle.net_model.specs.Stable.{IsDecided, Stable, held_ospf}
+use Rattle.net_parts.specs.Decisions.{DecidedByBgp}
+use Rattle.net_parts.specs.Entries.{entry_with, own_is_as_good, table_entry}
+use Rattle.net_parts.specs.Stable.{IsDecided, Stable, held_ospf}
 use Rattle.world_variables.specs.Slots.{all_hold, bare, entry_of, is_wanted, runs_no_bgp, same_ospf, slot_holds}
 use Rattle.world_variables.specs.Slots.{slot_of}
 use Rattle.world_variables.specs.Slots.{slots_of, tables_of, unknown_of, unknowns_of}

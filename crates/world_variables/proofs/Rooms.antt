@@ -29,22 +29,22 @@ use Rattle.route_record.specs.declared.Tables.{Tables}
 use Rattle.route_record.specs.declared.TheConstants.{LENGTHS}
 use Rattle.route_record.specs.Fits.{FitsOspf, FitsSlot}
 use Rattle.route_record.specs.Places.{slot_at}
-use Rattle.net_model.specs.declared.ospf.OspfInterface.{OspfInterface}
-use Rattle.net_model.specs.Ospf.{adjacencies, adjacency, advertisement, are_adjacent, origin_interfaces}
-use Rattle.net_model.specs.Ospf.{ospf_interfaces}
-use Rattle.net_model.specs.OspfRoutes.{kind_rank, own_origins}
-use Rattle.net_model.specs.Connected.{overlap}
-use Rattle.net_model.specs.Origins.{redistributed}
-use Rattle.net_model.specs.Stable.{Stable}
-use Rattle.net_model.specs.World.{is_up}
-use Rattle.net_model.proofs.Defined.{none_here}
+use Rattle.net_parts.specs.declared.ospf.OspfInterface.{OspfInterface}
+use Rattle.net_parts.specs.Ospf.{adjacencies, adjacency, advertisement, are_adjacent, origin_interfaces}
+use Rattle.net_parts.specs.Ospf.{ospf_interfaces}
+use Rattle.net_parts.specs.OspfRoutes.{kind_rank, own_origins}
+use Rattle.net_interfaces.specs.Connected.{overlap}
+use Rattle.net_parts.specs.Origins.{redistributed}
+use Rattle.net_parts.specs.Stable.{Stable}
+use Rattle.net_parts.specs.World.{is_up}
+use Rattle.net_parts.proofs.Defined.{none_here}
 use Rattle.world_variables.specs.Rooms.{greatest_cost, has_room, is_advertised, most_cost, some_take}
 use Rattle.world_variables.specs.Rooms.{takes_routes, width_from, widths_of}
 use Rattle.slot_places.specs.Supported.{AreOrigins}
 use Rattle.world_variables.specs.Unknowns.{FitsWidths}
 use Rattle.slot_places.proofs.Bounded.{cost_bound}
 use Rattle.slot_places.proofs.Supports.{all_held, all_in, file_there}
-use Rattle.net_model.proofs.LeastWalks.{in-filter}
+use Rattle.net_parts.proofs.LeastWalks.{in-filter}
 use Rattle.mw_text.specs.Members.{In}
 
 -- ---- the least width

@@ -24,11 +24,11 @@ use Rattle.route_record.specs.declared.Tables.{Tables}
 use Rattle.route_record.specs.declared.TheConstants.{LENGTHS}
 use Rattle.route_record.specs.Fits.{FitsOspf, FitsRib, FitsSlot}
 use Rattle.route_record.specs.Places.{slot_at}
-use Rattle.net_model.specs.Entries.{bgp_entry, entry_with, ospf_entry}
-use Rattle.net_model.specs.OspfRoutes.{kind_rank}
-use Rattle.net_model.specs.Routing.{candidates, closer, is_direct, least_distance, static_routes, up_interfaces}
-use Rattle.net_model.specs.Sending.{same_record}
-use Rattle.net_model.specs.Stable.{IsStableSlot, Stable, held_ospf}
+use Rattle.net_parts.specs.Entries.{bgp_entry, entry_with, ospf_entry}
+use Rattle.net_parts.specs.OspfRoutes.{kind_rank}
+use Rattle.net_parts.specs.Routing.{candidates, closer, is_direct, least_distance, static_routes, up_interfaces}
+use Rattle.net_parts.specs.Sending.{same_record}
+use Rattle.net_parts.specs.Stable.{IsStableSlot, Stable, held_ospf}
 use Rattle.world_variables.specs.Slots.{all_hold, bare, is_wanted, runs_no_bgp, same_ospf, slot_holds, slot_of}
 use Rattle.world_variables.specs.Slots.{slots_of, tables_of}
 use Rattle.world_variables.specs.Unknowns.{Unknown}

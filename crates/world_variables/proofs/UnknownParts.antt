@@ -6,7 +6,7 @@ use Rattle.std.proofs.lemmas.Nat.{pow_pos}
 use Rattle.route_record.specs.declared.OspfKind.{OspfKind}
 use Rattle.route_record.specs.declared.OspfKind.TheVariants.{Internal, Ext1, Ext2}
 use Rattle.route_record.specs.declared.OspfRec.{OspfRec}
-use Rattle.net_model.specs.OspfRoutes.{kind_rank}
+use Rattle.net_parts.specs.OspfRoutes.{kind_rank}
 use Rattle.sym_policy.specs.Held.{kind_of_number}
 use Rattle.failed_links.specs.Rows.{IsAt}
 use Rattle.world_variables.specs.declared.widths.Widths.{Widths}

@@ -12,9 +12,9 @@ use Rattle.route_record.specs.declared.Slot.{Slot}
 use Rattle.route_record.specs.declared.TheConstants.{LENGTHS}
 use Rattle.route_record.specs.declared.World.{World}
 use Rattle.route_record.specs.Places.{slot_at}
-use Rattle.net_model.specs.Ospf.{adjacencies}
-use Rattle.net_model.specs.World.{links_of}
-use Rattle.net_model.proofs.Costs.{adjacency_costs}
+use Rattle.net_parts.specs.Ospf.{adjacencies}
+use Rattle.net_parts.specs.World.{links_of}
+use Rattle.net_parts.proofs.Costs.{adjacency_costs}
 use Rattle.question_lang.specs.declared.question.Question.{Question}
 use Rattle.question_lang.specs.declared.walk.Walk.{Walk}
 use Rattle.world_variables.specs.Breaking.{IsBreaking}

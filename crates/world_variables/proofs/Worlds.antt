@@ -15,12 +15,12 @@ use Rattle.route_record.specs.declared.OspfRec.{OspfRec}
 use Rattle.route_record.specs.declared.Slot.{Slot}
 use Rattle.route_record.specs.declared.TheConstants.{LENGTHS}
 use Rattle.route_record.specs.Fits.{FitsOspf}
-use Rattle.net_model.specs.declared.interfaces.Addressed.{Addressed}
-use Rattle.net_model.specs.Interfaces.{addressed}
-use Rattle.net_model.specs.Entries.{own_is_as_good}
-use Rattle.net_model.specs.OspfRoutes.{is_own}
-use Rattle.net_model.specs.Sessions.{ends_of, is_outside, peerings, peerings_routers, sessions}
-use Rattle.net_model.specs.World.{IsAnnouncement, IsEnvironment}
+use Rattle.net_interfaces.specs.declared.interfaces.Addressed.{Addressed}
+use Rattle.net_interfaces.specs.Interfaces.{addressed}
+use Rattle.net_parts.specs.Entries.{own_is_as_good}
+use Rattle.net_parts.specs.OspfRoutes.{is_own}
+use Rattle.net_parts.specs.Sessions.{ends_of, is_outside, peerings, peerings_routers, sessions}
+use Rattle.net_parts.specs.World.{IsAnnouncement, IsEnvironment}
 use Rattle.question_lang.specs.declared.question.Question.{Question}
 use Rattle.question_lang.specs.declared.walk.Walk.{Walk}
 use Rattle.question_lang.specs.Breaking.{Breaks}

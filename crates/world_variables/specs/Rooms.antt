@@ -7,8 +7,8 @@ use Rattle.mw_text.specs.declared.address.Prefix.{Prefix}
 use Rattle.ios_ast.specs.declared.file.File.{File}
 use Rattle.ios_ast.specs.declared.ospf.Ospf.{Ospf}
 use Rattle.route_record.specs.declared.TheConstants.{LENGTHS}
-use Rattle.net_model.specs.Connected.{overlap}
-use Rattle.net_model.specs.Ospf.{advertisement, ospf_interfaces}
+use Rattle.net_interfaces.specs.Connected.{overlap}
+use Rattle.net_parts.specs.Ospf.{advertisement, ospf_interfaces}
 use Rattle.world_variables.specs.declared.widths.Widths.{Widths}
 
 -- an interface advertises a prefix of that length that some of the destinations have

@@ -14,9 +14,9 @@ use Rattle.route_record.specs.declared.RibEntry.{RibEntry}
 use Rattle.route_record.specs.declared.Slot.{Slot}
 use Rattle.route_record.specs.declared.Tables.{Tables}
 use Rattle.route_record.specs.declared.TheConstants.{LENGTHS}
-use Rattle.net_model.specs.Entries.{entry_with, own_is_as_good}
-use Rattle.net_model.specs.Sending.{same_record}
-use Rattle.net_model.specs.Stable.{held_ospf}
+use Rattle.net_parts.specs.Entries.{entry_with, own_is_as_good}
+use Rattle.net_parts.specs.Sending.{same_record}
+use Rattle.net_parts.specs.Stable.{held_ospf}
 use Rattle.world_variables.specs.Unknowns.{Unknown}
 
 -- no router runs BGP

@@ -3,7 +3,7 @@ use Rattle.std.specs.Prelude.{◌≡◌, ℕ, ◌+◌, ◌^◌, ◌<◌, Bool, t
 use Rattle.std.specs.Prelude.{if◌then◌else◌, is_some, unwrap_or}
 use Rattle.route_record.specs.declared.OspfKind.TheVariants.{Internal}
 use Rattle.route_record.specs.declared.OspfRec.{OspfRec}
-use Rattle.net_model.specs.OspfRoutes.{kind_rank}
+use Rattle.net_parts.specs.OspfRoutes.{kind_rank}
 use Rattle.sym_policy.specs.Held.{kind_of_number}
 use Rattle.failed_links.specs.Rows.{digits, number_from}
 use Rattle.world_variables.specs.declared.widths.Widths.{Widths}

@@ -6,8 +6,8 @@ use Rattle.ios_ast.specs.declared.file.StaticRoute.{StaticRoute}
 use Rattle.route_record.specs.declared.Environment.{Environment}
 use Rattle.route_record.specs.declared.TheConstants.{LENGTHS}
 use Rattle.route_record.specs.declared.World.{World}
-use Rattle.net_model.specs.Limits.{keeps_limits}
-use Rattle.net_model.specs.World.{links_of}
+use Rattle.net_interfaces.specs.Limits.{keeps_limits}
+use Rattle.net_parts.specs.World.{links_of}
 use Rattle.question_lang.specs.declared.question.Question.{Question}
 use Rattle.failed_links.specs.Failures.{downs_bits, downs_width, failures_from}
 use Rattle.world_variables.specs.Packets.{FitsSet, is_in_set, packet_bits, packet_from, packet_width}

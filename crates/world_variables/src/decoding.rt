@@ -170,7 +170,7 @@ fn slot_at(
     ospf: Option<OspfRec>,
     own: bool,
 ) -> Slot
-    ensures { result ≡ slot_of net.now failures.now destination (place / LENGTHS) (place % LENGTHS)
+    ensures { result ≡ slot_of net.now.files failures.now destination (place / LENGTHS) (place % LENGTHS)
         (record { ospf = ospf; own = own }) }
 {
     let router = place / LENGTHS as u32;
@@ -219,7 +219,7 @@ fn slots_at(
     requires cost { widths.cost ≤ 32 }
     requires few { length rooms.now < 2 ^ 32 }
     requires within { from + unknowns_width widths rooms.now ≤ length values.now }
-    ensures { IfOk result (λ r. r ≡ slots_of net.now failures.now destination 0
+    ensures { IfOk result (λ r. r ≡ slots_of net.now.files failures.now destination 0
         (unknowns_from widths rooms.now (truth values.now) from)) }
 {
     let mut at = from;
@@ -246,10 +246,10 @@ fn tables_at(
     failures: &Failures,
     destination: Addr,
 ) -> Result<Tables, AllocError>
-    requires { from + unknowns_width (room.widths_of net.now)
-        (room.rooms_from net.now destinations.now 0 (LENGTHS * length net.now)) ≤ length values.now }
-    ensures { IfOk result (λ r. r ≡ tables_of net.now failures.now destination (unknowns_from (room.widths_of net.now)
-        (room.rooms_from net.now destinations.now 0 (LENGTHS * length net.now)) (truth values.now) from)) }
+    requires { from + unknowns_width (room.widths_of net.now.files)
+        (room.rooms_from net.now.files destinations.now 0 (LENGTHS * length net.now.files)) ≤ length values.now }
+    ensures { IfOk result (λ r. r ≡ tables_of net.now.files failures.now destination (unknowns_from (room.widths_of net.now.files)
+        (room.rooms_from net.now.files destinations.now 0 (LENGTHS * length net.now.files)) (truth values.now) from)) }
 {
     let _routers = net.routers();
     let widths = widths_of(net);
@@ -275,8 +275,8 @@ pub fn decode(
     net: &Net,
     question: &Question,
 ) -> Result<World, AllocError>
-    requires width { length values.now ≡ world_width net.now question.now }
-    ensures world { IfOk result (λ r. r ≡ world_from net.now question.now (truth values.now) 0) }
+    requires width { length values.now ≡ world_width net.now.files question.now }
+    ensures world { IfOk result (λ r. r ≡ world_from net.now.files question.now (truth values.now) 0) }
 {
     let packet = packet_at(values, question.packets);
     let links = net.links().len() as u32;

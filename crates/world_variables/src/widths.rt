@@ -3,17 +3,17 @@
 ghost use Rattle.std.specs.Prelude.{◌≡◌, ◌==◌, ◌&&◌, ◌||◌, ℕ, ◌+◌, ◌*◌, ◌^◌, ◌<◌, ◌≤◌, Bool, false, IfOk, OnOk, ◌++◌, ◌∷◌, [], fold, is_some, length, max, not, slice_get};
 ghost use Rattle.std.specs.List.{list_any};
 ghost use Rattle.std.specs.Option.{option_map_or};
-ghost use Rattle.net_model.specs.Connected.{overlap};
-ghost use Rattle.net_model.specs.Ospf as model;
+ghost use Rattle.net_interfaces.specs.Connected.{overlap};
+ghost use Rattle.net_parts.specs.Ospf as model;
 ghost use Rattle.world_variables.specs.Rooms as room;
 ghost use Rattle.world_variables.specs.Rooms.{is_advertised, some_take, takes_routes, width_from};
 ghost use Rattle.route_record.specs.declared.TheConstants.{LENGTHS};
 
 use ios_ast::{File, Ospf};
 use mw_text::{List, Prefix};
-use net_model::connected::prefixes_overlap;
-use net_model::ends::file_of;
-use net_model::ospf::advertisement;
+use net_interfaces::connected::prefixes_overlap;
+use net_parts::ends::file_of;
+use net_parts::ospf::advertisement;
 use net_model::{Net, OspfInterface};
 use route_record::LENGTHS;
 use std::alloc::{AllocError, Global};
@@ -72,7 +72,7 @@ fn least_width(number: u64) -> u8
 /// metric 0.
 #[tactic(auto, unfolding(crate::specs::Rooms::widths_of))]
 pub fn widths_of(net: &Net) -> Widths
-    ensures value { result ≡ room.widths_of net.now }
+    ensures value { result ≡ room.widths_of net.now.files }
     ensures kind { result.kind ≤ 2 }
     ensures metric { result.metric ≤ 32 }
     ensures cost { result.cost ≤ 32 }
@@ -106,7 +106,7 @@ fn is_advertised(interfaces: &[OspfInterface], destinations: &Prefix, len: u8) -
 
 // Whether the router runs OSPF, and can hold a route for a prefix of that length.
 fn has_room(net: &Net, destinations: &Prefix, router: u32, len: u8) -> bool
-    ensures { result ≡ room.has_room net.now destinations.now router len }
+    ensures { result ≡ room.has_room net.now.files destinations.now router len }
 {
     let runs = match file_of(net.routers(), router) {
         Some(file) => file.ospf.is_some(),
@@ -125,8 +125,8 @@ fn put_room(made: &mut List<bool>, here: bool) -> Result<(), AllocError>
 /// The slots that have room for an OSPF route, in their order.
 #[tactic(auto, using(crate::proofs::RoomSteps::room_steps))]
 pub fn rooms(alloc: Global, net: &Net, destinations: &Prefix) -> Result<List<bool>, AllocError>
-    requires few { length net.now ≤ 64 }
-    ensures { IfOk result (λ r. r ≡ room.rooms_from net.now destinations.now 0 (LENGTHS * length net.now)) }
+    requires few { length net.now.files ≤ 64 }
+    ensures { IfOk result (λ r. r ≡ room.rooms_from net.now.files destinations.now 0 (LENGTHS * length net.now.files)) }
 {
     let count = LENGTHS as u32 * net.routers().len() as u32;
     let mut made = List::new(alloc);

@@ -17,7 +17,7 @@ returns-in-Err-WriteFault-clause-answers g c =
     ⊎ Rose (g.L.Sink.faults c.loop-at.log) (g.L.Sink.faults c.put_verdict.new.log) in
     let S : ℕ → Type 0 = λ count. Rose (g.O.Sink.faults c.args.out.now) (g.O.Sink.faults c.put_verdict.new.out)
     ⊎ Rose count (g.L.Sink.faults c.put_verdict.new.log) in (
-      put-cut c.args.loaded.now.net questions c.args.loaded.now.budget c.loop-at.at c.question-item.result
+      put-cut c.args.loaded.now.net.files questions c.args.loaded.now.budget c.loop-at.at c.question-item.result
           c.loop-at.seen.broken c.loop-at.seen.unknown (g.O.Sink.taken c.args.out.now) (g.O.Sink.taken c.loop-at.out)
           (g.O.Sink.taken c.put_verdict.new.out) (g.L.Sink.taken c.args.log.now) (g.L.Sink.taken c.loop-at.log)
           (g.L.Sink.taken c.put_verdict.new.log) c.loop-at.invariant.put within is c.in-Err-WriteFault.ensures.cut,
@@ -34,7 +34,7 @@ returns-in-Err-Memory-clause-answers g c =
     let within : c.loop-at.at < length questions = omega (arith, test, long) in
     let item = c.question-item.is in
     let is : c.question-item.result ≡ get_or questions c.loop-at.at c.question-item.result = cc in
-    put-cut c.args.loaded.now.net questions c.args.loaded.now.budget c.loop-at.at c.question-item.result
+    put-cut c.args.loaded.now.net.files questions c.args.loaded.now.budget c.loop-at.at c.question-item.result
     c.loop-at.seen.broken c.loop-at.seen.unknown (g.O.Sink.taken c.args.out.now) (g.O.Sink.taken c.loop-at.out)
     (g.O.Sink.taken c.put_verdict.new.out) (g.L.Sink.taken c.args.log.now) (g.L.Sink.taken c.loop-at.log)
     (g.L.Sink.taken c.put_verdict.new.log) c.loop-at.invariant.put within is c.in-Err-Memory.ensures.cut
@@ -48,7 +48,7 @@ loop-at-preserved g c =
     let within : c.loop-at.at < length questions = omega (arith, test, long) in
     let item = c.question-item.is in
     let is : c.question-item.result ≡ get_or questions c.loop-at.at c.question-item.result = cc in record {
-      put = put-more c.args.loaded.now.net questions c.args.loaded.now.budget c.loop-at.at c.question-item.result
+      put = put-more c.args.loaded.now.net.files questions c.args.loaded.now.budget c.loop-at.at c.question-item.result
           c.in-Ok.verdict c.loop-at.seen.broken c.loop-at.seen.unknown c.with-seen.result.broken
           c.with-seen.result.unknown (g.O.Sink.taken c.args.out.now) (g.O.Sink.taken c.loop-at.out)
           (g.O.Sink.taken c.put_verdict.new.out) (g.L.Sink.taken c.args.log.now) (g.L.Sink.taken c.loop-at.log)

@@ -9,7 +9,7 @@ use Rattle.net_encoder.proofs.encoding.encode.Goals as goal
 
 pub returns-clause-sound : goal.returns-clause-sound
 returns-clause-sound c = λ valuation holds.
-    let files = c.args.net.now in
+    let files = c.args.net.now.files in
     let question = c.args.question.now in
     let fits = subst (λ fs. All (λ (file : File). All FitsDistance file.statics) fs) c.routers.ensures.all
     c.all_distances_fit.ensures in
@@ -33,7 +33,7 @@ returns-clause-sound c = λ valuation holds.
 
 pub returns-clause-complete : goal.returns-clause-complete
 returns-clause-complete c = λ world environment walk breaking.
-    let files = c.args.net.now in
+    let files = c.args.net.now.files in
     let question = c.args.question.now in
     let fits = subst (λ fs. All (λ (file : File). All FitsDistance file.statics) fs) c.routers.ensures.all
     c.all_distances_fit.ensures in

@@ -10,7 +10,7 @@ pub returns-clause-value : goal.returns-clause-value
 returns-clause-value c = λ w reads from read.
     let r2 = c.both.ensures.builds.reads w reads in
     let r1 = c.sym_breaks.ensures.builds.reads w r2 in
-    let files = c.args.net.now in
+    let files = c.args.net.now.files in
     let kind = c.args.question.now.kind in
     let made = c.args.open.now.world in
     let root = c.in_ok-root.ensures.value w reads in

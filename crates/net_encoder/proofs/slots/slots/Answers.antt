@@ -1,7 +1,6 @@
 use Rattle.std.proofs.Common.{◌≡◌, ◌+◌, ◌≤◌, [], ◌∷◌, ◌++◌, List, arith, drop, map, rules, subst, sym, ap, ◌∙◌}
 use Rattle.std.proofs.lemmas.List.{append_assoc, drop_more}
 use Rattle.route_record.specs.declared.Slot.{Slot}
-use Rattle.net_model.specs.Tracked.{tracked_of}
 use Rattle.sym_policy.specs.Held.{failures_of}
 use Rattle.sym_policy.specs.Records.{address_of}
 use Rattle.sym_rib.specs.Worlds.{slots_end, slot_of as slot_read}
@@ -29,8 +28,8 @@ loop-place-preserved c =
         c.slot_at_place.ensures.builds.larger,
         c.in_ok-next.ensures.within,
       ));
-      rows = subst (HaveTracked (tracked_of c.args.net.now)) (sym put)
-          (tracked_push (tracked_of c.args.net.now) made next c.loop-place.invariant.rows c.in_ok-next.ensures.rows);
+      rows = subst (HaveTracked c.args.net.now.tracked) (sym put)
+          (tracked_push c.args.net.now.tracked made next c.loop-place.invariant.rows c.in_ok-next.ensures.rows);
       plain = λ w reads. subst (AreBare w) (sym put)
           (bare_push w made next (c.loop-place.invariant.plain w (c.slot_at_place.ensures.builds.reads w reads))
           (c.in_ok-next.ensures.bare w reads));
@@ -38,7 +37,7 @@ loop-place-preserved c =
           let d = address_of w c.args.dst.now in
           let failures = failures_of w c.args.sym.now in
           let rest : List SymOpen → List Slot =
-          λ parts. slots_of c.args.net.now failures d (c.loop-place.place + 1) (map (open_of w) parts) in
+          λ parts. slots_of c.args.net.now.files failures d (c.loop-place.place + 1) (map (open_of w) parts) in
           let part = c.index-parts-place.result in
           let left : drop c.loop-place.place c.args.parts.now ≡ part ∷ drop (c.loop-place.place + 1) c.args.parts.now =
           drop_more c.args.parts.now c.loop-place.place part c.loop-place-test.true
@@ -49,10 +48,10 @@ loop-place-preserved c =
           (rest (drop (c.loop-place.place + 1) c.args.parts.now))
           ∙ ap (λ s. map (slot_read w) made ++ s ∷ rest (drop (c.loop-place.place + 1) c.args.parts.now))
           (c.in_ok-next.ensures.value w reads)
-          ∙ ap (λ xs. map (slot_read w) made ++ xs) (sym (slots_next c.args.net.now failures d c.loop-place.place
+          ∙ ap (λ xs. map (slot_read w) made ++ xs) (sym (slots_next c.args.net.now.files failures d c.loop-place.place
           (open_of w part) (map (open_of w) (drop (c.loop-place.place + 1) c.args.parts.now))))
           ∙ ap (λ parts. map (slot_read w) made
-          ++ slots_of c.args.net.now failures d c.loop-place.place (map (open_of w) parts))
+          ++ slots_of c.args.net.now.files failures d c.loop-place.place (map (open_of w) parts))
           (sym left)
           ∙ c.loop-place.invariant.value w (c.slot_at_place.ensures.builds.reads w reads);
     }

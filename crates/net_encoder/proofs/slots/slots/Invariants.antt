@@ -1,5 +1,4 @@
 use Rattle.std.proofs.Common.{◌≡◌, ◌≤◌, ◌++◌, drop, map}
-use Rattle.net_model.specs.Tracked.{tracked_of}
 use Rattle.sym_policy.specs.Held.{failures_of}
 use Rattle.sym_policy.specs.Records.{address_of}
 use Rattle.sym_rib.specs.Worlds.{slots_end, slot_of as slot_read}
@@ -15,9 +14,9 @@ abbrev pub invariant-loop-place : goal.invariant-loop-place
 invariant-loop-place l = record {
   builds : Builds l.fn.terms l.terms;
   within : slots_end l.made ≤ size l.terms;
-  rows : HaveTracked (tracked_of l.net) l.made;
+  rows : HaveTracked l.net.tracked l.made;
   plain : (w : Reading) → Reads w l.terms → AreBare w l.made;
   value : (w : Reading) → Reads w l.terms → map (slot_read w) l.made
-      ++ slots_of l.net (failures_of w l.sym) (address_of w l.dst) l.place (map (open_of w) (drop l.place l.parts))
-      ≡ slots_of l.net (failures_of w l.sym) (address_of w l.dst) 0 (map (open_of w) l.parts);
+      ++ slots_of l.net.files (failures_of w l.sym) (address_of w l.dst) l.place (map (open_of w) (drop l.place l.parts))
+      ≡ slots_of l.net.files (failures_of w l.sym) (address_of w l.dst) 0 (map (open_of w) l.parts);
 }

@@ -16,8 +16,8 @@ invariant-loop-place l = record {
   within : l.all.0 < size l.terms;
   value : (w : Reading) → Reads w l.terms → AreBare w l.slots →
       map (slot_read w) l.slots
-      ≡ slots_of l.net (failures_of w l.sym) (address_of w l.dst) 0 (map (open_of w) l.parts) →
-      (at w l.all && all_hold l.net (failures_of w l.sym) (address_of w l.dst) (tables_of w l.slots) l.place
+      ≡ slots_of l.net.files (failures_of w l.sym) (address_of w l.dst) 0 (map (open_of w) l.parts) →
+      (at w l.all && all_hold l.net.files (failures_of w l.sym) (address_of w l.dst) (tables_of w l.slots) l.place
       (map (open_of w) (drop l.place l.parts)))
-      ≡ all_hold l.net (failures_of w l.sym) (address_of w l.dst) (tables_of w l.slots) 0 (map (open_of w) l.parts);
+      ≡ all_hold l.net.files (failures_of w l.sym) (address_of w l.dst) (tables_of w l.slots) 0 (map (open_of w) l.parts);
 }

@@ -1,4 +1,4 @@
-use Rattle.net_model.proofs.Equations.{solution_is}
+use Rattle.net_parts.proofs.Equations.{solution_is}
 use Rattle.net_model.proofs.laws.distance_equations_law.Goals as goal
 
 pub returns : goal.returns

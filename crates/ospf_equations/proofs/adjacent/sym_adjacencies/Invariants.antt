@@ -14,6 +14,6 @@ invariant-loop-a l = record {
   builds : Builds l.fn.terms l.terms;
   within : ups_end l.made ≤ size l.terms;
   value : (w : Reading) → Reads w l.terms → (tables : Tables) (p : Prefix) → offers_read w tables p l.made
-      ++ offers_by l.net (failures_of w l.sym) tables l.router p (drop l.a-index l.adjacencies)
-      ≡ offers_by l.net (failures_of w l.sym) tables l.router p l.adjacencies;
+      ++ offers_by l.net.files (failures_of w l.sym) tables l.router p (drop l.a-index l.adjacencies)
+      ≡ offers_by l.net.files (failures_of w l.sym) tables l.router p l.adjacencies;
 }

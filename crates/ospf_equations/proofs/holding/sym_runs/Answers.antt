@@ -19,7 +19,7 @@ returns-in_ok-made-in-Some-clause-value c = λ w reads file process found runs b
     let stands : slice_get c.args.slots.now place ≡ Some slot =
     sym c.slot_for.ensures.place ∙ ap option_copied c.in-Some.is in
     let read = read_at w c.args.slots.now place ∙ ap (option_map (slot_read w)) stands in
-    let same = some_same (slot_read w slot) (slot_of c.args.net.now (failures_of w c.args.sym.now)
+    let same = some_same (slot_read w slot) (slot_of c.args.net.now.files (failures_of w c.args.sym.now)
     (address_of w c.args.dst.now) c.args.router c.args.len (open_of w c.args.part.now)) (sym read ∙ there) in
     c.in_ok-made-in-Some.ensures.value w reads file process found runs
     (all_found (λ (s : SymSlot). bgp_of w s.bgp ≡ Option.None) c.args.slots.now place slot bare stands) read same

@@ -1,6 +1,6 @@
 use Rattle.std.proofs.Common.{◌≡◌, ◌<◌, ◌||◌, drop}
 use Rattle.std.specs.List.{filter_map, list_any}
-use Rattle.net_model.specs.OspfRoutes.{is_as_good}
+use Rattle.net_parts.specs.OspfRoutes.{is_as_good}
 use Rattle.sym_policy.specs.Held.{ospf_at, ospf_of}
 use Rattle.term_store.specs.Terms.{Reading, at, size}
 use Rattle.term_store.specs.Reading.{Reads, Builds}

@@ -4,9 +4,8 @@ use Rattle.std.specs.List.{filter_map, list_any}
 use Rattle.std.specs.Option.{option_map_or}
 use Rattle.mw_text.specs.Address.{prefix_at}
 use Rattle.route_record.specs.declared.OspfRec.{OspfRec}
-use Rattle.net_model.specs.Ospf.{adjacencies}
-use Rattle.net_model.specs.OspfRoutes.{first_best, is_as_good}
-use Rattle.net_model.specs.Tracked.{tracked_of}
+use Rattle.net_parts.specs.Ospf.{adjacencies}
+use Rattle.net_parts.specs.OspfRoutes.{first_best, is_as_good}
 use Rattle.term_store.specs.Terms.{at}
 use Rattle.sym_policy.specs.Held.{failures_of, ospf_of}
 use Rattle.sym_policy.specs.Records.{address_of}
@@ -25,12 +24,12 @@ returns-clause-value c = λ w reads file process found runs bare there same.
     let r2 = c.sym_held.ensures.builds.reads w r3 in
     let r1 = c.sym_as_good.ensures.builds.reads w r2 in
     let part = open_of w c.args.part.now in
-    let offers = offers_by c.args.net.now (failures_of w c.args.sym.now) (tables_of w c.args.slots.now) c.args.router
-    (prefix_at (address_of w c.args.dst.now) c.args.len) (adjacencies c.args.net.now) in
+    let offers = offers_by c.args.net.now.files (failures_of w c.args.sym.now) (tables_of w c.args.slots.now) c.args.router
+    (prefix_at (address_of w c.args.dst.now) c.args.len) (adjacencies c.args.net.now.files) in
     let own = c.in_ok-own.ensures.value w r1 file process (slot_read w c.args.slot.now) found runs
     (record {
       ospf = refl;
-      bgp = bare_stands w (tracked_of c.args.net.now) c.args.slot.now.bgp bare;
+      bgp = bare_stands w c.args.net.now.tracked c.args.slot.now.bgp bare;
       rib = refl;
     }) in
     let good = c.in_ok-good.ensures.value w r2 in
@@ -42,6 +41,6 @@ returns-clause-value c = λ w reads file process found runs bare there same.
     (own_good ∙ agree_is part.own (at w c.in_ok-good.good) ∙ ap (beq part.own) (good
     ∙ ap (λ (rs : List OspfRec). option_map_or (λ h. list_any (λ o. is_as_good o h) rs) part.ospf Bool.false)
     (ap (filter_map (ospf_of w)) c.as_slice.ensures ∙ own)))
-    ∙ sym (wanted_is c.args.net.now (failures_of w c.args.sym.now) (address_of w c.args.dst.now)
+    ∙ sym (wanted_is c.args.net.now.files (failures_of w c.args.sym.now) (address_of w c.args.dst.now)
     (tables_of w c.args.slots.now) c.args.router c.args.len part file process
     (slot_read w c.args.slot.now) runs there same)

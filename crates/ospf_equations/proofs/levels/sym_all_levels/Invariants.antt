@@ -1,6 +1,6 @@
 use Rattle.std.proofs.Common.{◌≡◌, ◌<◌, ◌++◌, true}
 use Rattle.std.specs.List.{filter_map}
-use Rattle.net_model.specs.OspfRoutes.{first_best}
+use Rattle.net_parts.specs.OspfRoutes.{first_best}
 use Rattle.sym_policy.specs.Held.{ospf_of}
 use Rattle.sym_rib.specs.Worlds.{tables_of}
 use Rattle.term_store.specs.Terms.{Reading, at, size}

@@ -1,8 +1,8 @@
 use Rattle.std.proofs.Common.{◌≡◌, ◌≤◌, ◌++◌, ap, ap₂, subst, sym, ◌∙◌, true, List}
 use Rattle.std.specs.List.{filter_map}
 use Rattle.route_record.specs.declared.OspfRec.{OspfRec}
-use Rattle.net_model.specs.Ospf.{adjacencies}
-use Rattle.net_model.specs.OspfRoutes.{first_best}
+use Rattle.net_parts.specs.Ospf.{adjacencies}
+use Rattle.net_parts.specs.OspfRoutes.{first_best}
 use Rattle.term_store.specs.Terms.{at, size}
 use Rattle.sym_policy.specs.declared.records.SymOspf.{SymOspf}
 use Rattle.sym_policy.specs.Held.{failures_of, ospf_of}
@@ -33,7 +33,7 @@ returns-clause-value c = λ w reads.
     let r1 = c.with_offers.ensures.builds.reads w r2 in
     let r0 = c.sym_all_levels.ensures.builds.reads w r1 in
     let held = ospf_of w c.args.held.now in
-    let files = c.args.net.now in
+    let files = c.args.net.now.files in
     let failures = failures_of w c.args.sym.now in
     let tables = tables_of w c.args.slots.now in
     let p = prefix_of w c.args.dst.now c.args.len in

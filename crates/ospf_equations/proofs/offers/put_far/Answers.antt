@@ -1,6 +1,6 @@
 use Rattle.std.proofs.Common.{sym}
 use Rattle.std.specs.List.{filter_map}
-use Rattle.net_model.specs.OspfRoutes.{offer_over}
+use Rattle.net_parts.specs.OspfRoutes.{offer_over}
 use Rattle.term_store.specs.Terms.{at}
 use Rattle.sym_policy.specs.Held.{ospf_of}
 use Rattle.sym_policy.specs.Records.{prefix_of}

@@ -5,7 +5,7 @@ use Rattle.std.proofs.lemmas.List.Elements.{filter_map-append}
 use Rattle.ios_ast.specs.declared.file.File.{File}
 use Rattle.ios_ast.specs.declared.ospf.Ospf.{Ospf}
 use Rattle.route_record.specs.declared.OspfRec.{OspfRec}
-use Rattle.net_model.specs.Origins.{redistributed}
+use Rattle.net_parts.specs.Origins.{redistributed}
 use Rattle.term_store.specs.Terms.{size}
 use Rattle.sym_policy.specs.declared.records.SymOspf.{SymOspf}
 use Rattle.sym_policy.specs.Held.{failures_of, ospf_end, ospf_of}
@@ -39,5 +39,5 @@ returns-clause-value c = λ w reads file process held found runs stands.
     ∙ filter_map-append (ospf_of w) c.in_ok-own.own c.in_ok-taken.taken
     ∙ ap (λ rs. rs ++ filter_map (ospf_of w) c.in_ok-taken.taken)
     (c.in_ok-own.ensures.value w (c.sym_redistribute.ensures.builds.reads w reads))
-    ∙ own_is c.args.net.now failures c.args.router file process p held
+    ∙ own_is c.args.net.now.files failures c.args.router file process p held
     (filter_map (ospf_of w) c.in_ok-taken.taken) taken

@@ -23,6 +23,6 @@ returns-clause-value c = λ w reads.
     ∙ ap (λ o. filter_map (ospf_of w) c.args.made.now ++ option_to_list o)
     (c.in_ok-next.ensures.value w reads
     ∙ ap (λ b. if b then Some (internal_route c.args.x.now.cost) else None) (c.in_ok-valid.ensures.value w r2)
-    ∙ origin_put c.args.net.now (failures_of w c.args.sym.now) c.args.router p c.args.x.now
+    ∙ origin_put c.args.net.now.files (failures_of w c.args.sym.now) c.args.router p c.args.x.now
     (at w c.in_ok-here.here) (at w c.in_ok-up.up)
     (eq-eqb c.args.x.now.at.id.router c.args.router c.if-x-router.false) here (c.in_ok-up.ensures.value w r1))

@@ -1,6 +1,6 @@
 use Rattle.std.proofs.Common.{length}
 use Rattle.proto_bgp.specs.Places.{ArePlaces}
-use Rattle.net_model.specs.Decisions.{to_cost, after_cost}
+use Rattle.net_parts.specs.Decisions.{to_cost, after_cost}
 use Rattle.proto_bgp.proofs.StepLaws.{early_law, late_law, places_stay}
 use Rattle.proto_bgp.proofs.decision.survivors.Goals as goal
 

@@ -5,4 +5,4 @@ use Rattle.proto_ospf.proofs.states.receivers.Given as goal
 
 -- those so far are the first
 abbrev pub invariant-loop-router : goal.invariant-loop-router
-invariant-loop-router l = l.routers-inside.items.items ≡ map (receiver l.net l.failures) (range_with_len 0 l.router)
+invariant-loop-router l = l.routers-inside.items.items ≡ map (receiver l.net.files l.failures) (range_with_len 0 l.router)

@@ -1,6 +1,6 @@
 use Rattle.std.proofs.Common.{◌≡◌, ◌++◌, drop}
 use Rattle.std.specs.List.{filter_map}
-use Rattle.net_model.specs.Origins as origins
+use Rattle.net_parts.specs.Origins as origins
 use Rattle.proto_rib.proofs.into_ospf.by_lines.Given as goal
 
 -- the records so far, with those of the lines that are left, are all

@@ -1,6 +1,6 @@
 use Rattle.std.proofs.Common.{◌≡◌, ◌++◌, drop}
 use Rattle.std.specs.List.{filter_map}
-use Rattle.net_model.specs.Origins as origins
+use Rattle.net_parts.specs.Origins as origins
 use Rattle.proto_rib.proofs.local.by_networks.Given as goal
 
 -- the routes so far, with those of the lines that are left, are all

@@ -1,7 +1,7 @@
 use Rattle.std.proofs.Common.{◌≡◌, drop, map}
 use Rattle.std.specs.Prelude.{fold}
 use Rattle.route_record.specs.declared.RibSource.TheVariants.{Static}
-use Rattle.net_model.specs.Routing.{candidates, closer, least_distance, static_routes}
+use Rattle.net_parts.specs.Routing.{candidates, closer, least_distance, static_routes}
 use Rattle.proto_rib.proofs.tables.entry_of.Given as goal
 
 -- the best candidate so far, and the static routes that are left

@@ -7,7 +7,7 @@ use Rattle.proto_rib.proofs.tables.tables_of.Goals as goal
 
 pub loop-place-preserved : goal.loop-place-preserved
 loop-place-preserved c =
-    let files = c.args.net.now in
+    let files = c.args.net.now.files in
     let before = c.loop-place.slots-inside.items.items in
     let items = c.in_ok-push.ensures.items in
     let here : IsSlotAt files c.args.d (length before) c.in_ok-slot.slot =
@@ -24,11 +24,11 @@ loop-place-preserved c =
 
 pub returns-clause-stable : goal.returns-clause-stable
 returns-clause-stable c environment =
-    stable-from_places c.args.net.now c.args.d c.loop-place.slots-inside.items.items environment c.requires.plain
+    stable-from_places c.args.net.now.files c.args.d c.loop-place.slots-inside.items.items environment c.requires.plain
     (omega (arith, c.loop-place.invariant.0, ap length c.routers-routers.ensures.all)) c.read_tables.ensures
     c.loop-place.invariant.1
 
 pub returns-clause-only : goal.returns-clause-only
 returns-clause-only c environment other =
-    stable-only c.args.net.now c.args.d c.loop-place.slots-inside.items.items environment other c.requires.plain
+    stable-only c.args.net.now.files c.args.d c.loop-place.slots-inside.items.items environment other c.requires.plain
     (omega (arith, c.loop-place.invariant.0, ap length c.routers-routers.ensures.all)) c.loop-place.invariant.1

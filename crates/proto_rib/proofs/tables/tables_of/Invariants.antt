@@ -8,4 +8,4 @@ use Rattle.proto_rib.proofs.tables.tables_of.Given as goal
 abbrev pub invariant-loop-place : goal.invariant-loop-place
 invariant-loop-place l =
     (length l.slots-inside.items.items ≡ l.place) ×
-    ((k : ℕ) (slot : Slot) → slice_get l.slots-inside.items.items k ≡ Some slot → IsSlotAt l.net l.d k slot)
+    ((k : ℕ) (slot : Slot) → slice_get l.slots-inside.items.items k ≡ Some slot → IsSlotAt l.net.files l.d k slot)

@@ -6,19 +6,19 @@ use Rattle.question_lang.proofs.reader.read_all.Goals as goal
 
 pub loop-line-init : goal.loop-line-init
 loop-line-init c = rw c.new-questions.ensures
-    (read-none (next_asked c.args.net.now) [], λ k question less. absurd (omega arith), omega arith)
+    (read-none (next_asked c.args.net.now.files) [], λ k question less. absurd (omega arith), omega arith)
 
 pub returns-in_err-questions-clause-refused : goal.returns-in_err-questions-clause-refused
 returns-in_err-questions-clause-refused c =
     let p = err_from_is_err_and c.from_residual.result c.from_residual.ensures.1 in
     rw (p.1, p.2)
-    (λ other. read-refused (next_asked c.args.net.now) [] c.args.lines.now c.loop-line.line-index c.line-item.result
+    (λ other. read-refused (next_asked c.args.net.now.files) [] c.args.lines.now c.loop-line.line-index c.line-item.result
     c.loop-line.questions c.in_err-questions.field-0.0 c.loop-line.invariant.0 c.loop-line-test.true c.line-item.is
     (c.in_err-questions.ensures.refused other))
 
 pub loop-line-preserved : goal.loop-line-preserved
 loop-line-preserved c = (
-  read-one (next_asked c.args.net.now) [] c.args.lines.now c.loop-line.line-index c.line-item.result
+  read-one (next_asked c.args.net.now.files) [] c.args.lines.now c.loop-line.line-index c.line-item.result
       c.loop-line.questions c.in_ok-questions.questions c.loop-line.invariant.0 c.loop-line-test.true c.line-item.is
       c.in_ok-questions.ensures.ok,
   c.in_ok-questions.ensures.known,

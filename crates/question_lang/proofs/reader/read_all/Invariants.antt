@@ -8,5 +8,5 @@ use Rattle.question_lang.proofs.reader.read_all.Given as goal
 -- the questions so far are those of the lines so far; all that they name is there, and there are not too many
 abbrev pub invariant-loop-line : goal.invariant-loop-line
 invariant-loop-line l =
-    ReadTo (next_asked l.net) [] l.lines l.line-index l.questions × AreKnown l.net l.questions ×
+    ReadTo (next_asked l.net.files) [] l.lines l.line-index l.questions × AreKnown l.net.files l.questions ×
     (length l.questions ≤ MOST_QUESTIONS)

@@ -1,7 +1,7 @@
 use Rattle.std.proofs.Common.{Option, map, subst, sym}
 use Rattle.std.specs.Bool.{Decides}
 use Rattle.route_record.specs.declared.BgpRec.{BgpRec}
-use Rattle.net_model.specs.Decisions as decisions
+use Rattle.net_parts.specs.Decisions as decisions
 use Rattle.proto_bgp.specs.Places.{candidates_at}
 use Rattle.proto_bgp.specs.Steps.{seen}
 use Rattle.stable_replay.proofs.LeftOver.{held_decides}

@@ -1,8 +1,8 @@
 use Rattle.std.proofs.Common.{◌≡◌, ◌++◌, drop, filter, map}
 use Rattle.std.specs.Prelude.{◌==◌}
 use Rattle.std.specs.List.{filter_map}
-use Rattle.net_model.specs.Decisions.{learnt_candidate, numbered}
-use Rattle.net_model.specs.Sessions.{ends_of}
+use Rattle.net_parts.specs.Decisions.{learnt_candidate, numbered}
+use Rattle.net_parts.specs.Sessions.{ends_of}
 use Rattle.proto_bgp.specs.Steps.{seen}
 use Rattle.stable_replay.proofs.learnt.add_learnt.Given as goal
 
@@ -10,8 +10,8 @@ use Rattle.stable_replay.proofs.learnt.add_learnt.Given as goal
 abbrev pub invariant-loop-at : goal.invariant-loop-at
 invariant-loop-at l =
     map seen l.out-inside.items.items
-    ++ filter_map (learnt_candidate l.net l.failures l.env l.tables l.p)
-    (filter (λ e. e.1.router == l.router) (numbered l.at (drop l.at (ends_of l.net))))
+    ++ filter_map (learnt_candidate l.net.files l.failures l.env l.tables l.p)
+    (filter (λ e. e.1.router == l.router) (numbered l.at (drop l.at (ends_of l.net.files))))
     ≡ map seen l.fn.out
-    ++ filter_map (learnt_candidate l.net l.failures l.env l.tables l.p)
-    (filter (λ e. e.1.router == l.router) (numbered 0 (ends_of l.net)))
+    ++ filter_map (learnt_candidate l.net.files l.failures l.env l.tables l.p)
+    (filter (λ e. e.1.router == l.router) (numbered 0 (ends_of l.net.files)))

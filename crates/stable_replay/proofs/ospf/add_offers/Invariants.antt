@@ -1,6 +1,6 @@
 use Rattle.std.proofs.Common.{◌≡◌, ◌++◌, drop}
 use Rattle.std.specs.List.{filter_map}
-use Rattle.net_model.specs.OspfRoutes.{offer_over}
+use Rattle.net_parts.specs.OspfRoutes.{offer_over}
 use Rattle.stable_replay.proofs.ospf.add_offers.Given as goal
 
 -- the routes so far, with the offers over the adjacencies that are left, are all

@@ -6,5 +6,5 @@ pub returns-clause-value : goal.returns-clause-value
 returns-clause-value c = λ w reads.
     let made = c.in_ok-made.ensures in
     let on = c.in_ok-on.ensures in
-    made.value w reads (arrive c.args.net.now (packet_of w c.args.packet.now) c.args.a.now.to)
+    made.value w reads (arrive c.args.net.now.files (packet_of w c.args.packet.now) c.args.a.now.to)
     (on.value w (made.builds.reads w reads))

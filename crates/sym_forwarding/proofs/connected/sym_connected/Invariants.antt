@@ -15,7 +15,7 @@ invariant-loop-i l = record {
   builds : Builds l.fn.terms l.terms;
   within : forwarding_end l.rest ≤ size l.terms;
   value : (w : Reading) → Reads w l.terms → IsTwin (sought_by w l.aim)
-      (connected_over l.net (failures_of w l.sym) (packet_of w l.packet) l.router (prefix_of w l.packet.dst l.len)
+      (connected_over l.net.files (failures_of w l.sym) (packet_of w l.packet) l.router (prefix_of w l.packet.dst l.len)
       (drop l.i l.all))
       (forwarding_of w l.rest);
 }

@@ -3,7 +3,7 @@ use Rattle.std.specs.Prelude.{◌==◌}
 use Rattle.std.proofs.lemmas.Bool.{and_parts}
 use Rattle.mw_text.specs.declared.address.Prefix.{Prefix}
 use Rattle.mw_text.specs.Address.{same_prefix}
-use Rattle.net_model.specs.World.{is_up}
+use Rattle.net_parts.specs.World.{is_up}
 use Rattle.sym_policy.specs.Held.{failures_of}
 use Rattle.sym_policy.specs.Records.{prefix_of}
 use Rattle.sym_forwarding.specs.Aims.{sought_by}
@@ -23,7 +23,7 @@ returns-clause-value c = λ w reads others twin.
     let here = c.in_ok-here.ensures in
     let before = made.builds.reads w reads in
     let x = c.args.x.now in
-    let net = c.args.net.now in
+    let net = c.args.net.now.files in
     let failures = failures_of w c.args.sym.now in
     let packet = packet_of w c.args.packet.now in
     let p = prefix_of w c.args.packet.now.dst c.args.len in

@@ -1,6 +1,6 @@
 use Rattle.question_lang.specs.declared.walk.End.TheVariants.{Delivered}
 use Rattle.question_lang.specs.declared.walk.Hop.TheVariants.{Ends}
-use Rattle.net_model.specs.Interfaces.{addressed}
+use Rattle.net_interfaces.specs.Interfaces.{addressed}
 use Rattle.sym_policy.specs.Held.{failures_of}
 use Rattle.sym_policy.specs.Records.{address_of}
 use Rattle.sym_forwarding.specs.Owners.{owner_hop}
@@ -14,6 +14,6 @@ returns-clause-value c = λ w reads.
     let delivered = c.in_ok-delivered.ensures in
     let before = made.builds.reads w reads in
     made.value w reads
-    (owner_hop c.args.net.now (failures_of w c.args.sym.now) (packet_of w c.args.packet.now) c.args.x.now.subnet
-    (address_of w c.args.packet.now.dst) (Ends Delivered) (addressed c.args.net.now))
+    (owner_hop c.args.net.now.files (failures_of w c.args.sym.now) (packet_of w c.args.packet.now) c.args.x.now.subnet
+    (address_of w c.args.packet.now.dst) (Ends Delivered) (addressed c.args.net.now.files))
     (on.value w before (Ends Delivered) (delivered.value w (on.builds.reads w before)))

@@ -1,8 +1,8 @@
 use Rattle.std.proofs.Common.{◌-◌, ◌∙◌, ap, arith, rules, cond, get_or, length, Bool}
 use Rattle.mw_text.specs.declared.address.Prefix.{Prefix}
 use Rattle.mw_text.specs.Address.{covers}
-use Rattle.net_model.specs.Ospf.{advertised}
-use Rattle.net_model.specs.Sending.{is_on_least_walk}
+use Rattle.net_parts.specs.Ospf.{advertised}
+use Rattle.net_parts.specs.Sending.{is_on_least_walk}
 use Rattle.sym_policy.specs.Held.{failures_of}
 use Rattle.sym_policy.specs.Records.{address_of}
 use Rattle.sym_forwarding.proofs.LeastWalks.{leads_back}
@@ -11,7 +11,7 @@ use Rattle.sym_forwarding.proofs.distances.sym_leads.Goals as goal
 pub loop-k-preserved : goal.loop-k-preserved
 loop-k-preserved c =
     let step = c.in_ok-rest-2.ensures in
-    let net = c.args.net.now in
+    let net = c.args.net.now.files in
     let router = c.args.router in
     let none : Prefix = record { addr = record { 0 = 0 }; len = 0 } in
     let p = get_or c.advertised.result.now (c.loop-k.k - 1) none in

@@ -1,6 +1,6 @@
 use Rattle.std.proofs.Common.{◌∙◌, Bool, ap, cond, sym}
 use Rattle.mw_text.specs.Address.{covers}
-use Rattle.net_model.specs.Sending.{is_on_least_walk}
+use Rattle.net_parts.specs.Sending.{is_on_least_walk}
 use Rattle.sym_policy.specs.Held.{failures_of}
 use Rattle.sym_policy.specs.Records.{address_of}
 use Rattle.term_store.specs.Terms.{at}
@@ -11,7 +11,7 @@ returns-clause-value c = λ w reads has.
     let made = c.in_ok-made.ensures in
     let least = c.in_ok-least.ensures in
     let after = made.builds.reads w reads in
-    let on = is_on_least_walk c.args.net.now (failures_of w c.args.sym.now) c.args.router c.args.p.now c.args.x.now in
+    let on = is_on_least_walk c.args.net.now.files (failures_of w c.args.sym.now) c.args.router c.args.p.now c.args.x.now in
     made.value w reads
     ∙ ap (λ (b : Bool). cond b (at w c.in_ok-least.least) (at w c.args.behind))
     (c.in_ok-inside.ensures.value w (least.builds.reads w after))
@@ -20,7 +20,7 @@ returns-clause-value c = λ w reads has.
 
 pub returns-then-is_never-clause-value : goal.returns-then-is_never-clause-value
 returns-then-is_never-clause-value c = λ w reads has.
-    let net = c.args.net.now in
+    let net = c.args.net.now.files in
     let fails = sym (c.in_ok-inside.ensures.value w reads) ∙ c.is_never.ensures.never c.if-is_never.true w reads in
     sym (ap (λ (b : Bool). cond b (is_on_least_walk net (failures_of w c.args.sym.now) c.args.router c.args.p.now
     c.args.x.now) (at w c.args.behind)) fails)

@@ -1,5 +1,5 @@
 use Rattle.std.proofs.Common.{List, ◌≡◌, ◌∙◌, ap, sym, subst, arith, rules, drop}
-use Rattle.net_model.specs.declared.interfaces.Addressed.{Addressed}
+use Rattle.net_interfaces.specs.declared.interfaces.Addressed.{Addressed}
 use Rattle.question_lang.specs.declared.walk.Hop.{Hop}
 use Rattle.sym_policy.specs.Held.{failures_of}
 use Rattle.sym_policy.specs.Records.{address_of}
@@ -16,7 +16,7 @@ loop-i-preserved c = record {
   builds = search rules;
   within = search rules;
   value = λ w reads.
-      let net = c.args.net.now in
+      let net = c.args.net.now.files in
       let failures = failures_of w c.args.sym.now in
       let packet = packet_of w c.args.packet.now in
       let key = address_of w c.args.a.now in
@@ -34,6 +34,6 @@ returns-clause-value c = λ w reads.
     let none : c.loop-i.i ≡ 0 = omega arith in
     let all = c.addresses-all.result.now in
     let P : List Addressed → Type 0 = λ xs. IsTwin (sought_by w c.args.aim.now)
-    (over_hops c.args.net.now (failures_of w c.args.sym.now) (packet_of w c.args.packet.now) c.args.router
+    (over_hops c.args.net.now.files (failures_of w c.args.sym.now) (packet_of w c.args.packet.now) c.args.router
     (address_of w c.args.a.now) xs) (forwarding_of w c.loop-i.rest) in
     subst P (ap (λ j. drop j all) none ∙ c.addresses-all.ensures) (c.loop-i.invariant.value w reads)

@@ -15,6 +15,6 @@ invariant-loop-i l = record {
   builds : Builds l.fn.terms l.terms;
   within : forwarding_end l.rest ≤ size l.terms;
   value : (w : Reading) → Reads w l.terms → IsTwin (sought_by w l.aim)
-      (over_hops l.net (failures_of w l.sym) (packet_of w l.packet) l.router (address_of w l.a) (drop l.i l.all))
+      (over_hops l.net.files (failures_of w l.sym) (packet_of w l.packet) l.router (address_of w l.a) (drop l.i l.all))
       (forwarding_of w l.rest);
 }

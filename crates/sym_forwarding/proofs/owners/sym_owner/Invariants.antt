@@ -18,7 +18,7 @@ invariant-loop-i l = record {
   value : (w : Reading) → Reads w l.terms → (hop : Hop) → IsTwin (sought_by w l.aim) (hop ∷ []) (forwarding_of w
       l.fn.other) →
       IsTwin (sought_by w l.aim)
-      (owner_hop l.net (failures_of w l.sym) (packet_of w l.packet) l.subnet (address_of w l.a) hop (drop l.i l.all)
+      (owner_hop l.net.files (failures_of w l.sym) (packet_of w l.packet) l.subnet (address_of w l.a) hop (drop l.i l.all)
       ∷ [])
       (forwarding_of w l.rest);
 }

@@ -1,6 +1,6 @@
 use Rattle.std.proofs.Common.{List, subst, arith, rules, take}
-use Rattle.net_model.specs.declared.interfaces.Addressed.{Addressed}
-use Rattle.net_model.specs.Interfaces.{addressed}
+use Rattle.net_interfaces.specs.declared.interfaces.Addressed.{Addressed}
+use Rattle.net_interfaces.specs.Interfaces.{addressed}
 use Rattle.sym_policy.specs.Held.{failures_of}
 use Rattle.sym_policy.specs.Records.{address_of}
 use Rattle.sym_forwarding.specs.Aims.{sought_by}
@@ -16,8 +16,8 @@ loop-x-init c = record {
   within = search rules;
   value = λ w reads.
       c.in_ok-first.ensures.value w reads (sought_by w c.args.aim.now)
-      (reaches c.args.net.now (failures_of w c.args.sym.now) c.args.router (address_of w c.args.a.now))
-      (sent_to c.args.net.now (failures_of w c.args.sym.now) (packet_of w c.args.packet.now)
+      (reaches c.args.net.now.files (failures_of w c.args.sym.now) c.args.router (address_of w c.args.a.now))
+      (sent_to c.args.net.now.files (failures_of w c.args.sym.now) (packet_of w c.args.packet.now)
       (address_of w c.args.a.now));
 }
 
@@ -28,10 +28,10 @@ loop-x-preserved c = record {
   value = λ w reads.
       let step = c.in_ok-first-2.ensures in
       let all = c.addresses-x-items.result.now in
-      let xs = addressed c.args.net.now in
+      let xs = addressed c.args.net.now.files in
       let P : List Addressed → Type 0 = λ ys. IsFirstIn w (sought_by w c.args.aim.now)
-      (reaches c.args.net.now (failures_of w c.args.sym.now) c.args.router (address_of w c.args.a.now))
-      (sent_to c.args.net.now (failures_of w c.args.sym.now) (packet_of w c.args.packet.now)
+      (reaches c.args.net.now.files (failures_of w c.args.sym.now) c.args.router (address_of w c.args.a.now))
+      (sent_to c.args.net.now.files (failures_of w c.args.sym.now) (packet_of w c.args.packet.now)
       (address_of w c.args.a.now)) ys c.in_ok-first-2.first in
       subst P (taken_more all xs c.loop-x.x-index no_interface c.addresses-x-items.ensures
       (omega (arith, c.loop-x-test.true, c.loop-x.auto.x-index-end)))
@@ -42,8 +42,8 @@ pub returns-clause-value : goal.returns-clause-value
 returns-clause-value c = λ w reads.
     let all = c.addresses-x-items.result.now in
     let P : List Addressed → Type 0 = λ xs. IsFirstIn w (sought_by w c.args.aim.now)
-    (reaches c.args.net.now (failures_of w c.args.sym.now) c.args.router (address_of w c.args.a.now))
-    (sent_to c.args.net.now (failures_of w c.args.sym.now) (packet_of w c.args.packet.now)
+    (reaches c.args.net.now.files (failures_of w c.args.sym.now) c.args.router (address_of w c.args.a.now))
+    (sent_to c.args.net.now.files (failures_of w c.args.sym.now) (packet_of w c.args.packet.now)
     (address_of w c.args.a.now)) xs c.loop-x.first in
-    subst P (taken_all all (addressed c.args.net.now) c.loop-x.x-index c.addresses-x-items.ensures
+    subst P (taken_all all (addressed c.args.net.now.files) c.loop-x.x-index c.addresses-x-items.ensures
     (omega (arith, c.loop-x-test.false, c.loop-x.auto.x-index-end))) (c.loop-x.invariant.value w reads)

@@ -1,7 +1,7 @@
 use Rattle.std.proofs.Common.{◌≤◌, take}
 use Rattle.term_store.specs.Terms.{Reading, size}
 use Rattle.term_store.specs.Reading.{Reads, Builds}
-use Rattle.net_model.specs.Interfaces.{addressed}
+use Rattle.net_interfaces.specs.Interfaces.{addressed}
 use Rattle.sym_policy.specs.Held.{failures_of}
 use Rattle.sym_policy.specs.Records.{address_of}
 use Rattle.sym_forwarding.specs.Aims.{sought_by}
@@ -15,7 +15,7 @@ invariant-loop-x l = record {
   builds : Builds l.fn.terms l.terms;
   within : first_end l.first ≤ size l.terms;
   value : (w : Reading) → Reads w l.terms → IsFirstIn w (sought_by w l.aim)
-      (reaches l.net (failures_of w l.sym) l.router (address_of w l.a))
-      (sent_to l.net (failures_of w l.sym) (packet_of w l.packet) (address_of w l.a))
-      (take l.x-index (addressed l.net)) l.first;
+      (reaches l.net.files (failures_of w l.sym) l.router (address_of w l.a))
+      (sent_to l.net.files (failures_of w l.sym) (packet_of w l.packet) (address_of w l.a))
+      (take l.x-index (addressed l.net.files)) l.first;
 }

@@ -1,6 +1,6 @@
 use Rattle.std.proofs.Common.{List, subst, arith, rules, take}
-use Rattle.net_model.specs.declared.interfaces.Addressed.{Addressed}
-use Rattle.net_model.specs.Interfaces.{addressed}
+use Rattle.net_interfaces.specs.declared.interfaces.Addressed.{Addressed}
+use Rattle.net_interfaces.specs.Interfaces.{addressed}
 use Rattle.sym_policy.specs.Held.{failures_of}
 use Rattle.sym_policy.specs.Records.{address_of}
 use Rattle.sym_forwarding.specs.Aims.{sought_by}
@@ -16,8 +16,8 @@ loop-x-init c = record {
   within = search rules;
   value = λ w reads.
       c.in_ok-first.ensures.value w reads (sought_by w c.args.aim.now)
-      (is_owner c.args.net.now (failures_of w c.args.sym.now) c.args.subnet.now (address_of w c.args.a.now))
-      (owner_arrives c.args.net.now (packet_of w c.args.packet.now));
+      (is_owner c.args.net.now.files (failures_of w c.args.sym.now) c.args.subnet.now (address_of w c.args.a.now))
+      (owner_arrives c.args.net.now.files (packet_of w c.args.packet.now));
 }
 
 pub loop-x-preserved : goal.loop-x-preserved
@@ -27,10 +27,10 @@ loop-x-preserved c = record {
   value = λ w reads.
       let step = c.in_ok-first-2.ensures in
       let all = c.addresses-x-items.result.now in
-      let xs = addressed c.args.net.now in
+      let xs = addressed c.args.net.now.files in
       let P : List Addressed → Type 0 = λ ys. IsFirstIn w (sought_by w c.args.aim.now)
-      (is_owner c.args.net.now (failures_of w c.args.sym.now) c.args.subnet.now (address_of w c.args.a.now))
-      (owner_arrives c.args.net.now (packet_of w c.args.packet.now)) ys c.in_ok-first-2.first in
+      (is_owner c.args.net.now.files (failures_of w c.args.sym.now) c.args.subnet.now (address_of w c.args.a.now))
+      (owner_arrives c.args.net.now.files (packet_of w c.args.packet.now)) ys c.in_ok-first-2.first in
       subst P (taken_more all xs c.loop-x.x-index no_interface c.addresses-x-items.ensures
       (omega (arith, c.loop-x-test.true, c.loop-x.auto.x-index-end)))
       (step.value w reads (take c.loop-x.x-index xs) (c.loop-x.invariant.value w (step.builds.reads w reads)));
@@ -40,7 +40,7 @@ pub returns-clause-value : goal.returns-clause-value
 returns-clause-value c = λ w reads.
     let all = c.addresses-x-items.result.now in
     let P : List Addressed → Type 0 = λ xs. IsFirstIn w (sought_by w c.args.aim.now)
-    (is_owner c.args.net.now (failures_of w c.args.sym.now) c.args.subnet.now (address_of w c.args.a.now))
-    (owner_arrives c.args.net.now (packet_of w c.args.packet.now)) xs c.loop-x.first in
-    subst P (taken_all all (addressed c.args.net.now) c.loop-x.x-index c.addresses-x-items.ensures
+    (is_owner c.args.net.now.files (failures_of w c.args.sym.now) c.args.subnet.now (address_of w c.args.a.now))
+    (owner_arrives c.args.net.now.files (packet_of w c.args.packet.now)) xs c.loop-x.first in
+    subst P (taken_all all (addressed c.args.net.now.files) c.loop-x.x-index c.addresses-x-items.ensures
     (omega (arith, c.loop-x-test.false, c.loop-x.auto.x-index-end))) (c.loop-x.invariant.value w reads)

@@ -1,7 +1,7 @@
 use Rattle.std.proofs.Common.{◌≤◌, take}
 use Rattle.term_store.specs.Terms.{Reading, size}
 use Rattle.term_store.specs.Reading.{Reads, Builds}
-use Rattle.net_model.specs.Interfaces.{addressed}
+use Rattle.net_interfaces.specs.Interfaces.{addressed}
 use Rattle.sym_policy.specs.Held.{failures_of}
 use Rattle.sym_policy.specs.Records.{address_of}
 use Rattle.sym_forwarding.specs.Aims.{sought_by}
@@ -15,6 +15,6 @@ invariant-loop-x l = record {
   builds : Builds l.fn.terms l.terms;
   within : first_end l.first ≤ size l.terms;
   value : (w : Reading) → Reads w l.terms → IsFirstIn w (sought_by w l.aim)
-      (is_owner l.net (failures_of w l.sym) l.subnet (address_of w l.a)) (owner_arrives l.net (packet_of w l.packet))
-      (take l.x-index (addressed l.net)) l.first;
+      (is_owner l.net.files (failures_of w l.sym) l.subnet (address_of w l.a)) (owner_arrives l.net.files (packet_of w l.packet))
+      (take l.x-index (addressed l.net.files)) l.first;
 }

@@ -15,8 +15,8 @@ returns-clause-value c = λ w reads xs before.
     let to = c.in_ok-to.ensures in
     let after_to = made.builds.reads w reads in
     made.value w reads (sought_by w c.args.aim.now)
-    (reaches c.args.net.now (failures_of w c.args.sym.now) c.args.router (address_of w c.args.a.now))
-    (sent_to c.args.net.now (failures_of w c.args.sym.now) (packet_of w c.args.packet.now) (address_of w c.args.a.now))
+    (reaches c.args.net.now.files (failures_of w c.args.sym.now) c.args.router (address_of w c.args.a.now))
+    (sent_to c.args.net.now.files (failures_of w c.args.sym.now) (packet_of w c.args.packet.now) (address_of w c.args.a.now))
     xs c.args.x.now before
     (c.in_ok-here.ensures.value w (to.builds.reads w after_to)) (to.value w after_to)
 
@@ -24,6 +24,6 @@ pub returns-then-is_never-clause-value : goal.returns-then-is_never-clause-value
 returns-then-is_never-clause-value c = λ w reads xs before.
     let fails = sym (c.in_ok-here.ensures.value w reads) ∙ c.is_never.ensures.never c.if-is_never.true w reads in
     first_past (sought_by w c.args.aim.now)
-    (reaches c.args.net.now (failures_of w c.args.sym.now) c.args.router (address_of w c.args.a.now))
-    (sent_to c.args.net.now (failures_of w c.args.sym.now) (packet_of w c.args.packet.now) (address_of w c.args.a.now))
+    (reaches c.args.net.now.files (failures_of w c.args.sym.now) c.args.router (address_of w c.args.a.now))
+    (sent_to c.args.net.now.files (failures_of w c.args.sym.now) (packet_of w c.args.packet.now) (address_of w c.args.a.now))
     xs c.args.x.now (at w c.args.before.any) (forwarding_of w c.args.before.to) fails before

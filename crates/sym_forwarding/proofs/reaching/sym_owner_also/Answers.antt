@@ -16,13 +16,13 @@ returns-clause-value c = λ w reads xs before.
     let to = c.in_ok-to.ensures in
     let after_to = made.builds.reads w reads in
     made.value w reads (sought_by w c.args.aim.now)
-    (is_owner c.args.net.now (failures_of w c.args.sym.now) c.args.subnet.now (address_of w c.args.a.now))
-    (owner_arrives c.args.net.now (packet_of w c.args.packet.now)) xs c.args.x.now before
+    (is_owner c.args.net.now.files (failures_of w c.args.sym.now) c.args.subnet.now (address_of w c.args.a.now))
+    (owner_arrives c.args.net.now.files (packet_of w c.args.packet.now)) xs c.args.x.now before
     (c.in_ok-here.ensures.value w (to.builds.reads w after_to)) (to.value w after_to)
 
 pub returns-then-ne-clause-value : goal.returns-then-ne-clause-value
 returns-then-ne-clause-value c = λ w reads xs before.
-    let net = c.args.net.now in
+    let net = c.args.net.now.files in
     let failures = failures_of w c.args.sym.now in
     let a = address_of w c.args.a.now in
     let other : same_prefix c.args.x.now.subnet c.args.subnet.now ≡ false = search rules in

@@ -1,6 +1,6 @@
 use Rattle.std.proofs.Common.{List, [], ◌∷◌, subst}
 use Rattle.std.specs.Option.{option_map_or}
-use Rattle.net_model.specs.Interfaces.{addressed}
+use Rattle.net_interfaces.specs.Interfaces.{addressed}
 use Rattle.question_lang.specs.declared.walk.End.TheVariants.{Left}
 use Rattle.question_lang.specs.declared.walk.Hop.{Hop}
 use Rattle.question_lang.specs.declared.walk.Hop.TheVariants.{Ends}
@@ -25,7 +25,7 @@ returns-clause-value c = λ w reads.
     let after_on = made.builds.reads w reads in
     let after_first = on.builds.reads w after_on in
     let after_left = first.builds.reads w after_first in
-    let net = c.args.net.now in
+    let net = c.args.net.now.files in
     let failures = failures_of w c.args.sym.now in
     let packet = packet_of w c.args.packet.now in
     let a = address_of w c.args.a.now in

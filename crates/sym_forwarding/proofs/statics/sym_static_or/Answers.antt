@@ -18,6 +18,6 @@ returns-clause-value c = λ w reads others twin.
     let route = c.args.route.now in
     united_twin (sought_by w c.args.aim.now) (at w c.in_ok-taken.taken)
     (is_taken (prefix_of w c.args.packet.now.dst c.args.len) (number w c.args.distance.now.nodes.items) route) others
-    (route_hops c.args.net.now (failures_of w c.args.sym.now) (packet_of w c.args.packet.now) c.args.router route)
+    (route_hops c.args.net.now.files (failures_of w c.args.sym.now) (packet_of w c.args.packet.now) c.args.router route)
     (forwarding_of w c.args.rest) (forwarding_of w c.in_ok-to.to) (forwarding_of w c.in_ok-made.made)
     (made.value w reads) (taken.value w (to.builds.reads w before)) twin (to.value w before)

@@ -17,7 +17,7 @@ loop-i-preserved c = record {
   builds = search rules;
   within = search rules;
   value = λ w reads.
-      let net = c.args.net.now in
+      let net = c.args.net.now.files in
       let failures = failures_of w c.args.sym.now in
       let packet = packet_of w c.args.packet.now in
       let key = prefix_of w c.args.packet.now.dst c.args.len in
@@ -38,7 +38,7 @@ returns-clause-value c = λ w reads.
     let none : c.loop-i.i ≡ 0 = omega arith in
     let all = c.args.routes.now in
     let P : List StaticRoute → Type 0 = λ xs. IsTwin (sought_by w c.args.aim.now)
-    (routes_hops c.args.net.now (failures_of w c.args.sym.now) (packet_of w c.args.packet.now) c.args.router
+    (routes_hops c.args.net.now.files (failures_of w c.args.sym.now) (packet_of w c.args.packet.now) c.args.router
     (prefix_of w c.args.packet.now.dst c.args.len) (number w c.args.distance.now.nodes.items) xs) (forwarding_of w
     c.loop-i.rest) in
     subst P (ap (λ j. drop j all) none) (c.loop-i.invariant.value w reads)

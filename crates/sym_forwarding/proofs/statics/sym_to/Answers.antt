@@ -1,6 +1,6 @@
 use Rattle.std.proofs.Common.{◌≡◌, ℕ, ap, subst}
 use Rattle.mw_text.specs.declared.address.Addr.{Addr}
-use Rattle.net_model.specs.Routing.{up_interfaces}
+use Rattle.net_parts.specs.Routing.{up_interfaces}
 use Rattle.question_lang.specs.Hops.{all_up, send_over}
 use Rattle.sym_policy.specs.Held.{failures_of}
 use Rattle.sym_forwarding.specs.Aims.{sought_by}
@@ -13,7 +13,7 @@ use Rattle.sym_forwarding.proofs.statics.sym_to.Goals as goal
 pub returns-clause-value : goal.returns-clause-value
 returns-clause-value c = λ w reads.
     let made = c.in_ok-made.ensures in
-    let net = c.args.net.now in
+    let net = c.args.net.now.files in
     let failures = failures_of w c.args.sym.now in
     let P : Addr → Type 0 = λ b. IsTwin (sought_by w c.args.aim.now)
     (send_over net (packet_of w c.args.packet.now) (all_up net failures) (up_interfaces net failures c.args.router) b)

@@ -21,7 +21,7 @@ returns-clause-value c = λ w reads has.
     let to = c.in_ok-to.ensures in
     let after_to = made.builds.reads w reads in
     let held = c.args.held.now in
-    let net = c.args.net.now in
+    let net = c.args.net.now.files in
     let failures = failures_of w c.args.sym.now in
     let packet = packet_of w c.args.packet.now in
     let sought = sought_by w c.args.aim.now in
@@ -37,7 +37,7 @@ pub returns-then-is_never-clause-value : goal.returns-then-is_never-clause-value
 returns-then-is_never-clause-value c = λ w reads has.
     let held = c.args.held.now in
     let sought = sought_by w c.args.aim.now in
-    let hops = hops_towards c.args.net.now (failures_of w c.args.sym.now) (packet_of w c.args.packet.now)
+    let hops = hops_towards c.args.net.now.files (failures_of w c.args.sym.now) (packet_of w c.args.packet.now)
     c.args.router in
     let P : Bool → Type 0 = λ b. IsTwin sought
     (option_map_or (λ (r : BgpRec). hops r.next_hop) (cond b (Some (route_towards (address_of w held.next_hop))) None)

@@ -1,6 +1,6 @@
 use Rattle.std.proofs.Common.{List, ◌≡◌, ◌∙◌, ap, sym, subst, arith, rules, drop, length}
 use Rattle.std.proofs.lemmas.List.{drop_all}
-use Rattle.net_model.specs.declared.adjacencies.Adjacency.{Adjacency}
+use Rattle.net_parts.specs.declared.adjacencies.Adjacency.{Adjacency}
 use Rattle.question_lang.specs.declared.walk.Hop.{Hop}
 use Rattle.sym_policy.specs.Held.{failures_of}
 use Rattle.sym_policy.specs.Records.{address_of}
@@ -20,7 +20,7 @@ loop-i-init c = record {
       let sought = sought_by w c.args.aim.now in
       let all = c.adjacencies-all.result.now in
       let P : List Adjacency → Type 0 = λ xs. IsTwin sought
-      (led_hops c.args.net.now (failures_of w c.args.sym.now) (packet_of w c.args.packet.now) c.args.router
+      (led_hops c.args.net.now.files (failures_of w c.args.sym.now) (packet_of w c.args.packet.now) c.args.router
       (address_of w c.args.a.now) xs) (forwarding_of w c.in_ok-rest.rest) in
       subst P (sym (drop_all (length all) all (omega arith))) (c.in_ok-rest.ensures.value w reads sought);
 }
@@ -30,7 +30,7 @@ loop-i-preserved c = record {
   builds = search rules;
   within = search rules;
   value = λ w reads has.
-      let net = c.args.net.now in
+      let net = c.args.net.now.files in
       let failures = failures_of w c.args.sym.now in
       let packet = packet_of w c.args.packet.now in
       let a = address_of w c.args.a.now in
@@ -46,7 +46,7 @@ loop-i-preserved c = record {
 pub returns-clause-value : goal.returns-clause-value
 returns-clause-value c = λ w reads has.
     let none : c.loop-i.i ≡ 0 = omega arith in
-    let net = c.args.net.now in
+    let net = c.args.net.now.files in
     let failures = failures_of w c.args.sym.now in
     let packet = packet_of w c.args.packet.now in
     let a = address_of w c.args.a.now in

@@ -1,5 +1,5 @@
 use Rattle.std.proofs.Common.{◌&&◌, [], ◌∷◌}
-use Rattle.net_model.specs.Ospf.{advertised}
+use Rattle.net_parts.specs.Ospf.{advertised}
 use Rattle.question_lang.specs.Hops.{send_adjacent}
 use Rattle.sym_policy.specs.Held.{failures_of}
 use Rattle.sym_policy.specs.Records.{address_of}
@@ -18,7 +18,7 @@ returns-clause-value c = λ w reads has others twin.
     let to = c.in_ok-to.ensures in
     let before = made.builds.reads w reads in
     let x = c.args.x.now in
-    let net = c.args.net.now in
+    let net = c.args.net.now.files in
     let failures = failures_of w c.args.sym.now in
     united_twin (sought_by w c.args.aim.now) (at w c.in_ok-taken.taken)
     (is_up_from net failures c.args.router x

@@ -1,7 +1,7 @@
 use Rattle.std.proofs.Common.{◌≡◌, Bool, List, cond, map, subst, ap₂}
 use Rattle.std.specs.List.{list_any}
-use Rattle.net_model.specs.Interfaces.{addressed}
-use Rattle.net_model.specs.Sending.{sent_towards}
+use Rattle.net_interfaces.specs.Interfaces.{addressed}
+use Rattle.net_parts.specs.Sending.{sent_towards}
 use Rattle.question_lang.specs.declared.walk.Hop.{Hop}
 use Rattle.question_lang.specs.Hops.{send_adjacent}
 use Rattle.sym_policy.specs.Held.{failures_of}
@@ -23,7 +23,7 @@ returns-clause-value c = λ w reads has.
     let over = c.in_ok-over.ensures in
     let after_led = made.builds.reads w reads in
     let after_over = led.builds.reads w after_led in
-    let net = c.args.net.now in
+    let net = c.args.net.now.files in
     let failures = failures_of w c.args.sym.now in
     let packet = packet_of w c.args.packet.now in
     let a = address_of w c.args.a.now in

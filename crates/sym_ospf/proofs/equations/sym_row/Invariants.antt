@@ -9,5 +9,5 @@ abbrev pub invariant-loop-k : goal.invariant-loop-k
 invariant-loop-k l = record {
   builds : Builds l.fn.terms l.terms;
   within : l.all.0 < size l.terms;
-  value : (w : Reading) → Reads w l.terms → at w l.all ≡ all_below (equation w l.net l.sym l.router) l.k;
+  value : (w : Reading) → Reads w l.terms → at w l.all ≡ all_below (equation w l.net.files l.sym l.router) l.k;
 }

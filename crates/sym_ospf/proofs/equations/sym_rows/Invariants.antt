@@ -9,5 +9,5 @@ abbrev pub invariant-loop-router : goal.invariant-loop-router
 invariant-loop-router l = record {
   builds : Builds l.fn.terms l.terms;
   within : l.all.0 < size l.terms;
-  value : (w : Reading) → Reads w l.terms → at w l.all ≡ all_below (row_holds w l.net l.sym) l.router;
+  value : (w : Reading) → Reads w l.terms → at w l.all ≡ all_below (row_holds w l.net.files l.sym) l.router;
 }

@@ -2,8 +2,8 @@ use Rattle.std.proofs.Common.{◌-◌, ◌∙◌, ap, arith, rules, if◌then◌
 use Rattle.mw_text.specs.declared.address.Prefix.{Prefix}
 use Rattle.mw_text.specs.Address.{covers}
 use Rattle.route_record.specs.declared.OspfRec.{OspfRec}
-use Rattle.net_model.specs.Distances.{interior_distance}
-use Rattle.net_model.specs.Ospf.{advertised}
+use Rattle.net_parts.specs.Distances.{interior_distance}
+use Rattle.net_parts.specs.Ospf.{advertised}
 use Rattle.sym_policy.specs.Held.{failures_of, internal_route}
 use Rattle.sym_policy.specs.Records.{address_of}
 use Rattle.sym_ospf.proofs.Reach.{found_step}
@@ -12,7 +12,7 @@ use Rattle.sym_ospf.proofs.resolution.sym_found.Goals as goal
 pub loop-k-preserved : goal.loop-k-preserved
 loop-k-preserved c =
     let step = c.in_ok-rest-2.ensures in
-    let net = c.args.net.now in
+    let net = c.args.net.now.files in
     let router = c.args.router in
     let none : Prefix = record { addr = record { 0 = 0 }; len = 0 } in
     let p = get_or c.advertised.result.now (c.loop-k.k - 1) none in

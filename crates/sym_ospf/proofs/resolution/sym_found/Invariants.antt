@@ -1,7 +1,7 @@
 use Rattle.std.proofs.Common.{◌≡◌, ◌≤◌, drop}
 use Rattle.term_store.specs.Terms.{Reading, size}
 use Rattle.term_store.specs.Reading.{Reads, Builds}
-use Rattle.net_model.specs.Ospf.{advertised}
+use Rattle.net_parts.specs.Ospf.{advertised}
 use Rattle.sym_policy.specs.Held.{failures_of, ospf_of, ospf_end}
 use Rattle.sym_policy.specs.Records.{address_of}
 use Rattle.sym_ospf.specs.Reached.{found}
@@ -12,6 +12,6 @@ abbrev pub invariant-loop-k : goal.invariant-loop-k
 invariant-loop-k l = record {
   builds : Builds l.fn.terms l.terms;
   within : ospf_end l.rest ≤ size l.terms;
-  value : (w : Reading) → Reads w l.terms → HasDistances w l.net l.sym → ospf_of w l.rest
-      ≡ found l.net (failures_of w l.sym) l.router (address_of w l.a) (drop l.k (advertised l.net));
+  value : (w : Reading) → Reads w l.terms → HasDistances w l.net.files l.sym → ospf_of w l.rest
+      ≡ found l.net.files (failures_of w l.sym) l.router (address_of w l.a) (drop l.k (advertised l.net.files));
 }

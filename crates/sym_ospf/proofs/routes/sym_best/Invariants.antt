@@ -2,7 +2,7 @@ use Rattle.std.proofs.Common.{◌≡◌, ◌≤◌, drop}
 use Rattle.std.specs.List.{filter_map}
 use Rattle.term_store.specs.Terms.{Reading, size}
 use Rattle.term_store.specs.Reading.{Reads, Builds}
-use Rattle.net_model.specs.OspfRoutes.{first_best}
+use Rattle.net_parts.specs.OspfRoutes.{first_best}
 use Rattle.sym_policy.specs.Held.{ospf_of, ospf_end}
 use Rattle.sym_ospf.proofs.RouteKinds.{best_after}
 use Rattle.sym_ospf.proofs.routes.sym_best.Given as goal

@@ -2,8 +2,8 @@ use Rattle.std.proofs.Common.{◌≡◌, ◌<◌, ◌&&◌, ◌||◌, drop, filt
 use Rattle.std.specs.Prelude.{◌==◌}
 use Rattle.std.specs.List.{list_any}
 use Rattle.mw_text.specs.Address.{covers}
-use Rattle.net_model.specs.Routing.{is_reached, up_interfaces}
-use Rattle.net_model.specs.World.{is_up}
+use Rattle.net_parts.specs.Routing.{is_reached, up_interfaces}
+use Rattle.net_parts.specs.World.{is_up}
 use Rattle.sym_policy.specs.Held.{failures_of}
 use Rattle.term_store.specs.Terms.{Reading, at, size}
 use Rattle.term_store.specs.Reading.{Reads, Builds}
@@ -16,7 +16,7 @@ invariant-loop-x l = record {
   within : l.any.0 < size l.terms;
   value : (w : Reading) → Reads w l.terms
       → (at w l.any || list_any (λ x. covers x.subnet l.a)
-      (filter (λ x. (x.id.router == l.router) && is_up l.net (failures_of w l.sym) x)
+      (filter (λ x. (x.id.router == l.router) && is_up l.net.files (failures_of w l.sym) x)
       (drop l.x-index l.x-items)))
-      ≡ is_reached (up_interfaces l.net (failures_of w l.sym) l.router) l.a;
+      ≡ is_reached (up_interfaces l.net.files (failures_of w l.sym) l.router) l.a;
 }

@@ -1,7 +1,7 @@
 use Rattle.std.proofs.Common.{◌≡◌, ◌≤◌, true, map, take}
 use Rattle.std.specs.List.{filter_map}
 use Rattle.route_record.specs.declared.Slot.{Slot}
-use Rattle.net_model.specs.Origins.{by_network}
+use Rattle.net_parts.specs.Origins.{by_network}
 use Rattle.sym_policy.specs.Held.{bgp_end, bgp_of, bgp_shape}
 use Rattle.sym_policy.specs.Records.{prefix_of}
 use Rattle.sym_policy.specs.Shapes.{all_tracked}

@@ -6,7 +6,7 @@ use Rattle.std.specs.Option.{option_and_then, option_map}
 use Rattle.route_record.specs.declared.BgpRec.{BgpRec}
 use Rattle.route_record.specs.declared.Origin.TheVariants.{Incomplete}
 use Rattle.route_record.specs.declared.RibEntry.{RibEntry}
-use Rattle.net_model.specs.Origins.{is_default, local_route, local_through, taken_metric}
+use Rattle.net_parts.specs.Origins.{is_default, local_route, local_through, taken_metric}
 use Rattle.sym_policy.specs.Held.{BgpShape, bgp_shape}
 use Rattle.sym_policy.specs.Records.{prefix_of}
 use Rattle.sym_rib.proofs.LocalRoutes.{line_by}
@@ -24,7 +24,7 @@ returns-clause-value c = IfOk-weaker c.local_bgp.result _ _ (λ rec read. λ w r
     λ med. local_through c.args.file.now line.map p (local_route Incomplete med) in
     let named : ℕ → ℕ = unwrap_or line.metric in
     let of_entry : RibEntry → Option ℕ =
-    λ e. taken_metric c.args.net.now c.args.router p held line e.source in
+    λ e. taken_metric c.args.net.now.files c.args.router p held line e.source in
     let shaped : Option ℕ → Option BgpShape = λ m. option_map shape (option_and_then route m) in
     read w reads all
     ∙ ap shaped (metric.value w before_made

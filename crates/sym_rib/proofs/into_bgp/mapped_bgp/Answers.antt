@@ -1,8 +1,9 @@
 use Rattle.std.proofs.Common.{Option, ◌∙◌, ap, false}
 use Rattle.std.specs.Option.{option_and_then, option_map}
 use Rattle.ios_ast.specs.Setting.{Attributes}
-use Rattle.net_model.specs.Mapping.{attributes_of, through_map}
-use Rattle.net_model.specs.Origins.{local_route}
+use Rattle.ios_ast.specs.Maps.{through_map}
+use Rattle.net_parts.specs.Mapping.{attributes_of}
+use Rattle.net_parts.specs.Origins.{local_route}
 use Rattle.sym_policy.specs.Held.{bgp_shape}
 use Rattle.sym_policy.specs.Records.{prefix_of}
 use Rattle.sym_rib.specs.IntoBgp.{metric_of}

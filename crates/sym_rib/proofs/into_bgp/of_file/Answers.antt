@@ -1,7 +1,7 @@
 use Rattle.std.proofs.Common.{List, [], Option, ◌∙◌, ap, map, sym}
 use Rattle.std.specs.Option.{option_map_or}
 use Rattle.ios_ast.specs.declared.bgp.Bgp.{Bgp}
-use Rattle.net_model.specs.Origins.{local_routes}
+use Rattle.net_parts.specs.Origins.{local_routes}
 use Rattle.sym_policy.specs.Held.{BgpShape, bgp_shape}
 use Rattle.sym_policy.specs.Records.{prefix_of}
 use Rattle.sym_rib.proofs.into_bgp.of_file.Goals as goal
@@ -11,5 +11,5 @@ returns-in_ok-made-in-Some-clause-value c = λ w reads held all stands.
     let p = prefix_of w c.args.dst.now c.args.len in
     let made : Option Bgp → List BgpShape =
     λ o. map (bgp_shape c.args.tracked.now) (option_map_or
-    (λ process. local_routes c.args.net.now c.args.router c.args.file.now process p held) o []) in
+    (λ process. local_routes c.args.net.now.files c.args.router c.args.file.now process p held) o []) in
     c.in_ok-made-in-Some.ensures.value w reads held all stands ∙ ap made (sym c.in-Some.is)

@@ -1,7 +1,7 @@
 use Rattle.std.proofs.Common.{◌++◌, ◌∙◌, ap, ap₂, map, sym}
 use Rattle.std.specs.List.{filter_map}
 use Rattle.std.proofs.lemmas.List.{map-append}
-use Rattle.net_model.specs.Origins.{by_network, into_bgp, local_routes}
+use Rattle.net_parts.specs.Origins.{by_network, into_bgp, local_routes}
 use Rattle.sym_policy.specs.Held.{bgp_shape}
 use Rattle.sym_policy.specs.Records.{prefix_of}
 use Rattle.sym_rib.proofs.into_bgp.of_process.Goals as goal
@@ -14,7 +14,7 @@ returns-clause-value c = λ w reads held all stands.
     let shape = bgp_shape c.args.tracked.now in
     let process = c.args.process.now in
     let of_network = by_network c.args.file.now p held in
-    let of_line = into_bgp c.args.net.now c.args.router c.args.file.now p held in
+    let of_line = into_bgp c.args.net.now.files c.args.router c.args.file.now p held in
     whole.value w reads held all stands
     ∙ ap₂ (λ a b. a ++ b)
     (c.in_ok-made.ensures.value w (whole.builds.reads w reads) held all stands

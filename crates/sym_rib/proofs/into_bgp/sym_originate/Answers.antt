@@ -4,8 +4,7 @@ use Rattle.std.specs.Option.{option_map_or}
 use Rattle.ios_ast.specs.declared.file.File.{File}
 use Rattle.route_record.specs.declared.BgpRec.{BgpRec}
 use Rattle.route_record.specs.declared.tracked.Tracked.{Tracked}
-use Rattle.net_model.specs.Origins.{local_routes}
-use Rattle.net_model.specs.Tracked.{tracked_of}
+use Rattle.net_parts.specs.Origins.{local_routes}
 use Rattle.sym_policy.specs.Held.{bgp_shape}
 use Rattle.sym_policy.specs.Records.{prefix_of}
 use Rattle.sym_policy.specs.Shapes.{all_tracked}
@@ -15,17 +14,18 @@ use Rattle.sym_rib.proofs.into_bgp.sym_originate.Goals as goal
 
 pub returns-in_ok-made-in-Some-clause-value : goal.returns-in_ok-made-in-Some-clause-value
 returns-in_ok-made-in-Some-clause-value c = λ w reads held stands.
-    let files = c.args.net.now in
+    let files = c.args.net.now.files in
     let router = c.args.router in
     let file = c.in-Some.file.now in
     let p = prefix_of w c.args.dst.now c.args.len in
     let here = c.in-Some.ensures ∙ ap (λ fs. slice_get fs router) c.routers.ensures.all in
     let same = c.tracked.ensures.value in
     let Stands : Tracked → Type 0 = λ t. StandsForSlot w t c.args.slot.now held in
-    let all = ap (λ t. all_tracked t file.policies) same ∙ files_tracked files router file (sym here) in
+    let all = ap (λ t. all_tracked t file.policies) same ∙ files_tracked files c.args.net.now.tracked router file
+    c.tracked.ensures.tracks (sym here) in
     let of_file : File → List BgpRec =
     λ f. option_map_or (λ process. local_routes files router f process p held) f.bgp [] in
     let taken : Option File → List BgpRec = λ o. option_map_or of_file o [] in
     c.in_ok-made-in-Some.ensures.value w reads held all (subst Stands (sym same) stands)
     ∙ ap (λ t. map (bgp_shape t) (of_file file)) same
-    ∙ ap (λ o. map (bgp_shape (tracked_of files)) (taken o)) here
+    ∙ ap (λ o. map (bgp_shape c.args.net.now.tracked) (taken o)) here

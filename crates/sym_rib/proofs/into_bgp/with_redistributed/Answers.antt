@@ -1,7 +1,7 @@
 use Rattle.std.proofs.Common.{rules, arith, ap, ◌∙◌}
 use Rattle.std.proofs.lemmas.Grind.{common_steps}
 use Rattle.std.specs.List.{filter_map}
-use Rattle.net_model.specs.Origins.{into_bgp}
+use Rattle.net_parts.specs.Origins.{into_bgp}
 use Rattle.sym_policy.specs.Held.{bgp_of, bgp_shape}
 use Rattle.sym_policy.specs.Records.{prefix_of}
 use Rattle.sym_rib.proofs.OneEach.{lines_step, list_end-append}
@@ -17,7 +17,7 @@ loop-line-preserved c =
       value = λ w reads held all stands.
           ap (filter_map (bgp_of w)) c.in_ok-put_bgp.ensures
           ∙ lines_step (bgp_of w) (bgp_shape c.args.tracked.now)
-          (into_bgp c.args.net.now c.args.router c.args.file.now (prefix_of w c.args.dst.now c.args.len) held)
+          (into_bgp c.args.net.now.files c.args.router c.args.file.now (prefix_of w c.args.dst.now c.args.len) held)
           (filter_map (bgp_of w) c.args.before)
           c.loop-line.made c.in_ok-rec.rec c.args.lines.now c.loop-line.line-index c.line-item.result (omega arith)
           c.line-item.is (rec.value w reads held all stands)

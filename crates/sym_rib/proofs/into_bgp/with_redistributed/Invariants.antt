@@ -1,7 +1,7 @@
 use Rattle.std.proofs.Common.{◌≡◌, ◌≤◌, ◌++◌, true, map, take}
 use Rattle.std.specs.List.{filter_map}
 use Rattle.route_record.specs.declared.Slot.{Slot}
-use Rattle.net_model.specs.Origins.{into_bgp}
+use Rattle.net_parts.specs.Origins.{into_bgp}
 use Rattle.sym_policy.specs.Held.{bgp_end, bgp_of, bgp_shape}
 use Rattle.sym_policy.specs.Records.{prefix_of}
 use Rattle.sym_policy.specs.Shapes.{all_tracked}
@@ -20,5 +20,5 @@ invariant-loop-line l = record {
       → StandsForSlot w l.tracked l.slot held
       → filter_map (bgp_of w) l.made
       ≡ filter_map (bgp_of w) l.fn.before ++ map (bgp_shape l.tracked)
-      (filter_map (into_bgp l.net l.router l.file (prefix_of w l.dst l.len) held) (take l.line-index l.lines));
+      (filter_map (into_bgp l.net.files l.router l.file (prefix_of w l.dst l.len) held) (take l.line-index l.lines));
 }

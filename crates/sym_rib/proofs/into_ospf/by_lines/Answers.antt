@@ -1,7 +1,7 @@
 use Rattle.std.proofs.Common.{rules, arith, ap, ◌∙◌}
 use Rattle.std.proofs.lemmas.Grind.{common_steps}
 use Rattle.std.specs.List.{filter_map}
-use Rattle.net_model.specs.Origins.{into_ospf}
+use Rattle.net_parts.specs.Origins.{into_ospf}
 use Rattle.sym_policy.specs.Held.{ospf_of}
 use Rattle.sym_policy.specs.Records.{prefix_of}
 use Rattle.sym_rib.proofs.OneEach.{line_step, list_end_push}

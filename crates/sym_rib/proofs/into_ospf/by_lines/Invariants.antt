@@ -1,7 +1,7 @@
 use Rattle.std.proofs.Common.{◌≡◌, ◌≤◌, true, take}
 use Rattle.std.specs.List.{filter_map}
 use Rattle.route_record.specs.declared.Slot.{Slot}
-use Rattle.net_model.specs.Origins.{into_ospf}
+use Rattle.net_parts.specs.Origins.{into_ospf}
 use Rattle.sym_policy.specs.Held.{ospf_of, ospf_end}
 use Rattle.sym_policy.specs.Records.{prefix_of}
 use Rattle.sym_policy.specs.Shapes.{all_tracked}

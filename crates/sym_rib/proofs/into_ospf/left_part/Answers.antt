@@ -1,7 +1,7 @@
 use Rattle.std.proofs.Common.{rules, ◌≡◌, length, false}
 use Rattle.std.specs.Option.{option_and_then}
-use Rattle.net_model.specs.Mapping.{through_map}
-use Rattle.net_model.specs.Origins.{redistributed_route}
+use Rattle.ios_ast.specs.Maps.{through_map}
+use Rattle.net_parts.specs.Origins.{redistributed_route}
 use Rattle.sym_policy.specs.MapRecs.{attributes_at}
 use Rattle.sym_policy.specs.Records.{prefix_of}
 use Rattle.term_store.specs.Terms.{at}

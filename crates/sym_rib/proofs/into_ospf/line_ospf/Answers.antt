@@ -1,8 +1,8 @@
 use Rattle.std.proofs.Common.{Bool, Option, Some, None, ◌&&◌, ◌∙◌, ap, if◌then◌else◌, false}
 use Rattle.std.specs.Option.{option_and_then}
 use Rattle.route_record.specs.declared.OspfRec.{OspfRec}
-use Rattle.net_model.specs.Mapping.{through_map}
-use Rattle.net_model.specs.Origins.{external_record, redistributed_route}
+use Rattle.ios_ast.specs.Maps.{through_map}
+use Rattle.net_parts.specs.Origins.{external_record, redistributed_route}
 use Rattle.sym_policy.specs.Records.{prefix_of}
 use Rattle.term_store.specs.Terms.{at}
 use Rattle.term_arith.specs.Bits.{number}

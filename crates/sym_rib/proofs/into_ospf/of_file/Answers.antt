@@ -2,7 +2,7 @@ use Rattle.std.proofs.Common.{List, [], Option, ◌∙◌, ap, sym}
 use Rattle.std.specs.Option.{option_map_or}
 use Rattle.ios_ast.specs.declared.ospf.Ospf.{Ospf}
 use Rattle.route_record.specs.declared.OspfRec.{OspfRec}
-use Rattle.net_model.specs.Origins.{redistributed}
+use Rattle.net_parts.specs.Origins.{redistributed}
 use Rattle.sym_policy.specs.Records.{prefix_of}
 use Rattle.sym_rib.proofs.into_ospf.of_file.Goals as goal
 

@@ -2,7 +2,7 @@ use Rattle.std.proofs.Common.{Option, ◌∙◌, ap, sym}
 use Rattle.std.proofs.lemmas.Result.{IfOk-weaker}
 use Rattle.std.specs.Option.{option_map}
 use Rattle.ios_ast.specs.declared.ospf.Source.{Source}
-use Rattle.net_model.specs.Origins.{redistributed_route}
+use Rattle.net_parts.specs.Origins.{redistributed_route}
 use Rattle.sym_policy.specs.Shapes.{RouteShape, route_shape}
 use Rattle.sym_rib.proofs.into_ospf.seen_rec.Goals as goal
 

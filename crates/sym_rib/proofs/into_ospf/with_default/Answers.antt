@@ -4,7 +4,7 @@ use Rattle.std.specs.List.{filter_map}
 use Rattle.std.specs.Option.{option_and_then, option_to_list}
 use Rattle.ios_ast.specs.declared.ospf.DefaultOrigin.{DefaultOrigin}
 use Rattle.route_record.specs.declared.OspfRec.{OspfRec}
-use Rattle.net_model.specs.Origins.{originated_default}
+use Rattle.net_parts.specs.Origins.{originated_default}
 use Rattle.sym_policy.specs.Held.{ospf_of}
 use Rattle.sym_policy.specs.Records.{prefix_of}
 use Rattle.sym_rib.proofs.OneEach.{filter_map_push, list_end_push}

@@ -14,6 +14,6 @@ invariant-loop-i l = record {
   value : (w : Reading) → Reads w l.terms
       → at w l.rest
       ≡ option_map_or (is_of_kind l.internal)
-      (find (is_from l.net l.router (number w l.from.nodes.items)) (drop l.i l.ends))
+      (find (is_from l.net.files l.router (number w l.from.nodes.items)) (drop l.i l.ends))
       false;
 }

@@ -1,7 +1,7 @@
 use Rattle.std.proofs.Common.{ℕ, Bool, Option, Some, None, ◌∙◌, ap, ap₂, if◌then◌else◌}
 use Rattle.std.specs.Prelude.{◌==◌}
 use Rattle.std.specs.Option.{option_and_then, option_map}
-use Rattle.net_model.specs.Origins.{entry_metric, ospf_metric}
+use Rattle.net_parts.specs.Origins.{entry_metric, ospf_metric}
 use Rattle.route_record.specs.declared.RibEntry.{RibEntry}
 use Rattle.term_store.specs.Terms.{at}
 use Rattle.term_arith.specs.Bits.{number}

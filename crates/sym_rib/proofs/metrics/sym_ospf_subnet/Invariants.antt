@@ -2,7 +2,7 @@ use Rattle.std.proofs.Common.{◌≡◌, ◌<◌, ◌&&◌, ◌||◌, drop}
 use Rattle.std.specs.Prelude.{◌==◌}
 use Rattle.std.specs.List.{list_any}
 use Rattle.mw_text.specs.Address.{same_prefix}
-use Rattle.net_model.specs.Origins.{is_ospf_subnet}
+use Rattle.net_parts.specs.Origins.{is_ospf_subnet}
 use Rattle.sym_policy.specs.Records.{prefix_of}
 use Rattle.term_store.specs.Terms.{Reading, at, size}
 use Rattle.term_store.specs.Reading.{Reads, Builds}
@@ -16,5 +16,5 @@ invariant-loop-x l = record {
   value : (w : Reading) → Reads w l.terms
       → (at w l.any || list_any (λ x. (x.at.id.router == l.router)
       && same_prefix x.at.subnet (prefix_of w l.dst l.len)) (drop l.x-index l.x-items))
-      ≡ is_ospf_subnet l.net l.router (prefix_of w l.dst l.len);
+      ≡ is_ospf_subnet l.net.files l.router (prefix_of w l.dst l.len);
 }

@@ -2,7 +2,7 @@ use Rattle.std.proofs.Common.{ℕ, Bool, Option, Some, None, ◌∙◌, ◌&&◌
 use Rattle.std.specs.Prelude.{◌==◌}
 use Rattle.std.specs.Option.{option_and_then}
 use Rattle.ios_ast.specs.declared.ospf.Source.TheVariants as source
-use Rattle.net_model.specs.Origins.{ospf_metric, taken_metric, takes_kind}
+use Rattle.net_parts.specs.Origins.{ospf_metric, taken_metric, takes_kind}
 use Rattle.route_record.specs.declared.RibEntry.{RibEntry}
 use Rattle.sym_policy.specs.Records.{prefix_of}
 use Rattle.term_store.specs.Terms.{at}
@@ -22,7 +22,7 @@ returns-clause-value c = λ w reads held process ospf rib.
     let before_zero = zero.builds.reads w before_ospf in
     let before_subnet = subnet.builds.reads w before_zero in
     let line = c.args.line.now in
-    let files = c.args.net.now in
+    let files = c.args.net.now.files in
     let router = c.args.router in
     let p = prefix_of w c.args.dst.now c.args.len in
     let entry = c.args.slot.now.rib in

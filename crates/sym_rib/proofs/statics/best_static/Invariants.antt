@@ -1,5 +1,5 @@
 use Rattle.std.proofs.Common.{◌≡◌, ◌≤◌, drop, fold, map}
-use Rattle.net_model.specs.Routing.{closer, static_routes, up_interfaces}
+use Rattle.net_parts.specs.Routing.{closer, static_routes, up_interfaces}
 use Rattle.sym_policy.specs.Held.{failures_of}
 use Rattle.sym_policy.specs.Records.{prefix_of}
 use Rattle.term_store.specs.Terms.{Reading, size}
@@ -15,8 +15,8 @@ invariant-loop-route l = record {
   within : rib_end l.best ≤ size l.terms;
   value : (w : Reading) → Reads w l.terms
       → fold closer (rib_of w l.best) (map static_candidate
-      (static_routes (up_interfaces l.net (failures_of w l.sym) l.router) (drop l.route-index l.statics)
+      (static_routes (up_interfaces l.net.files (failures_of w l.sym) l.router) (drop l.route-index l.statics)
       (prefix_of w l.dst l.len)))
       ≡ fold closer (rib_of w l.fn.first) (map static_candidate
-      (static_routes (up_interfaces l.net (failures_of w l.sym) l.router) l.statics (prefix_of w l.dst l.len)));
+      (static_routes (up_interfaces l.net.files (failures_of w l.sym) l.router) l.statics (prefix_of w l.dst l.len)));
 }

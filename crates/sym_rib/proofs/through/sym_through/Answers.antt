@@ -2,7 +2,7 @@ use Rattle.std.proofs.Common.{Option, ◌∙◌, ap, sym, false}
 use Rattle.std.proofs.lemmas.Result.{IfOk-weaker}
 use Rattle.std.specs.Option.{option_and_then, option_map}
 use Rattle.ios_ast.specs.declared.file.Use.{Use}
-use Rattle.net_model.specs.Mapping.{through_map}
+use Rattle.ios_ast.specs.Maps.{through_map}
 use Rattle.sym_policy.specs.Records.{prefix_of}
 use Rattle.sym_policy.specs.Shapes.{RouteShape, route_shape}
 use Rattle.sym_rib.proofs.through.sym_through.Goals as goal

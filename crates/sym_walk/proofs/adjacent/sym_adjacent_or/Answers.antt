@@ -18,7 +18,7 @@ returns-clause-value c = λ w reads others twin.
     let taken = c.in_ok-taken.ensures in
     let before = made.builds.reads w reads in
     let a = c.args.a.now in
-    let net = c.args.net.now in
+    let net = c.args.net.now.files in
     united_twin (sought_by w c.args.aim.now) (at w c.in_ok-taken.taken)
     (is_up_from net (failures_of w c.args.sym.now) c.args.router a
     && offers (tables_of w c.args.slots.now) (prefix_of w c.args.packet.now.dst c.args.len) (ospf_of w

@@ -1,5 +1,5 @@
 use Rattle.std.proofs.Common.{List, ◌≡◌, ◌∙◌, ap, sym, subst, arith, rules, drop}
-use Rattle.net_model.specs.declared.adjacencies.Adjacency.{Adjacency}
+use Rattle.net_parts.specs.declared.adjacencies.Adjacency.{Adjacency}
 use Rattle.question_lang.specs.declared.walk.Hop.{Hop}
 use Rattle.sym_policy.specs.Held.{failures_of, ospf_of}
 use Rattle.sym_policy.specs.Records.{prefix_of}
@@ -18,7 +18,7 @@ loop-i-preserved c = record {
   builds = search rules;
   within = search rules;
   value = λ w reads.
-      let net = c.args.net.now in
+      let net = c.args.net.now.files in
       let failures = failures_of w c.args.sym.now in
       let packet = packet_of w c.args.packet.now in
       let tables = tables_of w c.args.slots.now in
@@ -37,7 +37,7 @@ loop-i-preserved c = record {
 pub returns-clause-value : goal.returns-clause-value
 returns-clause-value c = λ w reads.
     let none : c.loop-i.i ≡ 0 = omega arith in
-    let net = c.args.net.now in
+    let net = c.args.net.now.files in
     let failures = failures_of w c.args.sym.now in
     let packet = packet_of w c.args.packet.now in
     let tables = tables_of w c.args.slots.now in

@@ -13,11 +13,11 @@ returns-clause-sound c = λ w reads needed broken.
     let made = c.in_ok-made.ensures in
     let after_table = made.builds.reads w reads in
     let P : List SymSlot → Type 0 = λ slots. DistancesWhereNeeded w
-    c.args.net.now c.args.world.now.net slots → AreTwins c.args.net.now
-    (world_of w c.args.world.now.net c.args.world.now.packet slots) c.args.question.now.kind (length c.args.net.now)
+    c.args.net.now.files c.args.world.now.net slots → AreTwins c.args.net.now.files
+    (world_of w c.args.world.now.net c.args.world.now.packet slots) c.args.question.now.kind (length c.args.net.now.files)
     (table_of w c.in_ok-table.table) in
     let after_begin = c.in_ok-table.ensures.builds.reads w after_table in
-    walk_breaks c.args.net.now (whole_of w c.args.world.now) c.args.question.now.kind
+    walk_breaks c.args.net.now.files (whole_of w c.args.world.now) c.args.question.now.kind
     (beginning_of w c.in_ok-begin.begin) (table_of w c.in_ok-table.table)
     (subst P c.as_slice.ensures (c.in_ok-table.ensures.value w after_table) needed)
     (c.in_ok-begin.ensures.value w after_begin) (sym (made.value w reads) ∙ broken)
@@ -27,12 +27,12 @@ returns-clause-complete c = λ w reads needed walk breaks.
     let made = c.in_ok-made.ensures in
     let after_table = made.builds.reads w reads in
     let P : List SymSlot → Type 0 = λ slots. DistancesWhereNeeded w
-    c.args.net.now c.args.world.now.net slots → AreTwins c.args.net.now
-    (world_of w c.args.world.now.net c.args.world.now.packet slots) c.args.question.now.kind (length c.args.net.now)
+    c.args.net.now.files c.args.world.now.net slots → AreTwins c.args.net.now.files
+    (world_of w c.args.world.now.net c.args.world.now.packet slots) c.args.question.now.kind (length c.args.net.now.files)
     (table_of w c.in_ok-table.table) in
     let after_begin = c.in_ok-table.ensures.builds.reads w after_table in
     made.value w reads
-    ∙ breaks_all c.args.net.now (whole_of w c.args.world.now) c.args.question.now.kind
+    ∙ breaks_all c.args.net.now.files (whole_of w c.args.world.now) c.args.question.now.kind
     (beginning_of w c.in_ok-begin.begin) (table_of w c.in_ok-table.table)
     (subst P c.as_slice.ensures (c.in_ok-table.ensures.value w after_table) needed)
     (c.in_ok-begin.ensures.value w after_begin) walk breaks

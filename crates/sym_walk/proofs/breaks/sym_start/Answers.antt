@@ -11,5 +11,5 @@ returns-in_ok-made-in-Some-clause-value c = λ w reads start asked.
     let both = c.in-Some.ensures ∙ asked in
     let one : c.in-Some.first ≡ start = cc in
     let P : Start → Type 0 = λ s. beginning_of w c.in_ok-made-in-Some.made
-    ≡ begins_at c.args.net.now (failures_of w c.args.sym.now) (packet_of w c.args.packet.now) s in
+    ≡ begins_at c.args.net.now.files (failures_of w c.args.sym.now) (packet_of w c.args.packet.now) s in
     subst P one (c.in_ok-made-in-Some.ensures.value w reads)

@@ -1,6 +1,6 @@
 use Rattle.std.proofs.Common.{eqb}
 use Rattle.mw_text.specs.Address.{prefix_at}
-use Rattle.net_model.specs.Routing.{up_interfaces}
+use Rattle.net_parts.specs.Routing.{up_interfaces}
 use Rattle.question_lang.specs.Hops.{all_up, connected_hops}
 use Rattle.sym_policy.specs.Held.{failures_of}
 use Rattle.sym_policy.specs.Records.{address_of}
@@ -19,7 +19,7 @@ returns-clause-value c = λ w reads others twin.
     let test = c.in_ok-test.ensures in
     let after_to = made.builds.reads w reads in
     let slot = c.args.slot.now in
-    let net = c.args.net.now in
+    let net = c.args.net.now.files in
     let failures = failures_of w c.args.sym.now in
     chosen_lists (sought_by w c.args.aim.now) (at w c.in_ok-test.test) (eqb (number w slot.rib.source.nodes.items) 0)
     (connected_hops net (packet_of w c.args.packet.now) (all_up net failures) (up_interfaces net failures

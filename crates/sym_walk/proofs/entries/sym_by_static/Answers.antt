@@ -1,7 +1,7 @@
 use Rattle.std.proofs.Common.{eqb, List, subst}
 use Rattle.ios_ast.specs.declared.file.StaticRoute.{StaticRoute}
 use Rattle.mw_text.specs.Address.{prefix_at}
-use Rattle.net_model.specs.Routing.{up_interfaces}
+use Rattle.net_parts.specs.Routing.{up_interfaces}
 use Rattle.question_lang.specs.Hops.{all_up}
 use Rattle.sym_policy.specs.Held.{failures_of}
 use Rattle.sym_policy.specs.Records.{address_of}
@@ -22,7 +22,7 @@ returns-clause-value c = λ w reads others twin.
     let test = c.in_ok-test.ensures in
     let after_to = made.builds.reads w reads in
     let slot = c.args.slot.now in
-    let net = c.args.net.now in
+    let net = c.args.net.now.files in
     let failures = failures_of w c.args.sym.now in
     let P : List StaticRoute → Type 0 = λ routes. IsTwin (sought_by w c.args.aim.now)
     (static_part net (packet_of w c.args.packet.now) (all_up net failures) (up_interfaces net failures c.args.router)

@@ -1,6 +1,6 @@
 use Rattle.std.proofs.Common.{List, cond, eqb, sym, subst}
 use Rattle.mw_text.specs.Address.{prefix_at}
-use Rattle.net_model.specs.Routing.{up_interfaces}
+use Rattle.net_parts.specs.Routing.{up_interfaces}
 use Rattle.question_lang.specs.declared.walk.Hop.{Hop}
 use Rattle.question_lang.specs.Hops.{all_up, bgp_hops, ospf_hops}
 use Rattle.sym_policy.specs.Held.{failures_of}
@@ -25,7 +25,7 @@ returns-clause-value c = λ w reads needed.
     let after_ospf = plain.builds.reads w after_plain in
     let after_bgp = ospf.builds.reads w after_ospf in
     let slot = c.args.slot.now in
-    let net = c.args.net.now in
+    let net = c.args.net.now.files in
     let failures = failures_of w c.args.sym.now in
     let world = world_of w c.args.sym.now c.args.packet.now c.args.slots.now in
     let up = all_up net failures in

@@ -1,4 +1,4 @@
-use Rattle.net_model.specs.Routing.{up_interfaces}
+use Rattle.net_parts.specs.Routing.{up_interfaces}
 use Rattle.question_lang.specs.Hops.{all_up}
 use Rattle.sym_policy.specs.Held.{failures_of}
 use Rattle.sym_forwarding.specs.Aims.{sought_by}
@@ -15,7 +15,7 @@ returns-clause-value c = λ w reads needed others twin.
     let made = c.in_ok-made.ensures in
     let to = c.in_ok-to.ensures in
     let slot = c.args.slot.now in
-    let net = c.args.net.now in
+    let net = c.args.net.now.files in
     let failures = failures_of w c.args.sym.now in
     chosen_lists (sought_by w c.args.aim.now) (at w slot.rib.valid) (at w slot.rib.valid)
     (entry_of w net (world_of w c.args.sym.now c.args.packet.now c.args.slots.now) (all_up net failures)

@@ -1,7 +1,7 @@
 use Rattle.std.proofs.Common.{[], ◌∷◌}
 use Rattle.std.specs.Prelude.{◌==◌}
 use Rattle.std.specs.List.{list_any}
-use Rattle.net_model.specs.Routing.{up_interfaces}
+use Rattle.net_parts.specs.Routing.{up_interfaces}
 use Rattle.question_lang.specs.declared.walk.End.TheVariants.{Delivered}
 use Rattle.question_lang.specs.declared.walk.Hop.TheVariants.{Ends}
 use Rattle.question_lang.specs.Hops.{longest_below}
@@ -24,7 +24,7 @@ returns-clause-value c = λ w reads needed.
     let own = c.in_ok-own.ensures in
     let after_on = made.builds.reads w reads in
     let after_here = on.builds.reads w after_on in
-    let net = c.args.net.now in
+    let net = c.args.net.now.files in
     let mine = up_interfaces net (failures_of w c.args.sym.now) c.args.router in
     chosen_lists (sought_by w c.args.aim.now) (at w c.in_ok-own.own)
     (list_any (λ x. x.addr.0 == number w c.args.packet.now.dst.nodes.items) mine)

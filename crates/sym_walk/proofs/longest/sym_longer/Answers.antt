@@ -16,12 +16,12 @@ returns-in-None-clause-value c = λ w reads needed shorter twin.
     let world = world_of w c.args.sym.now c.args.packet.now c.args.slots.now in
     let P : List Hop → Type 0 = λ hs. IsTwin (sought_by w c.args.aim.now) hs (forwarding_of w c.args.rest) in
     subst P
-    (longer_missing w c.args.net.now world c.args.router c.args.file.now c.args.slots.now c.args.len shorter (sym
+    (longer_missing w c.args.net.now.files world c.args.router c.args.file.now c.args.slots.now c.args.len shorter (sym
     c.in-None.ensures.place)) twin
 
 pub returns-in_ok-made-in-Some-clause-value : goal.returns-in_ok-made-in-Some-clause-value
 returns-in_ok-made-in-Some-clause-value c = λ w reads needed shorter twin.
-    let net = c.args.net.now in
+    let net = c.args.net.now.files in
     let world = world_of w c.args.sym.now c.args.packet.now c.args.slots.now in
     let P : List Hop → Type 0 = λ hs. IsTwin (sought_by w c.args.aim.now) hs (forwarding_of w
     c.in_ok-made-in-Some.made) in

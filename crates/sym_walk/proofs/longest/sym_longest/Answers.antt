@@ -18,7 +18,7 @@ loop-len-init c = record {
   value = λ w reads needed.
       let world = world_of w c.args.sym.now c.args.packet.now c.args.slots.now in
       let P : Option (ℕ × Slot × RibEntry) → Type 0 = λ found. IsTwin (sought_by w c.args.aim.now)
-      (by_entry c.args.net.now world c.args.router c.args.file.now found) (forwarding_of w c.in_ok-rest.rest) in
+      (by_entry c.args.net.now.files world c.args.router c.args.file.now found) (forwarding_of w c.in_ok-rest.rest) in
       subst P (sym (longest_none (tables_of w c.args.slots.now) c.args.router)) (c.in_ok-rest.ensures.value w reads);
 }
 
@@ -31,7 +31,7 @@ loop-len-preserved c = record {
       let tables = tables_of w c.args.slots.now in
       let step = c.in_ok-rest-2.ensures in
       let P : Option (ℕ × Slot × RibEntry) → Type 0 = λ found. IsTwin (sought_by w c.args.aim.now)
-      (by_entry c.args.net.now world c.args.router c.args.file.now found) (forwarding_of w c.in_ok-rest-2.rest) in
+      (by_entry c.args.net.now.files world c.args.router c.args.file.now found) (forwarding_of w c.in_ok-rest-2.rest) in
       subst P (sym (longest_more tables c.args.router c.loop-len.len))
       (step.value w reads needed (longest_below tables c.args.router c.loop-len.len)
       (c.loop-len.invariant.value w (step.builds.reads w reads) needed));
@@ -42,6 +42,6 @@ returns-clause-value c = λ w reads needed.
     let all : c.loop-len.len ≡ 33 = omega arith in
     let world = world_of w c.args.sym.now c.args.packet.now c.args.slots.now in
     let P : ℕ → Type 0 = λ n. IsTwin (sought_by w c.args.aim.now)
-    (by_entry c.args.net.now world c.args.router c.args.file.now (longest_below (tables_of w c.args.slots.now)
+    (by_entry c.args.net.now.files world c.args.router c.args.file.now (longest_below (tables_of w c.args.slots.now)
     c.args.router n)) (forwarding_of w c.loop-len.rest) in
     subst P all (c.loop-len.invariant.value w reads needed)

@@ -15,8 +15,8 @@ abbrev pub invariant-loop-len : goal.invariant-loop-len
 invariant-loop-len l = record {
   builds : Builds l.fn.terms l.terms;
   within : forwarding_end l.rest ≤ size l.terms;
-  value : (w : Reading) → Reads w l.terms → DistancesWhereNeeded w l.net l.sym l.slots → IsTwin (sought_by w l.aim)
-      (by_entry l.net (world_of w l.sym l.packet l.slots) l.router l.file
+  value : (w : Reading) → Reads w l.terms → DistancesWhereNeeded w l.net.files l.sym l.slots → IsTwin (sought_by w l.aim)
+      (by_entry l.net.files (world_of w l.sym l.packet l.slots) l.router l.file
       (longest_below (tables_of w l.slots) l.router l.len))
       (forwarding_of w l.rest);
 }

@@ -1,8 +1,8 @@
 use Rattle.std.proofs.Common.{ap, sym, ◌&&◌, ◌∙◌, Bool, Option}
 use Rattle.std.specs.Option.{option_map_or}
 use Rattle.route_record.specs.declared.OspfRec.{OspfRec}
-use Rattle.net_model.specs.OspfRoutes.{offer_over}
-use Rattle.net_model.specs.Sending.{same_record}
+use Rattle.net_parts.specs.OspfRoutes.{offer_over}
+use Rattle.net_parts.specs.Sending.{same_record}
 use Rattle.term_store.specs.Terms.{at}
 use Rattle.sym_policy.specs.Held.{ospf_of}
 use Rattle.sym_policy.specs.Records.{prefix_of}

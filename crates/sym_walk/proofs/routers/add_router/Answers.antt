@@ -8,7 +8,7 @@ use Rattle.sym_walk.proofs.routers.add_router.Goals as goal
 
 pub returns-clause-value : goal.returns-clause-value
 returns-clause-value c = λ w reads needed twins.
-    let net = c.args.net.now in
+    let net = c.args.net.now.files in
     let world = world_of w c.args.sym.now c.args.packet.now c.args.slots.now in
     let P : List SymForwarding → Type 0 = λ t. AreTwins net world c.args.kind (c.args.router + 1) (table_of w t) in
     subst P (sym c.in_ok-made.ensures)

@@ -2,7 +2,7 @@ use Rattle.std.proofs.Common.{◌∙◌, [], Option, ap, subst}
 use Rattle.std.specs.Prelude.{slice_get}
 use Rattle.std.specs.Option.{option_map_or}
 use Rattle.ios_ast.specs.declared.file.File.{File}
-use Rattle.net_model.specs.Routing.{up_interfaces}
+use Rattle.net_parts.specs.Routing.{up_interfaces}
 use Rattle.question_lang.specs.Hops.{all_up, hops_over}
 use Rattle.sym_policy.specs.Held.{failures_of}
 use Rattle.sym_forwarding.specs.Aims.{sought_by}
@@ -13,7 +13,7 @@ use Rattle.sym_walk.proofs.routers.sym_next.Goals as goal
 
 pub returns-in_ok-none-in-None-clause-value : goal.returns-in_ok-none-in-None-clause-value
 returns-in_ok-none-in-None-clause-value c = λ w reads needed.
-    let net = c.args.net.now in
+    let net = c.args.net.now.files in
     let failures = failures_of w c.args.sym.now in
     let world = world_of w c.args.sym.now c.args.packet.now c.args.slots.now in
     let P : Option File → Type 0 = λ file. IsTwin (sought_by w c.args.aim.now)
@@ -24,7 +24,7 @@ returns-in_ok-none-in-None-clause-value c = λ w reads needed.
 
 pub returns-in_ok-made-in-Some-clause-value : goal.returns-in_ok-made-in-Some-clause-value
 returns-in_ok-made-in-Some-clause-value c = λ w reads needed.
-    let net = c.args.net.now in
+    let net = c.args.net.now.files in
     let failures = failures_of w c.args.sym.now in
     let world = world_of w c.args.sym.now c.args.packet.now c.args.slots.now in
     let P : Option File → Type 0 = λ file. IsTwin (sought_by w c.args.aim.now)

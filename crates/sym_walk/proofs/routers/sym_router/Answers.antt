@@ -9,6 +9,6 @@ pub returns-clause-value : goal.returns-clause-value
 returns-clause-value c = λ w reads needed.
     let made = c.in_ok-made.ensures in
     let P : Bool → Type 0 = λ b. IsTwin (is_sought c.args.kind b)
-    (next_hops c.args.net.now (world_of w c.args.sym.now c.args.packet.now c.args.slots.now) c.args.router)
+    (next_hops c.args.net.now.files (world_of w c.args.sym.now c.args.packet.now c.args.slots.now) c.args.router)
     (forwarding_of w c.in_ok-made.made) in
     subst P (c.in_ok-here.ensures.value w (made.builds.reads w reads)) (made.value w reads needed)

@@ -11,7 +11,7 @@ loop-router-init c = record {
   builds = search rules;
   within = search rules;
   value = λ w reads needed.
-      let net = c.args.net.now in
+      let net = c.args.net.now.files in
       let world = world_of w c.args.sym.now c.args.packet.now c.args.slots.now in
       let P : List SymForwarding → Type 0 = λ t. AreTwins net world c.args.kind 0 (table_of w t) in
       subst P (sym c.new-table.ensures) (twins_none net world c.args.kind);
@@ -28,7 +28,7 @@ loop-router-preserved c = record {
 
 pub returns-clause-value : goal.returns-clause-value
 returns-clause-value c = λ w reads needed.
-    let all : c.loop-router.router ≡ length c.args.net.now = omega arith in
-    let P : ℕ → Type 0 = λ n. AreTwins c.args.net.now
+    let all : c.loop-router.router ≡ length c.args.net.now.files = omega arith in
+    let P : ℕ → Type 0 = λ n. AreTwins c.args.net.now.files
     (world_of w c.args.sym.now c.args.packet.now c.args.slots.now) c.args.kind n (table_of w c.loop-router.table) in
     subst P all (c.loop-router.invariant.value w reads needed)

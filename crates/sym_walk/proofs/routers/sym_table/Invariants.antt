@@ -12,6 +12,6 @@ abbrev pub invariant-loop-router : goal.invariant-loop-router
 invariant-loop-router l = record {
   builds : Builds l.fn.terms l.terms;
   within : table_end l.table ≤ size l.terms;
-  value : (w : Reading) → Reads w l.terms → DistancesWhereNeeded w l.net l.sym l.slots →
-      AreTwins l.net (world_of w l.sym l.packet l.slots) l.kind l.router (table_of w l.table);
+  value : (w : Reading) → Reads w l.terms → DistancesWhereNeeded w l.net.files l.sym l.slots →
+      AreTwins l.net.files (world_of w l.sym l.packet l.slots) l.kind l.router (table_of w l.table);
 }

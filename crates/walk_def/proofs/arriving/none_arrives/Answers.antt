@@ -8,7 +8,7 @@ use Rattle.walk_def.proofs.arriving.none_arrives.Goals as goal
 
 pub returns-clause-yes : goal.returns-clause-yes
 returns-clause-yes c none =
-    let files = c.args.net.now in
+    let files = c.args.net.now.files in
     let world = c.args.world.now in
     let target = c.args.target.now in
     let marks = c.arriving_from-marks.result.items in
@@ -27,7 +27,7 @@ returns-clause-yes c none =
 
 pub returns-clause-no : goal.returns-clause-no
 returns-clause-no c some =
-    let files = c.args.net.now in
+    let files = c.args.net.now.files in
     let world = c.args.world.now in
     let target = c.args.target.now in
     let marks = c.arriving_from-marks.result.items in

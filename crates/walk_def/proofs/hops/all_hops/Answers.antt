@@ -6,7 +6,7 @@ use Rattle.walk_def.proofs.hops.all_hops.Goals as goal
 
 pub loop-at-preserved : goal.loop-at-preserved
 loop-at-preserved c =
-    let files = c.args.net.now in
+    let files = c.args.net.now.files in
     let before = c.loop-at.hops-inside.items.items in
     let here : IsSent files c.args.world.now (length before) c.in_ok-list_hops.field-0 =
     sent_here files c.args.world.now c.loop-at.at (length before) c.in_ok-list_hops.field-0

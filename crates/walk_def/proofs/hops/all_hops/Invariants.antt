@@ -9,4 +9,4 @@ abbrev pub invariant-loop-at : goal.invariant-loop-at
 invariant-loop-at l =
     (length l.hops-inside.items.items ≡ l.at) ×
     ((router : ℕ) (own : List Hop) → slice_get l.hops-inside.items.items router ≡ Some own
-    → IsSent l.net l.world router own)
+    → IsSent l.net.files l.world router own)

@@ -11,7 +11,7 @@ use Rattle.walk_finder.proofs.finding.lost_walk.Goals as goal
 
 pub returns : goal.returns
 returns c =
-    let files = c.args.net.now in
+    let files = c.args.net.now.files in
     let world = c.args.world.now in
     let rows = c.as_slice.result.now in
     let kind : Kind = NoBlackHole c.args.start in

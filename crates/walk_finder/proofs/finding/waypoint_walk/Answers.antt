@@ -9,7 +9,7 @@ use Rattle.walk_finder.proofs.finding.waypoint_walk.Goals as goal
 
 pub returns : goal.returns
 returns c =
-    let files = c.args.net.now in
+    let files = c.args.net.now.files in
     let world = c.args.world.now in
     let start = c.args.start in
     let rows = c.in_ok-rows.rows in

@@ -8,7 +8,7 @@ pub loop-at-preserved : goal.loop-at-preserved
 loop-at-preserved c =
     let before = c.loop-at.rows-inside.items.items in
     let row = c.in_ok-row.row in
-    let files = c.args.net.now in
+    let files = c.args.net.now.files in
     let world = c.args.world.now in
     let kind = c.args.kind.now in
     let pushed : c.push.new.self.items ≡ before ++ row ∷ [] = c.in_ok-push.ensures.items in

@@ -9,4 +9,4 @@ abbrev pub invariant-loop-at : goal.invariant-loop-at
 invariant-loop-at l =
     (length l.rows-inside.items.items ≡ l.at)
     × ((router : ℕ) (row : Row) → slice_get l.rows-inside.items.items router ≡ Some row →
-    IsRow l.net l.world l.kind router row)
+    IsRow l.net.files l.world l.kind router row)

@@ -9,4 +9,4 @@ use Rattle.walk_finder.proofs.sought.sought_end.Given as goal
 abbrev pub invariant-loop-hop : goal.invariant-loop-hop
 invariant-loop-hop l =
     (k : ℕ) (d : Hop) (end : End) → k < l.hop-index → get_or l.own k d ≡ Ends end →
-    IsSought l.net l.world l.kind l.router end → ⊥
+    IsSought l.net.files l.world l.kind l.router end → ⊥

@@ -1,0 +1,4 @@
+pub mod Interfaces
+pub mod Connected
+pub mod Limits
+pub mod Values

@@ -1,0 +1,12 @@
+pub mod Order
+pub mod Ascending
+pub mod FewLinks
+pub mod TrackedUp
+pub mod EndPlaces
+pub mod Defined
+pub mod LeastWalks
+pub mod Peers
+pub mod Costs
+pub mod Equations
+pub mod SubnetOrder
+pub mod Survivors

@@ -1,0 +1,14 @@
+use Rattle.std.proofs.Common.{◌≡◌, drop, filter, ◌&&◌}
+use Rattle.std.specs.Prelude.{◌==◌}
+use Rattle.std.specs.List.{list_any}
+use Rattle.mw_text.specs.Address.{covers}
+use Rattle.net_parts.specs.World.{is_up}
+use Rattle.net_parts.proofs.states.is_reached_over.Given as goal
+
+-- the interfaces that are left decide
+abbrev pub invariant-loop-x : goal.invariant-loop-x
+invariant-loop-x l =
+    list_any (λ x. covers x.subnet l.a)
+    (filter (λ x. (x.id.router == l.router) && is_up l.files l.failures x) l.addresses)
+    ≡ list_any (λ x. covers x.subnet l.a)
+    (filter (λ x. (x.id.router == l.router) && is_up l.files l.failures x) (drop l.x-index l.addresses))

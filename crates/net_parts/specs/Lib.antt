@@ -1,0 +1,17 @@
+pub mod Protocols
+pub mod Sessions
+pub mod World
+pub mod Grouped
+pub mod Ospf
+pub mod Distances
+pub mod Routing
+pub mod Resolution
+pub mod Mapping
+pub mod Origins
+pub mod OspfRoutes
+pub mod Exports
+pub mod Tracked
+pub mod Decisions
+pub mod Entries
+pub mod Sending
+pub mod Stable
