@@ -7,3 +7,6 @@ pub mod RoomSteps
 pub mod Tabulated
 pub mod Supports
 pub mod Bounded
+pub mod Brought
+pub mod Known
+pub mod Fitting
