@@ -42,7 +42,7 @@ use Rattle.net_parts.specs.Stable.{Stable}
 use Rattle.net_parts.proofs.LeastWalks.{in-contains, in-left, in-right}
 use Rattle.slot_places.specs.declared.fields.Field.TheVariants.{Bits, Among}
 use Rattle.slot_places.specs.declared.rooms.Room.{Room}
-use Rattle.slot_places.specs.declared.TheConstants.{MOST_VALUES}
+use Rattle.slot_places.specs.declared.fields.TheConstants.{MOST_VALUES}
 use Rattle.slot_places.specs.Origins.{is_static_at, is_subnet_at, origins_at}
 use Rattle.slot_places.specs.Rooms.{FitsIn, can_be_used, dearest_of, dearest_walk, has_sources, has_subnet, room_around}
 use Rattle.slot_places.specs.Rooms.{room_at, room_for, room_of, runs_ospf}
@@ -109,8 +109,7 @@ fits_among numbers x there small = by (nat_le (length (once numbers)) MOST_VALUE
       FitsField (if b then Among (once numbers) else Bits (width_for (greatest (once numbers)))) x
   by true = in-contains x (once numbers) within
   by false =
-      in_width x (greatest (once numbers)) 0 32 (below_greatest (once numbers) 0 x within)
-      (subst (λ k. x < 2 ^ k) (omega arith) small)
+      in_width x (greatest (once numbers)) 0 32 (below_greatest (once numbers) 0 x within) small
 
 -- ---- the dearest of some routes, and of the adjacencies
 
@@ -232,7 +231,7 @@ module _ (files : List File) (destinations : Prefix) (d : Addr) (failures : Fail
         kind = fits_among (map (λ (r : OspfRec). kind_rank r.kind) origins) (kind_rank h.kind) kind (small_rank h.kind);
         metric = fits_among (map (λ (r : OspfRec). r.metric) origins) h.metric metric fits.metric;
         cost = in_width h.cost (dearest_of origins + dearest_walk files) 0 32 (held_cost router slot h here holds)
-            (subst (λ k. h.cost < 2 ^ k) (omega arith) fits.cost);
+            fits.cost;
       }
 
   room_is : (router : ℕ) (slot : Slot) (h : OspfRec) → slot_at tables router len ≡ Some slot → slot.ospf ≡ Some h →

@@ -115,17 +115,27 @@ module _ (files : List File) (destinations : Prefix) (d : Addr) (failures : Fail
 
   -- ---- what is one of them
 
-  advertised_in : (o : OspfRec) → In o (flat_map (advertised_by destinations len) (ospf_interfaces files)) → In o all
-  unfolding origins_at
-  advertised_in o there = in-left o _ _ (in-left o _ _ there)
+  abbrev by_interfaces : List OspfRec
+  by_interfaces = flat_map (advertised_by destinations len) (ospf_interfaces files)
 
-  subnets_in : (o : OspfRec) → In o (flat_map (taken_of_subnet files destinations len) (addressed files)) → In o all
+  abbrev by_subnets : List OspfRec
+  by_subnets = flat_map (taken_of_subnet files destinations len) (addressed files)
+
+  abbrev by_files : List OspfRec
+  by_files = flat_map (by_file destinations len) files
+
+  advertised_in : (o : OspfRec) → In o by_interfaces → In o all
   unfolding origins_at
-  subnets_in o there = in-left o _ _ (in-right o _ _ there)
+  advertised_in o there = in-left o (by_interfaces ++ by_subnets) by_files (in-left o by_interfaces by_subnets there)
+
+  subnets_in : (o : OspfRec) → In o by_subnets → In o all
+  unfolding origins_at
+  subnets_in o there = in-left o (by_interfaces ++ by_subnets) by_files (in-right o by_interfaces by_subnets there)
 
   file_in : (o : OspfRec) → In o (by_file destinations len file) → In o all
   unfolding origins_at
-  file_in o there = in-right o _ _ (flat_map-in (by_file destinations len) files file o (in-place files router file at) there)
+  file_in o there = in-right o (by_interfaces ++ by_subnets) by_files
+      (flat_map-in (by_file destinations len) files file o (in-place files router file at) there)
 
   process_in : (o : OspfRec) → In o (by_process len file process) → In o all
   process_in o there = file_in o (in-right o _ _

@@ -38,7 +38,7 @@ pub in-lens : (plan : Plan) (n len : ℕ) → In len (lens_below plan n) → (le
 unfolding lens_below
 in-lens plan zero len there = absurd there
 in-lens plan (suc n) len there =
-    by (in-cases len (lens_below plan n) (if has_slice plan n then n ∷ [] else []) there)
+    by (in-cases len (lens_below plan n) (if has_slice plan n then n ∷ [] else []) there) (in-lens plan n len)
   where
     last : (b : Bool) → has_slice plan n ≡ b → In len (if b then n ∷ [] else []) →
         (len < suc n) × (has_slice plan len ≡ true)
@@ -47,9 +47,10 @@ in-lens plan (suc n) len there =
     last false is none = absurd none
 
     by : In len (lens_below plan n) ⊎ In len (if has_slice plan n then n ∷ [] else []) →
+        (In len (lens_below plan n) → (len < n) × (has_slice plan len ≡ true)) →
         (len < suc n) × (has_slice plan len ≡ true)
-    by (inl front) = let found = in-lens plan n len front in let less = found.0 in (omega (arith, less), found.1)
-    by (inr back) = last (has_slice plan n) refl back
+    by (inl front) rest = let found = rest front in let less = found.0 in (omega (arith, less), found.1)
+    by (inr back) rest = last (has_slice plan n) refl back
 
 -- ---- which places
 
@@ -71,21 +72,24 @@ places-in lens (suc n) router len below there =
 pub in-places : (lens : List ℕ) (n : ℕ) (p : Place) → In p (places_below lens n) → (p.router < n) × In p.len lens
 unfolding places_below
 in-places lens zero p there = absurd there
-in-places lens (suc n) p there = by (in-cases p (places_below lens n) (map (place n) lens) there) where
-  last : (len : ℕ) × In len lens × (p ≡ place n len) → (p.router < suc n) × In p.len lens
-  last (len, here, is) =
-      let router = ap (λ (q : Place). q.router) is in
-      (omega (arith, router), subst (λ k. In k lens) (sym (ap (λ (q : Place). q.len) is)) here)
+in-places lens (suc n) p there =
+    by (in-cases p (places_below lens n) (map (place n) lens) there) (in-places lens n p)
+  where
+    last : (len : ℕ) × In len lens × (p ≡ place n len) → (p.router < suc n) × In p.len lens
+    last (len, here, is) =
+        let router = ap (λ (q : Place). q.router) is in
+        (omega (arith, router), subst (λ k. In k lens) (sym (ap (λ (q : Place). q.len) is)) here)
 
-  by : In p (places_below lens n) ⊎ In p (map (place n) lens) → (p.router < suc n) × In p.len lens
-  by (inl front) = let found = in-places lens n p front in let less = found.0 in (omega (arith, less), found.1)
-  by (inr back) = last (in-map (place n) lens p back)
+    by : In p (places_below lens n) ⊎ In p (map (place n) lens) →
+        (In p (places_below lens n) → (p.router < n) × In p.len lens) → (p.router < suc n) × In p.len lens
+    by (inl front) rest = let found = rest front in let less = found.0 in (omega (arith, less), found.1)
+    by (inr back) rest = last (in-map (place n) lens p back)
 
 -- ---- how many
 
 pub places-length : (lens : List ℕ) (n : ℕ) → length (places_below lens n) ≡ n * length lens
 unfolding places_below
-places-length lens zero = refl
+places-length lens zero = let none : 0 * length lens ≡ 0 = omega arith in sym none
 places-length lens (suc n) =
     let front = places-length lens n in
     let both = length-append (places_below lens n) (map (place n) lens) in
@@ -117,15 +121,16 @@ one_alone R x = λ i j d earlier within. absurd (omega (arith, earlier, within))
 pub lens-ascend : (plan : Plan) (n : ℕ) → AllPairs (λ a b. a < b) (lens_below plan n)
 unfolding lens_below
 lens-ascend plan zero = no_pairs (λ a b. a < b)
-lens-ascend plan (suc n) = by (has_slice plan n) where
-  by : (b : Bool) → AllPairs (λ a c. a < c) (lens_below plan n ++ (if b then n ∷ [] else []))
-  by true = pairs-append (λ a c. a < c) (lens_below plan n) (n ∷ []) (lens-ascend plan n) (one_alone (λ a c. a < c) n)
+lens-ascend plan (suc n) = by (has_slice plan n) (lens-ascend plan n) where
+  by : (b : Bool) → AllPairs (λ a c. a < c) (lens_below plan n) →
+      AllPairs (λ a c. a < c) (lens_below plan n ++ (if b then n ∷ [] else []))
+  by true front = pairs-append (λ a c. a < c) (lens_below plan n) (n ∷ []) front (one_alone (λ a c. a < c) n)
       (λ a there. all-from-in (λ c. a < c) (n ∷ []) (λ c here. last a c (in-lens plan n a there).0 here))
     where
       last : (a c : ℕ) → a < n → In c (n ∷ []) → a < c
       last a c less (inl same) = omega (arith, less, same)
       last a c less (inr none) = absurd none
-  by false = pairs-append (λ a c. a < c) (lens_below plan n) [] (lens-ascend plan n) (no_pairs (λ a c. a < c))
+  by false front = pairs-append (λ a c. a < c) (lens_below plan n) [] front (no_pairs (λ a c. a < c))
       (λ a there. λ k d within. absurd (omega (arith, within)))
 
 mapped_pairs : (router : ℕ) (lens : List ℕ) → AllPairs (λ a b. a < b) lens → AllPairs IsBefore (map (place router) lens)

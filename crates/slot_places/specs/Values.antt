@@ -4,7 +4,7 @@ use Rattle.std.specs.Prelude.{if◌then◌else◌}
 use Rattle.ios_ast.specs.Deciding.{carries}
 use Rattle.slot_places.specs.declared.fields.Field.{Field}
 use Rattle.slot_places.specs.declared.fields.Field.TheVariants.{Bits, Among}
-use Rattle.slot_places.specs.declared.TheConstants.{MOST_VALUES}
+use Rattle.slot_places.specs.declared.fields.TheConstants.{MOST_VALUES}
 
 -- ---- widths
 

@@ -11,5 +11,5 @@ pub mod usable;
 
 pub use fields::{Field, MOST_VALUES, width_for};
 pub use places::{Place, find_place, item_at, lens_of, places_of};
-pub use rooms::{Room, room_for, rooms};
+pub use rooms::{Room, room_for, rooms_of};
 pub use usable::can_be_used;

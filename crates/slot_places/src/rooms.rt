@@ -143,7 +143,7 @@ fn room_at(
 /// What an OSPF route can be for a prefix of each length that contains some of the destinations: of lengths 0 to 32. None
 /// for a length at which there can be no such route, since no line of a file brings one into OSPF.
 #[tactic(auto, using(crate::proofs::RoomSteps::rooms_more, crate::proofs::RoomSteps::rooms_none))]
-pub fn rooms(
+pub fn rooms_of(
     alloc: Global,
     net: &Net,
     destinations: &Prefix,
