@@ -323,10 +323,10 @@ tables_again slot_of open_at f lens n off back =
 pub all_hold_again : {U : Type 0} (holds : Place → U → Bool) (open_at : Place → U) (ps : List Place) →
     All (λ p. holds p (open_at p) ≡ true) ps → all_hold holds ps (map open_at ps) ≡ true
 unfolding all_hold
-all_hold_again holds open_at [] all = refl
-all_hold_again holds open_at (p ∷ ps) all =
-    ap₂ (λ a b. a && b) (All-head (λ q. holds q (open_at q) ≡ true) p ps all)
-    (all_hold_again holds open_at ps (All-tail (λ q. holds q (open_at q) ≡ true) p ps all))
+all_hold_again holds open_at [] each = refl
+all_hold_again holds open_at (p ∷ ps) each =
+    ap₂ (λ a b. a && b) (All-head (λ q. holds q (open_at q) ≡ true) p ps each)
+    (all_hold_again holds open_at ps (All-tail (λ q. holds q (open_at q) ≡ true) p ps each))
 
 -- the place of each slot of whole tables is that of a router and a length
 split : (n k : ℕ) → k < LENGTHS * n → (q : ℕ) × (l : ℕ) × (q < n) × (l < LENGTHS) × (k ≡ LENGTHS * q + l)

@@ -3,7 +3,7 @@
 ghost use Rattle.std.specs.Prelude.{◌≡◌, ◌==◌, ◌++◌, ◌<◌, IfOk, IfSome, OnOk, length, map, position, slice_get, unwrap_or};
 ghost use Rattle.std.specs.List.{count_by};
 ghost use Rattle.std.specs.Option.{option_copied};
-ghost use Rattle.slot_places.specs.Places as places;
+ghost use Rattle.slot_places.specs.Places as standing;
 ghost use Rattle.slot_places.specs.Plans as plans;
 
 use mw_text::List;
@@ -69,7 +69,7 @@ pub fn lens_of(alloc: Global, plan: &Plan) -> Result<Vec<u8>, AllocError>
 
 // Puts the places of a router at the end.
 fn add_places(places: &mut List<Place>, router: u32, lens: &[u8]) -> Result<(), AllocError>
-    ensures { OnOk result (places.new ≡ places.old ++ map (places.place router) lens.now) }
+    ensures { OnOk result (places.new ≡ places.old ++ map (standing.place router) lens.now) }
 {
     for len in lens {
         places.items.push(Place { router, len: *len })?;
@@ -81,7 +81,7 @@ fn add_places(places: &mut List<Place>, router: u32, lens: &[u8]) -> Result<(), 
 /// and then by length.
 #[tactic(auto, using(crate::proofs::PlaceSteps::places_more, crate::proofs::PlaceSteps::places_none))]
 pub fn places_of(alloc: Global, plan: &Plan, routers: u32) -> Result<List<Place>, AllocError>
-    ensures { IfOk result (λ all. all ≡ places.places_of plan.now routers) }
+    ensures { IfOk result (λ all. all ≡ standing.places_of plan.now routers) }
 {
     let lens = lens_of(alloc, plan)?;
     let mut all = List::new(alloc);
@@ -92,14 +92,14 @@ pub fn places_of(alloc: Global, plan: &Plan, routers: u32) -> Result<List<Place>
 }
 
 fn is_at(p: &Place, router: u32, len: u8) -> bool
-    ensures { result ≡ places.is_at router len p.now }
+    ensures { result ≡ standing.is_at router len p.now }
 {
     p.router == router && p.len == len
 }
 
 /// Where the place of that router and length stands among some places. None exactly where it is none of them.
 pub fn find_place(places: &[Place], router: u32, len: u8) -> Option<usize>
-    ensures place { result ≡ position (places.is_at router len) places.now }
+    ensures place { result ≡ position (standing.is_at router len) places.now }
     ensures within { IfSome result (λ at. at < length places.now) }
 {
     places.iter().position(|p| is_at(p, router, len))
@@ -109,7 +109,7 @@ pub fn find_place(places: &[Place], router: u32, len: u8) -> Option<usize>
 /// of the places.
 #[tactic(auto, using(crate::proofs::PlaceSteps::item_found, crate::proofs::PlaceSteps::item_none))]
 pub fn item_at<'a, T>(places: &[Place], items: &'a [T], router: u32, len: u8) -> Option<&'a T>
-    ensures { option_copied result ≡ places.item_at places.now items.now router len }
+    ensures { option_copied result ≡ standing.item_at places.now items.now router len }
 {
     match find_place(places, router, len) {
         None => None,
