@@ -8,3 +8,4 @@ pub mod Surroundings
 pub mod Standings
 pub mod Reading
 pub mod Writable
+pub mod Counterexamples

@@ -6,7 +6,7 @@ ghost use Rattle.route_record.specs.declared.Environment.{Environment as Environ
 ghost use Rattle.route_record.specs.declared.World.{World as WorldOf};
 ghost use Rattle.net_encoder.specs.Opened.{IsRoot, ReadsAs, StandsIn};
 ghost use Rattle.sym_walk.specs.Whole.{whole_of};
-ghost use Rattle.world_variables.specs.Breaking.{IsBreaking};
+ghost use Rattle.question_lang.specs.Breaking.{IsBreaking};
 ghost use Rattle.world_variables.specs.Packets.{FitsSet};
 ghost use Rattle.world_variables.specs.Slots.{runs_no_bgp};
 ghost use Rattle.world_variables.specs.Worlds.{FitsDistance, no_environment, world_bits, world_from, world_width};

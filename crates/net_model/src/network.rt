@@ -8,7 +8,7 @@ ghost use Rattle.mw_text.specs.Text.{same_text};
 ghost use Rattle.net_parts.specs.Exports as exports;
 ghost use Rattle.net_parts.specs.Exports.{router_id};
 ghost use Rattle.net_interfaces.specs.Interfaces as interfaces;
-ghost use Rattle.net_model.specs.Kept.{IsKept, ids_from};
+ghost use Rattle.net_model.specs.Kept.{IsJoined, IsKept, RunsOspf, ids_from};
 ghost use Rattle.net_interfaces.specs.Limits.{keeps_limits};
 ghost use Rattle.net_refusals.specs.Network.{IsNetwork};
 ghost use Rattle.net_parts.specs.Ospf as ospf;
@@ -18,19 +18,19 @@ ghost use Rattle.net_parts.specs.Sessions as sessions;
 ghost use Rattle.net_parts.specs.Tracked as values;
 ghost use Rattle.net_parts.specs.World as world;
 
+use ios_ast::File;
+use mw_text::{Addr, List, Prefix, same_bytes};
+use net_interfaces::MOST_FILES;
+use net_interfaces::interfaces::{Addressed, IfaceId, addressed_of};
 use net_parts::adjacencies::{Adjacency, adjacencies};
 use net_parts::ends::{learnt_over, places_at};
-use net_interfaces::interfaces::{Addressed, IfaceId, addressed_of};
 use net_parts::links::{Link, link_place, links_of};
 use net_parts::ospf::{OspfInterface, advertised, ospf_cost, ospf_interfaces};
-use net_interfaces::MOST_FILES;
-use net_refusals::{NetCause, NetRefused, refuse};
 use net_parts::router_ids::router_id;
 use net_parts::sessions::{SessionEnd, ends_of, peerings};
 use net_parts::states::{is_direct_over, is_reached_over, is_up, is_up_at, owner, subnet_of};
 use net_parts::tracking::{tracked_of, united_tracked};
-use ios_ast::File;
-use mw_text::{Addr, List, Prefix, same_bytes};
+use net_refusals::{NetCause, NetRefused, refuse};
 use route_record::{Failures, Learnt, Tracked};
 use std::alloc::{AllocError, Global};
 use std::marker::Model;
@@ -44,15 +44,27 @@ pub struct Net {
     parts: Parts,
 }
 
-// What a network keeps beside its files.
+// The interfaces of a network, and what joins its routers.
 #[derive(Drop)]
-struct Parts {
+struct Joined {
     addresses: List<Addressed>,
     links: List<Link>,
     ends: List<SessionEnd>,
+}
+
+// What runs OSPF.
+#[derive(Drop)]
+struct OspfParts {
     running: List<OspfInterface>,
     adjacencies: List<Adjacency>,
     advertised: List<Prefix>,
+}
+
+// What a network keeps beside its files.
+#[derive(Drop)]
+struct Parts {
+    joined: Joined,
+    ospf: OspfParts,
     tracked: Tracked,
     ids: List<Addr>,
 }
@@ -113,29 +125,50 @@ fn id_at(files: &[File], ids: &[Addr], router: u32) -> Addr
     ids[router as usize]
 }
 
+fn joined_of(alloc: Global, files: &[File]) -> Result<Joined, AllocError>
+    requires limits { list_all keeps_limits files.now ≡ true }
+    requires few { length files.now ≤ MOST_FILES }
+    ensures { IfOk result (IsJoined files.now) }
+{
+    let addresses = addressed_of(alloc, files)?;
+    let links = all_links(alloc, files, addresses.as_slice())?;
+    let ends = ends_of(alloc, files, addresses.as_slice())?;
+    Ok(Joined {
+        addresses,
+        links,
+        ends,
+    })
+}
+
+fn ospf_of(alloc: Global, files: &[File], addresses: &[Addressed]) -> Result<OspfParts, AllocError>
+    requires addresses { addresses.now ≡ interfaces.addressed files.now }
+    ensures { IfOk result (RunsOspf files.now) }
+{
+    let running = ospf_interfaces(alloc, files, addresses)?;
+    let adjacencies = adjacencies(alloc, files, running.as_slice())?;
+    let advertised = advertised(alloc, files, running.as_slice())?;
+    Ok(OspfParts {
+        running,
+        adjacencies,
+        advertised,
+    })
+}
+
 // What a network of these files keeps.
-#[tactic(auto, using(crate::proofs::Tracking::tracks_files))]
 fn parts_of(alloc: Global, files: &[File]) -> Result<Parts, AllocError>
     requires network { IsNetwork files.now }
     requires few { length files.now ≤ MOST_FILES }
     ensures kept { IfOk result (IsKept files.now) }
     ensures tracked { IfOk result (λ parts. parts.tracked ≡ values.tracked_of files.now) }
 {
-    let addresses = addressed_of(alloc, files)?;
-    let links = all_links(alloc, files, addresses.as_slice())?;
-    let ends = ends_of(alloc, files, addresses.as_slice())?;
-    let running = ospf_interfaces(alloc, files, addresses.as_slice())?;
-    let adjacencies = adjacencies(alloc, files, running.as_slice())?;
-    let advertised = advertised(alloc, files, running.as_slice())?;
-    let tracked = tracked_of(alloc, files, addresses.as_slice())?;
-    let ids = all_ids(alloc, files, addresses.as_slice())?;
+    let joined = joined_of(alloc, files)?;
+    let addresses = joined.addresses.as_slice();
+    let ospf = ospf_of(alloc, files, addresses)?;
+    let ids = all_ids(alloc, files, addresses)?;
+    let tracked = tracked_of(alloc, files, addresses)?;
     Ok(Parts {
-        addresses,
-        links,
-        ends,
-        running,
-        adjacencies,
-        advertised,
+        joined,
+        ospf,
         tracked,
         ids,
     })
@@ -176,7 +209,7 @@ impl Net {
     pub fn addresses(&self) -> &[Addressed]
         ensures { result.now ≡ interfaces.addressed self.now.files }
     {
-        self.parts.addresses.as_slice()
+        self.parts.joined.addresses.as_slice()
     }
 
     /// The links, ascending by their prefixes: a link is named by its place here.
@@ -186,7 +219,7 @@ impl Net {
         ensures ascending { AllPairs world.IsBefore (world.links_of self.now.files) }
         ensures few { length (world.links_of self.now.files) ≤ 0xffff_ffff }
     {
-        self.parts.links.as_slice()
+        self.parts.joined.links.as_slice()
     }
 
     /// The place of the link of that subnet. None exactly where the subnet is no link.
@@ -207,7 +240,7 @@ impl Net {
         ensures placed { All (sessions.IsPlaced self.now.files) (sessions.ends_of self.now.files) }
         ensures in_order { IsNonDecreasingBy (λ end. end.router) (sessions.ends_of self.now.files) }
     {
-        self.parts.ends.as_slice()
+        self.parts.joined.ends.as_slice()
     }
 
     /// Where the ends of one router stand among all: one after another, none where it has no session.
@@ -233,7 +266,7 @@ impl Net {
         ensures value { result.now ≡ ospf.ospf_interfaces self.now.files }
         ensures costs { All (λ x. (0 < x.cost) × (x.cost ≤ 65535)) (ospf.ospf_interfaces self.now.files) }
     {
-        self.parts.running.as_slice()
+        self.parts.ospf.running.as_slice()
     }
 
     /// All OSPF adjacencies while no link fails, by `from` and then by `to`.
@@ -242,7 +275,7 @@ impl Net {
         ensures value { result.now ≡ ospf.adjacencies self.now.files }
         ensures costs { All (λ a. (0 < a.cost) × (a.cost ≤ 65535)) (ospf.adjacencies self.now.files) }
     {
-        self.parts.adjacencies.as_slice()
+        self.parts.ospf.adjacencies.as_slice()
     }
 
     /// Every prefix that some interface advertises by OSPF, ascending, each once.
@@ -251,7 +284,7 @@ impl Net {
         ensures value { result.now ≡ ospf.advertised self.now.files }
         ensures ascending { AllPairs (λ p q. IsTrue (world.comes_before p q)) (ospf.advertised self.now.files) }
     {
-        self.parts.advertised.as_slice()
+        self.parts.ospf.advertised.as_slice()
     }
 
     /// The communities, AS numbers and cluster identifiers that the network tracks: all that its files name, and what was
@@ -264,7 +297,6 @@ impl Net {
     }
 
     /// Tracks these values too. Where there is no memory for it, the network stays as it was.
-    #[tactic(auto, using(crate::proofs::Tracking::tracks_more))]
     pub fn track_more(&mut self, alloc: Global, more: &Tracked) -> Result<(), AllocError>
         requires room { values.IsRoomFor self.old.tracked more.now }
         ensures tracked { OnOk result (self.new ≡ record self.old { tracked = values.united_tracked self.old.tracked more.now }) }

@@ -2,6 +2,7 @@ pub mod Order
 pub mod Ascending
 pub mod FewLinks
 pub mod TrackedUp
+pub mod Tracks
 pub mod EndPlaces
 pub mod Defined
 pub mod LeastWalks
@@ -10,3 +11,4 @@ pub mod Costs
 pub mod Equations
 pub mod SubnetOrder
 pub mod Survivors
+pub mod Heard

@@ -145,7 +145,9 @@ no_limit : (files : List File) → first_refusal files ≡ None → (k : ℕ) (f
 unfolding first_refusal first_broken
 no_limit files unrefused k file there =
     let before = option_or (refused_by_uses (refused_by_addresses files) files) (second_area_number files) in
-    none_at NetLimit files 0 k files file (or_none before (first_broken NetLimit files) unrefused) there
+    let place : k ≡ 0 + k = omega arith in
+    ap (λ n. limit_line (take n files) file) place
+    ∙ none_at NetLimit files 0 k files file (or_none before (first_broken NetLimit files) unrefused) there
 
 pub few_communities : (files : List File) → first_refusal files ≡ None →
     length (tracked_communities files) ≤ MOST_COMMUNITIES

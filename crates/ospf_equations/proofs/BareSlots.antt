@@ -4,7 +4,8 @@ use Rattle.std.specs.Prelude.{option_map}
 use Rattle.route_record.specs.declared.tracked.Tracked.{Tracked}
 use Rattle.term_store.specs.Terms.{Reading, at}
 use Rattle.sym_policy.specs.declared.records.SymBgp.{SymBgp}
-use Rattle.sym_policy.specs.Held.{StandsForBgp, bgp_at, bgp_of, bgp_shape}
+use Rattle.sym_policy.specs.Held.{StandsForBgp, bgp_at, bgp_of}
+use Rattle.route_shapes.specs.Bgp.{bgp_shape}
 use Rattle.sym_policy.specs.Records.{address_of}
 use Rattle.sym_policy.specs.Seen.{route_towards}
 use Rattle.sym_policy.specs.Seen.{towards_of}

@@ -1,13 +1,17 @@
--- What breaks a question.
+-- What breaks a question, and what breaks it with a stable routing around it.
 use Rattle.std.specs.Prelude.{◌≡◌, ◌≢◌, ◌⊎◌, ℕ, ◌+◌, List, [], ◌∷◌, ◌++◌, All, IsTrue, length, Option, Some, None}
 use Rattle.mw_text.specs.declared.address.Prefix.{Prefix}
 use Rattle.mw_text.specs.Address.{covers}
 use Rattle.ios_ast.specs.declared.file.File.{File}
+use Rattle.route_record.specs.declared.Environment.{Environment}
 use Rattle.route_record.specs.declared.World.{World}
 use Rattle.net_parts.specs.Routing.{up_interfaces, is_direct}
+use Rattle.net_parts.specs.Stable.{Stable}
+use Rattle.net_parts.specs.World.{IsEnvironment, IsFailureSet}
 use Rattle.question_lang.specs.declared.question.Kind.{Kind}
 use Rattle.question_lang.specs.declared.question.Kind.TheVariants.{Reach, Isolate, Waypoint, NoLoop, NoBlackHole}
 use Rattle.question_lang.specs.declared.question.Kind.TheVariants.{Within, Alike, NoStable}
+use Rattle.question_lang.specs.declared.question.Question.{Question}
 use Rattle.question_lang.specs.declared.question.Start.{Start}
 use Rattle.question_lang.specs.declared.question.Target.{Target}
 use Rattle.question_lang.specs.declared.question.Target.TheVariants.{Router, Subnet, Peer}
@@ -15,6 +19,7 @@ use Rattle.question_lang.specs.declared.walk.End.{End}
 use Rattle.question_lang.specs.declared.walk.End.TheVariants.{Delivered, Left, NoRoute, Discarded, DeniedIn, DeniedOut}
 use Rattle.question_lang.specs.declared.walk.End.TheVariants.{Loop, Open}
 use Rattle.question_lang.specs.declared.walk.Walk.{Walk}
+use Rattle.question_lang.specs.Packets.{IsInSet}
 use Rattle.question_lang.specs.Walks.{IsWalk}
 
 -- a walk that stands nowhere would have begun at the interface that denied it
@@ -89,3 +94,25 @@ BreaksBy files world NoStable walk = Unit {0}
 abbrev pub Breaks : List File → World → Kind → Option Walk → Type 0
 Breaks files world kind (Some walk) = IsWalk files world walk × BreaksBy files world kind walk
 Breaks files world kind None = kind ≡ NoStable
+
+-- a packet of the question's set, an environment and at most so many failed links as the question allows have this
+-- stable routing, and it breaks the question, by that walk or without one
+pub record IsBreaking (files : List File) (question : Question) (world : World) (environment : Environment)
+    (walk : Option Walk) : Type 0 where
+  pub packet : IsInSet question.packets world.packet
+  pub environment_fits : IsEnvironment files environment
+  pub failures : IsFailureSet files question.failures world.failures
+  pub stable : Stable files world.packet.dst world.failures environment world.tables
+  pub breaks : Breaks files world question.kind walk
+
+-- something breaks the question
+abbrev pub IsBreakable : List File → Question → Type 0
+IsBreakable files question =
+    (world : World) × (environment : Environment) × (walk : Option Walk)
+    × IsBreaking files question world environment walk
+
+-- nothing does
+abbrev pub IsUnbroken : List File → Question → Type 0
+IsUnbroken files question =
+    (world : World) (environment : Environment) (walk : Option Walk)
+    → IsBreaking files question world environment walk → ⊥

@@ -24,15 +24,17 @@ use Rattle.question_lang.specs.Breaking.{Breaks}
 use Rattle.question_lang.specs.declared.question.Question.{Question}
 use Rattle.question_lang.specs.declared.walk.Walk.{Walk}
 use Rattle.cex_json.specs.declared.counterexample.Counterexample.{Counterexample}
-use Rattle.stable_replay.specs.Replayed.{world_of}
-use Rattle.world_variables.specs.Breaking.{IsBreakable, IsBreaking}
+use Rattle.cex_json.specs.Counterexamples.{world_of}
+use Rattle.question_lang.specs.Breaking.{IsBreakable, IsBreaking}
 use Rattle.world_variables.specs.Worlds.{no_environment, world_bits, world_from}
 use Rattle.run_answers.specs.declared.verdict.Verdict.{Verdict}
 use Rattle.question_search.specs.declared.formula.Formula.{Formula}
 use Rattle.run_answers.specs.Answering.{IsLogged, IsSearchedSo, IsUnfinished, answer_of, end_text}
 use Rattle.question_search.specs.Formulas.{IsFormula}
 use Rattle.run_answers.specs.Running.{IsSectionOf}
-use Rattle.run_answers.specs.Verdicts.{IsRight, IsSearched, IsTrueCounterexample, IsUnbroken, ShowsVerdict, opening_text}
+use Rattle.run_answers.specs.Verdicts.{IsRight, IsSearched, ShowsVerdict, opening_text}
+use Rattle.cex_json.specs.Counterexamples.{IsTrueCounterexample}
+use Rattle.question_lang.specs.Breaking.{IsUnbroken}
 use Rattle.run_answers.specs.Verdicts.{section_text}
 
 -- the root can be true exactly where something breaks the question

@@ -9,7 +9,7 @@ use Rattle.route_record.specs.declared.Environment.{Environment}
 use Rattle.route_record.specs.declared.World.{World}
 use Rattle.question_lang.specs.declared.question.Question.{Question}
 use Rattle.question_lang.specs.declared.walk.Walk.{Walk}
-use Rattle.world_variables.specs.Breaking.{IsBreaking}
+use Rattle.question_lang.specs.Breaking.{IsBreaking}
 use Rattle.world_variables.specs.Worlds.{no_environment, world_bits, world_from, world_width}
 use Rattle.question_search.specs.declared.formula.Formula.{Formula}
 

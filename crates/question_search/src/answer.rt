@@ -1,7 +1,7 @@
 //! Answers one question by a search, whose log shows the answer.
 
 ghost use Rattle.std.specs.Prelude.{◌≡◌, ℕ, List as ListOf, Option as OptionOf, IfOk, OnErr, length, true};
-ghost use Rattle.world_variables.specs.Breaking.{IsBreaking};
+ghost use Rattle.question_lang.specs.Breaking.{IsBreaking};
 ghost use Rattle.cdcl_search.specs.Outcomes.{OnLogFault, OnSat, OnUnknown, OnUnsat, Shows, UnlessLogFault};
 ghost use Rattle.mw_outside.specs.Faults.{Rose};
 ghost use Rattle.world_variables.specs.Slots.{runs_no_bgp};
@@ -12,6 +12,7 @@ ghost use Rattle.question_search.specs.Searches.{IsFound};
 ghost use Rattle.resolution_check.specs.declared.log.Entry.{Entry};
 ghost use Rattle.resolution_check.specs.Entries.{IsUnsatisfiable, satisfies};
 ghost use Rattle.run_answers.specs.Answering.{IsLogged, IsUnfinished};
+ghost use Rattle.cex_json.specs.Counterexamples.{IsTrueCounterexample};
 ghost use Rattle.run_answers.specs.Verdicts as verdicts;
 ghost use Rattle.run_inputs.specs.Loading.{IsBudget};
 ghost use Rattle.term_store.specs.Terms.{truth};
@@ -42,7 +43,7 @@ fn broken_world(
     world: World,
 ) -> Result<Counterexample, AllocError>
     requires breaking { (walk : OptionOf WalkOf) × IsBreaking net.now.files question.now world no_environment walk }
-    ensures { IfOk result (verdicts.IsTrueCounterexample net.now.files number question.now) }
+    ensures { IfOk result (IsTrueCounterexample net.now.files number question.now) }
 {
     let walk = find_walk(alloc, net, &world, &question.kind)?;
     Ok(Counterexample {
@@ -70,7 +71,7 @@ fn counterexample_of(
     requires formula { IsFormula net.now.files question.now formula.now }
     requires values { length values.now ≡ formula.now.cnf.vars }
     requires satisfied { satisfies (truth values.now) formula.now.cnf.clauses ≡ true }
-    ensures { IfOk result (verdicts.IsTrueCounterexample net.now.files number question.now) }
+    ensures { IfOk result (IsTrueCounterexample net.now.files number question.now) }
 {
     let roots = [formula.root];
     let row = decoded(

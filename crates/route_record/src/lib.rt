@@ -10,7 +10,7 @@ ghost use Rattle.std.specs.Option.{option_copied};
 
 pub use fitting::read_tables;
 use mw_text::{Addr, List};
-pub use shaping::shape;
+pub use shaping::{saturated_length, shape};
 pub use tracked::{MOST_TRACKED, Shape, Tracked};
 
 /// How many prefix lengths there are: 0 to 32.

@@ -2,7 +2,7 @@
 
 ghost use Rattle.std.specs.Prelude.{◌≡◌, ℕ, ◌+◌, ◌*◌, ◌≤◌, ◌<◌, ◌^◌, Bool, if◌then◌else◌, List, length, map};
 ghost use Rattle.std.specs.List.{list_any};
-ghost use Rattle.route_record.specs.Shape.{marked_number, shape_of, first_of, last_of, AlikeOf};
+ghost use Rattle.route_record.specs.Shape.{marked_number, saturated, shape_of, first_of, last_of, AlikeOf};
 
 use crate::BgpRec;
 use crate::tracked::{MOST_TRACKED, Shape, Tracked};
@@ -42,13 +42,23 @@ fn last_number(path: &[u32]) -> u32
     path.last().copied().unwrap_or(0)
 }
 
-/// The shape of a record's lists.
+/// A length in 32 bits; the greatest number of these where it does not fit.
+#[tactic(auto, unfolding(crate::specs::Shape::saturated))]
+pub fn saturated_length(len: usize) -> u32
+    ensures { result ≡ saturated len }
+{
+    if len < u32::MAX as usize {
+        len as u32
+    } else {
+        u32::MAX
+    }
+}
+
+/// The shape of a record's lists. A length that has no 32 bits stands as the greatest number that has.
 pub fn shape(rec: &BgpRec, tracked: &Tracked) -> Shape
     requires communities { length tracked.now.communities ≤ MOST_TRACKED }
     requires numbers { length tracked.now.numbers ≤ MOST_TRACKED }
     requires clusters { length tracked.now.clusters ≤ MOST_TRACKED }
-    requires path { length rec.now.path < 2 ^ 32 }
-    requires reflected { length rec.now.clusters < 2 ^ 32 }
     ensures value { result ≡ shape_of tracked.now rec.now }
 
     // Records that differ in untracked communities alone have one shape.
@@ -56,12 +66,12 @@ pub fn shape(rec: &BgpRec, tracked: &Tracked) -> Shape
 {
     let path = rec.path.as_slice();
     Shape {
-        len: path.len() as u32,
+        len: saturated_length(path.len()),
         first: first_number(path),
         last: last_number(path),
         numbers: marks(tracked.numbers.as_slice(), path),
         communities: marks(tracked.communities.as_slice(), rec.communities.as_slice()),
-        cluster_len: rec.clusters.as_slice().len() as u32,
+        cluster_len: saturated_length(rec.clusters.as_slice().len()),
         clusters: marks(tracked.clusters.as_slice(), rec.clusters.as_slice()),
     }
 }

@@ -17,7 +17,7 @@ use Rattle.stable_replay.specs.Replayed.{IsRefusedSo}
 use Rattle.run_answers.specs.declared.status.Status.{Status}
 use Rattle.run_answers.specs.declared.status.Status.TheVariants.{Good, Bad}
 use Rattle.run_inputs.specs.Texts.{newline}
-use Rattle.run_answers.specs.Verdicts.{IsTrueCounterexample}
+use Rattle.cex_json.specs.Counterexamples.{IsTrueCounterexample}
 
 -- ---- the lines
 

@@ -12,31 +12,17 @@ use Rattle.resolution_check.specs.Text.{log_text}
 use Rattle.cnf_blaster.specs.Cnf.{clauses_of}
 use Rattle.cnf_blaster.specs.Meaning.{CanBeTrue}
 use Rattle.ios_ast.specs.declared.file.File.{File}
-use Rattle.route_record.specs.declared.Environment.{Environment}
-use Rattle.route_record.specs.declared.World.{World}
-use Rattle.world_variables.specs.Breaking.{IsBreakable, IsBreaking}
+use Rattle.question_lang.specs.Breaking.{IsBreakable, IsUnbroken}
 use Rattle.question_lang.specs.declared.question.Question.{Question}
-use Rattle.question_lang.specs.declared.walk.Walk.{Walk}
 use Rattle.cex_json.specs.declared.counterexample.Counterexample.{Counterexample}
+use Rattle.cex_json.specs.Counterexamples.{IsTrueCounterexample}
 use Rattle.cex_json.specs.Text.{cex_text}
-use Rattle.stable_replay.specs.Replayed.{world_of}
 use Rattle.run_answers.specs.declared.verdict.Verdict.{Verdict}
 use Rattle.run_answers.specs.declared.verdict.Verdict.TheVariants.{Holds, Broken, Unknown}
 use Rattle.run_answers.specs.declared.status.Status.{Status}
 use Rattle.run_answers.specs.declared.status.Status.TheVariants as status
 use Rattle.run_inputs.specs.Texts.{newline}
 use Rattle.run_answers.specs.Lines.{holds_text, unknown_text}
-
--- nothing breaks the question
-abbrev pub IsUnbroken : List File → Question → Type 0
-IsUnbroken files question =
-    (world : World) (environment : Environment) (walk : Option Walk)
-    → IsBreaking files question world environment walk → ⊥
-
--- a counterexample to the question of that number breaks it
-abbrev pub IsTrueCounterexample : List File → ℕ → Question → Counterexample → Type 0
-IsTrueCounterexample files number question cex =
-    (cex.question ≡ number) × IsBreaking files question (world_of cex) cex.env cex.walk
 
 -- a verdict, and the entries of the section of the log that shows it
 pub record Answer : Type 0 where

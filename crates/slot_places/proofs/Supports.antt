@@ -21,6 +21,7 @@ use Rattle.route_record.specs.declared.TheConstants.{LENGTHS}
 use Rattle.route_record.specs.Places.{slot_at}
 use Rattle.net_parts.specs.declared.adjacencies.Adjacency.{Adjacency}
 use Rattle.net_parts.specs.Ospf.{adjacencies, up_adjacencies}
+use Rattle.net_parts.proofs.Heard.{held_by_offers}
 use Rattle.net_parts.specs.OspfRoutes.{better_of, extended, first_best, held_by_ospf, is_better, offer_over}
 use Rattle.net_parts.specs.OspfRoutes.{own_origins}
 use Rattle.net_parts.specs.Stable.{Stable, held_ospf}
@@ -107,7 +108,6 @@ supported : (files : List File) (failures : Failures) (tables : Tables) (p : Pre
     (slot : Slot) (h : OspfRec) → slice_get files router ≡ Some file → slot_at tables router p.len ≡ Some slot →
     held_ospf files failures tables router file p ≡ Some h →
     IsOrigin files failures p router slot h ⊎ IsOffered files tables p.len h
-unfolding held_by_ospf
 supported files failures tables p router file slot h at here is =
     option_and_then_some (λ process. held_by_ospf files failures tables router file process p) file.ospf h is by
   where
@@ -116,7 +116,8 @@ supported files failures tables p router file slot h at here is =
         IsOrigin files failures p router slot h ⊎ IsOffered files tables p.len h
     by process runs held = choose (in-cases h (own_origins files failures router file process p slot) _
         (in_first_best _ h (ap first_best (ap (λ own. own ++ filter_map (offer_over tables p)
-        (up_adjacencies files failures router)) (sym own_is)) ∙ held)))
+        (up_adjacencies files failures router)) (sym own_is))
+        ∙ sym (held_by_offers files failures tables router file process p) ∙ held)))
       where
         own_is : option_map_or (own_origins files failures router file process p) (slot_at tables router p.len) []
             ≡ own_origins files failures router file process p slot

@@ -4,6 +4,7 @@ use Rattle.ios_ast.specs.declared.file.File.{File}
 use Rattle.route_record.specs.declared.World.{World}
 use Rattle.net_parts.specs.Stable.{Stable}
 use Rattle.cex_json.specs.declared.counterexample.Counterexample.{Counterexample}
+use Rattle.cex_json.specs.Counterexamples.{world_of}
 use Rattle.question_lang.specs.declared.question.Kind.TheVariants.{NoStable}
 use Rattle.question_lang.specs.declared.question.Question.{Question}
 use Rattle.question_lang.specs.declared.walk.Walk.{Walk}
@@ -13,10 +14,6 @@ use Rattle.stable_replay.specs.declared.differs.Differs.{Differs as Difference}
 use Rattle.stable_replay.specs.declared.differs.ReplayNo.{ReplayNo}
 use Rattle.stable_replay.specs.declared.differs.ReplayNo.TheVariants as no
 use Rattle.stable_replay.specs.Differences.{IsFirstDifference}
-
--- the world of a counterexample
-abbrev pub world_of : Counterexample → World
-world_of cex = record { failures = cex.failures; packet = cex.packet; tables = cex.tables }
 
 -- its tables are a stable routing
 abbrev pub IsStable : List File → Counterexample → Type 0

@@ -3,6 +3,7 @@
 ghost use Rattle.std.specs.Prelude.{◌≡◌, ◌≢◌, ◌*◌, IfErr, IfOk, true, false, length};
 ghost use Rattle.std.specs.Option.{option_copied};
 ghost use Rattle.question_lang.specs.Breaking.{Breaks};
+ghost use Rattle.cex_json.specs.Counterexamples.{world_of};
 ghost use Rattle.stable_replay.specs.Replayed as replayed;
 
 use crate::checking::check;
@@ -48,7 +49,7 @@ fn copy_slots(alloc: Global, slots: &[Slot]) -> Result<List<Slot>, AllocError>
 
 // The world of a counterexample.
 fn world_of(alloc: Global, cex: &Counterexample) -> Result<World, AllocError>
-    ensures { IfOk result (λ world. world ≡ replayed.world_of cex.now) }
+    ensures { IfOk result (λ world. world ≡ world_of cex.now) }
 {
     let links = copy_list(alloc, &cex.failures.links)?;
     let slots = copy_slots(alloc, cex.tables.slots.as_slice())?;

@@ -1,7 +1,7 @@
 -- A choice between two routes, part by part.
 use Rattle.std.proofs.Common.{◌≡◌, ◌&&◌, Bool, true, false, if◌then◌else◌, List, Option, Some, None, refl}
 use Rattle.std.specs.Option.{option_and_then}
-use Rattle.sym_policy.specs.Shapes.{Preferences, PathShape, RouteShape}
+use Rattle.route_shapes.specs.Shapes.{Preferences, PathShape, RouteShape}
 
 pub chosen_parts : (b : Bool) (x y : RouteShape) (preferences : Preferences) (path : PathShape) (marks : List Bool)
     (type1 : Bool)

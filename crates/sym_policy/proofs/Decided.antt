@@ -10,7 +10,7 @@ use Rattle.ios_ast.specs.declared.policies.MapEntry.{MapEntry}
 use Rattle.ios_ast.specs.declared.policies.Policies.{Policies}
 use Rattle.route_record.specs.declared.tracked.Tracked.{Tracked}
 use Rattle.sym_policy.specs.Order.{entries_of}
-use Rattle.sym_policy.specs.Shapes.{RouteShape, shape_after, shape_decided, shape_made, shape_route_taken}
+use Rattle.route_shapes.specs.Shapes.{RouteShape, shape_after, shape_decided, shape_made, shape_route_taken}
 
 -- the first of some entries, and those behind it
 decided_first : (policies : Policies) (tracked : Tracked) (p : Prefix) (external : Bool) (s : RouteShape) (e : MapEntry)

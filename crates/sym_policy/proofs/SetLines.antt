@@ -3,7 +3,7 @@ use Rattle.std.proofs.Common.{◌≡◌, ℕ, ◌+◌, ◌<◌, ◌≤◌, Bool,
 use Rattle.std.proofs.lemmas.List.{drop_more, drop_all}
 use Rattle.ios_ast.specs.declared.policies.SetAct.{SetAct}
 use Rattle.route_record.specs.declared.tracked.Tracked.{Tracked}
-use Rattle.sym_policy.specs.Shapes.{RouteShape, set_shape, set_shapes}
+use Rattle.route_shapes.specs.Shapes.{RouteShape, set_shape, set_shapes}
 
 -- one line of those that are left
 pub set_shapes_more : (tracked : Tracked) (external : Bool) (s : RouteShape) (lines : List SetAct) (i : ℕ)

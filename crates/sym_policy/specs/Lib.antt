@@ -1,5 +1,4 @@
 pub mod Records
-pub mod Shapes
 pub mod Routes
 pub mod Order
 pub mod MapRecs

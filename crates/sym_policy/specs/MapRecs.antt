@@ -7,7 +7,7 @@ use Rattle.route_record.specs.declared.tracked.Tracked.{Tracked}
 use Rattle.sym_policy.specs.declared.records.SymMapRec.{SymMapRec}
 use Rattle.sym_policy.specs.declared.parts.SymMade.{SymMade}
 use Rattle.sym_policy.specs.Routes.{made_at}
-use Rattle.sym_policy.specs.Shapes.{RouteShape}
+use Rattle.route_shapes.specs.Shapes.{RouteShape}
 
 -- what route maps see of the record, as if it were there
 abbrev pub attributes_at : Reading → SymMapRec → RouteShape

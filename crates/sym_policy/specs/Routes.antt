@@ -7,7 +7,7 @@ use Rattle.sym_policy.specs.declared.parts.SymPath.{SymPath}
 use Rattle.sym_policy.specs.declared.parts.SymPreferences.{SymPreferences}
 use Rattle.sym_policy.specs.declared.parts.SymRoute.{SymRoute}
 use Rattle.sym_policy.specs.declared.parts.SymMade.{SymMade}
-use Rattle.sym_policy.specs.Shapes.{PathShape, Preferences, RouteShape}
+use Rattle.route_shapes.specs.Shapes.{PathShape, Preferences, RouteShape}
 
 abbrev pub path_at : Reading → SymPath → PathShape
 path_at w s = record {

@@ -7,7 +7,7 @@ ghost use Rattle.term_arith.specs.Bits.{bits, ids_end};
 ghost use Rattle.sym_policy.specs.Order.{entries_of};
 ghost use Rattle.sym_policy.specs.Records.{prefix_of};
 ghost use Rattle.sym_policy.specs.Routes.{route_at, route_end, made_at, made_end, HasRows};
-ghost use Rattle.sym_policy.specs.Shapes.{shape_after, shape_decided};
+ghost use Rattle.route_shapes.specs.Shapes.{shape_after, shape_decided};
 
 use crate::entries::{sym_made, sym_none};
 use crate::lines::sym_takes;

@@ -5,7 +5,7 @@ ghost use Rattle.term_store.specs.Terms.{Reading, size, at};
 ghost use Rattle.term_store.specs.Reading.{Reads, Builds, Gives};
 ghost use Rattle.term_arith.specs.Bits.{bits, number, ids_end};
 ghost use Rattle.sym_policy.specs.Routes.{path_at, path_end, route_at, route_end, preferences_at, preferences_end, made_at, made_end, HasRows, SameRows};
-ghost use Rattle.sym_policy.specs.Shapes.{set_shapes, shape_made};
+ghost use Rattle.route_shapes.specs.Shapes.{set_shapes, shape_made};
 
 use crate::copies::copy_route;
 use crate::parts::{SymMade, SymRoute};

@@ -8,7 +8,7 @@ ghost use Rattle.term_arith.specs.Bits.{bits, ids_end};
 ghost use Rattle.ios_ast.specs.Matching.{names_of, kind_of, asks, kind_holds, kind_passes};
 ghost use Rattle.sym_policy.specs.Records.{prefix_of};
 ghost use Rattle.sym_policy.specs.Routes.{path_at, route_at, route_end};
-ghost use Rattle.sym_policy.specs.Shapes.{shape_list_permits, shape_line_holds, shape_route_taken};
+ghost use Rattle.route_shapes.specs.Shapes.{shape_list_permits, shape_line_holds, shape_route_taken};
 
 use crate::named::{sym_access_named, sym_communities_named, sym_paths_named, sym_prefixes_named};
 use crate::parts::SymRoute;

@@ -7,7 +7,7 @@ ghost use Rattle.term_store.specs.Terms.{Reading, size, at};
 ghost use Rattle.term_store.specs.Reading.{Reads, Builds, Gives};
 ghost use Rattle.term_arith.specs.Bits.{bits, number, ids_end};
 ghost use Rattle.sym_policy.specs.Routes.{path_at, path_end};
-ghost use Rattle.sym_policy.specs.Shapes.{marked, marks_taken, marks_permitted, shape_matches, shape_permitted};
+ghost use Rattle.route_shapes.specs.Shapes.{marked, marks_taken, marks_permitted, shape_matches, shape_permitted};
 
 use crate::parts::SymPath;
 use ios_ast::{AsPathEntry, CommunityEntry, Pattern};

@@ -1,6 +1,6 @@
 //! Route maps over terms.
 
-ghost use Rattle.std.specs.Prelude.{◌≡◌, ℕ, ◌+◌, ◌<◌, ◌≤◌, ◌^◌, Bool, true, Some, IfOk, IfSome, length};
+ghost use Rattle.std.specs.Prelude.{◌≡◌, ℕ, ◌+◌, ◌<◌, ◌≤◌, Bool, true, Some, IfOk, length};
 ghost use Rattle.std.specs.Option.{option_map, option_and_then};
 ghost use Rattle.term_store.specs.Terms.{Reading, size, at};
 ghost use Rattle.term_store.specs.Reading.{Reads, Builds, Gives};
@@ -11,7 +11,7 @@ ghost use Rattle.route_record.specs.Sides.{at_external};
 ghost use Rattle.sym_policy.specs.MapRecs.{attributes_at, map_rec_at, map_rec_end, HasMarks, IsMade, KeepsRest};
 ghost use Rattle.sym_policy.specs.Records.{prefix_of};
 ghost use Rattle.sym_policy.specs.Routes.{route_at, route_end, made_at, made_end, HasRows};
-ghost use Rattle.sym_policy.specs.Shapes.{all_tracked, route_shape, shape_mapped};
+ghost use Rattle.route_shapes.specs.Shapes.{all_tracked, route_shape, shape_mapped};
 
 use crate::copies::{joined, rest_of, route_of};
 use crate::decisions::sym_decided;
@@ -109,8 +109,7 @@ fn made_of(
 
 /// What the route map makes of a route to the prefix of that length of an address: the record is there where the map
 /// permits it. Each community and each number of a pattern `_N_` that lists test is to be tracked: where all are, and the
-/// record stands for a route whose path as the map leaves it is shorter than 2^32, the result stands for what the map
-/// makes of that route.
+/// record stands for a route, the result stands for what the map makes of that route.
 pub fn sym_route_map(
     alloc: Global,
     terms: &mut Terms,
@@ -134,7 +133,6 @@ pub fn sym_route_map(
     ensures value { Gives terms.new result (λ w r. map_rec_at w r ≡ option_and_then (shape_mapped policies.now map.now.entries tracked.now (prefix_of w dst.now len) (at_external side)) (map_rec_at w rec.now)) }
     ensures stands { Gives terms.new result (λ w r. (c : Attributes) → all_tracked tracked.now policies.now ≡ true
         → map_rec_at w rec.now ≡ Some (route_shape tracked.now c)
-        → IfSome (mapped policies.now map.now.entries (prefix_of w dst.now len) (at_external side) c) (λ made. length made.path < 2 ^ 32)
         → map_rec_at w r ≡ option_map (route_shape tracked.now) (mapped policies.now map.now.entries (prefix_of w dst.now len) (at_external side) c)) }
 {
     let external = side.is_external();

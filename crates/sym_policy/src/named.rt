@@ -11,7 +11,7 @@ ghost use Rattle.ios_ast.specs.Packets.{packet_permitted};
 ghost use Rattle.ios_ast.specs.Matching.{access_named, prefixes_named, header_of_prefix, names_of};
 ghost use Rattle.sym_policy.specs.Records.{prefix_of, packet_end, header_of};
 ghost use Rattle.sym_policy.specs.Routes.{path_at, path_end};
-ghost use Rattle.sym_policy.specs.Shapes.{marks_named, shape_named};
+ghost use Rattle.route_shapes.specs.Shapes.{marks_named, shape_named};
 
 use crate::lists::{sym_communities, sym_paths};
 use crate::packets::sym_access_list;

@@ -1,6 +1,6 @@
 //! Set lines over terms.
 
-ghost use Rattle.std.specs.Prelude.{◌≡◌, ◌==◌, ℕ, ◌+◌, ◌%◌, ◌^◌, ◌<◌, ◌≤◌, Bool, true, false, ◌&&◌, ◌||◌, if◌then◌else◌, IfOk, length, min};
+ghost use Rattle.std.specs.Prelude.{◌≡◌, ◌==◌, ℕ, ◌+◌, ◌^◌, ◌<◌, ◌≤◌, Bool, true, false, ◌&&◌, ◌||◌, if◌then◌else◌, IfOk, length, min};
 ghost use Rattle.std.specs.List.{list_any};
 ghost use Rattle.term_store.specs.Terms.{Reading, size, at};
 ghost use Rattle.term_store.specs.Reading.{Reads, Builds, Gives};
@@ -8,17 +8,18 @@ ghost use Rattle.term_arith.specs.Bits.{bits, number, ids_end};
 ghost use Rattle.ios_ast.specs.Deciding.{carries};
 ghost use Rattle.ios_ast.specs.Paths.{first_of, last_of};
 ghost use Rattle.ios_ast.specs.Setting.{origin_set};
+ghost use Rattle.route_record.specs.Shape.{saturated};
 ghost use Rattle.sym_policy.specs.Routes.{path_at, path_end, route_at, route_end, preferences_at, preferences_end, HasRows};
-ghost use Rattle.sym_policy.specs.Shapes.{marks_with, shape_prepended, set_shape, set_preferences as preferences_set, set_path as path_set, set_marks as marks_set, set_type1 as type1_set};
+ghost use Rattle.route_shapes.specs.Shapes.{marks_with, shape_prepended, set_shape, set_preferences as preferences_set, set_path as path_set, set_marks as marks_set, set_type1 as type1_set};
 
 use crate::parts::{SymPath, SymPreferences, SymRoute};
 use ios_ast::SetAct;
 use mw_text::List;
-use route_record::Tracked;
+use route_record::{Tracked, saturated_length};
 use std::alloc::{AllocError, Global};
 use term_arith::gates::constant_node;
 use term_arith::lists::put;
-use term_arith::{Bits, add, choose, constant, copy, equal_number};
+use term_arith::{Bits, add_within, choose, constant, copy, equal_number};
 use term_store::{NodeId, Terms};
 
 /// The mark of a tracked value where values are put in, alone or beside those that were there.
@@ -66,32 +67,20 @@ fn sym_marks_with(
     Ok(out)
 }
 
-/// The lowest bits of a number.
-#[tactic(auto, using(crate::proofs::LowBits::low_steps))]
-fn low_bits(alloc: Global, bits: &Bits, width: usize) -> Result<Bits, AllocError>
-    requires { width ≤ length bits.now.nodes.items }
-    ensures within { IfOk result (λ r. ids_end r.nodes.items ≤ ids_end bits.now.nodes.items) }
-    ensures width { IfOk result (λ r. length r.nodes.items ≡ width) }
-    ensures value { IfOk result (λ r. (w : Reading) → number w r.nodes.items ≡ number w bits.now.nodes.items % 2 ^ width) }
-{
-    let nodes = Vec::from_slice(alloc, &bits.nodes.as_slice()[..width])?;
-    Ok(Bits { nodes })
-}
-
-/// A length with more items, in 32 bits.
-#[tactic(auto, using(crate::proofs::LowBits::mod_of_sum))]
-fn sym_longer(alloc: Global, terms: &mut Terms, len: &Bits, more: u64) -> Result<Bits, AllocError>
+/// A length with more items, in 32 bits; the greatest number of these where it does not fit.
+#[tactic(auto, using(route_record::proofs::Saturated::saturated_choice))]
+fn sym_longer(alloc: Global, terms: &mut Terms, len: &Bits, more: usize) -> Result<Bits, AllocError>
     requires wide { length len.now.nodes.items ≡ 32 }
     requires nodes { ids_end len.now.nodes.items ≤ size terms.old }
     ensures builds { Builds terms.old terms.new }
     ensures within { IfOk result (λ r. ids_end r.nodes.items ≤ size terms.new) }
     ensures width { IfOk result (λ r. length r.nodes.items ≡ 32) }
-    ensures value { Gives terms.new result (λ w r. number w r.nodes.items ≡ (number w len.now.nodes.items + more) % 2 ^ 32) }
+    ensures value { Gives terms.new result (λ w r. number w r.nodes.items ≡ saturated (number w len.now.nodes.items + more)) }
 {
-    let step = constant(alloc, terms, more % (1 << 32), 32)?;
-    let sum = add(alloc, terms, len, &step)?;
-    let cut = low_bits(alloc, &sum, 32)?;
-    Ok(cut)
+    let step = constant(alloc, terms, u64::from(saturated_length(more)), 32)?;
+    let sum = add_within(alloc, terms, len, &step)?;
+    let most = constant(alloc, terms, u64::from(u32::MAX), 32)?;
+    choose(alloc, terms, sum.fits, &sum.sum, &most)
 }
 
 /// The first number of a list, 0 where it is empty.
@@ -162,7 +151,7 @@ fn sym_prepended(
     ensures rows { IfOk result (λ r. length r.numbers.nodes.items ≡ length tracked.now) }
     ensures value { Gives terms.new result (λ w r. path_at w r ≡ shape_prepended tracked.now numbers.now (path_at w path.now)) }
 {
-    let len = sym_longer(alloc, terms, &path.len, numbers.len() as u64)?;
+    let len = sym_longer(alloc, terms, &path.len, numbers.len())?;
     let first = sym_first(alloc, terms, numbers, &path.first)?;
     let last = sym_last(alloc, terms, numbers, path)?;
     let marks = path.numbers.nodes.as_slice();

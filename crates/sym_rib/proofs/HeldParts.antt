@@ -2,7 +2,7 @@
 use Rattle.std.proofs.Common.{◌≡◌, ℕ, ◌≤◌, ap, arith}
 use Rattle.sym_policy.specs.declared.records.SymBgp.{SymBgp}
 use Rattle.sym_policy.specs.Held.{bgp_at, bgp_end}
-use Rattle.sym_policy.specs.Shapes.{RouteShape}
+use Rattle.route_shapes.specs.Shapes.{RouteShape}
 use Rattle.sym_rib.specs.declared.known_parts.HeldParts.{HeldParts}
 use Rattle.sym_rib.specs.declared.known_parts.KnownPath.{KnownPath}
 use Rattle.sym_rib.specs.KnownParts.{HasPartsOf, HasPathOf, held_parts_end, known_path_at}

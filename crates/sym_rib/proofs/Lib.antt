@@ -1,7 +1,6 @@
 pub mod Classes
 pub mod Entries
 pub mod EntryMetrics
-pub mod FilesTracked
 pub mod HeldParts
 pub mod KnownRows
 pub mod LearntOver

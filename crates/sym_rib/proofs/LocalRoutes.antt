@@ -17,15 +17,16 @@ use Rattle.ios_ast.specs.Maps.{through_map}
 use Rattle.net_parts.specs.Mapping.{attributes_of, with_attributes}
 use Rattle.net_parts.specs.Origins.{local_route}
 use Rattle.sym_policy.specs.declared.records.SymMapRec.{SymMapRec}
-use Rattle.sym_policy.specs.Held.{BgpShape, bgp_at, bgp_end, bgp_of, bgp_shape}
+use Rattle.sym_policy.specs.Held.{bgp_at, bgp_end, bgp_of}
+use Rattle.route_shapes.specs.Bgp.{BgpShape, bgp_shape}
 use Rattle.sym_policy.specs.MapRecs.{KeepsRest, attributes_at, kept_end, map_rec_at, map_rec_end, seen_end}
-use Rattle.sym_policy.specs.Shapes.{RouteShape, route_shape}
+use Rattle.route_shapes.specs.Shapes.{RouteShape, route_shape}
 use Rattle.term_store.specs.Terms.{Reading, at}
 use Rattle.term_arith.specs.Bits.{bits, number}
 use Rattle.sym_rib.specs.IntoBgp.{local_with}
 use Rattle.sym_rib.specs.Known.{IsOwn}
-use Rattle.sym_rib.specs.Mapped.{IsShort}
-use Rattle.sym_rib.proofs.MapLaw.{code_left}
+use Rattle.bgp_shapes.proofs.PolicyLaw.{through_code}
+use Rattle.route_record.proofs.OriginCodes.{code_small}
 
 -- ---- the record of a local route
 
@@ -138,27 +139,13 @@ record_end rec n h =
 
 -- ---- lines
 
-code_small : (origin : Origin) → origin_code origin ≤ 2
-code_small Igp = omega arith
-code_small Egp = omega arith
-code_small Incomplete = omega arith
-
 -- the origin of what a map leaves of a local route has a code
 pub local_code : (policies : Policies) (used : Option Use) (p : Prefix) (origin : Origin) (metric : Option ℕ)
     → IfSome (option_and_then (through_map policies used p false)
     (option_map (λ med. attributes_of (local_route origin med)) metric)) (λ c. c.origin ≤ 2)
 local_code policies used p origin None = tt
 local_code policies used p origin (Some med) =
-    code_left policies used p (attributes_of (local_route origin med)) (code_small origin)
-
--- and the path of a local route is short
-pub local_short : (origin : Origin) (metric : Option ℕ)
-    → IfSome (option_map (λ med. attributes_of (local_route origin med)) metric) IsShort
-local_short origin None = tt
-local_short origin (Some med) = zero_short
-  where
-    zero_short : 0 < 2 ^ 32
-    zero_short = omega arith
+    through_code policies used p false (attributes_of (local_route origin med)) (code_small origin)
 
 none_of : {A : Type 0} (o : Option ℕ) → ◌≡◌ {A = Option A} None (option_and_then (λ k. None) o)
 none_of None = refl

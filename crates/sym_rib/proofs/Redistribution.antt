@@ -18,14 +18,14 @@ use Rattle.route_record.specs.declared.tracked.Tracked.{Tracked}
 use Rattle.net_parts.specs.Origins.{external_record, is_ospf_entry, is_taken, originated_default, plain_route}
 use Rattle.net_parts.specs.Origins.{redistributed_route}
 use Rattle.sym_policy.specs.declared.records.SymBgp.{SymBgp}
-use Rattle.sym_policy.specs.Held.{BgpShape, StandsForBgp, bgp_at, bgp_shape, kind_of_number}
-use Rattle.sym_policy.specs.Shapes.{RouteShape, route_shape}
+use Rattle.sym_policy.specs.Held.{StandsForBgp, bgp_at, kind_of_number}
+use Rattle.route_shapes.specs.Bgp.{BgpShape, bgp_shape}
+use Rattle.route_shapes.specs.Shapes.{RouteShape, route_shape}
 use Rattle.term_store.specs.Terms.{Reading, at}
 use Rattle.term_arith.specs.Bits.{number}
 use Rattle.term_arith.proofs.NumberLemmas.{number_below}
 use Rattle.sym_rib.specs.Brought.{external_of}
 use Rattle.sym_rib.specs.Into.{seen_of_bgp}
-use Rattle.sym_rib.specs.Mapped.{IsShort}
 
 -- an external route by its type
 pub external_chosen : (there type1 : Bool) (kind metric cost n one two none : ℕ)
@@ -55,42 +55,6 @@ seen_bgp tracked line true x before after (Some h) is plain whole =
     let with_parts : RouteShape → BgpShape → RouteShape =
     λ s y. record s { path = y.path; communities = y.communities } in
     ap Some (whole ∙ ap (λ s. with_parts s x) plain ∙ ap (with_parts (route_shape tracked (plain_route line 1))) same)
-
--- the path of a route that is seen is short
-short_held : (valid : Bool) (tracked : Tracked) (x : BgpShape) (bgp : Option BgpRec)
-    → x.path.len < 2 ^ 32 → (if valid then Some x else None) ≡ option_map (bgp_shape tracked) bgp
-    → IfSome bgp (λ h. length h.path < 2 ^ 32)
-short_held valid tracked x None small is = tt
-short_held false tracked x (Some h) small is = cc
-short_held true tracked x (Some h) small is =
-    let len_of : Option BgpShape → ℕ = λ o. option_map_or (λ y. y.path.len) o 0 in
-    let P : ℕ → Type 0 = λ n. n < 2 ^ 32 in
-    subst P (ap len_of is) small
-
-pub short_seen : (w : Reading) (tracked : Tracked) (bgp : SymBgp) (line : Redist) (held : Slot)
-    → length bgp.len.nodes.items ≡ 32 → StandsForBgp w tracked bgp held.bgp
-    → IfSome (redistributed_route line held) IsShort
-short_seen w tracked bgp line held wide stands = by line.source
-  where
-    zero_short : 0 < 2 ^ 32
-    zero_short = omega arith
-
-    small : number w bgp.len.nodes.items < 2 ^ 32
-    small =
-        let P : ℕ → Type 0 = λ n. number w bgp.len.nodes.items < 2 ^ n in
-        subst P wide (number_below w bgp.len.nodes.items)
-
-    of_bgp : (o : Option BgpRec) → IfSome o (λ h. length h.path < 2 ^ 32)
-        → IfSome (option_map (seen_of_bgp line) o) IsShort
-    of_bgp None h = tt
-    of_bgp (Some x) h = h
-
-    by : (s : Source) → IfSome (redistributed_route (record line { source = s }) held) IsShort
-    by source.Connected = zero_short
-    by source.Static = zero_short
-    by (source.Bgp asn) =
-        of_bgp held.bgp (short_held (at w bgp.valid) tracked (bgp_at w bgp) held.bgp small stands)
-    by (source.Ospf process) = tt
 
 -- the record that OSPF makes of what a map leaves
 pub made_of : (tracked : Tracked) (there : Bool) (s : RouteShape) (left : Option Attributes)

@@ -17,13 +17,14 @@ use Rattle.route_record.specs.declared.tracked.Tracked.{Tracked}
 use Rattle.net_parts.specs.Entries.{bgp_entry, entry_with, ospf_entry}
 use Rattle.net_parts.specs.Exports.{learnt_over}
 use Rattle.net_parts.specs.Routing.{candidates, closer, least_distance, up_interfaces}
-use Rattle.sym_policy.specs.Held.{BgpShape, bgp_at, bgp_shape, ospf_at}
+use Rattle.sym_policy.specs.Held.{bgp_at, ospf_at}
+use Rattle.route_shapes.specs.Bgp.{BgpShape, bgp_shape}
 use Rattle.term_store.specs.Terms.{Reading, at}
 use Rattle.term_arith.specs.Bits.{number}
 use Rattle.sym_rib.specs.declared.slots.SymSlot.{SymSlot}
 use Rattle.sym_rib.specs.Slots.{StandsForSlot}
 use Rattle.sym_rib.specs.Sources.{entry_over, entry_read, learnt_entry}
-use Rattle.sym_rib.proofs.LearntOver.{learnt_numbered}
+use Rattle.bgp_shapes.proofs.CrossingLaw.{learnt_numbered}
 
 -- the entry of a BGP route, by the shape that stands for it
 bgp_stands : (files : List File) (router : ℕ) (tracked : Tracked) (valid : Bool) (x : BgpShape) (held : Option BgpRec)

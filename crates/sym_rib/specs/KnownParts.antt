@@ -5,7 +5,7 @@ use Rattle.route_record.specs.Shape.{has_address}
 use Rattle.sym_policy.specs.declared.records.SymBgp.{SymBgp}
 use Rattle.sym_policy.specs.declared.records.SymMapRec.{SymMapRec}
 use Rattle.sym_policy.specs.MapRecs.{attributes_at, map_rec_end}
-use Rattle.sym_policy.specs.Shapes.{PathShape, RouteShape}
+use Rattle.route_shapes.specs.Shapes.{PathShape, RouteShape}
 use Rattle.sym_rib.specs.declared.known_parts.HeldParts.{HeldParts}
 use Rattle.sym_rib.specs.declared.known_parts.KnownPath.{KnownPath}
 use Rattle.sym_rib.specs.declared.known_parts.KnownPreferences.{KnownPreferences}

@@ -13,7 +13,7 @@ use Rattle.route_record.specs.declared.RibSource.TheVariants.{Static, Ebgp, Ospf
 use Rattle.net_interfaces.specs.declared.interfaces.Addressed.{Addressed}
 use Rattle.net_parts.specs.declared.sessions.SessionEnd.{SessionEnd}
 use Rattle.net_parts.specs.Routing.{candidates, closer, counts, least_distance, up_interfaces}
-use Rattle.net_parts.specs.Sessions.{ends_of, neighbour_of}
+use Rattle.bgp_shapes.specs.Crossings.{end_numbered}
 
 -- the closer of two entries that may be there, of equal distances the first
 abbrev pub closer_of : Option RibEntry → Option RibEntry → Option RibEntry
@@ -27,16 +27,6 @@ static_candidate route = record { source = Static; distance = route.distance }
 abbrev pub static_entry : List Addressed → Prefix → StaticRoute → Option RibEntry
 static_entry up p route =
     if same_prefix route.prefix p && counts up route then Some (static_candidate route) else None
-
--- the number that stands for an address in the field that tells where a route was learnt is that of the end's neighbour
-abbrev pub is_from : List File → ℕ → ℕ → SessionEnd → Bool
-is_from files router n end =
-    (end.router == router)
-    && option_map_or (λ neighbour. 2 ^ 32 + neighbour.addr.0 == n) (neighbour_of files end) false
-
--- the end over which a route with that number was learnt
-abbrev pub end_numbered : List File → ℕ → ℕ → Option SessionEnd
-end_numbered files router n = find (is_from files router n) (ends_of files)
 
 -- an end of the kind that is asked for
 abbrev pub is_of_kind : Bool → SessionEnd → Bool

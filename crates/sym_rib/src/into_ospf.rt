@@ -13,7 +13,7 @@ ghost use Rattle.route_record.specs.declared.Slot.{Slot};
 ghost use Rattle.sym_policy.specs.Held.{ospf_of, ospf_end, bgp_end, StandsForBgp};
 ghost use Rattle.sym_policy.specs.MapRecs.{attributes_at, map_rec_at, map_rec_end, HasMarks};
 ghost use Rattle.sym_policy.specs.Records.{prefix_of};
-ghost use Rattle.sym_policy.specs.Shapes.{all_tracked, route_shape};
+ghost use Rattle.route_shapes.specs.Shapes.{all_tracked, route_shape};
 ghost use Rattle.sym_rib.specs.Brought.{brought_of, brought_end, external_of};
 ghost use Rattle.sym_rib.specs.Into.{source_taken, seen_of_bgp, list_end, HasTracked};
 ghost use Rattle.sym_rib.specs.Slots.{rib_of, rib_end, slot_end, source_of_number, StandsForSlot};

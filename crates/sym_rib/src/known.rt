@@ -7,7 +7,7 @@ ghost use Rattle.route_record.specs.declared.tracked.Tracked.{Tracked as Tracked
 ghost use Rattle.route_record.specs.Origins.{origin_code};
 ghost use Rattle.route_record.specs.Shape.{has_address};
 ghost use Rattle.sym_policy.specs.MapRecs.{attributes_at, map_rec_end, HasMarks};
-ghost use Rattle.sym_policy.specs.Shapes.{path_shape, route_shape};
+ghost use Rattle.route_shapes.specs.Shapes.{path_shape, route_shape};
 ghost use Rattle.sym_rib.specs.Known.{known_attributes, IsOwn};
 ghost use Rattle.sym_rib.specs.KnownParts.{known_path_at, known_path_end, known_preferences_end, known_rest_end};
 ghost use Rattle.sym_rib.specs.KnownParts.{own_part_end, parts_at, parts_end, HasTrackedRows, IsOwnPart};

@@ -1,7 +1,6 @@
 //! What the route map of a line of a routing process makes of a record, as terms.
 
-ghost use Rattle.std.specs.Prelude.{◌≡◌, Option as OptionOf, ℕ, ◌+◌, ◌<◌, ◌≤◌, ◌^◌, Bool, false, true, None, IfOk};
-ghost use Rattle.std.specs.Prelude.{IfSome, length};
+ghost use Rattle.std.specs.Prelude.{◌≡◌, Option as OptionOf, ℕ, ◌+◌, ◌<◌, ◌≤◌, Bool, false, true, None, IfOk, length};
 ghost use Rattle.std.specs.List.{find};
 ghost use Rattle.std.specs.Option.{option_and_then, option_copied, option_map};
 ghost use Rattle.mw_text.specs.Text.{same_text};
@@ -10,8 +9,8 @@ ghost use Rattle.ios_ast.specs.Setting.{Attributes};
 ghost use Rattle.net_parts.specs.Mapping as mapping;
 ghost use Rattle.sym_policy.specs.MapRecs.{map_rec_at, map_rec_end, HasMarks, KeepsRest};
 ghost use Rattle.sym_policy.specs.Records.{prefix_of};
-ghost use Rattle.sym_policy.specs.Shapes.{all_tracked, route_shape};
-ghost use Rattle.sym_rib.specs.Mapped.{IsShort, through_named};
+ghost use Rattle.route_shapes.specs.Shapes.{all_tracked, route_shape};
+ghost use Rattle.sym_rib.specs.Mapped.{through_named};
 ghost use Rattle.term_store.specs.Terms.{Reading, size, at};
 ghost use Rattle.term_store.specs.Reading.{Reads, Builds, Gives};
 ghost use Rattle.term_arith.specs.Bits.{ids_end};
@@ -71,7 +70,7 @@ fn sym_mapped(
     ensures rest { IfOk result (λ r. KeepsRest rec.now r) }
     ensures value { Gives terms.new result (λ w r. (held : OptionOf Attributes)
         → all_tracked tracked.now policies.now ≡ true
-        → IfSome held IsShort → map_rec_at w rec.now ≡ option_map (route_shape tracked.now) held
+        → map_rec_at w rec.now ≡ option_map (route_shape tracked.now) held
         → map_rec_at w r ≡ option_map (route_shape tracked.now)
         (option_and_then (mapped policies.now map.now.entries (prefix_of w dst.now len) false) held)) }
 {
@@ -100,7 +99,7 @@ fn sym_named(
     ensures rest { IfOk result (λ r. KeepsRest rec r) }
     ensures value { Gives terms.new result (λ w r. (held : OptionOf Attributes)
         → all_tracked tracked.now policies.now ≡ true
-        → IfSome held IsShort → map_rec_at w rec ≡ option_map (route_shape tracked.now) held
+        → map_rec_at w rec ≡ option_map (route_shape tracked.now) held
         → map_rec_at w r ≡ option_map (route_shape tracked.now)
         (option_and_then (through_named policies.now named.now (prefix_of w dst.now len)) held)) }
 {
@@ -132,7 +131,7 @@ pub(crate) fn sym_through(
     ensures rest { IfOk result (λ r. KeepsRest rec r) }
     ensures value { Gives terms.new result (λ w r. (held : OptionOf Attributes)
         → all_tracked tracked.now policies.now ≡ true
-        → IfSome held IsShort → map_rec_at w rec ≡ option_map (route_shape tracked.now) held
+        → map_rec_at w rec ≡ option_map (route_shape tracked.now) held
         → map_rec_at w r ≡ option_map (route_shape tracked.now)
         (option_and_then (mapping.through_map policies.now used.now (prefix_of w dst.now len) false) held)) }
 {

@@ -31,7 +31,8 @@ use Rattle.question_lang.specs.declared.walk.Hop.TheVariants.{Ends}
 use Rattle.question_lang.specs.Hops.{all_up, bgp_hops, entry_at, entry_hops, hops_over, longest_below, next_hops}
 use Rattle.question_lang.specs.Hops.{ospf_hops, send_adjacent}
 use Rattle.term_store.specs.Terms.{Reading, at}
-use Rattle.sym_policy.specs.Held.{BgpShape, StandsForBgp, bgp_at, bgp_shape}
+use Rattle.sym_policy.specs.Held.{StandsForBgp, bgp_at}
+use Rattle.route_shapes.specs.Bgp.{BgpShape, bgp_shape}
 use Rattle.sym_policy.specs.declared.records.SymBgp.{SymBgp}
 use Rattle.sym_rib.specs.declared.slots.SymSlot.{SymSlot}
 use Rattle.sym_rib.specs.Slots.{StandsForSlot}

@@ -17,7 +17,7 @@ use Rattle.net_parts.specs.World.{links_of}
 use Rattle.net_parts.proofs.Costs.{adjacency_costs}
 use Rattle.question_lang.specs.declared.question.Question.{Question}
 use Rattle.question_lang.specs.declared.walk.Walk.{Walk}
-use Rattle.world_variables.specs.Breaking.{IsBreaking}
+use Rattle.question_lang.specs.Breaking.{IsBreaking}
 use Rattle.failed_links.specs.Failures.{failures_from}
 use Rattle.world_variables.specs.Packets.{is_in_set, packet_from}
 use Rattle.world_variables.specs.Rooms.{has_room, rooms_from, widths_of}

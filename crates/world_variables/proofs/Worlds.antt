@@ -24,7 +24,7 @@ use Rattle.net_parts.specs.World.{IsAnnouncement, IsEnvironment}
 use Rattle.question_lang.specs.declared.question.Question.{Question}
 use Rattle.question_lang.specs.declared.walk.Walk.{Walk}
 use Rattle.question_lang.specs.Breaking.{Breaks}
-use Rattle.world_variables.specs.Breaking.{IsBreaking}
+use Rattle.question_lang.specs.Breaking.{IsBreaking}
 use Rattle.world_variables.specs.Rooms.{has_room, most_cost, rooms_from, some_take, width_from, widths_of}
 use Rattle.world_variables.specs.Slots.{runs_no_bgp, unknown_of, unknowns_of}
 use Rattle.world_variables.specs.declared.widths.Widths.{Widths}

@@ -6,9 +6,8 @@ ghost use Rattle.route_record.specs.declared.Environment.{Environment as Environ
 ghost use Rattle.route_record.specs.declared.World.{World as WorldOf};
 ghost use Rattle.question_lang.specs.declared.question.Question.{Question as QuestionOf};
 ghost use Rattle.question_lang.specs.declared.walk.Walk.{Walk as WalkOf};
-ghost use Rattle.question_lang.specs.Breaking.{Breaks};
+ghost use Rattle.question_lang.specs.Breaking.{Breaks, IsBreaking};
 ghost use Rattle.failed_links.specs.Rows.{IsAt};
-ghost use Rattle.world_variables.specs.Breaking.{IsBreaking};
 ghost use Rattle.world_variables.specs.Worlds.{IsEncodable, is_routing, no_environment, world_bits, world_from};
 ghost use Rattle.term_store.specs.Terms.{truth};
 

@@ -2,7 +2,7 @@ use Rattle.std.proofs.Common.{◌≡◌, ◌∙◌, ap, arith, rules, drop}
 use Rattle.sym_policy.specs.Order.{entries_of}
 use Rattle.sym_policy.specs.Records.{prefix_of}
 use Rattle.sym_policy.specs.Routes.{route_at}
-use Rattle.sym_policy.specs.Shapes.{shape_after, shape_decided}
+use Rattle.route_shapes.specs.Shapes.{shape_after, shape_decided}
 use Rattle.sym_policy.proofs.Decided.{decided_more}
 use Rattle.sym_policy.proofs.decisions.sym_decided.Goals as goal
 

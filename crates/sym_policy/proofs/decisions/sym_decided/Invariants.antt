@@ -4,7 +4,7 @@ use Rattle.term_store.specs.Reading.{Reads, Builds}
 use Rattle.sym_policy.specs.Order.{entries_of}
 use Rattle.sym_policy.specs.Records.{prefix_of}
 use Rattle.sym_policy.specs.Routes.{route_at, made_at, made_end, HasRows}
-use Rattle.sym_policy.specs.Shapes.{shape_decided}
+use Rattle.route_shapes.specs.Shapes.{shape_decided}
 use Rattle.sym_policy.proofs.decisions.sym_decided.Given as goal
 
 abbrev pub invariant-loop-i : goal.invariant-loop-i

@@ -1,6 +1,6 @@
 use Rattle.std.proofs.Common.{◌+◌, ◌∙◌, ap, arith, rules, drop}
 use Rattle.sym_policy.specs.Routes.{route_at}
-use Rattle.sym_policy.specs.Shapes.{set_shapes}
+use Rattle.route_shapes.specs.Shapes.{set_shapes}
 use Rattle.sym_policy.proofs.SetLines.{set_shapes_more, set_shapes_end}
 use Rattle.sym_policy.proofs.entries.set_lines.Goals as goal
 

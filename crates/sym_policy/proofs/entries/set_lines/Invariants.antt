@@ -2,7 +2,7 @@ use Rattle.std.proofs.Common.{◌≡◌, ◌≤◌, drop}
 use Rattle.term_store.specs.Terms.{Reading, size}
 use Rattle.term_store.specs.Reading.{Reads, Builds}
 use Rattle.sym_policy.specs.Routes.{route_at, route_end, HasRows}
-use Rattle.sym_policy.specs.Shapes.{set_shapes}
+use Rattle.route_shapes.specs.Shapes.{set_shapes}
 use Rattle.sym_policy.proofs.entries.set_lines.Given as goal
 
 abbrev pub invariant-loop-line : goal.invariant-loop-line

@@ -5,7 +5,7 @@ use Rattle.term_arith.specs.Bits.{bits}
 use Rattle.ios_ast.specs.Matching.{kind_holds}
 use Rattle.sym_policy.specs.Records.{prefix_of}
 use Rattle.sym_policy.specs.Routes.{path_at}
-use Rattle.sym_policy.specs.Shapes.{shape_line_holds}
+use Rattle.route_shapes.specs.Shapes.{shape_line_holds}
 use Rattle.sym_policy.proofs.lines.sym_kind.Given as goal
 
 abbrev pub invariant-loop-line : goal.invariant-loop-line

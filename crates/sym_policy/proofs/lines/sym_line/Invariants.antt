@@ -5,7 +5,7 @@ use Rattle.term_store.specs.Reading.{Reads, Builds}
 use Rattle.term_arith.specs.Bits.{bits}
 use Rattle.sym_policy.specs.Records.{prefix_of}
 use Rattle.sym_policy.specs.Routes.{path_at}
-use Rattle.sym_policy.specs.Shapes.{shape_list_permits, shape_line_holds}
+use Rattle.route_shapes.specs.Shapes.{shape_list_permits, shape_line_holds}
 use Rattle.sym_policy.proofs.lines.sym_line.Given as goal
 
 abbrev pub invariant-loop-named : goal.invariant-loop-named

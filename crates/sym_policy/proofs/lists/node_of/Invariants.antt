@@ -1,7 +1,7 @@
 use Rattle.std.proofs.Common.{◌≡◌, drop}
 use Rattle.term_store.specs.Terms.{Reading}
 use Rattle.term_arith.specs.Bits.{bits}
-use Rattle.sym_policy.specs.Shapes.{marked}
+use Rattle.route_shapes.specs.Shapes.{marked}
 use Rattle.sym_policy.proofs.lists.node_of.Given as goal
 
 abbrev pub invariant-loop-i : goal.invariant-loop-i

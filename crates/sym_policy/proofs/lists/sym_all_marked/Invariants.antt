@@ -3,7 +3,7 @@ use Rattle.std.specs.List.{list_all}
 use Rattle.term_store.specs.Terms.{Reading, size, at}
 use Rattle.term_store.specs.Reading.{Reads, Builds}
 use Rattle.term_arith.specs.Bits.{bits}
-use Rattle.sym_policy.specs.Shapes.{marked}
+use Rattle.route_shapes.specs.Shapes.{marked}
 use Rattle.sym_policy.proofs.lists.sym_all_marked.Given as goal
 
 abbrev pub invariant-loop-value : goal.invariant-loop-value

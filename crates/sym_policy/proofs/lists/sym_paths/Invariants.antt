@@ -2,7 +2,7 @@ use Rattle.std.proofs.Common.{◌≡◌, ◌<◌, drop}
 use Rattle.term_store.specs.Terms.{Reading, size, at}
 use Rattle.term_store.specs.Reading.{Reads, Builds}
 use Rattle.sym_policy.specs.Routes.{path_at}
-use Rattle.sym_policy.specs.Shapes.{shape_permitted}
+use Rattle.route_shapes.specs.Shapes.{shape_permitted}
 use Rattle.sym_policy.proofs.lists.sym_paths.Given as goal
 
 abbrev pub invariant-loop-i : goal.invariant-loop-i

@@ -2,7 +2,7 @@ use Rattle.std.proofs.Common.{◌≡◌, ◌≤◌, ◌++◌, drop, length}
 use Rattle.term_store.specs.Terms.{Reading, size}
 use Rattle.term_store.specs.Reading.{Reads, Builds}
 use Rattle.term_arith.specs.Bits.{bits, ids_end}
-use Rattle.sym_policy.specs.Shapes.{marks_with}
+use Rattle.route_shapes.specs.Shapes.{marks_with}
 use Rattle.sym_policy.proofs.sets.sym_marks_with.Given as goal
 
 abbrev pub invariant-loop-i : goal.invariant-loop-i

@@ -2,9 +2,10 @@ use Rattle.std.proofs.Common.{◌≡◌, ◌≤◌, true, map, take}
 use Rattle.std.specs.List.{filter_map}
 use Rattle.route_record.specs.declared.Slot.{Slot}
 use Rattle.net_parts.specs.Origins.{by_network}
-use Rattle.sym_policy.specs.Held.{bgp_end, bgp_of, bgp_shape}
+use Rattle.sym_policy.specs.Held.{bgp_end, bgp_of}
+use Rattle.route_shapes.specs.Bgp.{bgp_shape}
 use Rattle.sym_policy.specs.Records.{prefix_of}
-use Rattle.sym_policy.specs.Shapes.{all_tracked}
+use Rattle.route_shapes.specs.Shapes.{all_tracked}
 use Rattle.term_store.specs.Terms.{Reading, size}
 use Rattle.term_store.specs.Reading.{Reads, Builds}
 use Rattle.sym_rib.specs.Into.{list_end}

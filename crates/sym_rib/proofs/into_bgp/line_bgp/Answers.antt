@@ -7,7 +7,7 @@ use Rattle.route_record.specs.declared.BgpRec.{BgpRec}
 use Rattle.route_record.specs.declared.Origin.TheVariants.{Incomplete}
 use Rattle.route_record.specs.declared.RibEntry.{RibEntry}
 use Rattle.net_parts.specs.Origins.{is_default, local_route, local_through, taken_metric}
-use Rattle.sym_policy.specs.Held.{BgpShape, bgp_shape}
+use Rattle.route_shapes.specs.Bgp.{BgpShape, bgp_shape}
 use Rattle.sym_policy.specs.Records.{prefix_of}
 use Rattle.sym_rib.proofs.LocalRoutes.{line_by}
 use Rattle.sym_rib.proofs.into_bgp.line_bgp.Goals as goal

@@ -6,7 +6,7 @@ use Rattle.route_record.specs.declared.Origin.TheVariants.{Igp}
 use Rattle.route_record.specs.declared.RibEntry.{RibEntry}
 use Rattle.mw_text.specs.Address.{same_prefix}
 use Rattle.net_parts.specs.Origins.{entry_metric, local_route, local_through}
-use Rattle.sym_policy.specs.Held.{BgpShape, bgp_shape}
+use Rattle.route_shapes.specs.Bgp.{BgpShape, bgp_shape}
 use Rattle.sym_policy.specs.Records.{prefix_of}
 use Rattle.term_store.specs.Terms.{at}
 use Rattle.sym_rib.proofs.LocalRoutes.{network_by}

@@ -2,7 +2,7 @@ use Rattle.std.proofs.Common.{List, [], Option, ◌∙◌, ap, map, sym}
 use Rattle.std.specs.Option.{option_map_or}
 use Rattle.ios_ast.specs.declared.bgp.Bgp.{Bgp}
 use Rattle.net_parts.specs.Origins.{local_routes}
-use Rattle.sym_policy.specs.Held.{BgpShape, bgp_shape}
+use Rattle.route_shapes.specs.Bgp.{BgpShape, bgp_shape}
 use Rattle.sym_policy.specs.Records.{prefix_of}
 use Rattle.sym_rib.proofs.into_bgp.of_file.Goals as goal
 

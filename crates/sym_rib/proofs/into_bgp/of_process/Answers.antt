@@ -2,7 +2,7 @@ use Rattle.std.proofs.Common.{◌++◌, ◌∙◌, ap, ap₂, map, sym}
 use Rattle.std.specs.List.{filter_map}
 use Rattle.std.proofs.lemmas.List.{map-append}
 use Rattle.net_parts.specs.Origins.{by_network, into_bgp, local_routes}
-use Rattle.sym_policy.specs.Held.{bgp_shape}
+use Rattle.route_shapes.specs.Bgp.{bgp_shape}
 use Rattle.sym_policy.specs.Records.{prefix_of}
 use Rattle.sym_rib.proofs.into_bgp.of_process.Goals as goal
 

@@ -5,11 +5,11 @@ use Rattle.ios_ast.specs.declared.file.File.{File}
 use Rattle.route_record.specs.declared.BgpRec.{BgpRec}
 use Rattle.route_record.specs.declared.tracked.Tracked.{Tracked}
 use Rattle.net_parts.specs.Origins.{local_routes}
-use Rattle.sym_policy.specs.Held.{bgp_shape}
+use Rattle.route_shapes.specs.Bgp.{bgp_shape}
 use Rattle.sym_policy.specs.Records.{prefix_of}
-use Rattle.sym_policy.specs.Shapes.{all_tracked}
+use Rattle.route_shapes.specs.Shapes.{all_tracked}
 use Rattle.sym_rib.specs.Slots.{StandsForSlot}
-use Rattle.sym_rib.proofs.FilesTracked.{files_tracked}
+use Rattle.bgp_shapes.proofs.TrackedLaw.{policies_tracked}
 use Rattle.sym_rib.proofs.into_bgp.sym_originate.Goals as goal
 
 pub returns-in_ok-made-in-Some-clause-value : goal.returns-in_ok-made-in-Some-clause-value
@@ -21,8 +21,8 @@ returns-in_ok-made-in-Some-clause-value c = λ w reads held stands.
     let here = c.in-Some.ensures ∙ ap (λ fs. slice_get fs router) c.routers.ensures.all in
     let same = c.tracked.ensures.value in
     let Stands : Tracked → Type 0 = λ t. StandsForSlot w t c.args.slot.now held in
-    let all = ap (λ t. all_tracked t file.policies) same ∙ files_tracked files c.args.net.now.tracked router file
-    c.tracked.ensures.tracks (sym here) in
+    let all = ap (λ t. all_tracked t file.policies) same ∙ policies_tracked files c.args.net.now.tracked
+    c.tracked.ensures.tracks router file (sym here) in
     let of_file : File → List BgpRec =
     λ f. option_map_or (λ process. local_routes files router f process p held) f.bgp [] in
     let taken : Option File → List BgpRec = λ o. option_map_or of_file o [] in

@@ -2,7 +2,8 @@ use Rattle.std.proofs.Common.{rules, arith, ap, ◌∙◌}
 use Rattle.std.proofs.lemmas.Grind.{common_steps}
 use Rattle.std.specs.List.{filter_map}
 use Rattle.net_parts.specs.Origins.{into_bgp}
-use Rattle.sym_policy.specs.Held.{bgp_of, bgp_shape}
+use Rattle.sym_policy.specs.Held.{bgp_of}
+use Rattle.route_shapes.specs.Bgp.{bgp_shape}
 use Rattle.sym_policy.specs.Records.{prefix_of}
 use Rattle.sym_rib.proofs.OneEach.{lines_step, list_end-append}
 use Rattle.sym_rib.proofs.into_bgp.with_redistributed.Goals as goal

@@ -1,7 +1,7 @@
 use Rattle.std.proofs.Common.{Option, Some, None, ◌∙◌, ap, if◌then◌else◌}
 use Rattle.sym_policy.specs.Held.{bgp_at}
 use Rattle.sym_policy.specs.MapRecs.{attributes_at}
-use Rattle.sym_policy.specs.Shapes.{RouteShape}
+use Rattle.route_shapes.specs.Shapes.{RouteShape}
 use Rattle.term_store.specs.declared.NodeId.{NodeId}
 use Rattle.term_store.specs.Terms.{at}
 use Rattle.sym_rib.proofs.HeldParts.{parts_within, parts_read}

@@ -4,7 +4,7 @@ use Rattle.route_record.specs.declared.Slot.{Slot}
 use Rattle.net_parts.specs.Origins.{into_ospf}
 use Rattle.sym_policy.specs.Held.{ospf_of, ospf_end}
 use Rattle.sym_policy.specs.Records.{prefix_of}
-use Rattle.sym_policy.specs.Shapes.{all_tracked}
+use Rattle.route_shapes.specs.Shapes.{all_tracked}
 use Rattle.term_store.specs.Terms.{Reading, size}
 use Rattle.term_store.specs.Reading.{Reads, Builds}
 use Rattle.sym_rib.specs.Into.{list_end}

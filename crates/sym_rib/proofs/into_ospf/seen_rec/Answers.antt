@@ -3,7 +3,7 @@ use Rattle.std.proofs.lemmas.Result.{IfOk-weaker}
 use Rattle.std.specs.Option.{option_map}
 use Rattle.ios_ast.specs.declared.ospf.Source.{Source}
 use Rattle.net_parts.specs.Origins.{redistributed_route}
-use Rattle.sym_policy.specs.Shapes.{RouteShape, route_shape}
+use Rattle.route_shapes.specs.Shapes.{RouteShape, route_shape}
 use Rattle.sym_rib.proofs.into_ospf.seen_rec.Goals as goal
 
 pub returns-in-Bgp-clause-value : goal.returns-in-Bgp-clause-value

@@ -4,7 +4,8 @@ use Rattle.std.specs.Option.{option_map_or}
 use Rattle.term_store.specs.Terms.{Reading, at, size}
 use Rattle.term_store.specs.Reading.{Reads, Builds}
 use Rattle.term_arith.specs.Bits.{number}
-use Rattle.sym_rib.specs.Sources.{is_from, is_of_kind}
+use Rattle.bgp_shapes.specs.Crossings.{is_from}
+use Rattle.sym_rib.specs.Sources.{is_of_kind}
 use Rattle.sym_rib.proofs.learnt.sym_learnt.Given as goal
 
 abbrev pub invariant-loop-i : goal.invariant-loop-i

@@ -1,0 +1,12 @@
+pub mod PolicyLaw
+pub mod TrackedLaw
+pub mod ImportLaw
+pub mod CrossingLaw
+pub mod ExportLaw
+pub mod FlagLaw
+pub mod NumberLaw
+pub mod DecisionLaw
+pub mod HeldLaw
+pub mod CandidateLaw
+pub mod EndLaw
+pub mod LengthLaw

@@ -1,0 +1,10 @@
+pub mod Messages
+pub mod Tracking
+pub mod Importing
+pub mod Crossings
+pub mod Exporting
+pub mod Candidates
+pub mod Lengths
+pub mod Held
+pub mod Flags
+pub mod Numbers
