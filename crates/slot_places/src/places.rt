@@ -105,6 +105,12 @@ pub fn find_place(places: &[Place], router: u32, len: u8) -> Option<usize>
     places.iter().position(|p| is_at(p, router, len))
 }
 
+fn item<T>(items: &[T], at: usize) -> Option<&T>
+    ensures { option_copied result ≡ slice_get items.now at }
+{
+    items.get(at)
+}
+
 /// Of things that stand at places, one at each, the one at the place of that router and length. None where that is none
 /// of the places.
 #[tactic(auto, using(crate::proofs::PlaceSteps::item_found, crate::proofs::PlaceSteps::item_none))]
@@ -113,6 +119,6 @@ pub fn item_at<'a, T>(places: &[Place], items: &'a [T], router: u32, len: u8) ->
 {
     match find_place(places, router, len) {
         None => None,
-        Some(at) => items.get(at),
+        Some(at) => item(items, at),
     }
 }

@@ -11,8 +11,8 @@ use crate::fields::{Field, field_of, put_once, width_for};
 use crate::origins::origins_at;
 use ios_ast::File;
 use mw_text::{List, Prefix};
-use net_parts::ends::file_of;
 use net_model::{Adjacency, Net};
+use net_parts::ends::file_of;
 use route_record::{LENGTHS, OspfKind, OspfRec};
 use std::alloc::{AllocError, Global};
 

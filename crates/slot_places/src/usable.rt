@@ -9,7 +9,7 @@ ghost use Rattle.slot_places.specs.Rooms as rooms;
 
 use crate::origins::{is_static_at, is_subnet_at};
 use crate::rooms::{Room, room_for};
-use ios_ast::File;
+use ios_ast::{File, StaticRoute};
 use mw_text::Prefix;
 use net_model::Addressed;
 use net_parts::ends::file_of;
@@ -29,15 +29,19 @@ fn has_subnet(addresses: &[Addressed], destinations: &Prefix, router: u32, len: 
         .any(|x| is_subnet_of(x, destinations, router, len))
 }
 
+fn has_static(destinations: &Prefix, len: u8, statics: &[StaticRoute]) -> bool
+    ensures { result ≡ list_any (origins.is_static_at destinations.now len) statics.now }
+{
+    statics
+        .iter()
+        .any(|route| is_static_at(destinations, len, route))
+}
+
 // Whether it has a static route to such a prefix, or runs BGP.
 fn has_sources(destinations: &Prefix, len: u8, file: &File) -> bool
     ensures { result ≡ rooms.has_sources destinations.now len file.now }
 {
-    file.statics
-        .as_slice()
-        .iter()
-        .any(|route| is_static_at(destinations, len, route))
-        || file.bgp.is_some()
+    has_static(destinations, len, file.statics.as_slice()) || file.bgp.is_some()
 }
 
 /// Whether anything can stand in the slot of that router and length, in some stable routing for one of the destinations.
