@@ -251,7 +251,13 @@ fn of_process(
     Ok(made)
 }
 
-fn of_file(alloc: Global, file: &File, p: &Prefix, slot: &Slot) -> Result<List<OspfRec>, AllocError>
+/// What the OSPF process of that file takes from such a slot: nothing where the file has none.
+pub fn redistribute_of(
+    alloc: Global,
+    file: &File,
+    p: &Prefix,
+    slot: &Slot,
+) -> Result<List<OspfRec>, AllocError>
     ensures { IfOk result (λ made. made
         ≡ option_map_or (λ process. origins.redistributed file.now process p.now slot.now) file.now.ospf []) }
 {
@@ -274,6 +280,6 @@ pub fn redistribute(
 {
     match net.routers().get(router as usize) {
         None => Ok(List::new(alloc)),
-        Some(file) => of_file(alloc, file, p, slot),
+        Some(file) => redistribute_of(alloc, file, p, slot),
     }
 }

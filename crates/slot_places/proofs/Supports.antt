@@ -27,7 +27,7 @@ use Rattle.net_parts.specs.OspfRoutes.{own_origins}
 use Rattle.net_parts.specs.Stable.{Stable, held_ospf}
 use Rattle.net_parts.proofs.LeastWalks.{in-cases, in-filter, in-filter_map}
 use Rattle.mw_text.specs.Members.{In}
-use Rattle.world_variables.specs.Supported.{AreOrigins, IsKept}
+use Rattle.slot_places.specs.Supported.{AreOrigins, IsKept}
 
 -- ---- the first best of some offers is one of them
 

@@ -22,8 +22,8 @@ use Rattle.net_parts.specs.Ospf.{adjacencies}
 use Rattle.net_parts.specs.Stable.{Stable}
 use Rattle.mw_text.specs.Members.{In}
 use Rattle.mw_text.proofs.Lists.{in-from_any}
-use Rattle.world_variables.specs.Supported.{AreOrigins}
-use Rattle.world_variables.proofs.Supports.{IsOffered, IsOrigin, all_in, supports}
+use Rattle.slot_places.specs.Supported.{AreOrigins}
+use Rattle.slot_places.proofs.Supports.{IsOffered, IsOrigin, all_in, supports}
 
 -- the router holds a route of at most that cost
 record HoldsWithin (tables : Tables) (len most router : ℕ) : Type 0 where
