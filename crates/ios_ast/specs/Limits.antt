@@ -1,6 +1,6 @@
 -- The limits of a configuration file: so many interfaces and neighbours at most (the numbers are this project's), OSPF
 -- costs in their range (RFC 2328, section 9; Cisco IOS, `ip ospf cost`), the lengths of prefix lists in their order
--- (Cisco IOS, `ip prefix-list`), and what no two lines say.
+-- (Cisco IOS, `ip prefix-list`), each neighbour named once, and the addresses of interfaces by different lines.
 use Rattle.std.specs.Prelude.{◌&&◌, ◌==◌, Bool, true, not, List, [], ◌∷◌, length, nat_le, nat_lt}
 use Rattle.std.specs.List.{list_all}
 use Rattle.std.specs.Option.{option_map_or}
