@@ -1,8 +1,7 @@
 -- What a router takes from its own table into OSPF, by the source of its entry; and on what an entry rests.
-use Rattle.std.proofs.Common.{◌≡◌, ℕ, Bool, true, false, not, ◌&&◌, ◌||◌, List, [], ◌∷◌, ◌++◌, map, filter, Option, Some, None}
-use Rattle.std.proofs.Common.{inl, inr, refl, sym, ap, subst, ◌∙◌, nat_lt}
-use Rattle.std.specs.Prelude.{All, IfSome, fold, is_some, option_and_then, option_map, unwrap_or, if◌then◌else◌}
-use Rattle.std.specs.List.{filter_map}
+use Rattle.std.proofs.Common.{◌≡◌, ℕ, Bool, true, false, not, List, [], ◌∷◌, map, filter, Option, Some, None}
+use Rattle.std.proofs.Common.{inl, refl, sym, ap, subst, ◌∙◌, nat_lt}
+use Rattle.std.specs.Prelude.{All, IfSome, fold, is_some, option_and_then, option_map, if◌then◌else◌}
 use Rattle.std.specs.Option.{option_map_or, option_to_list}
 use Rattle.std.proofs.lemmas.Bool.{and_parts}
 use Rattle.std.proofs.lemmas.List.Elements.{All-append, All-cons, All-head, All-map, All-nil, All-tail}
@@ -20,8 +19,7 @@ use Rattle.ios_ast.specs.declared.policies.MapEntry.{MapEntry}
 use Rattle.ios_ast.specs.declared.policies.SetAct.{SetAct}
 use Rattle.ios_ast.specs.declared.policies.SetAct.TheVariants.{LocalPref, Metric, Weight, NoCommunity, Community}
 use Rattle.ios_ast.specs.declared.policies.SetAct.TheVariants.{Origin, Prepend, Type1}
-use Rattle.ios_ast.specs.Maps.{deciding, entries_named, mapped, route_taken, through_map}
-use Rattle.ios_ast.specs.Deciding.{in_order}
+use Rattle.ios_ast.specs.Maps.{deciding, entries_named, route_taken, through_map}
 use Rattle.ios_ast.specs.Setting.{Attributes, set_all, set_one}
 use Rattle.route_record.specs.declared.BgpRec.{BgpRec}
 use Rattle.route_record.specs.declared.Failures.{Failures}
@@ -36,8 +34,8 @@ use Rattle.net_parts.specs.Exports.{learnt_over}
 use Rattle.net_parts.specs.Origins.{external_record, into_ospf, is_default, is_taken, plain_route, redistributed}
 use Rattle.net_parts.specs.Origins.{redistributed_route}
 use Rattle.net_parts.specs.Routing.{closer, is_direct, static_routes, up_interfaces}
-use Rattle.net_parts.proofs.LeastWalks.{filter_map-in, in-filter_map, in-left}
-use Rattle.slot_places.specs.Origins.{external_after, is_of_bgp, metric_after, slot_from, taken_of_bgp, type1_after}
+use Rattle.net_parts.proofs.LeastWalks.{filter_map-in, in-left}
+use Rattle.slot_places.specs.Origins.{external_after, metric_after, slot_from, taken_of_bgp, type1_after}
 use Rattle.slot_places.proofs.Members.{all-from-in, filter-in, in-find, map-in, ordered-in}
 
 -- ---- what a line takes of an entry from that source

@@ -1,11 +1,11 @@
 -- Each OSPF route of a stable routing has room, and fits there; and where nothing can stand nothing stands.
-use Rattle.std.proofs.Common.{◌≡◌, ℕ, zero, suc, ◌+◌, ◌*◌, ◌^◌, ◌<◌, ◌≤◌, Bool, true, false, not, ◌&&◌, ◌||◌, List, []}
+use Rattle.std.proofs.Common.{◌≡◌, ℕ, suc, ◌+◌, ◌*◌, ◌^◌, ◌<◌, ◌≤◌, Bool, true, false, ◌&&◌, ◌||◌, List, []}
 use Rattle.std.proofs.Common.{◌∷◌, ◌++◌, length, map, max, Option, Some, None, inl, inr, refl, sym, ap, subst, arith, ◌∙◌}
 use Rattle.std.proofs.Common.{slice_get}
-use Rattle.std.specs.Prelude.{◌⊎◌, ◌==◌, All, IfSome, MatchOption, fold, is_some, nat_le, option_and_then, if◌then◌else◌}
+use Rattle.std.specs.Prelude.{◌==◌, All, IfSome, MatchOption, fold, is_some, nat_le, if◌then◌else◌}
 use Rattle.std.specs.List.{list_any}
 use Rattle.std.specs.Option.{option_map_or}
-use Rattle.std.proofs.lemmas.Bool.{and_from, and_parts, eq-eqb, eqb-true, false≢true, or_parts}
+use Rattle.std.proofs.lemmas.Bool.{and_from, eqb-true, false≢true, leb-true, or_parts}
 use Rattle.std.proofs.lemmas.List.Elements.{All-cons, All-nil}
 use Rattle.std.proofs.lemmas.Option.{option_and_then_some}
 use Rattle.mw_text.specs.Members.{In}
@@ -15,9 +15,7 @@ use Rattle.mw_text.specs.declared.address.Prefix.{Prefix}
 use Rattle.mw_text.specs.Address.{covers, prefix_at}
 use Rattle.ios_ast.specs.declared.bgp.Bgp.{Bgp}
 use Rattle.ios_ast.specs.declared.file.File.{File}
-use Rattle.ios_ast.specs.declared.ospf.Ospf.{Ospf}
 use Rattle.ios_ast.specs.Deciding.{carries}
-use Rattle.route_record.specs.declared.BgpRec.{BgpRec}
 use Rattle.route_record.specs.declared.Environment.{Environment}
 use Rattle.route_record.specs.declared.Failures.{Failures}
 use Rattle.route_record.specs.declared.OspfKind.{OspfKind}
@@ -51,7 +49,7 @@ use Rattle.slot_places.specs.Tables.{empty_slot}
 use Rattle.slot_places.specs.Values.{FitsField, field_of, greatest, once, put_once, width_for}
 use Rattle.slot_places.proofs.Bounded.{cost_bound}
 use Rattle.slot_places.proofs.Brought.{IsBacked, entry_backed}
-use Rattle.slot_places.proofs.Known.{IsStatic, IsSubnet, origins_known, static_there, subnet_there}
+use Rattle.slot_places.proofs.Known.{origins_known, static_there, subnet_there}
 use Rattle.slot_places.proofs.Members.{all-from-in, any-in, map-in}
 use Rattle.slot_places.proofs.Supports.{all_held, all_in, file_there}
 use Rattle.slot_places.proofs.Widths.{in_width}
@@ -101,14 +99,14 @@ below_greatest (n ∷ numbers) most x (inr later) = below_greatest numbers (max 
 -- a number that is one of some fits the field of these
 pub fits_among : (numbers : List ℕ) (x : ℕ) → In x numbers → x < 2 ^ 32 → FitsField (field_of (once numbers)) x
 unfolding field_of
-fits_among numbers x there small = by (nat_le (length (once numbers)) MOST_VALUES) where
+fits_among numbers x there small = by (nat_le (length (once numbers)) MOST_VALUES) refl where
   within : In x (once numbers)
   within = folded-there numbers [] x there
 
-  by : (b : Bool) →
+  by : (b : Bool) → nat_le (length (once numbers)) MOST_VALUES ≡ b →
       FitsField (if b then Among (once numbers) else Bits (width_for (greatest (once numbers)))) x
-  by true = in-contains x (once numbers) within
-  by false =
+  by true is = (in-contains x (once numbers) within, leb-true (length (once numbers)) MOST_VALUES is)
+  by false is =
       in_width x (greatest (once numbers)) 0 32 (below_greatest (once numbers) 0 x within) small
 
 -- ---- the dearest of some routes, and of the adjacencies

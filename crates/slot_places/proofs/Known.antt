@@ -1,11 +1,10 @@
 -- All that a router originates into OSPF in a stable routing is known from the lines of the files.
-use Rattle.std.proofs.Common.{◌≡◌, ℕ, ◌<◌, Bool, true, false, not, ◌&&◌, ◌||◌, List, [], ◌∷◌, ◌++◌, map, filter, Option, Some}
+use Rattle.std.proofs.Common.{◌≡◌, ℕ, ◌<◌, Bool, true, false, not, ◌&&◌, ◌||◌, List, [], ◌∷◌, ◌++◌, map, Option, Some}
 use Rattle.std.proofs.Common.{None, inl, inr, refl, sym, ap, subst, ◌∙◌, slice_get}
-use Rattle.std.specs.Prelude.{◌⊎◌, ◌==◌, All, IfSome, MatchOption, is_some, option_and_then, option_map, if◌then◌else◌}
+use Rattle.std.specs.Prelude.{◌⊎◌, ◌==◌, IfSome, MatchOption, is_some, option_and_then, option_map, if◌then◌else◌}
 use Rattle.std.specs.List.{filter_map, flat_map}
 use Rattle.std.specs.Option.{option_map_or, option_to_list}
 use Rattle.std.proofs.lemmas.Bool.{and_from, and_parts, eqb-true}
-use Rattle.std.proofs.lemmas.Option.{same_Some}
 use Rattle.mw_text.specs.Members.{In}
 use Rattle.mw_text.specs.declared.address.Addr.{Addr}
 use Rattle.mw_text.specs.declared.address.Prefix.{Prefix}
@@ -27,18 +26,17 @@ use Rattle.route_record.specs.declared.RibSource.TheVariants.{Connected, Static,
 use Rattle.route_record.specs.declared.Slot.{Slot}
 use Rattle.route_record.specs.declared.Tables.{Tables}
 use Rattle.route_record.specs.declared.TheConstants.{LENGTHS}
-use Rattle.route_record.specs.Places.{slot_at}
 use Rattle.net_interfaces.specs.declared.interfaces.Addressed.{Addressed}
 use Rattle.net_interfaces.specs.Interfaces.{addressed}
 use Rattle.net_parts.specs.declared.ospf.OspfInterface.{OspfInterface}
 use Rattle.net_parts.specs.Decisions.{DecidedByBgp}
 use Rattle.net_parts.specs.Entries.{own_is_as_good}
-use Rattle.net_parts.specs.Origins.{external_record, into_ospf, is_default, is_ospf_entry, originated_default}
+use Rattle.net_parts.specs.Origins.{into_ospf, is_default, is_ospf_entry, originated_default}
 use Rattle.net_parts.specs.Origins.{redistributed}
 use Rattle.net_parts.specs.Ospf.{advertisement, origin_interfaces, ospf_interfaces}
 use Rattle.net_parts.specs.OspfRoutes.{own_origins}
 use Rattle.net_parts.specs.Routing.{counts, is_direct, static_routes, up_interfaces}
-use Rattle.net_parts.specs.Stable.{IsDecided, IsStableSlot, Stable}
+use Rattle.net_parts.specs.Stable.{IsStableSlot, Stable}
 use Rattle.net_parts.specs.World.{is_up}
 use Rattle.net_parts.proofs.LeastWalks.{in-cases, in-filter, in-filter_map, in-left, in-map, in-right}
 use Rattle.slot_places.specs.Origins.{advertised_by, by_file, by_process, default_of, default_record, is_static_at}

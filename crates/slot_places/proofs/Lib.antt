@@ -10,3 +10,4 @@ pub mod Bounded
 pub mod Brought
 pub mod Known
 pub mod Fitting
+pub mod Telling

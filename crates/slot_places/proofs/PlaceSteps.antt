@@ -1,5 +1,5 @@
 -- Lengths and places, one after another; and what stands at a place.
-use Rattle.std.proofs.Common.{◌≡◌, ℕ, zero, suc, ◌+◌, ◌<◌, ◌≤◌, Bool, true, false, not, List, [], ◌∷◌, ◌++◌, length, map}
+use Rattle.std.proofs.Common.{◌≡◌, ℕ, suc, ◌+◌, ◌<◌, ◌≤◌, Bool, true, false, not, List, [], ◌∷◌, ◌++◌, length, map}
 use Rattle.std.proofs.Common.{Option, Some, None, inl, inr, refl, sym, ap, arith, add-one, append-nil, ◌∙◌, slice_get, nat_lt}
 use Rattle.std.specs.Prelude.{◌⊎◌, cond, option_and_then, option_map, position, if◌then◌else◌}
 use Rattle.std.specs.List.{position_or_len}

@@ -1,7 +1,7 @@
 -- Tables that have a given slot at each router and length; those that follow from what is open at places are a stable
 -- routing where each passes its test, and each stable routing that is empty off the places is made so.
 use Rattle.std.proofs.Common.{◌≡◌, ℕ, zero, suc, ◌+◌, ◌-◌, ◌*◌, ◌<◌, ◌≤◌, Bool, true, false, List, [], ◌∷◌, ◌++◌, length, map}
-use Rattle.std.proofs.Common.{Option, Some, None, inl, inr, refl, sym, ap, ap₂, subst, arith, ◌∙◌, length-append, slice_get}
+use Rattle.std.proofs.Common.{Some, None, inl, inr, refl, sym, ap, ap₂, subst, arith, ◌∙◌, length-append, slice_get}
 use Rattle.std.specs.Prelude.{◌⊎◌, ◌&&◌, ◌||◌, ◌==◌, All, unwrap_or, if◌then◌else◌}
 use Rattle.std.specs.List.{list_any}
 use Rattle.std.specs.Option.{option_map_or}

@@ -1,6 +1,6 @@
 -- What lines of the files can bring into OSPF for the prefixes of one length that contain some destination of a set
 -- (RFC 2328, section 12.4; Cisco IOS, `redistribute` and `default-information originate`).
-use Rattle.std.specs.Prelude.{ℕ, ◌==◌, ◌&&◌, Bool, true, false, not, List, [], ◌∷◌, ◌++◌, Option, Some, None, filter, fold}
+use Rattle.std.specs.Prelude.{ℕ, ◌==◌, ◌&&◌, Bool, true, false, not, List, [], ◌∷◌, ◌++◌, Some, None, filter, fold}
 use Rattle.std.specs.Prelude.{is_some, map, option_map, slice_get, unwrap_or, if◌then◌else◌}
 use Rattle.std.specs.List.{flat_map}
 use Rattle.std.specs.Option.{option_map_or, option_to_list}

@@ -1,6 +1,6 @@
 -- How a formula tells a number of which it is known that it is one of some values.
-use Rattle.std.specs.Prelude.{ℕ, zero, suc, ◌-◌, ◌^◌, ◌<◌, List, [], ◌∷◌, ◌++◌, Contains, fold, length, max, nat_le, nat_lt}
-use Rattle.std.specs.Prelude.{if◌then◌else◌}
+use Rattle.std.specs.Prelude.{ℕ, zero, suc, ◌-◌, ◌^◌, ◌<◌, ◌≤◌, ◌==◌, List, [], ◌∷◌, ◌++◌, Contains, fold, length, max}
+use Rattle.std.specs.Prelude.{nat_le, nat_lt, slice_index, if◌then◌else◌}
 use Rattle.ios_ast.specs.Deciding.{carries}
 use Rattle.slot_places.specs.declared.fields.Field.{Field}
 use Rattle.slot_places.specs.declared.fields.Field.TheVariants.{Bits, Among}
@@ -41,7 +41,22 @@ abbrev pub field_width : Field → ℕ
 field_width (Bits width) = width
 field_width (Among values) = width_for (length values - 1)
 
--- the field has room for the number
+-- the field has room for the number: in its bits, or as one of few values
 abbrev pub FitsField : Field → ℕ → Type 0
 FitsField (Bits width) n = n < 2 ^ width
-FitsField (Among values) n = Contains values n
+FitsField (Among values) n = Contains values n × (length values ≤ MOST_VALUES)
+
+-- the first place of a number among values
+abbrev pub place_of : List ℕ → ℕ → ℕ
+place_of [] n = 0
+place_of (x ∷ xs) n = if x == n then 0 else suc (place_of xs n)
+
+-- the number by which a field tells another: itself, or its place
+abbrev pub told_as : Field → ℕ → ℕ
+told_as (Bits width) n = n
+told_as (Among values) n = place_of values n
+
+-- and what such a number tells: itself, or the value at that place, 0 past the last
+abbrev pub read_as : Field → ℕ → ℕ
+read_as (Bits width) told = told
+read_as (Among values) told = slice_index values told

@@ -1,6 +1,6 @@
 //! How a formula tells a number of which it is known that it is one of some values.
 
-ghost use Rattle.std.specs.Prelude.{◌≡◌, ◌≤◌, ◌-◌, OnOk};
+ghost use Rattle.std.specs.Prelude.{◌≡◌, ◌≤◌, ◌-◌, OnOk, slice_index};
 ghost use Rattle.ios_ast.specs.Deciding.{carries};
 ghost use Rattle.slot_places.specs.Values as values;
 
@@ -76,6 +76,15 @@ fn place_width(many: usize) -> u8
     width_for(many.saturating_sub(1) as u64)
 }
 
+fn value_at(among: &[u32], place: u32) -> u32
+    ensures { result ≡ slice_index among.now place }
+{
+    match among.get(place as usize) {
+        None => 0,
+        Some(value) => *value,
+    }
+}
+
 impl Field {
     ghost use Rattle.slot_places.specs.Values as values;
 
@@ -86,6 +95,16 @@ impl Field {
         match self {
             Field::Bits(width) => *width,
             Field::Among(among) => place_width(among.as_slice().len()),
+        }
+    }
+
+    /// The number that is told by another: that one itself, or the value at that place, 0 past the last.
+    pub fn read(&self, told: u32) -> u32
+        ensures { result ≡ values.read_as self.now told }
+    {
+        match self {
+            Field::Bits(_) => told,
+            Field::Among(among) => value_at(among.as_slice(), told),
         }
     }
 }

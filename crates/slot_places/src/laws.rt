@@ -1,7 +1,7 @@
 //! Laws about the places of a plan, and about what stands in the slots of stable routings. Each function only carries its
 //! law.
 
-ghost use Rattle.std.specs.Prelude.{◌≡◌, ◌<◌, ◌≤◌, ◌+◌, ◌*◌, ℕ, All, AllPairs, Bool, Contains, IsTrue, List as ListOf, Option as OptionOf, Some, None, [], length, map, true, false};
+ghost use Rattle.std.specs.Prelude.{◌≡◌, ◌<◌, ◌≤◌, ◌+◌, ◌*◌, ◌^◌, ℕ, All, AllPairs, Bool, Contains, IsTrue, List as ListOf, Option as OptionOf, Some, None, [], length, map, true, false};
 ghost use Rattle.mw_text.specs.declared.address.Addr.{Addr as AddrOf};
 ghost use Rattle.mw_text.specs.declared.address.Prefix.{Prefix as PrefixOf};
 ghost use Rattle.mw_text.specs.Address.{covers, prefix_at};
@@ -16,6 +16,7 @@ ghost use Rattle.route_record.specs.declared.TheConstants.{LENGTHS};
 ghost use Rattle.route_record.specs.Places.{slot_at};
 ghost use Rattle.net_parts.specs.Ospf.{adjacencies};
 ghost use Rattle.net_parts.specs.Stable.{Stable};
+ghost use Rattle.slot_places.specs.declared.fields.Field.{Field as FieldOf};
 ghost use Rattle.slot_places.specs.declared.places.Place.{Place as PlaceOf};
 ghost use Rattle.slot_places.specs.declared.rooms.Room.{Room as RoomOf};
 ghost use Rattle.slot_places.specs.Origins.{origins_at};
@@ -24,6 +25,7 @@ ghost use Rattle.slot_places.specs.Plans.{has_slice, lens_of};
 ghost use Rattle.slot_places.specs.Rooms.{FitsIn, can_be_used, dearest_of, dearest_walk, room_for};
 ghost use Rattle.slot_places.specs.Supported.{AreOrigins, IsKept};
 ghost use Rattle.slot_places.specs.Tables.{empty_slot};
+ghost use Rattle.slot_places.specs.Values.{FitsField, field_width, read_as, told_as};
 
 /// The places of a plan over so many routers are each router's at each length at which a slice stands (`there`), and no
 /// others (`only`). They ascend by router and then by length, so none comes twice (`ascending`), and are as many as there
@@ -35,6 +37,12 @@ pub fn places_law()
         (p.router < routers) × (p.len < LENGTHS) × (has_slice plan p.len ≡ true) }
     ensures ascending { (plan : PlanOf) (routers : ℕ) → AllPairs IsBefore (places_of plan routers) }
     ensures many { (plan : PlanOf) (routers : ℕ) → length (places_of plan routers) ≡ routers * length (lens_of plan) }
+{}
+
+/// A number for which a field has room is told by a number of the field's width, and read back from it.
+pub fn fields_law()
+    ensures small { (field : FieldOf) (n : ℕ) → FitsField field n → told_as field n < 2 ^ field_width field }
+    ensures again { (field : FieldOf) (n : ℕ) → FitsField field n → read_as field (told_as field n) ≡ n }
 {}
 
 /// Whatever is true of all that routers originate into OSPF for a prefix, and stays true when a route costs more, is true

@@ -1,4 +1,3 @@
-use Rattle.std.proofs.Common.{Contains}
 use Rattle.slot_places.specs.Places.{place}
 use Rattle.slot_places.specs.Plans.{lens_of}
 use Rattle.route_record.specs.declared.TheConstants.{LENGTHS}
