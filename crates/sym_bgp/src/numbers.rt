@@ -10,12 +10,12 @@ ghost use Rattle.sym_bgp.specs.Best.{best_at, best_end};
 ghost use Rattle.sym_bgp.specs.Keys.{IsCompared, compared_width, key_at, key_end, keys_at, keys_end};
 
 use crate::parts::{SymBest, SymKey};
+use mw_text::List;
 use net_parts::Step;
 use std::alloc::{AllocError, Global};
 use term_arith::gates::{both, constant_node, either, negate};
 use term_arith::lists::put;
 use term_arith::{Bits, choose, constant, less};
-use mw_text::List;
 use term_store::{NodeId, Terms};
 
 /// The number that a step compares of a key.

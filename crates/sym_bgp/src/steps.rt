@@ -170,11 +170,7 @@ fn after_steps(
 
 /// Whether some flagged key is external.
 #[tactic(auto, using(crate::proofs::FlagSteps::external_steps))]
-fn any_external(
-    terms: &mut Terms,
-    flags: &[NodeId],
-    keys: &[SymKey],
-) -> Result<NodeId, AllocError>
+fn any_external(terms: &mut Terms, flags: &[NodeId], keys: &[SymKey]) -> Result<NodeId, AllocError>
     requires rows { length flags.now ≡ length keys.now }
     requires flags { ids_end flags.now ≤ size terms.old }
     requires keys { keys_end keys.now ≤ size terms.old }
