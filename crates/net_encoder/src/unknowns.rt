@@ -23,6 +23,7 @@ use mw_text::List;
 use net_model::Net;
 use question_lang::Question;
 use route_record::Plan;
+use slot_places::rooms_of;
 use std::alloc::{AllocError, Global};
 use sym_policy::{SymNet, SymPacket};
 use sym_walk::SymWorld;
@@ -73,7 +74,7 @@ fn open_outside(
 }
 
 // What is open of the slots: their variables are new.
-#[tactic(auto, using(world_variables::proofs::RoomSteps::rooms_long))]
+#[tactic(auto, using(world_variables::proofs::RoomSteps::rooms_long), unfolding(world_variables::specs::Rooms::widths_of))]
 fn open_slots(
     alloc: Global,
     terms: &mut Terms,
@@ -85,12 +86,13 @@ fn open_slots(
     ensures within { IfOk result (λ r. opens_end r ≤ size terms.new) }
     ensures long { IfOk result (λ r. length r ≡ constants.LENGTHS * length net.now.files) }
     ensures vars { OnOk result (terms.new.vars
-        ≡ terms.old.vars + unknowns_width (room.widths_of net.now.files) (rooms_of net.now.files question.now)) }
+        ≡ terms.old.vars + unknowns_width (room.widths_of net.now.files question.now.packets.dst) (rooms_of net.now.files question.now)) }
     ensures value { Gives terms.new result (λ w r. map (open_of w) r
-        ≡ unknowns_from (room.widths_of net.now.files) (rooms_of net.now.files question.now) w.variable terms.old.vars) }
+        ≡ unknowns_from (room.widths_of net.now.files question.now.packets.dst) (rooms_of net.now.files question.now) w.variable terms.old.vars) }
 {
-    let widths = widths_of(net);
-    let rooms = rooms(alloc, net, &question.packets.dst)?;
+    let all = rooms_of(alloc, net, &question.packets.dst)?;
+    let widths = widths_of(all.as_slice());
+    let rooms = rooms(alloc, net, &question.packets.dst, all.as_slice())?;
     opens(alloc, terms, widths, rooms.as_slice())
 }
 

@@ -90,7 +90,7 @@ above_start : (numbers : List ℕ) (most : ℕ) → most ≤ fold max most numbe
 above_start [] most = omega arith
 above_start (n ∷ numbers) most = let rest = above_start numbers (max most n) in omega (arith, rest)
 
-below_greatest : (numbers : List ℕ) (most x : ℕ) → In x numbers → x ≤ fold max most numbers
+pub below_greatest : (numbers : List ℕ) (most x : ℕ) → In x numbers → x ≤ fold max most numbers
 below_greatest [] most x there = absurd there
 below_greatest (n ∷ numbers) most x (inl same) =
     let above = above_start numbers (max most n) in omega (arith, same, above)

@@ -34,7 +34,8 @@ at_end [] x (suc k) same = absurd (omega (arith, same))
 at_end (y ∷ ys) x zero same = absurd (omega (arith, same))
 at_end (y ∷ ys) x (suc k) same = at_end ys x k (omega (arith, same))
 
-room_below : (files : List File) (destinations : Prefix) (n len : ℕ) → len < n →
+-- that of a length
+pub room_below : (files : List File) (destinations : Prefix) (n len : ℕ) → len < n →
     slice_get (rooms_below files destinations n) len ≡ Some (room_at files destinations len)
 unfolding rooms_below
 room_below files destinations zero len below = absurd (omega (arith, below))

@@ -12,7 +12,7 @@ use Rattle.ios_ast.specs.declared.file.File.{File}
 use Rattle.route_record.specs.declared.Failures.{Failures}
 use Rattle.route_record.specs.declared.TheConstants.{LENGTHS}
 use Rattle.world_variables.specs.declared.widths.Widths.{Widths}
-use Rattle.world_variables.specs.Rooms.{most_cost, rooms_from, some_take, width_from, widths_of}
+use Rattle.world_variables.specs.Rooms.{rooms_from}
 use Rattle.world_variables.specs.Slots.{slot_of, slots_of}
 use Rattle.world_variables.specs.Unknowns.{Unknown, unknowns_from}
 use Rattle.world_variables.proofs.RoomSteps.{rooms_long}
@@ -56,32 +56,5 @@ pub rooms_few : (files : List File) (destinations : Prefix) → length files ≤
     length (rooms_from files destinations 0 (LENGTHS * length files)) < 2 ^ 32
 rooms_few files destinations few =
     let many = rooms_long files destinations 0 (LENGTHS * length files) in omega (arith, many, few)
-
-width-most : (n width more : ℕ) → width_from n width more ≤ width + more
-unfolding width_from
-width-most n width zero = omega arith
-width-most n width (suc more) = by (nat_lt n (2 ^ width)) (width-most n (suc width) more)
-  where
-    by : (b : Bool) → width_from n (suc width) more ≤ suc width + more →
-        (if b then width else width_from n (suc width) more) ≤ width + suc more
-    by true rest = omega arith
-    by false rest = omega (arith, rest)
-
--- numbers of routes have 32 bits at most
-pub record AreNarrow (widths : Widths) : Type 0 where
-  pub kind : widths.kind ≤ 32
-  pub metric : widths.metric ≤ 32
-  pub cost : widths.cost ≤ 32
-
-pub widths_narrow : (files : List File) → AreNarrow (widths_of files)
-unfolding widths_of
-widths_narrow files = by (some_take files)
-  where
-    by : (b : Bool) → AreNarrow (if b then record { kind = 2; metric = 32; cost = 32 }
-        else record { kind = 0; metric = 0; cost = width_from (most_cost files) 0 32 })
-    by true = record { kind = omega arith; metric = omega arith; cost = omega arith }
-    by false =
-        let narrow = width-most (most_cost files) 0 32 in
-        record { kind = omega arith; metric = omega arith; cost = omega (arith, narrow) }
 
 pub ruleset slot_steps = (common_steps, rooms_at, unknowns_next, widths_next, slots_next, slots_none, unknowns_none)

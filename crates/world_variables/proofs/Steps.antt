@@ -14,7 +14,6 @@ use Rattle.world_variables.specs.declared.opens.SymOpen.{SymOpen}
 use Rattle.world_variables.specs.declared.widths.Widths.{Widths}
 use Rattle.world_variables.specs.Symbols.{open_end, open_of, opens_end}
 use Rattle.world_variables.specs.Unknowns.{unknown_from, unknown_width, unknowns_from, unknowns_width}
-use Rattle.world_variables.specs.Rooms.{width_from}
 
 -- the first bits of an address fit the width that is left
 pub high_bits : (a len : ℕ) → a < 2 ^ 32 → a / 2 ^ (32 - len) < 2 ^ (32 - (32 - len))
@@ -22,30 +21,6 @@ high_bits a len small =
     let all : (32 - len) + (32 - (32 - len)) ≡ 32 = omega arith in
     (div-lt_iff_lt-mul (pow_pos (32 - len))).1 (subst (λ n. a < n) (sym (ap (λ n. 2 ^ n) all)
     ∙ pow-add 2 (32 - len) (32 - (32 - len)) ∙ mul_comm (2 ^ (32 - len)) (2 ^ (32 - (32 - len)))) small)
-
--- a width in which the number has room
-pub width_found : (n width : ℕ) → width < 32 → n < 2 ^ width → width_from n width (32 - width) ≡ width
-unfolding width_from
-width_found n width less fits =
-    let more : 32 - width ≡ suc (32 - (width + 1)) = omega (arith, less) in
-    ap (width_from n width) more
-    ∙ ap (λ b. if b then width else width_from n (suc width) (32 - (width + 1))) (lt-ltb n (2 ^ width) fits)
-
--- trying one width more
-pub width_more : (n width : ℕ) → width < 32 → 2 ^ width ≤ n →
-    width_from n width (32 - width) ≡ width_from n (width + 1) (32 - (width + 1))
-unfolding width_from
-width_more n width less large =
-    let more : 32 - width ≡ suc (32 - (width + 1)) = omega (arith, less) in
-    let next : suc width ≡ width + 1 = omega arith in
-    ap (width_from n width) more
-    ∙ ap (λ b. if b then width else width_from n (suc width) (32 - (width + 1))) (le-ltb n (2 ^ width) large)
-    ∙ ap (λ k. width_from n k (32 - (width + 1))) next
-
--- and where none is left
-pub width_last : (n : ℕ) → width_from n 32 (32 - 32) ≡ 32
-unfolding width_from
-width_last n = refl
 
 -- nothing above a number changes it
 pub nothing_above : (low power high : ℕ) → high ≡ 0 → low + power * high ≡ low

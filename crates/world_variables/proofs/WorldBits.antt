@@ -37,12 +37,12 @@ use Rattle.world_variables.proofs.Worlds.{fit_rooms, fits_room}
 -- what is open of a stable routing fits the rooms
 opens_have_room : (files : List File) (question : Question) (world : World) (environment : Environment)
     (walk : Option Walk) → IsEncodable files question → IsBreaking files question world environment walk →
-    FitRooms (widths_of files) (rooms_of files question)
+    FitRooms (widths_of files question.packets.dst) (rooms_of files question)
     (unknowns_of files world.failures world.packet.dst 0 world.tables.slots)
 opens_have_room files question world environment walk fits broken =
-    subst (λ n. FitRooms (widths_of files) (rooms_from files question.packets.dst 0 n)
+    subst (λ n. FitRooms (widths_of files question.packets.dst) (rooms_from files question.packets.dst 0 n)
     (unknowns_of files world.failures world.packet.dst 0 world.tables.slots)) broken.stable.size
-    (fit_rooms files question.packets.dst world.failures world.packet.dst (widths_of files) 0 world.tables.slots each)
+    (fit_rooms files question.packets.dst world.failures world.packet.dst (widths_of files question.packets.dst) 0 world.tables.slots each)
   where
     costs : All (λ a. 0 < a.cost) (adjacencies files)
     costs = All-weaker (λ a. (0 < a.cost) × (a.cost ≤ 65535)) (λ a. 0 < a.cost) (λ a both. both.0) (adjacencies files)
@@ -59,10 +59,10 @@ opens_have_room files question world environment walk fits broken =
     here k slot there = ap (slice_get world.tables.slots) (again k) ∙ there
 
     at_place : (k : ℕ) (slot : Slot) → slice_get world.tables.slots k ≡ Some slot →
-        FitsRoom (widths_of files) (has_room files question.packets.dst (k / LENGTHS) (k % LENGTHS))
+        FitsRoom (widths_of files question.packets.dst) (has_room files question.packets.dst (k / LENGTHS) (k % LENGTHS))
         (unknown_of files world.failures world.packet.dst (k / LENGTHS) (k % LENGTHS) slot)
     at_place k slot there =
-        fits_room files world.failures world.packet.dst (k / LENGTHS) (k % LENGTHS) slot (widths_of files)
+        fits_room files world.failures world.packet.dst (k / LENGTHS) (k % LENGTHS) slot (widths_of files question.packets.dst)
         (has_room files question.packets.dst (k / LENGTHS) (k % LENGTHS))
         (λ h held. width_there files question.packets.dst world.packet.dst world.failures environment world.tables
         broken.stable broken.packet.dst costs (k / LENGTHS) (k % LENGTHS) slot h (short k) (here k slot there) held)
@@ -70,11 +70,11 @@ opens_have_room files question world environment walk fits broken =
         broken.stable broken.packet.dst costs (k / LENGTHS) (k % LENGTHS) slot h (short k) (here k slot there) held)
 
     each : (k : ℕ) (slot : Slot) → slice_get world.tables.slots k ≡ Some slot →
-        FitsRoom (widths_of files) (has_room files question.packets.dst ((0 + k) / LENGTHS) ((0 + k) % LENGTHS))
+        FitsRoom (widths_of files question.packets.dst) (has_room files question.packets.dst ((0 + k) / LENGTHS) ((0 + k) % LENGTHS))
         (unknown_of files world.failures world.packet.dst ((0 + k) / LENGTHS) ((0 + k) % LENGTHS) slot)
     each k slot there =
         let place : k ≡ 0 + k = omega arith in
-        subst (λ n. FitsRoom (widths_of files) (has_room files question.packets.dst (n / LENGTHS) (n % LENGTHS))
+        subst (λ n. FitsRoom (widths_of files question.packets.dst) (has_room files question.packets.dst (n / LENGTHS) (n % LENGTHS))
         (unknown_of files world.failures world.packet.dst (n / LENGTHS) (n % LENGTHS) slot)) place
         (at_place k slot there)
 
@@ -92,7 +92,7 @@ unfolding world_bits opens_from
 parts_read files question world environment walk v from fits broken here =
     let packet = packet_at question.packets world.packet v from _ broken.packet here in
     let failures = failures_at files question.failures world.failures v _ _ broken.failures packet.1 in
-    let opens = unknowns_at (widths_of files) (rooms_of files question)
+    let opens = unknowns_at (widths_of files question.packets.dst) (rooms_of files question)
     (unknowns_of files world.failures world.packet.dst 0 world.tables.slots) v _ []
     (opens_have_room files question world environment walk fits broken) failures.1 in
     record { packet = packet.0; failures = failures.0; opens = opens.0 }

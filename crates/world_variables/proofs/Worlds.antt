@@ -1,7 +1,7 @@
 -- What the variables stand for is a routing where the test says so, and each routing is that of some values.
 use Rattle.std.proofs.Common.{◌≡◌, ℕ, zero, suc, ◌+◌, ◌*◌, ◌/◌, ◌%◌, ◌^◌, ◌<◌, Bool, true, false, not, List, []}
 use Rattle.std.proofs.Common.{◌∷◌, length, Option, Some, None, refl, sym, ap, subst, arith, ◌∙◌, slice_get}
-use Rattle.std.specs.Prelude.{All, IfSome, is_some, nat_lt, filter, ◌≤◌, if◌then◌else◌}
+use Rattle.std.specs.Prelude.{All, IfSome, is_some, filter, ◌≤◌, if◌then◌else◌}
 use Rattle.std.specs.Option.{option_map_or}
 use Rattle.std.proofs.lemmas.Bool.{and_parts, false≢true, leb-true}
 use Rattle.std.proofs.lemmas.List.Elements.{All-cons, All-nil}
@@ -25,7 +25,7 @@ use Rattle.question_lang.specs.declared.question.Question.{Question}
 use Rattle.question_lang.specs.declared.walk.Walk.{Walk}
 use Rattle.question_lang.specs.Breaking.{Breaks}
 use Rattle.question_lang.specs.Breaking.{IsBreaking}
-use Rattle.world_variables.specs.Rooms.{has_room, most_cost, rooms_from, some_take, width_from, widths_of}
+use Rattle.world_variables.specs.Rooms.{has_room, rooms_from, widths_of}
 use Rattle.world_variables.specs.Slots.{runs_no_bgp, unknown_of, unknowns_of}
 use Rattle.world_variables.specs.declared.widths.Widths.{Widths}
 use Rattle.world_variables.specs.Unknowns.{FitRooms, FitsRoom, FitsWidths, route_from, unknown_from}
@@ -65,31 +65,13 @@ empty_fits files none = record {
 
 -- ---- what is read fits
 
-few_step : (n width more : ℕ) (b : Bool) → width < 33 → width_from n (suc width) more < 33 →
-    (if b then width else width_from n (suc width) more) < 33
-few_step n width more true below deeper = below
-few_step n width more false below deeper = deeper
-
-few : (n width more : ℕ) → width + more < 33 → width_from n width more < 33
-unfolding width_from
-few n width zero below = omega (arith, below)
-few n width (suc more) below =
-    few_step n width more (nat_lt n (2 ^ width)) (omega (arith, below))
-    (few n (suc width) more (omega (arith, below)))
-
 record AreSmall (widths : Widths) : Type 0 where
   metric : widths.metric ≤ 32
   cost : widths.cost ≤ 32
 
-widths_small : (files : List File) → AreSmall (widths_of files)
+widths_small : (files : List File) (destinations : Prefix) → AreSmall (widths_of files destinations)
 unfolding widths_of
-widths_small files = by (some_take files) where
-  by : (b : Bool) → AreSmall (if b then record { kind = 2; metric = 32; cost = 32 }
-      else record { kind = 0; metric = 0; cost = width_from (most_cost files) 0 32 })
-  by true = record { metric = omega arith; cost = omega arith }
-  by false =
-      let below = few (most_cost files) 0 32 (omega arith) in
-      record { metric = omega arith; cost = omega (arith, below) }
+widths_small files destinations = record { metric = omega arith; cost = omega arith }
 
 read_fits : (widths : Widths) (v : ℕ → Bool) (from : ℕ) → AreSmall widths → FitsOspf (route_from widths v from)
 read_fits widths v from small =
@@ -137,12 +119,12 @@ routing_sound files question v from walk fits holds breaks =
       environment_fits = empty_fits files fits.no_bgp;
       failures = failures_sound files question.failures v (downs_start question from) (leb-true _ _ second.0);
       stable = stable_sound files _ _ no_environment
-          (unknowns_from (widths_of files) (rooms_of files question) v (slots_start files question from)) fits.no_bgp
+          (unknowns_from (widths_of files question.packets.dst) (rooms_of files question) v (slots_start files question from)) fits.no_bgp
           fits.distances
-          (length-unknowns (widths_of files) (rooms_of files question) v (slots_start files question from)
+          (length-unknowns (widths_of files question.packets.dst) (rooms_of files question) v (slots_start files question from)
           ∙ length-rooms files question.packets.dst 0 (LENGTHS * length files))
-          (opens_fit (widths_of files) (rooms_of files question) v (slots_start files question from)
-          (widths_small files)) second.1;
+          (opens_fit (widths_of files question.packets.dst) (rooms_of files question) v (slots_start files question from)
+          (widths_small files question.packets.dst)) second.1;
       breaks = breaks;
     }
 

@@ -43,7 +43,7 @@ slots_start files question from =
 -- what is open of the slots
 unfoldable pub opens_from : List File → Question → (ℕ → Bool) → ℕ → List Unknown
 opens_from files question v from =
-    unknowns_from (widths_of files) (rooms_of files question) v (slots_start files question from)
+    unknowns_from (widths_of files question.packets.dst) (rooms_of files question) v (slots_start files question from)
 
 -- the world of these values
 unfoldable pub world_from : List File → Question → (ℕ → Bool) → ℕ → World
@@ -60,13 +60,13 @@ world_from files question v from =
 unfoldable pub world_width : List File → Question → ℕ
 world_width files question =
     packet_width question.packets + downs_width question.failures (length (links_of files))
-    + unknowns_width (widths_of files) (rooms_of files question)
+    + unknowns_width (widths_of files question.packets.dst) (rooms_of files question)
 
 -- their values
 unfoldable pub world_bits : List File → Question → World → List Bool
 world_bits files question world =
     packet_bits question.packets world.packet (downs_bits question.failures (length (links_of files)) world.failures
-    (unknowns_bits (widths_of files) (rooms_of files question)
+    (unknowns_bits (widths_of files question.packets.dst) (rooms_of files question)
     (unknowns_of files world.failures world.packet.dst 0 world.tables.slots) []))
 
 -- the packet is in its set, no more links fail than may, and the tables are a stable routing

@@ -20,6 +20,7 @@ use net_model::Net;
 use proto_rib::best_entry;
 use question_lang::{PacketSet, Question};
 use route_record::{Failures, LENGTHS, OspfKind, OspfRec, Packet, Slot, Tables, World};
+use slot_places::rooms_of;
 use std::alloc::{AllocError, Global};
 
 // How many variables a field has.
@@ -236,7 +237,7 @@ fn slots_at(
 }
 
 // The tables of the slots whose variables begin at one.
-#[tactic(auto, using(crate::proofs::DecodingSteps::rooms_few, crate::proofs::DecodingSteps::widths_narrow))]
+#[tactic(auto, using(crate::proofs::DecodingSteps::rooms_few), unfolding(crate::specs::Rooms::widths_of))]
 fn tables_at(
     alloc: Global,
     values: &[bool],
@@ -246,14 +247,15 @@ fn tables_at(
     failures: &Failures,
     destination: Addr,
 ) -> Result<Tables, AllocError>
-    requires { from + unknowns_width (room.widths_of net.now.files)
+    requires { from + unknowns_width (room.widths_of net.now.files destinations.now)
         (room.rooms_from net.now.files destinations.now 0 (LENGTHS * length net.now.files)) ≤ length values.now }
-    ensures { IfOk result (λ r. r ≡ tables_of net.now.files failures.now destination (unknowns_from (room.widths_of net.now.files)
+    ensures { IfOk result (λ r. r ≡ tables_of net.now.files failures.now destination (unknowns_from (room.widths_of net.now.files destinations.now)
         (room.rooms_from net.now.files destinations.now 0 (LENGTHS * length net.now.files)) (truth values.now) from)) }
 {
     let _routers = net.routers();
-    let widths = widths_of(net);
-    let rooms = rooms(alloc, net, destinations)?;
+    let all = rooms_of(alloc, net, destinations)?;
+    let widths = widths_of(all.as_slice());
+    let rooms = rooms(alloc, net, destinations, all.as_slice())?;
     let slots = slots_at(
         alloc,
         values,

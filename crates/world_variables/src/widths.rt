@@ -1,21 +1,17 @@
-//! How many bits the numbers of OSPF routes have, and which slots can hold one.
+//! Which slots can hold an OSPF route, and how many bits the numbers of such routes have.
 
-ghost use Rattle.std.specs.Prelude.{◌≡◌, ◌==◌, ◌&&◌, ◌||◌, ℕ, ◌+◌, ◌*◌, ◌^◌, ◌<◌, ◌≤◌, Bool, false, IfOk, OnOk, ◌++◌, ◌∷◌, [], fold, is_some, length, max, not, slice_get};
-ghost use Rattle.std.specs.List.{list_any};
+ghost use Rattle.std.specs.Prelude.{◌≡◌, ℕ, ◌+◌, ◌*◌, ◌<◌, ◌≤◌, ◌++◌, ◌∷◌, [], IfOk, OnOk, fold, is_some, length, max};
 ghost use Rattle.std.specs.Option.{option_map_or};
-ghost use Rattle.net_interfaces.specs.Connected.{overlap};
-ghost use Rattle.net_parts.specs.Ospf as model;
+ghost use Rattle.slot_places.specs.Rooms as places;
+ghost use Rattle.slot_places.specs.Values.{field_bits};
 ghost use Rattle.world_variables.specs.Rooms as room;
-ghost use Rattle.world_variables.specs.Rooms.{is_advertised, some_take, takes_routes, width_from};
 ghost use Rattle.route_record.specs.declared.TheConstants.{LENGTHS};
 
-use ios_ast::{File, Ospf};
+use ios_ast::File;
 use mw_text::{List, Prefix};
-use net_interfaces::connected::prefixes_overlap;
-use net_model::{Net, OspfInterface};
-use net_parts::ends::file_of;
-use net_parts::ospf::advertisement;
+use net_model::Net;
 use route_record::LENGTHS;
+use slot_places::{Room, room_for};
 use std::alloc::{AllocError, Global};
 
 /// The bits of a route's kind, metric and cost.
@@ -26,93 +22,91 @@ pub struct Widths {
     pub cost: u8,
 }
 
-// Whether a process takes routes from its router's own table.
-fn takes_from_table(process: &Ospf) -> bool
-    ensures { result ≡ takes_routes process.now }
+fn kind_bits(room: &Option<Room>) -> u8
+    ensures { result ≡ option_map_or (λ room. field_bits room.kind) room.now 0 }
 {
-    !process.redistribute.as_slice().is_empty() || process.default.is_some()
+    match room {
+        None => 0,
+        Some(room) => room.kind.bits(),
+    }
 }
 
-// Whether some process does.
-fn some_takes(files: &[File]) -> bool
-    ensures { result ≡ some_take files.now }
+fn metric_bits(room: &Option<Room>) -> u8
+    ensures { result ≡ option_map_or (λ room. field_bits room.metric) room.now 0 }
 {
-    files.iter().any(|file| match &file.ospf {
-        Some(process) => takes_from_table(process),
-        None => false,
-    })
+    match room {
+        None => 0,
+        Some(room) => room.metric.bits(),
+    }
 }
 
-/// The greatest cost of an interface that runs OSPF.
-pub fn dearest(interfaces: &[OspfInterface]) -> u32
-    ensures { result ≡ fold (λ most x. max most x.cost) 0 interfaces.now }
+fn cost_bits(room: &Option<Room>) -> u8
+    ensures { result ≡ option_map_or (λ room. room.cost) room.now 0 }
 {
-    let mut most = 0u32;
-    for x in interfaces {
-        most = most.max(x.cost);
+    match room {
+        None => 0,
+        Some(room) => room.cost,
+    }
+}
+
+fn widest_kind(rooms: &[Option<Room>]) -> u8
+    ensures { result ≡ room.widest (λ room. field_bits room.kind) rooms.now }
+{
+    let mut most = 0u8;
+    for room in rooms {
+        most = most.max(kind_bits(room));
     }
     most
 }
 
-// The least width in which a number has room, 32 at most.
-#[tactic(auto, using(crate::proofs::Steps::width_found, crate::proofs::Steps::width_more, crate::proofs::Steps::width_last))]
-fn least_width(number: u64) -> u8
-    ensures value { result ≡ width_from number 0 32 }
-    ensures few { result ≤ 32 }
+fn widest_metric(rooms: &[Option<Room>]) -> u8
+    ensures { result ≡ room.widest (λ room. field_bits room.metric) rooms.now }
 {
-    for width in 0..32u8 {
-        if number < 1u64 << width {
-            return width;
-        }
+    let mut most = 0u8;
+    for room in rooms {
+        most = most.max(metric_bits(room));
     }
-    32
+    most
 }
 
-/// The widths of a network's OSPF routes: where no process takes routes from its router's table all are internal, with
-/// metric 0.
-#[tactic(auto, unfolding(crate::specs::Rooms::widths_of))]
-pub fn widths_of(net: &Net) -> Widths
-    ensures value { result ≡ room.widths_of net.now.files }
+fn widest_cost(rooms: &[Option<Room>]) -> u8
+    ensures { result ≡ room.widest (λ room. room.cost) rooms.now }
+{
+    let mut most = 0u8;
+    for room in rooms {
+        most = most.max(cost_bits(room));
+    }
+    most
+}
+
+/// The widths that have room for the OSPF routes of all these rooms, those of all lengths for some destinations.
+pub fn widths_of(rooms: &[Option<Room>]) -> Widths
+    ensures value { result ≡ room.widths_over rooms.now }
     ensures kind { result.kind ≤ 2 }
     ensures metric { result.metric ≤ 32 }
     ensures cost { result.cost ≤ 32 }
 {
-    if some_takes(net.routers()) {
-        return Widths {
-            kind: 2,
-            metric: 32,
-            cost: 32,
-        };
-    }
-    let greatest = u64::from(dearest(net.ospf_interfaces()));
-    let most = greatest + net.routers().len() as u64 * greatest;
     Widths {
-        kind: 0,
-        metric: 0,
-        cost: least_width(most),
+        kind: widest_kind(rooms).min(2),
+        metric: widest_metric(rooms).min(32),
+        cost: widest_cost(rooms).min(32),
     }
 }
 
-// Whether an interface advertises a prefix of that length that some of the destinations have.
-fn is_advertised(interfaces: &[OspfInterface], destinations: &Prefix, len: u8) -> bool
-    ensures { result ≡ list_any (λ x. ((model.advertisement x).len == len)
-        && overlap (model.advertisement x) destinations.now) interfaces.now }
+// Whether the router can hold an OSPF route for a prefix of that length.
+#[tactic(auto, using(slot_places::proofs::RoomSteps::room_there))]
+fn has_room(
+    files: &[File],
+    destinations: &Prefix,
+    rooms: &[Option<Room>],
+    router: u32,
+    len: u8,
+) -> bool
+    requires rooms { rooms.now ≡ places.rooms_of files.now destinations.now }
+    requires short { len < LENGTHS }
+    ensures { result ≡ room.has_room files.now destinations.now router len }
 {
-    interfaces.iter().any(|x| {
-        let p = advertisement(x);
-        p.len == len && prefixes_overlap(&p, destinations)
-    })
-}
-
-// Whether the router runs OSPF, and can hold a route for a prefix of that length.
-fn has_room(net: &Net, destinations: &Prefix, router: u32, len: u8) -> bool
-    ensures { result ≡ room.has_room net.now.files destinations.now router len }
-{
-    let runs = match file_of(net.routers(), router) {
-        Some(file) => file.ospf.is_some(),
-        None => false,
-    };
-    runs && (is_advertised(net.ospf_interfaces(), destinations, len) || some_takes(net.routers()))
+    room_for(files, rooms, router, len).is_some()
 }
 
 fn put_room(made: &mut List<bool>, here: bool) -> Result<(), AllocError>
@@ -122,18 +116,25 @@ fn put_room(made: &mut List<bool>, here: bool) -> Result<(), AllocError>
     Ok(())
 }
 
-/// The slots that have room for an OSPF route, in their order.
+/// The slots that have room for an OSPF route, in their order, where these are the rooms of all lengths.
 #[tactic(auto, using(crate::proofs::RoomSteps::room_steps))]
-pub fn rooms(alloc: Global, net: &Net, destinations: &Prefix) -> Result<List<bool>, AllocError>
+pub fn rooms(
+    alloc: Global,
+    net: &Net,
+    destinations: &Prefix,
+    rooms: &[Option<Room>],
+) -> Result<List<bool>, AllocError>
     requires few { length net.now.files ≤ 64 }
+    requires rooms { rooms.now ≡ places.rooms_of net.now.files destinations.now }
     ensures { IfOk result (λ r. r ≡ room.rooms_from net.now.files destinations.now 0 (LENGTHS * length net.now.files)) }
 {
     let count = LENGTHS as u32 * net.routers().len() as u32;
     let mut made = List::new(alloc);
     for place in 0..count {
         let here = has_room(
-            net,
+            net.routers(),
             destinations,
+            rooms,
             place / LENGTHS as u32,
             (place % LENGTHS as u32) as u8,
         );
