@@ -6,7 +6,6 @@ ghost use Rattle.net_parts.specs.Ospf as model;
 use mw_text::List;
 use net_model::{Adjacency, Net, OspfInterface};
 use std::alloc::{AllocError, Global};
-use world_variables::widths::dearest;
 
 // At most so many limits, and at most so many tests of one adjacency against one limit.
 const MOST_LIMITS: u32 = 128;
@@ -29,6 +28,15 @@ fn common_divisor(a: u32, b: u32) -> u32 {
         less = rest;
     }
     1
+}
+
+// The greatest cost of an interface that runs OSPF.
+fn dearest(interfaces: &[OspfInterface]) -> u32 {
+    let mut most = 0u32;
+    for x in interfaces {
+        most = most.max(x.cost);
+    }
+    most
 }
 
 // What the costs of all interfaces that run OSPF are multiples of, and with them the costs of all internal routes.
