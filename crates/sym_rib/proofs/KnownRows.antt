@@ -4,6 +4,8 @@ use Rattle.std.proofs.Common.{ap}
 use Rattle.std.proofs.Common.{◌∙◌, arith}
 use Rattle.mw_text.specs.declared.address.Addr.{Addr}
 use Rattle.ios_ast.specs.Deciding.{carries}
+use Rattle.route_record.specs.Shape.{saturated}
+use Rattle.route_record.proofs.Saturated.{saturated-none}
 use Rattle.route_record.specs.Shape.{has_address}
 use Rattle.term_arith.proofs.NumberLemmas.{node_steps}
 
@@ -16,6 +18,10 @@ replicate_more (suc n) = ap (λ bs. false ∷ bs) (replicate_more n) ∙ ap (λ 
     same = omega arith
 
 pub ruleset row_steps = (node_steps, replicate_more)
+
+-- an empty path has no length
+pub no_length : saturated 0 ≡ 0
+no_length = saturated-none
 
 -- an empty list carries no tracked value
 pub no_numbers : (tracked : List ℕ) → map (carries []) tracked ≡ replicate (length tracked) false
