@@ -146,16 +146,16 @@ fn fit(own: usize, more: usize) -> bool
 fn has_room(tracked: &Tracked, more: &Tracked) -> bool
     ensures { result ≡ true → IsRoomFor tracked.now more.now }
 {
-    fit(
-        tracked.communities.as_slice().len(),
-        more.communities.as_slice().len(),
-    ) && fit(
-        tracked.numbers.as_slice().len(),
-        more.numbers.as_slice().len(),
-    ) && fit(
-        tracked.clusters.as_slice().len(),
-        more.clusters.as_slice().len(),
-    )
+    let own = tracked.communities.as_slice().len();
+    if !fit(own, more.communities.as_slice().len()) {
+        return false;
+    }
+    let own = tracked.numbers.as_slice().len();
+    if !fit(own, more.numbers.as_slice().len()) {
+        return false;
+    }
+    let own = tracked.clusters.as_slice().len();
+    fit(own, more.clusters.as_slice().len())
 }
 
 fn track_in(alloc: Global, net: &mut Net, more: &Tracked) -> Result<(), AllocError> {
