@@ -59,6 +59,27 @@ else
     echo "FAILED: the verdicts are $verdicts"
     failed=1
 fi
+
+office="$top/examples/office"
+run verify "$office/questions.txt" "$office/edge.cfg" "$office/core.cfg" "$office/desk.cfg" "$office/depot.cfg"
+ended "1, twelve questions about an office" 1 "holds web"
+verdicts=$(grep -v '^{' printed | tr '\n' ' ')
+if [ "$verdicts" = "holds web broken ssh holds ssh-servers holds spoofed holds internet holds warehouse broken edge broken through-core broken hops holds same holds loops broken unrouted " ]; then
+    echo "ok: each has the verdict that its README gives"
+else
+    echo "FAILED: the office's verdicts are $verdicts"
+    failed=1
+fi
+grep '^{' printed | while read -r line; do
+    printf '%s\n' "$line" >counterexample.json
+    "$program" replay counterexample.json "$office/questions.txt" "$office/edge.cfg" "$office/core.cfg" "$office/desk.cfg" "$office/depot.cfg"
+done >replayed
+if [ "$(sort -u replayed)" = yes ] && [ "$(wc -l <replayed)" -eq 5 ]; then
+    echo "ok: each of its five counterexamples is true"
+else
+    echo "FAILED: a counterexample about the office is not true"
+    failed=1
+fi
 run verify "$top/examples/ring-of-four/questions.txt" "$top"/examples/ring-of-four/g*.cfg
 ended "0, a ring with access lists" 0 "holds g1"
 run --log log.txt verify "$triangle/one-failure.txt" "$@"
