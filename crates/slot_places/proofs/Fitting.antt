@@ -1,5 +1,5 @@
 -- Each OSPF route of a stable routing has room, and fits there; and where nothing can stand nothing stands.
-use Rattle.std.proofs.Common.{◌≡◌, ℕ, suc, ◌+◌, ◌*◌, ◌^◌, ◌<◌, ◌≤◌, Bool, true, false, ◌&&◌, ◌||◌, List, []}
+use Rattle.std.proofs.Common.{◌≡◌, ℕ, ◌+◌, ◌*◌, ◌^◌, ◌<◌, ◌≤◌, Bool, true, false, ◌&&◌, ◌||◌, List, []}
 use Rattle.std.proofs.Common.{◌∷◌, ◌++◌, length, map, max, Option, Some, None, inl, inr, refl, sym, ap, subst, arith, ◌∙◌}
 use Rattle.std.proofs.Common.{slice_get}
 use Rattle.std.specs.Prelude.{◌==◌, All, IfSome, MatchOption, fold, is_some, nat_le, if◌then◌else◌}
@@ -50,7 +50,8 @@ use Rattle.slot_places.specs.Values.{FitsField, field_of, greatest, once, put_on
 use Rattle.slot_places.proofs.Bounded.{cost_bound}
 use Rattle.slot_places.proofs.Brought.{IsBacked, entry_backed}
 use Rattle.slot_places.proofs.Known.{origins_known, static_there, subnet_there}
-use Rattle.slot_places.proofs.Members.{all-from-in, any-in, map-in}
+use Rattle.slot_places.proofs.Members.{all-from-in, any-in, map-in, not_empty}
+use Rattle.slot_places.proofs.RoomSteps.{room_there}
 use Rattle.slot_places.proofs.Supports.{all_held, all_in, file_there}
 use Rattle.slot_places.proofs.Widths.{in_width}
 
@@ -144,13 +145,6 @@ pub record ComesFrom (origins : List OspfRec) (r : OspfRec) : Type 0 where
   pub kind : origin.kind ≡ r.kind
   pub metric : origin.metric ≡ r.metric
 
-not_empty : {X : Type 0} (xs : List X) (x : X) → In x xs → (length xs == 0) ≡ false
-not_empty [] x there = absurd there
-not_empty (y ∷ ys) x there = by (suc (length ys) == 0) refl where
-  by : (b : Bool) → (suc (length ys) == 0) ≡ b → b ≡ false
-  by false is = refl
-  by true is = let same = eqb-true (suc (length ys)) 0 is in absurd (omega (arith, same))
-
 module _ (files : List File) (destinations : Prefix) (d : Addr) (failures : Failures) (environment : Environment)
     (tables : Tables) (stable : Stable files d failures environment tables) (covered : covers destinations d ≡ true)
     (costs : All (λ a. 0 < a.cost) (adjacencies files)) (len : ℕ) (short : len < LENGTHS) where
@@ -237,7 +231,8 @@ module _ (files : List File) (destinations : Prefix) (d : Addr) (failures : Fail
   unfolding room_at
   room_is router slot h here holds =
       let from = held_known router slot h here holds in
-      ap (λ b. if b then room_of origins (dearest_walk files) else None) (runs_there router slot h here holds)
+      room_there files destinations router len short
+      ∙ ap (λ b. if b then room_of origins (dearest_walk files) else None) (runs_there router slot h here holds)
       ∙ ap (λ b. if b then None else Some (room_around origins (dearest_walk files)))
       (not_empty origins from.origin from.there)
 

@@ -7,7 +7,7 @@ use Rattle.std.proofs.lemmas.Bool.{cases_lt, le-ltb, lt-ltb}
 use Rattle.route_record.specs.declared.Plan.{Plan}
 use Rattle.slot_places.specs.declared.places.Place.{Place}
 use Rattle.slot_places.specs.Places.{is_at, item_at, place, places_below}
-use Rattle.slot_places.specs.Plans.{has_slice, lens_below}
+use Rattle.slot_places.specs.Plans.{has_slice, lens_below, numbers_below}
 
 -- ---- one length more
 
@@ -27,6 +27,16 @@ lens_without plan len none =
 pub lens_none : (plan : Plan) → lens_below plan 0 ≡ []
 unfolding lens_below
 lens_none plan = refl
+
+-- ---- one number more
+
+pub numbers_more : (n : ℕ) → numbers_below n ++ n ∷ [] ≡ numbers_below (n + 1)
+unfolding numbers_below
+numbers_more n = ap numbers_below (sym (add-one n))
+
+pub numbers_none : numbers_below 0 ≡ []
+unfolding numbers_below
+numbers_none = refl
 
 -- ---- one router more
 

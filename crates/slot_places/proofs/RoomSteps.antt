@@ -8,7 +8,7 @@ use Rattle.mw_text.specs.declared.address.Prefix.{Prefix}
 use Rattle.ios_ast.specs.declared.file.File.{File}
 use Rattle.route_record.specs.declared.TheConstants.{LENGTHS}
 use Rattle.slot_places.specs.declared.rooms.Room.{Room}
-use Rattle.slot_places.specs.Rooms.{room_among, room_at, room_for, rooms_below, rooms_of, runs_ospf}
+use Rattle.slot_places.specs.Rooms.{room_at, room_for, rooms_below, runs_ospf}
 
 pub rooms_more : (files : List File) (destinations : Prefix) (len : ℕ) →
     rooms_below files destinations len ++ room_at files destinations len ∷ []
@@ -54,7 +54,8 @@ room_below files destinations (suc n) len below = by (cases_lt len n) (room_belo
 
 -- the room of a router among those of all lengths
 pub room_there : (files : List File) (destinations : Prefix) (router len : ℕ) → len < LENGTHS →
-    room_among files (rooms_of files destinations) router len ≡ room_for files destinations router len
+    room_for files destinations router len
+    ≡ (if runs_ospf files router then room_at files destinations len else None)
 room_there files destinations router len short =
     ap (λ (o : Option (Option Room)). if runs_ospf files router then option_and_then (λ room. room) o else None)
     (room_below files destinations LENGTHS len short)
