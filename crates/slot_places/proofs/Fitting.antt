@@ -1,7 +1,7 @@
 -- Each OSPF route of a stable routing has room, and fits there; and where nothing can stand nothing stands.
 use Rattle.std.proofs.Common.{◌≡◌, ℕ, ◌+◌, ◌*◌, ◌^◌, ◌<◌, ◌≤◌, Bool, true, false, ◌&&◌, ◌||◌, List, []}
-use Rattle.std.proofs.Common.{◌∷◌, ◌++◌, length, map, max, Option, Some, None, inl, inr, refl, sym, ap, subst, arith, ◌∙◌}
-use Rattle.std.proofs.Common.{slice_get}
+use Rattle.std.proofs.Common.{◌∷◌, ◌++◌, length, map, max, Option, Some, None, inl, inr, refl, sym, ap, subst}
+use Rattle.std.proofs.Common.{arith, ◌∙◌, slice_get}
 use Rattle.std.specs.Prelude.{◌==◌, All, IfSome, MatchOption, fold, is_some, nat_le, if◌then◌else◌}
 use Rattle.std.specs.List.{list_any}
 use Rattle.std.specs.Option.{option_map_or}
@@ -42,8 +42,8 @@ use Rattle.slot_places.specs.declared.fields.Field.TheVariants.{Bits, Among}
 use Rattle.slot_places.specs.declared.rooms.Room.{Room}
 use Rattle.slot_places.specs.declared.fields.TheConstants.{MOST_VALUES}
 use Rattle.slot_places.specs.Origins.{is_static_at, is_subnet_at, origins_at}
-use Rattle.slot_places.specs.Rooms.{FitsIn, can_be_used, dearest_of, dearest_walk, has_sources, has_subnet, room_around}
-use Rattle.slot_places.specs.Rooms.{room_at, room_for, room_of, runs_ospf}
+use Rattle.slot_places.specs.Rooms.{FitsIn, can_be_used, dearest_of, dearest_walk, has_sources, has_subnet}
+use Rattle.slot_places.specs.Rooms.{room_around, room_at, room_for, room_of, runs_ospf}
 use Rattle.slot_places.specs.Supported.{AreOrigins}
 use Rattle.slot_places.specs.Tables.{empty_slot}
 use Rattle.slot_places.specs.Values.{FitsField, field_of, greatest, once, put_once, width_for}
@@ -157,7 +157,8 @@ module _ (files : List File) (destinations : Prefix) (d : Addr) (failures : Fail
   weaker : (P : OspfRec → Type 0) → ((o : OspfRec) → In o origins → P o) →
       AreOrigins files failures tables (prefix_at d len) P
   weaker P each router file process slot at runs here =
-      all-from-in P _ (λ o there. each o (all_in (λ x. In x origins) _ o (known router file process slot at runs here) there))
+      all-from-in P _ (λ o there. each o
+      (all_in (λ x. In x origins) _ o (known router file process slot at runs here) there))
 
   -- each has the kind and the metric of a record that lines bring in
   pub held_known : (router : ℕ) (slot : Slot) (h : OspfRec) → slot_at tables router len ≡ Some slot →

@@ -31,8 +31,7 @@ use Rattle.net_interfaces.specs.Interfaces.{addressed}
 use Rattle.net_parts.specs.declared.ospf.OspfInterface.{OspfInterface}
 use Rattle.net_parts.specs.Decisions.{DecidedByBgp}
 use Rattle.net_parts.specs.Entries.{own_is_as_good}
-use Rattle.net_parts.specs.Origins.{into_ospf, is_default, is_ospf_entry, originated_default}
-use Rattle.net_parts.specs.Origins.{redistributed}
+use Rattle.net_parts.specs.Origins.{into_ospf, is_default, is_ospf_entry, originated_default, redistributed}
 use Rattle.net_parts.specs.Ospf.{advertisement, origin_interfaces, ospf_interfaces}
 use Rattle.net_parts.specs.OspfRoutes.{own_origins}
 use Rattle.net_parts.specs.Routing.{counts, is_direct, static_routes, up_interfaces}
@@ -65,7 +64,8 @@ subnet_there files failures destinations d router len covered direct =
     let found = in-any (λ (x : Addressed). same_prefix x.subnet (prefix_at d len)) (up_interfaces files failures router)
     direct in
     let x : Addressed = found.0 in
-    let up = in-filter (λ (y : Addressed). (y.id.router == router) && is_up files failures y) (addressed files) x found.1 in
+    let up = in-filter (λ (y : Addressed). (y.id.router == router) && is_up files failures y)
+    (addressed files) x found.1 in
     let both = and_parts (x.id.router == router) (is_up files failures x) up.1 in
     record {
       at = x;
@@ -214,7 +214,8 @@ module _ (files : List File) (destinations : Prefix) (d : Addr) (failures : Fail
   by_source Ibgp backed line o there is =
       let none : brought file p slot Ibgp line ≡ None = of_ibgp file p slot line in absurd cc
 
-  by_line : (line : Redist) (o : OspfRec) → In line process.redistribute → into_ospf file p slot line ≡ Some o → In o all
+  by_line : (line : Redist) (o : OspfRec) → In line process.redistribute → into_ospf file p slot line ≡ Some o →
+      In o all
   by_line line o there is = by slot.rib refl backed where
     Backs : RibEntry → Type 0
     Backs entry = IsBacked files failures router file p slot entry.source
@@ -228,7 +229,8 @@ module _ (files : List File) (destinations : Prefix) (d : Addr) (failures : Fail
 
   -- ---- the default route
 
-  by_default : (o : OspfRec) → In o (option_to_list (option_and_then (originated_default p slot) process.default)) → In o all
+  by_default : (o : OspfRec) → In o (option_to_list (option_and_then (originated_default p slot) process.default)) →
+      In o all
   by_default o there = process_in o (in-left o _ _ (by process.default refl there)) where
     made : (line : DefaultOrigin) (b : Bool) → In o (option_to_list (if b then Some (default_record line) else None)) →
         (b ≡ true) × (o ≡ default_record line)

@@ -169,7 +169,8 @@ places-ascend lens (suc n) pairs =
     (mapped_pairs n lens pairs) between
   where
     between : (p : Place) → In p (places_below lens n) → All (IsBefore p) (map (place n) lens)
-    between p there = all-from-in (IsBefore p) (map (place n) lens) (λ q here. by q (in-map (place n) lens q here)) where
+    between p there = all-from-in (IsBefore p) (map (place n) lens) (λ q here. by q (in-map (place n) lens q here))
+      where
       by : (q : Place) → (len : ℕ) × In len lens × (q ≡ place n len) → IsBefore p q
       by q (len, here, is) = subst (IsBefore p) (sym is) (inl (in-places lens n p there).0)
 

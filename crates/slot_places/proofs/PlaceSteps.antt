@@ -1,6 +1,7 @@
 -- Lengths and places, one after another; and what stands at a place.
 use Rattle.std.proofs.Common.{◌≡◌, ℕ, suc, ◌+◌, ◌<◌, ◌≤◌, Bool, true, false, not, List, [], ◌∷◌, ◌++◌, length, map}
-use Rattle.std.proofs.Common.{Option, Some, None, inl, inr, refl, sym, ap, arith, add-one, append-nil, ◌∙◌, slice_get, nat_lt}
+use Rattle.std.proofs.Common.{Option, Some, None, inl, inr, refl, sym, ap, arith, add-one, append-nil, ◌∙◌}
+use Rattle.std.proofs.Common.{slice_get, nat_lt}
 use Rattle.std.specs.Prelude.{◌⊎◌, cond, option_and_then, option_map, position, if◌then◌else◌}
 use Rattle.std.specs.List.{position_or_len}
 use Rattle.std.proofs.lemmas.Bool.{cases_lt, le-ltb, lt-ltb}
@@ -22,7 +23,8 @@ pub lens_without : (plan : Plan) (len : ℕ) → has_slice plan len ≡ false �
 unfolding lens_below
 lens_without plan len none =
     sym (append-nil (lens_below plan len))
-    ∙ ap (λ b. lens_below plan len ++ (if b then len ∷ [] else [])) (sym none) ∙ ap (lens_below plan) (sym (add-one len))
+    ∙ ap (λ b. lens_below plan len ++ (if b then len ∷ [] else [])) (sym none)
+    ∙ ap (lens_below plan) (sym (add-one len))
 
 pub lens_none : (plan : Plan) → lens_below plan 0 ≡ []
 unfolding lens_below

@@ -1,6 +1,7 @@
 -- Tables that have a given slot at each router and length; those that follow from what is open at places are a stable
 -- routing where each passes its test, and each stable routing that is empty off the places is made so.
-use Rattle.std.proofs.Common.{◌≡◌, ℕ, zero, suc, ◌+◌, ◌-◌, ◌*◌, ◌<◌, ◌≤◌, Bool, true, false, List, [], ◌∷◌, ◌++◌, length, map}
+use Rattle.std.proofs.Common.{◌≡◌, ℕ, zero, suc, ◌+◌, ◌-◌, ◌*◌, ◌<◌, ◌≤◌, Bool, true, false, List, [], ◌∷◌, ◌++◌}
+use Rattle.std.proofs.Common.{length, map}
 use Rattle.std.proofs.Common.{Some, None, inl, inr, refl, sym, ap, ap₂, subst, arith, ◌∙◌, length-append, slice_get}
 use Rattle.std.specs.Prelude.{◌⊎◌, ◌&&◌, ◌||◌, ◌==◌, All, unwrap_or, if◌then◌else◌}
 use Rattle.std.specs.Option.{option_map_or}
@@ -79,14 +80,16 @@ rows-at f router (suc n) (suc k) l i below short at =
 row-all : (P : Slot → Type 0) (f : ℕ → Slot) (from n : ℕ) → ((k : ℕ) → P (f k)) → All P (row_from f from n)
 unfolding row_from
 row-all P f from zero each = All-nil P
-row-all P f from (suc n) each = All-cons P (f from) (row_from f (suc from) n) (each from) (row-all P f (suc from) n each)
+row-all P f from (suc n) each =
+    All-cons P (f from) (row_from f (suc from) n) (each from) (row-all P f (suc from) n each)
 
 pub rows-all : (P : Slot → Type 0) (f : ℕ → ℕ → Slot) (router n : ℕ) → ((r k : ℕ) → P (f r k)) →
     All P (rows_from f router n)
 unfolding rows_from
 rows-all P f router zero each = All-nil P
 rows-all P f router (suc n) each =
-    All-append P (row_from (f router) 0 LENGTHS) (rows_from f (suc router) n) (row-all P (f router) 0 LENGTHS (each router))
+    All-append P (row_from (f router) 0 LENGTHS) (rows_from f (suc router) n)
+    (row-all P (f router) 0 LENGTHS (each router))
     (rows-all P f (suc router) n each)
 
 pub tabulated-length : (f : ℕ → ℕ → Slot) (n : ℕ) → length (tabulated f n).slots ≡ LENGTHS * n
@@ -301,11 +304,13 @@ as_tabulated tables n long = ap (λ (xs : List Slot). record { slots = xs })
         slice_get (tabulated read n).slots k ≡ Some y → x ≡ y
     same k q l x y below short is here there =
         let here' : slot_at tables q l ≡ Some x = ap (slice_get tables.slots) (sym is) ∙ here in
-        let there' : slot_at (tabulated read n) q l ≡ Some y = ap (slice_get (tabulated read n).slots) (sym is) ∙ there in
+        let there' : slot_at (tabulated read n) q l ≡ Some y = ap (slice_get (tabulated read n).slots) (sym is)
+        ∙ there in
         let found : Some (read q l) ≡ Some y = sym (tabulated-at read n q l below short) ∙ there' in
         ap (λ o. unwrap_or o empty_slot) (sym here') ∙ same_Some (read q l) y found
 
-    each : (k : ℕ) (x y : Slot) → slice_get tables.slots k ≡ Some x → slice_get (tabulated read n).slots k ≡ Some y → x ≡ y
+    each : (k : ℕ) (x y : Slot) → slice_get tables.slots k ≡ Some x → slice_get (tabulated read n).slots k ≡ Some y →
+        x ≡ y
     each k x y here there =
         let within = slice_get_within tables.slots k x here in
         let found = split n k (omega (arith, within, long)) in

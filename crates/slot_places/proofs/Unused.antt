@@ -1,4 +1,4 @@
--- Where nothing can stand an empty slot is stable, and in a stable routing nothing stands off the used places of a plan.
+-- Where nothing can stand an empty slot is stable.
 use Rattle.std.proofs.Common.{◌≡◌, ℕ, ◌<◌, Bool, true, false, ◌&&◌, ◌||◌, List, [], ◌∷◌, ◌++◌, Option, Some, None}
 use Rattle.std.proofs.Common.{inl, refl, sym, ap, subst, ◌∙◌, slice_get}
 use Rattle.std.specs.Prelude.{◌==◌, IfSome, MatchOption, is_some, option_and_then, if◌then◌else◌}
@@ -35,8 +35,8 @@ use Rattle.net_parts.proofs.Heard.{held_by_offers}
 use Rattle.net_parts.proofs.LeastWalks.{in-filter_map}
 use Rattle.slot_places.specs.declared.rooms.Room.{Room}
 use Rattle.slot_places.specs.Origins.{is_static_at, is_subnet_at, origins_at}
-use Rattle.slot_places.specs.Rooms.{can_be_used, dearest_walk, has_sources, has_subnet, room_around, room_at, room_for}
-use Rattle.slot_places.specs.Rooms.{room_of, runs_ospf}
+use Rattle.slot_places.specs.Rooms.{can_be_used, dearest_walk, has_sources, has_subnet, room_around, room_at}
+use Rattle.slot_places.specs.Rooms.{room_for, room_of, runs_ospf}
 use Rattle.slot_places.specs.Tables.{empty_slot}
 use Rattle.slot_places.proofs.Brought.{IsBacked, entry_backed}
 use Rattle.slot_places.proofs.Known.{each_known, static_there, subnet_there}
@@ -56,7 +56,8 @@ no_origins files destinations len none = by (origins_at files destinations len) 
   by [] none' = refl
   by (o ∷ os) none' =
       let some : room_of (o ∷ os) (dearest_walk files) ≡ Some (room_around (o ∷ os) (dearest_walk files)) =
-      ap (λ b. if b then None else Some (room_around (o ∷ os) (dearest_walk files))) (not_empty (o ∷ os) o (inl refl)) in
+      ap (λ b. if b then None else Some (room_around (o ∷ os) (dearest_walk files))) (not_empty (o ∷ os) o
+      (inl refl)) in
       absurd cc
 
 module _ (files : List File) (destinations : Prefix) (d : Addr) (failures : Failures) (environment : Environment)
@@ -112,10 +113,11 @@ module _ (files : List File) (destinations : Prefix) (d : Addr) (failures : Fail
         held_nowhere : (slot : Slot) (held : OspfRec) → slot.ospf ≡ None → slot.ospf ≡ Some held → ⊥
         held_nowhere slot held none some = absurd cc
 
-    none : (o : OspfRec) → In o (filter_map (offer_over tables (prefix_at d len)) (up_adjacencies files failures router)) →
-        ⊥
+    none : (o : OspfRec) →
+        In o (filter_map (offer_over tables (prefix_at d len)) (up_adjacencies files failures router)) → ⊥
     none o there =
-        let found = in-filter_map (offer_over tables (prefix_at d len)) (up_adjacencies files failures router) o there in
+        let found = in-filter_map (offer_over tables (prefix_at d len)) (up_adjacencies files failures router) o
+        there in
         offered found.0 o found.2
 
   held_none : (process : Ospf) → file.ospf ≡ Some process →
@@ -146,7 +148,8 @@ module _ (files : List File) (destinations : Prefix) (d : Addr) (failures : Fail
   unbacked Connected direct =
       let subnet = subnet_there files failures destinations d router len covered direct in
       false≢true (sym sources.0 ∙ any-in (λ (x : Addressed). (x.id.router == router)
-      && is_subnet_at destinations len x) (addressed files) subnet.at subnet.there (and_from _ _ subnet.own subnet.fits))
+      && is_subnet_at destinations len x) (addressed files) subnet.at subnet.there
+      (and_from _ _ subnet.own subnet.fits))
   unbacked Static (route, among) =
       let static = static_there files failures destinations d router len file route covered among in
       false≢true (sym of_file.0

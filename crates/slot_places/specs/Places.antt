@@ -1,6 +1,6 @@
 -- The places of a plan: each router has one at each length at which a slice stands.
-use Rattle.std.specs.Prelude.{ℕ, zero, suc, ◌==◌, ◌&&◌, ◌⊎◌, ◌≡◌, ◌<◌, Bool, List, [], ◌∷◌, ◌++◌, map, Option, Some, None}
-use Rattle.std.specs.Prelude.{if◌then◌else◌}
+use Rattle.std.specs.Prelude.{ℕ, zero, suc, ◌==◌, ◌&&◌, ◌⊎◌, ◌≡◌, ◌<◌, Bool, List, [], ◌∷◌, ◌++◌, map, Option, Some}
+use Rattle.std.specs.Prelude.{None, if◌then◌else◌}
 use Rattle.std.specs.List.{list_any}
 use Rattle.route_record.specs.declared.Plan.{Plan}
 use Rattle.slot_places.specs.declared.places.Place.{Place}

@@ -1,6 +1,6 @@
 -- At which prefix lengths the slices of a plan stand: slice i of a class at the class's length i, ascending.
-use Rattle.std.specs.Prelude.{ℕ, zero, suc, ◌==◌, Bool, false, List, [], ◌∷◌, ◌++◌, nat_lt, replicate, slice_get, take}
-use Rattle.std.specs.Prelude.{unwrap_or, if◌then◌else◌}
+use Rattle.std.specs.Prelude.{ℕ, zero, suc, ◌==◌, Bool, false, List, [], ◌∷◌, ◌++◌, nat_lt, replicate, slice_get}
+use Rattle.std.specs.Prelude.{take, unwrap_or, if◌then◌else◌}
 use Rattle.std.specs.List.{count_by}
 use Rattle.std.specs.Option.{option_map_or}
 use Rattle.route_record.specs.declared.Plan.{Plan}

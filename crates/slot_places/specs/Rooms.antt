@@ -1,5 +1,6 @@
 -- Which slots of a routing can hold an OSPF route, and what it can be; which can hold anything.
-use Rattle.std.specs.Prelude.{ℕ, zero, suc, ◌+◌, ◌*◌, ◌^◌, ◌<◌, ◌==◌, ◌&&◌, ◌||◌, ◌≡◌, Bool, true, false, List, [], ◌∷◌, ◌++◌, Option, Some}
+use Rattle.std.specs.Prelude.{ℕ, zero, suc, ◌+◌, ◌*◌, ◌^◌, ◌<◌, ◌==◌, ◌&&◌, ◌||◌, ◌≡◌, Bool, true, false, List, []}
+use Rattle.std.specs.Prelude.{◌∷◌, ◌++◌, Option, Some}
 use Rattle.std.specs.Prelude.{None, filter, fold, is_some, length, map, max, option_and_then, slice_get}
 use Rattle.std.specs.Prelude.{if◌then◌else◌}
 use Rattle.std.specs.List.{list_any}
@@ -28,7 +29,7 @@ dearest_of routes = fold (λ most r. max most r.cost) 0 routes
 abbrev pub dearest_walk : List File → ℕ
 dearest_walk files = length files * fold (λ most a. max most a.cost) 0 (adjacencies files)
 
--- the kinds, the metrics and the costs that routes can have which come from these by a walk that costs no more than that
+-- the kinds, metrics and costs of routes that come from these by a walk that costs no more than that
 abbrev pub room_around : List OspfRec → ℕ → Room
 room_around origins walk = record {
   kind = field_of (once (map (λ r. kind_rank r.kind) origins));
