@@ -43,7 +43,7 @@ use Rattle.slot_places.specs.declared.rooms.Room.{Room}
 use Rattle.slot_places.specs.declared.fields.TheConstants.{MOST_VALUES}
 use Rattle.slot_places.specs.Origins.{is_static_at, is_subnet_at, origins_at}
 use Rattle.slot_places.specs.Rooms.{FitsIn, can_be_used, dearest_of, dearest_walk, has_sources, has_subnet}
-use Rattle.slot_places.specs.Rooms.{room_around, room_at, room_for, room_of, runs_ospf}
+use Rattle.slot_places.specs.Rooms.{room_among, room_around, room_at, room_for, room_of, rooms_of, runs_ospf}
 use Rattle.slot_places.specs.Supported.{AreOrigins}
 use Rattle.slot_places.specs.Tables.{empty_slot}
 use Rattle.slot_places.specs.Values.{FitsField, field_of, greatest, once, put_once, width_for}
@@ -91,7 +91,7 @@ above_start : (numbers : List ℕ) (most : ℕ) → most ≤ fold max most numbe
 above_start [] most = omega arith
 above_start (n ∷ numbers) most = let rest = above_start numbers (max most n) in omega (arith, rest)
 
-below_greatest : (numbers : List ℕ) (most x : ℕ) → In x numbers → x ≤ fold max most numbers
+pub below_greatest : (numbers : List ℕ) (most x : ℕ) → In x numbers → x ≤ fold max most numbers
 below_greatest [] most x there = absurd there
 below_greatest (n ∷ numbers) most x (inl same) =
     let above = above_start numbers (max most n) in omega (arith, same, above)
@@ -232,8 +232,7 @@ module _ (files : List File) (destinations : Prefix) (d : Addr) (failures : Fail
   unfolding room_at
   room_is router slot h here holds =
       let from = held_known router slot h here holds in
-      room_there files destinations router len short
-      ∙ ap (λ b. if b then room_of origins (dearest_walk files) else None) (runs_there router slot h here holds)
+      ap (λ b. if b then room_of origins (dearest_walk files) else None) (runs_there router slot h here holds)
       ∙ ap (λ b. if b then None else Some (room_around origins (dearest_walk files)))
       (not_empty origins from.origin from.there)
 
@@ -252,7 +251,7 @@ module _ (files : List File) (destinations : Prefix) (d : Addr) (failures : Fail
       (unused : can_be_used files destinations router len ≡ false) where
     parts : ((has_subnet files destinations router len
         || option_map_or (has_sources destinations len) (slice_get files router) false) ≡ false)
-        × (is_some (room_for files destinations router len) ≡ false)
+        × (is_some (room_among files (rooms_of files destinations) router len) ≡ false)
     parts = or_parts _ _ unused
 
     sources : (has_subnet files destinations router len ≡ false)
@@ -264,7 +263,7 @@ module _ (files : List File) (destinations : Prefix) (d : Addr) (failures : Fail
       by : (o : Option OspfRec) → slot.ospf ≡ o → o ≡ None
       by None is = refl
       by (Some h) holds =
-          let room = room_is router slot h here holds in
+          let room = room_there files destinations router len short ∙ room_is router slot h here holds in
           absurd (false≢true (sym parts.1 ∙ ap is_some room))
 
     module _ (file : File) (at : slice_get files router ≡ Some file) where

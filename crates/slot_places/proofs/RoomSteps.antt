@@ -8,7 +8,7 @@ use Rattle.mw_text.specs.declared.address.Prefix.{Prefix}
 use Rattle.ios_ast.specs.declared.file.File.{File}
 use Rattle.route_record.specs.declared.TheConstants.{LENGTHS}
 use Rattle.slot_places.specs.declared.rooms.Room.{Room}
-use Rattle.slot_places.specs.Rooms.{room_at, room_for, rooms_below, runs_ospf}
+use Rattle.slot_places.specs.Rooms.{room_among, room_at, room_for, rooms_below, rooms_of, runs_ospf}
 
 pub rooms_more : (files : List File) (destinations : Prefix) (len : ℕ) →
     rooms_below files destinations len ++ room_at files destinations len ∷ []
@@ -34,7 +34,8 @@ at_end [] x (suc k) same = absurd (omega (arith, same))
 at_end (y ∷ ys) x zero same = absurd (omega (arith, same))
 at_end (y ∷ ys) x (suc k) same = at_end ys x k (omega (arith, same))
 
-room_below : (files : List File) (destinations : Prefix) (n len : ℕ) → len < n →
+-- that of a length
+pub room_below : (files : List File) (destinations : Prefix) (n len : ℕ) → len < n →
     slice_get (rooms_below files destinations n) len ≡ Some (room_at files destinations len)
 unfolding rooms_below
 room_below files destinations zero len below = absurd (omega (arith, below))
@@ -54,8 +55,7 @@ room_below files destinations (suc n) len below = by (cases_lt len n) (room_belo
 
 -- the room of a router among those of all lengths
 pub room_there : (files : List File) (destinations : Prefix) (router len : ℕ) → len < LENGTHS →
-    room_for files destinations router len
-    ≡ (if runs_ospf files router then room_at files destinations len else None)
+    room_among files (rooms_of files destinations) router len ≡ room_for files destinations router len
 room_there files destinations router len short =
     ap (λ (o : Option (Option Room)). if runs_ospf files router then option_and_then (λ room. room) o else None)
     (room_below files destinations LENGTHS len short)

@@ -36,7 +36,7 @@ use Rattle.net_parts.proofs.LeastWalks.{in-filter_map}
 use Rattle.slot_places.specs.declared.rooms.Room.{Room}
 use Rattle.slot_places.specs.Origins.{is_static_at, is_subnet_at, origins_at}
 use Rattle.slot_places.specs.Rooms.{can_be_used, dearest_walk, has_sources, has_subnet, room_around, room_at}
-use Rattle.slot_places.specs.Rooms.{room_for, room_of, runs_ospf}
+use Rattle.slot_places.specs.Rooms.{room_among, room_of, rooms_of, runs_ospf}
 use Rattle.slot_places.specs.Tables.{empty_slot}
 use Rattle.slot_places.proofs.Brought.{IsBacked, entry_backed}
 use Rattle.slot_places.proofs.Known.{each_known, static_there, subnet_there}
@@ -69,7 +69,7 @@ module _ (files : List File) (destinations : Prefix) (d : Addr) (failures : Fail
     slot.ospf ≡ None) where
   parts : ((has_subnet files destinations router len
       || option_map_or (has_sources destinations len) (slice_get files router) false) ≡ false)
-      × (is_some (room_for files destinations router len) ≡ false)
+      × (is_some (room_among files (rooms_of files destinations) router len) ≡ false)
   parts = or_parts _ _ unused
 
   sources : (has_subnet files destinations router len ≡ false)
@@ -89,7 +89,7 @@ module _ (files : List File) (destinations : Prefix) (d : Addr) (failures : Fail
     by : (o : Option Room) → room_at files destinations len ≡ o → o ≡ None
     by None is = refl
     by (Some room) is =
-        let there : room_for files destinations router len ≡ Some room =
+        let there : room_among files (rooms_of files destinations) router len ≡ Some room =
         room_there files destinations router len short
         ∙ ap (λ b. if b then room_at files destinations len else None) runs_there ∙ is in
         absurd (false≢true (sym parts.1 ∙ ap is_some there))

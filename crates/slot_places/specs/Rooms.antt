@@ -62,7 +62,7 @@ room_among files all router len =
     if runs_ospf files router then option_and_then (λ room. room) (slice_get all len) else None
 
 abbrev pub room_for : List File → Prefix → ℕ → ℕ → Option Room
-room_for files destinations router len = room_among files (rooms_of files destinations) router len
+room_for files destinations router len = if runs_ospf files router then room_at files destinations len else None
 
 -- the route is one of these
 pub record FitsIn (room : Room) (r : OspfRec) : Type 0 where
@@ -86,7 +86,7 @@ abbrev pub can_be_used : List File → Prefix → ℕ → ℕ → Bool
 can_be_used files destinations router len =
     (has_subnet files destinations router len
     || option_map_or (has_sources destinations len) (slice_get files router) false)
-    || is_some (room_for files destinations router len)
+    || is_some (room_among files (rooms_of files destinations) router len)
 
 -- of some places those at which something can stand
 abbrev pub used_among : List File → Prefix → List Place → List Place

@@ -41,6 +41,11 @@ abbrev pub field_width : Field → ℕ
 field_width (Bits width) = width
 field_width (Among values) = width_for (length values - 1)
 
+-- in so many bits each number has room for which the field has, 32 at most
+abbrev pub field_bits : Field → ℕ
+field_bits (Bits width) = width
+field_bits (Among values) = width_for (greatest values)
+
 -- the field has room for the number: in its bits, or as one of few values
 abbrev pub FitsField : Field → ℕ → Type 0
 FitsField (Bits width) n = n < 2 ^ width

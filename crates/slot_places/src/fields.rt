@@ -98,6 +98,16 @@ impl Field {
         }
     }
 
+    /// The bits in which each number has room for which the field has, 32 at most.
+    pub fn bits(&self) -> u8
+        ensures { result ≡ values.field_bits self.now }
+    {
+        match self {
+            Field::Bits(width) => *width,
+            Field::Among(among) => width_for(u64::from(greatest(among.as_slice()))),
+        }
+    }
+
     /// The number that is told by another: that one itself, or the value at that place, 0 past the last.
     pub fn read(&self, told: u32) -> u32
         ensures { result ≡ values.read_as self.now told }
