@@ -56,7 +56,8 @@ module _ (file : File) (p : Prefix) (slot : Slot) where
   by_none line is = ap (option_and_then (λ (e : RibEntry). brought file p slot e.source line)) is
 
   -- of a connected or static entry it is the same whatever else stands in the slot
-  of_connected : (other : Slot) (line : Redist) → brought file p slot Connected line ≡ brought file p other Connected line
+  of_connected : (other : Slot) (line : Redist) →
+      brought file p slot Connected line ≡ brought file p other Connected line
   of_connected other line = by line.source where
     by : (s : Source) → brought file p slot Connected (record line { source = s })
         ≡ brought file p other Connected (record line { source = s })
@@ -195,8 +196,8 @@ of_bgp file p slot line o = by line.source where
     made : Option Attributes → Option OspfRec
     made r = option_map external_of (option_and_then (through_map file.policies bgp.map p false) r)
 
-    by_test : (b : Bool) → is_taken bgp p Ebgp ≡ b → (if b then made (redistributed_route bgp slot) else None) ≡ Some o →
-        IsOfBgp file p slot bgp o
+    by_test : (b : Bool) → is_taken bgp p Ebgp ≡ b →
+        (if b then made (redistributed_route bgp slot) else None) ≡ Some o → IsOfBgp file p slot bgp o
     by_test false test is' = absurd cc
     by_test true test is' = by_held slot.bgp refl is' where
       by_made : (held : BgpRec) → slot.bgp ≡ Some held → (m : Option Attributes) →

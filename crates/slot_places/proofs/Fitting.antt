@@ -1,7 +1,7 @@
 -- Each OSPF route of a stable routing has room, and fits there; and where nothing can stand nothing stands.
-use Rattle.std.proofs.Common.{◌≡◌, ℕ, suc, ◌+◌, ◌*◌, ◌^◌, ◌<◌, ◌≤◌, Bool, true, false, ◌&&◌, ◌||◌, List, []}
-use Rattle.std.proofs.Common.{◌∷◌, ◌++◌, length, map, max, Option, Some, None, inl, inr, refl, sym, ap, subst, arith, ◌∙◌}
-use Rattle.std.proofs.Common.{slice_get}
+use Rattle.std.proofs.Common.{◌≡◌, ℕ, ◌+◌, ◌*◌, ◌^◌, ◌<◌, ◌≤◌, Bool, true, false, ◌&&◌, ◌||◌, List, []}
+use Rattle.std.proofs.Common.{◌∷◌, ◌++◌, length, map, max, Option, Some, None, inl, inr, refl, sym, ap, subst}
+use Rattle.std.proofs.Common.{arith, ◌∙◌, slice_get}
 use Rattle.std.specs.Prelude.{◌==◌, All, IfSome, MatchOption, fold, is_some, nat_le, if◌then◌else◌}
 use Rattle.std.specs.List.{list_any}
 use Rattle.std.specs.Option.{option_map_or}
@@ -42,15 +42,16 @@ use Rattle.slot_places.specs.declared.fields.Field.TheVariants.{Bits, Among}
 use Rattle.slot_places.specs.declared.rooms.Room.{Room}
 use Rattle.slot_places.specs.declared.fields.TheConstants.{MOST_VALUES}
 use Rattle.slot_places.specs.Origins.{is_static_at, is_subnet_at, origins_at}
-use Rattle.slot_places.specs.Rooms.{FitsIn, can_be_used, dearest_of, dearest_walk, has_sources, has_subnet, room_around}
-use Rattle.slot_places.specs.Rooms.{room_at, room_for, room_of, runs_ospf}
+use Rattle.slot_places.specs.Rooms.{FitsIn, can_be_used, dearest_of, dearest_walk, has_sources, has_subnet}
+use Rattle.slot_places.specs.Rooms.{room_among, room_around, room_at, room_for, room_of, rooms_of, runs_ospf}
 use Rattle.slot_places.specs.Supported.{AreOrigins}
 use Rattle.slot_places.specs.Tables.{empty_slot}
 use Rattle.slot_places.specs.Values.{FitsField, field_of, greatest, once, put_once, width_for}
 use Rattle.slot_places.proofs.Bounded.{cost_bound}
 use Rattle.slot_places.proofs.Brought.{IsBacked, entry_backed}
 use Rattle.slot_places.proofs.Known.{origins_known, static_there, subnet_there}
-use Rattle.slot_places.proofs.Members.{all-from-in, any-in, map-in}
+use Rattle.slot_places.proofs.Members.{all-from-in, any-in, map-in, not_empty}
+use Rattle.slot_places.proofs.RoomSteps.{room_there}
 use Rattle.slot_places.proofs.Supports.{all_held, all_in, file_there}
 use Rattle.slot_places.proofs.Widths.{in_width}
 
@@ -144,13 +145,6 @@ pub record ComesFrom (origins : List OspfRec) (r : OspfRec) : Type 0 where
   pub kind : origin.kind ≡ r.kind
   pub metric : origin.metric ≡ r.metric
 
-not_empty : {X : Type 0} (xs : List X) (x : X) → In x xs → (length xs == 0) ≡ false
-not_empty [] x there = absurd there
-not_empty (y ∷ ys) x there = by (suc (length ys) == 0) refl where
-  by : (b : Bool) → (suc (length ys) == 0) ≡ b → b ≡ false
-  by false is = refl
-  by true is = let same = eqb-true (suc (length ys)) 0 is in absurd (omega (arith, same))
-
 module _ (files : List File) (destinations : Prefix) (d : Addr) (failures : Failures) (environment : Environment)
     (tables : Tables) (stable : Stable files d failures environment tables) (covered : covers destinations d ≡ true)
     (costs : All (λ a. 0 < a.cost) (adjacencies files)) (len : ℕ) (short : len < LENGTHS) where
@@ -163,7 +157,8 @@ module _ (files : List File) (destinations : Prefix) (d : Addr) (failures : Fail
   weaker : (P : OspfRec → Type 0) → ((o : OspfRec) → In o origins → P o) →
       AreOrigins files failures tables (prefix_at d len) P
   weaker P each router file process slot at runs here =
-      all-from-in P _ (λ o there. each o (all_in (λ x. In x origins) _ o (known router file process slot at runs here) there))
+      all-from-in P _ (λ o there. each o
+      (all_in (λ x. In x origins) _ o (known router file process slot at runs here) there))
 
   -- each has the kind and the metric of a record that lines bring in
   pub held_known : (router : ℕ) (slot : Slot) (h : OspfRec) → slot_at tables router len ≡ Some slot →
@@ -256,7 +251,7 @@ module _ (files : List File) (destinations : Prefix) (d : Addr) (failures : Fail
       (unused : can_be_used files destinations router len ≡ false) where
     parts : ((has_subnet files destinations router len
         || option_map_or (has_sources destinations len) (slice_get files router) false) ≡ false)
-        × (is_some (room_for files destinations router len) ≡ false)
+        × (is_some (room_among files (rooms_of files destinations) router len) ≡ false)
     parts = or_parts _ _ unused
 
     sources : (has_subnet files destinations router len ≡ false)
@@ -268,7 +263,7 @@ module _ (files : List File) (destinations : Prefix) (d : Addr) (failures : Fail
       by : (o : Option OspfRec) → slot.ospf ≡ o → o ≡ None
       by None is = refl
       by (Some h) holds =
-          let room = room_is router slot h here holds in
+          let room = room_there files destinations router len short ∙ room_is router slot h here holds in
           absurd (false≢true (sym parts.1 ∙ ap is_some room))
 
     module _ (file : File) (at : slice_get files router ≡ Some file) where

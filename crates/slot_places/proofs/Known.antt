@@ -31,12 +31,11 @@ use Rattle.net_interfaces.specs.Interfaces.{addressed}
 use Rattle.net_parts.specs.declared.ospf.OspfInterface.{OspfInterface}
 use Rattle.net_parts.specs.Decisions.{DecidedByBgp}
 use Rattle.net_parts.specs.Entries.{own_is_as_good}
-use Rattle.net_parts.specs.Origins.{into_ospf, is_default, is_ospf_entry, originated_default}
-use Rattle.net_parts.specs.Origins.{redistributed}
+use Rattle.net_parts.specs.Origins.{into_ospf, is_default, is_ospf_entry, originated_default, redistributed}
 use Rattle.net_parts.specs.Ospf.{advertisement, origin_interfaces, ospf_interfaces}
 use Rattle.net_parts.specs.OspfRoutes.{own_origins}
 use Rattle.net_parts.specs.Routing.{counts, is_direct, static_routes, up_interfaces}
-use Rattle.net_parts.specs.Stable.{IsStableSlot, Stable}
+use Rattle.net_parts.specs.Stable.{Stable}
 use Rattle.net_parts.specs.World.{is_up}
 use Rattle.net_parts.proofs.LeastWalks.{in-cases, in-filter, in-filter_map, in-left, in-map, in-right}
 use Rattle.slot_places.specs.Origins.{advertised_by, by_file, by_process, default_of, default_record, is_static_at}
@@ -65,7 +64,8 @@ subnet_there files failures destinations d router len covered direct =
     let found = in-any (λ (x : Addressed). same_prefix x.subnet (prefix_at d len)) (up_interfaces files failures router)
     direct in
     let x : Addressed = found.0 in
-    let up = in-filter (λ (y : Addressed). (y.id.router == router) && is_up files failures y) (addressed files) x found.1 in
+    let up = in-filter (λ (y : Addressed). (y.id.router == router) && is_up files failures y)
+    (addressed files) x found.1 in
     let both = and_parts (x.id.router == router) (is_up files failures x) up.1 in
     record {
       at = x;
@@ -99,12 +99,13 @@ static_there files failures destinations d router len file route covered there =
       is = prefix-same route.prefix (prefix_at d len) both.0;
     }
 
--- ---- in a stable routing
+-- ---- of a slot whose entry rests on something, and which holds a BGP route only where BGP runs
 
-module _ (files : List File) (destinations : Prefix) (d : Addr) (failures : Failures) (environment : Environment)
-    (tables : Tables) (covered : covers destinations d ≡ true) (router len : ℕ) (file : File) (process : Ospf)
+module _ (files : List File) (destinations : Prefix) (d : Addr) (failures : Failures)
+    (covered : covers destinations d ≡ true) (router len : ℕ) (file : File) (process : Ospf)
     (slot : Slot) (at : slice_get files router ≡ Some file) (runs : file.ospf ≡ Some process)
-    (stable : IsStableSlot files failures environment tables router file (prefix_at d len) slot) where
+    (backed : IfSome slot.rib (λ entry. IsBacked files failures router file (prefix_at d len) slot entry.source))
+    (runs_bgp : (held : BgpRec) → slot.bgp ≡ Some held → is_some file.bgp ≡ true) where
   abbrev p : Prefix
   p = prefix_at d len
 
@@ -188,16 +189,10 @@ module _ (files : List File) (destinations : Prefix) (d : Addr) (failures : Fail
 
   -- ---- BGP routes
 
-  runs_bgp : (b : Option Bgp) (held : BgpRec) → MatchOption b (slot.bgp ≡ None)
-      (λ bgp. DecidedByBgp files failures environment tables router file bgp p slot.bgp) → slot.bgp ≡ Some held →
-      is_some b ≡ true
-  runs_bgp None held none holds = absurd cc
-  runs_bgp (Some bgp) held decided holds = refl
-
   by_bgp : (line : Redist) (o : OspfRec) → In line process.redistribute → IsOfBgp file p slot line o → In o all
   by_bgp line o there bgp =
       let test : (is_some file.bgp && not (len == 0)) ≡ true =
-      and_from _ _ (runs_bgp file.bgp bgp.held stable.bgp bgp.holds) bgp.no_default in
+      and_from _ _ (runs_bgp bgp.held bgp.holds) bgp.no_default in
       let is : taken_of_bgp_lines len file process ≡ flat_map (taken_of_bgp file) process.redistribute =
       ap (λ b. if b then flat_map (taken_of_bgp file) process.redistribute else []) test in
       process_in o (in-right o (default_of len process) _ (subst (In o) (sym is)
@@ -219,23 +214,23 @@ module _ (files : List File) (destinations : Prefix) (d : Addr) (failures : Fail
   by_source Ibgp backed line o there is =
       let none : brought file p slot Ibgp line ≡ None = of_ibgp file p slot line in absurd cc
 
-  by_line : (line : Redist) (o : OspfRec) → In line process.redistribute → into_ospf file p slot line ≡ Some o → In o all
-  by_line line o there is = by slot.rib refl (subst (λ r. IfSome r Backs) (sym stable.rib)
-      (entry_backed files failures router file p slot (own_is_as_good files failures router file p slot)))
-    where
-      Backs : RibEntry → Type 0
-      Backs entry = IsBacked files failures router file p slot entry.source
+  by_line : (line : Redist) (o : OspfRec) → In line process.redistribute → into_ospf file p slot line ≡ Some o →
+      In o all
+  by_line line o there is = by slot.rib refl backed where
+    Backs : RibEntry → Type 0
+    Backs entry = IsBacked files failures router file p slot entry.source
 
-      by : (r : Option RibEntry) → slot.rib ≡ r → IfSome slot.rib Backs → In o all
-      by None none backed =
-          let nothing : into_ospf file p slot line ≡ None = by_none file p slot line none in absurd cc
-      by (Some entry) some backed =
-          by_source entry.source (subst (λ r. IfSome r Backs) some backed) line o there
-          (sym (by_entry file p slot entry line some) ∙ is)
+    by : (r : Option RibEntry) → slot.rib ≡ r → IfSome slot.rib Backs → In o all
+    by None none backed' =
+        let nothing : into_ospf file p slot line ≡ None = by_none file p slot line none in absurd cc
+    by (Some entry) some backed' =
+        by_source entry.source (subst (λ r. IfSome r Backs) some backed') line o there
+        (sym (by_entry file p slot entry line some) ∙ is)
 
   -- ---- the default route
 
-  by_default : (o : OspfRec) → In o (option_to_list (option_and_then (originated_default p slot) process.default)) → In o all
+  by_default : (o : OspfRec) → In o (option_to_list (option_and_then (originated_default p slot) process.default)) →
+      In o all
   by_default o there = process_in o (in-left o _ _ (by process.default refl there)) where
     made : (line : DefaultOrigin) (b : Bool) → In o (option_to_list (if b then Some (default_record line) else None)) →
         (b ≡ true) × (o ≡ default_record line)
@@ -257,7 +252,7 @@ module _ (files : List File) (destinations : Prefix) (d : Addr) (failures : Fail
 
   -- ---- all
 
-  each_known : (o : OspfRec) → In o (own_origins files failures router file process p slot) → In o all
+  pub each_known : (o : OspfRec) → In o (own_origins files failures router file process p slot) → In o all
   unfolding own_origins redistributed
   each_known o there = by (in-cases o _ _ there) where
     by_lines : In o (filter_map (into_ospf file p slot) process.redistribute)
@@ -276,6 +271,14 @@ module _ (files : List File) (destinations : Prefix) (d : Addr) (failures : Fail
         subst (λ r. In r all) (sym found.2) (by_interface found.0 found.1)
     by (inr others) = by_lines (in-cases o _ _ others)
 
+-- a router that holds a BGP route runs BGP
+decided_runs : (files : List File) (failures : Failures) (environment : Environment) (tables : Tables) (router : ℕ)
+    (file : File) (p : Prefix) (slot : Slot) (b : Option Bgp) (held : BgpRec) → MatchOption b (slot.bgp ≡ None)
+    (λ bgp. DecidedByBgp files failures environment tables router file bgp p slot.bgp) → slot.bgp ≡ Some held →
+    is_some b ≡ true
+decided_runs files failures environment tables router file p slot None held none holds = absurd cc
+decided_runs files failures environment tables router file p slot (Some bgp) held decided holds = refl
+
 -- all that routers originate in a stable routing is among these
 pub origins_known : (files : List File) (destinations : Prefix) (d : Addr) (failures : Failures)
     (environment : Environment) (tables : Tables) (len : ℕ) → covers destinations d ≡ true →
@@ -283,6 +286,11 @@ pub origins_known : (files : List File) (destinations : Prefix) (d : Addr) (fail
     AreOrigins files failures tables (prefix_at d len) (λ o. In o (origins_at files destinations len))
 origins_known files destinations d failures environment tables len covered stable short router file process slot at runs
     here =
+    let slot_stable = stable.equations router len file slot at short here in
     all-from-in (λ o. In o (origins_at files destinations len)) _
-    (each_known files destinations d failures environment tables covered router len file process slot at runs
-    (stable.equations router len file slot at short here))
+    (each_known files destinations d failures covered router len file process slot at runs
+    (subst (λ r. IfSome r (λ entry. IsBacked files failures router file (prefix_at d len) slot entry.source))
+    (sym slot_stable.rib) (entry_backed files failures router file (prefix_at d len) slot
+    (own_is_as_good files failures router file (prefix_at d len) slot)))
+    (λ held holds. decided_runs files failures environment tables router file (prefix_at d len) slot file.bgp held
+    slot_stable.bgp holds))

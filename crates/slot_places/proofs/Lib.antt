@@ -11,3 +11,4 @@ pub mod Brought
 pub mod Known
 pub mod Fitting
 pub mod Telling
+pub mod Unused

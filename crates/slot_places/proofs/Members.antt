@@ -1,9 +1,10 @@
 -- Members of lists, as members of what is made of them.
 use Rattle.std.proofs.Common.{◌≡◌, Bool, true, false, ◌||◌, List, [], ◌∷◌, map, filter, Some, inl, inr}
-use Rattle.std.proofs.Common.{refl, sym, ap, subst, ◌∙◌, slice_get, ℕ, zero, suc}
-use Rattle.std.specs.Prelude.{All, cond, if◌then◌else◌}
+use Rattle.std.proofs.Common.{refl, sym, ap, subst, arith, ◌∙◌, length, slice_get, ℕ, zero, suc}
+use Rattle.std.specs.Prelude.{◌==◌, All, cond, if◌then◌else◌}
 use Rattle.std.specs.List.{find, flat_map, list_any}
 use Rattle.std.proofs.lemmas.List.Elements.{All-cons, All-nil}
+use Rattle.std.proofs.lemmas.Bool.{eqb-true}
 use Rattle.std.proofs.lemmas.Option.{same_Some}
 use Rattle.mw_text.specs.Members.{In}
 use Rattle.ios_ast.specs.Deciding.{in_order, put_by}
@@ -88,3 +89,11 @@ ordered-in number (e ∷ es) x there = elim (put-in number e (in_order number es
   | inl first ↦ inl first
   | inr behind ↦ inr (ordered-in number es x behind)
 ]
+
+-- a list with a member is not empty
+pub not_empty : {X : Type 0} (xs : List X) (x : X) → In x xs → (length xs == 0) ≡ false
+not_empty [] x there = absurd there
+not_empty (y ∷ ys) x there = by (suc (length ys) == 0) refl where
+  by : (b : Bool) → (suc (length ys) == 0) ≡ b → b ≡ false
+  by false is = refl
+  by true is = let same = eqb-true (suc (length ys)) 0 is in absurd (omega (arith, same))

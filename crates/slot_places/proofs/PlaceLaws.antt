@@ -1,19 +1,24 @@
 -- Which places a plan has, in which order, and how many.
 use Rattle.std.proofs.Common.{◌≡◌, ℕ, zero, suc, ◌*◌, ◌<◌, ◌≤◌, Bool, true, false, List, [], ◌∷◌, ◌++◌, length, map}
 use Rattle.std.proofs.Common.{inl, inr, refl, sym, ap, subst, arith, ◌∙◌, length-append}
-use Rattle.std.specs.Prelude.{◌⊎◌, All, AllPairs, if◌then◌else◌}
-use Rattle.std.proofs.lemmas.Bool.{cases_lt}
+use Rattle.std.specs.Prelude.{◌⊎◌, ◌==◌, All, AllPairs, if◌then◌else◌}
+use Rattle.std.proofs.lemmas.Bool.{and_from, and_parts, cases_lt, eqb-true, eq-eqb, false≢true}
 use Rattle.std.proofs.lemmas.List.{length-map}
 use Rattle.std.proofs.lemmas.List.Elements.{All-append}
 use Rattle.std.proofs.lemmas.List.Kept.{AllPairs-cons}
 use Rattle.std.proofs.Math.Nat.{suc-mul}
-use Rattle.mw_text.specs.Members.{In}
+use Rattle.mw_text.proofs.Lists.{below_at}
+use Rattle.mw_text.specs.Members.{In, all_below}
 use Rattle.route_record.specs.declared.Plan.{Plan}
 use Rattle.net_parts.proofs.LeastWalks.{in-cases, in-left, in-map, in-right}
 use Rattle.slot_places.specs.declared.places.Place.{Place}
-use Rattle.slot_places.specs.Places.{IsBefore, place, places_below}
-use Rattle.slot_places.specs.Plans.{has_slice, lens_below}
-use Rattle.slot_places.proofs.Members.{all-from-in, map-in}
+use Rattle.mw_text.specs.declared.address.Prefix.{Prefix}
+use Rattle.ios_ast.specs.declared.file.File.{File}
+use Rattle.route_record.specs.declared.TheConstants.{LENGTHS}
+use Rattle.slot_places.specs.Places.{IsBefore, has_place, is_at, place, places_below, places_of}
+use Rattle.slot_places.specs.Plans.{has_slice, lens_below, lens_of, numbers_below, single_plan}
+use Rattle.slot_places.specs.Rooms.{HasUsed, can_be_used, used_among}
+use Rattle.slot_places.proofs.Members.{all-from-in, any-in, filter-in, in-any, map-in}
 use Rattle.slot_places.proofs.Supports.{all_in}
 
 -- ---- which lengths
@@ -51,6 +56,14 @@ in-lens plan (suc n) len there =
         (len < suc n) × (has_slice plan len ≡ true)
     by (inl front) rest = let found = rest front in let less = found.0 in (omega (arith, less), found.1)
     by (inr back) rest = last (has_slice plan n) refl back
+
+all_single : all_below (has_slice single_plan) LENGTHS ≡ true
+unfolding single_plan numbers_below
+all_single = refl
+
+-- each length has a slice where it is a class of its own
+pub single-has : (len : ℕ) → len < LENGTHS → has_slice single_plan len ≡ true
+single-has len short = below_at (has_slice single_plan) LENGTHS len all_single short
 
 -- ---- which places
 
@@ -156,6 +169,49 @@ places-ascend lens (suc n) pairs =
     (mapped_pairs n lens pairs) between
   where
     between : (p : Place) → In p (places_below lens n) → All (IsBefore p) (map (place n) lens)
-    between p there = all-from-in (IsBefore p) (map (place n) lens) (λ q here. by q (in-map (place n) lens q here)) where
+    between p there = all-from-in (IsBefore p) (map (place n) lens) (λ q here. by q (in-map (place n) lens q here))
+      where
       by : (q : Place) → (len : ℕ) × In len lens × (q ≡ place n len) → IsBefore p q
       by q (len, here, is) = subst (IsBefore p) (sym is) (inl (in-places lens n p there).0)
+
+-- ---- which places there are, as a test
+
+at-is : (p : Place) (router len : ℕ) → is_at router len p ≡ true → p ≡ place router len
+at-is p router len is =
+    let both = and_parts (p.router == router) (p.len == len) is in
+    let a = eqb-true p.router router both.0 in
+    let b = eqb-true p.len len both.1 in
+    λ i. record { router = a i; len = b i }
+
+pub has-in : (places : List Place) (router len : ℕ) → In (place router len) places → has_place places router len ≡ true
+has-in places router len there =
+    any-in (is_at router len) places (place router len) there
+    (and_from _ _ (eq-eqb router router refl) (eq-eqb len len refl))
+
+pub in-has : (places : List Place) (router len : ℕ) → has_place places router len ≡ true → In (place router len) places
+in-has places router len some =
+    let found = in-any (is_at router len) places some in
+    subst (λ p. In p places) (at-is found.0 router len found.2) found.1
+
+-- a place of a plan at which something can stand is one of the used places
+pub used-has : (files : List File) (destinations : Prefix) (plan : Plan) (router len : ℕ) → router < length files →
+    len < LENGTHS → has_slice plan len ≡ true → can_be_used files destinations router len ≡ true →
+    has_place (used_among files destinations (places_of plan (length files))) router len ≡ true
+used-has files destinations plan router len below short slice used =
+    has-in (used_among files destinations (places_of plan (length files))) router len
+    (filter-in (λ (p : Place). can_be_used files destinations p.router p.len) (places_of plan (length files))
+    (place router len)
+    (places-in (lens_of plan) (length files) router len below (lens-in plan LENGTHS len short slice)) used)
+
+-- where the plan has a slice at each used length nothing can stand off the used places
+pub unused-off : (files : List File) (destinations : Prefix) (plan : Plan) (router len : ℕ) →
+    HasUsed files destinations plan → router < length files → len < LENGTHS →
+    has_place (used_among files destinations (places_of plan (length files))) router len ≡ false →
+    can_be_used files destinations router len ≡ false
+unused-off files destinations plan router len wide below short none =
+    by (can_be_used files destinations router len) refl
+  where
+    by : (b : Bool) → can_be_used files destinations router len ≡ b → b ≡ false
+    by false is = refl
+    by true is = absurd (false≢true (sym none
+        ∙ used-has files destinations plan router len below short (wide router len below short is) is))

@@ -1,13 +1,14 @@
 -- Lengths and places, one after another; and what stands at a place.
 use Rattle.std.proofs.Common.{◌≡◌, ℕ, suc, ◌+◌, ◌<◌, ◌≤◌, Bool, true, false, not, List, [], ◌∷◌, ◌++◌, length, map}
-use Rattle.std.proofs.Common.{Option, Some, None, inl, inr, refl, sym, ap, arith, add-one, append-nil, ◌∙◌, slice_get, nat_lt}
+use Rattle.std.proofs.Common.{Option, Some, None, inl, inr, refl, sym, ap, arith, add-one, append-nil, ◌∙◌}
+use Rattle.std.proofs.Common.{slice_get, nat_lt}
 use Rattle.std.specs.Prelude.{◌⊎◌, cond, option_and_then, option_map, position, if◌then◌else◌}
 use Rattle.std.specs.List.{position_or_len}
 use Rattle.std.proofs.lemmas.Bool.{cases_lt, le-ltb, lt-ltb}
 use Rattle.route_record.specs.declared.Plan.{Plan}
 use Rattle.slot_places.specs.declared.places.Place.{Place}
 use Rattle.slot_places.specs.Places.{is_at, item_at, place, places_below}
-use Rattle.slot_places.specs.Plans.{has_slice, lens_below}
+use Rattle.slot_places.specs.Plans.{has_slice, lens_below, numbers_below}
 
 -- ---- one length more
 
@@ -22,11 +23,22 @@ pub lens_without : (plan : Plan) (len : ℕ) → has_slice plan len ≡ false �
 unfolding lens_below
 lens_without plan len none =
     sym (append-nil (lens_below plan len))
-    ∙ ap (λ b. lens_below plan len ++ (if b then len ∷ [] else [])) (sym none) ∙ ap (lens_below plan) (sym (add-one len))
+    ∙ ap (λ b. lens_below plan len ++ (if b then len ∷ [] else [])) (sym none)
+    ∙ ap (lens_below plan) (sym (add-one len))
 
 pub lens_none : (plan : Plan) → lens_below plan 0 ≡ []
 unfolding lens_below
 lens_none plan = refl
+
+-- ---- one number more
+
+pub numbers_more : (n : ℕ) → numbers_below n ++ n ∷ [] ≡ numbers_below (n + 1)
+unfolding numbers_below
+numbers_more n = ap numbers_below (sym (add-one n))
+
+pub numbers_none : numbers_below 0 ≡ []
+unfolding numbers_below
+numbers_none = refl
 
 -- ---- one router more
 

@@ -1,6 +1,6 @@
 -- Rooms of lengths, one after another.
-use Rattle.std.proofs.Common.{◌≡◌, ℕ, zero, suc, ◌+◌, ◌<◌, ◌≤◌, List, [], ◌∷◌, ◌++◌, length, Option, Some, None, inl, inr}
-use Rattle.std.proofs.Common.{refl, sym, ap, arith, add-one, ◌∙◌, slice_get, length-append}
+use Rattle.std.proofs.Common.{◌≡◌, ℕ, zero, suc, ◌+◌, ◌<◌, ◌≤◌, List, [], ◌∷◌, ◌++◌, length, Option, Some, None}
+use Rattle.std.proofs.Common.{inl, inr, refl, sym, ap, arith, add-one, ◌∙◌, slice_get, length-append}
 use Rattle.std.specs.Prelude.{◌⊎◌, option_and_then, if◌then◌else◌}
 use Rattle.std.proofs.lemmas.Bool.{cases_lt}
 use Rattle.mw_text.proofs.Lists.{item_before}

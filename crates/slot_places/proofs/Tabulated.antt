@@ -1,19 +1,17 @@
 -- Tables that have a given slot at each router and length; those that follow from what is open at places are a stable
 -- routing where each passes its test, and each stable routing that is empty off the places is made so.
-use Rattle.std.proofs.Common.{◌≡◌, ℕ, zero, suc, ◌+◌, ◌-◌, ◌*◌, ◌<◌, ◌≤◌, Bool, true, false, List, [], ◌∷◌, ◌++◌, length, map}
+use Rattle.std.proofs.Common.{◌≡◌, ℕ, zero, suc, ◌+◌, ◌-◌, ◌*◌, ◌<◌, ◌≤◌, Bool, true, false, List, [], ◌∷◌, ◌++◌}
+use Rattle.std.proofs.Common.{length, map}
 use Rattle.std.proofs.Common.{Some, None, inl, inr, refl, sym, ap, ap₂, subst, arith, ◌∙◌, length-append, slice_get}
 use Rattle.std.specs.Prelude.{◌⊎◌, ◌&&◌, ◌||◌, ◌==◌, All, unwrap_or, if◌then◌else◌}
-use Rattle.std.specs.List.{list_any}
 use Rattle.std.specs.Option.{option_map_or}
-use Rattle.std.proofs.lemmas.Bool.{and_from, and_parts, cases_lt, eqb-true, eq-eqb, false≢true}
+use Rattle.std.proofs.lemmas.Bool.{and_parts, cases_lt, eqb-true}
 use Rattle.std.proofs.lemmas.List.Elements.{All-append, All-cons, All-head, All-nil, All-tail}
 use Rattle.std.proofs.lemmas.Option.{same_Some, slice_get_past, slice_get_within}
 use Rattle.mw_text.proofs.Lists.{list_ext}
-use Rattle.mw_text.specs.Members.{In}
 use Rattle.mw_text.specs.declared.address.Addr.{Addr}
 use Rattle.mw_text.specs.Address.{prefix_at}
 use Rattle.ios_ast.specs.declared.file.File.{File}
-use Rattle.ios_ast.specs.Deciding.{carries}
 use Rattle.route_record.specs.declared.Environment.{Environment}
 use Rattle.route_record.specs.declared.Failures.{Failures}
 use Rattle.route_record.specs.declared.Slot.{Slot}
@@ -23,10 +21,8 @@ use Rattle.route_record.specs.Fits.{FitsSlot}
 use Rattle.route_record.specs.Places.{slot_at}
 use Rattle.net_parts.specs.Stable.{IsStableSlot, Stable}
 use Rattle.slot_places.specs.declared.places.Place.{Place}
-use Rattle.slot_places.specs.Places.{is_at, item_at, place, places_below}
+use Rattle.slot_places.specs.Places.{has_place, is_at, item_at, place}
 use Rattle.slot_places.specs.Tables.{all_hold, empty_slot, row_from, rows_from, slot_among, tables_over, tabulated}
-use Rattle.slot_places.proofs.Members.{any-in, in-any}
-use Rattle.slot_places.proofs.PlaceLaws.{in-places, places-in}
 
 -- ---- the slot at each router and length
 
@@ -84,14 +80,16 @@ rows-at f router (suc n) (suc k) l i below short at =
 row-all : (P : Slot → Type 0) (f : ℕ → Slot) (from n : ℕ) → ((k : ℕ) → P (f k)) → All P (row_from f from n)
 unfolding row_from
 row-all P f from zero each = All-nil P
-row-all P f from (suc n) each = All-cons P (f from) (row_from f (suc from) n) (each from) (row-all P f (suc from) n each)
+row-all P f from (suc n) each =
+    All-cons P (f from) (row_from f (suc from) n) (each from) (row-all P f (suc from) n each)
 
 pub rows-all : (P : Slot → Type 0) (f : ℕ → ℕ → Slot) (router n : ℕ) → ((r k : ℕ) → P (f r k)) →
     All P (rows_from f router n)
 unfolding rows_from
 rows-all P f router zero each = All-nil P
 rows-all P f router (suc n) each =
-    All-append P (row_from (f router) 0 LENGTHS) (rows_from f (suc router) n) (row-all P (f router) 0 LENGTHS (each router))
+    All-append P (row_from (f router) 0 LENGTHS) (rows_from f (suc router) n)
+    (row-all P (f router) 0 LENGTHS (each router))
     (rows-all P f (suc router) n each)
 
 pub tabulated-length : (f : ℕ → ℕ → Slot) (n : ℕ) → length (tabulated f n).slots ≡ LENGTHS * n
@@ -134,15 +132,7 @@ pub tabulated-same : (g h : ℕ → ℕ → Slot) (n : ℕ) → ((q k : ℕ) →
 tabulated-same g h n same = ap (λ (xs : List Slot). record { slots = xs })
     (rows-same g h 0 n (λ q k low high short. same q k (omega (arith, high)) short))
 
--- ---- which places there are
-
-pub carries-in : (lens : List ℕ) (len : ℕ) → carries lens len ≡ true → In len lens
-carries-in lens len some =
-    let found = in-any (λ l. l == len) lens some in
-    subst (λ l. In l lens) (eqb-true found.0 len found.2) found.1
-
-pub in-carries : (lens : List ℕ) (len : ℕ) → In len lens → carries lens len ≡ true
-in-carries lens len there = any-in (λ l. l == len) lens len there (eq-eqb len len refl)
+-- ---- what stands at a place, and off the places
 
 at_is : (p : Place) (router len : ℕ) → is_at router len p ≡ true → p ≡ place router len
 at_is p router len is =
@@ -151,26 +141,6 @@ at_is p router len is =
     let b = eqb-true p.len len both.1 in
     λ i. record { router = a i; len = b i }
 
-some_place : (lens : List ℕ) (n router len : ℕ) → router < n → carries lens len ≡ true →
-    list_any (is_at router len) (places_below lens n) ≡ true
-some_place lens n router len below some =
-    any-in (is_at router len) (places_below lens n) (place router len)
-    (places-in lens n router len below (carries-in lens len some))
-    (and_from _ _ (eq-eqb router router refl) (eq-eqb len len refl))
-
-no_place : (lens : List ℕ) (n router len : ℕ) → carries lens len ≡ false →
-    list_any (is_at router len) (places_below lens n) ≡ false
-no_place lens n router len none = by (list_any (is_at router len) (places_below lens n)) refl where
-  by : (b : Bool) → list_any (is_at router len) (places_below lens n) ≡ b → b ≡ false
-  by false is = refl
-  by true is =
-      let found = in-any (is_at router len) (places_below lens n) is in
-      let here = in-places lens n found.0 found.1 in
-      let len_is = ap (λ (q : Place). q.len) (at_is found.0 router len found.2) in
-      absurd (false≢true (sym none ∙ in-carries lens len (subst (λ l. In l lens) len_is here.1)))
-
--- ---- what stands at a place, and off the places
-
 -- something is open there that passes the test
 record IsMade {U : Type 0} (holds : Place → U → Bool) (ps : List Place) (us : List U) (router len : ℕ) : Type 0 where
   open_part : U
@@ -178,7 +148,7 @@ record IsMade {U : Type 0} (holds : Place → U → Bool) (ps : List Place) (us 
   passes : holds (place router len) open_part ≡ true
 
 made : {U : Type 0} (holds : Place → U → Bool) (ps : List Place) (us : List U) (router len : ℕ) →
-    all_hold holds ps us ≡ true → list_any (is_at router len) ps ≡ true → IsMade holds ps us router len
+    all_hold holds ps us ≡ true → has_place ps router len ≡ true → IsMade holds ps us router len
 unfolding item_at all_hold
 made holds [] us router len hold there = absurd cc
 made holds (p ∷ ps) [] router len hold there = absurd cc
@@ -186,8 +156,8 @@ made {U} holds (p ∷ ps) (u ∷ us) router len hold there =
     let both = and_parts (holds p u) (all_hold holds ps us) hold in
     by (is_at router len p) refl both.0 there (made holds ps us router len both.1)
   where
-    by : (b : Bool) → is_at router len p ≡ b → holds p u ≡ true → (b || list_any (is_at router len) ps) ≡ true →
-        (list_any (is_at router len) ps ≡ true → IsMade holds ps us router len) →
+    by : (b : Bool) → is_at router len p ≡ b → holds p u ≡ true → (b || has_place ps router len) ≡ true →
+        (has_place ps router len ≡ true → IsMade holds ps us router len) →
         IsMade holds (p ∷ ps) (u ∷ us) router len
     by true is here there' rest = record {
       open_part = u;
@@ -200,124 +170,104 @@ made {U} holds (p ∷ ps) (u ∷ us) router len hold there =
       passes = later.passes;
     }
 
-not_made : {U : Type 0} (ps : List Place) (us : List U) (router len : ℕ) → list_any (is_at router len) ps ≡ false →
+not_made : {U : Type 0} (ps : List Place) (us : List U) (router len : ℕ) → has_place ps router len ≡ false →
     item_at ps us router len ≡ None
 unfolding item_at
 not_made [] us router len none = refl
 not_made (p ∷ ps) [] router len none = refl
 not_made {U} (p ∷ ps) (u ∷ us) router len none = by (is_at router len p) none (not_made ps us router len) where
-  by : (b : Bool) → (b || list_any (is_at router len) ps) ≡ false →
-      (list_any (is_at router len) ps ≡ false → item_at ps us router len ≡ None) →
+  by : (b : Bool) → (b || has_place ps router len) ≡ false →
+      (has_place ps router len ≡ false → item_at ps us router len ≡ None) →
       (if b then Some u else item_at ps us router len) ≡ None
   by true some rest = absurd cc
   by false none' rest = rest none'
 
--- off the lengths of the places nothing stands
-pub empty_off : {U : Type 0} (slot_of : Place → U → Slot) (lens : List ℕ) (n : ℕ) (us : List U) (router len : ℕ) →
-    carries lens len ≡ false → slot_among slot_of (places_below lens n) us router len ≡ empty_slot
-empty_off slot_of lens n us router len none =
-    ap (λ o. option_map_or (slot_of (place router len)) o empty_slot)
-    (not_made (places_below lens n) us router len (no_place lens n router len none))
+-- off the places nothing stands
+pub empty_off : {U : Type 0} (slot_of : Place → U → Slot) (ps : List Place) (us : List U) (router len : ℕ) →
+    has_place ps router len ≡ false → slot_among slot_of ps us router len ≡ empty_slot
+empty_off slot_of ps us router len none =
+    ap (λ o. option_map_or (slot_of (place router len)) o empty_slot) (not_made ps us router len none)
 
 -- ---- sound: where each thing that is open passes its test, and empty slots off the places are stable
 
 module _ {U : Type 0} (slot_of : Place → U → Slot) (files : List File) (d : Addr) (failures : Failures)
-    (environment : Environment) (lens : List ℕ) (us : List U) where
-  abbrev all : List Place
-  all = places_below lens (length files)
-
+    (environment : Environment) (places : List Place) (us : List U) where
   abbrev tables : Tables
-  tables = tables_over slot_of all us (length files)
+  tables = tables_over slot_of places us (length files)
 
   -- a thing that passes makes a stable slot
   abbrev pub AreStableWhereHeld : (Place → U → Bool) → Type 0
   AreStableWhereHeld holds = (router len : ℕ) (file : File) (u : U) → slice_get files router ≡ Some file →
-      slot_at tables router len ≡ Some (slot_of (place router len) u) → holds (place router len) u ≡ true →
+      len < LENGTHS → slot_at tables router len ≡ Some (slot_of (place router len) u) →
+      holds (place router len) u ≡ true →
       IsStableSlot files failures environment tables router file (prefix_at d len) (slot_of (place router len) u)
 
-  -- at a length without places, at which nothing stands, an empty slot is stable
+  -- and where no place is the empty slot is stable
   abbrev pub AreStableWhereEmpty : Type 0
   AreStableWhereEmpty = (router len : ℕ) (file : File) → slice_get files router ≡ Some file → len < LENGTHS →
-      carries lens len ≡ false →
-      ((r : ℕ) (slot : Slot) → slot_at tables r len ≡ Some slot → slot ≡ empty_slot) →
+      has_place places router len ≡ false → slot_at tables router len ≡ Some empty_slot →
       IsStableSlot files failures environment tables router file (prefix_at d len) empty_slot
 
   pub all_stable : (holds : Place → U → Bool) → AreStableWhereHeld holds → AreStableWhereEmpty →
-      All FitsSlot tables.slots → all_hold holds all us ≡ true → Stable files d failures environment tables
+      All FitsSlot tables.slots → all_hold holds places us ≡ true → Stable files d failures environment tables
   all_stable holds where_held where_empty fits hold = record {
-    size = tabulated-length (slot_among slot_of all us) (length files);
+    size = tabulated-length (slot_among slot_of places us) (length files);
     fits = fits;
     equations = each;
   } where
-    there : (router len : ℕ) → router < length files → len < LENGTHS →
-        slot_at tables router len ≡ Some (slot_among slot_of all us router len)
-    there router len below short = tabulated-at (slot_among slot_of all us) (length files) router len below short
-
     each : (router len : ℕ) (file : File) (slot : Slot) → slice_get files router ≡ Some file → len < LENGTHS →
         slot_at tables router len ≡ Some slot →
         IsStableSlot files failures environment tables router file (prefix_at d len) slot
-    each router len file slot at short here = by (carries lens len) refl where
-      below : router < length files
-      below = slice_get_within files router file at
+    each router len file slot at short here = by (has_place places router len) refl where
+      is : slot ≡ slot_among slot_of places us router len
+      is = same_Some slot (slot_among slot_of places us router len) (sym here ∙ tabulated-at
+          (slot_among slot_of places us) (length files) router len (slice_get_within files router file at) short)
 
-      is : slot ≡ slot_among slot_of all us router len
-      is = same_Some slot (slot_among slot_of all us router len) (sym here ∙ there router len below short)
-
-      by : (b : Bool) → carries lens len ≡ b →
+      by : (b : Bool) → has_place places router len ≡ b →
           IsStableSlot files failures environment tables router file (prefix_at d len) slot
       by true some =
-          let m = made holds all us router len hold (some_place lens (length files) router len below some) in
+          let m = made holds places us router len hold some in
           let same : slot ≡ slot_of (place router len) m.open_part =
           is ∙ ap (λ o. option_map_or (slot_of (place router len)) o empty_slot) m.is in
           subst (IsStableSlot files failures environment tables router file (prefix_at d len)) (sym same)
-          (where_held router len file m.open_part at (here ∙ ap Some same) m.passes)
+          (where_held router len file m.open_part at short (here ∙ ap Some same) m.passes)
       by false none =
-          subst (IsStableSlot files failures environment tables router file (prefix_at d len))
-          (sym (is ∙ empty_off slot_of lens (length files) us router len none))
-          (where_empty router len file at short none (λ r s here'. nothing r s here' (cases_lt r (length files))))
-        where
-          nothing : (r : ℕ) (s : Slot) → slot_at tables r len ≡ Some s → (r < length files) ⊎ (length files ≤ r) →
-              s ≡ empty_slot
-          nothing r s here' (inl less) = same_Some s empty_slot (sym here' ∙ there r len less short
-              ∙ ap Some (empty_off slot_of lens (length files) us r len none))
-          nothing r s here' (inr past) =
-              let none' : slot_at tables r len ≡ None = none_past tables (length files) r len
-              (tabulated-length (slot_among slot_of all us) (length files)) past in
-              absurd cc
+          let same : slot ≡ empty_slot = is ∙ empty_off slot_of places us router len none in
+          subst (IsStableSlot files failures environment tables router file (prefix_at d len)) (sym same)
+          (where_empty router len file at short none (here ∙ ap Some same))
 
 -- ---- complete: tables that are empty off the places follow from what is open of their slots
 
 item_again : {U : Type 0} (open_at : Place → U) (ps : List Place) (router len : ℕ) →
-    list_any (is_at router len) ps ≡ true → item_at ps (map open_at ps) router len ≡ Some (open_at (place router len))
+    has_place ps router len ≡ true → item_at ps (map open_at ps) router len ≡ Some (open_at (place router len))
 unfolding item_at
 item_again open_at [] router len there = absurd cc
 item_again {U} open_at (p ∷ ps) router len there =
     by (is_at router len p) refl there (λ later. item_again open_at ps router len later)
   where
-    by : (b : Bool) → is_at router len p ≡ b → (b || list_any (is_at router len) ps) ≡ true →
-        (list_any (is_at router len) ps ≡ true →
+    by : (b : Bool) → is_at router len p ≡ b → (b || has_place ps router len) ≡ true →
+        (has_place ps router len ≡ true →
         item_at ps (map open_at ps) router len ≡ Some (open_at (place router len))) →
         (if b then Some (open_at p) else item_at ps (map open_at ps) router len) ≡ Some (open_at (place router len))
     by true is there' rest = ap (λ q. Some (open_at q)) (at_is p router len is)
     by false is there' rest = rest there'
 
-pub tables_again : {U : Type 0} (slot_of : Place → U → Slot) (open_at : Place → U) (f : ℕ → ℕ → Slot) (lens : List ℕ)
-    (n : ℕ) → ((router len : ℕ) → router < n → carries lens len ≡ false → f router len ≡ empty_slot) →
-    ((router len : ℕ) → router < n → carries lens len ≡ true →
+pub tables_again : {U : Type 0} (slot_of : Place → U → Slot) (open_at : Place → U) (f : ℕ → ℕ → Slot)
+    (places : List Place) (n : ℕ) →
+    ((router len : ℕ) → router < n → len < LENGTHS → has_place places router len ≡ false →
+    f router len ≡ empty_slot) →
+    ((router len : ℕ) → router < n → len < LENGTHS → has_place places router len ≡ true →
     slot_of (place router len) (open_at (place router len)) ≡ f router len) →
-    tables_over slot_of (places_below lens n) (map open_at (places_below lens n)) n ≡ tabulated f n
-tables_again slot_of open_at f lens n off back =
-    tabulated-same (slot_among slot_of (places_below lens n) (map open_at (places_below lens n))) f n each
+    tables_over slot_of places (map open_at places) n ≡ tabulated f n
+tables_again slot_of open_at f places n off back =
+    tabulated-same (slot_among slot_of places (map open_at places)) f n each
   where
-    each : (q k : ℕ) → q < n → k < LENGTHS →
-        slot_among slot_of (places_below lens n) (map open_at (places_below lens n)) q k ≡ f q k
-    each q k below short = by (carries lens k) refl where
-      by : (b : Bool) → carries lens k ≡ b →
-          slot_among slot_of (places_below lens n) (map open_at (places_below lens n)) q k ≡ f q k
+    each : (q k : ℕ) → q < n → k < LENGTHS → slot_among slot_of places (map open_at places) q k ≡ f q k
+    each q k below short = by (has_place places q k) refl where
+      by : (b : Bool) → has_place places q k ≡ b → slot_among slot_of places (map open_at places) q k ≡ f q k
       by true some = ap (λ o. option_map_or (slot_of (place q k)) o empty_slot)
-          (item_again open_at (places_below lens n) q k (some_place lens n q k below some)) ∙ back q k below some
-      by false none =
-          empty_off slot_of lens n (map open_at (places_below lens n)) q k none ∙ sym (off q k below none)
+          (item_again open_at places q k some) ∙ back q k below short some
+      by false none = empty_off slot_of places (map open_at places) q k none ∙ sym (off q k below short none)
 
 -- and each of these passes the test where that is so of its place
 pub all_hold_again : {U : Type 0} (holds : Place → U → Bool) (open_at : Place → U) (ps : List Place) →
@@ -354,11 +304,13 @@ as_tabulated tables n long = ap (λ (xs : List Slot). record { slots = xs })
         slice_get (tabulated read n).slots k ≡ Some y → x ≡ y
     same k q l x y below short is here there =
         let here' : slot_at tables q l ≡ Some x = ap (slice_get tables.slots) (sym is) ∙ here in
-        let there' : slot_at (tabulated read n) q l ≡ Some y = ap (slice_get (tabulated read n).slots) (sym is) ∙ there in
+        let there' : slot_at (tabulated read n) q l ≡ Some y = ap (slice_get (tabulated read n).slots) (sym is)
+        ∙ there in
         let found : Some (read q l) ≡ Some y = sym (tabulated-at read n q l below short) ∙ there' in
         ap (λ o. unwrap_or o empty_slot) (sym here') ∙ same_Some (read q l) y found
 
-    each : (k : ℕ) (x y : Slot) → slice_get tables.slots k ≡ Some x → slice_get (tabulated read n).slots k ≡ Some y → x ≡ y
+    each : (k : ℕ) (x y : Slot) → slice_get tables.slots k ≡ Some x → slice_get (tabulated read n).slots k ≡ Some y →
+        x ≡ y
     each k x y here there =
         let within = slice_get_within tables.slots k x here in
         let found = split n k (omega (arith, within, long)) in

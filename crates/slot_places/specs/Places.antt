@@ -1,6 +1,7 @@
 -- The places of a plan: each router has one at each length at which a slice stands.
-use Rattle.std.specs.Prelude.{ℕ, zero, suc, ◌==◌, ◌&&◌, ◌⊎◌, ◌≡◌, ◌<◌, Bool, List, [], ◌∷◌, ◌++◌, map, Option, Some, None}
-use Rattle.std.specs.Prelude.{if◌then◌else◌}
+use Rattle.std.specs.Prelude.{ℕ, zero, suc, ◌==◌, ◌&&◌, ◌⊎◌, ◌≡◌, ◌<◌, Bool, List, [], ◌∷◌, ◌++◌, map, Option, Some}
+use Rattle.std.specs.Prelude.{None, if◌then◌else◌}
+use Rattle.std.specs.List.{list_any}
 use Rattle.route_record.specs.declared.Plan.{Plan}
 use Rattle.slot_places.specs.declared.places.Place.{Place}
 use Rattle.slot_places.specs.Plans.{lens_of}
@@ -20,6 +21,10 @@ places_of plan routers = places_below (lens_of plan) routers
 -- the place is that router's at that length
 abbrev pub is_at : ℕ → ℕ → Place → Bool
 is_at router len p = (p.router == router) && (p.len == len)
+
+-- one of the places is
+abbrev pub has_place : List Place → ℕ → ℕ → Bool
+has_place places router len = list_any (is_at router len) places
 
 -- of an earlier router, or of the same one at a shorter length
 abbrev pub IsBefore : Place → Place → Type 0

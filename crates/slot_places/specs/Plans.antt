@@ -1,6 +1,6 @@
 -- At which prefix lengths the slices of a plan stand: slice i of a class at the class's length i, ascending.
-use Rattle.std.specs.Prelude.{ℕ, zero, suc, ◌==◌, Bool, false, List, [], ◌∷◌, ◌++◌, nat_lt, slice_get, take, unwrap_or}
-use Rattle.std.specs.Prelude.{if◌then◌else◌}
+use Rattle.std.specs.Prelude.{ℕ, zero, suc, ◌==◌, Bool, false, List, [], ◌∷◌, ◌++◌, nat_lt, replicate, slice_get}
+use Rattle.std.specs.Prelude.{take, unwrap_or, if◌then◌else◌}
 use Rattle.std.specs.List.{count_by}
 use Rattle.std.specs.Option.{option_map_or}
 use Rattle.route_record.specs.declared.Plan.{Plan}
@@ -24,3 +24,12 @@ lens_below plan (suc len) = lens_below plan len ++ (if has_slice plan len then l
 -- all of them, ascending
 abbrev pub lens_of : Plan → List ℕ
 lens_of plan = lens_below plan LENGTHS
+
+-- ---- the plan in which each length is a class of its own
+
+unfoldable pub numbers_below : ℕ → List ℕ
+numbers_below zero = []
+numbers_below (suc n) = numbers_below n ++ n ∷ []
+
+unfoldable pub single_plan : Plan
+single_plan = record { class = numbers_below LENGTHS; slices = replicate LENGTHS 1 }

@@ -1,18 +1,22 @@
 -- Which slots of a routing can hold an OSPF route, and what it can be; which can hold anything.
-use Rattle.std.specs.Prelude.{ℕ, zero, suc, ◌+◌, ◌*◌, ◌^◌, ◌<◌, ◌==◌, ◌&&◌, ◌||◌, Bool, false, List, [], ◌∷◌, ◌++◌, Option, Some}
-use Rattle.std.specs.Prelude.{None, fold, is_some, length, map, max, option_and_then, slice_get}
+use Rattle.std.specs.Prelude.{ℕ, zero, suc, ◌+◌, ◌*◌, ◌^◌, ◌<◌, ◌==◌, ◌&&◌, ◌||◌, ◌≡◌, Bool, true, false, List, []}
+use Rattle.std.specs.Prelude.{◌∷◌, ◌++◌, Option, Some}
+use Rattle.std.specs.Prelude.{None, filter, fold, is_some, length, map, max, option_and_then, slice_get}
 use Rattle.std.specs.Prelude.{if◌then◌else◌}
 use Rattle.std.specs.List.{list_any}
 use Rattle.std.specs.Option.{option_map_or}
 use Rattle.mw_text.specs.declared.address.Prefix.{Prefix}
 use Rattle.ios_ast.specs.declared.file.File.{File}
 use Rattle.route_record.specs.declared.OspfRec.{OspfRec}
+use Rattle.route_record.specs.declared.Plan.{Plan}
 use Rattle.route_record.specs.declared.TheConstants.{LENGTHS}
 use Rattle.net_interfaces.specs.Interfaces.{addressed}
 use Rattle.net_parts.specs.Ospf.{adjacencies}
 use Rattle.net_parts.specs.OspfRoutes.{kind_rank}
+use Rattle.slot_places.specs.declared.places.Place.{Place}
 use Rattle.slot_places.specs.declared.rooms.Room.{Room}
 use Rattle.slot_places.specs.Origins.{is_static_at, is_subnet_at, origins_at}
+use Rattle.slot_places.specs.Plans.{has_slice}
 use Rattle.slot_places.specs.Values.{FitsField, field_of, once, width_for}
 
 -- ---- rooms
@@ -25,7 +29,7 @@ dearest_of routes = fold (λ most r. max most r.cost) 0 routes
 abbrev pub dearest_walk : List File → ℕ
 dearest_walk files = length files * fold (λ most a. max most a.cost) 0 (adjacencies files)
 
--- the kinds, the metrics and the costs that routes can have which come from these by a walk that costs no more than that
+-- the kinds, metrics and costs of routes that come from these by a walk that costs no more than that
 abbrev pub room_around : List OspfRec → ℕ → Room
 room_around origins walk = record {
   kind = field_of (once (map (λ r. kind_rank r.kind) origins));
@@ -82,4 +86,13 @@ abbrev pub can_be_used : List File → Prefix → ℕ → ℕ → Bool
 can_be_used files destinations router len =
     (has_subnet files destinations router len
     || option_map_or (has_sources destinations len) (slice_get files router) false)
-    || is_some (room_for files destinations router len)
+    || is_some (room_among files (rooms_of files destinations) router len)
+
+-- of some places those at which something can stand
+abbrev pub used_among : List File → Prefix → List Place → List Place
+used_among files destinations places = filter (λ p. can_be_used files destinations p.router p.len) places
+
+-- at each length at which something can stand at some router the plan has a slice
+abbrev pub HasUsed : List File → Prefix → Plan → Type 0
+HasUsed files destinations plan = (router len : ℕ) → router < length files → len < LENGTHS →
+    can_be_used files destinations router len ≡ true → has_slice plan len ≡ true

@@ -1,6 +1,6 @@
 -- How a formula tells a number of which it is known that it is one of some values.
-use Rattle.std.specs.Prelude.{ℕ, zero, suc, ◌-◌, ◌^◌, ◌<◌, ◌≤◌, ◌==◌, List, [], ◌∷◌, ◌++◌, Contains, fold, length, max}
-use Rattle.std.specs.Prelude.{nat_le, nat_lt, slice_index, if◌then◌else◌}
+use Rattle.std.specs.Prelude.{ℕ, zero, suc, ◌-◌, ◌^◌, ◌<◌, ◌≤◌, ◌==◌, List, [], ◌∷◌, ◌++◌, Contains, fold, length}
+use Rattle.std.specs.Prelude.{max, nat_le, nat_lt, slice_index, if◌then◌else◌}
 use Rattle.ios_ast.specs.Deciding.{carries}
 use Rattle.slot_places.specs.declared.fields.Field.{Field}
 use Rattle.slot_places.specs.declared.fields.Field.TheVariants.{Bits, Among}

@@ -3,6 +3,7 @@
 ghost use Rattle.std.specs.Prelude.{◌≡◌, ◌==◌, ◌++◌, ◌<◌, IfOk, IfSome, OnOk, length, map, position, slice_get, unwrap_or};
 ghost use Rattle.std.specs.List.{count_by};
 ghost use Rattle.std.specs.Option.{option_copied};
+ghost use Rattle.route_record.specs.declared.TheConstants as constants;
 ghost use Rattle.slot_places.specs.Places as standing;
 ghost use Rattle.slot_places.specs.Plans as plans;
 
@@ -65,6 +66,31 @@ pub fn lens_of(alloc: Global, plan: &Plan) -> Result<Vec<u8>, AllocError>
         }
     }
     Ok(lens)
+}
+
+// All lengths, ascending.
+#[tactic(auto, using(crate::proofs::PlaceSteps::numbers_more, crate::proofs::PlaceSteps::numbers_none))]
+fn all_lengths(alloc: Global) -> Result<List<u8>, AllocError>
+    ensures { IfOk result (λ all. all ≡ plans.numbers_below constants.LENGTHS) }
+{
+    let mut all = List::new(alloc);
+    for len in 0..LENGTHS as u8 {
+        all.items.push(len)?;
+    }
+    Ok(all)
+}
+
+/// The plan in which each prefix length is a class of its own, with one slice.
+#[tactic(auto, unfolding(crate::specs::Plans::single_plan))]
+pub fn single_plan(alloc: Global) -> Result<Plan, AllocError>
+    ensures { IfOk result (λ plan. plan ≡ plans.single_plan) }
+{
+    let class = all_lengths(alloc)?;
+    let slices = vec![in alloc; 1u8; LENGTHS]?;
+    Ok(Plan {
+        class,
+        slices: List { items: slices },
+    })
 }
 
 // Puts the places of a router at the end.

@@ -1,18 +1,19 @@
 //! Which slots of a routing anything can stand in.
 
-ghost use Rattle.std.specs.Prelude.{◌≡◌, ◌==◌, ◌&&◌, ◌<◌};
+ghost use Rattle.std.specs.Prelude.{◌≡◌, ◌==◌, ◌&&◌, ◌++◌, ◌∷◌, [], IfOk, OnOk, if◌then◌else◌};
 ghost use Rattle.std.specs.List.{list_any};
 ghost use Rattle.net_interfaces.specs.Interfaces.{addressed};
-ghost use Rattle.route_record.specs.declared.TheConstants as constants;
 ghost use Rattle.slot_places.specs.Origins as origins;
 ghost use Rattle.slot_places.specs.Rooms as rooms;
 
 use crate::origins::{is_static_at, is_subnet_at};
+use crate::places::Place;
 use crate::rooms::{Room, room_for};
 use ios_ast::{File, StaticRoute};
-use mw_text::Prefix;
+use mw_text::{List, Prefix};
 use net_model::Addressed;
 use net_parts::ends::file_of;
+use std::alloc::{AllocError, Global};
 
 fn is_subnet_of(x: &Addressed, destinations: &Prefix, router: u32, len: u8) -> bool
     ensures { result ≡ ((x.now.id.router == router) && origins.is_subnet_at destinations.now len x.now) }
@@ -45,7 +46,6 @@ fn has_sources(destinations: &Prefix, len: u8, file: &File) -> bool
 }
 
 /// Whether anything can stand in the slot of that router and length, in some stable routing for one of the destinations.
-#[tactic(auto, using(crate::proofs::RoomSteps::room_there))]
 pub fn can_be_used(
     files: &[File],
     addresses: &[Addressed],
@@ -56,7 +56,6 @@ pub fn can_be_used(
 ) -> bool
     requires addresses { addresses.now ≡ addressed files.now }
     requires rooms { all.now ≡ rooms.rooms_of files.now destinations.now }
-    requires short { len < constants.LENGTHS }
     ensures { result ≡ rooms.can_be_used files.now destinations.now router len }
 {
     has_subnet(addresses, destinations, router, len)
@@ -65,4 +64,44 @@ pub fn can_be_used(
             Some(file) => has_sources(destinations, len, file),
         }
         || room_for(files, all, router, len).is_some()
+}
+
+// Puts a place at the end where anything can stand there.
+fn put_used(
+    used: &mut List<Place>,
+    files: &[File],
+    addresses: &[Addressed],
+    all: &[Option<Room>],
+    destinations: &Prefix,
+    p: Place,
+) -> Result<(), AllocError>
+    requires addresses { addresses.now ≡ addressed files.now }
+    requires rooms { all.now ≡ rooms.rooms_of files.now destinations.now }
+    ensures { OnOk result (used.new ≡ used.old
+        ++ (if rooms.can_be_used files.now destinations.now p.router p.len then p ∷ [] else [])) }
+{
+    if can_be_used(files, addresses, all, destinations, p.router, p.len) {
+        used.items.push(p)?;
+    }
+    Ok(())
+}
+
+/// Of some places those at which anything can stand, in their order.
+pub fn used_among(
+    alloc: Global,
+    files: &[File],
+    addresses: &[Addressed],
+    all: &[Option<Room>],
+    destinations: &Prefix,
+    places: &[Place],
+) -> Result<List<Place>, AllocError>
+    requires addresses { addresses.now ≡ addressed files.now }
+    requires rooms { all.now ≡ rooms.rooms_of files.now destinations.now }
+    ensures { IfOk result (λ used. used ≡ rooms.used_among files.now destinations.now places.now) }
+{
+    let mut used = List::new(alloc);
+    for p in places {
+        put_used(&mut used, files, addresses, all, destinations, *p)?;
+    }
+    Ok(used)
 }

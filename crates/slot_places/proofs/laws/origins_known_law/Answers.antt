@@ -7,9 +7,9 @@ use Rattle.slot_places.proofs.Known.{origins_known}
 use Rattle.slot_places.proofs.laws.origins_known_law.Goals as goal
 
 pub returns : goal.returns
-returns c files destinations destination failures environment tables len covered stable short router file process slot at
-    runs here =
+returns c files destinations destination failures environment tables len covered stable short router file process slot
+    at runs here =
     All-weaker (λ o. In o (origins_at files destinations len)) (Contains (origins_at files destinations len))
     (λ o there. in-contains o (origins_at files destinations len) there) _
-    (origins_known files destinations destination failures environment tables len covered stable short router file process
-    slot at runs here)
+    (origins_known files destinations destination failures environment tables len covered stable short router file
+    process slot at runs here)

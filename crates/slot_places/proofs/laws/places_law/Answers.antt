@@ -2,7 +2,8 @@ use Rattle.slot_places.specs.Places.{place}
 use Rattle.slot_places.specs.Plans.{lens_of}
 use Rattle.route_record.specs.declared.TheConstants.{LENGTHS}
 use Rattle.net_parts.proofs.LeastWalks.{contains-in, in-contains}
-use Rattle.slot_places.proofs.PlaceLaws.{in-lens, in-places, lens-ascend, lens-in, places-ascend, places-in, places-length}
+use Rattle.slot_places.proofs.PlaceLaws.{in-lens, in-places, lens-ascend, lens-in, places-ascend, places-in}
+use Rattle.slot_places.proofs.PlaceLaws.{places-length, single-has}
 use Rattle.slot_places.proofs.laws.places_law.Goals as goal
 
 pub returns-clause-there : goal.returns-clause-there
@@ -21,3 +22,6 @@ returns-clause-ascending c plan routers = places-ascend (lens_of plan) routers (
 
 pub returns-clause-many : goal.returns-clause-many
 returns-clause-many c plan routers = places-length (lens_of plan) routers
+
+pub returns-clause-single : goal.returns-clause-single
+returns-clause-single c len short = single-has len short
