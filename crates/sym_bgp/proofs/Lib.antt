@@ -1,0 +1,5 @@
+pub mod Marks
+pub mod Addresses
+pub mod BestSteps
+pub mod FlagSteps
+pub mod HeldSteps
