@@ -74,17 +74,17 @@ pub ruleset left_steps = (node_steps, keys_end_at, left_at, left_end, row_push, 
 -- a step that does not compare all is that of the MED within one neighbouring AS
 pub med_left : (always : Bool) (s : Step) (flags : List Bool) (keys : List Key) → compares_all always s ≡ false →
     left false keys flags Med ≡ left always keys flags s
-med_left always Weight flags keys no = cc
-med_left always Preference flags keys no = cc
-med_left always Origination flags keys no = cc
-med_left always PathLength flags keys no = cc
-med_left always Origin flags keys no = cc
-med_left always Med flags keys no = ap (λ b. left b keys flags Med) (sym no)
-med_left always Session flags keys no = cc
-med_left always Cost flags keys no = cc
-med_left always Identifier flags keys no = cc
-med_left always Clusters flags keys no = cc
-med_left always Address flags keys no = cc
+med_left always Weight flags keys differs = cc
+med_left always Preference flags keys differs = cc
+med_left always Origination flags keys differs = cc
+med_left always PathLength flags keys differs = cc
+med_left always Origin flags keys differs = cc
+med_left always Med flags keys differs = ap (λ b. left b keys flags Med) (sym differs)
+med_left always Session flags keys differs = cc
+med_left always Cost flags keys differs = cc
+med_left always Identifier flags keys differs = cc
+med_left always Clusters flags keys differs = cc
+med_left always Address flags keys differs = cc
 
 pub best_left : (always : Bool) (s : Step) (flags : List Bool) (keys : List Key) → compares_all always s ≡ true →
     kept_by (is_greater_better s) (best_of (is_greater_better s) flags (map (compared_number s) keys)) flags
