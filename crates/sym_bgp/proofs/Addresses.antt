@@ -1,13 +1,13 @@
 -- Fields of 33 bits, of which the highest says that there is an address.
-use Rattle.std.proofs.Common.{◌≡◌, ℕ, zero, suc, ◌+◌, ◌-◌, ◌*◌, ◌^◌, ◌<◌, ◌≤◌, Bool, true, false, not, nat_lt, List, []}
+use Rattle.std.proofs.Common.{◌≡◌, ℕ, zero, suc, ◌+◌, ◌-◌, ◌*◌, ◌^◌, ◌<◌, ◌≤◌, Bool, true, false, not, List, []}
 use Rattle.std.proofs.Common.{◌∷◌, if◌then◌else◌, length, take, get_or, sym, ap, subst, ◌∙◌, refl, arith}
 use Rattle.std.proofs.Math.Nat.{pow-succ'}
 use Rattle.std.proofs.lemmas.Bool.Decides.{nat_tests}
 use Rattle.std.proofs.lemmas.List.{length-take-le}
 use Rattle.term_store.specs.declared.NodeId.{NodeId}
 use Rattle.term_store.specs.Terms.{Reading, at}
-use Rattle.term_arith.specs.Bits.{bit, number}
-use Rattle.term_arith.proofs.NumberLemmas.{ids_end_take, node_steps, number_below}
+use Rattle.term_arith.specs.Bits.{bit, number, ids_end}
+use Rattle.term_arith.proofs.NumberLemmas.{ids_end_at, ids_end_take, number_below}
 use Rattle.bgp_shapes.specs.Candidates.{address_or}
 use Rattle.bgp_shapes.specs.Messages.{lacks_address}
 
@@ -25,7 +25,7 @@ split_last w (id ∷ ids) (suc k) d h =
 
 low_below : (w : Reading) (ids : List NodeId) → length ids ≡ 33 → number w (take 32 ids) < 2 ^ 32
 low_below w ids h =
-    let size : length (take 32 ids) ≡ 32 = length-take-le 32 ids (omega arith) in
+    let size : length (take 32 ids) ≡ 32 = length-take-le 32 ids (omega (arith, h)) in
     let P : ℕ → Type 0 = λ k. number w (take 32 ids) < 2 ^ k in
     subst P size (number_below w (take 32 ids))
 
@@ -54,7 +54,20 @@ address_low w ids d h = (
     by_bit true n low is there = omega arith
     by_bit false n low is there = cc
 
-pub ruleset address_steps = (node_steps, ids_end_take, address_there, address_low)
+-- these are 32 bits
+pub low_count : (ids : List NodeId) → length ids ≡ 33 → length (take 32 ids) ≡ 32
+low_count ids h = length-take-le 32 ids (omega (arith, h))
+
+pub count_low : (ids : List NodeId) → length ids ≡ 33 → 32 ≡ length (take 32 ids)
+count_low ids h = sym (low_count ids h)
+
+-- and stand where all stand
+pub low_within : (field ids low : List NodeId) → low ≡ take 32 ids → ids ≡ field → ids_end low ≤ ids_end field
+low_within field ids low low_is ids_is =
+    subst (λ xs. ids_end low ≤ ids_end xs) ids_is
+    (subst (λ xs. ids_end xs ≤ ids_end ids) (sym low_is) (ids_end_take ids 32))
+
+pub ruleset address_steps = (ids_end_at, low_count, count_low, low_within, address_there, address_low)
 
 -- the address where there is one, and else another number
 pub address_chosen : (there : Bool) (n low other : ℕ) → not there ≡ lacks_address n →

@@ -1,19 +1,19 @@
 -- Candidates, one after another, and what their flags say of a held route.
 use Rattle.std.proofs.Common.{◌≡◌, ℕ, zero, suc, ◌+◌, ◌<◌, ◌≤◌, ◌&&◌, ◌||◌, Bool, true, false, not, List, [], ◌∷◌, ◌++◌}
-use Rattle.std.proofs.Common.{length, drop, get_or, map, max, if◌then◌else◌, Option, Some, None, refl, sym, ap, ◌∙◌}
+use Rattle.std.proofs.Common.{length, drop, get_or, map, max, if◌then◌else◌, Some, None, refl, sym, ap, ◌∙◌}
 use Rattle.std.proofs.Common.{arith}
 use Rattle.std.specs.List.{cons_option, filter_map, list_any}
 use Rattle.std.proofs.lemmas.Grind.{common_steps}
 use Rattle.std.proofs.lemmas.List.{append-nil, append_assoc, drop_all, drop_more, map-append}
 use Rattle.term_store.specs.declared.NodeId.{NodeId}
 use Rattle.term_store.specs.Terms.{Reading, at}
-use Rattle.term_arith.specs.Bits.{bits}
-use Rattle.term_arith.proofs.NumberLemmas.{node_steps}
+use Rattle.term_arith.specs.Bits.{bits, ids_end}
+use Rattle.term_arith.proofs.NumberLemmas.{ids_end_push, node_steps}
 use Rattle.route_shapes.specs.Bgp.{BgpShape}
 use Rattle.sym_policy.specs.declared.records.SymBgp.{SymBgp}
 use Rattle.sym_policy.specs.Held.{bgp_at, bgp_of}
 use Rattle.bgp_shapes.specs.Candidates.{ShapeCandidate, shape_key}
-use Rattle.bgp_shapes.specs.Flags.{any_flagged, is_held, pick, surviving}
+use Rattle.bgp_shapes.specs.Flags.{any_flagged, pick, surviving}
 use Rattle.bgp_shapes.specs.Held.{held_shape, same_shape}
 use Rattle.bgp_shapes.proofs.FlagLaw.{held_picked}
 use Rattle.sym_bgp.specs.declared.parts.SymCand.{SymCand}
@@ -33,47 +33,78 @@ pub keys_end_push : (ks : List SymKey) (k : SymKey) → keys_end (ks ++ k ∷ []
 keys_end_push [] k = omega arith
 keys_end_push (x ∷ ks) k = let rest = keys_end_push ks k in omega (arith, rest)
 
-pub valid_push : (cs : List SymCand) (out : List NodeId) (i : ℕ) (d : SymCand) → i < length cs →
-    (out ++ (get_or cs i d).rec.valid ∷ []) ++ map (λ c. c.rec.valid) (drop (i + 1) cs)
-    ≡ out ++ map (λ c. c.rec.valid) (drop i cs)
-valid_push cs out i d h =
-    append_assoc out _ _ ∙ ap (λ xs. out ++ map (λ c. c.rec.valid) xs) (sym (drop_more cs i d h))
+-- one more candidate, of which the node is put that says whether it is there
+pub valid_more : (cs : List SymCand) (out : List NodeId) (i : ℕ) (c : SymCand) → i < length cs → c ≡ get_or cs i c →
+    (out ++ c.rec.valid ∷ []) ++ map (λ c. c.rec.valid) (drop (i + 1) cs) ≡ out ++ map (λ c. c.rec.valid) (drop i cs)
+valid_more cs out i c h here =
+    append_assoc out (c.rec.valid ∷ []) (map (λ c. c.rec.valid) (drop (i + 1) cs))
+    ∙ ap (λ (x : SymCand). out ++ x.rec.valid ∷ map (λ c. c.rec.valid) (drop (i + 1) cs)) here
+    ∙ ap (λ xs. out ++ map (λ c. c.rec.valid) xs) (sym (drop_more cs i c h))
+
+pub valid_within : (cs : List SymCand) (out : List NodeId) (i : ℕ) (c : SymCand) → i < length cs → c ≡ get_or cs i c →
+    ids_end out ≤ candidates_end cs → ids_end (out ++ c.rec.valid ∷ []) ≤ candidates_end cs
+valid_within cs out i c h here before =
+    let all = candidates_end_at cs i c h in
+    let end = ap candidate_end here in
+    let pushed = ids_end_push out c.rec.valid in
+    omega (arith, all, end, pushed, before)
 
 pub valid_end : (cs : List SymCand) (out : List NodeId) (i : ℕ) → length cs ≤ i →
     out ++ map (λ c. c.rec.valid) (drop i cs) ≡ out
 valid_end cs out i h = ap (λ xs. out ++ map (λ c. c.rec.valid) xs) (drop_all i cs h) ∙ append-nil out
 
-pub ruleset valid_steps = (node_steps, candidates_end_at, valid_push, valid_end)
+pub ruleset valid_steps = (node_steps, valid_end)
 
-pub key_push : (w : Reading) (cs : List SymCand) (out : List SymKey) (k : SymKey) (i : ℕ) (d : SymCand) →
-    i < length cs → key_at w k ≡ shape_key (candidate_at w (get_or cs i d)) →
+-- a list of keys with one more, in a store that has grown
+pub key_within : (out after : List SymKey) (k : SymKey) (old new : ℕ) → after ≡ out ++ k ∷ [] → keys_end out ≤ old →
+    old ≤ new → key_end k ≤ new → keys_end after ≤ new
+key_within out after k old new after_is before grows here =
+    let pushed = ap keys_end after_is ∙ keys_end_push out k in omega (arith, pushed, before, grows, here)
+
+-- one more key, that of this candidate
+pub key_more : (w : Reading) (cs : List SymCand) (out : List SymKey) (k : SymKey) (i : ℕ) (c : SymCand) →
+    i < length cs → c ≡ get_or cs i c → key_at w k ≡ shape_key (candidate_at w c) →
     keys_at w (out ++ k ∷ []) ++ map shape_key (map (candidate_at w) (drop (i + 1) cs))
     ≡ keys_at w out ++ map shape_key (map (candidate_at w) (drop i cs))
-key_push w cs out k i d h is =
-    ap (λ xs. xs ++ map shape_key (map (candidate_at w) (drop (i + 1) cs))) (map-append (key_at w) out (k ∷ []))
-    ∙ append_assoc (keys_at w out) _ _
-    ∙ ap (λ x. keys_at w out ++ x ∷ map shape_key (map (candidate_at w) (drop (i + 1) cs))) is
-    ∙ ap (λ xs. keys_at w out ++ map shape_key (map (candidate_at w) xs)) (sym (drop_more cs i d h))
+key_more w cs out k i c h here is =
+    let rest = map shape_key (map (candidate_at w) (drop (i + 1) cs)) in
+    ap (λ xs. xs ++ rest) (map-append (key_at w) out (k ∷ []))
+    ∙ append_assoc (keys_at w out) (key_at w k ∷ []) rest
+    ∙ ap (λ x. keys_at w out ++ x ∷ rest) is
+    ∙ ap (λ x. keys_at w out ++ shape_key (candidate_at w x) ∷ rest) here
+    ∙ ap (λ xs. keys_at w out ++ map shape_key (map (candidate_at w) xs)) (sym (drop_more cs i c h))
 
 pub key_end_all : (w : Reading) (cs : List SymCand) (out : List SymKey) (i : ℕ) → length cs ≤ i →
     keys_at w out ++ map shape_key (map (candidate_at w) (drop i cs)) ≡ keys_at w out
 key_end_all w cs out i h =
     ap (λ xs. keys_at w out ++ map shape_key (map (candidate_at w) xs)) (drop_all i cs h) ∙ append-nil (keys_at w out)
 
-pub ruleset key_steps = (common_steps, candidates_end_at, keys_end_push, key_push, key_end_all)
+pub ruleset key_steps = (common_steps, candidates_end_at, keys_end_push, key_end_all)
 
--- one more candidate that may be held. The first half shows which
-pub held_at : (w : Reading) (flags : List NodeId) (cs : List SymCand) (s : BgpShape) (i : ℕ) (d : NodeId)
-    (e : SymCand) → i < length flags → i < length cs →
-    ((at w (get_or flags i d) && same_shape (candidate_at w (get_or cs i e)).rec s)
-    ≡ (at w (get_or flags i d) && same_shape (candidate_at w (get_or cs i e)).rec s))
-    × (any_flagged (λ (c : ShapeCandidate). same_shape c.rec s) (bits w (drop i flags))
-    (map (candidate_at w) (drop i cs))
-    ≡ ((at w (get_or flags i d) && same_shape (candidate_at w (get_or cs i e)).rec s)
-    || any_flagged (λ (c : ShapeCandidate). same_shape c.rec s) (bits w (drop (i + 1) flags))
-    (map (candidate_at w) (drop (i + 1) cs))))
-held_at w flags cs s i d e in_flags in_cs =
-    (refl, flagged_more w (candidate_at w) (λ (c : ShapeCandidate). same_shape c.rec s) flags cs i d e in_flags in_cs)
+-- one more candidate that may be held
+pub held_more : (w : Reading) (flags : List NodeId) (cs : List SymCand) (s : BgpShape) (i : ℕ) (d : NodeId)
+    (c : SymCand) → i < length flags → i < length cs → c ≡ get_or cs i c →
+    (before now here all : Bool) → now ≡ (before || here) →
+    here ≡ (at w (get_or flags i d) && same_shape (candidate_at w c).rec s) →
+    (before || any_flagged (λ (c : ShapeCandidate). same_shape c.rec s) (bits w (drop i flags))
+    (map (candidate_at w) (drop i cs))) ≡ all →
+    (now || any_flagged (λ (c : ShapeCandidate). same_shape c.rec s) (bits w (drop (i + 1) flags))
+    (map (candidate_at w) (drop (i + 1) cs))) ≡ all
+held_more w flags cs s i d c in_flags in_cs at_place before now here all now_is here_is before_is =
+    let test : ShapeCandidate → Bool = λ c. same_shape c.rec s in
+    let flag = at w (get_or flags i d) in
+    let rest = any_flagged test (bits w (drop (i + 1) flags)) (map (candidate_at w) (drop (i + 1) cs)) in
+    ap (λ b. b || rest) now_is
+    ∙ or_assoc before here rest
+    ∙ ap (λ b. before || (b || rest)) here_is
+    ∙ ap (λ x. before || ((flag && test (candidate_at w x)) || rest)) at_place
+    ∙ ap (λ b. before || b)
+    (sym (flagged_more w (candidate_at w) test flags cs i d c in_flags in_cs))
+    ∙ before_is
+  where
+    or_assoc : (a b c : Bool) → ((a || b) || c) ≡ (a || (b || c))
+    or_assoc true b c = refl
+    or_assoc false b c = refl
 
 pub held_end : (w : Reading) (flags : List NodeId) (cs : List SymCand) (s : BgpShape) (i : ℕ) → length flags ≤ i →
     any_flagged (λ (c : ShapeCandidate). same_shape c.rec s) (bits w (drop i flags)) (map (candidate_at w) (drop i cs))
@@ -81,7 +112,7 @@ pub held_end : (w : Reading) (flags : List NodeId) (cs : List SymCand) (s : BgpS
 held_end w flags cs s i past =
     flagged_end w (candidate_at w) (λ (c : ShapeCandidate). same_shape c.rec s) flags cs i past
 
-pub ruleset held_steps = (node_steps, common_steps, candidates_end_at, held_at, held_end)
+pub ruleset held_steps = (node_steps, common_steps, candidates_end_at, held_end)
 
 -- ---- the candidates that are there
 

@@ -1,5 +1,5 @@
 -- Marks as numbers: of one mark, and of a row of them.
-use Rattle.std.proofs.Common.{◌≡◌, ℕ, ◌+◌, ◌*◌, Bool, true, false, if◌then◌else◌, List, [], ◌∷◌, refl, ap, ◌∙◌}
+use Rattle.std.proofs.Common.{◌≡◌, ◌+◌, ◌*◌, Bool, true, false, if◌then◌else◌, List, [], ◌∷◌, refl, ap, ◌∙◌}
 use Rattle.term_store.specs.declared.NodeId.{NodeId}
 use Rattle.term_store.specs.Terms.{Reading, at}
 use Rattle.term_arith.specs.Bits.{bit, bits, number}

@@ -43,8 +43,9 @@ fn address_of(alloc: Global, field: &Bits) -> Result<SymAddress, AllocError>
     ensures lacks { IfOk result (λ r. (w : Reading) → not (at w r.there) ≡ lacks_address (number w field.now.nodes.items)) }
     ensures value { IfOk result (λ r. (w : Reading) → at w r.there ≡ true → number w r.number.nodes.items ≡ number w field.now.nodes.items - 2 ^ 32) }
 {
-    let there = field.nodes.as_slice()[32];
-    let nodes = Vec::from_slice(alloc, &field.nodes.as_slice()[..32])?;
+    let ids = field.nodes.as_slice();
+    let there = ids[32];
+    let nodes = Vec::from_slice(alloc, &ids[..32])?;
     Ok(SymAddress {
         there,
         number: Bits { nodes },
