@@ -2,7 +2,7 @@
 use Rattle.std.proofs.Common.{◌≡◌, ℕ, ◌+◌, ◌==◌, ◌&&◌, Bool, true, false, not, if◌then◌else◌, List, [], ◌∷◌, ◌++◌}
 use Rattle.std.proofs.Common.{Option, Some, None, map, filter, refl, sym, ap, ◌∙◌}
 use Rattle.std.specs.Prelude.{slice_get}
-use Rattle.std.specs.List.{cons_option, filter_map, find}
+use Rattle.std.specs.List.{cons_option, enumerate_from, filter_map, find}
 use Rattle.std.specs.Option.{option_and_then, option_map, option_map_or}
 use Rattle.std.proofs.lemmas.List.{map-append}
 use Rattle.mw_text.specs.declared.address.Addr.{Addr}
@@ -23,7 +23,7 @@ use Rattle.route_record.proofs.Saturated.{saturated-none}
 use Rattle.net_parts.specs.declared.sessions.Far.{Far}
 use Rattle.net_parts.specs.declared.sessions.Far.TheVariants.{Outside, Inside}
 use Rattle.net_parts.specs.declared.sessions.SessionEnd.{SessionEnd}
-use Rattle.net_parts.specs.Decisions.{Candidate, arriving, candidates, learnt_candidate, local_candidate, numbered}
+use Rattle.net_parts.specs.Decisions.{Candidate, arriving, candidates, candidates_from, learnt_candidate, local_candidate}
 use Rattle.net_parts.specs.Decisions.{peer_identifier}
 use Rattle.net_parts.specs.Exports.{announced_message, exported, imported}
 use Rattle.net_parts.specs.Origins.{local_routes}
@@ -33,7 +33,7 @@ use Rattle.route_shapes.specs.Bgp.{BgpShape, bgp_shape}
 use Rattle.bgp_shapes.specs.Candidates.{ShapeAnnouncement, ShapeCandidate, ShapeSlot, announcement_shape}
 use Rattle.bgp_shapes.specs.Candidates.{candidate_shape, environment_shape, shape_announced, shape_arriving}
 use Rattle.bgp_shapes.specs.Candidates.{shape_candidates, shape_learnt, shape_local, shape_local_routes, slot_shape}
-use Rattle.bgp_shapes.specs.Candidates.{slots_shape, with_ids}
+use Rattle.bgp_shapes.specs.Candidates.{slots_shape}
 use Rattle.bgp_shapes.specs.Exporting.{shape_exported}
 use Rattle.bgp_shapes.specs.Importing.{shape_imported}
 use Rattle.bgp_shapes.specs.Messages.{message_shape}
@@ -157,13 +157,6 @@ taken_shape : (tracked : Tracked) (files : List File) (end : SessionEnd) (p : Pr
 taken_shape tracked files end p None tracks = refl
 taken_shape tracked files end p (Some m) tracks = imported_shape tracked files end p m tracks
 
--- the identifier of a peer is that of its router or of the environment, whatever is announced
-identifier_from : (files : List File) (environment : Environment) (at : ℕ) (end : SessionEnd) (far : Far) →
-    peer_identifier files environment at (record end { far = far })
-    ≡ peer_identifier files (with_ids environment.ids) at (record end { far = far })
-identifier_from files environment at end Outside = refl
-identifier_from files environment at end (Inside far_at) = refl
-
 resolved_shape : (tracked : Tracked) (external : Bool) (id : Addr) (costs : Addr → Option ℕ) (o : Option BgpRec) →
     option_map (candidate_shape tracked) (option_and_then (λ rec. option_map (λ cost. record {
       rec = rec;
@@ -199,40 +192,23 @@ where_up : {X Y : Type 0} (f : X → Y) (b : Bool) (o : Option X) (s : Option Y)
 where_up f true o s same = same
 where_up f false o s same = refl
 
-learnt_shape : (tracked : Tracked) (files : List File) (failures : Failures) (environment : Environment)
-    (tables : Tables) (p : Prefix) (e : ℕ × SessionEnd) → TracksTests files tracked →
-    option_map (candidate_shape tracked) (learnt_candidate files failures environment tables p e)
-    ≡ shape_learnt tracked files failures environment.ids p e.0 e.1
-    (shape_arriving tracked files (environment_shape tracked environment) (slots_shape tracked tables p.len) p e.0 e.1)
-learnt_shape tracked files failures environment tables p (at, end) tracks =
-    let message = arriving files environment tables p at end in
-    let id = peer_identifier files environment at end in
+-- the shape of what was received decides
+learnt_shape : (tracked : Tracked) (files : List File) (failures : Failures) (ids : List Addr) (p : Prefix) (at : ℕ)
+    (end : SessionEnd) (received : Option BgpMsg) → TracksTests files tracked →
+    option_map (candidate_shape tracked) (learnt_candidate files failures ids p at end received)
+    ≡ shape_learnt tracked files failures ids p at end (option_map (message_shape tracked) received)
+learnt_shape tracked files failures ids p at end received tracks =
+    let id = peer_identifier files ids at end in
     let costs = resolved files failures end.router in
     where_up (candidate_shape tracked) (session_up files failures end) _ _
-    (resolved_shape tracked (not end.internal) id costs (option_and_then (imported files end p) message)
+    (resolved_shape tracked (not end.internal) id costs (option_and_then (imported files end p) received)
     ∙ ap (option_and_then (λ s. option_map (λ cost. record {
       rec = s;
       external = not end.internal;
       cost = cost;
       peer_id = id.0;
     }) (costs (record { 0 = s.next_hop }))))
-    (sym (taken_shape tracked files end p message tracks)
-    ∙ ap (option_and_then (shape_imported tracked files end p))
-    (arriving_shape tracked files environment tables p at end tracks)))
-    ∙ ap (λ (i : Addr). shape_learnt_as i) (identifier_from files environment at end end.far)
-  where
-    shape_learnt_as : Addr → Option ShapeCandidate
-    shape_learnt_as i =
-        if session_up files failures end
-        then option_and_then (λ s. option_map (λ cost. record {
-          rec = s;
-          external = not end.internal;
-          cost = cost;
-          peer_id = i.0;
-        }) (resolved files failures end.router (record { 0 = s.next_hop })))
-        (option_and_then (shape_imported tracked files end p)
-        (shape_arriving tracked files (environment_shape tracked environment) (slots_shape tracked tables p.len) p at end))
-        else None
+    (sym (taken_shape tracked files end p received tracks)))
 
 -- what a call gives of items, each of which a function takes to what another call gives
 kept_shape : {X Y Z : Type 0} (f : Y → Z) (g : X → Option Y) (h : X → Option Z) →
@@ -252,11 +228,13 @@ pub candidates_shape : (tracked : Tracked) (files : List File) (failures : Failu
     map (candidate_shape tracked) (candidates files failures environment tables router file process p)
     ≡ shape_candidates tracked files failures (environment_shape tracked environment)
     (slots_shape tracked tables p.len) router file process p
-unfolding candidates shape_candidates
+unfolding candidates candidates_from shape_candidates
 candidates_shape tracked files failures environment tables router file process p tracks =
     let own = option_map_or (local_routes files router file process p) (slot_at tables router p.len) [] in
-    let ends = filter (λ e. e.1.router == router) (numbered 0 (ends_of files)) in
-    let learnt = learnt_candidate files failures environment tables p in
+    let ends = filter (λ e. e.1.router == router) (enumerate_from 0 (ends_of files)) in
+    let received = arriving files environment tables p in
+    let learnt : ℕ × SessionEnd → Option Candidate =
+    λ e. learnt_candidate files failures environment.ids p e.0 e.1 (received e.0 e.1) in
     let arrived = shape_arriving tracked files (environment_shape tracked environment)
     (slots_shape tracked tables p.len) p in
     map-append (candidate_shape tracked) (map (local_candidate files router) own) (filter_map learnt ends)
@@ -268,4 +246,6 @@ candidates_shape tracked files failures environment tables router file process p
     (slots_shape tracked tables p.len router) []) ++ cs)
     (kept_shape (candidate_shape tracked) learnt
     (λ (e : ℕ × SessionEnd). shape_learnt tracked files failures environment.ids p e.0 e.1 (arrived e.0 e.1))
-    (λ e. learnt_shape tracked files failures environment tables p e tracks) ends)
+    (λ e. learnt_shape tracked files failures environment.ids p e.0 e.1 (received e.0 e.1) tracks
+    ∙ ap (shape_learnt tracked files failures environment.ids p e.0 e.1)
+    (arriving_shape tracked files environment tables p e.0 e.1 tracks)) ends)

@@ -5,7 +5,7 @@ use Rattle.std.proofs.Common.{◌≡◌, ℕ, zero, suc, ◌+◌, ◌*◌, ◌^�
 use Rattle.std.proofs.Common.{Bool, true, false, List, [], ◌∷◌, ◌++◌, length, get_or, map, filter, fold, if◌then◌else◌}
 use Rattle.std.proofs.Common.{Option, Some, None, refl, sym, ap, ◌∙◌, subst, arith, eqb}
 use Rattle.std.specs.Prelude.{All, Any, IfSome, MatchOption, nat_le, option_and_then, option_map, slice_get, unwrap_or}
-use Rattle.std.specs.List.{cons_option, filter_map, find, list_any, range_with_len}
+use Rattle.std.specs.List.{cons_option, enumerate_from, filter_map, find, list_any, range_with_len}
 use Rattle.std.specs.Option.{option_map_or}
 use Rattle.std.proofs.lemmas.Bool.{and_parts, cases_Bool, eq-eqb, eqb-true, leb-true, or_left, or_right}
 use Rattle.std.proofs.lemmas.Bool.Decides.{nat_tests}
@@ -45,7 +45,8 @@ use Rattle.net_parts.specs.declared.sessions.Far.TheVariants.{Outside, Inside}
 use Rattle.net_parts.specs.declared.sessions.SessionEnd.{SessionEnd}
 use Rattle.net_parts.specs.declared.steps.Step.{Step}
 use Rattle.net_parts.specs.Decisions.{Candidate, DecidedByBgp, IsHeld, Key, after_cost, arriving, candidates}
-use Rattle.net_parts.specs.Decisions.{compared_by, is_compared_by, key_of, learnt_candidate, local_candidate, numbered}
+use Rattle.net_parts.specs.Decisions.{candidates_from}
+use Rattle.net_parts.specs.Decisions.{compared_by, is_compared_by, key_of, learnt_candidate, local_candidate}
 use Rattle.net_parts.specs.Decisions.{peer_identifier, removes, step_by, survivors, survivors_by, to_cost}
 use Rattle.net_parts.specs.Exports as exports
 use Rattle.ios_ast.specs.Maps.{through_map}
@@ -256,19 +257,19 @@ module _ (files : List File) (failures : Failures) (environment : Environment) (
   IsFrom router rec = IsBare rec ⊎ IsLearnt router rec
 
   all_numbered : (first : ℕ) (ends : List SessionEnd) →
-      All (λ (e : ℕ × SessionEnd). (k : ℕ) × (slice_get ends k ≡ Some e.1)) (numbered first ends)
+      All (λ (e : ℕ × SessionEnd). (k : ℕ) × (slice_get ends k ≡ Some e.1)) (enumerate_from first ends)
   all_numbered first [] = All-nil (λ (e : ℕ × SessionEnd). (k : ℕ) × (slice_get [] k ≡ Some e.1))
   all_numbered first (end ∷ rest) =
       All-cons (λ (e : ℕ × SessionEnd). (k : ℕ) × (slice_get (end ∷ rest) k ≡ Some e.1)) (first, end)
-      (numbered (first + 1) rest) (zero, refl)
+      (enumerate_from (first + 1) rest) (zero, refl)
       (All-weaker (λ (e : ℕ × SessionEnd). (k : ℕ) × (slice_get rest k ≡ Some e.1))
       (λ (e : ℕ × SessionEnd). (k : ℕ) × (slice_get (end ∷ rest) k ≡ Some e.1)) (λ e is. (suc is.0, is.1))
-      (numbered (first + 1) rest) (all_numbered (first + 1) rest))
+      (enumerate_from (first + 1) rest) (all_numbered (first + 1) rest))
 
-  own_ends : (router : ℕ) → All (IsEnd router) (filter (λ e. e.1.router == router) (numbered 0 (ends_of files)))
+  own_ends : (router : ℕ) → All (IsEnd router) (filter (λ e. e.1.router == router) (enumerate_from 0 (ends_of files)))
   own_ends router k d within =
       let own : ℕ × SessionEnd → Bool = λ e. e.1.router == router in
-      let all = numbered 0 (ends_of files) in
+      let all = enumerate_from 0 (ends_of files) in
       let there =
       All-filter own (λ (e : ℕ × SessionEnd). (j : ℕ) × (slice_get (ends_of files) j ≡ Some e.1)) all
       (all_numbered 0 (ends_of files)) k d within in
@@ -278,8 +279,13 @@ module _ (files : List File) (failures : Failures) (environment : Environment) (
         own = eqb-true _ router (filter_passes own all k d within);
       }
 
+  -- what arrives over the session of an end, as a candidate
+  abbrev learnt : ℕ × SessionEnd → Option Candidate
+  learnt e =
+      learnt_candidate files failures environment.ids p e.0 e.1 (arriving files environment tables p e.0 e.1)
+
   learnt_from : (router : ℕ) (e : ℕ × SessionEnd) → IsEnd router e →
-      IfSome (learnt_candidate files failures environment tables p e) (λ c. IsFrom router c.rec)
+      IfSome (learnt e) (λ c. IsFrom router c.rec)
   learnt_from router (at, end) is =
       if_true P (session_up files failures end) _ (by_route (arriving files environment tables p at end) refl)
     where
@@ -290,7 +296,7 @@ module _ (files : List File) (failures : Failures) (environment : Environment) (
         rec = rec;
         external = not end.internal;
         cost = cost;
-        peer_id = peer_identifier files environment at end;
+        peer_id = peer_identifier files environment.ids at end;
       }) o) P
       by_cost rec learnt None = tt
       by_cost rec learnt (Some cost) = inr learnt
@@ -301,7 +307,7 @@ module _ (files : List File) (failures : Failures) (environment : Environment) (
             rec = rec;
             external = not end.internal;
             cost = cost;
-            peer_id = peer_identifier files environment at end;
+            peer_id = peer_identifier files environment.ids at end;
           }) (resolved files failures end.router rec.next_hop)) o) P
       by_taken message arrived None taken = tt
       by_taken message arrived (Some rec) taken =
@@ -319,20 +325,19 @@ module _ (files : List File) (failures : Failures) (environment : Environment) (
             rec = rec;
             external = not end.internal;
             cost = cost;
-            peer_id = peer_identifier files environment at end;
+            peer_id = peer_identifier files environment.ids at end;
           }) (resolved files failures end.router rec.next_hop)) (option_and_then (exports.imported files end p) o)) P
       by_route None arrived = tt
       by_route (Some message) arrived =
           by_taken message arrived (exports.imported files end p message) (taken_parts files end p message)
 
-  candidates_from : (router : ℕ) (file : File) (process : Bgp) →
+  all_from : (router : ℕ) (file : File) (process : Bgp) →
       All (λ c. IsFrom router c.rec) (candidates files failures environment tables router file process p)
-  unfolding candidates
-  candidates_from router file process =
+  unfolding candidates candidates_from
+  all_from router file process =
       let P : Candidate → Type 0 = λ c. IsFrom router c.rec in
       let own = option_map_or (local_routes files router file process p) (slot_at tables router p.len) [] in
-      let learnt = learnt_candidate files failures environment tables p in
-      let ends = filter (λ (e : ℕ × SessionEnd). e.1.router == router) (numbered 0 (ends_of files)) in
+      let ends = filter (λ (e : ℕ × SessionEnd). e.1.router == router) (enumerate_from 0 (ends_of files)) in
       All-append P (map (local_candidate files router) own) (filter_map learnt ends)
       (All-map P (local_candidate files router) own
       (All-weaker IsBare (λ rec. P (local_candidate files router rec)) (λ rec bare. inl bare) own
@@ -357,7 +362,7 @@ module _ (files : List File) (failures : Failures) (environment : Environment) (
           let all = candidates files failures environment tables router file process p in
           let left = survivors process.always_compare process.compare_routerid all in
           let from = survivors_all (λ x. IsFrom router x.rec) process.always_compare process.compare_routerid all
-          (candidates_from router file process) in
+          (all_from router file process) in
           subst (IsFrom router) same (All-contains (λ x. IsFrom router x.rec) left c from (k, within, is))
 
   -- what a far router sent of a route that it holds arrived at the end
@@ -666,4 +671,4 @@ stable_short files destination failures environment tables once few stable route
     (held_from files destination failures environment tables stable len below) (length files)
     (is_router files destination failures environment tables stable len below) few router)
     (candidates files failures environment tables router file process p)
-    (candidates_from files failures environment tables p router file process)
+    (all_from files failures environment tables p router file process)

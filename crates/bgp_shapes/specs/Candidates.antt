@@ -2,7 +2,7 @@
 -- alone, and local routes look at no BGP route of their slot.
 use Rattle.std.specs.Prelude.{ℕ, ◌+◌, ◌-◌, ◌^◌, ◌==◌, ◌&&◌, Bool, false, not, List, [], ◌++◌, filter, map}
 use Rattle.std.specs.Prelude.{slice_get, Option, None, option_and_then, option_map, if◌then◌else◌}
-use Rattle.std.specs.List.{filter_map, find}
+use Rattle.std.specs.List.{enumerate_from, filter_map, find}
 use Rattle.std.specs.Option.{option_map_or}
 use Rattle.mw_text.specs.declared.address.Addr.{Addr}
 use Rattle.mw_text.specs.declared.address.Prefix.{Prefix}
@@ -22,7 +22,7 @@ use Rattle.route_record.specs.Places.{slot_at}
 use Rattle.net_parts.specs.declared.sessions.Far.{Far}
 use Rattle.net_parts.specs.declared.sessions.Far.TheVariants.{Outside, Inside}
 use Rattle.net_parts.specs.declared.sessions.SessionEnd.{SessionEnd}
-use Rattle.net_parts.specs.Decisions.{Candidate, Key, numbered, peer_identifier}
+use Rattle.net_parts.specs.Decisions.{Candidate, Key, peer_identifier}
 use Rattle.net_parts.specs.Exports.{router_id}
 use Rattle.net_parts.specs.Origins.{local_routes}
 use Rattle.net_parts.specs.Resolution.{resolved, session_up}
@@ -142,10 +142,6 @@ shape_arriving tracked files environment slots p at end = by_far end.far where
       option_and_then (λ far. option_and_then (shape_exported tracked files far p)
       (option_and_then (λ slot. slot.bgp) (slots far.router))) (slice_get (ends_of files) far_at)
 
--- of the identifiers of external peers alone
-abbrev pub with_ids : List Addr → Environment
-with_ids ids = record { ids = ids; announced = [] }
-
 -- the candidate of a message that arrived over the session of the end at that place
 abbrev pub shape_learnt : Tracked → List File → Failures → List Addr → Prefix → ℕ → SessionEnd → Option BgpShape →
     Option ShapeCandidate
@@ -155,7 +151,7 @@ shape_learnt tracked files failures ids p at end message =
       rec = rec;
       external = not end.internal;
       cost = cost;
-      peer_id = (peer_identifier files (with_ids ids) at end).0;
+      peer_id = (peer_identifier files ids at end).0;
     }) (resolved files failures end.router (record { 0 = rec.next_hop })))
     (option_and_then (shape_imported tracked files end p) message)
     else None
@@ -175,7 +171,7 @@ abbrev pub shape_candidates_of : Tracked → List File → Failures → List Add
 shape_candidates_of tracked files failures ids router p own arrived =
     map (shape_local files router) own
     ++ filter_map (λ (e : ℕ × SessionEnd). shape_learnt tracked files failures ids p e.0 e.1 (arrived e.0 e.1))
-    (filter (λ e. e.1.router == router) (numbered 0 (ends_of files)))
+    (filter (λ e. e.1.router == router) (enumerate_from 0 (ends_of files)))
 
 unfoldable pub shape_candidates : Tracked → List File → Failures → ShapeEnvironment → (ℕ → Option ShapeSlot) → ℕ →
     File → Bgp → Prefix → List ShapeCandidate

@@ -16,6 +16,7 @@ use Rattle.ios_ast.specs.declared.file.File.{File}
 use Rattle.route_record.specs.declared.Announcement.{Announcement}
 use Rattle.route_record.specs.declared.Environment.{Environment}
 use Rattle.net_parts.specs.declared.sessions.SessionEnd.{SessionEnd}
+use Rattle.net_parts.specs.Exports.{is_towards}
 use Rattle.net_parts.specs.Sessions.{ends_of, external_ends, is_outside, neighbour_of}
 use Rattle.net_parts.specs.World.{BeginsWithPeer, IsAnnouncement, IsAsNumber, IsEarlier, IsEnvironment, ascends}
 use Rattle.question_lang.specs.declared.question.Question.{Question}
@@ -25,7 +26,7 @@ use Rattle.cex_json.specs.declared.counterexample.Counterexample.{Counterexample
 use Rattle.cex_json.specs.declared.reader.Limits.{Limits}
 use Rattle.cex_json.specs.declared.reader.Surroundings.{Surroundings}
 use Rattle.cex_json.specs.declared.refused.CexRefused.{CexRefused}
-use Rattle.cex_json.specs.Entries.{entry_path, is_end_of, origin_in, router_in, slots_in}
+use Rattle.cex_json.specs.Entries.{entry_path, origin_in, router_in, slots_in}
 use Rattle.cex_json.specs.Fields.{addr_in, asn_step, ascending_in, ascending_step, greatest, in_order, is_above}
 use Rattle.cex_json.specs.Fields.{members_in}
 use Rattle.cex_json.specs.Fields.{number_in, object_in, passing, path_in, place_of, required, text_in}
@@ -128,7 +129,7 @@ end_known files (Some router) (Some a) at same =
         let end = get_or (x ∷ rest) at x in (
           end,
           slice_get-get_or (x ∷ rest) at x there.0,
-          (and_parts (is_outside end.far) (is_end_of files router a end) there.1).0,
+          (and_parts (is_outside end.far) (is_towards files router a end) there.1).0,
         )
 
 end_fit : (files : List File) (d : Data) (at : ℕ) → end_in files d ≡ Some at → IsOuter files at

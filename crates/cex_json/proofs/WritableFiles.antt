@@ -1,25 +1,26 @@
 -- Files that fit make a network that a text can speak of.
-use Rattle.std.proofs.Common.{◌≡◌, ℕ, zero, suc, ◌+◌, ◌^◌, ◌<◌, ◌≤◌, ◌⊎◌, ◌==◌, ◌&&◌, Bool, true, false, List}
-use Rattle.std.proofs.Common.{[], ◌∷◌, length, take, get_or, nat_le, Option, Some, None, inl, inr, refl, ap}
+use Rattle.std.proofs.Common.{◌≡◌, ℕ, zero, suc, ◌+◌, ◌^◌, ◌<◌, ◌≤◌, ◌⊎◌, ◌==◌, true, false, List}
+use Rattle.std.proofs.Common.{[], ◌∷◌, length, take, get_or, Option, Some, None, inl, inr, refl, ap}
 use Rattle.std.proofs.Common.{sym, ◌∙◌, arith}
-use Rattle.std.proofs.lemmas.Bool.{and_parts, cases_lt, false≢true, leb-true, or_parts}
+use Rattle.std.proofs.lemmas.Bool.{cases_lt, false≢true, leb-true}
 use Rattle.std.proofs.lemmas.List.{length-map}
 use Rattle.std.proofs.lemmas.List.Elements.{All-weaker}
 use Rattle.std.proofs.lemmas.Option.{slice_get-get_or}
 use Rattle.std.specs.Cmp.Lexicographic.{bytes_decides}
-use Rattle.std.specs.List.{list_all, list_any}
+use Rattle.std.specs.List.{list_any}
 use Rattle.std.specs.Option.{option_map_or, option_or}
 use Rattle.std.specs.Prelude.{slice_get}
 use Rattle.std.specs.Str.{IsUtf8}
 use Rattle.mw_text.proofs.Lists.{all_at, none_passes}
 use Rattle.mw_text.specs.Text.{same_text}
 use Rattle.ios_ast.specs.declared.file.File.{File}
+use Rattle.ios_ast.proofs.KeptLimits.{limits_of}
 use Rattle.net_refusals.specs.declared.refusals.NetCause.TheVariants.{SameName}
 use Rattle.net_refusals.specs.declared.refusals.NetRefused.{NetRefused}
 use Rattle.net_interfaces.specs.Interfaces.{addressed}
-use Rattle.net_interfaces.specs.Limits.{has_cost_in_range, has_few_neighbours, keeps_limits}
+use Rattle.net_interfaces.specs.Limits.{keeps_limits}
 use Rattle.net_refusals.specs.Network.{IsNetwork}
-use Rattle.net_refusals.specs.Refusals.{external_internal_peer, first_broken, first_from, first_refusal, line_if}
+use Rattle.net_refusals.specs.Refusals.{external_internal_peer, first_broken, first_from, first_refusal}
 use Rattle.net_refusals.specs.Refusals.{net_limit, next_hop_not_connected, refused_at, refused_by_addresses}
 use Rattle.net_refusals.specs.Refusals.{refused_by_uses}
 use Rattle.net_refusals.specs.Refusals.{same_address, same_name, same_name_line, second_area_number, subnet_clash}
@@ -111,9 +112,7 @@ few_ends files net =
 
 few_ifaces : (file : File) → keeps_limits file ≡ true → length file.interfaces ≤ 2 ^ 32
 few_ifaces file keeps =
-    let few = (and_parts (nat_le (length file.interfaces) 64)
-    (has_few_neighbours file && list_all has_cost_in_range file.interfaces) keeps).0 in
-    omega (arith, leb-true (length file.interfaces) 64 few)
+    omega (arith, leb-true (length file.interfaces) 64 (limits_of file keeps).interfaces)
 
 -- ---- the network
 

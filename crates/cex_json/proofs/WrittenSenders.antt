@@ -14,13 +14,14 @@ use Rattle.ios_ast.specs.declared.bgp.Neighbour.{Neighbour}
 use Rattle.ios_ast.specs.declared.file.File.{File}
 use Rattle.route_record.specs.declared.Announcement.{Announcement}
 use Rattle.net_parts.specs.declared.sessions.SessionEnd.{SessionEnd}
+use Rattle.net_parts.specs.Exports.{is_towards}
 use Rattle.net_parts.specs.Sessions.{IsPlaced, ends_of, external_ends, is_outside, neighbour_of}
 use Rattle.net_parts.specs.World.{IsAnnouncement, IsAsNumber, IsEarlier}
 use Rattle.net_parts.proofs.EndPlaces.{ends_placed}
 use Rattle.serde_json.specs.Data.{Data, string}
 use Rattle.serde_json.specs.Find.{get}
 use Rattle.serde_json.specs.View.{items_of}
-use Rattle.cex_json.specs.Entries.{entry_path, is_end_of, router_in}
+use Rattle.cex_json.specs.Entries.{entry_path, router_in}
 use Rattle.cex_json.specs.Fields.{◌>>=◌, addr_in, greatest, in_order, is_above}
 use Rattle.cex_json.specs.Json.{array_of, number_of, text_of}
 use Rattle.cex_json.specs.Parts.{addr_data, origin_text, router_name}
@@ -74,7 +75,7 @@ router_back files end d net within there = rw there (are_named files net.routers
 
 -- an end has the address of its neighbour
 end_itself : (files : List File) (end : SessionEnd) (neighbour : Neighbour) → IsFarEnd files end neighbour →
-    is_end_of files end.router neighbour.addr end ≡ true
+    is_towards files end.router neighbour.addr end ≡ true
 end_itself files end neighbour far =
     rw far.line (and_from (end.router == end.router) (neighbour.addr.0 == neighbour.addr.0)
     (eq-eqb end.router end.router refl) (eq-eqb neighbour.addr.0 neighbour.addr.0 refl))
@@ -93,7 +94,7 @@ one_end : (files : List File) (k at : ℕ) (other end : SessionEnd) (neighbour :
     IsFarEnd files end neighbour → slice_get (ends_of files) at ≡ Some end → slice_get (ends_of files) k ≡ Some other →
     is_outer_end files end.router neighbour.addr other ≡ true → k ≡ at
 one_end files k at other end neighbour net far there found passes =
-    let of = (and_parts (is_outside other.far) (is_end_of files end.router neighbour.addr other) passes).1 in
+    let of = (and_parts (is_outside other.far) (is_towards files end.router neighbour.addr other) passes).1 in
     let parts = and_parts (other.router == end.router)
     (option_map_or (λ (n : Neighbour). n.addr.0 == neighbour.addr.0) (neighbour_of files other) false) of in
     let router = eqb-true other.router end.router parts.0 in
@@ -108,7 +109,7 @@ end_found : (files : List File) (at : ℕ) (end : SessionEnd) (neighbour : Neigh
 end_found files at end neighbour net far there outside =
     place_there (position (is_outer_end files end.router neighbour.addr) (ends_of files)) at
     (only_place (is_outer_end files end.router neighbour.addr) (ends_of files) at end there
-    (and_from (is_outside end.far) (is_end_of files end.router neighbour.addr end) outside
+    (and_from (is_outside end.far) (is_towards files end.router neighbour.addr end) outside
     (end_itself files end neighbour far))
     (λ k other found passes. one_end files k at other end neighbour net far there found passes))
     (place_fits (ends_of files) at end there net.few_ends)

@@ -21,8 +21,8 @@ use Rattle.route_record.specs.declared.RibSource.{RibSource}
 use Rattle.route_record.specs.declared.RibSource.TheVariants.{Connected, Static, Ebgp, Ospf, Ibgp}
 use Rattle.route_record.specs.declared.Slot.{Slot}
 use Rattle.route_record.specs.declared.TheConstants.{LENGTHS}
-use Rattle.net_parts.specs.declared.sessions.SessionEnd.{SessionEnd}
-use Rattle.net_parts.specs.Sessions.{ends_of, neighbour_of}
+use Rattle.net_parts.specs.Exports.{is_towards}
+use Rattle.net_parts.specs.Sessions.{ends_of}
 use Rattle.question_lang.specs.Asking.{router_named}
 use Rattle.serde_json.specs.Data.{Data}
 use Rattle.serde_json.specs.Find.{get}
@@ -74,14 +74,9 @@ origin_in at d = required at (codes "origin") (option_and_then origin_named (tex
 unfoldable pub router_in : List File → Data → Option ℕ
 router_in files d = option_and_then (router_named files) (text_in (get (codes "router") d))
 
--- the end is that of a session of the router with this address
-abbrev pub is_end_of : List File → ℕ → Addr → SessionEnd → Bool
-is_end_of files router a end =
-    (end.router == router) && option_map_or (λ neighbour. neighbour.addr.0 == a.0) (neighbour_of files end) false
-
 -- a neighbour with whom the router has a session; of an unknown router any address
 abbrev pub is_neighbour : List File → Option ℕ → Addr → Bool
-is_neighbour files router a = option_map_or (λ r. list_any (is_end_of files r a) (ends_of files)) router true
+is_neighbour files router a = option_map_or (λ r. list_any (is_towards files r a) (ends_of files)) router true
 
 -- `local`, or the address of a neighbour
 abbrev pub learnt_named : List File → Option ℕ → List ℕ → Option Learnt

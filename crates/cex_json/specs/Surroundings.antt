@@ -12,13 +12,14 @@ use Rattle.route_record.specs.declared.Announcement.{Announcement}
 use Rattle.route_record.specs.declared.Packet.{Packet}
 use Rattle.net_parts.specs.declared.links.Link.{Link}
 use Rattle.net_parts.specs.declared.sessions.SessionEnd.{SessionEnd}
+use Rattle.net_parts.specs.Exports.{is_towards}
 use Rattle.net_parts.specs.Sessions.{ends_of, external_ends, is_outside, neighbour_of}
 use Rattle.net_parts.specs.World.{links_of}
 use Rattle.question_lang.specs.declared.question.PacketSet.{PacketSet}
 use Rattle.serde_json.specs.Data.{Data}
 use Rattle.serde_json.specs.Find.{get}
 use Rattle.cex_json.specs.declared.refused.CexRefused.{CexRefused}
-use Rattle.cex_json.specs.Entries.{entry_path, is_end_of, origin_in, router_in}
+use Rattle.cex_json.specs.Entries.{entry_path, origin_in, router_in}
 use Rattle.cex_json.specs.Fields.{◌>>=◌, addr_in, ascending_in, greatest, in_order, is_above, members_in, number_in}
 use Rattle.cex_json.specs.Fields.{object_in, passing, path_in, place_of, required, text_in, with_one}
 
@@ -77,7 +78,7 @@ failures_in files most d = do
 
 -- the end of an external session of the router with this address
 abbrev pub is_outer_end : List File → ℕ → Addr → SessionEnd → Bool
-is_outer_end files router a end = is_outside end.far && is_end_of files router a end
+is_outer_end files router a end = is_outside end.far && is_towards files router a end
 
 -- the end that an entry's `address` and `router` name
 abbrev pub end_named : List File → Option ℕ → Option Addr → Option ℕ
@@ -130,7 +131,7 @@ announcements_in files d = members_in [] (codes "announcements") d >>= in_order 
 unfoldable pub names_end : List File → Data → SessionEnd → Bool
 names_end files d end = named (router_in files d) (addr_in (get (codes "address") d)) where
   named : Option ℕ → Option Addr → Bool
-  named (Some router) (Some a) = is_end_of files router a end
+  named (Some router) (Some a) = is_towards files router a end
   named _ _ = false
 
 -- the AS number of the neighbour, which format 1 does not have

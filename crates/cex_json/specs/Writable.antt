@@ -17,6 +17,7 @@ use Rattle.route_record.specs.declared.Learnt.TheVariants.{Local, Peer}
 use Rattle.route_record.specs.declared.Slot.{Slot}
 use Rattle.route_record.specs.declared.TheConstants.{LENGTHS}
 use Rattle.net_parts.specs.declared.sessions.SessionEnd.{SessionEnd}
+use Rattle.net_parts.specs.Exports.{is_towards}
 use Rattle.net_refusals.specs.Network.{IsNetwork}
 use Rattle.net_parts.specs.Sessions.{ends_of, neighbour_of}
 use Rattle.net_parts.specs.World.{IsEnvironment, IsFailureSet, links_of}
@@ -29,7 +30,6 @@ use Rattle.question_lang.specs.declared.walk.Walk.{Walk}
 use Rattle.question_lang.specs.Asking.{router_named}
 use Rattle.question_lang.specs.Packets.{IsInSet}
 use Rattle.cex_json.specs.declared.counterexample.Counterexample.{Counterexample}
-use Rattle.cex_json.specs.Entries.{is_end_of}
 use Rattle.cex_json.specs.Fields.{greatest, is_above}
 use Rattle.cex_json.specs.Parts.{router_name}
 use Rattle.cex_json.specs.Standings.{asks_walk}
@@ -45,7 +45,7 @@ IsAddress a = a.0 < 2 ^ 32
 -- from the router itself, or from a neighbour with whom it has a session
 abbrev pub IsLearntThere : List File → ℕ → Learnt → Type 0
 IsLearntThere files router Local = Unit {0}
-IsLearntThere files router (Peer a) = IsAddress a × (list_any (is_end_of files router a) (ends_of files) ≡ true)
+IsLearntThere files router (Peer a) = IsAddress a × (list_any (is_towards files router a) (ends_of files) ≡ true)
 
 -- a BGP record of a router whose numbers and addresses fit their types, whose communities ascend, and whose path has no
 -- AS 0 (RFC 7607)

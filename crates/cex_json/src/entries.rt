@@ -2,6 +2,7 @@
 
 ghost use Rattle.std.specs.Prelude.{◌≡◌, codes, option_and_then, option_map};
 ghost use Rattle.std.specs.List.{list_any};
+ghost use Rattle.net_parts.specs.Exports as exports;
 ghost use Rattle.net_parts.specs.Sessions.{ends_of};
 ghost use Rattle.serde_json.specs.View.{view};
 ghost use Rattle.serde_json.specs.Find.{get};
@@ -12,10 +13,10 @@ use crate::fields::{
     addr_in, addr_or_absent, addrs_in, ascending_in, number_in, path_in, required, text_in,
 };
 use crate::refused::CexRefused;
-use crate::worlds::neighbour_of;
 use ios_ast::File;
 use mw_text::{Addr, List, read_addr, same_bytes};
 use net_model::{Net, SessionEnd};
+use net_parts::ends::is_towards;
 use route_record::{BgpRec, Learnt, Origin, OspfKind, OspfRec, RibEntry, RibSource};
 use serde_json::Value;
 use std::alloc::Global;
@@ -140,23 +141,10 @@ pub fn router_in(net: &Net, part: &Value) -> Option<u32>
     }
 }
 
-/// Whether the end is that of a session of the router with this address.
-pub fn is_end_of(files: &[File], router: u32, a: Addr, end: &SessionEnd) -> bool
-    ensures { result ≡ entries.is_end_of files.now router a end.now }
-{
-    if end.router != router {
-        return false;
-    }
-    match neighbour_of(files, end) {
-        None => false,
-        Some(neighbour) => neighbour.addr.0 == a.0,
-    }
-}
-
 fn has_neighbour(files: &[File], ends: &[SessionEnd], router: u32, a: Addr) -> bool
-    ensures { result ≡ list_any (entries.is_end_of files.now router a) ends.now }
+    ensures { result ≡ list_any (exports.is_towards files.now router a) ends.now }
 {
-    ends.iter().any(|end| is_end_of(files, router, a, end))
+    ends.iter().any(|end| is_towards(files, router, a, end))
 }
 
 fn is_neighbour(net: &Net, router: Option<u32>, a: Addr) -> bool

@@ -10,13 +10,14 @@ ghost use Rattle.cex_json.specs.Fields as fields;
 ghost use Rattle.cex_json.specs.Fields.{Reads, in_order, passing};
 ghost use Rattle.cex_json.specs.Surroundings as around;
 
-use crate::entries::{is_end_of, origin_in, router_in};
+use crate::entries::{origin_in, router_in};
 use crate::fields::{addr_in, ascending_in, members_in, number_in, path_in, place_of, required};
 use crate::refused::CexRefused;
-use crate::worlds::{external_ends, is_outside, neighbour_of};
+use crate::worlds::external_ends;
 use ios_ast::File;
 use mw_text::{Addr, List};
 use net_model::{Net, SessionEnd};
+use net_parts::ends::{is_outside, is_towards, neighbour_of};
 use route_record::Announcement;
 use serde_json::Value;
 use std::alloc::Global;
@@ -24,7 +25,7 @@ use std::alloc::Global;
 fn is_outer_end(files: &[File], router: u32, a: Addr, end: &SessionEnd) -> bool
     ensures { result ≡ around.is_outer_end files.now router a end.now }
 {
-    is_outside(end) && is_end_of(files, router, a, end)
+    is_outside(end) && is_towards(files, router, a, end)
 }
 
 fn outer_place(files: &[File], ends: &[SessionEnd], router: u32, a: Addr) -> Option<usize>
@@ -217,7 +218,7 @@ fn names_end(net: &Net, entry: &Value, end: &SessionEnd) -> bool
         None => false,
         Some(router) => match addr_in(entry, "address") {
             None => false,
-            Some(a) => is_end_of(net.routers(), router, a, end),
+            Some(a) => is_towards(net.routers(), router, a, end),
         },
     }
 }

@@ -1,7 +1,6 @@
 //! The JSON values of failed links, external peers and their announcements.
 
 ghost use Rattle.std.specs.Prelude.{◌≡◌, IfOk, map, option_map, slice_get, string_bytes};
-ghost use Rattle.std.specs.Option.{option_copied};
 ghost use Rattle.net_parts.specs.Sessions as sessions;
 ghost use Rattle.net_parts.specs.World.{links_of};
 ghost use Rattle.serde_json.specs.View.{view};
@@ -9,9 +8,10 @@ ghost use Rattle.cex_json.specs.Worlds as worlds;
 
 use crate::parts::{addr_string, addr_value, router_name, text_value};
 use crate::routes::{number_values, origin_value};
-use ios_ast::{File, Neighbour};
+use ios_ast::File;
 use mw_text::{Addr, Prefix};
-use net_model::{Far, Link, Net, SessionEnd};
+use net_model::{Link, Net, SessionEnd};
+use net_parts::ends::{is_outside, neighbour_of};
 use route_record::Announcement;
 use serde_json::{Value, json};
 use std::alloc::{AllocError, Global};
@@ -52,19 +52,6 @@ pub fn failure_values(alloc: Global, net: &Net, failed: &[u32]) -> Result<Vec<Va
     Ok(values)
 }
 
-/// The neighbour line of an end.
-pub fn neighbour_of<'a>(files: &'a [File], end: &SessionEnd) -> Option<&'a Neighbour>
-    ensures { option_copied result ≡ sessions.neighbour_of files.now end.now }
-{
-    match files.get(end.router as usize) {
-        None => None,
-        Some(file) => match &file.bgp {
-            None => None,
-            Some(bgp) => bgp.neighbours.as_slice().get(end.neighbour as usize),
-        },
-    }
-}
-
 fn peer_string(alloc: Global, files: &[File], end: &SessionEnd) -> Result<String, AllocError>
     ensures { IfOk result (λ text. string_bytes text ≡ worlds.peer_text files.now end.now) }
 {
@@ -97,13 +84,6 @@ fn peer_value(
     let router = text_value(alloc, router_name(files, end.router as usize))?;
     let asn = peer_asn(files, end);
     json!(in alloc; {"address": address, "asn": asn, "id": id, "router": router})
-}
-
-/// Whether an external peer lies at the far side.
-pub fn is_outside(end: &SessionEnd) -> bool
-    ensures { result ≡ sessions.is_outside end.now.far }
-{
-    matches!(end.far, Far::Outside)
 }
 
 /// The ends towards external peers.

@@ -6,10 +6,14 @@ use Rattle.ios_ast.specs.declared.bgp.Bgp.{Bgp}
 use Rattle.ios_ast.specs.declared.bgp.Neighbour.{Neighbour}
 use Rattle.ios_ast.specs.declared.file.File.{File}
 use Rattle.ios_ast.specs.declared.file.Iface.{Iface}
+use Rattle.ios_ast.specs.declared.file.StaticRoute.{StaticRoute}
 use Rattle.ios_ast.specs.declared.file.Use.{Use}
+use Rattle.ios_ast.specs.declared.file.Via.TheVariants.{Next}
 use Rattle.ios_ast.specs.declared.ospf.Ospf.{Ospf}
 use Rattle.ios_ast.specs.declared.ospf.Redist.{Redist}
-use Rattle.ios_ast.specs.declared.ospf.Source.TheVariants.{Connected, Bgp as OfBgp, Ospf as OfOspf}
+use Rattle.ios_ast.specs.declared.ospf.Source.TheVariants.{Connected, Static, Bgp as OfBgp, Ospf as OfOspf}
+use Rattle.ios_ast.specs.declared.policies.Match.TheVariants.{Prefixes}
+use Rattle.ios_ast.specs.declared.policies.SetAct.TheVariants.{Metric}
 use Rattle.route_record.specs.declared.BgpMsg.{BgpMsg}
 use Rattle.route_record.specs.declared.BgpRec.{BgpRec}
 use Rattle.route_record.specs.declared.Failures.{Failures}
@@ -20,6 +24,7 @@ use Rattle.route_record.specs.declared.Environment.{Environment}
 use Rattle.route_record.specs.declared.OspfKind.{OspfKind}
 use Rattle.route_record.specs.declared.OspfKind.TheVariants.{Ext2}
 use Rattle.route_record.specs.declared.OspfRec.{OspfRec}
+use Rattle.route_record.specs.declared.Plan.{Plan}
 use Rattle.route_record.specs.declared.RibSource.TheVariants as source
 use Rattle.route_record.specs.declared.Slot.{Slot}
 use Rattle.route_record.specs.declared.Tables.{Tables}
@@ -276,3 +281,53 @@ slot_of_y = record {
 
 abbrev pub supporting : Tables
 supporting = tables_at_24 slot_of_x slot_of_y
+
+-- ---- places and rooms
+
+abbrev pub plan : List ℕ → List ℕ → Plan
+plan class slices = record { class = class; slices = slices }
+
+-- a router with a subnet 10.30.0.0/24 and two static routes, of which it brings 10.40.0.0/16 into OSPF with metric 30, by
+-- a route map with a prefix list, and not 192.168.50.0/24; and which always originates the default route
+abbrev pub static_to : ℕ → ℕ → StaticRoute
+static_to a len = record {
+  line = 1;
+  prefix = prefix a len;
+  via = Next (address 169738242);
+  distance = 1;
+}
+
+abbrev pub static_routes : Redist
+static_routes = record connected_routes {
+  source = Static;
+  subnets = true;
+  map = Some (record { line = 1; name = codes "EXPORT" });
+}
+
+abbrev pub depot : List File
+depot =
+    record (router (codes "DEPOT") (interface (codes "Vlan30") 169738241 24 ∷ [])
+    (Some (record (ospf (static_routes ∷ [])) {
+      default = Some (record { line = 1; always = true; metric = 1; type1 = false });
+    })) None) {
+      statics = static_to 170393600 16 ∷ static_to 3232248320 24 ∷ [];
+      policies = record {
+        prefix_lists = record {
+          name = codes "WAREHOUSE";
+          entries = record { line = 1; seq = 5; permit = true; prefix = prefix 170393600 16; low = 16; high = 16 } ∷ [];
+        } ∷ [];
+        communities = [];
+        as_paths = [];
+        access = [];
+        maps = record {
+          name = codes "EXPORT";
+          entries = record {
+            line = 1;
+            seq = 10;
+            permit = true;
+            matches = Prefixes (record { line = 1; name = codes "WAREHOUSE" } ∷ []) ∷ [];
+            sets = Metric 30 ∷ [];
+          } ∷ [];
+        } ∷ [];
+      };
+    } ∷ []

@@ -4,7 +4,7 @@
 //! A line without `%` is a line of the text; `%raw TEXT` adds a text in which `|` is the end of a line and `~` a carriage
 //! return, and `%repeat FROM TO LINE` a line for each number. `%router` reads the text as a router's, `%routers FROM TO
 //! LINE` a router of one line for each number, and `%network` makes the network of the routers so far. `%failed LINKS`
-//! says which links have failed, `%candidate ROUTE MED IDENTIFIER` adds a candidate, and `%clear` forgets the text, the
+//! says which links have failed, `%track COMMUNITIES/NUMBERS/CLUSTERS` what the network tracks too, `%candidate ROUTE MED IDENTIFIER` adds a candidate, and `%clear` forgets the text, the
 //! routers that are in no network, and the candidates. `% TEXT` is a remark.
 //!
 //! Each other order asks: `%WORD NAME: WORDS = ANSWER`. What its words are stands where it is answered. Where the answer
@@ -30,7 +30,7 @@ use crate::asked::ask;
 use crate::page::Page;
 use crate::setup::{
     Setup, add_line, add_raw, add_repeated, add_routers, end_router, fail_links, forget,
-    make_network,
+    make_network, track,
 };
 use crate::words::cut;
 use std::io;
@@ -59,6 +59,7 @@ fn take_order(out: &mut Page, setup: &mut Setup, order: &str) {
         "routers" => add_routers(out, setup, rest),
         "network" => make_network(out.alloc(), setup),
         "failed" => fail_links(out, setup, rest),
+        "track" => track(out, setup, rest),
         "candidate" => take_candidate(out, setup, rest),
         "clear" => forget(out.alloc(), setup),
         _ => ask(out, setup, word, rest),

@@ -1,14 +1,17 @@
 //! What a script has set up.
 
+ghost use Rattle.std.specs.Prelude.{◌≡◌, ◌+◌, ◌≤◌, true};
+ghost use Rattle.net_parts.specs.Tracked.{IsRoomFor};
+
 use crate::page::Page;
-use crate::words::{cut, number};
+use crate::words::{cut, number, numbers, parted};
 use ios_ast::{File, Policies};
 use ios_reader::read_file;
-use mw_text::List;
+use mw_text::{Addr, List};
 use net_model::{Net, keep_limits};
 use proto_bgp::Candidate;
 use question_lang::Question;
-use route_record::Failures;
+use route_record::{Failures, MOST_TRACKED, Tracked};
 use std::alloc::{AllocError, Global};
 use std::mem;
 
@@ -130,6 +133,60 @@ pub fn fail_links(out: &mut Page, setup: &mut Setup, text: &str) {
         out.add(&mut links, number(word));
     }
     setup.failures = Failures { links }
+}
+
+// Whether so many values have room beside those that are tracked.
+fn fit(own: usize, more: usize) -> bool
+    ensures { result ≡ true → own + more ≤ MOST_TRACKED }
+{
+    own <= MOST_TRACKED && more <= MOST_TRACKED - own
+}
+
+#[tactic(auto, using(net_parts::proofs::TrackedUp::room_by_sizes))]
+fn has_room(tracked: &Tracked, more: &Tracked) -> bool
+    ensures { result ≡ true → IsRoomFor tracked.now more.now }
+{
+    fit(
+        tracked.communities.as_slice().len(),
+        more.communities.as_slice().len(),
+    ) && fit(tracked.numbers.as_slice().len(), more.numbers.as_slice().len())
+        && fit(
+            tracked.clusters.as_slice().len(),
+            more.clusters.as_slice().len(),
+        )
+}
+
+fn track_in(alloc: Global, net: &mut Net, more: &Tracked) -> Result<(), AllocError> {
+    if has_room(net.tracked(), more) {
+        net.track_more(alloc, more)
+    } else {
+        Ok(())
+    }
+}
+
+fn clusters(out: &mut Page, text: &str) -> List<Addr> {
+    let mut all = out.none();
+    for word in text.split(',') {
+        if let Ok(number) = word.parse::<u32>() {
+            out.add(&mut all, Addr(number));
+        }
+    }
+    all
+}
+
+/// `COMMUNITIES/NUMBERS/CLUSTERS`: the network tracks these values too, each with commas between them, if it has room.
+pub fn track(out: &mut Page, setup: &mut Setup, text: &str) {
+    let (communities, rest) = parted(text);
+    let (ases, ids) = parted(rest);
+    let more = Tracked {
+        communities: numbers(out, communities),
+        numbers: numbers(out, ases),
+        clusters: clusters(out, ids),
+    };
+    if let Some(net) = &mut setup.net {
+        let end = track_in(out.alloc(), net, &more);
+        out.note(end)
+    }
 }
 
 pub fn push_candidate(setup: &mut Setup, candidate: Candidate) -> Result<(), AllocError> {

@@ -1,7 +1,7 @@
 -- Lines of lists and route maps keep the limit of their entries.
 use Rattle.std.proofs.Common.{◌≡◌, ℕ, ◌+◌, ◌-◌, ◌<◌, ◌≤◌, Bool, true, false, List, [], ◌∷◌, ◌++◌, length, get_or}
 use Rattle.std.proofs.Common.{Option}
-use Rattle.std.proofs.Common.{Some, None, Result, Ok, Err, refl, ap, arith}
+use Rattle.std.proofs.Common.{Some, None, Ok, Err, refl, ap, arith}
 use Rattle.std.specs.Prelude.{IfOk, nat_lt, position, slice_get, slice_set, if◌then◌else◌}
 use Rattle.std.specs.List.{sum_by}
 use Rattle.std.specs.Option.{option_map_or}
@@ -14,31 +14,22 @@ use Rattle.mw_text.specs.declared.words.Line.{Line}
 use Rattle.mw_text.specs.Text.{same_text}
 use Rattle.ios_ast.specs.declared.file.TheConstants.{MOST_POLICY_ENTRIES}
 use Rattle.ios_ast.specs.declared.policies.Policies.{Policies}
-use Rattle.ios_policy_reader.specs.declared.cause.Cause.{Cause}
 use Rattle.ios_policy_reader.specs.declared.cause.Cause.TheVariants.{BadWord, Limit, Repeated}
 use Rattle.ios_policy_reader.specs.declared.clauses.MapClause.{MapClause}
-use Rattle.ios_policy_reader.specs.declared.heads.Context.{Context}
-use Rattle.ios_policy_reader.specs.declared.heads.Context.TheVariants.{Top}
-use Rattle.ios_policy_reader.specs.declared.heads.Found.{Found}
 use Rattle.ios_policy_reader.specs.declared.heads.Row.{Row}
-use Rattle.ios_policy_reader.specs.declared.heads.Row.TheVariants as row
 use Rattle.ios_policy_reader.specs.declared.policies.PolicyBlock.{PolicyBlock}
-use Rattle.ios_policy_reader.specs.declared.policies.PolicyBlock.TheVariants.{Outside, Access, Map}
 use Rattle.ios_policy_reader.specs.declared.said.Said.{Said}
 use Rattle.ios_policy_reader.specs.declared.said.Tag.TheVariants.{Action, Number}
 use Rattle.ios_policy_reader.specs.Clauses.{clause_of, maps_with, open_entry, repeats, with_clause}
 use Rattle.ios_policy_reader.specs.Entries.{access_entry, community_entry, map_entry, path_entry, prefix_entry}
-use Rattle.ios_policy_reader.specs.Heads.{row_of, said_in}
 use Rattle.ios_policy_reader.specs.Lists.{changed_at, changed_or_new, has_number, has_room, is_opened}
 use Rattle.ios_policy_reader.specs.Lists.{policy_entries, prefix_entries_of}
 use Rattle.ios_policy_reader.specs.Lists.{with_prefix_entry}
-use Rattle.ios_policy_reader.specs.Policies.{Taken, access_block, access_line, clause_line, community_line, context_of}
-use Rattle.ios_policy_reader.specs.Policies.{context_reading, entry_line, is_extended, is_policy_row, map_block}
-use Rattle.ios_policy_reader.specs.Policies.{map_block_line, map_line, numbered_line, open_line, passed, path_line}
-use Rattle.ios_policy_reader.specs.Policies.{policy_reading, prefix_line, put, row_reading, said_reading, sequence_of}
-use Rattle.ios_policy_reader.specs.Policies.{taken_in, top_line, within_limit}
+use Rattle.ios_policy_reader.specs.Policies.{access_line, clause_line, community_line, entry_line, is_extended}
+use Rattle.ios_policy_reader.specs.Policies.{map_block_line, map_line, numbered_line, open_line, path_line}
+use Rattle.ios_policy_reader.specs.Policies.{policy_reading, prefix_line, sequence_of, within_limit}
 use Rattle.ios_policy_reader.specs.Said.{has_said, number_under}
-use Rattle.ios_policy_reader.specs.Values.{name_of}
+use Rattle.ios_policy_reader.proofs.KeptPolicies.{KeepsEach, either, policies_kept}
 
 -- ---- sums over changed lists
 
@@ -91,11 +82,6 @@ changed_length {A = A} change at items = by (slice_get items at) where
 
 abbrev Few : Policies → Type 0
 Few policies = policy_entries policies ≤ MOST_POLICY_ENTRIES
-
-either : {A E : Type 0} (test : Bool) (x y : Result A E) (P : A → Type 0) → IfOk x P → IfOk y P
-    → IfOk (if test then x else y) P
-either true x y P there here = there
-either false x y P there here = here
 
 limit_kept : (policies more : Policies) → policy_entries more ≤ policy_entries policies + 1
     → IfOk (within_limit policies more) Few
@@ -248,70 +234,20 @@ map_block_line_kept r line said at policies few = by (clause_of r line.number li
 
 -- ---- any line
 
-abbrev TakenFew : Taken → Type 0
-TakenFew taken = Few taken.policies
-
-taken_kept : (block : PolicyBlock) (r : Result Policies Cause) → IfOk r Few → IfOk (taken_in block r) TakenFew
-taken_kept block (Ok policies) few = few
-taken_kept block (Err cause) few = tt
-
-top_line_kept : (r : Row) (line : Line) (said : List Said) (policies : Policies) → Few policies
-    → IfOk (top_line r line said policies) TakenFew
-unfolding top_line
-top_line_kept row.AccessList line said policies few =
-    taken_kept Outside (access_line line said (name_of line.words said) policies)
-    (access_line_kept line said (name_of line.words said) policies few)
-top_line_kept row.StandardBlock line said policies few =
-    taken_kept (access_block (name_of line.words said) policies) (open_line false (name_of line.words said) policies)
-    (open_line_kept false (name_of line.words said) policies few)
-top_line_kept row.ExtendedBlock line said policies few =
-    taken_kept (access_block (name_of line.words said) policies) (open_line true (name_of line.words said) policies)
-    (open_line_kept true (name_of line.words said) policies few)
-top_line_kept row.PrefixList line said policies few =
-    taken_kept Outside (prefix_line line said (name_of line.words said) policies)
-    (prefix_line_kept line said (name_of line.words said) policies few)
-top_line_kept row.CommunityList line said policies few =
-    taken_kept Outside (community_line line said (name_of line.words said) policies)
-    (community_line_kept line said (name_of line.words said) policies)
-top_line_kept row.PathList line said policies few =
-    taken_kept Outside (path_line line said (name_of line.words said) policies)
-    (path_line_kept line said (name_of line.words said) policies)
-top_line_kept row.MapBlock line said policies few =
-    taken_kept (map_block (name_of line.words said) policies) (map_line line said (name_of line.words said) policies)
-    (map_line_kept line said (name_of line.words said) policies)
-top_line_kept _ line said policies few = few
-
-put_kept : (block : PolicyBlock) (r : Row) (line : Line) (said : List Said) (policies : Policies) → Few policies
-    → IfOk (put block r line said policies) TakenFew
-put_kept Outside r line said policies few = top_line_kept r line said policies few
-put_kept (Access at) r line said policies few =
-    taken_kept (Access at) (entry_line line said at policies) (entry_line_kept line said at policies few)
-put_kept (Map at) r line said policies few =
-    taken_kept (Map at) (map_block_line r line said at policies) (map_block_line_kept r line said at policies few)
-
-said_kept : (block : PolicyBlock) (r : Row) (line : Line) (policies : Policies) (said : Result (List Said) Cause)
-    → Few policies → IfOk (said_reading block r line policies said) TakenFew
-said_kept block r line policies (Ok said) few = put_kept block r line said policies few
-said_kept block r line policies (Err cause) few = tt
-
-row_kept : (context : Context) (block : PolicyBlock) (line : Line) (policies : Policies) (found : Result Found Cause)
-    → Few policies → IfOk (row_reading context block line policies found) TakenFew
-row_kept context block line policies (Ok found) few =
-    either (is_policy_row context found.row)
-    (said_reading block found.row line policies (said_in found line.words)) (passed block policies) TakenFew
-    (said_kept block found.row line policies (said_in found line.words) few) few
-row_kept context block line policies (Err cause) few = few
+few_each : KeepsEach Few
+few_each = record {
+  access = access_line_kept;
+  entry = entry_line_kept;
+  opening = open_line_kept;
+  prefix = λ line said name policies says few. prefix_line_kept line said name policies few;
+  community = λ line said name policies few. community_line_kept line said name policies;
+  path = λ line said name policies few. path_line_kept line said name policies;
+  route_map = λ line said name policies few. map_line_kept line said name policies;
+  clause = map_block_line_kept;
+}
 
 -- where there are not too many entries, there are not too many after a line
 pub few_entries : (line : Line) (block : PolicyBlock) (policies : Policies)
     → policy_entries policies ≤ MOST_POLICY_ENTRIES
     → IfOk (policy_reading line block policies) (λ taken. policy_entries taken.policies ≤ MOST_POLICY_ENTRIES)
-unfolding policy_reading
-few_entries line block policies few =
-    either line.indented _ (context_reading Top Outside line policies) TakenFew (by (context_of block policies))
-    (row_kept Top Outside line policies (row_of Top line.words) few)
-  where
-    by : (context : Option Context)
-        → IfOk (option_map_or (λ c. context_reading c block line policies) context (passed block policies)) TakenFew
-    by None = few
-    by (Some context) = row_kept context block line policies (row_of context line.words) few
+few_entries line block policies few = policies_kept Few few_each line block policies few

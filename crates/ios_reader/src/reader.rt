@@ -105,7 +105,8 @@ fn read_all(alloc: Global, lines: &[Line]) -> Result<File, Refused>
 /// The file that a text reads as. Each line is of the row with the longest head that fits where the line stands. A text
 /// is refused at its first line with a cause: of several causes at a line the first counts in the order too many lines,
 /// out of place, unknown command, bad word, repeated, over a limit. A text without a hostname is refused at line 1. The
-/// file keeps the limits of a file: interfaces, neighbours, entries of lists and maps, and the range of OSPF costs.
+/// file keeps the limits of a file: interfaces, neighbours, entries of lists and maps, the range of OSPF costs, and the
+/// order of a prefix list's lengths. It names each neighbour once, and has its addresses by different lines.
 #[tactic(auto, using(crate::proofs::KeptLimits::read_limits, crate::proofs::KeptLimits::read_entries))]
 pub fn read_file(alloc: Global, bytes: &[u8]) -> Result<File, Refused>
     requires { length bytes.now < 2 ^ 32 }

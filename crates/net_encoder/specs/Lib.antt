@@ -7,7 +7,6 @@ pub use Rattle.world_variables.specs.Rooms
 pub use Rattle.world_variables.specs.Slots
 pub use Rattle.world_variables.specs.Worlds
 pub use Rattle.world_variables.specs.Symbols
-pub use Rattle.world_variables.specs.Supported
 pub use Rattle.ospf_equations.specs.Adjacent
 pub use Rattle.ospf_equations.specs.Equations
 pub use Rattle.ospf_equations.specs.Levels

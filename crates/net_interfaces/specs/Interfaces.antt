@@ -1,5 +1,6 @@
 -- The interfaces of a network that have an address, and their subnets.
-use Rattle.std.specs.Prelude.{ℕ, ◌+◌, ◌==◌, Bool, List, [], ◌∷◌, ◌++◌, codes, map, take, Option, option_map}
+use Rattle.std.specs.Prelude.{◌≡◌, ℕ, ◌+◌, ◌==◌, Bool, true, List, [], ◌∷◌, ◌++◌, Contains, codes, map, take, Option}
+use Rattle.std.specs.Prelude.{option_map}
 use Rattle.std.specs.List.{find}
 use Rattle.std.specs.Option.{option_map_or}
 use Rattle.std.specs.Char.{to_ascii_lowercase}
@@ -50,3 +51,11 @@ owner files a = option_map (λ x. x.id) (find (λ x. x.addr.0 == a.0) (addressed
 -- the subnet of an interface that contains the address
 abbrev pub subnet_of : List File → Addr → Option Prefix
 subnet_of files a = option_map (λ x. x.subnet) (find (λ x. covers x.subnet a) (addressed files))
+
+-- one interface of the router, and no other of its interfaces, has the address on its subnet
+pub record LiesOnOne (files : List File) (router : ℕ) (a : Addr) : Type 0 where
+  pub on : Addressed
+  pub listed : Contains (addressed files) on
+  pub own : on.id.router ≡ router
+  pub covered : covers on.subnet a ≡ true
+  pub only : (x : Addressed) → Contains (addressed files) x → x.id.router ≡ router → covers x.subnet a ≡ true → x ≡ on

@@ -11,10 +11,11 @@ use Rattle.mw_text.proofs.Lists.{all_at}
 use Rattle.ios_ast.specs.declared.file.File.{File}
 use Rattle.ios_ast.specs.declared.file.Iface.{Iface}
 use Rattle.ios_ast.specs.declared.ospf.Ospf.{Ospf}
+use Rattle.ios_ast.proofs.KeptLimits.{limits_of}
 use Rattle.net_interfaces.specs.declared.interfaces.Addressed.{Addressed}
 use Rattle.net_parts.specs.declared.ospf.OspfInterface.{OspfInterface}
 use Rattle.net_interfaces.specs.Interfaces.{addressed}
-use Rattle.net_interfaces.specs.Limits.{has_cost_in_range, has_few_interfaces, has_few_neighbours, keeps_limits}
+use Rattle.net_interfaces.specs.Limits.{has_cost_in_range, keeps_limits}
 use Rattle.net_parts.specs.Ospf.{adjacencies, adjacencies_of, adjacency, are_adjacent, bandwidth_cost, interface_cost}
 use Rattle.net_parts.specs.Ospf.{is_matched, ospf_at, ospf_interfaces, running, running_in}
 
@@ -77,10 +78,7 @@ of_running files limits x y =
         → IsCost y.cost
     by_file None kept is = cc
     by_file (Some file) kept is =
-        let costs : Bool = list_all has_cost_in_range file.interfaces in
-        let here = and_parts (has_few_neighbours file) costs
-        (and_parts (has_few_interfaces file) (has_few_neighbours file && costs) (kept file refl)).1 in
-        by_process file.ospf file y here.1 is
+        by_process file.ospf file y (limits_of file (kept file refl)).costs is
 
 in_recursion : (files : List File) → list_all keeps_limits files ≡ true
     → AllByRecursion (λ x. IsCost x.cost) (ospf_interfaces files)

@@ -1,5 +1,5 @@
 -- How many interfaces have an address, and how many links there are.
-use Rattle.std.proofs.Common.{◌≡◌, ℕ, ◌+◌, ◌*◌, ◌≤◌, Bool, true, false, ◌&&◌, List, [], ◌∷◌, length, length-append}
+use Rattle.std.proofs.Common.{◌≡◌, ℕ, ◌+◌, ◌*◌, ◌≤◌, Bool, true, false, List, [], ◌∷◌, length, length-append}
 use Rattle.std.proofs.Common.{Option, Some, None, arith, if◌then◌else◌}
 use Rattle.std.proofs.lemmas.Bool.{and_parts, leb-true}
 use Rattle.std.proofs.lemmas.List.{length-map}
@@ -11,9 +11,10 @@ use Rattle.mw_text.specs.Address.{same_prefix}
 use Rattle.ios_ast.specs.declared.file.File.{File}
 use Rattle.ios_ast.specs.declared.file.IfAddr.{IfAddr}
 use Rattle.ios_ast.specs.declared.file.Iface.{Iface}
+use Rattle.ios_ast.proofs.KeptLimits.{limits_of}
 use Rattle.net_interfaces.specs.declared.interfaces.Addressed.{Addressed}
 use Rattle.net_interfaces.specs.Interfaces.{addressed, addressed_from, addressed_iface, addressed_routers}
-use Rattle.net_interfaces.specs.Limits.{has_cost_in_range, has_few_interfaces, has_few_neighbours, keeps_limits}
+use Rattle.net_interfaces.specs.Limits.{keeps_limits}
 use Rattle.net_parts.specs.Sessions.{peerings}
 use Rattle.net_parts.specs.World.{comes_before, is_link, link_on, linked_subnets, links_of, put_in_order}
 use Rattle.net_parts.proofs.Peers.{filter-le}
@@ -38,13 +39,11 @@ few_routers : (router : ℕ) (files : List File) → list_all keeps_limits files
 few_routers router [] few = omega arith
 few_routers router (file ∷ rest) few =
     let both = and_parts (keeps_limits file) (list_all keeps_limits rest) few in
-    let costs : Bool = list_all has_cost_in_range file.interfaces in
-    let here = and_parts (has_few_interfaces file) (has_few_neighbours file && costs) both.0 in
     omega (
       arith,
       length-append (addressed_from router 0 file.interfaces) (addressed_routers (router + 1) rest),
       few_from router 0 file.interfaces,
-      leb-true _ _ here.0,
+      leb-true _ _ (limits_of file both.0).interfaces,
       few_routers (router + 1) rest both.1,
     )
 

@@ -11,3 +11,4 @@ pub mod Costs
 pub mod Equations
 pub mod SubnetOrder
 pub mod Survivors
+pub mod Heard

@@ -1,5 +1,5 @@
 -- How many neighbour lines and sessions there are.
-use Rattle.std.proofs.Common.{◌≡◌, ℕ, ◌+◌, ◌*◌, ◌≤◌, Bool, true, ◌&&◌, List, [], ◌∷◌, length, length-append}
+use Rattle.std.proofs.Common.{◌≡◌, ℕ, ◌+◌, ◌*◌, ◌≤◌, Bool, true, List, [], ◌∷◌, length, length-append}
 use Rattle.std.proofs.Common.{Option, Some, None, ap, arith}
 use Rattle.std.proofs.lemmas.Bool.{and_parts, leb-true}
 use Rattle.std.proofs.lemmas.List.Sums.{count_by-le-length, length-filter}
@@ -10,10 +10,11 @@ use Rattle.ios_ast.specs.declared.bgp.Bgp.{Bgp}
 use Rattle.ios_ast.specs.declared.bgp.Neighbour.{Neighbour}
 use Rattle.ios_ast.specs.declared.file.File.{File}
 use Rattle.ios_ast.specs.declared.file.TheConstants.{MOST_NEIGHBOURS}
+use Rattle.ios_ast.proofs.KeptLimits.{limits_of}
 use Rattle.net_interfaces.specs.declared.interfaces.Addressed.{Addressed}
 use Rattle.net_parts.specs.declared.sessions.Peering.{Peering}
 use Rattle.net_interfaces.specs.Interfaces.{addressed}
-use Rattle.net_interfaces.specs.Limits.{has_few_interfaces, has_few_neighbours, has_cost_in_range, keeps_limits}
+use Rattle.net_interfaces.specs.Limits.{has_few_neighbours, keeps_limits}
 use Rattle.net_parts.specs.Sessions.{has_session, peering, peerings, peerings_from, peerings_of, peerings_routers}
 use Rattle.net_parts.specs.Sessions.{sessions, speaks_from}
 
@@ -55,13 +56,10 @@ few_routers : (all : List Addressed) (router : ℕ) (files : List File) → list
 few_routers all router [] few = omega arith
 few_routers all router (file ∷ rest) few =
     let both = and_parts (keeps_limits file) (list_all keeps_limits rest) few in
-    let costs : Bool = list_all has_cost_in_range file.interfaces in
-    let here = and_parts (has_few_neighbours file) costs
-    (and_parts (has_few_interfaces file) (has_few_neighbours file && costs) both.0).1 in
     omega (
       arith,
       length-append (peerings_of all router file) (peerings_routers all (router + 1) rest),
-      few_of all router file here.0,
+      few_of all router file (limits_of file both.0).neighbours,
       few_routers all (router + 1) rest both.1,
     )
 

@@ -2,7 +2,7 @@
 use Rattle.std.specs.Prelude.{◌≡◌, ℕ, ◌+◌, ◌==◌, ◌&&◌, ◌||◌, Bool, true, false, not, List, [], ◌∷◌, ◌++◌, Any, filter}
 use Rattle.std.specs.Prelude.{fold, length, map, nat_lt, slice_get, take, Option, None, MatchOption, option_and_then}
 use Rattle.std.specs.Prelude.{option_map, unwrap_or, if◌then◌else◌}
-use Rattle.std.specs.List.{filter_map, find, list_any}
+use Rattle.std.specs.List.{enumerate_from, filter_map, find, list_any}
 use Rattle.std.specs.Option.{option_map_or}
 use Rattle.mw_text.specs.declared.address.Addr.{Addr}
 use Rattle.mw_text.specs.declared.address.Prefix.{Prefix}
@@ -131,11 +131,6 @@ survivors always compare_id candidates = survivors_by key_of always compare_id c
 
 -- ---- the candidates
 
--- the ends with their places
-abbrev pub numbered : ℕ → List SessionEnd → List (ℕ × SessionEnd)
-numbered at [] = []
-numbered at (end ∷ rest) = (at, end) ∷ numbered (at + 1) rest
-
 -- how many of some ends are towards external peers
 abbrev pub external_count : List SessionEnd → ℕ
 external_count ends = length (filter (λ end. is_outside end.far) ends)
@@ -152,44 +147,60 @@ arriving files environment tables p at end = by_far end.far where
       option_and_then (λ far. option_and_then (exported files far p)
       (option_and_then (λ slot. slot.bgp) (slot_at tables far.router p.len))) (slice_get (ends_of files) far_at)
 
--- the identifier of the peer at the far side
-abbrev pub peer_identifier : List File → Environment → ℕ → SessionEnd → Addr
-peer_identifier files environment at end = by_far end.far where
+-- the identifier of the peer at the far side; those of external peers are given, in the order of their ends
+abbrev pub peer_identifier : List File → List Addr → ℕ → SessionEnd → Addr
+peer_identifier files ids at end = by_far end.far where
   by_far : Far → Addr
-  by_far Outside = unwrap_or (slice_get environment.ids (external_count (take at (ends_of files)))) (record { 0 = 0 })
+  by_far Outside = unwrap_or (slice_get ids (external_count (take at (ends_of files)))) (record { 0 = 0 })
   by_far (Inside far_at) =
       option_map_or (λ far. router_id files far.router) (slice_get (ends_of files) far_at) (record { 0 = 0 })
 
--- a learnt route is a candidate where its session is up, it is imported, and its next hop is resolved
-abbrev pub learnt_candidate : List File → Failures → Environment → Tables → Prefix → ℕ × SessionEnd → Option Candidate
-learnt_candidate files failures environment tables p (at, end) =
-    if session_up files failures end
-    then option_and_then (λ rec. option_map (λ cost. record {
+-- a route that a router took over the session of an end is a candidate where its next hop is resolved
+abbrev pub taken_candidate : List File → Failures → List Addr → ℕ → SessionEnd → BgpRec → Option Candidate
+taken_candidate files failures ids at end rec =
+    option_map (λ cost. record {
       rec = rec;
       external = not end.internal;
       cost = cost;
-      peer_id = peer_identifier files environment at end;
-    }) (resolved files failures end.router rec.next_hop))
-    (option_and_then (imported files end p) (arriving files environment tables p at end))
+      peer_id = peer_identifier files ids at end;
+    }) (resolved files failures end.router rec.next_hop)
+
+-- what was received over the session of an end, if anything, is a candidate where moreover the session is up and the
+-- router takes it
+abbrev pub learnt_candidate : List File → Failures → List Addr → Prefix → ℕ → SessionEnd → Option BgpMsg
+    → Option Candidate
+learnt_candidate files failures ids p at end received =
+    if session_up files failures end
+    then option_and_then (taken_candidate files failures ids at end) (option_and_then (imported files end p) received)
     else None
 
 abbrev pub local_candidate : List File → ℕ → BgpRec → Candidate
 local_candidate files router rec = record { rec = rec; external = false; cost = 0; peer_id = router_id files router }
 
--- the candidates of a router for a prefix: its local routes, and then by session what it learnt
+-- the candidates of a router for a prefix by what it last received over each of its sessions (its Adj-RIBs-In,
+-- RFC 4271, section 3.2): its local routes, and then by session what it learnt
+unfoldable pub candidates_from : List File → Failures → List Addr → (ℕ → SessionEnd → Option BgpMsg) → ℕ → Prefix
+    → List BgpRec → List Candidate
+candidates_from files failures ids received router p local =
+    map (local_candidate files router) local
+    ++ filter_map (λ e. learnt_candidate files failures ids p e.0 e.1 (received e.0 e.1))
+    (filter (λ e. e.1.router == router) (enumerate_from 0 (ends_of files)))
+
+-- those by the tables: the local routes are those of its own slot, and it has received what arrives
 unfoldable pub candidates : List File → Failures → Environment → Tables → ℕ → File → Bgp → Prefix → List Candidate
 candidates files failures environment tables router file process p =
-    map (local_candidate files router)
+    candidates_from files failures environment.ids (arriving files environment tables p) router p
     (option_map_or (local_routes files router file process p) (slot_at tables router p.len) [])
-    ++ filter_map (learnt_candidate files failures environment tables p)
-    (filter (λ e. e.1.router == router) (numbered 0 (ends_of files)))
 
 -- the router holds the route of some survivor, and none exactly where there is no candidate
 abbrev pub IsHeld : List Candidate → List Candidate → Option BgpRec → Type 0
 IsHeld candidates left held = MatchOption held (candidates ≡ []) (λ rec. Any (λ c. c.rec ≡ rec) left)
 
+-- it is the route of one that the decision process leaves of these candidates
+abbrev pub IsDecidedAmong : Bgp → List Candidate → Option BgpRec → Type 0
+IsDecidedAmong process all held = IsHeld all (survivors process.always_compare process.compare_routerid all) held
+
 unfoldable pub DecidedByBgp : List File → Failures → Environment → Tables → ℕ → File → Bgp → Prefix → Option BgpRec
     → Type 0
 DecidedByBgp files failures environment tables router file process p held =
-    let all = candidates files failures environment tables router file process p in
-    IsHeld all (survivors process.always_compare process.compare_routerid all) held
+    IsDecidedAmong process (candidates files failures environment tables router file process p) held

@@ -63,11 +63,14 @@ router_id files router =
 abbrev pub is_reflector : Bgp → Bool
 is_reflector process = list_any (λ neighbour. neighbour.client) process.neighbours
 
+-- the end is one of the router, and its neighbour has that address
+abbrev pub is_towards : List File → ℕ → Addr → SessionEnd → Bool
+is_towards files router a end =
+    (end.router == router) && option_map_or (λ neighbour. neighbour.addr.0 == a.0) (neighbour_of files end) false
+
 -- the end of the router whose neighbour has that address
 abbrev pub end_towards : List File → ℕ → Addr → Option SessionEnd
-end_towards files router a =
-    find (λ end. (end.router == router)
-    && option_map_or (λ neighbour. neighbour.addr.0 == a.0) (neighbour_of files end) false) (ends_of files)
+end_towards files router a = find (is_towards files router a) (ends_of files)
 
 -- the end over which a route was learnt
 abbrev pub learnt_over : List File → ℕ → Learnt → Option SessionEnd

@@ -104,11 +104,17 @@ abbrev pub is_up_at : List File → Failures → IfaceId → Bool
 is_up_at files failures i =
     list_any (λ x. ((x.id.router == i.router) && (x.id.at == i.at)) && is_up files failures x) (addressed files)
 
--- the adjacencies over which a router receives: both interfaces are up
+-- an adjacency is up where both interfaces are
+abbrev pub is_adjacency_up : List File → Failures → Adjacency → Bool
+is_adjacency_up files failures a = is_up_at files failures a.from && is_up_at files failures a.to
+
+-- the router receives over the adjacency: it is one of the router's own, and is up
+abbrev pub receives : List File → Failures → ℕ → Adjacency → Bool
+receives files failures router a = (a.from.router == router) && is_adjacency_up files failures a
+
+-- the adjacencies over which a router receives
 unfoldable pub up_adjacencies : List File → Failures → ℕ → List Adjacency
-up_adjacencies files failures router =
-    filter (λ a. (a.from.router == router) && (is_up_at files failures a.from && is_up_at files failures a.to))
-    (adjacencies files)
+up_adjacencies files failures router = filter (receives files failures router) (adjacencies files)
 
 -- the interfaces of a router by which it originates the prefix: they advertise it and are up
 abbrev pub origin_interfaces : List File → Failures → ℕ → Prefix → List OspfInterface

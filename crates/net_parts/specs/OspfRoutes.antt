@@ -1,7 +1,7 @@
 -- The OSPF route that a router holds (RFC 2328, section 16.4).
-use Rattle.std.specs.Prelude.{ℕ, ◌+◌, ◌==◌, ◌&&◌, ◌||◌, ◌^◌, Bool, true, false, not, List, [], ◌++◌, fold, map, nat_lt}
-use Rattle.std.specs.Prelude.{Option, Some, None, option_and_then, if◌then◌else◌}
-use Rattle.std.specs.List.{filter_map, list_any}
+use Rattle.std.specs.Prelude.{ℕ, ◌+◌, ◌==◌, ◌&&◌, ◌||◌, ◌^◌, Bool, true, false, not, List, [], ◌++◌, filter, fold, map}
+use Rattle.std.specs.Prelude.{nat_lt, Option, Some, None, option_and_then, if◌then◌else◌}
+use Rattle.std.specs.List.{enumerate_from, filter_map, list_any}
 use Rattle.std.specs.Option.{option_map_or}
 use Rattle.mw_text.specs.declared.address.Prefix.{Prefix}
 use Rattle.ios_ast.specs.declared.file.File.{File}
@@ -15,7 +15,7 @@ use Rattle.route_record.specs.declared.Tables.{Tables}
 use Rattle.route_record.specs.Places.{slot_at}
 use Rattle.net_parts.specs.declared.adjacencies.Adjacency.{Adjacency}
 use Rattle.net_parts.specs.Origins.{redistributed}
-use Rattle.net_parts.specs.Ospf.{origin_interfaces, up_adjacencies}
+use Rattle.net_parts.specs.Ospf.{adjacencies, origin_interfaces, receives}
 
 -- internal before type 1, and type 1 before type 2
 abbrev pub kind_rank : OspfKind → ℕ
@@ -58,16 +58,30 @@ own_origins files failures router file process p slot =
     map (λ x. record { kind = Internal; metric = 0; cost = x.cost }) (origin_interfaces files failures router p)
     ++ redistributed file process p slot
 
+-- the record that the far router of an adjacency holds
+abbrev pub far_record : Tables → Prefix → Adjacency → Option OspfRec
+far_record tables p a = option_and_then (λ slot. slot.ospf) (slot_at tables a.to.router p.len)
+
 -- what is offered over an adjacency: the far router's record, extended by the cost of the receiving interface
 abbrev pub offer_over : Tables → Prefix → Adjacency → Option OspfRec
-offer_over tables p a =
-    option_and_then (extended a.cost) (option_and_then (λ slot. slot.ospf) (slot_at tables a.to.router p.len))
+offer_over tables p a = option_and_then (extended a.cost) (far_record tables p a)
 
--- the first best of the own origins and the offers of adjacencies that are up
+-- what a router has heard over the adjacency at a place is an offer, extended in the same way
+abbrev pub offer_heard : (ℕ → Adjacency → Option OspfRec) → ℕ × Adjacency → Option OspfRec
+offer_heard heard over = option_and_then (extended over.1.cost) (heard over.0 over.1)
+
+-- the record that a router holds by its own origins and by what it has heard over each adjacency: the first best of the
+-- origins and of the offers over the adjacencies that are up
+unfoldable pub held_from : List File → Failures → (ℕ → Adjacency → Option OspfRec) → ℕ → List OspfRec → Option OspfRec
+held_from files failures heard router origins =
+    first_best (origins ++ filter_map (offer_heard heard)
+    (filter (λ over. receives files failures router over.1) (enumerate_from 0 (adjacencies files))))
+
+-- that by the tables: the origins are those of its own slot, and it has heard what the far routers hold
 unfoldable pub held_by_ospf : List File → Failures → Tables → ℕ → File → Ospf → Prefix → Option OspfRec
 held_by_ospf files failures tables router file process p =
-    first_best (option_map_or (own_origins files failures router file process p) (slot_at tables router p.len) []
-    ++ filter_map (offer_over tables p) (up_adjacencies files failures router))
+    held_from files failures (λ at a. far_record tables p a) router
+    (option_map_or (own_origins files failures router file process p) (slot_at tables router p.len) [])
 
 -- an own origin is as good as the held record
 abbrev pub is_own : List File → Failures → ℕ → File → Prefix → Slot → OspfRec → Bool

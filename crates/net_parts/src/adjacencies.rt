@@ -3,10 +3,10 @@
 ghost use Rattle.std.specs.Prelude.{◌≡◌, ◌++◌, IfOk, OnOk, filter, map};
 ghost use Rattle.net_parts.specs.Ospf as ospf;
 
-use net_interfaces::IfaceId;
 use crate::ospf::OspfInterface;
 use ios_ast::File;
 use mw_text::List;
+use net_interfaces::IfaceId;
 use std::alloc::{AllocError, Global};
 
 /// The router of `from` receives from the router of `to`, at the output cost of its own interface (RFC 2328, section 9).

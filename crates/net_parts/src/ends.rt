@@ -6,7 +6,7 @@ ghost use Rattle.std.specs.Option.{option_copied, option_map_or};
 ghost use Rattle.net_parts.specs.Exports as exports;
 ghost use Rattle.net_parts.specs.Sessions as sessions;
 
-use crate::sessions::SessionEnd;
+use crate::sessions::{Far, SessionEnd};
 use ios_ast::{Bgp, File, Neighbour};
 use mw_text::Addr;
 use route_record::Learnt;
@@ -39,6 +39,13 @@ pub fn neighbour_of<'a>(files: &'a [File], end: &SessionEnd) -> Option<&'a Neigh
     }
 }
 
+/// Whether an external peer lies at the far side.
+pub fn is_outside(end: &SessionEnd) -> bool
+    ensures { result ≡ sessions.is_outside end.now.far }
+{
+    matches!(end.far, Far::Outside)
+}
+
 fn is_at(files: &[File], end: &SessionEnd, a: Addr) -> bool
     ensures { result ≡ option_map_or (λ neighbour. neighbour.addr.0 == a.0) (sessions.neighbour_of files.now end.now) false }
 {
@@ -48,9 +55,9 @@ fn is_at(files: &[File], end: &SessionEnd, a: Addr) -> bool
     }
 }
 
-fn is_towards(files: &[File], router: u32, a: Addr, end: &SessionEnd) -> bool
-    ensures { result ≡ ((end.now.router == router)
-        && option_map_or (λ neighbour. neighbour.addr.0 == a.0) (sessions.neighbour_of files.now end.now) false) }
+/// Whether the end is one of the router, and its neighbour has that address.
+pub fn is_towards(files: &[File], router: u32, a: Addr, end: &SessionEnd) -> bool
+    ensures { result ≡ exports.is_towards files.now router a end.now }
 {
     end.router == router && is_at(files, end, a)
 }

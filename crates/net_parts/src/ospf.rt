@@ -7,11 +7,11 @@ ghost use Rattle.net_interfaces.specs.Interfaces.{addressed};
 ghost use Rattle.net_parts.specs.Ospf as ospf;
 ghost use Rattle.mw_text.specs.Text.{same_text};
 
-use net_interfaces::limits::MOST_COST;
-use net_interfaces::{Addressed, IfaceId};
 use crate::links::put_in_order;
 use ios_ast::{File, Iface, Ospf, OspfNet, Use};
 use mw_text::{Addr, List, Prefix, prefix_of, same_bytes};
+use net_interfaces::limits::MOST_COST;
+use net_interfaces::{Addressed, IfaceId};
 use std::alloc::{AllocError, Global};
 
 /// An interface that runs OSPF, with its output cost. Over a passive one no adjacency is formed.

@@ -5,9 +5,9 @@ ghost use Rattle.std.specs.List.{list_any};
 ghost use Rattle.net_interfaces.specs.Interfaces.{addressed};
 ghost use Rattle.net_parts.specs.Exports as exports;
 
-use net_interfaces::Addressed;
 use ios_ast::File;
 use mw_text::Addr;
+use net_interfaces::Addressed;
 use std::alloc::{AllocError, Global};
 
 fn configured_in(file: &File) -> Option<Addr>

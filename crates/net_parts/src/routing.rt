@@ -3,9 +3,9 @@
 ghost use Rattle.std.specs.Prelude.{◌≡◌, ◌==◌, ◌&&◌, true, not, IfOk};
 ghost use Rattle.net_parts.specs.Routing as routing;
 
-use net_interfaces::Addressed;
 use ios_ast::{StaticRoute, Via};
 use mw_text::{Addr, Prefix, contains};
+use net_interfaces::Addressed;
 use std::alloc::{AllocError, Global};
 
 fn is_open(x: &Addressed) -> bool

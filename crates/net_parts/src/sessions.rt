@@ -8,10 +8,9 @@ ghost use Rattle.net_interfaces.specs.Interfaces.{addressed};
 ghost use Rattle.net_interfaces.specs.Limits.{keeps_limits};
 ghost use Rattle.net_parts.specs.Sessions as sessions;
 
-use net_interfaces::{Addressed, IfaceId};
-use net_interfaces::MOST_FILES;
 use ios_ast::{Bgp, File, MOST_NEIGHBOURS, Neighbour};
 use mw_text::{Addr, List, contains, same_bytes};
+use net_interfaces::{Addressed, IfaceId, MOST_FILES};
 use std::alloc::{AllocError, Global};
 
 /// What lies at the far side of a session: an external peer, or the end of another router, by its position.

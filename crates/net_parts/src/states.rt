@@ -9,10 +9,10 @@ ghost use Rattle.net_parts.specs.Ospf as ospf;
 ghost use Rattle.net_parts.specs.Routing as routing;
 ghost use Rattle.net_parts.specs.World as world;
 
-use net_interfaces::{Addressed, IfaceId};
 use crate::links::Link;
 use ios_ast::File;
 use mw_text::{Addr, Prefix, contains};
+use net_interfaces::{Addressed, IfaceId};
 use route_record::Failures;
 
 fn find_owner(addresses: &[Addressed], a: Addr) -> Option<Addressed>

@@ -200,7 +200,7 @@ of_file (f ∷ rest) r (suc at) file x found has =
     Contains-append_right (addressed_from r 0 f.interfaces) _ x
     (of_file rest (r + 1) at file x found (subst (λ n. Contains (addressed_from n 0 file.interfaces) x) place has))
 
-of_one : (files : List File) (at : ℕ) (file : File) (x : Addressed) → slice_get files at ≡ Some file →
+pub of_one : (files : List File) (at : ℕ) (file : File) (x : Addressed) → slice_get files at ≡ Some file →
     Contains (addressed_from at 0 file.interfaces) x → Contains (addressed files) x
 of_one files at file x found has =
     let place : at ≡ 0 + at = omega arith in

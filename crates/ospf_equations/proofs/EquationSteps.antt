@@ -17,7 +17,7 @@ use Rattle.route_record.specs.declared.Tables.{Tables}
 use Rattle.route_record.specs.declared.TheConstants.{LENGTHS}
 use Rattle.net_parts.specs.declared.adjacencies.Adjacency.{Adjacency}
 use Rattle.net_parts.specs.declared.ospf.OspfInterface.{OspfInterface}
-use Rattle.net_parts.specs.Ospf.{advertisement}
+use Rattle.net_parts.specs.Ospf.{advertisement, receives}
 use Rattle.net_parts.specs.OspfRoutes.{extended, offer_over}
 use Rattle.net_parts.specs.World.{is_up}
 use Rattle.term_store.specs.Terms.{Reading}
@@ -27,7 +27,7 @@ use Rattle.sym_rib.specs.declared.slots.SymSlot.{SymSlot}
 use Rattle.sym_rib.specs.Into.{list_end}
 use Rattle.sym_rib.proofs.OneEach.{filter_map_push, list_end_push}
 use Rattle.sym_rib.specs.Worlds.{tables_of, slot_of as slot_read}
-use Rattle.ospf_equations.specs.Equations.{offered_by, offers_by, origin_by, originates, origins_by, receives}
+use Rattle.ospf_equations.specs.Equations.{offered_by, offers_by, origin_by, originates, origins_by}
 
 -- ---- one route more
 

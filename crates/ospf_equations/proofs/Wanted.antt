@@ -19,6 +19,7 @@ use Rattle.route_record.specs.Places.{slot_at}
 use Rattle.net_parts.specs.declared.ospf.OspfInterface.{OspfInterface}
 use Rattle.net_parts.specs.Origins.{redistributed}
 use Rattle.net_parts.specs.Ospf.{adjacencies, ospf_interfaces, up_adjacencies}
+use Rattle.net_parts.proofs.Heard.{held_by_offers}
 use Rattle.net_parts.specs.OspfRoutes.{first_best, held_by_ospf, is_as_good, offer_over, own_origins}
 use Rattle.term_store.specs.Terms.{differ}
 use Rattle.sym_policy.specs.Held.{internal_route}
@@ -44,10 +45,11 @@ pub wanted_is : (files : List File) (failures : Failures) (d : Addr) (tables : T
     ++ offers_by files failures tables router (prefix_at d len) (adjacencies files)))
     && beq u.own (option_map_or (λ h. list_any (λ o. is_as_good o h)
     (own_origins files failures router file process (prefix_at d len) slot)) u.ospf false))
-unfolding held_by_ospf up_adjacencies offers_by
+unfolding up_adjacencies offers_by
 wanted_is files failures d tables router len u file process slot runs there same =
     ap₂ (λ a b. same_ospf u.ospf a && beq u.own b)
     (ap (λ o. option_and_then (λ q. held_by_ospf files failures tables router file q (prefix_at d len)) o) runs
+    ∙ held_by_offers files failures tables router file process (prefix_at d len)
     ∙ ap (λ o. first_best (option_map_or (own_origins files failures router file process (prefix_at d len)) o []
     ++ filter_map (offer_over tables (prefix_at d len)) (up_adjacencies files failures router))) there)
     (ap (λ o. option_map_or (λ h. option_map_or (λ q. list_any (λ r. is_as_good r h)

@@ -10,7 +10,7 @@ use Rattle.route_record.specs.declared.tracked.Tracked.{Tracked}
 use Rattle.route_record.specs.declared.Tables.{Tables}
 use Rattle.net_parts.specs.declared.adjacencies.Adjacency.{Adjacency}
 use Rattle.net_parts.specs.declared.ospf.OspfInterface.{OspfInterface}
-use Rattle.net_parts.specs.Ospf.{advertisement, is_up_at}
+use Rattle.net_parts.specs.Ospf.{advertisement, receives}
 use Rattle.net_parts.specs.OspfRoutes.{offer_over}
 use Rattle.net_parts.specs.World.{is_up}
 use Rattle.term_store.specs.Terms.{Reading}
@@ -33,12 +33,7 @@ unfoldable pub origins_by : List File → Failures → ℕ → Prefix → List O
 origins_by files failures router p xs =
     map (λ x. internal_route x.cost) (filter (originates files failures router p) xs)
 
--- the router receives over that adjacency
-abbrev pub receives : List File → Failures → ℕ → Adjacency → Bool
-receives files failures router a =
-    (a.from.router == router) && (is_up_at files failures a.from && is_up_at files failures a.to)
-
--- what is offered over it, if the router does
+-- what is offered over an adjacency, if the router receives over it
 abbrev pub offered_by : List File → Failures → Tables → ℕ → Prefix → Adjacency → Option OspfRec
 offered_by files failures tables router p a =
     if receives files failures router a then offer_over tables p a else None

@@ -18,8 +18,8 @@ ghost use Rattle.term_store.specs.Reading.{Reads, Builds, Gives};
 ghost use Rattle.term_arith.specs.Bits.{ids_end};
 
 use mw_text::List;
-use net_parts::ospf::advertisement;
 use net_model::{Net, OspfInterface};
+use net_parts::ospf::advertisement;
 use std::alloc::{AllocError, Global};
 use sym_ospf::{known_ospf, sym_up};
 use sym_policy::{SymNet, SymOspf};

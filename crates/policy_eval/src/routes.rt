@@ -6,6 +6,7 @@ ghost use Rattle.std.specs.Option.{option_copied};
 ghost use Rattle.ios_ast.specs.Maps.{mapped};
 ghost use Rattle.mw_text.specs.Text.{same_text};
 ghost use Rattle.policy_eval.specs.Attributes.{attributes_of, KeepsRest};
+ghost use Rattle.ios_ast.specs.Maps as maps;
 ghost use Rattle.policy_eval.specs.Routes as routes;
 ghost use Rattle.policy_eval.specs.Routes.{as_map_rec};
 ghost use Rattle.route_record.specs.Sides.{at_external};
@@ -55,7 +56,7 @@ fn through_named(
     rec: &MapRec,
 ) -> Result<Option<MapRec>, AllocError>
     ensures value { IfOk result (λ made. option_map attributes_of made
-        ≡ mapped policies.now (routes.entries_named policies.now named.now) p.now (at_external side) (attributes_of rec.now)) }
+        ≡ mapped policies.now (maps.entries_named policies.now named.now) p.now (at_external side) (attributes_of rec.now)) }
     ensures rest { IfOk result (λ made. IfSome made (KeepsRest rec.now)) }
 {
     match map_named(policies, named) {
@@ -74,7 +75,7 @@ pub fn record_through_map(
     rec: MapRec,
 ) -> Result<Option<MapRec>, AllocError>
     ensures value { IfOk result (λ made. option_map attributes_of made
-        ≡ routes.through_map policies.now used.now p.now (at_external side) (attributes_of rec)) }
+        ≡ maps.through_map policies.now used.now p.now (at_external side) (attributes_of rec)) }
     ensures rest { IfOk result (λ made. IfSome made (KeepsRest rec)) }
 {
     match used {
@@ -94,7 +95,7 @@ pub fn through_map(
     rec: BgpRec,
 ) -> Result<Option<BgpRec>, AllocError>
     ensures { IfOk result (λ made. made ≡ option_map (routes.with_attributes rec)
-        (routes.through_map policies.now used.now p.now external (attributes_of (as_map_rec rec)))) }
+        (maps.through_map policies.now used.now p.now external (attributes_of (as_map_rec rec)))) }
 {
     match record_through_map(alloc, policies, used, p, side_of(external), map_rec(rec))? {
         None => Ok(None),

@@ -4,6 +4,7 @@ ghost use Rattle.std.specs.Prelude.{◌≡◌, ◌==◌, ◌&&◌, ◌||◌, fal
 ghost use Rattle.std.specs.List.{list_any};
 ghost use Rattle.std.specs.Option.{option_copied, option_map_or};
 ghost use Rattle.ios_ast.specs.Deciding.{carries};
+ghost use Rattle.ios_ast.specs.Maps as maps;
 ghost use Rattle.ios_ast.specs.Maps.{deciding};
 ghost use Rattle.net_parts.specs.Exports as exports;
 ghost use Rattle.net_parts.specs.Mapping as mapping;
@@ -18,8 +19,8 @@ use crate::speaker::{
 };
 use ios_ast::{Bgp, File, MapEntry, Neighbour, Policies, SetAct, Use};
 use mw_text::{Addr, List, Prefix};
-use net_parts::ends::{file_of, neighbour_of};
 use net_model::{Net, SessionEnd};
+use net_parts::ends::{file_of, neighbour_of};
 use policy_eval::{copy_list, copy_route, deciding_entry, map_named, map_rec};
 use route_record::{BgpMsg, BgpRec, MapRec};
 use std::alloc::{AllocError, Global};
@@ -122,7 +123,7 @@ fn deciding_of<'a>(
     rec: &MapRec,
 ) -> Option<&'a MapEntry>
     ensures { option_copied result
-        ≡ deciding policies.now p.now (policy.attributes_of rec.now) (mapping.entries_named policies.now named.now) }
+        ≡ deciding policies.now p.now (policy.attributes_of rec.now) (maps.entries_named policies.now named.now) }
 {
     match map_named(policies, named) {
         None => None,
@@ -132,7 +133,7 @@ fn deciding_of<'a>(
 
 fn named_sets_metric(policies: &Policies, named: &Use, p: &Prefix, rec: &MapRec) -> bool
     ensures { result ≡ option_map_or (λ e. list_any exports.is_metric e.sets)
-        (deciding policies.now p.now (policy.attributes_of rec.now) (mapping.entries_named policies.now named.now)) false }
+        (deciding policies.now p.now (policy.attributes_of rec.now) (maps.entries_named policies.now named.now)) false }
 {
     match deciding_of(policies, named, p, rec) {
         None => false,
@@ -272,7 +273,7 @@ fn mapped_out(
     held: &BgpRec,
 ) -> Result<Option<BgpRec>, AllocError>
     ensures { IfOk result (λ made. made ≡ option_map (mapping.with_attributes held.now)
-        (mapping.through_map file.now.policies neighbour.now.map_out p.now (not end.now.internal)
+        (maps.through_map file.now.policies neighbour.now.map_out p.now (not end.now.internal)
         (mapping.attributes_of held.now))) }
 {
     let rec = copy_route(alloc, held)?;

@@ -2,6 +2,7 @@
 
 ghost use Rattle.std.specs.Prelude.{◌≡◌, ◌==◌, ◌&&◌, false, not, ◌<◌, length, slice_get, IfOk, option_and_then, unwrap_or, if◌then◌else◌};
 ghost use Rattle.std.specs.Option.{option_map_or};
+ghost use Rattle.ios_ast.specs.Maps as maps;
 ghost use Rattle.net_parts.specs.Exports as exports;
 ghost use Rattle.net_parts.specs.Mapping as mapping;
 ghost use Rattle.net_parts.specs.Sessions.{ends_of};
@@ -10,9 +11,9 @@ use crate::policies::{passes_paths, passes_prefixes, through_map};
 use crate::routers::{carries, has_id, is_reflector};
 use ios_ast::{Bgp, File, Neighbour, Policies};
 use mw_text::{Addr, Prefix};
+use net_model::{Net, SessionEnd};
 use net_parts::ends::{file_of, neighbour_of};
 use net_parts::router_ids::router_id;
-use net_model::{Net, SessionEnd};
 use policy_eval::copy_list;
 use route_record::{BgpMsg, BgpRec, Learnt};
 use std::alloc::{AllocError, Global};
@@ -116,7 +117,7 @@ fn mapped_in(
 ) -> Result<Option<BgpRec>, AllocError>
     ensures { IfOk result (λ made. made
         ≡ option_and_then (λ r. exports.if_short (mapping.with_attributes (exports.received neighbour.now end.now msg.now) r))
-        (mapping.through_map file.now.policies neighbour.now.map_in p.now (not end.now.internal)
+        (maps.through_map file.now.policies neighbour.now.map_in p.now (not end.now.internal)
         (mapping.attributes_of (exports.received neighbour.now end.now msg.now)))) }
 {
     let rec = received(alloc, neighbour, end, msg)?;

@@ -1,6 +1,7 @@
 //! The lists and route maps of a neighbour.
 
 ghost use Rattle.std.specs.Prelude.{◌≡◌, ◌∷◌, IfOk, option_map};
+ghost use Rattle.ios_ast.specs.Maps as maps;
 ghost use Rattle.net_parts.specs.Exports as exports;
 ghost use Rattle.net_parts.specs.Mapping as mapping;
 
@@ -51,7 +52,7 @@ pub fn through_map(
     rec: BgpRec,
 ) -> Result<Option<BgpRec>, AllocError>
     ensures { IfOk result (λ made. made ≡ option_map (mapping.with_attributes rec)
-        (mapping.through_map policies.now used.now p.now external (mapping.attributes_of rec))) }
+        (maps.through_map policies.now used.now p.now external (mapping.attributes_of rec))) }
 {
     policy_eval::through_map(alloc, policies, used, p, external, rec)
 }

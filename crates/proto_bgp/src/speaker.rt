@@ -11,9 +11,8 @@ ghost use Rattle.proto_bgp.specs.Sending.{Speaks};
 use crate::policies::with_front;
 use ios_ast::{File, Neighbour};
 use mw_text::{Addr, List};
-use net_parts::ends::learnt_over;
-use net_parts::router_ids::router_id;
 use net_model::{Addressed, Far, IfaceId, Net, SessionEnd};
+use net_parts::router_ids::router_id;
 use policy_eval::copy_list;
 use route_record::{BgpRec, Learnt};
 use std::alloc::{AllocError, Global};
@@ -171,7 +170,7 @@ pub fn speaker_of(
     ensures { IfOk result (λ speaker. Speaks net.now.files end.now held.now speaker) }
 {
     let files = net.routers();
-    let from = learnt_over(files, net.ends(), end.router, held.from);
+    let from = net.learnt_over(end.router, held.from);
     Ok(Speaker {
         address: own_address(files, net.addresses(), end),
         id: router_id(alloc, files, net.addresses(), end.router)?,

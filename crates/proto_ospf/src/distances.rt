@@ -11,8 +11,8 @@ ghost use Rattle.proto_ospf.specs.Rounds.{everywhere, interior_distances, receiv
 use crate::rounds::{MOST_COST, Receiver, distances_after, lower, of_router};
 use crate::states::receivers;
 use mw_text::{List, Prefix};
-use net_parts::ospf::advertisement;
 use net_model::{Net, OspfInterface};
+use net_parts::ospf::advertisement;
 use route_record::Failures;
 use std::alloc::{AllocError, Global};
 

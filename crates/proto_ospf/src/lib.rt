@@ -11,9 +11,9 @@ mod sessions;
 mod states;
 
 pub use distances::{distances_over, distances_to, igp_distance, originates, own_cost};
-pub use offers::{first_best, offer, prefer, transfer};
+pub use offers::{better_of, first_best, offer, prefer, transfer};
 pub use reached::{Reached, all_distances, resolve, resolve_over};
 pub use rounds::Receiver;
 pub use sending::sent_towards;
 pub use sessions::{is_up_at_end, session_up, sessions_up};
-pub use states::{receivers, up_adjacencies};
+pub use states::{adjacencies_up, receivers, up_adjacencies};

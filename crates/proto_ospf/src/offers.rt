@@ -37,7 +37,8 @@ pub fn prefer(a: &OspfRec, b: &OspfRec) -> bool
     !is_better(b, a)
 }
 
-fn better_of(best: Option<OspfRec>, next: OspfRec) -> Option<OspfRec>
+/// The better of the best route so far and a further one, and the former where both are as good.
+pub fn better_of(best: Option<OspfRec>, next: OspfRec) -> Option<OspfRec>
     ensures { result ≡ routes.better_of best next }
 {
     match best {

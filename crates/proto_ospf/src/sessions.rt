@@ -1,53 +1,24 @@
 //! Which BGP sessions are up (RFC 4271, section 8.2).
 
-ghost use Rattle.std.specs.Prelude.{◌≡◌, ◌&&◌, ◌<◌, IfOk, Some, false, is_some, length, map, option_and_then, option_map, slice_get};
-ghost use Rattle.std.specs.Option.{option_map_or};
+ghost use Rattle.std.specs.Prelude.{◌≡◌, ◌&&◌, ◌<◌, IfOk, Some, length, map, option_map, slice_get};
 ghost use Rattle.net_parts.specs.Resolution as resolution;
-ghost use Rattle.net_parts.specs.Sessions.{ends_of, neighbour_of};
+ghost use Rattle.net_parts.specs.Sessions.{ends_of};
 ghost use Rattle.proto_ospf.specs.Reached.{all_reached};
 
 use crate::reached::{Reached, all_distances, resolve_over};
-use ios_ast::{Bgp, File};
-use mw_text::{Addr, List};
+use mw_text::List;
 use net_model::{Far, Net, SessionEnd};
+use net_parts::ends::neighbour_of;
 use route_record::Failures;
 use std::alloc::{AllocError, Global};
-
-fn addr_at(bgp: &Bgp, at: u32) -> Option<Addr>
-    ensures { result ≡ option_map (λ neighbour. neighbour.addr) (slice_get bgp.now.neighbours at) }
-{
-    match bgp.neighbours.as_slice().get(at as usize) {
-        None => None,
-        Some(neighbour) => Some(neighbour.addr),
-    }
-}
-
-fn addr_in(file: &File, at: u32) -> Option<Addr>
-    ensures { result ≡ option_map (λ neighbour. neighbour.addr) (option_and_then (λ bgp. slice_get bgp.neighbours at) file.now.bgp) }
-{
-    match &file.bgp {
-        None => None,
-        Some(bgp) => addr_at(bgp, at),
-    }
-}
-
-/// The address of the neighbour of an end.
-pub fn neighbour_addr(net: &Net, end: &SessionEnd) -> Option<Addr>
-    ensures { result ≡ option_map (λ neighbour. neighbour.addr) (neighbour_of net.now.files end.now) }
-{
-    match net.routers().get(end.router as usize) {
-        None => None,
-        Some(file) => addr_in(file, end.neighbour),
-    }
-}
 
 fn resolves_neighbour(net: &Net, failures: &Failures, all: &[Reached], end: &SessionEnd) -> bool
     requires all { all.now ≡ all_reached net.now.files failures.now }
     ensures { result ≡ resolution.resolves_neighbour net.now.files failures.now end.now }
 {
-    match neighbour_addr(net, end) {
+    match neighbour_of(net.routers(), end) {
         None => false,
-        Some(a) => resolve_over(net, failures, all, end.router, a).is_some(),
+        Some(neighbour) => resolve_over(net, failures, all, end.router, neighbour.addr).is_some(),
     }
 }
 

@@ -1,6 +1,6 @@
 //! Which interfaces and adjacencies are up while some links have failed.
 
-ghost use Rattle.std.specs.Prelude.{◌≡◌, ◌==◌, ◌&&◌, filter, IfOk};
+ghost use Rattle.std.specs.Prelude.{◌≡◌, IfOk, map};
 ghost use Rattle.net_parts.specs.Ospf as ospf;
 ghost use Rattle.proto_ospf.specs.Rounds.{everywhere, receiver};
 
@@ -10,11 +10,31 @@ use net_model::{Adjacency, Net};
 use route_record::Failures;
 use std::alloc::{AllocError, Global};
 
-fn is_up_over(net: &Net, failures: &Failures, router: u32, a: &Adjacency) -> bool
-    ensures { result ≡ ((a.now.from.router == router)
-        && (ospf.is_up_at net.now.files failures.now a.now.from && ospf.is_up_at net.now.files failures.now a.now.to)) }
+fn is_up(net: &Net, failures: &Failures, a: &Adjacency) -> bool
+    ensures { result ≡ ospf.is_adjacency_up net.now.files failures.now a.now }
 {
-    a.from.router == router && net.is_up(failures, a.from) && net.is_up(failures, a.to)
+    net.is_up(failures, a.from) && net.is_up(failures, a.to)
+}
+
+fn receives(net: &Net, failures: &Failures, router: u32, a: &Adjacency) -> bool
+    ensures { result ≡ ospf.receives net.now.files failures.now router a.now }
+{
+    a.from.router == router && is_up(net, failures, a)
+}
+
+/// Which adjacencies are up, by their places.
+pub fn adjacencies_up(
+    alloc: Global,
+    net: &Net,
+    failures: &Failures,
+) -> Result<List<bool>, AllocError>
+    ensures { IfOk result (λ up. up ≡ map (ospf.is_adjacency_up net.now.files failures.now) (ospf.adjacencies net.now.files)) }
+{
+    let mut up = List::new(alloc);
+    for a in net.adjacencies() {
+        up.items.push(is_up(net, failures, a))?;
+    }
+    Ok(up)
 }
 
 /// The adjacencies over which a router receives and that are up: both interfaces are (RFC 2328, section 9).
@@ -29,7 +49,7 @@ pub fn up_adjacencies(
 {
     let mut up = List::new(alloc);
     for a in net.adjacencies() {
-        if is_up_over(net, failures, router, a) {
+        if receives(net, failures, router, a) {
             up.items.push(*a)?;
         }
     }

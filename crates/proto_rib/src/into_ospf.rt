@@ -4,7 +4,7 @@
 ghost use Rattle.std.specs.Prelude.{◌≡◌, [], IfOk, false, not, option_and_then, option_map};
 ghost use Rattle.std.specs.List.{filter_map};
 ghost use Rattle.std.specs.Option.{option_map_or};
-ghost use Rattle.net_parts.specs.Mapping as mapping;
+ghost use Rattle.ios_ast.specs.Maps as maps;
 ghost use Rattle.net_parts.specs.Origins as origins;
 ghost use Rattle.policy_eval.specs.Attributes.{attributes_of};
 ghost use Rattle.proto_rib.specs.Taken.{redistributed_at};
@@ -130,7 +130,7 @@ fn route_left(
     slot: &Slot,
 ) -> Result<Option<MapRec>, AllocError>
     ensures { IfOk result (λ made. option_map attributes_of made
-        ≡ option_and_then (mapping.through_map file.now.policies line.now.map p.now false)
+        ≡ option_and_then (maps.through_map file.now.policies line.now.map p.now false)
         (origins.redistributed_route line.now slot.now)) }
 {
     match redistributed_route(alloc, line, slot)? {
@@ -160,7 +160,7 @@ fn taken_record(
     slot: &Slot,
 ) -> Result<Option<OspfRec>, AllocError>
     ensures { IfOk result (λ made. made ≡ option_map (λ r. origins.external_record r.type1 r.med)
-        (option_and_then (mapping.through_map file.now.policies line.now.map p.now false)
+        (option_and_then (maps.through_map file.now.policies line.now.map p.now false)
         (origins.redistributed_route line.now slot.now))) }
 {
     match route_left(alloc, file, line, p, slot)? {
@@ -251,7 +251,13 @@ fn of_process(
     Ok(made)
 }
 
-fn of_file(alloc: Global, file: &File, p: &Prefix, slot: &Slot) -> Result<List<OspfRec>, AllocError>
+/// What the OSPF process of that file takes from such a slot: nothing where the file has none.
+pub fn redistribute_of(
+    alloc: Global,
+    file: &File,
+    p: &Prefix,
+    slot: &Slot,
+) -> Result<List<OspfRec>, AllocError>
     ensures { IfOk result (λ made. made
         ≡ option_map_or (λ process. origins.redistributed file.now process p.now slot.now) file.now.ospf []) }
 {
@@ -274,6 +280,6 @@ pub fn redistribute(
 {
     match net.routers().get(router as usize) {
         None => Ok(List::new(alloc)),
-        Some(file) => of_file(alloc, file, p, slot),
+        Some(file) => redistribute_of(alloc, file, p, slot),
     }
 }

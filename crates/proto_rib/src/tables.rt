@@ -11,8 +11,8 @@ ghost use Rattle.proto_rib.specs.Unfailed.{slot_over};
 
 use ios_ast::{File, StaticRoute};
 use mw_text::{Addr, List, Prefix, prefix_of};
-use net_parts::routing::{is_direct, open_interfaces, route_counts};
 use net_model::{Addressed, Net};
+use net_parts::routing::{is_direct, open_interfaces, route_counts};
 use route_record::{LENGTHS, RibEntry, RibSource, Slot, Tables, read_tables};
 use std::alloc::{AllocError, Global};
 

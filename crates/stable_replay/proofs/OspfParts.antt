@@ -1,36 +1,42 @@
--- The own origins of a router by its place are those of its process.
-use Rattle.std.proofs.Common.{◌≡◌, ℕ, List, [], ◌++◌, Option, Some, None, refl, ap}
-use Rattle.std.specs.Prelude.{slice_get}
-use Rattle.std.specs.List.{filter_map}
+-- What a router holds by the tables, from what the far routers hold and from its own origins by its place.
+use Rattle.std.proofs.Common.{◌≡◌, ◌∙◌, ℕ, List, [], map, Option, Some, None, refl, ap, sym}
+use Rattle.std.specs.Prelude.{option_and_then, slice_get}
 use Rattle.std.specs.Option.{option_map_or}
+use Rattle.std.proofs.lemmas.Option.{slice_get-map}
 use Rattle.mw_text.specs.declared.address.Prefix.{Prefix}
 use Rattle.ios_ast.specs.declared.file.File.{File}
 use Rattle.ios_ast.specs.declared.ospf.Ospf.{Ospf}
 use Rattle.route_record.specs.declared.Failures.{Failures}
+use Rattle.route_record.specs.declared.OspfRec.{OspfRec}
 use Rattle.route_record.specs.declared.Slot.{Slot}
 use Rattle.route_record.specs.declared.Tables.{Tables}
 use Rattle.route_record.specs.Places.{slot_at}
-use Rattle.net_parts.specs.OspfRoutes.{first_best, held_by_ospf, offer_over, own_origins}
-use Rattle.net_parts.specs.Ospf.{up_adjacencies}
-use Rattle.stable_replay.specs.Parts.{origins_at, routes_at}
+use Rattle.net_parts.specs.declared.adjacencies.Adjacency.{Adjacency}
+use Rattle.net_parts.specs.Ospf.{adjacencies}
+use Rattle.net_parts.specs.OspfRoutes.{far_record, held_by_ospf, held_from, own_origins}
+use Rattle.net_parts.proofs.Heard.{same_held}
+use Rattle.route_candidates.specs.Heard.{heard_in}
+use Rattle.route_candidates.specs.Origins.{origins_at}
+use Rattle.route_candidates.proofs.OspfParts.{origins_of}
 
--- by the slot of the router
-pub origins_of : (files : List File) (failures : Failures) (router : ℕ) (file : File) (process : Ospf) (p : Prefix)
-    (slot : Slot) →
-    slice_get files router ≡ Some file → file.ospf ≡ Some process →
-    own_origins files failures router file process p slot ≡ origins_at files failures router p slot
-unfolding own_origins
-origins_of files failures router file process p slot in_file runs = rw in_file (rw runs refl)
+-- what the far routers hold, as a list by adjacency
+told : (tables : Tables) (p : Prefix) (over : List Adjacency) (at : ℕ) (a : Adjacency) → slice_get over at ≡ Some a →
+    heard_in (map (far_record tables p) over) at a ≡ far_record tables p a
+told tables p over at a there = rw (slice_get-map (far_record tables p) over at) (rw there refl)
 
--- the routes among which the process chooses
-pub routes_of : (files : List File) (failures : Failures) (tables : Tables) (router : ℕ) (file : File)
+pub held_is : (files : List File) (failures : Failures) (tables : Tables) (router : ℕ) (file : File)
     (process : Ospf) (p : Prefix) →
     slice_get files router ≡ Some file → file.ospf ≡ Some process →
-    held_by_ospf files failures tables router file process p ≡ first_best (routes_at files failures tables router p)
+    held_by_ospf files failures tables router file process p
+    ≡ held_from files failures (heard_in (map (far_record tables p) (adjacencies files))) router
+    (option_map_or (origins_at files failures router p) (slot_at tables router p.len) [])
 unfolding held_by_ospf
-routes_of files failures tables router file process p in_file runs =
-    ap (λ own. first_best (own ++ filter_map (offer_over tables p) (up_adjacencies files failures router)))
-    (same_own (slot_at tables router p.len))
+held_is files failures tables router file process p in_file runs =
+    ap (held_from files failures (λ at a. far_record tables p a) router) (same_own (slot_at tables router p.len))
+    ∙ same_held files failures (λ at a. far_record tables p a)
+    (heard_in (map (far_record tables p) (adjacencies files))) router
+    (option_map_or (origins_at files failures router p) (slot_at tables router p.len) [])
+    (λ at a there up. sym (told tables p (adjacencies files) at a there))
   where
     same_own : (held : Option Slot) →
         option_map_or (own_origins files failures router file process p) held []

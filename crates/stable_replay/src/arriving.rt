@@ -9,10 +9,10 @@ ghost use Rattle.net_parts.specs.Sessions as sessions;
 ghost use Rattle.route_record.specs.Places.{slot_at};
 
 use mw_text::{Addr, List, Prefix};
-use net_parts::ends::neighbour_of;
 use net_model::{Far, Net, SessionEnd};
+use net_parts::ends::neighbour_of;
 use policy_eval::copy_list;
-use proto_bgp::{export, import};
+use proto_bgp::export;
 use route_record::{Announcement, BgpMsg, BgpRec, Environment, Tables};
 use std::alloc::{AllocError, Global};
 
@@ -131,9 +131,10 @@ fn from_inside(
     }
 }
 
-// The message that arrives over the session of the end at that place.
+/// The message that arrives over the session of the end at that place: the announcement of the external peer for the
+/// prefix's length, or what the far router exports of the route that it holds. None where there is none.
 #[tactic(auto, unfolding(net_parts::specs::Decisions::arriving))]
-fn arriving(
+pub fn arriving(
     alloc: Global,
     net: &Net,
     env: &Environment,
@@ -147,26 +148,5 @@ fn arriving(
     match end.far {
         Far::Outside => from_outside(alloc, net, env, p, at, end),
         Far::Inside(far_at) => from_inside(alloc, net, tables, p, far_at),
-    }
-}
-
-/// What the router at the end of that place takes of what arrives over the session.
-pub fn arrived(
-    alloc: Global,
-    net: &Net,
-    env: &Environment,
-    tables: &Tables,
-    p: &Prefix,
-    at: u32,
-    end: &SessionEnd,
-) -> Result<Option<BgpRec>, AllocError>
-    requires is { slice_get (sessions.ends_of net.now.files) at ≡ Some end.now }
-    requires within { at < length (sessions.ends_of net.now.files) }
-    ensures { IfOk result (λ rec. rec ≡ option_and_then (exports.imported net.now.files end.now p.now)
-        (decisions.arriving net.now.files env.now tables.now p.now at end.now)) }
-{
-    match arriving(alloc, net, env, tables, p, at, end)? {
-        None => Ok(None),
-        Some(msg) => import(alloc, net, at, p, &msg),
     }
 }

@@ -1,86 +1,103 @@
-//! The BGP routes that a router may hold: its local ones, and what it has learnt.
+//! The BGP routes that a router may hold by the tables: its local ones, and what it learns of its neighbours' routes.
 
-ghost use Rattle.std.specs.Prelude.{◌≡◌, ◌≤◌, ◌++◌, [], IfOk, OnOk, Some, false, length, map, slice_get};
+ghost use Rattle.std.specs.Prelude.{◌≡◌, ◌==◌, ◌<◌, ◌++◌, [], IfOk, OnOk, Some, filter, length, map, option_map};
+ghost use Rattle.std.specs.Prelude.{slice_get};
+ghost use Rattle.std.specs.List.{enumerate_from, filter_map};
 ghost use Rattle.std.specs.Option.{option_map_or};
 ghost use Rattle.net_parts.specs.Decisions as decisions;
-ghost use Rattle.net_parts.specs.Exports.{router_id};
 ghost use Rattle.net_parts.specs.Sessions as sessions;
 ghost use Rattle.proto_bgp.specs.Steps.{seen};
 ghost use Rattle.proto_rib.specs.Taken.{local_routes_at};
 ghost use Rattle.route_record.specs.Places.{slot_at};
-ghost use Rattle.stable_replay.specs.Underlays.{IsUnderlay};
+ghost use Rattle.route_candidates.specs.Underlays.{IsUnderlay};
+ghost use Rattle.stable_replay.specs.Parts as parts;
 
-use crate::learnt::add_learnt;
-use crate::underlay::Underlay;
+use crate::arriving::arriving;
 use ios_ast::{Bgp, File};
-use mw_text::{Addr, List, Prefix};
-use net_model::Net;
-use net_parts::router_ids::router_id;
+use mw_text::{List, Prefix};
+use net_model::{Net, SessionEnd};
 use proto_bgp::Candidate;
-use proto_rib::originate;
-use route_record::{BgpRec, Environment, Failures, Tables};
+use route_candidates::{Underlay, is_session_up, learnt_candidate, local_candidates};
+use route_record::{Environment, Failures, Tables};
 use std::alloc::{AllocError, Global};
 
-// The candidate of a local route of the router with that identifier.
-fn local_candidate(own: Addr, rec: BgpRec) -> Candidate
-    ensures { seen result ≡ record { rec = rec; external = false; cost = 0; peer_id = own } }
-{
-    Candidate {
-        rec,
-        external: false,
-        cost: 0,
-        peer_id: own,
-    }
-}
-
-// Those of some local routes.
-fn of_routes(alloc: Global, own: Addr, routes: List<BgpRec>) -> Result<List<Candidate>, AllocError>
-    ensures { IfOk result (λ made. map seen made
-        ≡ map (λ rec. record { rec = rec; external = false; cost = 0; peer_id = own }) routes) }
-{
-    let mut made = List::new(alloc);
-    for rec in routes.items {
-        made.items.push(local_candidate(own, rec))?;
-    }
-    Ok(made)
-}
-
-// The local routes that the router has by its own slot.
-fn local_routes(
-    alloc: Global,
-    net: &Net,
-    tables: &Tables,
-    router: u32,
-    p: &Prefix,
-) -> Result<List<BgpRec>, AllocError>
-    ensures { IfOk result (λ made. made
-        ≡ option_map_or (local_routes_at net.now.files router p.now) (slot_at tables.now router p.now.len) []) }
-{
-    match tables.slot(router, p.len) {
-        None => Ok(List::new(alloc)),
-        Some(slot) => originate(alloc, net, router, p, slot),
-    }
-}
-
-// The candidates of the local routes.
-fn local_candidates(
+// The candidates of the local routes of the router, by its own slot.
+fn local_by_slot(
     alloc: Global,
     net: &Net,
     tables: &Tables,
     router: u32,
     p: &Prefix,
 ) -> Result<List<Candidate>, AllocError>
+    requires within { router < length net.now.files }
     ensures { IfOk result (λ made. map seen made ≡ map (decisions.local_candidate net.now.files router)
         (option_map_or (local_routes_at net.now.files router p.now) (slot_at tables.now router p.now.len) [])) }
 {
-    let own = router_id(alloc, net.routers(), net.addresses(), router)?;
-    let routes = local_routes(alloc, net, tables, router, p)?;
-    of_routes(alloc, own, routes)
+    match tables.slot(router, p.len) {
+        None => Ok(List::new(alloc)),
+        Some(slot) => local_candidates(alloc, net, router, p, slot),
+    }
 }
 
-/// All BGP routes that the router may hold for the prefix, by its own slot and those of its neighbours: its local ones, and
-/// then by session what it has learnt.
-#[tactic(auto, using(crate::proofs::BgpParts::local_of), unfolding(net_parts::specs::Decisions::candidates))]
+// What arrives over the session of the end at that place, as a candidate.
+fn arriving_candidate(
+    alloc: Global,
+    net: &Net,
+    failures: &Failures,
+    env: &Environment,
+    tables: &Tables,
+    underlay: &Underlay,
+    p: &Prefix,
+    at: u32,
+    end: &SessionEnd,
+) -> Result<Option<Candidate>, AllocError>
+    requires underlay { IsUnderlay net.now.files failures.now underlay.now }
+    requires is { slice_get (sessions.ends_of net.now.files) at ≡ Some end.now }
+    requires within { at < length (sessions.ends_of net.now.files) }
+    ensures { IfOk result (λ made. option_map seen made
+        ≡ parts.arriving_candidate net.now.files failures.now env.now tables.now p.now (at, end.now)) }
+{
+    if !is_session_up(net, failures, underlay, at, end) {
+        return Ok(None);
+    }
+    let msg = arriving(alloc, net, env, tables, p, at, end)?;
+    let ids = env.ids.as_slice();
+    learnt_candidate(alloc, net, failures, ids, underlay, p, at, end, &msg)
+}
+
+// Puts at the end what the router learns for the prefix, by session.
+fn add_learnt(
+    alloc: Global,
+    out: &mut List<Candidate>,
+    net: &Net,
+    failures: &Failures,
+    env: &Environment,
+    tables: &Tables,
+    underlay: &Underlay,
+    router: u32,
+    p: &Prefix,
+) -> Result<(), AllocError>
+    requires underlay { IsUnderlay net.now.files failures.now underlay.now }
+    ensures { OnOk result (map seen out.new ≡ map seen out.old
+        ++ filter_map (parts.arriving_candidate net.now.files failures.now env.now tables.now p.now)
+        (filter (λ e. e.1.router == router) (enumerate_from 0 (sessions.ends_of net.now.files)))) }
+{
+    for (at, end) in net.ends().iter().enumerate() {
+        if end.router == router {
+            let at = at as u32;
+            if let Some(c) = arriving_candidate(
+                alloc, net, failures, env, tables, underlay, p, at, end,
+            )? {
+                out.items.push(c)?;
+            }
+        }
+    }
+    Ok(())
+}
+
+/// All BGP routes that the router may hold for the prefix, by its own slot and those of its neighbours: its local ones,
+/// and then by session what it has learnt.
+#[tactic(auto, using(route_candidates::proofs::BgpParts::local_of, std::proofs::lemmas::Option::slice_get_within), unfolding(net_parts::specs::Decisions::candidates, net_parts::specs::Decisions::candidates_from))]
 pub fn candidates(
     alloc: Global,
     net: &Net,
@@ -99,7 +116,7 @@ pub fn candidates(
     ensures { IfOk result (λ made. map seen made
         ≡ decisions.candidates net.now.files failures.now env.now tables.now router file.now process.now p.now) }
 {
-    let mut made = local_candidates(alloc, net, tables, router, p)?;
+    let mut made = local_by_slot(alloc, net, tables, router, p)?;
     add_learnt(
         alloc, &mut made, net, failures, env, tables, underlay, router, p,
     )?;

@@ -4,14 +4,14 @@ ghost use Rattle.std.specs.Prelude.{◌≡◌, ◌≢◌, ◌≤◌, ◌<◌, �
 ghost use Rattle.net_parts.specs.Sessions.{ends_of};
 ghost use Rattle.net_parts.specs.Stable.{Stable};
 ghost use Rattle.stable_replay.specs.Differences as differences;
-ghost use Rattle.stable_replay.specs.Underlays.{IsUnderlay};
+ghost use Rattle.route_candidates.specs.Underlays.{IsUnderlay};
 ghost use Rattle.stable_replay.specs.declared.differs.Differs.{Differs as Difference};
 
 use crate::differs::{Differs, ReplayNo};
 use crate::slots::test_slot;
-use crate::underlay::{Underlay, underlay_of};
 use mw_text::{Addr, prefix_of};
 use net_model::Net;
+use route_candidates::{Underlay, underlay_of};
 use route_record::{Environment, Failures, LENGTHS, Tables, read_tables};
 use std::alloc::{AllocError, Global};
 

@@ -9,18 +9,18 @@ ghost use Rattle.net_parts.specs.Sessions.{ends_of};
 ghost use Rattle.net_parts.specs.Stable as stable;
 ghost use Rattle.proto_bgp.specs.Places.{candidate_at, candidates_at};
 ghost use Rattle.proto_bgp.specs.Steps.{seen};
+ghost use Rattle.route_candidates.specs.Underlays.{IsUnderlay};
 ghost use Rattle.stable_replay.specs.Parts as parts;
 ghost use Rattle.stable_replay.specs.Same.{same_rec};
-ghost use Rattle.stable_replay.specs.Underlays.{IsUnderlay};
 
 use crate::candidates::candidates;
 use crate::same::same_route;
-use crate::underlay::Underlay;
 use ios_ast::{Bgp, File};
 use mw_text::{List, Prefix};
 use net_model::Net;
 use policy_eval::copy_route;
 use proto_bgp::{Candidate, survivors};
+use route_candidates::Underlay;
 use route_record::{BgpRec, Environment, Failures, Slot, Tables};
 use std::alloc::{AllocError, Global};
 
@@ -96,8 +96,7 @@ fn test_left(
     held: &Option<BgpRec>,
 ) -> Result<Option<List<Slot>>, AllocError>
     ensures { IfOk result (parts.IsTested
-        (decisions.IsHeld (map seen all.now)
-        (decisions.survivors process.now.always_compare process.now.compare_routerid (map seen all.now)) held.now)
+        (decisions.IsDecidedAmong process.now (map seen all.now) held.now)
         (parts.bgp_slots (decisions.survivors process.now.always_compare process.now.compare_routerid (map seen all.now)))) }
 {
     let left = survivors(alloc, process.always_compare, process.compare_routerid, all)?;

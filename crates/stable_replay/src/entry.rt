@@ -2,51 +2,19 @@
 
 ghost use Rattle.std.specs.Prelude.{◌≡◌, IfOk, Some, false, slice_get};
 ghost use Rattle.std.specs.Bool.{Decides};
-ghost use Rattle.std.specs.List.{list_any};
 ghost use Rattle.std.specs.Option.{option_map_or};
 ghost use Rattle.net_parts.specs.Entries as entries;
-ghost use Rattle.net_parts.specs.OspfRoutes as routes;
 ghost use Rattle.stable_replay.specs.Parts as parts;
 
-use crate::ospf::origins;
 use ios_ast::File;
 use mw_text::{List, Prefix};
 use net_model::Net;
-use proto_ospf::prefer;
 use proto_rib::best_entry;
-use route_record::{Failures, OspfRec, RibEntry, RibSource, Slot};
+use route_candidates::is_own;
+use route_record::{Failures, RibEntry, RibSource, Slot};
 use std::alloc::{AllocError, Global};
 
-// Whether some origin is as good as the held record.
-fn some_as_good(origins: &[OspfRec], held: &OspfRec) -> bool
-    ensures { result ≡ list_any (λ o. routes.is_as_good o held.now) origins.now }
-{
-    origins.iter().any(|o| prefer(o, held))
-}
-
-// Whether an own origin of the router is as good as the record.
-#[tactic(auto, using(crate::proofs::OspfParts::origins_of))]
-fn is_own(
-    alloc: Global,
-    net: &Net,
-    failures: &Failures,
-    router: u32,
-    file: &File,
-    p: &Prefix,
-    slot: &Slot,
-    held: &OspfRec,
-) -> Result<bool, AllocError>
-    requires file { slice_get net.now.files router ≡ Some file.now }
-    ensures { IfOk result (λ own. own ≡ routes.is_own net.now.files failures.now router file.now p.now slot.now held.now) }
-{
-    if file.ospf.is_none() {
-        return Ok(false);
-    }
-    let own = origins(alloc, net, failures, router, p, slot)?;
-    Ok(some_as_good(own.as_slice(), held))
-}
-
-// Whether one is as good as the record that the slot holds.
+// Whether an own origin of the router is as good as the record that the slot holds.
 fn own_is_as_good(
     alloc: Global,
     net: &Net,
@@ -57,7 +25,8 @@ fn own_is_as_good(
     slot: &Slot,
 ) -> Result<bool, AllocError>
     requires file { slice_get net.now.files router ≡ Some file.now }
-    ensures { IfOk result (λ own. own ≡ entries.own_is_as_good net.now.files failures.now router file.now p.now slot.now) }
+    ensures { IfOk result (λ own. own
+        ≡ entries.own_is_as_good net.now.files failures.now router file.now p.now slot.now) }
 {
     match &slot.ospf {
         None => Ok(false),
@@ -76,7 +45,8 @@ pub fn wanted_entry(
     slot: &Slot,
 ) -> Result<Option<RibEntry>, AllocError>
     requires file { slice_get net.now.files router ≡ Some file.now }
-    ensures { IfOk result (λ wanted. wanted ≡ entries.table_entry net.now.files failures.now router file.now p.now slot.now) }
+    ensures { IfOk result (λ wanted. wanted
+        ≡ entries.table_entry net.now.files failures.now router file.now p.now slot.now) }
 {
     let own = own_is_as_good(alloc, net, failures, router, file, p, slot)?;
     Ok(best_entry(net, failures, router, p, slot, own))

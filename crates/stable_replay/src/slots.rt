@@ -4,17 +4,17 @@ ghost use Rattle.std.specs.Prelude.{◌≡◌, ◌≤◌, IfOk, Some, length, ma
 ghost use Rattle.net_parts.specs.Sessions.{ends_of};
 ghost use Rattle.stable_replay.specs.Differences.{IsSlotTested};
 ghost use Rattle.stable_replay.specs.Parts as parts;
-ghost use Rattle.stable_replay.specs.Underlays.{IsUnderlay};
+ghost use Rattle.route_candidates.specs.Underlays.{IsUnderlay};
 
 use crate::decided::test_bgp;
 use crate::differs::{Differs, Part};
 use crate::entry::test_entry;
 use crate::ospf::test_ospf;
-use crate::underlay::Underlay;
 use ios_ast::File;
 use mw_text::{List, Prefix};
 use net_model::Net;
 use policy_eval::copy_route;
+use route_candidates::Underlay;
 use route_record::{BgpRec, Environment, Failures, OspfRec, RibEntry, Slot, Tables};
 use std::alloc::{AllocError, Global};
 

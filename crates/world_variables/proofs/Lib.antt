@@ -1,5 +1,3 @@
-pub mod Supports
-pub mod Bounded
 pub mod PacketParts
 pub mod PacketSound
 pub mod UnknownParts

@@ -40,10 +40,10 @@ use Rattle.net_parts.specs.World.{is_up}
 use Rattle.net_parts.proofs.Defined.{none_here}
 use Rattle.world_variables.specs.Rooms.{greatest_cost, has_room, is_advertised, most_cost, some_take}
 use Rattle.world_variables.specs.Rooms.{takes_routes, width_from, widths_of}
-use Rattle.world_variables.specs.Supported.{AreOrigins}
+use Rattle.slot_places.specs.Supported.{AreOrigins}
 use Rattle.world_variables.specs.Unknowns.{FitsWidths}
-use Rattle.world_variables.proofs.Bounded.{cost_bound}
-use Rattle.world_variables.proofs.Supports.{all_held, all_in, file_there}
+use Rattle.slot_places.proofs.Bounded.{cost_bound}
+use Rattle.slot_places.proofs.Supports.{all_held, all_in, file_there}
 use Rattle.net_parts.proofs.LeastWalks.{in-filter}
 use Rattle.mw_text.specs.Members.{In}
 

@@ -4,4 +4,3 @@ pub mod Rooms
 pub mod Slots
 pub mod Worlds
 pub mod Symbols
-pub mod Supported

@@ -12,9 +12,9 @@ ghost use Rattle.route_record.specs.declared.TheConstants.{LENGTHS};
 use ios_ast::{File, Ospf};
 use mw_text::{List, Prefix};
 use net_interfaces::connected::prefixes_overlap;
+use net_model::{Net, OspfInterface};
 use net_parts::ends::file_of;
 use net_parts::ospf::advertisement;
-use net_model::{Net, OspfInterface};
 use route_record::LENGTHS;
 use std::alloc::{AllocError, Global};
 

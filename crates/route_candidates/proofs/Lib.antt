@@ -1,0 +1,4 @@
+pub mod BgpParts
+pub mod FewEnds
+pub mod OspfParts
+pub mod Placed

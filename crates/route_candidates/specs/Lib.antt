@@ -1,0 +1,3 @@
+pub mod Underlays
+pub mod Origins
+pub mod Heard

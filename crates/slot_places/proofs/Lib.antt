@@ -1,0 +1,13 @@
+pub mod Members
+pub mod Meeting
+pub mod Widths
+pub mod PlaceSteps
+pub mod PlaceLaws
+pub mod RoomSteps
+pub mod Tabulated
+pub mod Supports
+pub mod Bounded
+pub mod Brought
+pub mod Known
+pub mod Fitting
+pub mod Telling

@@ -1,0 +1,68 @@
+//! Which slots of a routing anything can stand in.
+
+ghost use Rattle.std.specs.Prelude.{◌≡◌, ◌==◌, ◌&&◌, ◌<◌};
+ghost use Rattle.std.specs.List.{list_any};
+ghost use Rattle.net_interfaces.specs.Interfaces.{addressed};
+ghost use Rattle.route_record.specs.declared.TheConstants as constants;
+ghost use Rattle.slot_places.specs.Origins as origins;
+ghost use Rattle.slot_places.specs.Rooms as rooms;
+
+use crate::origins::{is_static_at, is_subnet_at};
+use crate::rooms::{Room, room_for};
+use ios_ast::{File, StaticRoute};
+use mw_text::Prefix;
+use net_model::Addressed;
+use net_parts::ends::file_of;
+
+fn is_subnet_of(x: &Addressed, destinations: &Prefix, router: u32, len: u8) -> bool
+    ensures { result ≡ ((x.now.id.router == router) && origins.is_subnet_at destinations.now len x.now) }
+{
+    x.id.router == router && is_subnet_at(destinations, len, x)
+}
+
+// Whether the router has a subnet of that length that shares an address with the destinations.
+fn has_subnet(addresses: &[Addressed], destinations: &Prefix, router: u32, len: u8) -> bool
+    ensures { result ≡ list_any (λ x. (x.id.router == router) && origins.is_subnet_at destinations.now len x) addresses.now }
+{
+    addresses
+        .iter()
+        .any(|x| is_subnet_of(x, destinations, router, len))
+}
+
+fn has_static(destinations: &Prefix, len: u8, statics: &[StaticRoute]) -> bool
+    ensures { result ≡ list_any (origins.is_static_at destinations.now len) statics.now }
+{
+    statics
+        .iter()
+        .any(|route| is_static_at(destinations, len, route))
+}
+
+// Whether it has a static route to such a prefix, or runs BGP.
+fn has_sources(destinations: &Prefix, len: u8, file: &File) -> bool
+    ensures { result ≡ rooms.has_sources destinations.now len file.now }
+{
+    has_static(destinations, len, file.statics.as_slice()) || file.bgp.is_some()
+}
+
+/// Whether anything can stand in the slot of that router and length, in some stable routing for one of the destinations.
+#[tactic(auto, using(crate::proofs::RoomSteps::room_there))]
+pub fn can_be_used(
+    files: &[File],
+    addresses: &[Addressed],
+    all: &[Option<Room>],
+    destinations: &Prefix,
+    router: u32,
+    len: u8,
+) -> bool
+    requires addresses { addresses.now ≡ addressed files.now }
+    requires rooms { all.now ≡ rooms.rooms_of files.now destinations.now }
+    requires short { len < constants.LENGTHS }
+    ensures { result ≡ rooms.can_be_used files.now destinations.now router len }
+{
+    has_subnet(addresses, destinations, router, len)
+        || match file_of(files, router) {
+            None => false,
+            Some(file) => has_sources(destinations, len, file),
+        }
+        || room_for(files, all, router, len).is_some()
+}

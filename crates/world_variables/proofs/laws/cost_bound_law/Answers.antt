@@ -1,6 +1,0 @@
-use Rattle.world_variables.proofs.Bounded.{cost_bound}
-use Rattle.world_variables.proofs.laws.cost_bound_law.Goals as goal
-
-pub returns : goal.returns
-returns c files destination failures environment tables len most step stable short costs steps origins =
-    cost_bound files destination failures environment tables len most step stable short costs steps origins
