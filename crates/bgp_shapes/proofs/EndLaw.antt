@@ -24,7 +24,7 @@ use Rattle.net_interfaces.specs.Interfaces.{addressed}
 use Rattle.net_parts.specs.Sessions.{end_of, ends_of, far_of, has_session, is_external_peer, meet, names_other}
 use Rattle.net_parts.specs.Sessions.{neighbour_of, peering, peerings, peerings_from, peerings_of, peerings_routers}
 use Rattle.net_parts.specs.Sessions.{sessions, speaking, speaks_from}
-use Rattle.bgp_shapes.specs.Lengths.{NamesOnce, process_of}
+use Rattle.bgp_shapes.proofs.Once.{NamesOnce, process_of}
 
 -- ---- neighbour lines with their AS numbers
 

@@ -5,7 +5,7 @@ use Rattle.std.proofs.Common.{◌≡◌, ℕ, zero, suc, ◌+◌, ◌*◌, ◌^�
 use Rattle.std.proofs.Common.{Bool, true, false, List, [], ◌∷◌, ◌++◌, length, get_or, map, filter, fold, if◌then◌else◌}
 use Rattle.std.proofs.Common.{Option, Some, None, refl, sym, ap, ◌∙◌, subst, arith, eqb}
 use Rattle.std.specs.Prelude.{All, Any, IfSome, MatchOption, nat_le, option_and_then, option_map, slice_get, unwrap_or}
-use Rattle.std.specs.List.{cons_option, enumerate_from, filter_map, find, list_any, range_with_len}
+use Rattle.std.specs.List.{cons_option, enumerate_from, filter_map, find, list_all, list_any, range_with_len}
 use Rattle.std.specs.Option.{option_map_or}
 use Rattle.std.proofs.lemmas.Bool.{and_parts, cases_Bool, eq-eqb, eqb-true, leb-true, or_left, or_right}
 use Rattle.std.proofs.lemmas.Bool.Decides.{nat_tests}
@@ -57,7 +57,9 @@ use Rattle.net_parts.specs.Origins.{taken_metric}
 use Rattle.net_parts.specs.Resolution.{resolved, session_up}
 use Rattle.net_parts.specs.Sessions.{ends_of, neighbour_of}
 use Rattle.net_parts.specs.Stable.{IsDecided, Stable}
-use Rattle.bgp_shapes.specs.Lengths.{IsShort, NamesOnce}
+use Rattle.ios_ast.specs.Limits.{keeps_limits}
+use Rattle.bgp_shapes.specs.Lengths.{IsShort}
+use Rattle.bgp_shapes.proofs.Once.{NamesOnce, names_once}
 use Rattle.bgp_shapes.proofs.EndLaw.{IsAlike, ends_alike, towards_alike}
 use Rattle.bgp_shapes.proofs.PolicyLaw.{through_keeps}
 
@@ -649,25 +651,25 @@ module _ (files : List File) (destination : Addr) (failures : Failures) (environ
 
 -- in a stable routing a held route has fewer clusters than there are routers
 pub stable_fewer : (files : List File) (destination : Addr) (failures : Failures) (environment : Environment)
-    (tables : Tables) → NamesOnce files → Stable files destination failures environment tables → (router len : ℕ)
+    (tables : Tables) → list_all keeps_limits files ≡ true → Stable files destination failures environment tables → (router len : ℕ)
     (slot : Slot) (rec : BgpRec) → len < LENGTHS → slot_at tables router len ≡ Some slot → slot.bgp ≡ Some rec →
     length rec.clusters < length files
-stable_fewer files destination failures environment tables once stable router len slot rec below there holds =
-    fewer files failures environment tables (prefix_at destination len) once
+stable_fewer files destination failures environment tables limits stable router len slot rec below there holds =
+    fewer files failures environment tables (prefix_at destination len) (names_once files limits)
     (held_from files destination failures environment tables stable len below) (length files)
     (is_router files destination failures environment tables stable len below) router rec
     (ap (option_and_then (λ (s : Slot). s.bgp)) there ∙ holds)
 
 -- and 32 bits count the lists of its candidates
 pub stable_short : (files : List File) (destination : Addr) (failures : Failures) (environment : Environment)
-    (tables : Tables) → NamesOnce files → length files < 2 ^ 32 →
+    (tables : Tables) → list_all keeps_limits files ≡ true → length files < 2 ^ 32 →
     Stable files destination failures environment tables → (router len : ℕ) (file : File) (process : Bgp) →
     len < LENGTHS →
     All IsShort (candidates files failures environment tables router file process (prefix_at destination len))
-stable_short files destination failures environment tables once few stable router len file process below =
+stable_short files destination failures environment tables limits few stable router len file process below =
     let p = prefix_at destination len in
     All-weaker (λ c. IsFrom files failures environment tables p router c.rec) IsShort
-    (short files failures environment tables p once
+    (short files failures environment tables p (names_once files limits)
     (held_from files destination failures environment tables stable len below) (length files)
     (is_router files destination failures environment tables stable len below) few router)
     (candidates files failures environment tables router file process p)

@@ -2,11 +2,13 @@
 
 ghost use Rattle.std.specs.Prelude.{◌≡◌, ◌<◌, ◌^◌, ℕ, All, Bool, IfSome, length, List as ListOf, map, Option as OptionOf};
 ghost use Rattle.std.specs.Prelude.{option_map, Some, true};
+ghost use Rattle.std.specs.List.{list_all};
 ghost use Rattle.mw_text.specs.declared.address.Addr.{Addr as AddrOf};
 ghost use Rattle.mw_text.specs.declared.address.Prefix.{Prefix as PrefixOf};
 ghost use Rattle.mw_text.specs.Address.{prefix_at};
 ghost use Rattle.ios_ast.specs.declared.bgp.Bgp.{Bgp as BgpOf};
 ghost use Rattle.ios_ast.specs.declared.file.File.{File as FileOf};
+ghost use Rattle.ios_ast.specs.Limits.{keeps_limits};
 ghost use Rattle.route_record.specs.declared.BgpMsg.{BgpMsg as BgpMsgOf};
 ghost use Rattle.route_record.specs.declared.BgpRec.{BgpRec as BgpRecOf};
 ghost use Rattle.route_record.specs.declared.Environment.{Environment as EnvironmentOf};
@@ -26,7 +28,7 @@ ghost use Rattle.bgp_shapes.specs.Candidates.{candidate_shape, environment_shape
 ghost use Rattle.bgp_shapes.specs.Exporting.{shape_exported};
 ghost use Rattle.bgp_shapes.specs.Held.{HasMarks, IsHeldByShape, held_shape};
 ghost use Rattle.bgp_shapes.specs.Importing.{shape_imported};
-ghost use Rattle.bgp_shapes.specs.Lengths.{IsShort, NamesOnce};
+ghost use Rattle.bgp_shapes.specs.Lengths.{IsShort};
 ghost use Rattle.bgp_shapes.specs.Messages.{message_shape};
 ghost use Rattle.bgp_shapes.specs.Tracking.{TracksTests};
 
@@ -66,11 +68,11 @@ pub fn candidates_law()
 /// are routers, since each cluster was put in front by another one, and an imported path has at most 255 numbers.
 pub fn length_law()
     ensures fewer { (files : ListOf FileOf) (destination : AddrOf) (failures : FailuresOf) (environment : EnvironmentOf)
-        (tables : TablesOf) → NamesOnce files → Stable files destination failures environment tables →
+        (tables : TablesOf) → list_all keeps_limits files ≡ true → Stable files destination failures environment tables →
         (router len : ℕ) (slot : SlotOf) (held : BgpRecOf) → len < LENGTHS → slot_at tables router len ≡ Some slot →
         slot.bgp ≡ Some held → length held.clusters < length files }
     ensures short { (files : ListOf FileOf) (destination : AddrOf) (failures : FailuresOf) (environment : EnvironmentOf)
-        (tables : TablesOf) → NamesOnce files → length files < 2 ^ 32 →
+        (tables : TablesOf) → list_all keeps_limits files ≡ true → length files < 2 ^ 32 →
         Stable files destination failures environment tables → (router len : ℕ) (file : FileOf) (process : BgpOf) →
         len < LENGTHS →
         All IsShort (candidates files failures environment tables router file process (prefix_at destination len)) }
