@@ -6,6 +6,7 @@ use Rattle.mw_text.specs.declared.address.Addr.{Addr}
 use Rattle.ios_ast.specs.Deciding.{carries}
 use Rattle.route_record.specs.Shape.{has_address}
 use Rattle.term_arith.proofs.NumberLemmas.{node_steps}
+use Rattle.route_record.proofs.Saturated.{saturated-none}
 
 -- one more copy at the end
 pub replicate_more : (n : ℕ) → replicate n false ++ false ∷ [] ≡ replicate (n + 1) false
@@ -25,3 +26,5 @@ no_numbers (t ∷ ts) = ap (λ bs. false ∷ bs) (no_numbers ts)
 pub no_clusters : (tracked : List Addr) → map (has_address []) tracked ≡ replicate (length tracked) false
 no_clusters [] = refl
 no_clusters (t ∷ ts) = ap (λ bs. false ∷ bs) (no_clusters ts)
+
+pub ruleset empty_path = (no_numbers, saturated-none)

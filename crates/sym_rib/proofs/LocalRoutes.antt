@@ -1,6 +1,6 @@
 -- A local route as the map of its line leaves it, from the terms of the record and from the route for which they stand.
 use Rattle.std.proofs.Common.{◌≡◌, ℕ, zero, suc, ◌≤◌, Bool, true, false, if◌then◌else◌, Option, Some, None}
-use Rattle.std.proofs.Common.{[], map, refl, ap, ◌∙◌, arith, ◌<◌, ◌+◌, ◌^◌, max}
+use Rattle.std.proofs.Common.{[], map, refl, ap, sym, ◌∙◌, arith, ◌<◌, ◌+◌, ◌^◌, max}
 use Rattle.std.specs.Prelude.{IfSome, option_and_then, option_map}
 use Rattle.std.proofs.Math.Nat.{max-le}
 use Rattle.mw_text.specs.declared.address.Prefix.{Prefix}
@@ -27,6 +27,7 @@ use Rattle.sym_rib.specs.IntoBgp.{local_with}
 use Rattle.sym_rib.specs.Known.{IsOwn}
 use Rattle.bgp_shapes.proofs.PolicyLaw.{through_code}
 use Rattle.route_record.proofs.OriginCodes.{code_small}
+use Rattle.route_record.proofs.Saturated.{saturated-none}
 
 -- ---- the record of a local route
 
@@ -75,8 +76,10 @@ shape_read w tracked rec own = λ i.
 shape_of : (tracked : Tracked) (c : Attributes) → c.origin ≤ 2
     → own_shape tracked (route_shape tracked c) ≡ bgp_shape tracked (local_with c)
 shape_of tracked c small =
-    let with_origin : ℕ → BgpShape = λ n. own_shape tracked (route_shape tracked (record c { origin = n })) in
-    ap with_origin (origin_again c.origin small)
+    let shape : ℕ → ℕ → BgpShape =
+    λ origin len. record (own_shape tracked (route_shape tracked (record c { origin = origin }))) { cluster_len = len } in
+    ap (λ n. shape n 0) (origin_again c.origin small)
+    ∙ ap (shape (origin_code (origin_of_code c.origin))) (sym saturated-none)
 
 shapes_of : (tracked : Tracked) (left : Option Attributes) → IfSome left (λ c. c.origin ≤ 2)
     → option_map (own_shape tracked) (option_map (route_shape tracked) left)

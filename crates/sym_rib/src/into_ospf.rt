@@ -6,7 +6,7 @@ ghost use Rattle.std.specs.Prelude.{false, true, not, if◌then◌else◌, Some,
 ghost use Rattle.std.specs.Prelude.{option_and_then, slice_get};
 ghost use Rattle.std.specs.List.{filter_map};
 ghost use Rattle.std.specs.Option.{option_map, option_map_or, option_to_list};
-ghost use Rattle.net_parts.specs.Mapping as mapping;
+ghost use Rattle.ios_ast.specs.Maps as maps;
 ghost use Rattle.net_parts.specs.Origins as origins;
 ghost use Rattle.route_record.specs.declared.BgpRec.{BgpRec as BgpOf};
 ghost use Rattle.route_record.specs.declared.Slot.{Slot};
@@ -254,7 +254,7 @@ fn left_part(
     ensures within { IfOk result (λ r. brought_end r ≤ size terms.new) }
     ensures value { Gives terms.new result (λ w r. (held : Slot) → all_tracked tracked.now file.now.policies ≡ true
         → StandsForBgp w tracked.now bgp.now held.bgp
-        → brought_of w r ≡ option_map external_of (option_and_then (mapping.through_map file.now.policies
+        → brought_of w r ≡ option_map external_of (option_and_then (maps.through_map file.now.policies
         line.now.map (prefix_of w dst.now len) false) (origins.redistributed_route line.now held))) }
 {
     let seen = seen_rec(alloc, terms, tracked, line, bgp)?;

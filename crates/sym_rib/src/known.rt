@@ -64,7 +64,7 @@ fn number_of_origin(origin: Origin) -> u64
 }
 
 /// The empty path.
-#[tactic(auto, using(crate::proofs::KnownRows::no_numbers))]
+#[tactic(auto, using(crate::proofs::KnownRows::empty_path))]
 fn no_path(alloc: Global, terms: &mut Terms, tracked: &Tracked) -> Result<KnownPath, AllocError>
     ensures builds { Builds terms.old terms.new }
     ensures within { IfOk result (λ r. known_path_end r ≤ size terms.new) }
@@ -188,7 +188,7 @@ fn known_preferences(
 }
 
 /// An empty path, no communities, no next hop, no originator, no peer and no clusters.
-#[tactic(auto, using(crate::proofs::KnownRows::no_numbers))]
+#[tactic(auto, using(crate::proofs::KnownRows::empty_path))]
 fn known_rest(alloc: Global, terms: &mut Terms, tracked: &Tracked) -> Result<KnownRest, AllocError>
     ensures builds { Builds terms.old terms.new }
     ensures within { IfOk result (λ r. known_rest_end r ≤ size terms.new) }

@@ -6,7 +6,7 @@ ghost use Rattle.std.specs.Option.{option_and_then, option_copied, option_map};
 ghost use Rattle.mw_text.specs.Text.{same_text};
 ghost use Rattle.ios_ast.specs.Maps.{mapped};
 ghost use Rattle.ios_ast.specs.Setting.{Attributes};
-ghost use Rattle.net_parts.specs.Mapping as mapping;
+ghost use Rattle.ios_ast.specs.Maps as maps;
 ghost use Rattle.sym_policy.specs.MapRecs.{map_rec_at, map_rec_end, HasMarks, KeepsRest};
 ghost use Rattle.sym_policy.specs.Records.{prefix_of};
 ghost use Rattle.route_shapes.specs.Shapes.{all_tracked, route_shape};
@@ -133,7 +133,7 @@ pub(crate) fn sym_through(
         → all_tracked tracked.now policies.now ≡ true
         → map_rec_at w rec ≡ option_map (route_shape tracked.now) held
         → map_rec_at w r ≡ option_map (route_shape tracked.now)
-        (option_and_then (mapping.through_map policies.now used.now (prefix_of w dst.now len) false) held)) }
+        (option_and_then (maps.through_map policies.now used.now (prefix_of w dst.now len) false) held)) }
 {
     match used {
         None => Ok(rec),
