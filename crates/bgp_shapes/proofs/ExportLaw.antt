@@ -247,5 +247,5 @@ exported_shape tracked files end p held tracks =
     (λ file process neighbour. exports.sent files file process neighbour end p held)
     (λ file process neighbour. shape_sent tracked files file process neighbour end p (bgp_shape tracked held))
     (λ file process is runs neighbour.
-        sent_law tracked files file process neighbour end p held tracks
-        (tracks.routers end.router file process is runs).policies)
+    sent_law tracked files file process neighbour end p held tracks
+    (tracks.routers end.router file process is runs).policies)

@@ -136,4 +136,4 @@ imported_shape tracked files end p m tracks =
     (λ file process neighbour. exports.taken_in files file process neighbour end p m)
     (λ file process neighbour. shape_taken_in tracked files file process neighbour end p (message_shape tracked m))
     (λ file process is runs neighbour.
-        taken_in_shape tracked files file process neighbour end p m (tracks.routers end.router file process is runs))
+    taken_in_shape tracked files file process neighbour end p m (tracks.routers end.router file process is runs))

@@ -417,207 +417,206 @@ module _ (files : List File) (failures : Failures) (environment : Environment) (
   -- ---- clusters one by one
 
   module _ (once : NamesOnce files) (from : (router : ℕ) (rec : BgpRec) → held router ≡ Some rec → IsFrom router rec)
-      where
-    -- a route with a cluster was heard over an internal session
-    record IsReflected (router : ℕ) (rec : BgpRec) : Type 0 where
-      learnt : IsLearnt router rec
-      heard : IsHeardFrom learnt.end learnt.message
-      internal : heard.far.internal ≡ true
-      clusters : rec.clusters
-          ≡ exports.reflected_clusters files heard.far.router heard.route
-          (exports.learnt_over files heard.far.router heard.route.from)
+    where
+      -- a route with a cluster was heard over an internal session
+      record IsReflected (router : ℕ) (rec : BgpRec) : Type 0 where
+        learnt : IsLearnt router rec
+        heard : IsHeardFrom learnt.end learnt.message
+        internal : heard.far.internal ≡ true
+        clusters : rec.clusters
+            ≡ exports.reflected_clusters files heard.far.router heard.route
+            (exports.learnt_over files heard.far.router heard.route.from)
 
-    none_not : (xs : List Addr) (k : ℕ) → xs ≡ [] → length xs ≡ suc k → ⊥
-    none_not xs k none long = let none_long = ap length none in omega (arith, none_long, long)
+      none_not : (xs : List Addr) (k : ℕ) → xs ≡ [] → length xs ≡ suc k → ⊥
+      none_not xs k none long = let none_long = ap length none in omega (arith, none_long, long)
 
-    reflected_from : (router : ℕ) (rec : BgpRec) (k : ℕ) → IsFrom router rec → length rec.clusters ≡ suc k →
-        IsReflected router rec
-    reflected_from router rec k (inl bare) long = absurd (none_not rec.clusters k bare.clusters long)
-    reflected_from router rec k (inr learnt) long =
-        by_message (heard_from learnt.at learnt.end learnt.message learnt.arrived)
-      where
-        same : rec.clusters ≡ learnt.message.clusters
-        same = learnt.taken.clusters
-
-        by_sent : (heard : IsHeardFrom learnt.end learnt.message) → IsSent files heard.far heard.route learnt.message →
-            IsReflected router rec
-        by_sent heard (inl none) = absurd (none_not rec.clusters k (same ∙ none) long)
-        by_sent heard (inr (internal, clusters)) = record {
-          learnt = learnt;
-          heard = heard;
-          internal = internal;
-          clusters = same ∙ clusters;
-        }
-
-        by_message : (learnt.message.clusters ≡ []) ⊎ IsHeardFrom learnt.end learnt.message → IsReflected router rec
-        by_message (inl none) = absurd (none_not rec.clusters k (same ∙ none) long)
-        by_message (inr heard) = by_sent heard heard.sent
-
-    -- and the end over which it was learnt is internal
-    learnt_internal : (router : ℕ) (rec : BgpRec) → IsReflected router rec →
-        (found : SessionEnd) × (exports.learnt_over files router rec.from ≡ Some found) × (found.internal ≡ true)
-    learnt_internal router rec reflected =
-        let learnt = reflected.learnt in
-        let heard = reflected.heard in
-        let end = learnt.end in
-        let taken = learnt.taken in
-        let is = learnt.is in
-        let alike = all_found (IsAlike files) (ends_of files) is.k end (ends_alike files) is.there in
-        let found = towards_alike files once is.k end taken.neighbour is.there alike taken.named in
-        let internal : end.internal ≡ true =
-        alike.far heard.at heard.far heard.reached heard.there ∙ reflected.internal in
-        (
-          found.0,
-          ap (exports.learnt_over files router) taken.from
-              ∙ ap (λ r. exports.end_towards files r taken.neighbour.addr) (sym is.own) ∙ found.1,
-          found.2 ∙ internal,
-        )
-
-    -- a router holds a route with so many clusters
-    abbrev Holds : ℕ → Type 0
-    Holds n = (router : ℕ) × (rec : BgpRec) × (held router ≡ Some rec) × (length rec.clusters ≡ n)
-
-    one_less : (k : ℕ) → Holds (suc k) → Holds k
-    one_less k (router, rec, holds, long) =
-        let reflected = reflected_from router rec k (from router rec holds) long in
-        by_end reflected (exports.learnt_over files reflected.heard.far.router reflected.heard.route.from) refl
-      where
-        -- no route has as many clusters as one that a reflector made of it
-        unmade : (reflected : IsReflected router rec) → reflected.heard.route.clusters ≡ rec.clusters →
-            IfSome (exports.learnt_over files reflected.heard.far.router reflected.heard.route.from)
-            (λ end. end.internal ≡ false) → ⊥
-        unmade reflected same outside =
-            let heard = reflected.heard in
-            let far = heard.far.router in
-            let again = reflected_from far heard.route k (from far heard.route heard.holds) (ap length same ∙ long) in
-            let end = learnt_internal far heard.route again in
-            let no : end.0.internal ≡ false = subst (λ o. IfSome o (λ e. e.internal ≡ false)) end.1 outside in
-            let yes = end.2 in
-            cc
-
-        by_kind : (reflected : IsReflected router rec) (end : SessionEnd) → (b : Bool) → end.internal ≡ b →
-            exports.learnt_over files reflected.heard.far.router reflected.heard.route.from ≡ Some end → Holds k
-        by_kind reflected end true internal is =
-            let heard = reflected.heard in
-            let id = exports.router_id files heard.far.router in
-            let made : rec.clusters ≡ id ∷ heard.route.clusters =
-            reflected.clusters ∙ ap (exports.reflected_clusters files heard.far.router heard.route) is
-            ∙ ap (λ b. if b then id ∷ heard.route.clusters else heard.route.clusters) internal in
-            let count = ap length made in
-            (heard.far.router, heard.route, heard.holds, omega (arith, count, long))
-        by_kind reflected end false external is =
-            let heard = reflected.heard in
-            let id = exports.router_id files heard.far.router in
-            let kept : rec.clusters ≡ heard.route.clusters =
-            reflected.clusters ∙ ap (exports.reflected_clusters files heard.far.router heard.route) is
-            ∙ ap (λ b. if b then id ∷ heard.route.clusters else heard.route.clusters) external in
-            absurd (unmade reflected (sym kept) (subst (λ o. IfSome o (λ e. e.internal ≡ false)) (sym is) external))
-
-        by_end : (reflected : IsReflected router rec) (o : Option SessionEnd) →
-            exports.learnt_over files reflected.heard.far.router reflected.heard.route.from ≡ o → Holds k
-        by_end reflected None is =
-            let heard = reflected.heard in
-            let kept : rec.clusters ≡ heard.route.clusters =
-            reflected.clusters ∙ ap (exports.reflected_clusters files heard.far.router heard.route) is in
-            absurd (unmade reflected (sym kept) (subst (λ o. IfSome o (λ e. e.internal ≡ false)) (sym is) tt))
-        by_end reflected (Some end) is = by_kind reflected end end.internal refl is
-
-    all_fewer : (n q : ℕ) → q ≤ n → Holds n → Holds q
-    all_fewer zero q below holds =
-        let same : zero ≡ q = omega arith in subst Holds same holds
-    all_fewer (suc n) q below holds =
-        by_order (cases_last q n below) (λ less. all_fewer n q less (one_less n holds))
-      where
-        cases_last : (q n : ℕ) → q ≤ suc n → (q ≤ n) ⊎ (suc n ≡ q)
-        cases_last q n below = grind arith
-
-        by_order : (q ≤ n) ⊎ (suc n ≡ q) → (q ≤ n → Holds q) → Holds q
-        by_order (inl less) deeper = deeper less
-        by_order (inr same) deeper = subst Holds same holds
-
-    -- ---- so there are fewer clusters than routers
-
-    module _ (routers : ℕ) (within : (router : ℕ) (rec : BgpRec) → held router ≡ Some rec → router < routers) where
-      abbrev count : ℕ → ℕ
-      count router = option_map_or (λ rec. length rec.clusters) (held router) 0
-
-      any_count : (q router first n : ℕ) → first ≤ router → router < first + n → count router ≡ q →
-          list_any (eqb q) (map count (range_with_len first n)) ≡ true
-      any_count q router first zero low high is = absurd (omega arith)
-      any_count q router first (suc n) low high is =
-          by_order (cases_first first router low)
-          (λ later. any_count q router (first + 1) n later (omega (arith, high)) is)
-        where
-          cases_first : (a b : ℕ) → a ≤ b → (a ≡ b) ⊎ (a + 1 ≤ b)
-          cases_first a b low = grind arith
-
-          rest : Bool
-          rest = list_any (eqb q) (map count (range_with_len (first + 1) n))
-
-          by_order : (first ≡ router) ⊎ (first + 1 ≤ router) → (first + 1 ≤ router → rest ≡ true) →
-              (eqb q (count first) || rest) ≡ true
-          by_order (inl same) deeper =
-              or_left (eqb q (count first)) rest (eq-eqb q (count first) (sym is ∙ ap count (sym same)))
-          by_order (inr later) deeper = or_right (eqb q (count first)) rest (deeper later)
-
-      fewer : (router : ℕ) (rec : BgpRec) → held router ≡ Some rec → length rec.clusters < routers
-      fewer router rec holds =
-          let n = length rec.clusters in
-          let long = le-length_from_below (map count (range_with_len 0 routers)) (suc n) (λ q below.
-          let less = all_fewer n q (omega (arith, below)) (router, rec, holds, refl) in
-          any_count q less.0 0 routers (omega arith) (omega (arith, within less.0 less.1 less.2))
-          (ap (λ o. option_map_or (λ r. length r.clusters) o 0) less.2 ∙ less.3)) in
-          let count_is = length-map (range_with_len 0 routers) count in
-          let routers_is = range_long routers 0 in
-          omega (arith, long, count_is, routers_is)
-        where
-          range_long : (n a : ℕ) → length (range_with_len a n) ≡ n
-          range_long zero a = refl
-          range_long (suc n) a = let rest = range_long n (a + 1) in omega (arith, rest)
-
-      -- and no more in what a candidate has
-      few_clusters : (router : ℕ) (rec : BgpRec) → IsFrom router rec → length rec.clusters ≤ routers
-      few_clusters router rec (inl bare) = let none = ap length bare.clusters in omega (arith, none)
-      few_clusters router rec (inr learnt) =
+      reflected_from : (router : ℕ) (rec : BgpRec) (k : ℕ) → IsFrom router rec → length rec.clusters ≡ suc k →
+          IsReflected router rec
+      reflected_from router rec k (inl bare) long = absurd (none_not rec.clusters k bare.clusters long)
+      reflected_from router rec k (inr learnt) long =
           by_message (heard_from learnt.at learnt.end learnt.message learnt.arrived)
         where
           same : rec.clusters ≡ learnt.message.clusters
           same = learnt.taken.clusters
 
-          one_more : (end : SessionEnd) (o : Option SessionEnd) (route : BgpRec) →
-              length (exports.reflected_clusters files end.router route o) ≤ length route.clusters + 1
-          one_more end None route = omega arith
-          one_more end (Some from) route = by_kind from.internal
-            where
-              by_kind : (b : Bool) →
-                  length (if b then exports.router_id files end.router ∷ route.clusters else route.clusters)
-                  ≤ length route.clusters + 1
-              by_kind true = omega arith
-              by_kind false = omega arith
+          by_sent : (heard : IsHeardFrom learnt.end learnt.message) → IsSent files heard.far heard.route learnt.message →
+              IsReflected router rec
+          by_sent heard (inl none) = absurd (none_not rec.clusters k (same ∙ none) long)
+          by_sent heard (inr (internal, clusters)) = record {
+            learnt = learnt;
+            heard = heard;
+            internal = internal;
+            clusters = same ∙ clusters;
+          }
 
-          by_sent : (heard : IsHeardFrom learnt.end learnt.message) →
-              IsSent files heard.far heard.route learnt.message → length rec.clusters ≤ routers
-          by_sent heard (inl none) = let long = ap length (same ∙ none) in omega (arith, long)
-          by_sent heard (inr (internal, clusters)) =
-              let long = ap length (same ∙ clusters) in
-              let more = one_more heard.far (exports.learnt_over files heard.far.router heard.route.from) heard.route in
-              let less = fewer heard.far.router heard.route heard.holds in
-              omega (arith, long, more, less)
-
-          by_message : (learnt.message.clusters ≡ []) ⊎ IsHeardFrom learnt.end learnt.message →
-              length rec.clusters ≤ routers
-          by_message (inl none) = let long = ap length (same ∙ none) in omega (arith, long)
+          by_message : (learnt.message.clusters ≡ []) ⊎ IsHeardFrom learnt.end learnt.message → IsReflected router rec
+          by_message (inl none) = absurd (none_not rec.clusters k (same ∙ none) long)
           by_message (inr heard) = by_sent heard heard.sent
 
-      short : routers < 2 ^ 32 → (router : ℕ) (c : Candidate) → IsFrom router c.rec → IsShort c
-      short few router c is = record {
-        path = short_path is;
-        clusters = let count = few_clusters router c.rec is in omega (arith, count, few);
-      }
+      -- and the end over which it was learnt is internal
+      learnt_internal : (router : ℕ) (rec : BgpRec) → IsReflected router rec →
+          (found : SessionEnd) × (exports.learnt_over files router rec.from ≡ Some found) × (found.internal ≡ true)
+      learnt_internal router rec reflected =
+          let learnt = reflected.learnt in
+          let heard = reflected.heard in
+          let end = learnt.end in
+          let taken = learnt.taken in
+          let is = learnt.is in
+          let alike = all_found (IsAlike files) (ends_of files) is.k end (ends_alike files) is.there in
+          let found = towards_alike files once is.k end taken.neighbour is.there alike taken.named in
+          let internal : end.internal ≡ true =
+          alike.far heard.at heard.far heard.reached heard.there ∙ reflected.internal in (
+            found.0,
+            ap (exports.learnt_over files router) taken.from
+                ∙ ap (λ r. exports.end_towards files r taken.neighbour.addr) (sym is.own) ∙ found.1,
+            found.2 ∙ internal,
+          )
+
+      -- a router holds a route with so many clusters
+      abbrev Holds : ℕ → Type 0
+      Holds n = (router : ℕ) × (rec : BgpRec) × (held router ≡ Some rec) × (length rec.clusters ≡ n)
+
+      one_less : (k : ℕ) → Holds (suc k) → Holds k
+      one_less k (router, rec, holds, long) =
+          let reflected = reflected_from router rec k (from router rec holds) long in
+          by_end reflected (exports.learnt_over files reflected.heard.far.router reflected.heard.route.from) refl
         where
-          short_path : IsFrom router c.rec → length c.rec.path < 2 ^ 32
-          short_path (inl bare) = let none = ap length bare.path in omega (arith, none)
-          short_path (inr learnt) = let few = learnt.taken.few in omega (arith, few)
+          -- no route has as many clusters as one that a reflector made of it
+          unmade : (reflected : IsReflected router rec) → reflected.heard.route.clusters ≡ rec.clusters →
+              IfSome (exports.learnt_over files reflected.heard.far.router reflected.heard.route.from)
+              (λ end. end.internal ≡ false) → ⊥
+          unmade reflected same outside =
+              let heard = reflected.heard in
+              let far = heard.far.router in
+              let again = reflected_from far heard.route k (from far heard.route heard.holds) (ap length same ∙ long) in
+              let end = learnt_internal far heard.route again in
+              let no : end.0.internal ≡ false = subst (λ o. IfSome o (λ e. e.internal ≡ false)) end.1 outside in
+              let yes = end.2 in
+              cc
+
+          by_kind : (reflected : IsReflected router rec) (end : SessionEnd) → (b : Bool) → end.internal ≡ b →
+              exports.learnt_over files reflected.heard.far.router reflected.heard.route.from ≡ Some end → Holds k
+          by_kind reflected end true internal is =
+              let heard = reflected.heard in
+              let id = exports.router_id files heard.far.router in
+              let made : rec.clusters ≡ id ∷ heard.route.clusters =
+              reflected.clusters ∙ ap (exports.reflected_clusters files heard.far.router heard.route) is
+              ∙ ap (λ b. if b then id ∷ heard.route.clusters else heard.route.clusters) internal in
+              let count = ap length made in
+              (heard.far.router, heard.route, heard.holds, omega (arith, count, long))
+          by_kind reflected end false external is =
+              let heard = reflected.heard in
+              let id = exports.router_id files heard.far.router in
+              let kept : rec.clusters ≡ heard.route.clusters =
+              reflected.clusters ∙ ap (exports.reflected_clusters files heard.far.router heard.route) is
+              ∙ ap (λ b. if b then id ∷ heard.route.clusters else heard.route.clusters) external in
+              absurd (unmade reflected (sym kept) (subst (λ o. IfSome o (λ e. e.internal ≡ false)) (sym is) external))
+
+          by_end : (reflected : IsReflected router rec) (o : Option SessionEnd) →
+              exports.learnt_over files reflected.heard.far.router reflected.heard.route.from ≡ o → Holds k
+          by_end reflected None is =
+              let heard = reflected.heard in
+              let kept : rec.clusters ≡ heard.route.clusters =
+              reflected.clusters ∙ ap (exports.reflected_clusters files heard.far.router heard.route) is in
+              absurd (unmade reflected (sym kept) (subst (λ o. IfSome o (λ e. e.internal ≡ false)) (sym is) tt))
+          by_end reflected (Some end) is = by_kind reflected end end.internal refl is
+
+      all_fewer : (n q : ℕ) → q ≤ n → Holds n → Holds q
+      all_fewer zero q below holds =
+          let same : zero ≡ q = omega arith in subst Holds same holds
+      all_fewer (suc n) q below holds =
+          by_order (cases_last q n below) (λ less. all_fewer n q less (one_less n holds))
+        where
+          cases_last : (q n : ℕ) → q ≤ suc n → (q ≤ n) ⊎ (suc n ≡ q)
+          cases_last q n below = grind arith
+
+          by_order : (q ≤ n) ⊎ (suc n ≡ q) → (q ≤ n → Holds q) → Holds q
+          by_order (inl less) deeper = deeper less
+          by_order (inr same) deeper = subst Holds same holds
+
+      -- ---- so there are fewer clusters than routers
+
+      module _ (routers : ℕ) (within : (router : ℕ) (rec : BgpRec) → held router ≡ Some rec → router < routers) where
+        abbrev count : ℕ → ℕ
+        count router = option_map_or (λ rec. length rec.clusters) (held router) 0
+
+        any_count : (q router first n : ℕ) → first ≤ router → router < first + n → count router ≡ q →
+            list_any (eqb q) (map count (range_with_len first n)) ≡ true
+        any_count q router first zero low high is = absurd (omega arith)
+        any_count q router first (suc n) low high is =
+            by_order (cases_first first router low)
+            (λ later. any_count q router (first + 1) n later (omega (arith, high)) is)
+          where
+            cases_first : (a b : ℕ) → a ≤ b → (a ≡ b) ⊎ (a + 1 ≤ b)
+            cases_first a b low = grind arith
+
+            rest : Bool
+            rest = list_any (eqb q) (map count (range_with_len (first + 1) n))
+
+            by_order : (first ≡ router) ⊎ (first + 1 ≤ router) → (first + 1 ≤ router → rest ≡ true) →
+                (eqb q (count first) || rest) ≡ true
+            by_order (inl same) deeper =
+                or_left (eqb q (count first)) rest (eq-eqb q (count first) (sym is ∙ ap count (sym same)))
+            by_order (inr later) deeper = or_right (eqb q (count first)) rest (deeper later)
+
+        fewer : (router : ℕ) (rec : BgpRec) → held router ≡ Some rec → length rec.clusters < routers
+        fewer router rec holds =
+            let n = length rec.clusters in
+            let long = le-length_from_below (map count (range_with_len 0 routers)) (suc n) (λ q below.
+            let less = all_fewer n q (omega (arith, below)) (router, rec, holds, refl) in
+            any_count q less.0 0 routers (omega arith) (omega (arith, within less.0 less.1 less.2))
+            (ap (λ o. option_map_or (λ r. length r.clusters) o 0) less.2 ∙ less.3)) in
+            let count_is = length-map (range_with_len 0 routers) count in
+            let routers_is = range_long routers 0 in
+            omega (arith, long, count_is, routers_is)
+          where
+            range_long : (n a : ℕ) → length (range_with_len a n) ≡ n
+            range_long zero a = refl
+            range_long (suc n) a = let rest = range_long n (a + 1) in omega (arith, rest)
+
+        -- and no more in what a candidate has
+        few_clusters : (router : ℕ) (rec : BgpRec) → IsFrom router rec → length rec.clusters ≤ routers
+        few_clusters router rec (inl bare) = let none = ap length bare.clusters in omega (arith, none)
+        few_clusters router rec (inr learnt) =
+            by_message (heard_from learnt.at learnt.end learnt.message learnt.arrived)
+          where
+            same : rec.clusters ≡ learnt.message.clusters
+            same = learnt.taken.clusters
+
+            one_more : (end : SessionEnd) (o : Option SessionEnd) (route : BgpRec) →
+                length (exports.reflected_clusters files end.router route o) ≤ length route.clusters + 1
+            one_more end None route = omega arith
+            one_more end (Some from) route = by_kind from.internal
+              where
+                by_kind : (b : Bool) →
+                    length (if b then exports.router_id files end.router ∷ route.clusters else route.clusters)
+                    ≤ length route.clusters + 1
+                by_kind true = omega arith
+                by_kind false = omega arith
+
+            by_sent : (heard : IsHeardFrom learnt.end learnt.message) →
+                IsSent files heard.far heard.route learnt.message → length rec.clusters ≤ routers
+            by_sent heard (inl none) = let long = ap length (same ∙ none) in omega (arith, long)
+            by_sent heard (inr (internal, clusters)) =
+                let long = ap length (same ∙ clusters) in
+                let more = one_more heard.far (exports.learnt_over files heard.far.router heard.route.from) heard.route in
+                let less = fewer heard.far.router heard.route heard.holds in
+                omega (arith, long, more, less)
+
+            by_message : (learnt.message.clusters ≡ []) ⊎ IsHeardFrom learnt.end learnt.message →
+                length rec.clusters ≤ routers
+            by_message (inl none) = let long = ap length (same ∙ none) in omega (arith, long)
+            by_message (inr heard) = by_sent heard heard.sent
+
+        short : routers < 2 ^ 32 → (router : ℕ) (c : Candidate) → IsFrom router c.rec → IsShort c
+        short few router c is = record {
+          path = short_path is;
+          clusters = let count = few_clusters router c.rec is in omega (arith, count, few);
+        }
+          where
+            short_path : IsFrom router c.rec → length c.rec.path < 2 ^ 32
+            short_path (inl bare) = let none = ap length bare.path in omega (arith, none)
+            short_path (inr learnt) = let few = learnt.taken.few in omega (arith, few)
 
 -- ---- stable routings
 

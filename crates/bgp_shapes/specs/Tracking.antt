@@ -11,10 +11,10 @@ use Rattle.net_parts.specs.Tracked.{numbers_of}
 -- the tests of one router ask for tracked values alone: its AS number, its cluster where it reflects, and what its lists
 -- name
 pub record TracksRouter (files : List File) (router : ℕ) (file : File) (process : Bgp) (tracked : Tracked) : Type 0
-    where
-  pub number : carries tracked.numbers process.asn ≡ true
-  pub cluster : is_reflector process ≡ true → carries (numbers_of tracked.clusters) (router_id files router).0 ≡ true
-  pub policies : all_tracked tracked file.policies ≡ true
+  where
+    pub number : carries tracked.numbers process.asn ≡ true
+    pub cluster : is_reflector process ≡ true → carries (numbers_of tracked.clusters) (router_id files router).0 ≡ true
+    pub policies : all_tracked tracked file.policies ≡ true
 
 -- so do those of all routers, and the well-known communities are tracked
 pub record TracksTests (files : List File) (tracked : Tracked) : Type 0 where

@@ -149,11 +149,13 @@ fn has_room(tracked: &Tracked, more: &Tracked) -> bool
     fit(
         tracked.communities.as_slice().len(),
         more.communities.as_slice().len(),
-    ) && fit(tracked.numbers.as_slice().len(), more.numbers.as_slice().len())
-        && fit(
-            tracked.clusters.as_slice().len(),
-            more.clusters.as_slice().len(),
-        )
+    ) && fit(
+        tracked.numbers.as_slice().len(),
+        more.numbers.as_slice().len(),
+    ) && fit(
+        tracked.clusters.as_slice().len(),
+        more.clusters.as_slice().len(),
+    )
 }
 
 fn track_in(alloc: Global, net: &mut Net, more: &Tracked) -> Result<(), AllocError> {

@@ -73,9 +73,13 @@ last x (y ∷ ys) =
         × (list_all (λ z. nat_le z.line l.line) (x ∷ y ∷ ys) ≡ true)
     by_first k m there all true is =
         (suc k, m, there, and_from (nat_le x.line m.line) (list_all (λ z. nat_le z.line m.line) (y ∷ ys)) is all)
-    by_first k m there all false is =
-        (0, x, refl, and_from (nat_le x.line x.line) (list_all (λ z. nat_le z.line x.line) (y ∷ ys))
-        (at_most_itself x.line) (all_before m.line x.line (y ∷ ys) (not_at_most x.line m.line is) all))
+    by_first k m there all false is = (
+      0,
+      x,
+      refl,
+      and_from (nat_le x.line x.line) (list_all (λ z. nat_le z.line x.line) (y ∷ ys))
+          (at_most_itself x.line) (all_before m.line x.line (y ∷ ys) (not_at_most x.line m.line is) all),
+    )
 
 all_kept : {A : Type 0} (p : A → Bool) (xs : List A) → list_all p xs ≡ true → filter p xs ≡ xs
 all_kept p [] all = refl

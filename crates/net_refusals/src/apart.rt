@@ -8,12 +8,11 @@ ghost use Rattle.net_refusals.specs.Apart as apart;
 ghost use Rattle.net_interfaces.specs.Interfaces.{addressed};
 ghost use Rattle.net_interfaces.specs.Limits.{keeps_limits};
 
-use net_interfaces::interfaces::{Addressed, addressed_of};
-use net_interfaces::keep_limits;
-use net_interfaces::MOST_FILES;
 use crate::refusals::NetCause;
 use ios_ast::File;
 use mw_text::{List, Prefix};
+use net_interfaces::interfaces::{Addressed, addressed_of};
+use net_interfaces::{MOST_FILES, keep_limits};
 use std::alloc::{AllocError, Global};
 
 // The number after the last address of a prefix.

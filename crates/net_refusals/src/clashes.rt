@@ -8,11 +8,11 @@ ghost use Rattle.mw_text.specs.Text.{same_text};
 ghost use Rattle.net_interfaces.specs.Interfaces.{is_loopback};
 ghost use Rattle.net_refusals.specs.Refusals as refusals;
 
-use net_interfaces::connected::prefixes_overlap;
-use net_interfaces::interfaces::is_loopback_name;
 use crate::lines::{earlier, line_if};
 use ios_ast::{File, IfAddr, Iface};
 use mw_text::{Addr, prefix_of, same_bytes};
+use net_interfaces::connected::prefixes_overlap;
+use net_interfaces::interfaces::is_loopback_name;
 
 fn some_named(files: &[File], name: &[u8]) -> bool
     ensures { result ≡ list_any (λ other. same_text other.hostname name.now) files.now }

@@ -5,10 +5,10 @@ ghost use Rattle.std.specs.List.{filter_map, list_any};
 ghost use Rattle.net_refusals.specs.Refusals as refusals;
 
 use crate::clashes::some_has;
-use net_interfaces::connected::{named_reaches, route_is_connected, some_reaches};
 use crate::lines::{earlier, line_if};
 use ios_ast::{Bgp, File, Iface, Neighbour, Ospf, OspfNet, StaticRoute, Use};
 use mw_text::Addr;
+use net_interfaces::connected::{named_reaches, route_is_connected, some_reaches};
 
 fn unconnected_route(interfaces: &[Iface], route: &StaticRoute) -> Option<u32>
     ensures { result ≡ refusals.unconnected_route interfaces.now route.now }

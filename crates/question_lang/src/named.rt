@@ -16,8 +16,8 @@ use ios_policy_reader::said::{address_said_under, is_said};
 use ios_policy_reader::values::word_at;
 use ios_policy_reader::{Said, Tag, Value};
 use mw_text::{Addr, List, same_bytes};
-use net_parts::sessions::{is_external_peer, peerings};
 use net_model::{Addressed, Net, Peering};
+use net_parts::sessions::{is_external_peer, peerings};
 use std::alloc::{AllocError, Global};
 
 fn word_in(words: &[List<u8>], value: Value) -> &[u8]

@@ -12,8 +12,8 @@ ghost use Rattle.sym_ospf.specs.Rows.{net_end, distance_of, distance_end, nearer
 
 use crate::parts::SymDistance;
 use mw_text::Prefix;
-use net_parts::ospf::advertisement;
 use net_model::{Adjacency, Net, OspfInterface};
+use net_parts::ospf::advertisement;
 use std::alloc::{AllocError, Global};
 use sym_interfaces::{sym_up, sym_up_at};
 use sym_policy::{SymNet, SymOspf};

@@ -11,8 +11,8 @@ ghost use Rattle.sym_policy.specs.Held.{failures_of};
 ghost use Rattle.sym_ospf.specs.Rows.{net_end, HasDistances};
 
 use crate::resolution::sym_resolve;
-use net_parts::ends::neighbour_of;
 use net_model::{Far, Net, SessionEnd};
+use net_parts::ends::neighbour_of;
 use std::alloc::{AllocError, Global};
 use sym_interfaces::sym_up_at;
 use sym_policy::SymNet;

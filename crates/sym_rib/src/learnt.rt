@@ -14,8 +14,8 @@ ghost use Rattle.term_arith.specs.Bits.{number, ids_end};
 
 use crate::ribs::{choose_rib, entry_where};
 use crate::slots::SymRib;
-use net_parts::ends::neighbour_of;
 use net_model::{Net, SessionEnd};
+use net_parts::ends::neighbour_of;
 use route_record::RibSource;
 use std::alloc::{AllocError, Global};
 use sym_policy::SymBgp;
