@@ -1,0 +1,3 @@
+pub mod Keys
+pub mod Candidates
+pub mod Best
