@@ -1,8 +1,7 @@
 -- What a router makes of the shape of a message is the shape of what it makes of the message.
-use Rattle.std.proofs.Common.{◌≡◌, ℕ, ◌+◌, ◌^◌, ◌==◌, ◌&&◌, ◌||◌, Bool, true, false, not, nat_le, if◌then◌else◌, List}
-use Rattle.std.proofs.Common.{Option, Some, None, length, map, refl, ap, ◌∙◌, arith}
+use Rattle.std.proofs.Common.{◌≡◌, ℕ, ◌+◌, ◌^◌, ◌==◌, ◌&&◌, Bool, true, false, not, nat_le, if◌then◌else◌, List}
+use Rattle.std.proofs.Common.{Option, Some, None, length, refl, ap, ◌∙◌, arith}
 use Rattle.std.specs.Prelude.{IfSome, slice_get}
-use Rattle.std.specs.List.{list_any}
 use Rattle.std.specs.Option.{option_and_then, option_map, option_map_or}
 use Rattle.std.proofs.lemmas.Bool.Decides.{nat_tests}
 use Rattle.mw_text.specs.declared.address.Addr.{Addr}
@@ -20,7 +19,7 @@ use Rattle.net_parts.specs.Sessions.{neighbour_of}
 use Rattle.route_record.specs.declared.BgpMsg.{BgpMsg}
 use Rattle.route_record.specs.declared.BgpRec.{BgpRec}
 use Rattle.route_record.specs.declared.tracked.Tracked.{Tracked}
-use Rattle.route_shapes.specs.Bgp.{BgpShape, address_number, bgp_shape}
+use Rattle.route_shapes.specs.Bgp.{address_number, bgp_shape}
 use Rattle.route_shapes.specs.Shapes.{all_tracked, route_shape}
 use Rattle.route_record.proofs.OriginCodes.{code_small}
 use Rattle.route_record.proofs.Saturated.{saturated-few}

@@ -1,14 +1,13 @@
 -- In a stable routing 32 bits count the lists of every candidate. A path that was imported has at most 255 numbers. A
 -- cluster list that is not empty was made by a reflector whose own route has one cluster less, so that a list of n
 -- clusters comes with routes of n - 1, n - 2 and so on down to none, each held by another router.
-use Rattle.std.proofs.Common.{◌≡◌, ℕ, zero, suc, ◌+◌, ◌*◌, ◌^◌, ◌<◌, ◌≤◌, ◌⊎◌, inl, inr, ◌==◌, ◌&&◌, ◌||◌, not}
-use Rattle.std.proofs.Common.{Bool, true, false, List, [], ◌∷◌, ◌++◌, length, get_or, map, filter, fold, if◌then◌else◌}
+use Rattle.std.proofs.Common.{◌≡◌, ℕ, zero, suc, ◌+◌, ◌*◌, ◌^◌, ◌<◌, ◌≤◌, ◌⊎◌, inl, inr, ◌==◌, ◌||◌, not}
+use Rattle.std.proofs.Common.{Bool, true, false, List, [], ◌∷◌, length, map, filter, fold, if◌then◌else◌}
 use Rattle.std.proofs.Common.{Option, Some, None, refl, sym, ap, ◌∙◌, subst, arith, eqb}
-use Rattle.std.specs.Prelude.{All, Any, IfSome, MatchOption, nat_le, option_and_then, option_map, slice_get, unwrap_or}
-use Rattle.std.specs.List.{cons_option, enumerate_from, filter_map, find, list_all, list_any, range_with_len}
+use Rattle.std.specs.Prelude.{All, IfSome, MatchOption, nat_le, option_and_then, option_map, slice_get, unwrap_or}
+use Rattle.std.specs.List.{cons_option, enumerate_from, filter_map, list_all, list_any, range_with_len}
 use Rattle.std.specs.Option.{option_map_or}
-use Rattle.std.proofs.lemmas.Bool.{and_parts, cases_Bool, eq-eqb, eqb-true, leb-true, or_left, or_right}
-use Rattle.std.proofs.lemmas.Bool.Decides.{nat_tests}
+use Rattle.std.proofs.lemmas.Bool.{eq-eqb, eqb-true, leb-true, or_left, or_right}
 use Rattle.std.proofs.lemmas.List.{length-map}
 use Rattle.std.proofs.lemmas.List.Elements.{All-append, All-cons, All-contains, All-filter, All-head, All-map, All-nil}
 use Rattle.std.proofs.lemmas.List.Elements.{All-tail, All-weaker, filter_passes}
@@ -19,22 +18,18 @@ use Rattle.mw_text.specs.declared.address.Addr.{Addr}
 use Rattle.mw_text.specs.declared.address.Prefix.{Prefix}
 use Rattle.mw_text.specs.Address.{prefix_at, same_prefix}
 use Rattle.ios_ast.specs.declared.bgp.Bgp.{Bgp}
-use Rattle.ios_ast.specs.declared.bgp.BgpNet.{BgpNet}
 use Rattle.ios_ast.specs.declared.bgp.Neighbour.{Neighbour}
 use Rattle.ios_ast.specs.declared.file.File.{File}
 use Rattle.ios_ast.specs.declared.file.Use.{Use}
-use Rattle.ios_ast.specs.declared.ospf.Redist.{Redist}
 use Rattle.ios_ast.specs.declared.policies.SetAct.{SetAct}
 use Rattle.ios_ast.specs.declared.policies.SetAct.TheVariants.{LocalPref, Metric, Weight, NoCommunity, Community}
 use Rattle.ios_ast.specs.declared.policies.SetAct.TheVariants.{Origin, Prepend, Type1}
 use Rattle.ios_ast.specs.Setting.{Attributes, set_one}
-use Rattle.route_record.specs.declared.Announcement.{Announcement}
 use Rattle.route_record.specs.declared.BgpMsg.{BgpMsg}
 use Rattle.route_record.specs.declared.BgpRec.{BgpRec}
 use Rattle.route_record.specs.declared.Environment.{Environment}
 use Rattle.route_record.specs.declared.Failures.{Failures}
-use Rattle.route_record.specs.declared.Learnt.{Learnt}
-use Rattle.route_record.specs.declared.Learnt.TheVariants.{Local, Peer}
+use Rattle.route_record.specs.declared.Learnt.TheVariants.{Peer}
 use Rattle.route_record.specs.declared.Origin.TheVariants.{Igp, Incomplete}
 use Rattle.route_record.specs.declared.Slot.{Slot}
 use Rattle.route_record.specs.declared.Tables.{Tables}
@@ -44,10 +39,10 @@ use Rattle.net_parts.specs.declared.sessions.Far.{Far}
 use Rattle.net_parts.specs.declared.sessions.Far.TheVariants.{Outside, Inside}
 use Rattle.net_parts.specs.declared.sessions.SessionEnd.{SessionEnd}
 use Rattle.net_parts.specs.declared.steps.Step.{Step}
-use Rattle.net_parts.specs.Decisions.{Candidate, DecidedByBgp, IsHeld, Key, after_cost, arriving, candidates}
+use Rattle.net_parts.specs.Decisions.{Candidate, DecidedByBgp, Key, after_cost, arriving, candidates}
 use Rattle.net_parts.specs.Decisions.{candidates_from}
-use Rattle.net_parts.specs.Decisions.{compared_by, is_compared_by, key_of, learnt_candidate, local_candidate}
-use Rattle.net_parts.specs.Decisions.{peer_identifier, removes, step_by, survivors, survivors_by, to_cost}
+use Rattle.net_parts.specs.Decisions.{is_compared_by, key_of, learnt_candidate, local_candidate}
+use Rattle.net_parts.specs.Decisions.{peer_identifier, removes, step_by, survivors, to_cost}
 use Rattle.net_parts.specs.Exports as exports
 use Rattle.ios_ast.specs.Maps.{through_map}
 use Rattle.net_parts.specs.Mapping.{attributes_of, with_attributes}

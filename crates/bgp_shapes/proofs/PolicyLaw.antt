@@ -1,9 +1,9 @@
 -- Lists and maps of a neighbour answer for the shape of a route what they answer for the route.
-use Rattle.std.proofs.Common.{◌≡◌, ℕ, ◌≤◌, ◌+◌, ◌==◌, ◌||◌, ◌&&◌, Bool, true, false, if◌then◌else◌, List, [], ◌∷◌}
+use Rattle.std.proofs.Common.{◌≡◌, ℕ, ◌≤◌, ◌==◌, ◌||◌, ◌&&◌, Bool, true, false, if◌then◌else◌, List, [], ◌∷◌}
 use Rattle.std.proofs.Common.{Option, Some, None}
-use Rattle.std.proofs.Common.{length, map, refl, sym, ap, ◌∙◌, arith}
+use Rattle.std.proofs.Common.{map, refl, sym, ap, ◌∙◌, arith}
 use Rattle.std.specs.Prelude.{IfSome}
-use Rattle.std.specs.List.{find, list_any, list_all}
+use Rattle.std.specs.List.{list_any, list_all}
 use Rattle.std.specs.Option.{option_and_then, option_map, option_map_or}
 use Rattle.std.proofs.lemmas.Bool.{and_parts}
 use Rattle.mw_text.specs.declared.address.Addr.{Addr}
@@ -25,7 +25,7 @@ use Rattle.route_record.proofs.OriginCodes.{code_again}
 use Rattle.route_record.specs.Shape.{has_address}
 use Rattle.ios_ast.specs.Deciding.{carries}
 use Rattle.net_parts.specs.Tracked.{numbers_of}
-use Rattle.route_shapes.specs.Bgp.{BgpShape, bgp_shape}
+use Rattle.route_shapes.specs.Bgp.{bgp_shape}
 use Rattle.route_shapes.specs.Shapes.{all_tracked, marked, marks_with, path_shape, path_tracked, route_shape}
 use Rattle.route_shapes.proofs.ShapeLaw.{found_same, marked-map, marks_with-map, path_entries, shape_deciding-route_shape}
 use Rattle.route_shapes.proofs.ShapeLaw.{shape_mapped-route_shape}

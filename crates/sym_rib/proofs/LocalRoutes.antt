@@ -1,6 +1,6 @@
 -- A local route as the map of its line leaves it, from the terms of the record and from the route for which they stand.
 use Rattle.std.proofs.Common.{◌≡◌, ℕ, zero, suc, ◌≤◌, Bool, true, false, if◌then◌else◌, Option, Some, None}
-use Rattle.std.proofs.Common.{[], map, refl, ap, sym, ◌∙◌, arith, ◌<◌, ◌+◌, ◌^◌, max}
+use Rattle.std.proofs.Common.{[], map, refl, ap, sym, ◌∙◌, arith, ◌+◌, max}
 use Rattle.std.specs.Prelude.{IfSome, option_and_then, option_map}
 use Rattle.std.proofs.Math.Nat.{max-le}
 use Rattle.mw_text.specs.declared.address.Prefix.{Prefix}
@@ -8,7 +8,6 @@ use Rattle.ios_ast.specs.declared.file.Use.{Use}
 use Rattle.ios_ast.specs.declared.policies.Policies.{Policies}
 use Rattle.ios_ast.specs.Setting.{Attributes}
 use Rattle.route_record.specs.declared.Origin.{Origin}
-use Rattle.route_record.specs.declared.Origin.TheVariants.{Igp, Egp, Incomplete}
 use Rattle.route_record.specs.declared.RibEntry.{RibEntry}
 use Rattle.route_record.specs.declared.tracked.Tracked.{Tracked}
 use Rattle.route_record.specs.Origins.{origin_code, origin_of_code}
