@@ -23,7 +23,8 @@ use Rattle.route_record.proofs.Saturated.{saturated-none}
 use Rattle.net_parts.specs.declared.sessions.Far.{Far}
 use Rattle.net_parts.specs.declared.sessions.Far.TheVariants.{Outside, Inside}
 use Rattle.net_parts.specs.declared.sessions.SessionEnd.{SessionEnd}
-use Rattle.net_parts.specs.Decisions.{Candidate, arriving, candidates, candidates_from, learnt_candidate, local_candidate}
+use Rattle.net_parts.specs.Decisions.{Candidate, arriving, candidates, candidates_from, learnt_candidate}
+use Rattle.net_parts.specs.Decisions.{local_candidate}
 use Rattle.net_parts.specs.Decisions.{peer_identifier}
 use Rattle.net_parts.specs.Exports.{announced_message, exported, imported}
 use Rattle.net_parts.specs.Origins.{local_routes}

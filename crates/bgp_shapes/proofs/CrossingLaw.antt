@@ -1,5 +1,6 @@
 -- How a route goes on, by the number of the peer from which it came.
-use Rattle.std.proofs.Common.{◌≡◌, ℕ, ◌+◌, ◌^◌, ◌==◌, ◌&&◌, ◌||◌, Bool, true, false, not, List, [], ◌∷◌, Option, Some, None}
+use Rattle.std.proofs.Common.{◌≡◌, ℕ, ◌+◌, ◌^◌, ◌==◌, ◌&&◌, ◌||◌, Bool, true, false, not, List, [], ◌∷◌, Option, Some}
+use Rattle.std.proofs.Common.{None}
 use Rattle.std.proofs.Common.{refl, sym, ap, arith}
 use Rattle.std.specs.List.{find}
 use Rattle.std.specs.Option.{option_map_or}

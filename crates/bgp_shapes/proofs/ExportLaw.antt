@@ -217,7 +217,8 @@ messages_law tracked files file process neighbour end p held (Some r) all code =
     ap Some (message_law tracked files file process neighbour end p held r all code)
 
 sent_law : (tracked : Tracked) (files : List File) (file : File) (process : Bgp) (neighbour : Neighbour)
-    (end : SessionEnd) (p : Prefix) (held : BgpRec) → TracksTests files tracked → all_tracked tracked file.policies ≡ true
+    (end : SessionEnd) (p : Prefix) (held : BgpRec) → TracksTests files tracked →
+    all_tracked tracked file.policies ≡ true
     → shape_sent tracked files file process neighbour end p (bgp_shape tracked held)
     ≡ option_map (message_shape tracked) (exports.sent files file process neighbour end p held)
 sent_law tracked files file process neighbour end p held tracks all =

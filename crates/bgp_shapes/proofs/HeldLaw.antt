@@ -104,7 +104,8 @@ weaker : {X : Type 0} (P Q : X → Type 0) (xs : List X) → ((x : X) → P x �
 weaker P Q xs gives (k, x, within, is, holds) = (k, x, within, is, gives x holds)
 
 -- the shape of a held route is held
-pub held_complete : (tracked : Tracked) (always compare_id : Bool) (candidates : List Candidate) (held : Option BgpRec) →
+pub held_complete : (tracked : Tracked) (always compare_id : Bool) (candidates : List Candidate)
+    (held : Option BgpRec) →
     All IsShort candidates → IsHeld candidates (survivors always compare_id candidates) held →
     held_shape always compare_id (map (candidate_shape tracked) candidates) (option_map (bgp_shape tracked) held)
     ≡ true

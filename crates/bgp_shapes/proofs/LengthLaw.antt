@@ -142,7 +142,8 @@ locals_bare files router file process p slot =
     (entry_metric slot entry.source)) slot.rib) process.networks (all_such process.networks))
     (all_kept (λ x. Unit {0}) IsBare (into_bgp files router file p slot) (λ line yes.
     if_then IsBare _ (λ entry. if_then IsBare _ (λ metric.
-    by_default (is_default p) _ (local_bare file line.map p (local_route Incomplete (unwrap_or line.metric metric)) refl refl))
+    by_default (is_default p) _
+    (local_bare file line.map p (local_route Incomplete (unwrap_or line.metric metric)) refl refl))
     (taken_metric files router p slot line entry.source)) slot.rib) process.redistribute
     (all_such process.redistribute))
   where
@@ -167,7 +168,8 @@ taken_parts files end p message =
     by_neighbour file process (neighbour_of files end) refl) file.bgp) (slice_get files end.router)
   where
     by_length : (neighbour : Neighbour) → neighbour_of files end ≡ Some neighbour → (r : Attributes) →
-        IfSome (exports.if_short (with_attributes (exports.received neighbour end message) r)) (IsTaken files end message)
+        IfSome (exports.if_short (with_attributes (exports.received neighbour end message) r))
+        (IsTaken files end message)
     by_length neighbour named r = by_test (nat_le (length r.path) exports.most_numbers) refl
       where
         rec : BgpRec
@@ -222,7 +224,8 @@ sent_parts files end p held =
         IfSome (option_map (λ r. if end.internal
         then exports.internal_message files end.router neighbour (exports.own_address files end) held r
         else exports.external_message process neighbour (exports.own_address files end)
-        ((length held.path == 0) || exports.sets_metric file.policies neighbour.map_out p (attributes_of held)) held r) o)
+        ((length held.path == 0) || exports.sets_metric file.policies neighbour.map_out p (attributes_of held))
+        held r) o)
         (IsSent files end held)
     by_map file process neighbour None = tt
     by_map file process neighbour (Some r) = by_kind end.internal refl _ _ refl refl
@@ -434,7 +437,8 @@ module _ (files : List File) (failures : Failures) (environment : Environment) (
           same : rec.clusters ≡ learnt.message.clusters
           same = learnt.taken.clusters
 
-          by_sent : (heard : IsHeardFrom learnt.end learnt.message) → IsSent files heard.far heard.route learnt.message →
+          by_sent : (heard : IsHeardFrom learnt.end learnt.message) →
+              IsSent files heard.far heard.route learnt.message →
               IsReflected router rec
           by_sent heard (inl none) = absurd (none_not rec.clusters k (same ∙ none) long)
           by_sent heard (inr (internal, clusters)) = record {
@@ -594,7 +598,8 @@ module _ (files : List File) (failures : Failures) (environment : Environment) (
             by_sent heard (inl none) = let long = ap length (same ∙ none) in omega (arith, long)
             by_sent heard (inr (internal, clusters)) =
                 let long = ap length (same ∙ clusters) in
-                let more = one_more heard.far (exports.learnt_over files heard.far.router heard.route.from) heard.route in
+                let over = exports.learnt_over files heard.far.router heard.route.from in
+                let more = one_more heard.far over heard.route in
                 let less = fewer heard.far.router heard.route heard.holds in
                 omega (arith, long, more, less)
 
@@ -645,8 +650,8 @@ module _ (files : List File) (destination : Addr) (failures : Failures) (environ
 
 -- in a stable routing a held route has fewer clusters than there are routers
 pub stable_fewer : (files : List File) (destination : Addr) (failures : Failures) (environment : Environment)
-    (tables : Tables) → list_all keeps_limits files ≡ true → Stable files destination failures environment tables → (router len : ℕ)
-    (slot : Slot) (rec : BgpRec) → len < LENGTHS → slot_at tables router len ≡ Some slot → slot.bgp ≡ Some rec →
+    (tables : Tables) → list_all keeps_limits files ≡ true →
+    Stable files destination failures environment tables → (router len : ℕ) (slot : Slot) (rec : BgpRec) → len < LENGTHS → slot_at tables router len ≡ Some slot → slot.bgp ≡ Some rec →
     length rec.clusters < length files
 stable_fewer files destination failures environment tables limits stable router len slot rec below there holds =
     fewer files failures environment tables (prefix_at destination len) (names_once files limits)

@@ -51,7 +51,7 @@ names_once files limits router process runs = of_file (slice_get files router) r
     of_file (Some file) found =
         let here : file.bgp ≡ Some process = sym (ap (option_and_then (λ (f : File). f.bgp)) found) ∙ runs in
         one_line process.neighbours
-        (sym (ap (λ (o : Option Bgp). option_map_or (λ (b : Bgp). each_pair have_two_addresses b.neighbours) o true) here)
+        (sym (ap (λ (o : Option Bgp). option_map_or (λ b. each_pair have_two_addresses b.neighbours) o true) here)
         ∙ (limits_of file (all_at keeps_limits files router file limits found)).once)
     of_file None found =
         let none : None ≡ Some process = sym (ap (option_and_then (λ (f : File). f.bgp)) found) ∙ runs in

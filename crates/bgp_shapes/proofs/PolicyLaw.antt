@@ -27,7 +27,8 @@ use Rattle.ios_ast.specs.Deciding.{carries}
 use Rattle.net_parts.specs.Tracked.{numbers_of}
 use Rattle.route_shapes.specs.Bgp.{bgp_shape}
 use Rattle.route_shapes.specs.Shapes.{all_tracked, marked, marks_with, path_shape, path_tracked, route_shape}
-use Rattle.route_shapes.proofs.ShapeLaw.{found_same, marked-map, marks_with-map, path_entries, shape_deciding-route_shape}
+use Rattle.route_shapes.proofs.ShapeLaw.{found_same, marked-map, marks_with-map, path_entries}
+use Rattle.route_shapes.proofs.ShapeLaw.{shape_deciding-route_shape}
 use Rattle.route_shapes.proofs.ShapeLaw.{shape_mapped-route_shape}
 use Rattle.bgp_shapes.specs.Messages.{shape_passes_paths, shape_sets_metric, shape_through_map, with_seen}
 

@@ -52,8 +52,8 @@ external_shape tracked process neighbour own keeps_med r = record {
 abbrev pub shape_originator : BgpShape → Crossing → ℕ
 shape_originator s x = if x.reflected && lacks_address s.originator then 2 ^ 32 + x.peer else s.originator
 
--- over an internal session path, local preference and metric stay as the map leaves them; a route that is reflected gets
--- the own cluster identifier in front of its clusters
+-- over an internal session path, local preference and metric stay as the map leaves them; a route that is reflected
+-- gets the own cluster identifier in front of its clusters
 abbrev pub internal_shape : Tracked → Neighbour → Addr → Addr → BgpShape → Crossing → RouteShape → BgpShape
 internal_shape tracked neighbour own id s x r = record {
   preferences = record r.preferences { weight = 0 };

@@ -1,6 +1,7 @@
 //! Laws about BGP on shapes. Each function only carries its law.
 
-ghost use Rattle.std.specs.Prelude.{◌≡◌, ◌<◌, ◌^◌, ℕ, All, Bool, IfSome, length, List as ListOf, map, Option as OptionOf};
+ghost use Rattle.std.specs.Prelude.{◌≡◌, ◌<◌, ◌^◌, ℕ, All, Bool, IfSome, length, List as ListOf, map};
+ghost use Rattle.std.specs.Prelude.{Option as OptionOf};
 ghost use Rattle.std.specs.Prelude.{option_map, Some, true};
 ghost use Rattle.std.specs.List.{list_all};
 ghost use Rattle.mw_text.specs.declared.address.Addr.{Addr as AddrOf};
@@ -24,7 +25,8 @@ ghost use Rattle.net_parts.specs.Exports.{exported, imported};
 ghost use Rattle.net_parts.specs.Stable.{Stable};
 ghost use Rattle.net_parts.specs.Tracked.{TracksNet};
 ghost use Rattle.route_shapes.specs.Bgp.{BgpShape, bgp_shape};
-ghost use Rattle.bgp_shapes.specs.Candidates.{candidate_shape, environment_shape, shape_candidates, shape_key, slots_shape};
+ghost use Rattle.bgp_shapes.specs.Candidates.{candidate_shape, environment_shape, shape_candidates, shape_key};
+ghost use Rattle.bgp_shapes.specs.Candidates.{slots_shape};
 ghost use Rattle.bgp_shapes.specs.Exporting.{shape_exported};
 ghost use Rattle.bgp_shapes.specs.Held.{HasMarks, IsHeldByShape, held_shape};
 ghost use Rattle.bgp_shapes.specs.Importing.{shape_imported};
@@ -68,7 +70,8 @@ pub fn candidates_law()
 /// are routers, since each cluster was put in front by another one, and an imported path has at most 255 numbers.
 pub fn length_law()
     ensures fewer { (files : ListOf FileOf) (destination : AddrOf) (failures : FailuresOf) (environment : EnvironmentOf)
-        (tables : TablesOf) → list_all keeps_limits files ≡ true → Stable files destination failures environment tables →
+        (tables : TablesOf) → list_all keeps_limits files ≡ true →
+        Stable files destination failures environment tables →
         (router len : ℕ) (slot : SlotOf) (held : BgpRecOf) → len < LENGTHS → slot_at tables router len ≡ Some slot →
         slot.bgp ≡ Some held → length held.clusters < length files }
     ensures short { (files : ListOf FileOf) (destination : AddrOf) (failures : FailuresOf) (environment : EnvironmentOf)
@@ -78,8 +81,8 @@ pub fn length_law()
         All IsShort (candidates files failures environment tables router file process (prefix_at destination len)) }
 {}
 
-/// The shapes of the candidates that survive the decision process are the shapes that survive it, where 32 bits tell the
-/// lengths of their lists (RFC 4271, section 9.1.2.2).
+/// The shapes of the candidates that survive the decision process are the shapes that survive it, where 32 bits tell
+/// the lengths of their lists (RFC 4271, section 9.1.2.2).
 pub fn survivors_law()
     ensures { (tracked : TrackedOf) (always compare_id : Bool) (all : ListOf Candidate) → All IsShort all →
         map (candidate_shape tracked) (survivors always compare_id all)

@@ -104,7 +104,8 @@ pattern_shape tracked path (First n) h = ap (λ b. b && (first_of path == n)) (s
 pattern_shape tracked path (Last n) h = ap (λ b. b && (last_of path == n)) (saturated-some (length path))
 pattern_shape tracked path (Has n) h = marked-map (carries path) tracked n h
 
-pub path_entries : (tracked : List ℕ) (path : List ℕ) (es : List AsPathEntry) → list_all (path_tracked tracked) es ≡ true
+pub path_entries : (tracked : List ℕ) (path : List ℕ) (es : List AsPathEntry) →
+    list_all (path_tracked tracked) es ≡ true
     → shape_permitted tracked (path_shape tracked path) es ≡ path_permitted es path
 path_entries tracked path es h =
     ap (λ o. option_map_or (λ e. e.permit) o false)

@@ -1,6 +1,7 @@
 -- The best of flagged numbers, one after another.
 use Rattle.std.proofs.Common.{◌≡◌, ℕ, zero, suc, ◌+◌, ◌-◌, ◌<◌, ◌≤◌, ◌&&◌, ◌||◌, Bool, true, false, not, if◌then◌else◌}
-use Rattle.std.proofs.Common.{List, [], ◌∷◌, ◌++◌, length, drop, get_or, map, max, Option, Some, None, refl, sym, ap, ◌∙◌}
+use Rattle.std.proofs.Common.{List, [], ◌∷◌, ◌++◌, length, drop, get_or, map, max, Option, Some, None, refl, sym, ap}
+use Rattle.std.proofs.Common.{◌∙◌}
 use Rattle.std.proofs.Common.{arith}
 use Rattle.std.specs.Option.{option_map_or}
 use Rattle.std.proofs.lemmas.Grind.{common_steps}
@@ -50,8 +51,8 @@ keys_end_at (k ∷ ks) zero d h = omega arith
 keys_end_at (k ∷ ks) (suc j) d h = let rest = keys_end_at ks j d (omega arith) in omega (arith, rest)
 
 -- the best with one more number in front
-pub best_one_more : (w : Reading) (s : Step) (flags : List NodeId) (keys : List SymKey) (i : ℕ) (d : NodeId) (key : SymKey)
-    → 0 < i → i ≤ length flags → i ≤ length keys → key ≡ get_or keys (i - 1) key →
+pub best_one_more : (w : Reading) (s : Step) (flags : List NodeId) (keys : List SymKey) (i : ℕ) (d : NodeId)
+    (key : SymKey) → 0 < i → i ≤ length flags → i ≤ length keys → key ≡ get_or keys (i - 1) key →
     {greater : Bool} {value : ℕ} {rest best : Option ℕ} → greater ≡ is_greater_better s →
     value ≡ compared_number s (key_at w key) →
     rest ≡ best_of (is_greater_better s) (bits w (drop i flags)) (map (compared_number s) (keys_at w (drop i keys))) →
@@ -69,7 +70,8 @@ best_one_more w s flags keys i d key above in_flags in_keys here greater_is valu
     ∙ (λ k. better_of (greater_is k) flag (value_is k) (rest_is k))
     ∙ ap (λ k. best (get_or flags j d ∷ drop i flags) (k ∷ drop i keys)) here
     ∙ ap (λ m. best (get_or flags j d ∷ drop m flags) (get_or keys j key ∷ drop m keys)) (sym next)
-    ∙ ap (λ fs. best fs (get_or keys j key ∷ drop (j + 1) keys)) (sym (drop_more flags j d (omega (arith, in_flags, above))))
+    ∙ ap (λ fs. best fs (get_or keys j key ∷ drop (j + 1) keys))
+    (sym (drop_more flags j d (omega (arith, in_flags, above))))
     ∙ ap (best (drop j flags)) (sym (drop_more keys j key (omega (arith, in_keys, above))))
 
 -- none is left

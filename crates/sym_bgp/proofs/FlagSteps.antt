@@ -19,8 +19,8 @@ use Rattle.sym_bgp.specs.Keys.{key_at, keys_at}
 use Rattle.sym_bgp.proofs.BestSteps.{keys_end_at, row_push}
 
 -- a test of one more of what is flagged
-pub flagged_more : {X Y : Type 0} (w : Reading) (f : X → Y) (test : Y → Bool) (flags : List NodeId) (xs : List X) (i : ℕ)
-    (d : NodeId) (e : X) → i < length flags → i < length xs →
+pub flagged_more : {X Y : Type 0} (w : Reading) (f : X → Y) (test : Y → Bool) (flags : List NodeId) (xs : List X)
+    (i : ℕ) (d : NodeId) (e : X) → i < length flags → i < length xs →
     any_flagged test (bits w (drop i flags)) (map f (drop i xs))
     ≡ ((at w (get_or flags i d) && test (f (get_or xs i e)))
     || any_flagged test (bits w (drop (i + 1) flags)) (map f (drop (i + 1) xs)))
@@ -30,7 +30,8 @@ flagged_more w f test flags xs i d e in_flags in_xs =
 
 pub flagged_end : {X Y : Type 0} (w : Reading) (f : X → Y) (test : Y → Bool) (flags : List NodeId) (xs : List X)
     (i : ℕ) → length flags ≤ i → any_flagged test (bits w (drop i flags)) (map f (drop i xs)) ≡ false
-flagged_end w f test flags xs i past = ap (λ fs. any_flagged test (bits w fs) (map f (drop i xs))) (drop_all i flags past)
+flagged_end w f test flags xs i past =
+    ap (λ fs. any_flagged test (bits w fs) (map f (drop i xs))) (drop_all i flags past)
 
 -- one more key that may remove by its MED. The first half shows which
 pub removed_at : (w : Reading) (c : Key) (flags : List NodeId) (keys : List SymKey) (i : ℕ) (d : NodeId) (e : SymKey) →

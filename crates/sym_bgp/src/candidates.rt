@@ -1,6 +1,7 @@
 //! What the steps of the decision process compare of a candidate, as terms.
 
-ghost use Rattle.std.specs.Prelude.{◌≡◌, ◌==◌, ℕ, ◌+◌, ◌-◌, ◌%◌, ◌^◌, ◌<◌, ◌≤◌, ◌++◌, [], ◌∷◌, Bool, true, false, not, nat_lt, if◌then◌else◌, IfOk, OnOk, length, map, max};
+ghost use Rattle.std.specs.Prelude.{◌≡◌, ◌==◌, ℕ, ◌+◌, ◌-◌, ◌%◌, ◌^◌, ◌<◌, ◌≤◌, ◌++◌, [], ◌∷◌, Bool, true, false};
+ghost use Rattle.std.specs.Prelude.{not, nat_lt, if◌then◌else◌, IfOk, OnOk, length, map, max};
 ghost use Rattle.term_store.specs.Terms.{Reading, size, at};
 ghost use Rattle.term_store.specs.Reading.{Reads, Builds, Gives};
 ghost use Rattle.term_arith.specs.Bits.{bits, number, ids_end};
@@ -8,7 +9,8 @@ ghost use Rattle.sym_policy.specs.Held.{bgp_at, bgp_of, bgp_end};
 ghost use Rattle.bgp_shapes.specs.Candidates.{address_or as address_number_or, shape_key};
 ghost use Rattle.bgp_shapes.specs.Messages.{lacks_address};
 ghost use Rattle.sym_bgp.specs.Candidates.{candidate_at, candidate_end, candidates_end};
-ghost use Rattle.sym_bgp.specs.Keys.{key_at, key_end, keys_at, keys_end, mark_end, rank_at, rank_end, reach_at, reach_end, tie_at, tie_end};
+ghost use Rattle.sym_bgp.specs.Keys.{key_at, key_end, keys_at, keys_end, mark_end, rank_at, rank_end, reach_at};
+ghost use Rattle.sym_bgp.specs.Keys.{reach_end, tie_at, tie_end};
 
 use crate::parts::{SymAddress, SymCand, SymKey, SymMark, SymRank, SymReach, SymTie};
 use mw_text::List;
@@ -40,8 +42,10 @@ fn address_of(alloc: Global, field: &Bits) -> Result<SymAddress, AllocError>
     requires { length field.now.nodes.items ≡ 33 }
     ensures there { IfOk result (λ r. r.there.0 < ids_end field.now.nodes.items) }
     ensures nodes { IfOk result (λ r. ids_end r.number.nodes.items ≤ ids_end field.now.nodes.items) }
-    ensures lacks { IfOk result (λ r. (w : Reading) → not (at w r.there) ≡ lacks_address (number w field.now.nodes.items)) }
-    ensures value { IfOk result (λ r. (w : Reading) → at w r.there ≡ true → number w r.number.nodes.items ≡ number w field.now.nodes.items - 2 ^ 32) }
+    ensures lacks { IfOk result (λ r. (w : Reading) → not (at w r.there)
+        ≡ lacks_address (number w field.now.nodes.items)) }
+    ensures value { IfOk result (λ r. (w : Reading) → at w r.there ≡ true → number w r.number.nodes.items
+        ≡ number w field.now.nodes.items - 2 ^ 32) }
 {
     let ids = field.nodes.as_slice();
     let there = ids[32];
@@ -67,7 +71,8 @@ fn address_or(
     ensures builds { Builds terms.old terms.new }
     ensures within { IfOk result (λ r. ids_end r.nodes.items ≤ size terms.new) }
     ensures width { IfOk result (λ r. length r.nodes.items ≡ 32) }
-    ensures value { Gives terms.new result (λ w r. number w r.nodes.items ≡ address_number_or (number w field.now.nodes.items) (number w other.now.nodes.items)) }
+    ensures value { Gives terms.new result (λ w r. number w r.nodes.items
+        ≡ address_number_or (number w field.now.nodes.items) (number w other.now.nodes.items)) }
 {
     let address = address_of(alloc, field)?;
     choose(alloc, terms, address.there, &address.number, other)
@@ -102,10 +107,11 @@ fn rank(alloc: Global, terms: &mut Terms, rec: &SymBgp) -> Result<SymRank, Alloc
     ensures builds { Builds terms.old terms.new }
     ensures within { IfOk result (λ r. rank_end r ≤ size terms.new) }
     ensures value { Gives terms.new result (λ w r. rank_at w r ≡ record {
-        weight = number w rec.now.weight.nodes.items;
-        local_pref = number w rec.now.local_pref.nodes.items;
-        local = lacks_address (number w rec.now.from.nodes.items);
-        len = number w rec.now.len.nodes.items }) }
+      weight = number w rec.now.weight.nodes.items;
+      local_pref = number w rec.now.local_pref.nodes.items;
+      local = lacks_address (number w rec.now.from.nodes.items);
+      len = number w rec.now.len.nodes.items;
+    }) }
 {
     let local = local_mark(alloc, terms, rec)?;
     let weight = copy(alloc, &rec.weight)?;
@@ -123,10 +129,11 @@ fn rank(alloc: Global, terms: &mut Terms, rec: &SymBgp) -> Result<SymRank, Alloc
 fn reach(alloc: Global, cand: &SymCand) -> Result<SymReach, AllocError>
     ensures within { IfOk result (λ r. (n : ℕ) → candidate_end cand.now ≤ n → reach_end r ≤ n) }
     ensures value { IfOk result (λ r. (w : Reading) → reach_at w r ≡ record {
-        origin = number w cand.now.rec.origin.nodes.items;
-        first = number w cand.now.rec.first.nodes.items;
-        med = number w cand.now.rec.med.nodes.items;
-        external = at w cand.now.external }) }
+      origin = number w cand.now.rec.origin.nodes.items;
+      first = number w cand.now.rec.first.nodes.items;
+      med = number w cand.now.rec.med.nodes.items;
+      external = at w cand.now.external;
+    }) }
 {
     let external = mark(alloc, cand.external)?;
     let origin = copy(alloc, &cand.rec.origin)?;
@@ -147,7 +154,8 @@ fn peer_address(alloc: Global, terms: &mut Terms, from: &Bits) -> Result<Bits, A
     ensures builds { Builds terms.old terms.new }
     ensures within { IfOk result (λ r. ids_end r.nodes.items ≤ size terms.new) }
     ensures width { IfOk result (λ r. length r.nodes.items ≡ 32) }
-    ensures value { Gives terms.new result (λ w r. number w r.nodes.items ≡ address_number_or (number w from.now.nodes.items) 0) }
+    ensures value { Gives terms.new result (λ w r. number w r.nodes.items
+        ≡ address_number_or (number w from.now.nodes.items) 0) }
 {
     let zero = constant(alloc, terms, 0, 32)?;
     address_or(alloc, terms, from, &zero)
@@ -159,10 +167,11 @@ fn tie(alloc: Global, terms: &mut Terms, cand: &SymCand) -> Result<SymTie, Alloc
     ensures builds { Builds terms.old terms.new }
     ensures within { IfOk result (λ r. tie_end r ≤ size terms.new) }
     ensures value { Gives terms.new result (λ w r. tie_at w r ≡ record {
-        cost = number w cand.now.cost.nodes.items;
-        id = address_number_or (number w cand.now.rec.originator.nodes.items) (number w cand.now.peer_id.nodes.items);
-        clusters = number w cand.now.rec.cluster_len.nodes.items;
-        address = address_number_or (number w cand.now.rec.from.nodes.items) 0 }) }
+      cost = number w cand.now.cost.nodes.items;
+      id = address_number_or (number w cand.now.rec.originator.nodes.items) (number w cand.now.peer_id.nodes.items);
+      clusters = number w cand.now.rec.cluster_len.nodes.items;
+      address = address_number_or (number w cand.now.rec.from.nodes.items) 0;
+    }) }
 {
     let id = address_or(alloc, terms, &cand.rec.originator, &cand.peer_id)?;
     let address = peer_address(alloc, terms, &cand.rec.from)?;

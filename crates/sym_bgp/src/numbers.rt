@@ -1,21 +1,23 @@
 //! Numbers that a step of the decision process compares, and the best of them.
 
-ghost use Rattle.std.specs.Prelude.{◌≡◌, ◌==◌, ℕ, ◌+◌, ◌<◌, ◌≤◌, Bool, not, ◌&&◌, if◌then◌else◌, nat_lt, None, IfOk, length, map, max};
+ghost use Rattle.std.specs.Prelude.{◌≡◌, ◌==◌, ℕ, ◌+◌, ◌<◌, ◌≤◌, Bool, not, ◌&&◌, if◌then◌else◌, nat_lt, None, IfOk};
+ghost use Rattle.std.specs.Prelude.{length, map, max};
 ghost use Rattle.std.specs.Option.{option_map_or};
 ghost use Rattle.term_store.specs.Terms.{Reading, size, at};
 ghost use Rattle.term_store.specs.Reading.{Reads, Builds, Gives};
 ghost use Rattle.term_arith.specs.Bits.{bits, number, ids_end};
-ghost use Rattle.bgp_shapes.specs.Numbers.{best_of, better_of, compared_number, is_greater_better, kept_by, wins as first_wins};
+ghost use Rattle.bgp_shapes.specs.Numbers.{best_of, better_of, compared_number, is_greater_better, kept_by};
+ghost use Rattle.bgp_shapes.specs.Numbers.{wins as first_wins};
 ghost use Rattle.sym_bgp.specs.Best.{best_at, best_end};
 ghost use Rattle.sym_bgp.specs.Keys.{IsCompared, compared_width, key_at, key_end, keys_at, keys_end};
 
 use crate::parts::{SymBest, SymKey};
+use mw_text::List;
 use net_parts::Step;
 use std::alloc::{AllocError, Global};
 use term_arith::gates::{both, constant_node, either, negate};
 use term_arith::lists::put;
 use term_arith::{Bits, choose, constant, less};
-use mw_text::List;
 use term_store::{NodeId, Terms};
 
 /// The number that a step compares of a key.
@@ -67,7 +69,8 @@ fn wins(terms: &mut Terms, greater: bool, a: &Bits, b: &Bits) -> Result<NodeId, 
     requires second { ids_end b.now.nodes.items ≤ size terms.old }
     ensures builds { Builds terms.old terms.new }
     ensures within { IfOk result (λ r. r.0 < size terms.new) }
-    ensures value { Gives terms.new result (λ w r. at w r ≡ first_wins greater (number w a.now.nodes.items) (number w b.now.nodes.items)) }
+    ensures value { Gives terms.new result (λ w r. at w r
+        ≡ first_wins greater (number w a.now.nodes.items) (number w b.now.nodes.items)) }
 {
     if greater {
         less(terms, b, a)
@@ -89,7 +92,9 @@ fn unbeaten(
     requires value { ids_end value.now.nodes.items ≤ size terms.old }
     ensures builds { Builds terms.old terms.new }
     ensures within { IfOk result (λ r. r.0 < size terms.new) }
-    ensures value { Gives terms.new result (λ w r. at w r ≡ not (option_map_or (λ b. first_wins greater b (number w value.now.nodes.items)) (best_at w best.now) Bool.false)) }
+    ensures value { Gives terms.new result (λ w r. at w r
+        ≡ not (option_map_or (λ b. first_wins greater b (number w value.now.nodes.items))
+        (best_at w best.now) Bool.false)) }
 {
     let won = wins(terms, greater, &best.number, value)?;
     let beaten = both(terms, best.there, won)?;
@@ -110,7 +115,9 @@ fn flag_kept(
     requires value { ids_end value.now.nodes.items ≤ size terms.old }
     ensures builds { Builds terms.old terms.new }
     ensures within { IfOk result (λ r. r.0 < size terms.new) }
-    ensures value { Gives terms.new result (λ w r. at w r ≡ (at w flag && not (option_map_or (λ b. first_wins greater b (number w value.now.nodes.items)) (best_at w best.now) Bool.false))) }
+    ensures value { Gives terms.new result (λ w r. at w r
+        ≡ (at w flag && not (option_map_or (λ b. first_wins greater b (number w value.now.nodes.items))
+        (best_at w best.now) Bool.false))) }
 {
     let kept = unbeaten(terms, greater, best, value)?;
     both(terms, flag, kept)
@@ -133,7 +140,8 @@ fn better(
     ensures builds { Builds terms.old terms.new }
     ensures within { IfOk result (λ r. best_end r ≤ size terms.new) }
     ensures width { IfOk result (λ r. length r.number.nodes.items ≡ length value.now.nodes.items) }
-    ensures value { Gives terms.new result (λ w r. best_at w r ≡ better_of greater (at w flag) (number w value.now.nodes.items) (best_at w rest.now)) }
+    ensures value { Gives terms.new result (λ w r. best_at w r
+        ≡ better_of greater (at w flag) (number w value.now.nodes.items) (best_at w rest.now)) }
 {
     let there = either(terms, flag, rest.there)?;
     let takes = flag_kept(terms, greater, rest, flag, value)?;
@@ -168,7 +176,8 @@ fn best(
     ensures builds { Builds terms.old terms.new }
     ensures within { IfOk result (λ r. best_end r ≤ size terms.new) }
     ensures width { IfOk result (λ r. length r.number.nodes.items ≡ compared_width step) }
-    ensures value { Gives terms.new result (λ w r. best_at w r ≡ best_of (is_greater_better step) (bits w flags.now) (map (compared_number step) (keys_at w keys.now))) }
+    ensures value { Gives terms.new result (λ w r. best_at w r
+        ≡ best_of (is_greater_better step) (bits w flags.now) (map (compared_number step) (keys_at w keys.now))) }
 {
     let greater = greater_wins(step);
     let mut rest = no_best(alloc, terms, step)?;
@@ -197,7 +206,9 @@ fn kept(
     ensures builds { Builds terms.old terms.new }
     ensures within { IfOk result (λ r. ids_end r ≤ size terms.new) }
     ensures rows { IfOk result (λ r. length r ≡ length keys.now) }
-    ensures value { Gives terms.new result (λ w r. bits w r ≡ kept_by (is_greater_better step) (best_at w best.now) (bits w flags.now) (map (compared_number step) (keys_at w keys.now))) }
+    ensures value { Gives terms.new result (λ w r. bits w r
+        ≡ kept_by (is_greater_better step) (best_at w best.now) (bits w flags.now)
+        (map (compared_number step) (keys_at w keys.now))) }
 {
     let greater = greater_wins(step);
     let mut out = List::new(alloc);
@@ -223,7 +234,10 @@ pub(crate) fn left_by_best(
     ensures builds { Builds terms.old terms.new }
     ensures within { IfOk result (λ r. ids_end r ≤ size terms.new) }
     ensures rows { IfOk result (λ r. length r ≡ length keys.now) }
-    ensures value { Gives terms.new result (λ w r. bits w r ≡ kept_by (is_greater_better step) (best_of (is_greater_better step) (bits w flags.now) (map (compared_number step) (keys_at w keys.now))) (bits w flags.now) (map (compared_number step) (keys_at w keys.now))) }
+    ensures value { Gives terms.new result (λ w r. bits w r
+        ≡ kept_by (is_greater_better step)
+        (best_of (is_greater_better step) (bits w flags.now) (map (compared_number step) (keys_at w keys.now)))
+        (bits w flags.now) (map (compared_number step) (keys_at w keys.now))) }
 {
     let first = best(alloc, terms, step, flags, keys)?;
     kept(alloc, terms, step, &first, flags, keys)

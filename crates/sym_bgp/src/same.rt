@@ -30,7 +30,9 @@ fn equal_pairs(
     requires d { ids_end d.now.nodes.items ≤ size terms.old }
     ensures builds { Builds terms.old terms.new }
     ensures within { IfOk result (λ r. r.0 < size terms.new) }
-    ensures value { Gives terms.new result (λ w r. at w r ≡ ((number w a.now.nodes.items == number w b.now.nodes.items) && (number w c.now.nodes.items == number w d.now.nodes.items))) }
+    ensures value { Gives terms.new result (λ w r. at w r
+        ≡ ((number w a.now.nodes.items == number w b.now.nodes.items)
+        && (number w c.now.nodes.items == number w d.now.nodes.items))) }
 {
     let first = equal(terms, a, b)?;
     let second = equal(terms, c, d)?;
@@ -70,7 +72,13 @@ fn sym_same_peers(terms: &mut Terms, a: &SymBgp, b: &SymBgp) -> Result<NodeId, A
     ensures within { IfOk result (λ r. r.0 < size terms.new) }
     ensures value { Gives terms.new result (λ w r. at w r ≡ same_peers (bgp_at w a.now) (bgp_at w b.now)) }
 {
-    let addresses = equal_pairs(terms, &a.next_hop, &b.next_hop, &a.originator, &b.originator)?;
+    let addresses = equal_pairs(
+        terms,
+        &a.next_hop,
+        &b.next_hop,
+        &a.originator,
+        &b.originator,
+    )?;
     let peers = equal_pairs(terms, &a.from, &b.from, &a.cluster_len, &b.cluster_len)?;
     both(terms, addresses, peers)
 }
@@ -100,7 +108,8 @@ fn sym_same_seen(terms: &mut Terms, a: &SymBgp, b: &SymBgp) -> Result<NodeId, Al
     requires second { bgp_end b.now ≤ size terms.old }
     ensures builds { Builds terms.old terms.new }
     ensures within { IfOk result (λ r. r.0 < size terms.new) }
-    ensures value { Gives terms.new result (λ w r. at w r ≡ (same_preferences (bgp_at w a.now) (bgp_at w b.now) && same_path (bgp_at w a.now) (bgp_at w b.now))) }
+    ensures value { Gives terms.new result (λ w r. at w r
+        ≡ (same_preferences (bgp_at w a.now) (bgp_at w b.now) && same_path (bgp_at w a.now) (bgp_at w b.now))) }
 {
     let preferences = sym_same_preferences(terms, a, b)?;
     let path = sym_same_path(terms, a, b)?;

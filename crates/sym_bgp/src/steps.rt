@@ -1,6 +1,7 @@
 //! The steps of the decision process as terms: a flag for each candidate says whether it is left.
 
-ghost use Rattle.std.specs.Prelude.{◌≡◌, ◌==◌, ℕ, ◌+◌, ◌<◌, ◌≤◌, Bool, false, not, ◌&&◌, ◌||◌, nat_lt, fold, IfOk, length, map, [], ◌∷◌};
+ghost use Rattle.std.specs.Prelude.{◌≡◌, ◌==◌, ℕ, ◌+◌, ◌<◌, ◌≤◌, Bool, false, not, ◌&&◌, ◌||◌, nat_lt, fold, IfOk};
+ghost use Rattle.std.specs.Prelude.{length, map, [], ◌∷◌};
 ghost use Rattle.term_store.specs.Terms.{Reading, size, at};
 ghost use Rattle.term_store.specs.Reading.{Reads, Builds, Gives};
 ghost use Rattle.term_arith.specs.Bits.{bits, number, ids_end};
@@ -32,7 +33,8 @@ fn removes_by_med(
     requires other { key_end other.now ≤ size terms.old }
     ensures builds { Builds terms.old terms.new }
     ensures within { IfOk result (λ r. r.0 < size terms.new) }
-    ensures value { Gives terms.new result (λ w r. at w r ≡ (at w flag && removes false MedStep (key_at w c.now) (key_at w other.now))) }
+    ensures value { Gives terms.new result (λ w r. at w r
+        ≡ (at w flag && removes false MedStep (key_at w c.now) (key_at w other.now))) }
 {
     let lower = less(terms, &other.reach.med, &c.reach.med)?;
     let same = equal(terms, &c.reach.first, &other.reach.first)?;
@@ -54,7 +56,8 @@ fn removed_by_med(
     requires keys { keys_end keys.now ≤ size terms.old }
     ensures builds { Builds terms.old terms.new }
     ensures within { IfOk result (λ r. r.0 < size terms.new) }
-    ensures value { Gives terms.new result (λ w r. at w r ≡ any_flagged (removes false MedStep (key_at w c.now)) (bits w flags.now) (keys_at w keys.now)) }
+    ensures value { Gives terms.new result (λ w r. at w r
+        ≡ any_flagged (removes false MedStep (key_at w c.now)) (bits w flags.now) (keys_at w keys.now)) }
 {
     let mut any = constant_node(terms, false)?;
     for i in 0..keys.len() {
@@ -79,7 +82,9 @@ fn flag_left(
     requires keys { keys_end keys.now ≤ size terms.old }
     ensures builds { Builds terms.old terms.new }
     ensures within { IfOk result (λ r. r.0 < size terms.new) }
-    ensures value { Gives terms.new result (λ w r. at w r ≡ (at w flag && not (any_flagged (removes false MedStep (key_at w c.now)) (bits w flags.now) (keys_at w keys.now)))) }
+    ensures value { Gives terms.new result (λ w r. at w r
+        ≡ (at w flag && not (any_flagged (removes false MedStep (key_at w c.now)) (bits w flags.now)
+        (keys_at w keys.now)))) }
 {
     let gone = removed_by_med(terms, c, flags, keys)?;
     let kept = negate(terms, gone)?;
@@ -100,7 +105,8 @@ fn left_by_med(
     ensures builds { Builds terms.old terms.new }
     ensures within { IfOk result (λ r. ids_end r ≤ size terms.new) }
     ensures rows { IfOk result (λ r. length r ≡ length keys.now) }
-    ensures value { Gives terms.new result (λ w r. bits w r ≡ flags_left false (keys_at w keys.now) (bits w flags.now) MedStep) }
+    ensures value { Gives terms.new result (λ w r. bits w r
+        ≡ flags_left false (keys_at w keys.now) (bits w flags.now) MedStep) }
 {
     let mut out = List::new(alloc);
     for i in 0..keys.len() {
@@ -133,7 +139,8 @@ fn left(
     ensures builds { Builds terms.old terms.new }
     ensures within { IfOk result (λ r. ids_end r ≤ size terms.new) }
     ensures rows { IfOk result (λ r. length r ≡ length keys.now) }
-    ensures value { Gives terms.new result (λ w r. bits w r ≡ flags_left always (keys_at w keys.now) (bits w flags.now) step) }
+    ensures value { Gives terms.new result (λ w r. bits w r
+        ≡ flags_left always (keys_at w keys.now) (bits w flags.now) step) }
 {
     if is_over_all(always, step) {
         left_by_best(alloc, terms, step, flags, keys)
@@ -158,7 +165,8 @@ fn after_steps(
     ensures builds { Builds terms.old terms.new }
     ensures within { IfOk result (λ r. ids_end r.nodes.items ≤ size terms.new) }
     ensures rows { IfOk result (λ r. length r.nodes.items ≡ length keys.now) }
-    ensures value { Gives terms.new result (λ w r. bits w r.nodes.items ≡ fold (flags_left always (keys_at w keys.now)) (bits w flags.nodes.items) steps.now) }
+    ensures value { Gives terms.new result (λ w r. bits w r.nodes.items
+        ≡ fold (flags_left always (keys_at w keys.now)) (bits w flags.nodes.items) steps.now) }
 {
     let mut here = flags;
     for step in steps {
@@ -170,17 +178,14 @@ fn after_steps(
 
 /// Whether some flagged key is external.
 #[tactic(auto, using(crate::proofs::FlagSteps::external_steps))]
-fn any_external(
-    terms: &mut Terms,
-    flags: &[NodeId],
-    keys: &[SymKey],
-) -> Result<NodeId, AllocError>
+fn any_external(terms: &mut Terms, flags: &[NodeId], keys: &[SymKey]) -> Result<NodeId, AllocError>
     requires rows { length flags.now ≡ length keys.now }
     requires flags { ids_end flags.now ≤ size terms.old }
     requires keys { keys_end keys.now ≤ size terms.old }
     ensures builds { Builds terms.old terms.new }
     ensures within { IfOk result (λ r. r.0 < size terms.new) }
-    ensures value { Gives terms.new result (λ w r. at w r ≡ any_flagged (λ (k : Key). k.external) (bits w flags.now) (keys_at w keys.now)) }
+    ensures value { Gives terms.new result (λ w r. at w r
+        ≡ any_flagged (λ (k : Key). k.external) (bits w flags.now) (keys_at w keys.now)) }
 {
     let mut any = constant_node(terms, false)?;
     for i in 0..keys.len() {
@@ -213,7 +218,8 @@ fn is_compared(
     requires keys { keys_end keys.now ≤ size terms.old }
     ensures builds { Builds terms.old terms.new }
     ensures within { IfOk result (λ r. r.0 < size terms.new) }
-    ensures value { Gives terms.new result (λ w r. at w r ≡ (compare_id || not (any_flagged (λ (k : Key). k.external) (bits w flags.now) (keys_at w keys.now)))) }
+    ensures value { Gives terms.new result (λ w r. at w r
+        ≡ (compare_id || not (any_flagged (λ (k : Key). k.external) (bits w flags.now) (keys_at w keys.now)))) }
 {
     if compare_id {
         return constant_node(terms, true);
@@ -253,7 +259,8 @@ pub(crate) fn sym_surviving(
     ensures builds { Builds terms.old terms.new }
     ensures within { IfOk result (λ r. ids_end r.nodes.items ≤ size terms.new) }
     ensures rows { IfOk result (λ r. length r.nodes.items ≡ length keys.now) }
-    ensures value { Gives terms.new result (λ w r. bits w r.nodes.items ≡ surviving always compare_id (bits w flags.nodes.items) (keys_at w keys.now)) }
+    ensures value { Gives terms.new result (λ w r. bits w r.nodes.items
+        ≡ surviving always compare_id (bits w flags.nodes.items) (keys_at w keys.now)) }
 {
     let first = after_steps(alloc, terms, always, &TO_COST, flags, keys)?;
     let compares = is_compared(terms, compare_id, first.nodes.as_slice(), keys)?;

@@ -1,6 +1,7 @@
 //! Whether a route is held, as a term.
 
-ghost use Rattle.std.specs.Prelude.{◌≡◌, ◌==◌, ℕ, ◌+◌, ◌<◌, ◌≤◌, Bool, true, false, not, ◌&&◌, ◌||◌, if◌then◌else◌, IfOk, length, map, max, [], ◌∷◌, ◌++◌};
+ghost use Rattle.std.specs.Prelude.{◌≡◌, ◌==◌, ℕ, ◌+◌, ◌<◌, ◌≤◌, Bool, true, false, not, ◌&&◌, ◌||◌, if◌then◌else◌};
+ghost use Rattle.std.specs.Prelude.{IfOk, length, map, max, [], ◌∷◌, ◌++◌};
 ghost use Rattle.std.specs.List.{filter_map, list_any};
 ghost use Rattle.term_store.specs.Terms.{Reading, size, at};
 ghost use Rattle.term_store.specs.Reading.{Reads, Builds, Gives};
@@ -9,7 +10,8 @@ ghost use Rattle.sym_policy.specs.Held.{bgp_at, bgp_of, bgp_end};
 ghost use Rattle.bgp_shapes.specs.Candidates.{ShapeCandidate, shape_key};
 ghost use Rattle.bgp_shapes.specs.Flags.{any_flagged, surviving};
 ghost use Rattle.bgp_shapes.specs.Held.{held_shape, same_shape};
-ghost use Rattle.sym_bgp.specs.Candidates.{candidate_at, candidate_end, candidate_of, candidates_end, HaveMarksOf, SameMarks};
+ghost use Rattle.sym_bgp.specs.Candidates.{candidate_at, candidate_end, candidate_of, candidates_end, HaveMarksOf};
+ghost use Rattle.sym_bgp.specs.Candidates.{SameMarks};
 
 use crate::candidates::sym_keys;
 use crate::parts::SymCand;
@@ -50,7 +52,8 @@ fn is_held(
     requires held { bgp_end held.now ≤ size terms.old }
     ensures builds { Builds terms.old terms.new }
     ensures within { IfOk result (λ r. r.0 < size terms.new) }
-    ensures value { Gives terms.new result (λ w r. at w r ≡ (at w flag && same_shape (candidate_at w cand.now).rec (bgp_at w held.now))) }
+    ensures value { Gives terms.new result (λ w r. at w r
+        ≡ (at w flag && same_shape (candidate_at w cand.now).rec (bgp_at w held.now))) }
 {
     let same = sym_same(terms, &cand.rec, held)?;
     both(terms, flag, same)
@@ -71,7 +74,9 @@ fn any_held(
     requires held { bgp_end held.now ≤ size terms.old }
     ensures builds { Builds terms.old terms.new }
     ensures within { IfOk result (λ r. r.0 < size terms.new) }
-    ensures value { Gives terms.new result (λ w r. at w r ≡ any_flagged (λ (c : ShapeCandidate). same_shape c.rec (bgp_at w held.now)) (bits w flags.now) (map (candidate_at w) cands.now)) }
+    ensures value { Gives terms.new result (λ w r. at w r
+        ≡ any_flagged (λ (c : ShapeCandidate). same_shape c.rec (bgp_at w held.now)) (bits w flags.now)
+        (map (candidate_at w) cands.now)) }
 {
     let mut any = constant_node(terms, false)?;
     for i in 0..cands.len() {
@@ -98,7 +103,10 @@ fn survivor_held(
     requires held { bgp_end held.now ≤ size terms.old }
     ensures builds { Builds terms.old terms.new }
     ensures within { IfOk result (λ r. r.0 < size terms.new) }
-    ensures value { Gives terms.new result (λ w r. at w r ≡ any_flagged (λ (c : ShapeCandidate). same_shape c.rec (bgp_at w held.now)) (surviving always_compare compare_id (bits w there.nodes.items) (map shape_key (map (candidate_at w) cands.now))) (map (candidate_at w) cands.now)) }
+    ensures value { Gives terms.new result (λ w r. at w r
+        ≡ any_flagged (λ (c : ShapeCandidate). same_shape c.rec (bgp_at w held.now))
+        (surviving always_compare compare_id (bits w there.nodes.items)
+        (map shape_key (map (candidate_at w) cands.now))) (map (candidate_at w) cands.now)) }
 {
     let keys = sym_keys(alloc, terms, cands)?;
     let left = sym_surviving(
@@ -123,9 +131,9 @@ fn none_of(terms: &mut Terms, nodes: &[NodeId]) -> Result<NodeId, AllocError>
     negate(terms, some)
 }
 
-/// Whether a route is held (RFC 4271, section 9.1.2): it has the shape of a candidate that survives the decision process
-/// among those that are there; and there is none exactly where no candidate is. Each row of marks of the candidates is to
-/// be as long as that of the route.
+/// Whether a route is held (RFC 4271, section 9.1.2): it has the shape of a candidate that survives the decision
+/// process among those that are there; and there is none exactly where no candidate is. Each row of marks of the
+/// candidates is to be as long as that of the route.
 #[tactic(auto, using(crate::proofs::HeldSteps::survives_law))]
 pub fn sym_survives(
     alloc: Global,
@@ -140,18 +148,11 @@ pub fn sym_survives(
     requires held { bgp_end held.now ≤ size terms.old }
     ensures builds { Builds terms.old terms.new }
     ensures within { IfOk result (λ r. r.0 < size terms.new) }
-    ensures value { Gives terms.new result (λ w r. at w r ≡ held_shape always_compare compare_id (filter_map (candidate_of w) cands.now) (bgp_of w held.now)) }
+    ensures value { Gives terms.new result (λ w r. at w r
+        ≡ held_shape always_compare compare_id (filter_map (candidate_of w) cands.now) (bgp_of w held.now)) }
 {
     let there = valids(alloc, cands)?;
     let none = none_of(terms, there.nodes.as_slice())?;
-    let survives = survivor_held(
-        alloc,
-        terms,
-        always_compare,
-        compare_id,
-        there,
-        cands,
-        held,
-    )?;
+    let survives = survivor_held(alloc, terms, always_compare, compare_id, there, cands, held)?;
     select(terms, held.valid, survives, none)
 }

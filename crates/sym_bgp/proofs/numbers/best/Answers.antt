@@ -12,5 +12,6 @@ loop-i-preserved c =
       value = λ w reads.
           best_one_more w c.args.step c.args.flags.now c.args.keys.now c.loop-i.i _ c.index-keys-i.result
           (omega arith) (omega arith) (omega arith) c.index-keys-i.is c.greater_wins-greater.ensures
-          (c.compared-value.ensures.value w) (c.loop-i.invariant.value w (step.builds.reads w reads)) (step.value w reads);
+          (c.compared-value.ensures.value w) (c.loop-i.invariant.value w (step.builds.reads w reads))
+          (step.value w reads);
     }

@@ -20,11 +20,11 @@ loop-i-preserved c =
       rows = put_rows out after node i put_is c.loop-i.invariant.rows;
       value = λ w reads.
           let best = best_at w c.args.best.now in
+          let flags = bits w (drop (i + 1) c.args.flags.now) in
           let keys = map (compared_number c.args.step) (keys_at w (drop (i + 1) c.args.keys.now)) in
-          ap
-          (λ ids. bits w ids ++ kept_by (is_greater_better c.args.step) best (bits w (drop (i + 1) c.args.flags.now)) keys)
-          put_is
+          ap (λ ids. bits w ids ++ kept_by (is_greater_better c.args.step) best flags keys) put_is
           ∙ kept_one_more w c.args.step best c.args.flags.now c.args.keys.now i _ c.index-keys-i.result out node
-          (omega arith) (omega arith) c.index-keys-i.is c.greater_wins-greater.ensures (c.compared-value.ensures.value w)
-          (step.value w reads) (c.loop-i.invariant.value w (step.builds.reads w reads));
+          (omega arith) (omega arith) c.index-keys-i.is c.greater_wins-greater.ensures
+          (c.compared-value.ensures.value w) (step.value w reads)
+          (c.loop-i.invariant.value w (step.builds.reads w reads));
     }

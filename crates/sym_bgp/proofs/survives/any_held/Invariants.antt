@@ -14,8 +14,8 @@ invariant-loop-i l = record {
   builds : Builds l.fn.terms l.terms;
   within : l.any.0 < size l.terms;
   value : (w : Reading) → Reads w l.terms
-      → (at w l.any || any_flagged (λ (c : ShapeCandidate). same_shape c.rec (bgp_at w l.held)) (bits w (drop l.i l.flags))
-      (map (candidate_at w) (drop l.i l.cands)))
+      → (at w l.any || any_flagged (λ (c : ShapeCandidate). same_shape c.rec (bgp_at w l.held))
+      (bits w (drop l.i l.flags)) (map (candidate_at w) (drop l.i l.cands)))
       ≡ any_flagged (λ (c : ShapeCandidate). same_shape c.rec (bgp_at w l.held)) (bits w l.flags)
       (map (candidate_at w) l.cands);
 }

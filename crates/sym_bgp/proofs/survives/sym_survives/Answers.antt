@@ -13,6 +13,7 @@ returns-clause-value c =
     let before = c.select.ensures.builds.reads w reads in
     chosen w reads
     ∙ survives_law w c.args.always_compare c.args.compare_id c.args.cands.now c.args.held.now
-    c.in_ok-there.there.nodes.items (at w c.in_ok-none.none) (at w c.in_ok-survives.survives) c.in_ok-there.ensures.value
+    c.in_ok-there.there.nodes.items (at w c.in_ok-none.none) (at w c.in_ok-survives.survives)
+    c.in_ok-there.ensures.value
     (none.value w (survives.builds.reads w before) ∙ ap (λ ids. not (list_any (at w) ids)) c.as_slice.ensures.value)
     (survives.value w before)) c.select.ensures.value
