@@ -32,7 +32,7 @@ use Rattle.bgp_shapes.specs.Crossings.{crossing}
 use Rattle.bgp_shapes.specs.Exporting.{external_shape, internal_shape, sent_marks, shape_exported, shape_may_go}
 use Rattle.bgp_shapes.specs.Exporting.{shape_message, shape_originator, shape_sent, shape_sent_by}
 use Rattle.bgp_shapes.proofs.PolicyLaw.{HasCode, cluster_front, metric_shape, paths_shape, through_code}
-use Rattle.bgp_shapes.proofs.PolicyLaw.{through_shape}
+use Rattle.route_shapes.proofs.ShapeLaw.{through_map-route_shape}
 use Rattle.bgp_shapes.specs.Tracking.{TracksTests}
 use Rattle.bgp_shapes.proofs.ImportLaw.{found_twice, where_some}
 use Rattle.bgp_shapes.proofs.CrossingLaw.{learnt_numbered, may_cross}
@@ -225,7 +225,7 @@ sent_law tracked files file process neighbour end p held tracks all =
     let may = may_shape tracked files process neighbour end held tracks in
     let paths = paths_shape tracked file.policies neighbour.filter_out held.path all in
     let left = through_map file.policies neighbour.map_out p (not end.internal) (attributes_of held) in
-    let through = through_shape tracked file.policies neighbour.map_out p (not end.internal) (attributes_of held) all in
+    let through = through_map-route_shape tracked file.policies neighbour.map_out p (not end.internal) (attributes_of held) all in
     let from = exports.learnt_over files end.router held.from in
     ap (λ o. shape_sent_by tracked files file process neighbour end p (bgp_shape tracked held)
     (crossing files process neighbour end o)) (sym (learnt_numbered files end.router held.from))

@@ -29,8 +29,8 @@ use Rattle.route_shapes.specs.Bgp.{bgp_shape}
 use Rattle.route_shapes.specs.Shapes.{all_tracked, marked, marks_with, path_shape, path_tracked, route_shape}
 use Rattle.route_shapes.proofs.ShapeLaw.{found_same, marked-map, marks_with-map, path_entries}
 use Rattle.route_shapes.proofs.ShapeLaw.{shape_deciding-route_shape}
-use Rattle.route_shapes.proofs.ShapeLaw.{shape_mapped-route_shape}
-use Rattle.bgp_shapes.specs.Messages.{shape_passes_paths, shape_sets_metric, shape_through_map, with_seen}
+use Rattle.route_shapes.specs.Shapes.{shape_passes_paths}
+use Rattle.bgp_shapes.specs.Messages.{shape_sets_metric, with_seen}
 
 -- ---- the origin stays a code, on each side of a map's use
 
@@ -92,14 +92,6 @@ seen_shape tracked rec r h =
     ap (λ n. with_seen (bgp_shape tracked rec) (route_shape tracked (record r { origin = n }))) (code_again r.origin h)
 
 -- ---- maps and lists
-
-pub through_shape : (tracked : Tracked) (policies : Policies) (used : Option Use) (p : Prefix) (external : Bool)
-    (r : Attributes) → all_tracked tracked policies ≡ true
-    → shape_through_map tracked policies used p external (route_shape tracked r)
-    ≡ option_map (route_shape tracked) (through_map policies used p external r)
-through_shape tracked policies None p external r h = refl
-through_shape tracked policies (Some named) p external r h =
-    shape_mapped-route_shape policies (entries_named policies named) tracked p external r h
 
 pub paths_shape : (tracked : Tracked) (policies : Policies) (used : Option Use) (path : List ℕ)
     → all_tracked tracked policies ≡ true

@@ -13,7 +13,7 @@ use Rattle.sym_policy.specs.declared.parts.SymMade.{SymMade}
 use Rattle.sym_policy.specs.declared.records.SymMapRec.{SymMapRec}
 use Rattle.sym_policy.specs.SameNodes.{SameRoute, IsSeen, IsRest, IsJoined}
 use Rattle.sym_policy.specs.MapRecs.{attributes_at, map_rec_end, seen_end, kept_end, HasMarks, KeepsRest, IsMade}
-use Rattle.sym_policy.specs.Routes.{route_at, route_end, made_end, HasRows, SameRows}
+use Rattle.sym_policy.specs.Routes.{route_at, route_end, rest_end, made_end, HasRows, SameRows}
 use Rattle.sym_policy.proofs.Choices.{both_there}
 
 -- a copy is read as the route is, and ends where it does
@@ -96,6 +96,37 @@ seen_within rec s n h within =
 
 -- for what route maps see, in `using`
 pub ruleset seen_steps = (seen_at, seen_rows, seen_within)
+
+-- a record that is put together is read and ends as its parts do
+pub joined_at : (there : NodeId) (route : SymRoute) (rest : SymRest) (rec : SymMapRec) → IsJoined there route rest rec →
+    (w : Reading) → attributes_at w rec ≡ route_at w route
+joined_at there route rest rec h w = sym (seen_at rec route h.seen w)
+
+rest_ends : (rec : SymMapRec) (s : SymRest) → IsRest rec.bgp s → rest_end s ≡ kept_end rec
+rest_ends rec s h = λ i.
+    max (max (ids_end (h.next_hop i)) (ids_end (h.originator i)))
+    (max (ids_end (h.from i)) (max (ids_end (h.cluster_len i)) (ids_end (h.clusters i))))
+
+pub joined_within : (there : NodeId) (route : SymRoute) (rest : SymRest) (rec : SymMapRec) (n : ℕ) →
+    IsJoined there route rest rec → there.0 < n → route_end route ≤ n → rest_end rest ≤ n → map_rec_end rec ≤ n
+joined_within there route rest rec n h there_in route_in rest_in =
+    let first : rec.bgp.valid.0 < n = subst (λ (x : NodeId). x.0 < n) (sym h.valid) there_in in
+    let seen : seen_end rec ≤ n = subst (λ (k : ℕ). k ≤ n) (seen_ends rec route h.seen) route_in in
+    let kept : kept_end rec ≤ n = subst (λ (k : ℕ). k ≤ n) (rest_ends rec rest h.rest) rest_in in
+    all rec.bgp.valid.0 (seen_end rec) (kept_end rec) first seen kept
+  where
+    all : (a b c : ℕ) → a < n → b ≤ n → c ≤ n → max (a + 1) (max b c) ≤ n
+    all a b c first seen kept = omega arith
+
+pub joined_marks : (tracked : Tracked) (there : NodeId) (route : SymRoute) (rest : SymRest) (rec : SymMapRec) →
+    IsJoined there route rest rec → HasRows tracked route → HasMarks tracked rec
+joined_marks tracked there route rest rec h rows = record {
+  numbers = sym (ap length h.seen.path.numbers) ∙ rows.numbers;
+  communities = sym (ap length h.seen.communities) ∙ rows.communities;
+}
+
+-- for records that are put together, in `using`
+pub ruleset joined_steps = (joined_at, joined_within, joined_marks)
 
 -- what route maps never set keeps its nodes in the record that is put together
 pub kept : (before rec : SymMapRec) (s : SymRest) → IsRest before.bgp s → IsRest rec.bgp s → KeepsRest before rec

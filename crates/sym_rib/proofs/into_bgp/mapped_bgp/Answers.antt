@@ -28,5 +28,5 @@ returns-clause-value c = λ w reads all.
     record_stands w tracked c.in_ok-left.left (option_and_then (through_map policies used p false) seen)
     (own_kept w tracked c.in_ok-before.before c.in_ok-left.left left.rest (before.own w before_left))
     (local_code policies used p origin metric)
-    (left.value w reads seen all (before.value w before_left))
+    (left.stands w reads seen all (before.value w before_left))
     ∙ ap (option_map (bgp_shape tracked)) (local_left origin (through_map policies used p false) metric)

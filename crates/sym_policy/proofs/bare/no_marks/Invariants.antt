@@ -2,7 +2,7 @@ use Rattle.std.proofs.Common.{◌≡◌, ◌≤◌, false, length, replicate}
 use Rattle.term_store.specs.Terms.{Reading, size}
 use Rattle.term_store.specs.Reading.{Reads, Builds}
 use Rattle.term_arith.specs.Bits.{bits, ids_end}
-use Rattle.sym_rib.proofs.known.no_marks.Given as goal
+use Rattle.sym_policy.proofs.bare.no_marks.Given as goal
 
 abbrev pub invariant-loop-i : goal.invariant-loop-i
 invariant-loop-i l = record {
