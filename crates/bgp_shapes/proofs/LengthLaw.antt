@@ -651,7 +651,8 @@ module _ (files : List File) (destination : Addr) (failures : Failures) (environ
 -- in a stable routing a held route has fewer clusters than there are routers
 pub stable_fewer : (files : List File) (destination : Addr) (failures : Failures) (environment : Environment)
     (tables : Tables) → list_all keeps_limits files ≡ true →
-    Stable files destination failures environment tables → (router len : ℕ) (slot : Slot) (rec : BgpRec) → len < LENGTHS → slot_at tables router len ≡ Some slot → slot.bgp ≡ Some rec →
+    Stable files destination failures environment tables → (router len : ℕ) (slot : Slot) (rec : BgpRec) →
+    len < LENGTHS → slot_at tables router len ≡ Some slot → slot.bgp ≡ Some rec →
     length rec.clusters < length files
 stable_fewer files destination failures environment tables limits stable router len slot rec below there holds =
     fewer files failures environment tables (prefix_at destination len) (names_once files limits)

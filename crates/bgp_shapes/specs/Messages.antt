@@ -1,5 +1,5 @@
 -- Messages by their shapes, and what the lists and route maps of a neighbour answer for the shape of a route.
-use Rattle.std.specs.Prelude.{ℕ, ◌^◌, Bool, false, true, nat_lt, Option, Some, unwrap_or}
+use Rattle.std.specs.Prelude.{ℕ, ◌^◌, Bool, false, nat_lt, Option, unwrap_or}
 use Rattle.std.specs.List.{find, list_any}
 use Rattle.std.specs.Option.{option_map_or}
 use Rattle.mw_text.specs.declared.address.Prefix.{Prefix}

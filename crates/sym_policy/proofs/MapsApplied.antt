@@ -1,11 +1,9 @@
 -- Maps that are applied, and what stands for a route before and after one.
-use Rattle.std.proofs.Common.{◌≡◌, Bool, true, List, [], Option, Some, None, refl, ap, ◌∙◌}
-use Rattle.std.specs.Option.{option_and_then, option_map, option_map_or}
+use Rattle.std.proofs.Common.{◌≡◌, Bool, true, [], Option, Some, None, refl, ap, ◌∙◌}
+use Rattle.std.specs.Option.{option_and_then, option_map}
 use Rattle.mw_text.specs.declared.address.Prefix.{Prefix}
 use Rattle.ios_ast.specs.declared.file.Use.{Use}
-use Rattle.ios_ast.specs.declared.policies.MapEntry.{MapEntry}
 use Rattle.ios_ast.specs.declared.policies.Policies.{Policies}
-use Rattle.ios_ast.specs.declared.policies.RouteMap.{RouteMap}
 use Rattle.ios_ast.specs.Maps.{through_map}
 use Rattle.ios_ast.specs.Setting.{Attributes}
 use Rattle.route_record.specs.declared.tracked.Tracked.{Tracked}

@@ -36,11 +36,7 @@ pub fn no_marks(alloc: Global, terms: &mut Terms, count: usize) -> Result<Bits, 
 
 /// The empty path.
 #[tactic(auto, using(crate::proofs::BareRows::empty_path))]
-pub fn no_path(
-    alloc: Global,
-    terms: &mut Terms,
-    tracked: &Tracked,
-) -> Result<SymPath, AllocError>
+pub fn no_path(alloc: Global, terms: &mut Terms, tracked: &Tracked) -> Result<SymPath, AllocError>
     ensures builds { Builds terms.old terms.new }
     ensures within { IfOk result (λ r. path_end r ≤ size terms.new) }
     ensures rows { IfOk result (λ r. length r.numbers.nodes.items ≡ length tracked.now.numbers) }

@@ -69,7 +69,12 @@ pub fn sym_marks_with(
 
 /// A length with more items, in 32 bits; the greatest number of these where it does not fit.
 #[tactic(auto, using(route_record::proofs::Saturated::saturated_choice))]
-pub fn sym_longer(alloc: Global, terms: &mut Terms, len: &Bits, more: usize) -> Result<Bits, AllocError>
+pub fn sym_longer(
+    alloc: Global,
+    terms: &mut Terms,
+    len: &Bits,
+    more: usize,
+) -> Result<Bits, AllocError>
     requires wide { length len.now.nodes.items ≡ 32 }
     requires nodes { ids_end len.now.nodes.items ≤ size terms.old }
     ensures builds { Builds terms.old terms.new }

@@ -79,9 +79,7 @@ fn sym_named(
 {
     match map_named(policies, named) {
         None => dropped(terms, rec),
-        Some(map) => sym_route_map(
-            alloc, terms, tracked, policies, map, dst, len, &rec, side,
-        ),
+        Some(map) => sym_route_map(alloc, terms, tracked, policies, map, dst, len, &rec, side),
     }
 }
 
@@ -112,16 +110,14 @@ fn applied(
 {
     match used {
         None => Ok(rec),
-        Some(named) => sym_named(
-            alloc, terms, tracked, policies, named, dst, len, rec, side,
-        ),
+        Some(named) => sym_named(alloc, terms, tracked, policies, named, dst, len, rec, side),
     }
 }
 
 /// What the route map that a line applies, if it applies one, makes of a route to the prefix of that length of an
-/// address. A map that is not there drops every route. Each community and each number of a pattern `_N_` that lists test
-/// is to be tracked: where all are, and the record stands for a route or for none, the result stands for what the map
-/// leaves of that route.
+/// address. A map that is not there drops every route. Each community and each number of a pattern `_N_` that lists
+/// test is to be tracked: where all are, and the record stands for a route or for none, the result stands for what the
+/// map leaves of that route.
 pub fn sym_through(
     alloc: Global,
     terms: &mut Terms,
@@ -151,8 +147,6 @@ pub fn sym_through(
         → map_rec_at w r ≡ option_map (route_shape tracked.now)
         (option_and_then (through_map policies.now used.now (prefix_of w dst.now len) (at_external side)) held)) }
 {
-    let left = applied(
-        alloc, terms, tracked, policies, used, dst, len, rec, side,
-    )?;
+    let left = applied(alloc, terms, tracked, policies, used, dst, len, rec, side)?;
     Ok(left)
 }

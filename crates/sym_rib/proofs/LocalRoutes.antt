@@ -76,7 +76,8 @@ shape_of : (tracked : Tracked) (c : Attributes) → c.origin ≤ 2
     → own_shape tracked (route_shape tracked c) ≡ bgp_shape tracked (local_with c)
 shape_of tracked c small =
     let shape : ℕ → ℕ → BgpShape =
-    λ origin len. record (own_shape tracked (route_shape tracked (record c { origin = origin }))) { cluster_len = len } in
+    λ origin len.
+    record (own_shape tracked (route_shape tracked (record c { origin = origin }))) { cluster_len = len } in
     ap (λ n. shape n 0) (origin_again c.origin small)
     ∙ ap (shape (origin_code (origin_of_code c.origin))) (sym saturated-none)
 

@@ -5,7 +5,8 @@ ghost use Rattle.ios_ast.specs.Deciding.{carries};
 ghost use Rattle.route_record.specs.Origins.{origin_code};
 ghost use Rattle.route_shapes.specs.Shapes.{path_shape, route_shape};
 ghost use Rattle.sym_policy.specs.MapRecs.{attributes_at, map_rec_end, HasMarks};
-ghost use Rattle.sym_policy.specs.Routes.{preferences_at, preferences_end, rest_end, route_at, route_end, HasRows, IsBare};
+ghost use Rattle.sym_policy.specs.Routes.{preferences_at, preferences_end, rest_end, route_at, route_end, HasRows};
+ghost use Rattle.sym_policy.specs.Routes.{IsBare};
 ghost use Rattle.sym_rib.specs.Known.{known_attributes, IsOwn};
 ghost use Rattle.sym_rib.specs.KnownParts.{HasPartsOf, PutsParts};
 ghost use Rattle.term_store.specs.Terms.{Reading, size, at};
@@ -15,8 +16,10 @@ ghost use Rattle.term_arith.specs.Bits.{bits, number, ids_end};
 use crate::known_parts::HeldParts;
 use route_record::{Origin, Tracked};
 use std::alloc::{AllocError, Global};
-use sym_policy::{SymBgp, SymMapRec, SymPreferences, SymRest, SymRoute};
-use sym_policy::{bare_rest, joined, no_marks, no_path, path_of};
+use sym_policy::{
+    SymBgp, SymMapRec, SymPreferences, SymRest, SymRoute, bare_rest, joined, no_marks, no_path,
+    path_of,
+};
 use term_arith::gates::constant_node;
 use term_arith::{Bits, constant, copy};
 use term_store::{NodeId, Terms};
