@@ -3,3 +3,4 @@ pub mod Addresses
 pub mod BestSteps
 pub mod FlagSteps
 pub mod HeldSteps
+pub mod JoinedRoutes

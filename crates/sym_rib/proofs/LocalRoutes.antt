@@ -113,33 +113,6 @@ pub local_left : (origin : Origin) (through : Attributes → Option Attributes) 
 local_left origin through None = refl
 local_left origin through (Some med) = refl
 
--- ---- the nodes of a record
-
-parts : (a b n : ℕ) → max a b ≤ n → (a ≤ n) × (b ≤ n)
-parts a b n h = (omega arith, omega arith)
-
-seen_parts : (p q d c t n : ℕ) → max (max p q) (max d (max c t)) ≤ n
-    → ((p ≤ n) × (q ≤ n)) × ((d ≤ n) × (c ≤ n))
-seen_parts p q d c t n h =
-    let both = parts (max p q) (max d (max c t)) n h in
-    let second = parts d (max c t) n both.1 in
-    (parts p q n both.0, (second.0, (parts c t n second.1).0))
-
-kept_parts : (h o f e n : ℕ) → max (max h o) (max f e) ≤ n → ((h ≤ n) × (o ≤ n)) × ((f ≤ n) × (e ≤ n))
-kept_parts h o f e n within =
-    let both = parts (max h o) (max f e) n within in
-    (parts h o n both.0, parts f e n both.1)
-
--- a store that has all nodes of a record has those of its route
-pub record_end : (rec : SymMapRec) (n : ℕ) → map_rec_end rec ≤ n → bgp_end rec.bgp ≤ n
-record_end rec n h =
-    let there = parts (rec.bgp.valid.0 + 1) (max (seen_end rec) (kept_end rec)) n h in
-    let both = parts (seen_end rec) (kept_end rec) n there.1 in
-    let seen = seen_parts _ _ _ _ _ n both.0 in
-    let kept = kept_parts _ _ _ _ n both.1 in
-    max-le (max-le (max-le there.0 seen.0.0) seen.0.1)
-    (max-le seen.1.0 (max-le (max-le seen.1.1 kept.0.0) (max-le (max-le kept.0.1 kept.1.0) kept.1.1)))
-
 -- ---- lines
 
 -- the origin of what a map leaves of a local route has a code

@@ -7,11 +7,12 @@ use Rattle.net_parts.specs.Origins.{local_route}
 use Rattle.route_shapes.specs.Bgp.{bgp_shape}
 use Rattle.sym_policy.specs.Records.{prefix_of}
 use Rattle.sym_rib.specs.IntoBgp.{metric_of}
-use Rattle.sym_rib.proofs.LocalRoutes.{local_code, local_left, own_kept, record_end, record_stands}
+use Rattle.sym_policy.proofs.SameNodes.{bgp_within}
+use Rattle.sym_rib.proofs.LocalRoutes.{local_code, local_left, own_kept, record_stands}
 use Rattle.sym_rib.proofs.into_bgp.mapped_bgp.Goals as goal
 
 pub returns-clause-within : goal.returns-clause-within
-returns-clause-within c = record_end c.in_ok-left.left _ c.in_ok-left.ensures.within
+returns-clause-within c = bgp_within c.in_ok-left.left _ c.in_ok-left.ensures.within
 
 pub returns-clause-value : goal.returns-clause-value
 returns-clause-value c = λ w reads all.
