@@ -1,5 +1,5 @@
 -- Routes that are put together, and what a map leaves of them.
-use Rattle.std.proofs.Common.{◌≡◌, ℕ, ◌+◌, ◌<◌, ◌≤◌, max, Bool, true, false, if◌then◌else◌, Option, Some, None}
+use Rattle.std.proofs.Common.{◌≡◌, ℕ, ◌+◌, ◌<◌, ◌≤◌, max, Bool, true, false, if◌then◌else◌, List, Option, Some, None}
 use Rattle.std.proofs.Common.{length, refl, sym, ap, subst, ◌∙◌, arith}
 use Rattle.std.specs.Option.{option_and_then, option_map}
 use Rattle.term_store.specs.declared.NodeId.{NodeId}
@@ -7,15 +7,18 @@ use Rattle.term_store.specs.Terms.{Reading, at}
 use Rattle.term_arith.specs.Bits.{bits, number, ids_end}
 use Rattle.route_record.specs.declared.tracked.Tracked.{Tracked}
 use Rattle.route_shapes.specs.Bgp.{BgpShape}
-use Rattle.route_shapes.specs.Shapes.{RouteShape}
+use Rattle.route_shapes.specs.Shapes.{PathShape, Preferences, RouteShape}
 use Rattle.bgp_shapes.specs.Messages.{seen_by_maps, with_seen}
+use Rattle.sym_policy.specs.declared.parts.SymPath.{SymPath}
+use Rattle.sym_policy.specs.declared.parts.SymPreferences.{SymPreferences}
 use Rattle.sym_policy.specs.declared.parts.SymRest.{SymRest}
 use Rattle.sym_policy.specs.declared.parts.SymRoute.{SymRoute}
+use Rattle.sym_policy.specs.declared.records.SymBgp.{SymBgp}
 use Rattle.sym_policy.specs.declared.records.SymMapRec.{SymMapRec}
 use Rattle.sym_policy.specs.Held.{bgp_at, bgp_end, bgp_of}
 use Rattle.sym_policy.specs.MapRecs.{KeepsRest, attributes_at, map_rec_at, map_rec_end}
-use Rattle.sym_policy.specs.Routes.{route_at}
-use Rattle.sym_policy.specs.SameNodes.{IsJoined}
+use Rattle.sym_policy.specs.Routes.{path_at, preferences_at, route_at}
+use Rattle.sym_policy.specs.SameNodes.{HasPath, HasPreferences, IsJoined, IsRest}
 use Rattle.sym_policy.proofs.SameNodes.{joined_steps}
 use Rattle.sym_bgp.specs.Joined.{HasMarks, rest_at, with_rest}
 
@@ -64,6 +67,48 @@ pub joined_type1 : (there : NodeId) (route : SymRoute) (rest : SymRest) (rec : S
 joined_type1 there route rest rec h w is = sym (ap (at w) h.seen.type1) ∙ is
 
 pub ruleset route_steps = (joined_steps, joined_of, joined_all_marks, joined_type1)
+
+-- copies of the parts of a route are read as these
+pub preferences_read : (w : Reading) (held : SymBgp) (s : SymPreferences) →
+    HasPreferences held.weight held.local_pref held.med held.origin s →
+    preferences_at w s ≡ (bgp_at w held).preferences
+preferences_read w held s h = λ i. record {
+  weight = number w (h.weight i);
+  local_pref = number w (h.local_pref i);
+  med = number w (h.med i);
+  origin = number w (h.origin i);
+}
+
+pub path_read : (w : Reading) (held : SymBgp) (s : SymPath) → HasPath held.len held.first held.last held.numbers s →
+    path_at w s ≡ (bgp_at w held).path
+path_read w held s h = λ i. record {
+  len = number w (h.len i);
+  first = number w (h.first i);
+  last = number w (h.last i);
+  numbers = bits w (h.numbers i);
+}
+
+pub rest_read : (w : Reading) (held : SymBgp) (seen : RouteShape) (s : SymRest) → IsRest held s →
+    seen ≡ seen_by_maps (bgp_at w held) → with_rest seen (rest_at w s) ≡ bgp_at w held
+rest_read w held seen s h is = λ i. with_rest (is i) (record {
+  next_hop = number w (h.next_hop i);
+  originator = number w (h.originator i);
+  from = number w (h.from i);
+  cluster_len = number w (h.cluster_len i);
+  clusters = bits w (h.clusters i);
+})
+
+-- what maps see of a route, part by part
+pub seen_read : (s : BgpShape) (preferences : Preferences) (path : PathShape) (communities : List Bool) (type1 : Bool) →
+    preferences ≡ s.preferences → path ≡ s.path → communities ≡ s.communities → type1 ≡ false →
+    ◌≡◌ {A = RouteShape}
+    (record { preferences = preferences; path = path; communities = communities; type1 = type1 }) (seen_by_maps s)
+seen_read s preferences path communities type1 p q r t = λ i. record {
+  preferences = p i;
+  path = q i;
+  communities = r i;
+  type1 = t i;
+}
 
 -- what a map has left of a route
 pub mapped_route : (w : Reading) (rec left : SymMapRec) (F : RouteShape → Option RouteShape) → KeepsRest rec left →

@@ -5,11 +5,14 @@
 #![tactic(auto)]
 
 mod candidates;
+mod lists;
 mod numbers;
 mod parts;
+mod routers;
 mod same;
 mod steps;
 mod survives;
+mod through;
 
 pub use parts::SymCand;
 pub use survives::sym_survives;

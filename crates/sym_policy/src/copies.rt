@@ -75,8 +75,8 @@ pub fn path_of(alloc: Global, bgp: &SymBgp) -> Result<SymPath, AllocError>
     })
 }
 
-/// The numbers of a record by which routes are preferred.
-fn preferences_of(alloc: Global, bgp: &SymBgp) -> Result<SymPreferences, AllocError>
+/// The numbers of a route by which routes are preferred.
+pub fn preferences_of(alloc: Global, bgp: &SymBgp) -> Result<SymPreferences, AllocError>
     ensures { IfOk result (λ r. HasPreferences bgp.now.weight bgp.now.local_pref bgp.now.med bgp.now.origin r) }
 {
     let weight = copy(alloc, &bgp.weight)?;
