@@ -1,5 +1,5 @@
 -- The shapes of a router's candidates are the candidates by shapes.
-use Rattle.std.proofs.Common.{◌≡◌, ℕ, ◌+◌, ◌==◌, ◌&&◌, Bool, true, false, not, if◌then◌else◌, List, [], ◌∷◌, ◌++◌}
+use Rattle.std.proofs.Common.{◌≡◌, ℕ, ◌==◌, ◌&&◌, Bool, true, false, not, if◌then◌else◌, List, [], ◌∷◌, ◌++◌}
 use Rattle.std.proofs.Common.{Option, Some, None, map, filter, refl, sym, ap, ◌∙◌}
 use Rattle.std.specs.Prelude.{slice_get}
 use Rattle.std.specs.List.{cons_option, enumerate_from, filter_map, find}
@@ -23,14 +23,15 @@ use Rattle.route_record.proofs.Saturated.{saturated-none}
 use Rattle.net_parts.specs.declared.sessions.Far.{Far}
 use Rattle.net_parts.specs.declared.sessions.Far.TheVariants.{Outside, Inside}
 use Rattle.net_parts.specs.declared.sessions.SessionEnd.{SessionEnd}
-use Rattle.net_parts.specs.Decisions.{Candidate, arriving, candidates, candidates_from, learnt_candidate, local_candidate}
+use Rattle.net_parts.specs.Decisions.{Candidate, arriving, candidates, candidates_from, learnt_candidate}
+use Rattle.net_parts.specs.Decisions.{local_candidate}
 use Rattle.net_parts.specs.Decisions.{peer_identifier}
 use Rattle.net_parts.specs.Exports.{announced_message, exported, imported}
 use Rattle.net_parts.specs.Origins.{local_routes}
 use Rattle.net_parts.specs.Resolution.{resolved, session_up}
 use Rattle.net_parts.specs.Sessions.{ends_of, neighbour_of}
-use Rattle.route_shapes.specs.Bgp.{BgpShape, bgp_shape}
-use Rattle.bgp_shapes.specs.Candidates.{ShapeAnnouncement, ShapeCandidate, ShapeSlot, announcement_shape}
+use Rattle.route_shapes.specs.Bgp.{bgp_shape}
+use Rattle.bgp_shapes.specs.Candidates.{ShapeAnnouncement, announcement_shape}
 use Rattle.bgp_shapes.specs.Candidates.{candidate_shape, environment_shape, shape_announced, shape_arriving}
 use Rattle.bgp_shapes.specs.Candidates.{shape_candidates, shape_learnt, shape_local, shape_local_routes, slot_shape}
 use Rattle.bgp_shapes.specs.Candidates.{slots_shape}

@@ -1,20 +1,20 @@
 -- How a route goes on, by the number of the peer from which it came.
-use Rattle.std.proofs.Common.{◌≡◌, ℕ, ◌+◌, ◌^◌, ◌==◌, ◌&&◌, ◌||◌, Bool, true, false, not, if◌then◌else◌, List, [], ◌∷◌, Option, Some, None}
-use Rattle.std.proofs.Common.{refl, sym, ap, ◌∙◌, arith}
+use Rattle.std.proofs.Common.{◌≡◌, ℕ, ◌+◌, ◌^◌, ◌==◌, ◌&&◌, ◌||◌, Bool, true, false, not, List, [], ◌∷◌, Option, Some}
+use Rattle.std.proofs.Common.{None}
+use Rattle.std.proofs.Common.{refl, sym, ap, arith}
 use Rattle.std.specs.List.{find}
 use Rattle.std.specs.Option.{option_map_or}
 use Rattle.std.proofs.lemmas.Bool.Decides.{nat_tests}
 use Rattle.ios_ast.specs.declared.bgp.Bgp.{Bgp}
 use Rattle.ios_ast.specs.declared.bgp.Neighbour.{Neighbour}
 use Rattle.ios_ast.specs.declared.file.File.{File}
-use Rattle.route_record.specs.declared.BgpRec.{BgpRec}
 use Rattle.route_record.specs.declared.Learnt.{Learnt}
 use Rattle.route_record.specs.declared.Learnt.TheVariants.{Local, Peer}
 use Rattle.net_parts.specs.declared.sessions.SessionEnd.{SessionEnd}
 use Rattle.net_parts.specs.Exports.{learnt_over, may_reflect}
 use Rattle.net_parts.specs.Sessions.{ends_of, neighbour_of}
 use Rattle.route_shapes.specs.Bgp.{learnt_number}
-use Rattle.bgp_shapes.specs.Crossings.{Crossing, crossing, end_numbered, is_from}
+use Rattle.bgp_shapes.specs.Crossings.{crossing, end_numbered, is_from}
 
 find_same : (p q : SessionEnd → Bool) → ((x : SessionEnd) → p x ≡ q x) → (xs : List SessionEnd) → find p xs ≡ find q xs
 find_same p q same [] = refl

@@ -1,8 +1,7 @@
 -- The shapes of survivors are the survivors of shapes, where 32 bits tell the lengths of their lists.
-use Rattle.std.proofs.Common.{◌≡◌, ℕ, ◌+◌, ◌-◌, ◌^◌, ◌<◌, ◌||◌, Bool, true, false, not, nat_lt, if◌then◌else◌, List, []}
-use Rattle.std.proofs.Common.{◌∷◌, Option, Some, None, length, map, filter, fold, refl, sym, ap, ◌∙◌, arith}
+use Rattle.std.proofs.Common.{◌≡◌, ℕ, ◌+◌, ◌^◌, Bool, true, false, List, []}
+use Rattle.std.proofs.Common.{◌∷◌, Option, Some, None, length, map, refl, sym, ap, ◌∙◌, arith}
 use Rattle.std.specs.Prelude.{All, unwrap_or}
-use Rattle.std.specs.List.{list_any}
 use Rattle.std.proofs.lemmas.Bool.Decides.{nat_tests}
 use Rattle.std.proofs.lemmas.List.Elements.{All-head, All-tail}
 use Rattle.mw_text.specs.declared.address.Addr.{Addr}
@@ -10,11 +9,10 @@ use Rattle.route_record.specs.declared.Learnt.{Learnt}
 use Rattle.route_record.specs.declared.Learnt.TheVariants.{Local, Peer}
 use Rattle.route_record.specs.declared.tracked.Tracked.{Tracked}
 use Rattle.route_record.proofs.Saturated.{saturated-small}
-use Rattle.net_parts.specs.declared.steps.Step.{Step}
-use Rattle.net_parts.specs.Decisions.{Candidate, Key, after_cost, compared_by, is_compared_by, is_local, key_of}
-use Rattle.net_parts.specs.Decisions.{peer_address, removes, step_by, survivors, survivors_by, to_cost}
+use Rattle.net_parts.specs.Decisions.{Candidate, Key, is_local, key_of}
+use Rattle.net_parts.specs.Decisions.{peer_address, survivors, survivors_by}
 use Rattle.route_shapes.specs.Bgp.{address_number, learnt_number}
-use Rattle.bgp_shapes.specs.Candidates.{ShapeCandidate, address_or, candidate_shape, shape_key}
+use Rattle.bgp_shapes.specs.Candidates.{address_or, candidate_shape, shape_key}
 use Rattle.bgp_shapes.specs.Lengths.{IsShort}
 use Rattle.bgp_shapes.specs.Messages.{lacks_address}
 use Rattle.bgp_shapes.proofs.FlagLaw.{surviving_picked}

@@ -1,12 +1,12 @@
 -- The two ends of a session are alike: both internal or both external. And so are all ends of one router towards one
 -- address, where its process names each address once.
-use Rattle.std.proofs.Common.{◌≡◌, ℕ, zero, suc, ◌+◌, ◌<◌, ◌≤◌, ◌==◌, ◌&&◌, ◌||◌, not, Bool, true, false, List, []}
-use Rattle.std.proofs.Common.{◌∷◌, ◌++◌, length, get_or, map, filter, Option, Some, None, if◌then◌else◌, refl, sym, ap, ◌∙◌}
-use Rattle.std.proofs.Common.{arith, inl, inr}
+use Rattle.std.proofs.Common.{◌≡◌, ℕ, zero, suc, ◌+◌, ◌<◌, ◌==◌, ◌&&◌, ◌||◌, not, Bool, true, false, List, []}
+use Rattle.std.proofs.Common.{◌∷◌, length, get_or, map, filter, Option, Some, None, if◌then◌else◌, refl, sym, ap, ◌∙◌}
+use Rattle.std.proofs.Common.{arith}
 use Rattle.std.specs.Prelude.{All, option_and_then, position, slice_get, unwrap_or}
 use Rattle.std.specs.List.{find, list_any, position_or_len}
 use Rattle.std.specs.Option.{option_map_or}
-use Rattle.std.proofs.lemmas.Bool.{and_from, and_parts, eq-eqb, eqb-true, lt-ltb, or_cases, or_left, or_right}
+use Rattle.std.proofs.lemmas.Bool.{and_from, and_parts, eq-eqb, eqb-true, lt-ltb, or_left, or_right}
 use Rattle.std.proofs.lemmas.Bool.Decides.{nat_tests}
 use Rattle.std.proofs.lemmas.List.Elements.{All-append, All-cons, All-filter, All-head, All-map, All-nil, All-tail}
 use Rattle.std.proofs.lemmas.List.Elements.{All-weaker, filter_passes}
@@ -24,7 +24,7 @@ use Rattle.net_interfaces.specs.Interfaces.{addressed}
 use Rattle.net_parts.specs.Sessions.{end_of, ends_of, far_of, has_session, is_external_peer, meet, names_other}
 use Rattle.net_parts.specs.Sessions.{neighbour_of, peering, peerings, peerings_from, peerings_of, peerings_routers}
 use Rattle.net_parts.specs.Sessions.{sessions, speaking, speaks_from}
-use Rattle.bgp_shapes.specs.Lengths.{NamesOnce, process_of}
+use Rattle.bgp_shapes.proofs.Once.{NamesOnce, process_of}
 
 -- ---- neighbour lines with their AS numbers
 

@@ -1,9 +1,9 @@
 -- What a router sends of the shape of a route is the shape of what it sends of the route.
 use Rattle.std.proofs.Common.{◌≡◌, ℕ, ◌+◌, ◌^◌, ◌==◌, ◌&&◌, ◌||◌, Bool, true, false, not, if◌then◌else◌, List, []}
 use Rattle.std.proofs.Common.{◌∷◌, Option, Some, None}
-use Rattle.std.proofs.Common.{length, map, refl, sym, ap, ◌∙◌, arith, nat_lt}
+use Rattle.std.proofs.Common.{length, map, refl, sym, ap, ◌∙◌, arith}
 use Rattle.std.specs.Prelude.{IfSome, slice_get, unwrap_or}
-use Rattle.std.specs.Option.{option_and_then, option_map, option_map_or}
+use Rattle.std.specs.Option.{option_map}
 use Rattle.std.proofs.lemmas.Bool.Decides.{nat_tests}
 use Rattle.mw_text.specs.declared.address.Addr.{Addr}
 use Rattle.mw_text.specs.declared.address.Prefix.{Prefix}
@@ -21,19 +21,18 @@ use Rattle.net_parts.specs.Tracked.{numbers_of}
 use Rattle.route_record.specs.declared.BgpMsg.{BgpMsg}
 use Rattle.route_record.specs.declared.BgpRec.{BgpRec}
 use Rattle.route_record.specs.declared.tracked.Tracked.{Tracked}
-use Rattle.route_record.specs.Origins.{origin_code, origin_of_code}
 use Rattle.route_shapes.specs.Bgp.{BgpShape, address_number, bgp_shape}
 use Rattle.route_record.specs.Shape.{has_address, saturated}
 use Rattle.route_record.proofs.OriginCodes.{code_again, code_small}
 use Rattle.route_record.proofs.Saturated.{saturated-none, saturated-sum, saturated-zero}
 use Rattle.route_shapes.specs.Shapes.{all_tracked, marks_with, path_shape, route_shape}
 use Rattle.route_shapes.proofs.ShapeLaw.{marked-map, marks_with-map, path_prepended}
-use Rattle.bgp_shapes.specs.Messages.{lacks_address, message_shape, shape_through_map}
-use Rattle.bgp_shapes.specs.Crossings.{Crossing, crossing, end_numbered}
+use Rattle.bgp_shapes.specs.Messages.{lacks_address, message_shape}
+use Rattle.bgp_shapes.specs.Crossings.{crossing}
 use Rattle.bgp_shapes.specs.Exporting.{external_shape, internal_shape, sent_marks, shape_exported, shape_may_go}
 use Rattle.bgp_shapes.specs.Exporting.{shape_message, shape_originator, shape_sent, shape_sent_by}
 use Rattle.bgp_shapes.proofs.PolicyLaw.{HasCode, cluster_front, metric_shape, paths_shape, through_code}
-use Rattle.bgp_shapes.proofs.PolicyLaw.{through_shape}
+use Rattle.route_shapes.proofs.ShapeLaw.{through_map-route_shape}
 use Rattle.bgp_shapes.specs.Tracking.{TracksTests}
 use Rattle.bgp_shapes.proofs.ImportLaw.{found_twice, where_some}
 use Rattle.bgp_shapes.proofs.CrossingLaw.{learnt_numbered, may_cross}
@@ -218,14 +217,15 @@ messages_law tracked files file process neighbour end p held (Some r) all code =
     ap Some (message_law tracked files file process neighbour end p held r all code)
 
 sent_law : (tracked : Tracked) (files : List File) (file : File) (process : Bgp) (neighbour : Neighbour)
-    (end : SessionEnd) (p : Prefix) (held : BgpRec) → TracksTests files tracked → all_tracked tracked file.policies ≡ true
+    (end : SessionEnd) (p : Prefix) (held : BgpRec) → TracksTests files tracked →
+    all_tracked tracked file.policies ≡ true
     → shape_sent tracked files file process neighbour end p (bgp_shape tracked held)
     ≡ option_map (message_shape tracked) (exports.sent files file process neighbour end p held)
 sent_law tracked files file process neighbour end p held tracks all =
     let may = may_shape tracked files process neighbour end held tracks in
     let paths = paths_shape tracked file.policies neighbour.filter_out held.path all in
     let left = through_map file.policies neighbour.map_out p (not end.internal) (attributes_of held) in
-    let through = through_shape tracked file.policies neighbour.map_out p (not end.internal) (attributes_of held) all in
+    let through = through_map-route_shape tracked file.policies neighbour.map_out p (not end.internal) (attributes_of held) all in
     let from = exports.learnt_over files end.router held.from in
     ap (λ o. shape_sent_by tracked files file process neighbour end p (bgp_shape tracked held)
     (crossing files process neighbour end o)) (sym (learnt_numbered files end.router held.from))

@@ -1,9 +1,9 @@
 -- Survivors by flags are survivors by what is left.
-use Rattle.std.proofs.Common.{◌≡◌, ◌&&◌, ◌||◌, Bool, true, false, not, if◌then◌else◌, List, [], ◌∷◌, Some, None, length}
-use Rattle.std.proofs.Common.{map, filter, fold, refl, sym, ap, ◌∙◌, arith}
+use Rattle.std.proofs.Common.{◌≡◌, ◌||◌, Bool, true, false, not, if◌then◌else◌, List, [], ◌∷◌, Some, None, length}
+use Rattle.std.proofs.Common.{map, filter, fold, refl, ap, ◌∙◌, arith}
 use Rattle.std.specs.List.{list_any}
 use Rattle.net_parts.specs.declared.steps.Step.{Step}
-use Rattle.net_parts.specs.Decisions.{Key, after_cost, compared_by, is_compared_by, removes, step_by, survivors_by, to_cost}
+use Rattle.net_parts.specs.Decisions.{Key, after_cost, compared_by, removes, step_by, survivors_by, to_cost}
 use Rattle.route_shapes.specs.Bgp.{BgpShape}
 use Rattle.bgp_shapes.specs.Candidates.{ShapeCandidate, shape_key}
 use Rattle.bgp_shapes.specs.Flags.{any_flagged, compared, is_held, left, left_of, pick, surviving}

@@ -1,7 +1,7 @@
 -- A route is held by shapes where some survivor has its shape, and there is none where there is no candidate.
-use Rattle.std.proofs.Common.{◌≡◌, ℕ, ◌+◌, ◌*◌, ◌==◌, ◌&&◌, ◌||◌, Bool, true, false, if◌then◌else◌, List, [], ◌∷◌}
+use Rattle.std.proofs.Common.{◌≡◌, ℕ, ◌==◌, ◌&&◌, ◌||◌, Bool, true, false, List, [], ◌∷◌}
 use Rattle.std.proofs.Common.{Option, Some, None, length, map, refl, sym, ap, ◌∙◌, arith}
-use Rattle.std.specs.Prelude.{All, Any, IfSome, MatchOption, option_map}
+use Rattle.std.specs.Prelude.{All, Any, IfSome, option_map}
 use Rattle.std.specs.List.{list_any}
 use Rattle.std.proofs.lemmas.Bool.{and_from, and_parts, eq-eqb, eqb-true}
 use Rattle.std.proofs.lemmas.List.Folds.{Any-from_list_any, list_any-from_Any}
@@ -104,7 +104,8 @@ weaker : {X : Type 0} (P Q : X → Type 0) (xs : List X) → ((x : X) → P x �
 weaker P Q xs gives (k, x, within, is, holds) = (k, x, within, is, gives x holds)
 
 -- the shape of a held route is held
-pub held_complete : (tracked : Tracked) (always compare_id : Bool) (candidates : List Candidate) (held : Option BgpRec) →
+pub held_complete : (tracked : Tracked) (always compare_id : Bool) (candidates : List Candidate)
+    (held : Option BgpRec) →
     All IsShort candidates → IsHeld candidates (survivors always compare_id candidates) held →
     held_shape always compare_id (map (candidate_shape tracked) candidates) (option_map (bgp_shape tracked) held)
     ≡ true

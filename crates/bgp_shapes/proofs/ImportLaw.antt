@@ -1,8 +1,7 @@
 -- What a router makes of the shape of a message is the shape of what it makes of the message.
-use Rattle.std.proofs.Common.{◌≡◌, ℕ, ◌+◌, ◌^◌, ◌==◌, ◌&&◌, ◌||◌, Bool, true, false, not, nat_le, if◌then◌else◌, List}
-use Rattle.std.proofs.Common.{Option, Some, None, length, map, refl, ap, ◌∙◌, arith}
+use Rattle.std.proofs.Common.{◌≡◌, ℕ, ◌+◌, ◌^◌, ◌==◌, ◌&&◌, Bool, true, false, not, nat_le, if◌then◌else◌, List}
+use Rattle.std.proofs.Common.{Option, Some, None, length, refl, ap, ◌∙◌, arith}
 use Rattle.std.specs.Prelude.{IfSome, slice_get}
-use Rattle.std.specs.List.{list_any}
 use Rattle.std.specs.Option.{option_and_then, option_map, option_map_or}
 use Rattle.std.proofs.lemmas.Bool.Decides.{nat_tests}
 use Rattle.mw_text.specs.declared.address.Addr.{Addr}
@@ -20,7 +19,7 @@ use Rattle.net_parts.specs.Sessions.{neighbour_of}
 use Rattle.route_record.specs.declared.BgpMsg.{BgpMsg}
 use Rattle.route_record.specs.declared.BgpRec.{BgpRec}
 use Rattle.route_record.specs.declared.tracked.Tracked.{Tracked}
-use Rattle.route_shapes.specs.Bgp.{BgpShape, address_number, bgp_shape}
+use Rattle.route_shapes.specs.Bgp.{address_number, bgp_shape}
 use Rattle.route_shapes.specs.Shapes.{all_tracked, route_shape}
 use Rattle.route_record.proofs.OriginCodes.{code_small}
 use Rattle.route_record.proofs.Saturated.{saturated-few}
@@ -30,7 +29,7 @@ use Rattle.bgp_shapes.specs.Tracking.{TracksRouter, TracksTests}
 use Rattle.bgp_shapes.specs.Importing.{shape_if_short, shape_imported, shape_is_acceptable, shape_mapped_in}
 use Rattle.bgp_shapes.specs.Importing.{shape_taken_in}
 use Rattle.bgp_shapes.proofs.PolicyLaw.{HasCode, cluster_marked, paths_shape, seen_shape, through_code}
-use Rattle.bgp_shapes.proofs.PolicyLaw.{through_shape}
+use Rattle.route_shapes.proofs.ShapeLaw.{through_map-route_shape}
 
 originator_is : (o : Option Addr) (own : Addr)
     → (address_number o == 2 ^ 32 + own.0) ≡ option_map_or (λ id. id.0 == own.0) o false
@@ -86,7 +85,7 @@ mapped_in_shape : (tracked : Tracked) (file : File) (neighbour : Neighbour) (end
     (through_map file.policies neighbour.map_in p (not end.internal) (attributes_of rec)))
 mapped_in_shape tracked file neighbour end p rec h =
     ap (option_and_then (λ r. shape_if_short (with_seen (bgp_shape tracked rec) r)))
-    (through_shape tracked file.policies neighbour.map_in p (not end.internal) (attributes_of rec) h)
+    (through_map-route_shape tracked file.policies neighbour.map_in p (not end.internal) (attributes_of rec) h)
     ∙ left_shape tracked rec (through_map file.policies neighbour.map_in p (not end.internal) (attributes_of rec))
     (through_code file.policies neighbour.map_in p (not end.internal) (attributes_of rec) (code_small rec.origin))
 

@@ -1,14 +1,13 @@
 -- In a stable routing 32 bits count the lists of every candidate. A path that was imported has at most 255 numbers. A
 -- cluster list that is not empty was made by a reflector whose own route has one cluster less, so that a list of n
 -- clusters comes with routes of n - 1, n - 2 and so on down to none, each held by another router.
-use Rattle.std.proofs.Common.{◌≡◌, ℕ, zero, suc, ◌+◌, ◌*◌, ◌^◌, ◌<◌, ◌≤◌, ◌⊎◌, inl, inr, ◌==◌, ◌&&◌, ◌||◌, not}
-use Rattle.std.proofs.Common.{Bool, true, false, List, [], ◌∷◌, ◌++◌, length, get_or, map, filter, fold, if◌then◌else◌}
+use Rattle.std.proofs.Common.{◌≡◌, ℕ, zero, suc, ◌+◌, ◌*◌, ◌^◌, ◌<◌, ◌≤◌, ◌⊎◌, inl, inr, ◌==◌, ◌||◌, not}
+use Rattle.std.proofs.Common.{Bool, true, false, List, [], ◌∷◌, length, map, filter, fold, if◌then◌else◌}
 use Rattle.std.proofs.Common.{Option, Some, None, refl, sym, ap, ◌∙◌, subst, arith, eqb}
-use Rattle.std.specs.Prelude.{All, Any, IfSome, MatchOption, nat_le, option_and_then, option_map, slice_get, unwrap_or}
-use Rattle.std.specs.List.{cons_option, enumerate_from, filter_map, find, list_any, range_with_len}
+use Rattle.std.specs.Prelude.{All, IfSome, MatchOption, nat_le, option_and_then, option_map, slice_get, unwrap_or}
+use Rattle.std.specs.List.{cons_option, enumerate_from, filter_map, list_all, list_any, range_with_len}
 use Rattle.std.specs.Option.{option_map_or}
-use Rattle.std.proofs.lemmas.Bool.{and_parts, cases_Bool, eq-eqb, eqb-true, leb-true, or_left, or_right}
-use Rattle.std.proofs.lemmas.Bool.Decides.{nat_tests}
+use Rattle.std.proofs.lemmas.Bool.{eq-eqb, eqb-true, leb-true, or_left, or_right}
 use Rattle.std.proofs.lemmas.List.{length-map}
 use Rattle.std.proofs.lemmas.List.Elements.{All-append, All-cons, All-contains, All-filter, All-head, All-map, All-nil}
 use Rattle.std.proofs.lemmas.List.Elements.{All-tail, All-weaker, filter_passes}
@@ -19,22 +18,18 @@ use Rattle.mw_text.specs.declared.address.Addr.{Addr}
 use Rattle.mw_text.specs.declared.address.Prefix.{Prefix}
 use Rattle.mw_text.specs.Address.{prefix_at, same_prefix}
 use Rattle.ios_ast.specs.declared.bgp.Bgp.{Bgp}
-use Rattle.ios_ast.specs.declared.bgp.BgpNet.{BgpNet}
 use Rattle.ios_ast.specs.declared.bgp.Neighbour.{Neighbour}
 use Rattle.ios_ast.specs.declared.file.File.{File}
 use Rattle.ios_ast.specs.declared.file.Use.{Use}
-use Rattle.ios_ast.specs.declared.ospf.Redist.{Redist}
 use Rattle.ios_ast.specs.declared.policies.SetAct.{SetAct}
 use Rattle.ios_ast.specs.declared.policies.SetAct.TheVariants.{LocalPref, Metric, Weight, NoCommunity, Community}
 use Rattle.ios_ast.specs.declared.policies.SetAct.TheVariants.{Origin, Prepend, Type1}
 use Rattle.ios_ast.specs.Setting.{Attributes, set_one}
-use Rattle.route_record.specs.declared.Announcement.{Announcement}
 use Rattle.route_record.specs.declared.BgpMsg.{BgpMsg}
 use Rattle.route_record.specs.declared.BgpRec.{BgpRec}
 use Rattle.route_record.specs.declared.Environment.{Environment}
 use Rattle.route_record.specs.declared.Failures.{Failures}
-use Rattle.route_record.specs.declared.Learnt.{Learnt}
-use Rattle.route_record.specs.declared.Learnt.TheVariants.{Local, Peer}
+use Rattle.route_record.specs.declared.Learnt.TheVariants.{Peer}
 use Rattle.route_record.specs.declared.Origin.TheVariants.{Igp, Incomplete}
 use Rattle.route_record.specs.declared.Slot.{Slot}
 use Rattle.route_record.specs.declared.Tables.{Tables}
@@ -44,10 +39,10 @@ use Rattle.net_parts.specs.declared.sessions.Far.{Far}
 use Rattle.net_parts.specs.declared.sessions.Far.TheVariants.{Outside, Inside}
 use Rattle.net_parts.specs.declared.sessions.SessionEnd.{SessionEnd}
 use Rattle.net_parts.specs.declared.steps.Step.{Step}
-use Rattle.net_parts.specs.Decisions.{Candidate, DecidedByBgp, IsHeld, Key, after_cost, arriving, candidates}
+use Rattle.net_parts.specs.Decisions.{Candidate, DecidedByBgp, Key, after_cost, arriving, candidates}
 use Rattle.net_parts.specs.Decisions.{candidates_from}
-use Rattle.net_parts.specs.Decisions.{compared_by, is_compared_by, key_of, learnt_candidate, local_candidate}
-use Rattle.net_parts.specs.Decisions.{peer_identifier, removes, step_by, survivors, survivors_by, to_cost}
+use Rattle.net_parts.specs.Decisions.{is_compared_by, key_of, learnt_candidate, local_candidate}
+use Rattle.net_parts.specs.Decisions.{peer_identifier, removes, step_by, survivors, to_cost}
 use Rattle.net_parts.specs.Exports as exports
 use Rattle.ios_ast.specs.Maps.{through_map}
 use Rattle.net_parts.specs.Mapping.{attributes_of, with_attributes}
@@ -57,7 +52,9 @@ use Rattle.net_parts.specs.Origins.{taken_metric}
 use Rattle.net_parts.specs.Resolution.{resolved, session_up}
 use Rattle.net_parts.specs.Sessions.{ends_of, neighbour_of}
 use Rattle.net_parts.specs.Stable.{IsDecided, Stable}
-use Rattle.bgp_shapes.specs.Lengths.{IsShort, NamesOnce}
+use Rattle.ios_ast.specs.Limits.{keeps_limits}
+use Rattle.bgp_shapes.specs.Lengths.{IsShort}
+use Rattle.bgp_shapes.proofs.Once.{NamesOnce, names_once}
 use Rattle.bgp_shapes.proofs.EndLaw.{IsAlike, ends_alike, towards_alike}
 use Rattle.bgp_shapes.proofs.PolicyLaw.{through_keeps}
 
@@ -145,7 +142,8 @@ locals_bare files router file process p slot =
     (entry_metric slot entry.source)) slot.rib) process.networks (all_such process.networks))
     (all_kept (λ x. Unit {0}) IsBare (into_bgp files router file p slot) (λ line yes.
     if_then IsBare _ (λ entry. if_then IsBare _ (λ metric.
-    by_default (is_default p) _ (local_bare file line.map p (local_route Incomplete (unwrap_or line.metric metric)) refl refl))
+    by_default (is_default p) _
+    (local_bare file line.map p (local_route Incomplete (unwrap_or line.metric metric)) refl refl))
     (taken_metric files router p slot line entry.source)) slot.rib) process.redistribute
     (all_such process.redistribute))
   where
@@ -170,7 +168,8 @@ taken_parts files end p message =
     by_neighbour file process (neighbour_of files end) refl) file.bgp) (slice_get files end.router)
   where
     by_length : (neighbour : Neighbour) → neighbour_of files end ≡ Some neighbour → (r : Attributes) →
-        IfSome (exports.if_short (with_attributes (exports.received neighbour end message) r)) (IsTaken files end message)
+        IfSome (exports.if_short (with_attributes (exports.received neighbour end message) r))
+        (IsTaken files end message)
     by_length neighbour named r = by_test (nat_le (length r.path) exports.most_numbers) refl
       where
         rec : BgpRec
@@ -225,7 +224,8 @@ sent_parts files end p held =
         IfSome (option_map (λ r. if end.internal
         then exports.internal_message files end.router neighbour (exports.own_address files end) held r
         else exports.external_message process neighbour (exports.own_address files end)
-        ((length held.path == 0) || exports.sets_metric file.policies neighbour.map_out p (attributes_of held)) held r) o)
+        ((length held.path == 0) || exports.sets_metric file.policies neighbour.map_out p (attributes_of held))
+        held r) o)
         (IsSent files end held)
     by_map file process neighbour None = tt
     by_map file process neighbour (Some r) = by_kind end.internal refl _ _ refl refl
@@ -437,7 +437,8 @@ module _ (files : List File) (failures : Failures) (environment : Environment) (
           same : rec.clusters ≡ learnt.message.clusters
           same = learnt.taken.clusters
 
-          by_sent : (heard : IsHeardFrom learnt.end learnt.message) → IsSent files heard.far heard.route learnt.message →
+          by_sent : (heard : IsHeardFrom learnt.end learnt.message) →
+              IsSent files heard.far heard.route learnt.message →
               IsReflected router rec
           by_sent heard (inl none) = absurd (none_not rec.clusters k (same ∙ none) long)
           by_sent heard (inr (internal, clusters)) = record {
@@ -597,7 +598,8 @@ module _ (files : List File) (failures : Failures) (environment : Environment) (
             by_sent heard (inl none) = let long = ap length (same ∙ none) in omega (arith, long)
             by_sent heard (inr (internal, clusters)) =
                 let long = ap length (same ∙ clusters) in
-                let more = one_more heard.far (exports.learnt_over files heard.far.router heard.route.from) heard.route in
+                let over = exports.learnt_over files heard.far.router heard.route.from in
+                let more = one_more heard.far over heard.route in
                 let less = fewer heard.far.router heard.route heard.holds in
                 omega (arith, long, more, less)
 
@@ -648,25 +650,26 @@ module _ (files : List File) (destination : Addr) (failures : Failures) (environ
 
 -- in a stable routing a held route has fewer clusters than there are routers
 pub stable_fewer : (files : List File) (destination : Addr) (failures : Failures) (environment : Environment)
-    (tables : Tables) → NamesOnce files → Stable files destination failures environment tables → (router len : ℕ)
-    (slot : Slot) (rec : BgpRec) → len < LENGTHS → slot_at tables router len ≡ Some slot → slot.bgp ≡ Some rec →
+    (tables : Tables) → list_all keeps_limits files ≡ true →
+    Stable files destination failures environment tables → (router len : ℕ) (slot : Slot) (rec : BgpRec) →
+    len < LENGTHS → slot_at tables router len ≡ Some slot → slot.bgp ≡ Some rec →
     length rec.clusters < length files
-stable_fewer files destination failures environment tables once stable router len slot rec below there holds =
-    fewer files failures environment tables (prefix_at destination len) once
+stable_fewer files destination failures environment tables limits stable router len slot rec below there holds =
+    fewer files failures environment tables (prefix_at destination len) (names_once files limits)
     (held_from files destination failures environment tables stable len below) (length files)
     (is_router files destination failures environment tables stable len below) router rec
     (ap (option_and_then (λ (s : Slot). s.bgp)) there ∙ holds)
 
 -- and 32 bits count the lists of its candidates
 pub stable_short : (files : List File) (destination : Addr) (failures : Failures) (environment : Environment)
-    (tables : Tables) → NamesOnce files → length files < 2 ^ 32 →
+    (tables : Tables) → list_all keeps_limits files ≡ true → length files < 2 ^ 32 →
     Stable files destination failures environment tables → (router len : ℕ) (file : File) (process : Bgp) →
     len < LENGTHS →
     All IsShort (candidates files failures environment tables router file process (prefix_at destination len))
-stable_short files destination failures environment tables once few stable router len file process below =
+stable_short files destination failures environment tables limits few stable router len file process below =
     let p = prefix_at destination len in
     All-weaker (λ c. IsFrom files failures environment tables p router c.rec) IsShort
-    (short files failures environment tables p once
+    (short files failures environment tables p (names_once files limits)
     (held_from files destination failures environment tables stable len below) (length files)
     (is_router files destination failures environment tables stable len below) few router)
     (candidates files failures environment tables router file process p)

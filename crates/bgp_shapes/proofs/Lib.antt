@@ -8,5 +8,6 @@ pub mod NumberLaw
 pub mod DecisionLaw
 pub mod HeldLaw
 pub mod CandidateLaw
+pub mod Once
 pub mod EndLaw
 pub mod LengthLaw

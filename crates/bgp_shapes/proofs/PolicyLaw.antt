@@ -1,10 +1,10 @@
 -- Lists and maps of a neighbour answer for the shape of a route what they answer for the route.
-use Rattle.std.proofs.Common.{◌≡◌, ℕ, ◌≤◌, ◌+◌, ◌==◌, ◌||◌, ◌&&◌, Bool, true, false, if◌then◌else◌, List, [], ◌∷◌}
+use Rattle.std.proofs.Common.{◌≡◌, ℕ, ◌≤◌, ◌==◌, ◌||◌, ◌&&◌, Bool, true, false, if◌then◌else◌, List, [], ◌∷◌}
 use Rattle.std.proofs.Common.{Option, Some, None}
-use Rattle.std.proofs.Common.{length, map, refl, sym, ap, ◌∙◌, arith}
+use Rattle.std.proofs.Common.{map, refl, sym, ap, ◌∙◌, arith}
 use Rattle.std.specs.Prelude.{IfSome}
-use Rattle.std.specs.List.{find, list_any, list_all}
-use Rattle.std.specs.Option.{option_and_then, option_map, option_map_or}
+use Rattle.std.specs.List.{list_any, list_all}
+use Rattle.std.specs.Option.{option_and_then, option_map_or}
 use Rattle.std.proofs.lemmas.Bool.{and_parts}
 use Rattle.mw_text.specs.declared.address.Addr.{Addr}
 use Rattle.mw_text.specs.declared.address.Prefix.{Prefix}
@@ -25,11 +25,12 @@ use Rattle.route_record.proofs.OriginCodes.{code_again}
 use Rattle.route_record.specs.Shape.{has_address}
 use Rattle.ios_ast.specs.Deciding.{carries}
 use Rattle.net_parts.specs.Tracked.{numbers_of}
-use Rattle.route_shapes.specs.Bgp.{BgpShape, bgp_shape}
+use Rattle.route_shapes.specs.Bgp.{bgp_shape}
 use Rattle.route_shapes.specs.Shapes.{all_tracked, marked, marks_with, path_shape, path_tracked, route_shape}
-use Rattle.route_shapes.proofs.ShapeLaw.{found_same, marked-map, marks_with-map, path_entries, shape_deciding-route_shape}
-use Rattle.route_shapes.proofs.ShapeLaw.{shape_mapped-route_shape}
-use Rattle.bgp_shapes.specs.Messages.{shape_passes_paths, shape_sets_metric, shape_through_map, with_seen}
+use Rattle.route_shapes.proofs.ShapeLaw.{found_same, marked-map, marks_with-map, path_entries}
+use Rattle.route_shapes.proofs.ShapeLaw.{shape_deciding-route_shape}
+use Rattle.route_shapes.specs.Shapes.{shape_passes_paths}
+use Rattle.bgp_shapes.specs.Messages.{shape_sets_metric, with_seen}
 
 -- ---- the origin stays a code, on each side of a map's use
 
@@ -91,14 +92,6 @@ seen_shape tracked rec r h =
     ap (λ n. with_seen (bgp_shape tracked rec) (route_shape tracked (record r { origin = n }))) (code_again r.origin h)
 
 -- ---- maps and lists
-
-pub through_shape : (tracked : Tracked) (policies : Policies) (used : Option Use) (p : Prefix) (external : Bool)
-    (r : Attributes) → all_tracked tracked policies ≡ true
-    → shape_through_map tracked policies used p external (route_shape tracked r)
-    ≡ option_map (route_shape tracked) (through_map policies used p external r)
-through_shape tracked policies None p external r h = refl
-through_shape tracked policies (Some named) p external r h =
-    shape_mapped-route_shape policies (entries_named policies named) tracked p external r h
 
 pub paths_shape : (tracked : Tracked) (policies : Policies) (used : Option Use) (path : List ℕ)
     → all_tracked tracked policies ≡ true

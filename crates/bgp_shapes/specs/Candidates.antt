@@ -1,6 +1,6 @@
--- The candidates of the decision process by their shapes (RFC 4271, section 9.1.2). A next hop is resolved by its number
--- alone, and local routes look at no BGP route of their slot.
-use Rattle.std.specs.Prelude.{ℕ, ◌+◌, ◌-◌, ◌^◌, ◌==◌, ◌&&◌, Bool, false, not, List, [], ◌++◌, filter, map}
+-- The candidates of the decision process by their shapes (RFC 4271, section 9.1.2). A next hop is resolved by its
+-- number alone, and local routes look at no BGP route of their slot.
+use Rattle.std.specs.Prelude.{ℕ, ◌-◌, ◌^◌, ◌==◌, ◌&&◌, Bool, false, not, List, [], ◌++◌, filter, map}
 use Rattle.std.specs.Prelude.{slice_get, Option, None, option_and_then, option_map, if◌then◌else◌}
 use Rattle.std.specs.List.{enumerate_from, filter_map, find}
 use Rattle.std.specs.Option.{option_map_or}

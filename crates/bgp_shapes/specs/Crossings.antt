@@ -1,5 +1,7 @@
--- How a route goes on over a session, by the end over which it was learnt (RFC 4271, section 5.1.3; RFC 4456, section 6).
-use Rattle.std.specs.Prelude.{ℕ, ◌+◌, ◌^◌, ◌==◌, ◌&&◌, ◌||◌, Bool, true, false, not, List, Option, Some, None, unwrap_or}
+-- How a route goes on over a session, by the end over which it was learnt (RFC 4271, section 5.1.3; RFC 4456, section
+-- 6).
+use Rattle.std.specs.Prelude.{ℕ, ◌+◌, ◌^◌, ◌==◌, ◌&&◌, ◌||◌, Bool, true, false, not, List, Option, Some, None}
+use Rattle.std.specs.Prelude.{unwrap_or}
 use Rattle.std.specs.List.{find}
 use Rattle.std.specs.Option.{option_map_or}
 use Rattle.ios_ast.specs.declared.bgp.Bgp.{Bgp}

@@ -13,10 +13,10 @@ use Rattle.net_parts.specs.Exports.{no_advertise, no_export, own_address, passes
 use Rattle.net_parts.specs.Sessions.{neighbour_of}
 use Rattle.net_parts.specs.Tracked.{numbers_of}
 use Rattle.route_shapes.specs.Bgp.{BgpShape}
-use Rattle.route_shapes.specs.Shapes.{RouteShape, marked, marks_with, shape_prepended}
+use Rattle.route_shapes.specs.Shapes.{RouteShape, marked, marks_with, shape_passes_paths, shape_prepended}
+use Rattle.route_shapes.specs.Shapes.{shape_through_map}
 use Rattle.bgp_shapes.specs.Crossings.{Crossing, crossing, end_numbered}
-use Rattle.bgp_shapes.specs.Messages.{lacks_address, seen_by_maps, shape_passes_paths}
-use Rattle.bgp_shapes.specs.Messages.{shape_sets_metric, shape_through_map}
+use Rattle.bgp_shapes.specs.Messages.{lacks_address, seen_by_maps, shape_sets_metric}
 
 -- the route may go: no community forbids it, and the session over which it came does not
 abbrev pub shape_may_go : Tracked → SessionEnd → BgpShape → Crossing → Bool
@@ -52,8 +52,8 @@ external_shape tracked process neighbour own keeps_med r = record {
 abbrev pub shape_originator : BgpShape → Crossing → ℕ
 shape_originator s x = if x.reflected && lacks_address s.originator then 2 ^ 32 + x.peer else s.originator
 
--- over an internal session path, local preference and metric stay as the map leaves them; a route that is reflected gets
--- the own cluster identifier in front of its clusters
+-- over an internal session path, local preference and metric stay as the map leaves them; a route that is reflected
+-- gets the own cluster identifier in front of its clusters
 abbrev pub internal_shape : Tracked → Neighbour → Addr → Addr → BgpShape → Crossing → RouteShape → BgpShape
 internal_shape tracked neighbour own id s x r = record {
   preferences = record r.preferences { weight = 0 };

@@ -39,8 +39,8 @@ compared always compare_id keys flags =
 unfoldable pub surviving : Bool → Bool → List Bool → List Key → List Bool
 surviving always compare_id flags keys = compared always compare_id keys (fold (left always keys) flags to_cost)
 
--- a route is held by the flags of candidates: some flagged candidate that survives has its shape; and none where none is
--- flagged
+-- a route is held by the flags of candidates: some flagged candidate that survives has its shape; and none where none
+-- is flagged
 abbrev pub is_held : Bool → Bool → List Bool → List ShapeCandidate → List Key → Bool → BgpShape → Bool
 is_held always compare_id flags candidates keys there s =
     if there

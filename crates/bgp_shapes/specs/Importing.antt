@@ -11,8 +11,8 @@ use Rattle.net_parts.specs.Exports.{is_reflector, most_numbers, passes_prefixes,
 use Rattle.net_parts.specs.Sessions.{neighbour_of}
 use Rattle.net_parts.specs.Tracked.{numbers_of}
 use Rattle.route_shapes.specs.Bgp.{BgpShape}
-use Rattle.route_shapes.specs.Shapes.{marked}
-use Rattle.bgp_shapes.specs.Messages.{seen_by_maps, shape_passes_paths, shape_through_map, with_seen}
+use Rattle.route_shapes.specs.Shapes.{marked, shape_passes_paths, shape_through_map}
+use Rattle.bgp_shapes.specs.Messages.{seen_by_maps, with_seen}
 
 -- no loop by the router's AS, by its identifier or by its cluster, and no path that is too long
 abbrev pub shape_is_acceptable : Tracked → List File → ℕ → Bgp → BgpShape → Bool

@@ -1,5 +1,5 @@
 -- Messages by their shapes, and what the lists and route maps of a neighbour answer for the shape of a route.
-use Rattle.std.specs.Prelude.{ℕ, ◌^◌, Bool, false, true, nat_lt, Option, Some, unwrap_or}
+use Rattle.std.specs.Prelude.{ℕ, ◌^◌, Bool, false, nat_lt, Option, unwrap_or}
 use Rattle.std.specs.List.{find, list_any}
 use Rattle.std.specs.Option.{option_map_or}
 use Rattle.mw_text.specs.declared.address.Prefix.{Prefix}
@@ -13,7 +13,7 @@ use Rattle.route_record.specs.declared.tracked.Tracked.{Tracked}
 use Rattle.net_parts.specs.Exports.{is_metric}
 use Rattle.ios_ast.specs.Maps.{entries_named}
 use Rattle.route_shapes.specs.Bgp.{BgpShape, bgp_shape}
-use Rattle.route_shapes.specs.Shapes.{PathShape, RouteShape, shape_mapped, shape_named, shape_route_taken}
+use Rattle.route_shapes.specs.Shapes.{RouteShape, shape_route_taken}
 
 -- a message as a route: it has weight 0 and no peer, and a local preference or a MED that it lacks is 0
 abbrev pub as_route : BgpMsg → BgpRec
@@ -49,15 +49,6 @@ seen_by_maps s = record {
 
 abbrev pub with_seen : BgpShape → RouteShape → BgpShape
 with_seen s r = record s { preferences = r.preferences; path = r.path; communities = r.communities }
-
--- what the map that is applied, if one is, makes of a route
-abbrev pub shape_through_map : Tracked → Policies → Option Use → Prefix → Bool → RouteShape → Option RouteShape
-shape_through_map tracked policies used p external s =
-    option_map_or (λ named. shape_mapped policies (entries_named policies named) tracked p external s) used (Some s)
-
--- whether the AS-path list that is applied, if one is, permits a path
-abbrev pub shape_passes_paths : Tracked → Policies → Option Use → PathShape → Bool
-shape_passes_paths tracked policies used path = option_map_or (shape_named policies tracked.numbers path) used true
 
 -- a set line of the deciding entry sets the metric
 abbrev pub shape_sets_metric : Tracked → Policies → Option Use → Prefix → RouteShape → Bool

@@ -8,8 +8,8 @@ use Rattle.net_parts.specs.Exports.{is_reflector, no_advertise, no_export, route
 use Rattle.route_shapes.specs.Shapes.{all_tracked}
 use Rattle.net_parts.specs.Tracked.{numbers_of}
 
--- the tests of one router ask for tracked values alone: its AS number, its cluster where it reflects, and what its lists
--- name
+-- the tests of one router ask for tracked values alone: its AS number, its cluster where it reflects, and what its
+-- lists name
 pub record TracksRouter (files : List File) (router : ℕ) (file : File) (process : Bgp) (tracked : Tracked) : Type 0
   where
     pub number : carries tracked.numbers process.asn ≡ true

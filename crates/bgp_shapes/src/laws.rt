@@ -1,12 +1,15 @@
 //! Laws about BGP on shapes. Each function only carries its law.
 
-ghost use Rattle.std.specs.Prelude.{◌≡◌, ◌<◌, ◌^◌, ℕ, All, Bool, IfSome, length, List as ListOf, map, Option as OptionOf};
+ghost use Rattle.std.specs.Prelude.{◌≡◌, ◌<◌, ◌^◌, ℕ, All, Bool, IfSome, length, List as ListOf, map};
+ghost use Rattle.std.specs.Prelude.{Option as OptionOf};
 ghost use Rattle.std.specs.Prelude.{option_map, Some, true};
+ghost use Rattle.std.specs.List.{list_all};
 ghost use Rattle.mw_text.specs.declared.address.Addr.{Addr as AddrOf};
 ghost use Rattle.mw_text.specs.declared.address.Prefix.{Prefix as PrefixOf};
 ghost use Rattle.mw_text.specs.Address.{prefix_at};
 ghost use Rattle.ios_ast.specs.declared.bgp.Bgp.{Bgp as BgpOf};
 ghost use Rattle.ios_ast.specs.declared.file.File.{File as FileOf};
+ghost use Rattle.ios_ast.specs.Limits.{keeps_limits};
 ghost use Rattle.route_record.specs.declared.BgpMsg.{BgpMsg as BgpMsgOf};
 ghost use Rattle.route_record.specs.declared.BgpRec.{BgpRec as BgpRecOf};
 ghost use Rattle.route_record.specs.declared.Environment.{Environment as EnvironmentOf};
@@ -22,11 +25,12 @@ ghost use Rattle.net_parts.specs.Exports.{exported, imported};
 ghost use Rattle.net_parts.specs.Stable.{Stable};
 ghost use Rattle.net_parts.specs.Tracked.{TracksNet};
 ghost use Rattle.route_shapes.specs.Bgp.{BgpShape, bgp_shape};
-ghost use Rattle.bgp_shapes.specs.Candidates.{candidate_shape, environment_shape, shape_candidates, shape_key, slots_shape};
+ghost use Rattle.bgp_shapes.specs.Candidates.{candidate_shape, environment_shape, shape_candidates, shape_key};
+ghost use Rattle.bgp_shapes.specs.Candidates.{slots_shape};
 ghost use Rattle.bgp_shapes.specs.Exporting.{shape_exported};
 ghost use Rattle.bgp_shapes.specs.Held.{HasMarks, IsHeldByShape, held_shape};
 ghost use Rattle.bgp_shapes.specs.Importing.{shape_imported};
-ghost use Rattle.bgp_shapes.specs.Lengths.{IsShort, NamesOnce};
+ghost use Rattle.bgp_shapes.specs.Lengths.{IsShort};
 ghost use Rattle.bgp_shapes.specs.Messages.{message_shape};
 ghost use Rattle.bgp_shapes.specs.Tracking.{TracksTests};
 
@@ -66,18 +70,19 @@ pub fn candidates_law()
 /// are routers, since each cluster was put in front by another one, and an imported path has at most 255 numbers.
 pub fn length_law()
     ensures fewer { (files : ListOf FileOf) (destination : AddrOf) (failures : FailuresOf) (environment : EnvironmentOf)
-        (tables : TablesOf) → NamesOnce files → Stable files destination failures environment tables →
+        (tables : TablesOf) → list_all keeps_limits files ≡ true →
+        Stable files destination failures environment tables →
         (router len : ℕ) (slot : SlotOf) (held : BgpRecOf) → len < LENGTHS → slot_at tables router len ≡ Some slot →
         slot.bgp ≡ Some held → length held.clusters < length files }
     ensures short { (files : ListOf FileOf) (destination : AddrOf) (failures : FailuresOf) (environment : EnvironmentOf)
-        (tables : TablesOf) → NamesOnce files → length files < 2 ^ 32 →
+        (tables : TablesOf) → list_all keeps_limits files ≡ true → length files < 2 ^ 32 →
         Stable files destination failures environment tables → (router len : ℕ) (file : FileOf) (process : BgpOf) →
         len < LENGTHS →
         All IsShort (candidates files failures environment tables router file process (prefix_at destination len)) }
 {}
 
-/// The shapes of the candidates that survive the decision process are the shapes that survive it, where 32 bits tell the
-/// lengths of their lists (RFC 4271, section 9.1.2.2).
+/// The shapes of the candidates that survive the decision process are the shapes that survive it, where 32 bits tell
+/// the lengths of their lists (RFC 4271, section 9.1.2.2).
 pub fn survivors_law()
     ensures { (tracked : TrackedOf) (always compare_id : Bool) (all : ListOf Candidate) → All IsShort all →
         map (candidate_shape tracked) (survivors always compare_id all)

@@ -23,7 +23,7 @@ use Rattle.ios_ast.specs.declared.policies.SetAct.TheVariants.{LocalPref, Metric
 use Rattle.ios_ast.specs.declared.policies.SetAct.TheVariants.{Origin, Prepend, Type1}
 use Rattle.ios_ast.specs.Deciding.{in_order, carries}
 use Rattle.ios_ast.specs.Communities.{with_community, with_communities, communities_taken, communities_permitted}
-use Rattle.ios_ast.specs.Maps.{route_taken, deciding, mapped}
+use Rattle.ios_ast.specs.Maps.{route_taken, deciding, entries_named, mapped, through_map}
 use Rattle.ios_ast.specs.Matching.{names_of, list_permits, line_holds, lines_hold}
 use Rattle.ios_ast.specs.Paths.{first_of, last_of, pattern_matches, path_permitted}
 use Rattle.ios_ast.specs.Setting.{Attributes, communities_set, set_one, set_all}
@@ -33,7 +33,7 @@ use Rattle.route_record.proofs.Saturated.{saturated-one, saturated-some, saturat
 use Rattle.route_shapes.specs.Shapes.{path_shape, route_shape, marked, marks_taken, marks_permitted}
 use Rattle.route_shapes.specs.Shapes.{shape_matches, shape_taken, shape_permitted, shape_list_permits, shape_line_holds}
 use Rattle.route_shapes.specs.Shapes.{shape_route_taken, marks_with, shape_prepended, set_shape, set_shapes, shape_made}
-use Rattle.route_shapes.specs.Shapes.{shape_mapped, pattern_tracked, values_tracked, path_tracked, all_tracked}
+use Rattle.route_shapes.specs.Shapes.{shape_mapped, shape_through_map, pattern_tracked, values_tracked, path_tracked, all_tracked}
 
 -- the marks of a tracked value say what the test does
 pub marked-map : (f : ℕ → Bool) (tracked : List ℕ) (x : ℕ) → carries tracked x ≡ true → marked tracked (map f tracked) x
@@ -104,7 +104,8 @@ pattern_shape tracked path (First n) h = ap (λ b. b && (first_of path == n)) (s
 pattern_shape tracked path (Last n) h = ap (λ b. b && (last_of path == n)) (saturated-some (length path))
 pattern_shape tracked path (Has n) h = marked-map (carries path) tracked n h
 
-pub path_entries : (tracked : List ℕ) (path : List ℕ) (es : List AsPathEntry) → list_all (path_tracked tracked) es ≡ true
+pub path_entries : (tracked : List ℕ) (path : List ℕ) (es : List AsPathEntry) →
+    list_all (path_tracked tracked) es ≡ true
     → shape_permitted tracked (path_shape tracked path) es ≡ path_permitted es path
 path_entries tracked path es h =
     ap (λ o. option_map_or (λ e. e.permit) o false)
@@ -288,3 +289,12 @@ shape_mapped-route_shape policies entries tracked p external r h =
         (option_and_then (λ e. if e.permit then Some (set_all external r e.sets) else None) decider)
     by None = refl
     by (Some e) = made e e.permit
+
+-- also where no map is applied
+pub through_map-route_shape : (tracked : Tracked) (policies : Policies) (used : Option Use) (p : Prefix)
+    (external : Bool) (r : Attributes) → all_tracked tracked policies ≡ true →
+    shape_through_map tracked policies used p external (route_shape tracked r)
+    ≡ option_map (route_shape tracked) (through_map policies used p external r)
+through_map-route_shape tracked policies None p external r h = refl
+through_map-route_shape tracked policies (Some named) p external r h =
+    shape_mapped-route_shape policies (entries_named policies named) tracked p external r h

@@ -3,7 +3,7 @@
 use Rattle.std.specs.Prelude.{ℕ, ◌+◌, ◌==◌, ◌&&◌, ◌||◌, nat_lt, Bool, true, false, if◌then◌else◌}
 use Rattle.std.specs.Prelude.{List, [], ◌∷◌, Option, Some, None, length, map, fold}
 use Rattle.std.specs.List.{find, list_any, list_all}
-use Rattle.std.specs.Option.{option_and_then}
+use Rattle.std.specs.Option.{option_and_then, option_map_or}
 use Rattle.mw_text.specs.declared.address.Prefix.{Prefix}
 use Rattle.ios_ast.specs.declared.file.Use.{Use}
 use Rattle.ios_ast.specs.declared.policies.AsPathEntry.{AsPathEntry}
@@ -17,6 +17,7 @@ use Rattle.ios_ast.specs.declared.policies.Policies.{Policies}
 use Rattle.ios_ast.specs.declared.policies.SetAct.{SetAct}
 use Rattle.ios_ast.specs.declared.policies.SetAct.TheVariants.{LocalPref, Metric, Weight, NoCommunity, Community}
 use Rattle.ios_ast.specs.declared.policies.SetAct.TheVariants.{Origin, Prepend, Type1}
+use Rattle.ios_ast.specs.Maps.{entries_named}
 use Rattle.ios_ast.specs.Deciding.{first_permits, in_order, carries}
 use Rattle.ios_ast.specs.Matching.{named_answer, access_named, prefixes_named, names_of, lines_hold}
 use Rattle.ios_ast.specs.Paths.{first_of, last_of}
@@ -181,6 +182,15 @@ shape_decided policies tracked p external s entries =
 abbrev pub shape_mapped : Policies → List MapEntry → Tracked → Prefix → Bool → RouteShape → Option RouteShape
 shape_mapped policies entries tracked p external s =
     shape_decided policies tracked p external s (in_order (λ e. e.seq) entries)
+
+-- what the map that is applied, if one is, makes of a route
+abbrev pub shape_through_map : Tracked → Policies → Option Use → Prefix → Bool → RouteShape → Option RouteShape
+shape_through_map tracked policies used p external s =
+    option_map_or (λ named. shape_mapped policies (entries_named policies named) tracked p external s) used (Some s)
+
+-- whether the AS-path list that is applied, if one is, permits a path
+abbrev pub shape_passes_paths : Tracked → Policies → Option Use → PathShape → Bool
+shape_passes_paths tracked policies used path = option_map_or (shape_named policies tracked.numbers path) used true
 
 -- the values that lists test are tracked
 abbrev pub pattern_tracked : List ℕ → Pattern → Bool

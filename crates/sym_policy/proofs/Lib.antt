@@ -1,3 +1,4 @@
+pub mod BareRows
 pub mod HighBits
 pub mod Choices
 pub mod Rows
@@ -5,3 +6,4 @@ pub mod SetLines
 pub mod NetworkBits
 pub mod Decided
 pub mod SameNodes
+pub mod MapsApplied

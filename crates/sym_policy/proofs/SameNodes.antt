@@ -7,13 +7,17 @@ use Rattle.term_store.specs.Terms.{Store, Reading, size, at}
 use Rattle.term_store.specs.Reading.{Reads}
 use Rattle.term_arith.specs.Bits.{bits, number, ids_end}
 use Rattle.route_record.specs.declared.tracked.Tracked.{Tracked}
+use Rattle.sym_policy.specs.declared.parts.SymPath.{SymPath}
+use Rattle.sym_policy.specs.declared.parts.SymPreferences.{SymPreferences}
 use Rattle.sym_policy.specs.declared.parts.SymRest.{SymRest}
 use Rattle.sym_policy.specs.declared.parts.SymRoute.{SymRoute}
 use Rattle.sym_policy.specs.declared.parts.SymMade.{SymMade}
+use Rattle.sym_policy.specs.declared.records.SymBgp.{SymBgp}
 use Rattle.sym_policy.specs.declared.records.SymMapRec.{SymMapRec}
-use Rattle.sym_policy.specs.SameNodes.{SameRoute, IsSeen, IsRest, IsJoined}
+use Rattle.sym_policy.specs.Held.{bgp_end}
+use Rattle.sym_policy.specs.SameNodes.{HasPath, HasPreferences, SameRoute, IsSeen, IsRest, IsJoined}
 use Rattle.sym_policy.specs.MapRecs.{attributes_at, map_rec_end, seen_end, kept_end, HasMarks, KeepsRest, IsMade}
-use Rattle.sym_policy.specs.Routes.{route_at, route_end, made_end, HasRows, SameRows}
+use Rattle.sym_policy.specs.Routes.{path_end, preferences_end, route_at, route_end, rest_end, made_end, HasRows, SameRows}
 use Rattle.sym_policy.proofs.Choices.{both_there}
 
 -- a copy is read as the route is, and ends where it does
@@ -97,6 +101,37 @@ seen_within rec s n h within =
 -- for what route maps see, in `using`
 pub ruleset seen_steps = (seen_at, seen_rows, seen_within)
 
+-- a record that is put together is read and ends as its parts do
+pub joined_at : (there : NodeId) (route : SymRoute) (rest : SymRest) (rec : SymMapRec) → IsJoined there route rest rec →
+    (w : Reading) → attributes_at w rec ≡ route_at w route
+joined_at there route rest rec h w = sym (seen_at rec route h.seen w)
+
+rest_ends : (rec : SymMapRec) (s : SymRest) → IsRest rec.bgp s → rest_end s ≡ kept_end rec
+rest_ends rec s h = λ i.
+    max (max (ids_end (h.next_hop i)) (ids_end (h.originator i)))
+    (max (ids_end (h.from i)) (max (ids_end (h.cluster_len i)) (ids_end (h.clusters i))))
+
+pub joined_within : (there : NodeId) (route : SymRoute) (rest : SymRest) (rec : SymMapRec) (n : ℕ) →
+    IsJoined there route rest rec → there.0 < n → route_end route ≤ n → rest_end rest ≤ n → map_rec_end rec ≤ n
+joined_within there route rest rec n h there_in route_in rest_in =
+    let first : rec.bgp.valid.0 < n = subst (λ (x : NodeId). x.0 < n) (sym h.valid) there_in in
+    let seen : seen_end rec ≤ n = subst (λ (k : ℕ). k ≤ n) (seen_ends rec route h.seen) route_in in
+    let kept : kept_end rec ≤ n = subst (λ (k : ℕ). k ≤ n) (rest_ends rec rest h.rest) rest_in in
+    all rec.bgp.valid.0 (seen_end rec) (kept_end rec) first seen kept
+  where
+    all : (a b c : ℕ) → a < n → b ≤ n → c ≤ n → max (a + 1) (max b c) ≤ n
+    all a b c first seen kept = omega arith
+
+pub joined_marks : (tracked : Tracked) (there : NodeId) (route : SymRoute) (rest : SymRest) (rec : SymMapRec) →
+    IsJoined there route rest rec → HasRows tracked route → HasMarks tracked rec
+joined_marks tracked there route rest rec h rows = record {
+  numbers = sym (ap length h.seen.path.numbers) ∙ rows.numbers;
+  communities = sym (ap length h.seen.communities) ∙ rows.communities;
+}
+
+-- for records that are put together, in `using`
+pub ruleset joined_steps = (joined_at, joined_within, joined_marks)
+
 -- what route maps never set keeps its nodes in the record that is put together
 pub kept : (before rec : SymMapRec) (s : SymRest) → IsRest before.bgp s → IsRest rec.bgp s → KeepsRest before rec
 kept before rec s a b = record {
@@ -148,3 +183,66 @@ made_joined t before rec made valid rest before_in made_in valid_in value left j
 
     after : (a n : ℕ) → a < n → a + 1 ≤ n
     after a n h = omega arith
+
+-- ---- the nodes of a record and of its route
+
+parts : (a b n : ℕ) → max a b ≤ n → (a ≤ n) × (b ≤ n)
+parts a b n h = (omega arith, omega arith)
+
+seen_parts : (p q d c t n : ℕ) → max (max p q) (max d (max c t)) ≤ n
+    → ((p ≤ n) × (q ≤ n)) × ((d ≤ n) × (c ≤ n))
+seen_parts p q d c t n h =
+    let both = parts (max p q) (max d (max c t)) n h in
+    let second = parts d (max c t) n both.1 in
+    (parts p q n both.0, (second.0, (parts c t n second.1).0))
+
+kept_parts : (h o f e n : ℕ) → max (max h o) (max f e) ≤ n → ((h ≤ n) × (o ≤ n)) × ((f ≤ n) × (e ≤ n))
+kept_parts h o f e n within =
+    let both = parts (max h o) (max f e) n within in
+    (parts h o n both.0, parts f e n both.1)
+
+-- a store that has all nodes of a record has those of its route
+pub bgp_within : (rec : SymMapRec) (n : ℕ) → map_rec_end rec ≤ n → bgp_end rec.bgp ≤ n
+bgp_within rec n h =
+    let there = parts (rec.bgp.valid.0 + 1) (max (seen_end rec) (kept_end rec)) n h in
+    let both = parts (seen_end rec) (kept_end rec) n there.1 in
+    let seen = seen_parts _ _ _ _ _ n both.0 in
+    let kept = kept_parts _ _ _ _ n both.1 in
+    max-le (max-le (max-le there.0 seen.0.0) seen.0.1)
+    (max-le seen.1.0 (max-le (max-le seen.1.1 kept.0.0) (max-le (max-le kept.0.1 kept.1.0) kept.1.1)))
+
+-- and one that has all nodes of a route has those of copies of its parts
+pub path_within : (held : SymBgp) (s : SymPath) (n : ℕ) → HasPath held.len held.first held.last held.numbers s →
+    bgp_end held ≤ n → path_end s ≤ n
+path_within held s n h within =
+    let end : max (max (ids_end held.len.nodes.items) (ids_end held.first.nodes.items))
+        (max (ids_end held.last.nodes.items) (ids_end held.numbers.nodes.items)) ≡ path_end s =
+    λ i.
+        max (max (ids_end (sym h.len i)) (ids_end (sym h.first i)))
+        (max (ids_end (sym h.last i)) (ids_end (sym h.numbers i))) in
+    subst (λ (k : ℕ). k ≤ n) end (parts _ _ n (parts _ _ n within).1).0
+
+pub preferences_within : (held : SymBgp) (s : SymPreferences) (n : ℕ) →
+    HasPreferences held.weight held.local_pref held.med held.origin s → bgp_end held ≤ n → preferences_end s ≤ n
+preferences_within held s n h within =
+    let end : max (max (ids_end held.weight.nodes.items) (ids_end held.local_pref.nodes.items))
+        (max (ids_end held.med.nodes.items) (ids_end held.origin.nodes.items)) ≡ preferences_end s =
+    λ i.
+        max (max (ids_end (sym h.weight i)) (ids_end (sym h.local_pref i)))
+        (max (ids_end (sym h.med i)) (ids_end (sym h.origin i))) in
+    let first = parts _ _ n (parts _ _ n within).0 in
+    subst (λ (k : ℕ). k ≤ n) end (max-le (parts _ _ n first.0).1 first.1)
+
+pub rest_within : (held : SymBgp) (s : SymRest) (n : ℕ) → IsRest held s → bgp_end held ≤ n → rest_end s ≤ n
+rest_within held s n h within =
+    let end : max (max (ids_end held.next_hop.nodes.items) (ids_end held.originator.nodes.items))
+        (max (ids_end held.from.nodes.items)
+        (max (ids_end held.cluster_len.nodes.items) (ids_end held.clusters.nodes.items))) ≡ rest_end s =
+    λ i.
+        max (max (ids_end (sym h.next_hop i)) (ids_end (sym h.originator i)))
+        (max (ids_end (sym h.from i)) (max (ids_end (sym h.cluster_len i)) (ids_end (sym h.clusters i)))) in
+    let others = parts _ _ n (parts _ _ n (parts _ _ n within).1).1 in
+    let hop = parts _ _ n others.0 in
+    let behind = parts _ _ n others.1 in
+    let ids = parts _ _ n behind.0 in
+    subst (λ (k : ℕ). k ≤ n) end (max-le (max-le hop.1 ids.0) (max-le ids.1 behind.1))

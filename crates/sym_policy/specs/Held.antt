@@ -1,6 +1,6 @@
 -- What a reading makes of symbolic routes, failed links and interior distances.
-use Rattle.std.specs.Prelude.{◌≡◌, ℕ, suc, ◌+◌, ◌^◌, ◌==◌, max, if◌then◌else◌, Bool, List, [], ◌∷◌}
-use Rattle.std.specs.Prelude.{Option, Some, None, length, map, option_map}
+use Rattle.std.specs.Prelude.{◌≡◌, ℕ, suc, ◌+◌, ◌==◌, max, if◌then◌else◌, Bool, List, [], ◌∷◌}
+use Rattle.std.specs.Prelude.{Option, Some, None, option_map}
 use Rattle.term_store.specs.Terms.{Reading, at}
 use Rattle.term_arith.specs.Bits.{bits, number, ids_end}
 use Rattle.route_record.specs.declared.BgpRec.{BgpRec}

@@ -1,10 +1,12 @@
 -- What a reading makes of the part of a symbolic route that route maps see.
-use Rattle.std.specs.Prelude.{◌≡◌, ℕ, ◌+◌, max, if◌then◌else◌, Option, Some, None, length}
+use Rattle.std.specs.Prelude.{◌≡◌, ℕ, ◌+◌, max, if◌then◌else◌, Option, Some, None, [], length, map}
 use Rattle.term_store.specs.Terms.{Reading, at}
 use Rattle.term_arith.specs.Bits.{bits, number, ids_end}
 use Rattle.route_record.specs.declared.tracked.Tracked.{Tracked}
+use Rattle.route_record.specs.Shape.{has_address}
 use Rattle.sym_policy.specs.declared.parts.SymPath.{SymPath}
 use Rattle.sym_policy.specs.declared.parts.SymPreferences.{SymPreferences}
+use Rattle.sym_policy.specs.declared.parts.SymRest.{SymRest}
 use Rattle.sym_policy.specs.declared.parts.SymRoute.{SymRoute}
 use Rattle.sym_policy.specs.declared.parts.SymMade.{SymMade}
 use Rattle.route_shapes.specs.Shapes.{PathShape, Preferences, RouteShape}
@@ -52,6 +54,11 @@ route_end s =
     max (preferences_end s.preferences)
     (max (path_end s.path) (max (ids_end s.communities.nodes.items) (s.type1.0 + 1)))
 
+abbrev pub rest_end : SymRest → ℕ
+rest_end s =
+    max (max (ids_end s.next_hop.nodes.items) (ids_end s.originator.nodes.items))
+    (max (ids_end s.from.nodes.items) (max (ids_end s.cluster_len.nodes.items) (ids_end s.clusters.nodes.items)))
+
 abbrev pub made_end : SymMade → ℕ
 made_end m = max (m.valid.0 + 1) (route_end m.route)
 
@@ -64,3 +71,11 @@ pub record SameRows (a b : SymRoute) : Type 0 where
 pub record HasRows (tracked : Tracked) (s : SymRoute) : Type 0 where
   pub numbers : length s.path.numbers.nodes.items ≡ length tracked.numbers
   pub communities : length s.communities.nodes.items ≡ length tracked.communities
+
+-- under the reading these have that next hop, and neither originator, peer nor clusters
+pub record IsBare (w : Reading) (tracked : Tracked) (hop : ℕ) (s : SymRest) : Type 0 where
+  pub next_hop : number w s.next_hop.nodes.items ≡ hop
+  pub originator : number w s.originator.nodes.items ≡ 0
+  pub from : number w s.from.nodes.items ≡ 0
+  pub cluster_len : number w s.cluster_len.nodes.items ≡ 0
+  pub clusters : bits w s.clusters.nodes.items ≡ map (has_address []) tracked.clusters

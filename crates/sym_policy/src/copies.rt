@@ -59,8 +59,8 @@ pub(crate) fn copy_route(alloc: Global, route: &SymRoute) -> Result<SymRoute, Al
     })
 }
 
-/// The path of a record.
-fn path_of(alloc: Global, bgp: &SymBgp) -> Result<SymPath, AllocError>
+/// The path of a route.
+pub fn path_of(alloc: Global, bgp: &SymBgp) -> Result<SymPath, AllocError>
     ensures { IfOk result (λ r. HasPath bgp.now.len bgp.now.first bgp.now.last bgp.now.numbers r) }
 {
     let len = copy(alloc, &bgp.len)?;
@@ -75,8 +75,8 @@ fn path_of(alloc: Global, bgp: &SymBgp) -> Result<SymPath, AllocError>
     })
 }
 
-/// The numbers of a record by which routes are preferred.
-fn preferences_of(alloc: Global, bgp: &SymBgp) -> Result<SymPreferences, AllocError>
+/// The numbers of a route by which routes are preferred.
+pub fn preferences_of(alloc: Global, bgp: &SymBgp) -> Result<SymPreferences, AllocError>
     ensures { IfOk result (λ r. HasPreferences bgp.now.weight bgp.now.local_pref bgp.now.med bgp.now.origin r) }
 {
     let weight = copy(alloc, &bgp.weight)?;
@@ -92,7 +92,7 @@ fn preferences_of(alloc: Global, bgp: &SymBgp) -> Result<SymPreferences, AllocEr
 }
 
 /// What route maps see of a record.
-pub(crate) fn route_of(alloc: Global, rec: &SymMapRec) -> Result<SymRoute, AllocError>
+pub fn route_of(alloc: Global, rec: &SymMapRec) -> Result<SymRoute, AllocError>
     ensures { IfOk result (λ r. IsSeen rec.now r) }
 {
     let communities = copy(alloc, &rec.bgp.communities)?;
@@ -107,7 +107,7 @@ pub(crate) fn route_of(alloc: Global, rec: &SymMapRec) -> Result<SymRoute, Alloc
 }
 
 /// What route maps never set of a record.
-pub(crate) fn rest_of(alloc: Global, bgp: &SymBgp) -> Result<SymRest, AllocError>
+pub fn rest_of(alloc: Global, bgp: &SymBgp) -> Result<SymRest, AllocError>
     ensures { IfOk result (λ r. IsRest bgp.now r) }
 {
     let next_hop = copy(alloc, &bgp.next_hop)?;
@@ -125,7 +125,7 @@ pub(crate) fn rest_of(alloc: Global, bgp: &SymBgp) -> Result<SymRest, AllocError
 }
 
 /// The record of what route maps see of it and what they never set.
-pub(crate) fn joined(valid: NodeId, route: SymRoute, rest: SymRest) -> SymMapRec
+pub fn joined(valid: NodeId, route: SymRoute, rest: SymRest) -> SymMapRec
     ensures { IsJoined valid route rest result }
 {
     let SymRoute {

@@ -211,7 +211,7 @@ fn sym_kind_passes(
 }
 
 /// Whether the match lines of the entry hold; an entry without one takes every route.
-pub(crate) fn sym_takes(
+pub fn sym_takes(
     alloc: Global,
     terms: &mut Terms,
     policies: &Policies,

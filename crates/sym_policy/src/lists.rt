@@ -35,7 +35,7 @@ fn node_of(tracked: &[u32], marks: &[NodeId], value: u32) -> Option<NodeId>
 }
 
 /// Whether a value is marked. One that is not tracked is not.
-fn sym_marked(
+pub fn sym_marked(
     terms: &mut Terms,
     tracked: &[u32],
     marks: &[NodeId],

@@ -74,7 +74,7 @@ fn find_paths<'a>(policies: &'a Policies, name: &[u8]) -> Option<&'a AsPathList>
 }
 
 /// Whether the prefix list of that name permits the prefix of that length of an address. One that is not there denies.
-pub(crate) fn sym_prefixes_named(
+pub fn sym_prefixes_named(
     alloc: Global,
     terms: &mut Terms,
     policies: &Policies,
@@ -223,7 +223,7 @@ pub(crate) fn sym_communities_named(
 }
 
 /// Whether the AS-path list of that name permits the path. One that is not there denies.
-pub(crate) fn sym_paths_named(
+pub fn sym_paths_named(
     terms: &mut Terms,
     policies: &Policies,
     tracked: &[u32],

@@ -1,4 +1,4 @@
-//! The part of a route that route maps see and may set, as terms.
+//! The parts of a route as terms: what route maps see and may set, and what they leave.
 
 ghost use Rattle.std.specs.Prelude.{◌≡◌, length};
 
@@ -7,7 +7,7 @@ use term_store::NodeId;
 
 /// A path by its shape: its length, its ends, and one node for each tracked number.
 #[derive(Drop)]
-pub(crate) struct SymPath {
+pub struct SymPath {
     pub len: Bits,
     pub first: Bits,
     pub last: Bits,
@@ -19,7 +19,7 @@ pub(crate) struct SymPath {
 
 /// The numbers by which routes are preferred.
 #[derive(Drop)]
-pub(crate) struct SymPreferences {
+pub struct SymPreferences {
     pub weight: Bits,
     pub local_pref: Bits,
     pub med: Bits,
@@ -33,7 +33,7 @@ pub(crate) struct SymPreferences {
 /// What route maps see of a route: beside its path one node for each tracked community, and whether it is redistributed
 /// as one of type 1.
 #[derive(Drop)]
-pub(crate) struct SymRoute {
+pub struct SymRoute {
     pub preferences: SymPreferences,
     pub path: SymPath,
     pub communities: Bits,
@@ -49,7 +49,7 @@ pub(crate) struct SymMade {
 
 /// What route maps never set of a record.
 #[derive(Drop)]
-pub(crate) struct SymRest {
+pub struct SymRest {
     pub next_hop: Bits,
     pub originator: Bits,
     pub from: Bits,

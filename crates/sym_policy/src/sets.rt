@@ -43,7 +43,7 @@ fn sym_mark(
 
 /// The marks of the tracked values where values are put in, alone or beside those that were there.
 #[tactic(auto, using(crate::proofs::Rows::with_steps))]
-fn sym_marks_with(
+pub fn sym_marks_with(
     alloc: Global,
     terms: &mut Terms,
     tracked: &[u32],
@@ -69,7 +69,12 @@ fn sym_marks_with(
 
 /// A length with more items, in 32 bits; the greatest number of these where it does not fit.
 #[tactic(auto, using(route_record::proofs::Saturated::saturated_choice))]
-fn sym_longer(alloc: Global, terms: &mut Terms, len: &Bits, more: usize) -> Result<Bits, AllocError>
+pub fn sym_longer(
+    alloc: Global,
+    terms: &mut Terms,
+    len: &Bits,
+    more: usize,
+) -> Result<Bits, AllocError>
     requires wide { length len.now.nodes.items ≡ 32 }
     requires nodes { ids_end len.now.nodes.items ≤ size terms.old }
     ensures builds { Builds terms.old terms.new }
@@ -137,7 +142,7 @@ fn sym_last(
 }
 
 /// A path with numbers in front.
-fn sym_prepended(
+pub fn sym_prepended(
     alloc: Global,
     terms: &mut Terms,
     tracked: &[u32],

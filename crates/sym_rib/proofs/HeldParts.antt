@@ -1,17 +1,19 @@
 -- Copies of the path and the communities of a BGP route.
 use Rattle.std.proofs.Common.{◌≡◌, ℕ, ◌≤◌, ap, arith}
 use Rattle.sym_policy.specs.declared.records.SymBgp.{SymBgp}
+use Rattle.sym_policy.specs.declared.parts.SymPath.{SymPath}
 use Rattle.sym_policy.specs.Held.{bgp_at, bgp_end}
+use Rattle.sym_policy.specs.Routes.{path_at}
+use Rattle.sym_policy.specs.SameNodes.{HasPath}
 use Rattle.route_shapes.specs.Shapes.{RouteShape}
 use Rattle.sym_rib.specs.declared.known_parts.HeldParts.{HeldParts}
-use Rattle.sym_rib.specs.declared.known_parts.KnownPath.{KnownPath}
-use Rattle.sym_rib.specs.KnownParts.{HasPartsOf, HasPathOf, held_parts_end, known_path_at}
+use Rattle.sym_rib.specs.KnownParts.{HasPartsOf, held_parts_end}
 use Rattle.term_store.specs.Terms.{Reading}
 use Rattle.term_arith.specs.Bits.{bits, number, ids_end}
 
 -- a reading makes of the copy what it makes of the route's path
-pub path_read : (w : Reading) (held : SymBgp) (s : KnownPath) → HasPathOf held s
-    → known_path_at w s ≡ (bgp_at w held).path
+pub path_read : (w : Reading) (held : SymBgp) (s : SymPath) → HasPath held.len held.first held.last held.numbers s
+    → path_at w s ≡ (bgp_at w held).path
 path_read w held s has = λ i. record {
   len = number w (has.len i);
   first = number w (has.first i);
@@ -33,7 +35,7 @@ parts_within held s n has within =
 -- so a record with the copies is seen as one with the route's path and communities
 pub parts_read : (w : Reading) (held : SymBgp) (s : HeldParts) (before : RouteShape) → HasPartsOf held s
     → ◌≡◌ {A = RouteShape}
-    (record before { path = known_path_at w s.path; communities = bits w s.communities.nodes.items })
+    (record before { path = path_at w s.path; communities = bits w s.communities.nodes.items })
     (record before { path = (bgp_at w held).path; communities = bits w held.communities.nodes.items })
 parts_read w held s before has =
     λ i. record before { path = path_read w held s.path has.path i; communities = bits w (has.communities i) }

@@ -1,23 +1,14 @@
 -- The end of a session over which a route was learnt.
-use Rattle.std.proofs.Common.{◌≡◌, ℕ, ◌+◌, ◌<◌, ◌≤◌, ◌^◌, Bool, true, false, not, ◌&&◌, if◌then◌else◌, List, [], ◌∷◌}
-use Rattle.std.proofs.Common.{Option, Some, None, drop, get_or, length, refl, ap, sym, ◌∙◌, arith}
-use Rattle.std.specs.Prelude.{◌==◌, option_map}
+use Rattle.std.proofs.Common.{◌≡◌, ℕ, ◌+◌, ◌<◌, ◌≤◌, Bool, true, false, not, ◌&&◌, if◌then◌else◌, List}
+use Rattle.std.proofs.Common.{Option, Some, None, drop, get_or, length, refl, ap, ◌∙◌}
+use Rattle.std.specs.Prelude.{option_map}
 use Rattle.std.specs.List.{find}
 use Rattle.std.specs.Option.{option_map_or}
 use Rattle.std.proofs.lemmas.List.{drop_more, drop_all}
-use Rattle.std.proofs.lemmas.Bool.Decides.{nat_tests}
 use Rattle.std.proofs.lemmas.Grind.{common_steps}
-use Rattle.ios_ast.specs.declared.bgp.Neighbour.{Neighbour}
-use Rattle.ios_ast.specs.declared.file.File.{File}
-use Rattle.route_record.specs.declared.Learnt.{Learnt}
-use Rattle.route_record.specs.declared.Learnt.TheVariants.{Local, Peer}
 use Rattle.route_record.specs.declared.RibEntry.{RibEntry}
 use Rattle.route_record.specs.declared.RibSource.TheVariants.{Ebgp, Ibgp}
 use Rattle.net_parts.specs.declared.sessions.SessionEnd.{SessionEnd}
-use Rattle.net_parts.specs.Exports.{learnt_over}
-use Rattle.net_parts.specs.Sessions.{ends_of, neighbour_of}
-use Rattle.route_shapes.specs.Bgp.{learnt_number}
-use Rattle.bgp_shapes.specs.Crossings.{is_from, end_numbered}
 use Rattle.sym_rib.specs.Sources.{is_of_kind, entry_over}
 
 -- what is found among the items from one on. The first half shows which item is met

@@ -2,10 +2,9 @@ pub mod Classes
 pub mod Entries
 pub mod EntryMetrics
 pub mod HeldParts
-pub mod KnownRows
+pub mod KnownRoutes
 pub mod LearntOver
 pub mod LocalRoutes
-pub mod MapLaw
 pub mod SlotPlaces
 pub mod OneEach
 pub mod Redistribution

@@ -1,15 +1,13 @@
 -- A local route as the map of its line leaves it, from the terms of the record and from the route for which they stand.
 use Rattle.std.proofs.Common.{◌≡◌, ℕ, zero, suc, ◌≤◌, Bool, true, false, if◌then◌else◌, Option, Some, None}
-use Rattle.std.proofs.Common.{[], map, refl, ap, sym, ◌∙◌, arith, ◌<◌, ◌+◌, ◌^◌, max}
+use Rattle.std.proofs.Common.{[], map, refl, ap, sym, ◌∙◌, arith, ◌+◌, max}
 use Rattle.std.specs.Prelude.{IfSome, option_and_then, option_map}
 use Rattle.std.proofs.Math.Nat.{max-le}
 use Rattle.mw_text.specs.declared.address.Prefix.{Prefix}
 use Rattle.ios_ast.specs.declared.file.Use.{Use}
 use Rattle.ios_ast.specs.declared.policies.Policies.{Policies}
 use Rattle.ios_ast.specs.Setting.{Attributes}
-use Rattle.route_record.proofs.Saturated.{saturated-none}
 use Rattle.route_record.specs.declared.Origin.{Origin}
-use Rattle.route_record.specs.declared.Origin.TheVariants.{Igp, Egp, Incomplete}
 use Rattle.route_record.specs.declared.RibEntry.{RibEntry}
 use Rattle.route_record.specs.declared.tracked.Tracked.{Tracked}
 use Rattle.route_record.specs.Origins.{origin_code, origin_of_code}
@@ -28,6 +26,7 @@ use Rattle.sym_rib.specs.IntoBgp.{local_with}
 use Rattle.sym_rib.specs.Known.{IsOwn}
 use Rattle.bgp_shapes.proofs.PolicyLaw.{through_code}
 use Rattle.route_record.proofs.OriginCodes.{code_small}
+use Rattle.route_record.proofs.Saturated.{saturated-none}
 
 -- ---- the record of a local route
 
@@ -77,7 +76,8 @@ shape_of : (tracked : Tracked) (c : Attributes) → c.origin ≤ 2
     → own_shape tracked (route_shape tracked c) ≡ bgp_shape tracked (local_with c)
 shape_of tracked c small =
     let shape : ℕ → ℕ → BgpShape =
-    λ origin len. record (own_shape tracked (route_shape tracked (record c { origin = origin }))) { cluster_len = len } in
+    λ origin len.
+    record (own_shape tracked (route_shape tracked (record c { origin = origin }))) { cluster_len = len } in
     ap (λ n. shape n 0) (origin_again c.origin small)
     ∙ ap (shape (origin_code (origin_of_code c.origin))) (sym saturated-none)
 
@@ -112,33 +112,6 @@ pub local_left : (origin : Origin) (through : Attributes → Option Attributes) 
     (through (attributes_of (local_route origin med)))) metric
 local_left origin through None = refl
 local_left origin through (Some med) = refl
-
--- ---- the nodes of a record
-
-parts : (a b n : ℕ) → max a b ≤ n → (a ≤ n) × (b ≤ n)
-parts a b n h = (omega arith, omega arith)
-
-seen_parts : (p q d c t n : ℕ) → max (max p q) (max d (max c t)) ≤ n
-    → ((p ≤ n) × (q ≤ n)) × ((d ≤ n) × (c ≤ n))
-seen_parts p q d c t n h =
-    let both = parts (max p q) (max d (max c t)) n h in
-    let second = parts d (max c t) n both.1 in
-    (parts p q n both.0, (second.0, (parts c t n second.1).0))
-
-kept_parts : (h o f e n : ℕ) → max (max h o) (max f e) ≤ n → ((h ≤ n) × (o ≤ n)) × ((f ≤ n) × (e ≤ n))
-kept_parts h o f e n within =
-    let both = parts (max h o) (max f e) n within in
-    (parts h o n both.0, parts f e n both.1)
-
--- a store that has all nodes of a record has those of its route
-pub record_end : (rec : SymMapRec) (n : ℕ) → map_rec_end rec ≤ n → bgp_end rec.bgp ≤ n
-record_end rec n h =
-    let there = parts (rec.bgp.valid.0 + 1) (max (seen_end rec) (kept_end rec)) n h in
-    let both = parts (seen_end rec) (kept_end rec) n there.1 in
-    let seen = seen_parts _ _ _ _ _ n both.0 in
-    let kept = kept_parts _ _ _ _ n both.1 in
-    max-le (max-le (max-le there.0 seen.0.0) seen.0.1)
-    (max-le seen.1.0 (max-le (max-le seen.1.1 kept.0.0) (max-le (max-le kept.0.1 kept.1.0) kept.1.1)))
 
 -- ---- lines
 

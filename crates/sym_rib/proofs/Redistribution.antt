@@ -1,14 +1,12 @@
 -- What a line takes into OSPF, from the terms of a slot and from the slot for which they stand.
-use Rattle.std.proofs.Common.{◌≡◌, ℕ, ◌<◌, ◌^◌, Bool, true, false, not, ◌&&◌, ◌||◌, if◌then◌else◌, Option, Some}
+use Rattle.std.proofs.Common.{◌≡◌, ℕ, Bool, true, false, not, ◌&&◌, ◌||◌, if◌then◌else◌, Option, Some}
 use Rattle.std.proofs.Common.{None}
-use Rattle.std.proofs.Common.{refl, ap, ◌∙◌, ◌≤◌, length, subst, arith}
-use Rattle.std.specs.Prelude.{◌==◌, IfSome}
+use Rattle.std.proofs.Common.{refl, ap, ◌∙◌, ◌≤◌, arith}
+use Rattle.std.specs.Prelude.{◌==◌}
 use Rattle.std.specs.Option.{option_and_then, option_map, option_map_or}
 use Rattle.mw_text.specs.declared.address.Prefix.{Prefix}
 use Rattle.ios_ast.specs.declared.ospf.DefaultOrigin.{DefaultOrigin}
 use Rattle.ios_ast.specs.declared.ospf.Redist.{Redist}
-use Rattle.ios_ast.specs.declared.ospf.Source.{Source}
-use Rattle.ios_ast.specs.declared.ospf.Source.TheVariants as source
 use Rattle.ios_ast.specs.Setting.{Attributes}
 use Rattle.route_record.specs.declared.BgpRec.{BgpRec}
 use Rattle.route_record.specs.declared.OspfRec.{OspfRec}
@@ -16,14 +14,9 @@ use Rattle.route_record.specs.declared.RibEntry.{RibEntry}
 use Rattle.route_record.specs.declared.Slot.{Slot}
 use Rattle.route_record.specs.declared.tracked.Tracked.{Tracked}
 use Rattle.net_parts.specs.Origins.{external_record, is_ospf_entry, is_taken, originated_default, plain_route}
-use Rattle.net_parts.specs.Origins.{redistributed_route}
-use Rattle.sym_policy.specs.declared.records.SymBgp.{SymBgp}
-use Rattle.sym_policy.specs.Held.{StandsForBgp, bgp_at, kind_of_number}
+use Rattle.sym_policy.specs.Held.{kind_of_number}
 use Rattle.route_shapes.specs.Bgp.{BgpShape, bgp_shape}
 use Rattle.route_shapes.specs.Shapes.{RouteShape, route_shape}
-use Rattle.term_store.specs.Terms.{Reading, at}
-use Rattle.term_arith.specs.Bits.{number}
-use Rattle.term_arith.proofs.NumberLemmas.{number_below}
 use Rattle.sym_rib.specs.Brought.{external_of}
 use Rattle.sym_rib.specs.Into.{seen_of_bgp}
 

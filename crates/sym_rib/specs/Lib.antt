@@ -3,7 +3,6 @@ pub mod Into
 pub mod IntoBgp
 pub mod Known
 pub mod KnownParts
-pub mod Mapped
 pub mod Slots
 pub mod Sources
 pub mod Worlds

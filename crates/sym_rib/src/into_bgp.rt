@@ -27,14 +27,13 @@ use crate::metric::SymMetric;
 use crate::metrics::{metric_where, named_metric, sym_entry_metric, sym_taken_metric};
 use crate::prefixes::sym_same_prefix;
 use crate::slots::SymSlot;
-use crate::through::sym_through;
 use ios_ast::{Bgp, BgpNet, File, Redist, Use};
 use mw_text::List;
 use net_model::Net;
 use net_parts::ends::file_of;
-use route_record::{Origin, Tracked};
+use route_record::{Origin, Side, Tracked};
 use std::alloc::{AllocError, Global};
-use sym_policy::{SymBgp, SymMapRec};
+use sym_policy::{SymBgp, SymMapRec, sym_through};
 use term_arith::Bits;
 use term_arith::gates::is_never;
 use term_store::{NodeId, Terms};
@@ -93,6 +92,7 @@ fn mapped_bgp(
         dst,
         len,
         before,
+        Side::Redistribution,
     )?;
     let SymMapRec { bgp, .. } = left;
     Ok(bgp)

@@ -25,14 +25,13 @@ use crate::brought::SymBrought;
 use crate::known::{held_parts, known_rec, put_held, word};
 use crate::prefixes::sym_classful;
 use crate::slots::{SymRib, SymSlot};
-use crate::through::sym_through;
 use ios_ast::{DefaultOrigin, File, Ospf, Redist, Source};
 use mw_text::List;
 use net_model::Net;
 use net_parts::ends::file_of;
-use route_record::{Origin, Tracked};
+use route_record::{Origin, Side, Tracked};
 use std::alloc::{AllocError, Global};
-use sym_policy::{SymBgp, SymMapRec, SymOspf};
+use sym_policy::{SymBgp, SymMapRec, SymOspf, sym_through};
 use term_arith::gates::{both, constant_node, negate};
 use term_arith::{Bits, choose, constant, equal_number};
 use term_store::{NodeId, Terms};
@@ -267,6 +266,7 @@ fn left_part(
         dst,
         len,
         seen,
+        Side::Redistribution,
     )?;
     Ok(SymBrought {
         valid: left.bgp.valid,

@@ -20,7 +20,6 @@ pub mod prefixes;
 mod ribs;
 mod slots;
 mod statics;
-mod through;
 
 pub use entry::sym_entry;
 pub use into_bgp::sym_originate;

@@ -7,11 +7,12 @@ use Rattle.net_parts.specs.Origins.{local_route}
 use Rattle.route_shapes.specs.Bgp.{bgp_shape}
 use Rattle.sym_policy.specs.Records.{prefix_of}
 use Rattle.sym_rib.specs.IntoBgp.{metric_of}
-use Rattle.sym_rib.proofs.LocalRoutes.{local_code, local_left, own_kept, record_end, record_stands}
+use Rattle.sym_policy.proofs.SameNodes.{bgp_within}
+use Rattle.sym_rib.proofs.LocalRoutes.{local_code, local_left, own_kept, record_stands}
 use Rattle.sym_rib.proofs.into_bgp.mapped_bgp.Goals as goal
 
 pub returns-clause-within : goal.returns-clause-within
-returns-clause-within c = record_end c.in_ok-left.left _ c.in_ok-left.ensures.within
+returns-clause-within c = bgp_within c.in_ok-left.left _ c.in_ok-left.ensures.within
 
 pub returns-clause-value : goal.returns-clause-value
 returns-clause-value c = λ w reads all.
@@ -28,5 +29,5 @@ returns-clause-value c = λ w reads all.
     record_stands w tracked c.in_ok-left.left (option_and_then (through_map policies used p false) seen)
     (own_kept w tracked c.in_ok-before.before c.in_ok-left.left left.rest (before.own w before_left))
     (local_code policies used p origin metric)
-    (left.value w reads seen all (before.value w before_left))
+    (left.stands w reads seen all (before.value w before_left))
     ∙ ap (option_map (bgp_shape tracked)) (local_left origin (through_map policies used p false) metric)

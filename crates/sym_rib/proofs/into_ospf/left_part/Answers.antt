@@ -19,4 +19,4 @@ returns-clause-value c = λ w reads held all stands.
     let route = redistributed_route line held in
     made_of tracked (at w rec.bgp.valid) (attributes_at w rec)
     (option_and_then (through_map c.args.file.now.policies line.map p false) route)
-    (left.value w reads route all (seen.value w (left.builds.reads w reads) held stands))
+    (left.stands w reads route all (seen.value w (left.builds.reads w reads) held stands))

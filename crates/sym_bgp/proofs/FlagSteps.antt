@@ -1,0 +1,127 @@
+-- Flags beside keys, one after another.
+use Rattle.std.proofs.Common.{◌≡◌, ℕ, zero, suc, ◌+◌, ◌<◌, ◌≤◌, ◌&&◌, ◌||◌, Bool, true, false, not, List, [], ◌∷◌, ◌++◌}
+use Rattle.std.proofs.Common.{length, drop, get_or, map, fold, refl, sym, ap, ◌∙◌, arith}
+use Rattle.std.proofs.lemmas.Grind.{common_steps}
+use Rattle.std.proofs.lemmas.List.{append-nil, drop_all, drop_more}
+use Rattle.term_store.specs.declared.NodeId.{NodeId}
+use Rattle.term_store.specs.Terms.{Reading, at}
+use Rattle.term_arith.specs.Bits.{bits}
+use Rattle.term_arith.proofs.NumberLemmas.{node_steps}
+use Rattle.net_parts.specs.declared.steps.Step.{Step}
+use Rattle.net_parts.specs.declared.steps.Step.TheVariants.{Weight, Preference, Origination, PathLength, Origin, Med}
+use Rattle.net_parts.specs.declared.steps.Step.TheVariants.{Session, Cost, Identifier, Clusters, Address}
+use Rattle.net_parts.specs.Decisions.{Key, removes}
+use Rattle.bgp_shapes.specs.Flags.{any_flagged, left, left_of}
+use Rattle.bgp_shapes.specs.Numbers.{best_of, compared_number, compares_all, is_greater_better, kept_by}
+use Rattle.bgp_shapes.proofs.NumberLaw.{kept_left}
+use Rattle.sym_bgp.specs.declared.parts.SymKey.{SymKey}
+use Rattle.sym_bgp.specs.Keys.{key_at, keys_at}
+use Rattle.sym_bgp.proofs.BestSteps.{keys_end_at, row_push}
+
+-- a test of one more of what is flagged
+pub flagged_more : {X Y : Type 0} (w : Reading) (f : X → Y) (test : Y → Bool) (flags : List NodeId) (xs : List X)
+    (i : ℕ) (d : NodeId) (e : X) → i < length flags → i < length xs →
+    any_flagged test (bits w (drop i flags)) (map f (drop i xs))
+    ≡ ((at w (get_or flags i d) && test (f (get_or xs i e)))
+    || any_flagged test (bits w (drop (i + 1) flags)) (map f (drop (i + 1) xs)))
+flagged_more w f test flags xs i d e in_flags in_xs =
+    ap (λ fs. any_flagged test (bits w fs) (map f (drop i xs))) (drop_more flags i d in_flags)
+    ∙ ap (λ ys. any_flagged test (bits w (get_or flags i d ∷ drop (i + 1) flags)) (map f ys)) (drop_more xs i e in_xs)
+
+pub flagged_end : {X Y : Type 0} (w : Reading) (f : X → Y) (test : Y → Bool) (flags : List NodeId) (xs : List X)
+    (i : ℕ) → length flags ≤ i → any_flagged test (bits w (drop i flags)) (map f (drop i xs)) ≡ false
+flagged_end w f test flags xs i past =
+    ap (λ fs. any_flagged test (bits w fs) (map f (drop i xs))) (drop_all i flags past)
+
+-- one more key that may remove by its MED. The first half shows which
+pub removed_at : (w : Reading) (c : Key) (flags : List NodeId) (keys : List SymKey) (i : ℕ) (d : NodeId) (e : SymKey) →
+    i < length flags → i < length keys →
+    ((at w (get_or flags i d) && removes false Med c (key_at w (get_or keys i e)))
+    ≡ (at w (get_or flags i d) && removes false Med c (key_at w (get_or keys i e))))
+    × (any_flagged (removes false Med c) (bits w (drop i flags)) (keys_at w (drop i keys))
+    ≡ ((at w (get_or flags i d) && removes false Med c (key_at w (get_or keys i e)))
+    || any_flagged (removes false Med c) (bits w (drop (i + 1) flags)) (keys_at w (drop (i + 1) keys))))
+removed_at w c flags keys i d e in_flags in_keys =
+    (refl, flagged_more w (key_at w) (removes false Med c) flags keys i d e in_flags in_keys)
+
+pub removed_end : (w : Reading) (c : Key) (flags : List NodeId) (keys : List SymKey) (i : ℕ) → length flags ≤ i →
+    any_flagged (removes false Med c) (bits w (drop i flags)) (keys_at w (drop i keys)) ≡ false
+removed_end w c flags keys i past = flagged_end w (key_at w) (removes false Med c) flags keys i past
+
+pub ruleset removed_steps = (node_steps, common_steps, keys_end_at, removed_at, removed_end)
+
+-- one more flag after the step of the MED. The first half shows which
+pub left_at : (w : Reading) (all : List Bool) (ks : List Key) (flags : List NodeId) (keys : List SymKey) (i : ℕ)
+    (d : NodeId) (e : SymKey) → i < length flags → i < length keys →
+    ((at w (get_or flags i d) && not (any_flagged (removes false Med (key_at w (get_or keys i e))) all ks))
+    ≡ (at w (get_or flags i d) && not (any_flagged (removes false Med (key_at w (get_or keys i e))) all ks)))
+    × (left_of false Med all ks (bits w (drop i flags)) (keys_at w (drop i keys))
+    ≡ (at w (get_or flags i d) && not (any_flagged (removes false Med (key_at w (get_or keys i e))) all ks))
+    ∷ left_of false Med all ks (bits w (drop (i + 1) flags)) (keys_at w (drop (i + 1) keys)))
+left_at w all ks flags keys i d e in_flags in_keys = (
+  refl,
+  ap (λ fs. left_of false Med all ks (bits w fs) (keys_at w (drop i keys))) (drop_more flags i d in_flags)
+      ∙ ap (λ xs. left_of false Med all ks (bits w (get_or flags i d ∷ drop (i + 1) flags)) (keys_at w xs))
+      (drop_more keys i e in_keys),
+)
+
+pub left_end : (w : Reading) (all : List Bool) (ks : List Key) (flags : List NodeId) (keys : List SymKey) (i : ℕ) →
+    length flags ≤ i → left_of false Med all ks (bits w (drop i flags)) (keys_at w (drop i keys)) ≡ []
+left_end w all ks flags keys i past =
+    ap (λ fs. left_of false Med all ks (bits w fs) (keys_at w (drop i keys))) (drop_all i flags past)
+
+pub ruleset left_steps = (node_steps, keys_end_at, left_at, left_end, row_push, append-nil)
+
+-- a step that does not compare all is that of the MED within one neighbouring AS
+pub med_left : (always : Bool) (s : Step) (flags : List Bool) (keys : List Key) → compares_all always s ≡ false →
+    left false keys flags Med ≡ left always keys flags s
+med_left always Weight flags keys differs = cc
+med_left always Preference flags keys differs = cc
+med_left always Origination flags keys differs = cc
+med_left always PathLength flags keys differs = cc
+med_left always Origin flags keys differs = cc
+med_left always Med flags keys differs = ap (λ b. left b keys flags Med) (sym differs)
+med_left always Session flags keys differs = cc
+med_left always Cost flags keys differs = cc
+med_left always Identifier flags keys differs = cc
+med_left always Clusters flags keys differs = cc
+med_left always Address flags keys differs = cc
+
+pub best_left : (always : Bool) (s : Step) (flags : List Bool) (keys : List Key) → compares_all always s ≡ true →
+    kept_by (is_greater_better s) (best_of (is_greater_better s) flags (map (compared_number s) keys)) flags
+    (map (compared_number s) keys)
+    ≡ left always keys flags s
+best_left always s flags keys all = kept_left always s flags keys all
+
+pub ruleset step_left = (med_left, best_left)
+
+-- one step of those that are left. The first half shows which
+pub fold_more : (always : Bool) (keys : List Key) (flags : List Bool) (steps : List Step) (i : ℕ) (d : Step) →
+    i < length steps →
+    (left always keys flags (get_or steps i d) ≡ left always keys flags (get_or steps i d))
+    × (fold (left always keys) flags (drop i steps)
+    ≡ fold (left always keys) (left always keys flags (get_or steps i d)) (drop (i + 1) steps))
+fold_more always keys flags steps i d within = (refl, ap (fold (left always keys) flags) (drop_more steps i d within))
+
+pub fold_end : (always : Bool) (keys : List Key) (flags : List Bool) (steps : List Step) (i : ℕ) → length steps ≤ i →
+    fold (left always keys) flags (drop i steps) ≡ flags
+fold_end always keys flags steps i past = ap (fold (left always keys) flags) (drop_all i steps past)
+
+pub ruleset fold_steps = (common_steps, fold_more, fold_end)
+
+-- one more key that may be external. The first half shows which
+pub external_at : (w : Reading) (flags : List NodeId) (keys : List SymKey) (i : ℕ) (d : NodeId) (e : SymKey) →
+    i < length flags → i < length keys →
+    ((at w (get_or flags i d) && (key_at w (get_or keys i e)).external)
+    ≡ (at w (get_or flags i d) && (key_at w (get_or keys i e)).external))
+    × (any_flagged (λ (k : Key). k.external) (bits w (drop i flags)) (keys_at w (drop i keys))
+    ≡ ((at w (get_or flags i d) && (key_at w (get_or keys i e)).external)
+    || any_flagged (λ (k : Key). k.external) (bits w (drop (i + 1) flags)) (keys_at w (drop (i + 1) keys))))
+external_at w flags keys i d e in_flags in_keys =
+    (refl, flagged_more w (key_at w) (λ (k : Key). k.external) flags keys i d e in_flags in_keys)
+
+pub external_end : (w : Reading) (flags : List NodeId) (keys : List SymKey) (i : ℕ) → length flags ≤ i →
+    any_flagged (λ (k : Key). k.external) (bits w (drop i flags)) (keys_at w (drop i keys)) ≡ false
+external_end w flags keys i past = flagged_end w (key_at w) (λ (k : Key). k.external) flags keys i past
+
+pub ruleset external_steps = (node_steps, common_steps, keys_end_at, external_at, external_end)

@@ -1,0 +1,6 @@
+pub mod Marks
+pub mod Addresses
+pub mod BestSteps
+pub mod FlagSteps
+pub mod HeldSteps
+pub mod JoinedRoutes

@@ -1,0 +1,53 @@
+-- Routes of what route maps see of them and of the rest.
+use Rattle.std.specs.Prelude.{◌≡◌, ℕ, Bool, List, Option, length, option_map}
+use Rattle.term_store.specs.Terms.{Reading}
+use Rattle.term_arith.specs.Bits.{bits, number}
+use Rattle.mw_text.specs.declared.address.Prefix.{Prefix}
+use Rattle.ios_ast.specs.declared.file.Use.{Use}
+use Rattle.ios_ast.specs.declared.policies.Policies.{Policies}
+use Rattle.route_record.specs.declared.tracked.Tracked.{Tracked}
+use Rattle.route_shapes.specs.Bgp.{BgpShape}
+use Rattle.route_shapes.specs.Shapes.{RouteShape, shape_through_map}
+use Rattle.bgp_shapes.specs.Messages.{seen_by_maps, with_seen}
+use Rattle.sym_policy.specs.declared.parts.SymRest.{SymRest}
+use Rattle.sym_policy.specs.declared.records.SymBgp.{SymBgp}
+
+-- what no map sees of a route
+pub record RestShape : Type 0 where
+  pub next_hop : ℕ
+  pub originator : ℕ
+  pub from : ℕ
+  pub cluster_len : ℕ
+  pub clusters : List Bool
+
+abbrev pub rest_at : Reading → SymRest → RestShape
+rest_at w s = record {
+  next_hop = number w s.next_hop.nodes.items;
+  originator = number w s.originator.nodes.items;
+  from = number w s.from.nodes.items;
+  cluster_len = number w s.cluster_len.nodes.items;
+  clusters = bits w s.clusters.nodes.items;
+}
+
+abbrev pub with_rest : RouteShape → RestShape → BgpShape
+with_rest seen rest = record {
+  preferences = seen.preferences;
+  path = seen.path;
+  communities = seen.communities;
+  next_hop = rest.next_hop;
+  originator = rest.originator;
+  from = rest.from;
+  cluster_len = rest.cluster_len;
+  clusters = rest.clusters;
+}
+
+-- there is one node for each tracked value
+pub record HasMarks (tracked : Tracked) (s : SymBgp) : Type 0 where
+  pub numbers : length s.numbers.nodes.items ≡ length tracked.numbers
+  pub communities : length s.communities.nodes.items ≡ length tracked.communities
+  pub clusters : length s.clusters.nodes.items ≡ length tracked.clusters
+
+-- a route as the map leaves it that is applied, if one is
+abbrev pub shape_through : Tracked → Policies → Option Use → Prefix → Bool → BgpShape → Option BgpShape
+shape_through tracked policies used p external s =
+    option_map (with_seen s) (shape_through_map tracked policies used p external (seen_by_maps s))

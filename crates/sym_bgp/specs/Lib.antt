@@ -1,0 +1,4 @@
+pub mod Keys
+pub mod Candidates
+pub mod Best
+pub mod Joined

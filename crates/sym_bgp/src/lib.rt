@@ -1,0 +1,18 @@
+//! BGP as terms over Boolean variables: whether a route is held, by the decision process.
+//!
+//! Under every reading of the store a symbolic route is the shape of a plain one (`sym_policy`), and a call here reads
+//! as the function on shapes of its name (`bgp_shapes`), whose laws say what it stands for.
+#![tactic(auto)]
+
+mod candidates;
+mod lists;
+mod numbers;
+mod parts;
+mod routers;
+mod same;
+mod steps;
+mod survives;
+mod through;
+
+pub use parts::SymCand;
+pub use survives::sym_survives;
