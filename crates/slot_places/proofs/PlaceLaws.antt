@@ -171,8 +171,8 @@ places-ascend lens (suc n) pairs =
     between : (p : Place) → In p (places_below lens n) → All (IsBefore p) (map (place n) lens)
     between p there = all-from-in (IsBefore p) (map (place n) lens) (λ q here. by q (in-map (place n) lens q here))
       where
-      by : (q : Place) → (len : ℕ) × In len lens × (q ≡ place n len) → IsBefore p q
-      by q (len, here, is) = subst (IsBefore p) (sym is) (inl (in-places lens n p there).0)
+        by : (q : Place) → (len : ℕ) × In len lens × (q ≡ place n len) → IsBefore p q
+        by q (len, here, is) = subst (IsBefore p) (sym is) (inl (in-places lens n p there).0)
 
 -- ---- which places there are, as a test
 

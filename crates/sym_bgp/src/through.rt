@@ -16,7 +16,9 @@ ghost use Rattle.sym_bgp.specs.Joined.{HasMarks, shape_through};
 use ios_ast::{Policies, Use};
 use route_record::{Side, Tracked};
 use std::alloc::{AllocError, Global};
-use sym_policy::{SymBgp, SymMapRec, SymRoute, joined, path_of, preferences_of, rest_of, sym_through};
+use sym_policy::{
+    SymBgp, SymMapRec, SymRoute, joined, path_of, preferences_of, rest_of, sym_through,
+};
 use term_arith::gates::constant_node;
 use term_arith::{Bits, copy};
 use term_store::{NodeId, Terms};
@@ -115,9 +117,7 @@ pub(crate) fn sym_mapped(
         ≡ option_and_then (shape_through tracked.now policies.now used.now (prefix_of w dst.now len) (at_external side))
         (bgp_of w rec.bgp)) }
 {
-    let left = sym_through(
-        alloc, terms, tracked, policies, used, dst, len, rec, side,
-    )?;
+    let left = sym_through(alloc, terms, tracked, policies, used, dst, len, rec, side)?;
     let SymMapRec { bgp, .. } = left;
     Ok(bgp)
 }

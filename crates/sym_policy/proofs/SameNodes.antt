@@ -216,31 +216,31 @@ pub path_within : (held : SymBgp) (s : SymPath) (n : ℕ) → HasPath held.len h
     bgp_end held ≤ n → path_end s ≤ n
 path_within held s n h within =
     let end : max (max (ids_end held.len.nodes.items) (ids_end held.first.nodes.items))
-        (max (ids_end held.last.nodes.items) (ids_end held.numbers.nodes.items)) ≡ path_end s =
+    (max (ids_end held.last.nodes.items) (ids_end held.numbers.nodes.items)) ≡ path_end s =
     λ i.
-        max (max (ids_end (sym h.len i)) (ids_end (sym h.first i)))
-        (max (ids_end (sym h.last i)) (ids_end (sym h.numbers i))) in
+    max (max (ids_end (sym h.len i)) (ids_end (sym h.first i)))
+    (max (ids_end (sym h.last i)) (ids_end (sym h.numbers i))) in
     subst (λ (k : ℕ). k ≤ n) end (parts _ _ n (parts _ _ n within).1).0
 
 pub preferences_within : (held : SymBgp) (s : SymPreferences) (n : ℕ) →
     HasPreferences held.weight held.local_pref held.med held.origin s → bgp_end held ≤ n → preferences_end s ≤ n
 preferences_within held s n h within =
     let end : max (max (ids_end held.weight.nodes.items) (ids_end held.local_pref.nodes.items))
-        (max (ids_end held.med.nodes.items) (ids_end held.origin.nodes.items)) ≡ preferences_end s =
+    (max (ids_end held.med.nodes.items) (ids_end held.origin.nodes.items)) ≡ preferences_end s =
     λ i.
-        max (max (ids_end (sym h.weight i)) (ids_end (sym h.local_pref i)))
-        (max (ids_end (sym h.med i)) (ids_end (sym h.origin i))) in
+    max (max (ids_end (sym h.weight i)) (ids_end (sym h.local_pref i)))
+    (max (ids_end (sym h.med i)) (ids_end (sym h.origin i))) in
     let first = parts _ _ n (parts _ _ n within).0 in
     subst (λ (k : ℕ). k ≤ n) end (max-le (parts _ _ n first.0).1 first.1)
 
 pub rest_within : (held : SymBgp) (s : SymRest) (n : ℕ) → IsRest held s → bgp_end held ≤ n → rest_end s ≤ n
 rest_within held s n h within =
     let end : max (max (ids_end held.next_hop.nodes.items) (ids_end held.originator.nodes.items))
-        (max (ids_end held.from.nodes.items)
-        (max (ids_end held.cluster_len.nodes.items) (ids_end held.clusters.nodes.items))) ≡ rest_end s =
+    (max (ids_end held.from.nodes.items)
+    (max (ids_end held.cluster_len.nodes.items) (ids_end held.clusters.nodes.items))) ≡ rest_end s =
     λ i.
-        max (max (ids_end (sym h.next_hop i)) (ids_end (sym h.originator i)))
-        (max (ids_end (sym h.from i)) (max (ids_end (sym h.cluster_len i)) (ids_end (sym h.clusters i)))) in
+    max (max (ids_end (sym h.next_hop i)) (ids_end (sym h.originator i)))
+    (max (ids_end (sym h.from i)) (max (ids_end (sym h.cluster_len i)) (ids_end (sym h.clusters i)))) in
     let others = parts _ _ n (parts _ _ n (parts _ _ n within).1).1 in
     let hop = parts _ _ n others.0 in
     let behind = parts _ _ n others.1 in

@@ -6,7 +6,7 @@ pub returns-clause-comes_from : goal.returns-clause-comes_from
 returns-clause-comes_from c files destinations destination failures environment tables len router slot held covered
     stable costs short here holds =
     let from = held_known files destinations destination failures environment tables stable covered costs len short
-        router slot held here holds in
+    router slot held here holds in
     (from.origin, in-contains from.origin _ from.there, from.kind, from.metric)
 
 pub returns-clause-cost : goal.returns-clause-cost
