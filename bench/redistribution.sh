@@ -25,7 +25,7 @@ measured "the office, twelve questions" "$office/questions.txt" "$office/edge.cf
 mkdir "$dir/ring"
 for at in $(seq 0 15); do
     {
-        printf 'hostname R%s\n' "$at"
+        printf 'hostname ring-%s\n' "$at"
         for side in 1 2; do
             link=$(((at + 16 + 1 - side) % 16))
             printf 'interface GigabitEthernet0/%s\n ip address 10.200.%s.%s 255.255.255.252\n' "$side" "$link" "$side"
@@ -40,7 +40,7 @@ for at in $(seq 0 15); do
         printf ' network 10.0.0.0 0.255.255.255 area 0\n'
     } >"$dir/ring/r$(printf %02d "$at").cfg"
 done
-echo 'g1 reach from R1 to router R8 packets ip any any 10.100.8.1/32 any failures 1' >"$dir/loopback"
-echo 'g1 noblackhole from R8 packets ip any any 172.16.0.0/16 any failures 1' >"$dir/static"
+echo 'g1 reach from ring-1 to router ring-8 packets ip any any 10.100.8.1/32 any failures 1' >"$dir/loopback"
+echo 'g1 noblackhole from ring-8 packets ip any any 172.16.0.0/16 any failures 1' >"$dir/static"
 measured "the ring of 16, to a loopback" "$dir/loopback" "$dir"/ring/*.cfg
 measured "the ring of 16, to the redistributed route" "$dir/static" "$dir"/ring/*.cfg
