@@ -4,3 +4,4 @@ pub mod BestSteps
 pub mod FlagSteps
 pub mod HeldSteps
 pub mod JoinedRoutes
+pub mod TakenIn

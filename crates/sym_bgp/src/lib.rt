@@ -5,6 +5,7 @@
 #![tactic(auto)]
 
 mod candidates;
+mod importing;
 mod lists;
 mod numbers;
 mod parts;
