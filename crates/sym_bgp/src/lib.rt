@@ -15,5 +15,6 @@ mod steps;
 mod survives;
 mod through;
 
+pub use importing::sym_import;
 pub use parts::SymCand;
 pub use survives::sym_survives;
