@@ -5,3 +5,4 @@ pub mod FlagSteps
 pub mod HeldSteps
 pub mod JoinedRoutes
 pub mod TakenIn
+pub mod WaySteps

@@ -14,6 +14,7 @@ mod same;
 mod steps;
 mod survives;
 mod through;
+mod ways;
 
 pub use importing::sym_import;
 pub use parts::SymCand;
