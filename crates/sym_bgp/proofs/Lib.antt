@@ -6,3 +6,5 @@ pub mod HeldSteps
 pub mod JoinedRoutes
 pub mod TakenIn
 pub mod WaySteps
+pub mod MetricSteps
+pub mod Sent

@@ -7,6 +7,8 @@
 mod candidates;
 mod importing;
 mod lists;
+mod messages;
+mod metrics;
 mod numbers;
 mod parts;
 mod routers;
