@@ -4,3 +4,7 @@ pub mod BestSteps
 pub mod FlagSteps
 pub mod HeldSteps
 pub mod JoinedRoutes
+pub mod TakenIn
+pub mod WaySteps
+pub mod MetricSteps
+pub mod Sent

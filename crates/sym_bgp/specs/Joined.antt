@@ -29,6 +29,15 @@ rest_at w s = record {
   clusters = bits w s.clusters.nodes.items;
 }
 
+abbrev pub rest_of_shape : BgpShape → RestShape
+rest_of_shape s = record {
+  next_hop = s.next_hop;
+  originator = s.originator;
+  from = s.from;
+  cluster_len = s.cluster_len;
+  clusters = s.clusters;
+}
+
 abbrev pub with_rest : RouteShape → RestShape → BgpShape
 with_rest seen rest = record {
   preferences = seen.preferences;

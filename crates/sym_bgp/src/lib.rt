@@ -5,7 +5,10 @@
 #![tactic(auto)]
 
 mod candidates;
+mod importing;
 mod lists;
+mod messages;
+mod metrics;
 mod numbers;
 mod parts;
 mod routers;
@@ -13,6 +16,8 @@ mod same;
 mod steps;
 mod survives;
 mod through;
+mod ways;
 
+pub use importing::sym_import;
 pub use parts::SymCand;
 pub use survives::sym_survives;

@@ -85,3 +85,23 @@ pub(crate) struct SymBest {
     pub there: NodeId,
     pub number: Bits,
 }
+
+/// How a route goes on that was learnt over an end that is known: whether it may go, whether it gets the own address as
+/// next hop over an internal session, whether it is reflected, and the identifier of the peer from which it came.
+#[derive(Clone, Copy)]
+pub(crate) struct Way {
+    pub may: bool,
+    pub own_hop: bool,
+    pub reflected: bool,
+    pub peer: u32,
+}
+
+/// How a route goes on, as terms.
+#[derive(Drop)]
+pub(crate) struct SymCrossing {
+    pub may: NodeId,
+    pub own_hop: NodeId,
+    pub reflected: NodeId,
+    pub peer: Bits,
+    pub ghost peer_wide: { length peer.nodes.items ≡ 32 },
+}

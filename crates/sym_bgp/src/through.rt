@@ -25,7 +25,7 @@ use term_store::{NodeId, Terms};
 
 /// A copy of what route maps see of a route.
 #[tactic(auto, using(crate::proofs::JoinedRoutes::route_steps))]
-fn seen_of(
+pub(crate) fn seen_of(
     alloc: Global,
     terms: &mut Terms,
     tracked: &Tracked,
