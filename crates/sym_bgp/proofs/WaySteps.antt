@@ -55,4 +55,3 @@ pub way_end : (files : List File) (process : Bgp) (neighbour : Neighbour) (end :
     ≡ crossing files process neighbour end (find (is_from files end.router n) (drop i ends))
 way_end files process neighbour end n ends i past =
     ap (λ xs. crossing files process neighbour end (find (is_from files end.router n) xs)) (sym (drop_all i ends past))
-

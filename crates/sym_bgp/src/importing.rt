@@ -30,8 +30,9 @@ use net_parts::ends::{file_of, neighbour_of};
 use net_parts::router_ids::router_id;
 use route_record::Tracked;
 use std::alloc::{AllocError, Global};
-use sym_policy::{SymBgp, SymMapRec, SymPreferences, SymRest, SymRoute};
-use sym_policy::{joined, path_of, rest_of, sym_marked};
+use sym_policy::{
+    SymBgp, SymMapRec, SymPreferences, SymRest, SymRoute, joined, path_of, rest_of, sym_marked,
+};
 use term_arith::gates::{both, constant_node, negate};
 use term_arith::{Bits, above_number, constant, copy, equal_number};
 use term_store::{NodeId, Terms};
@@ -66,7 +67,12 @@ fn sym_goes_straight(
         && nat_le (bgp_at w message.now).path.len exports.most_numbers)) }
 {
     let numbers = tracked.numbers.as_slice();
-    let own = sym_marked(terms, numbers, message.numbers.nodes.as_slice(), process.asn)?;
+    let own = sym_marked(
+        terms,
+        numbers,
+        message.numbers.nodes.as_slice(),
+        process.asn,
+    )?;
     let other = negate(terms, own)?;
     let short = sym_is_short(terms, &message.len)?;
     both(terms, other, short)
@@ -182,9 +188,13 @@ fn sym_takes_in(
         && shape_passes_paths tracked.now file.now.policies neighbour.now.filter_in (bgp_at w message.now).path))) }
 {
     let router = end.router;
-    let acceptable = sym_is_acceptable(alloc, terms, tracked, files, router, process, own, message)?;
+    let acceptable = sym_is_acceptable(
+        alloc, terms, tracked, files, router, process, own, message,
+    )?;
     let policies = &file.policies;
-    let passes = sym_passes_lists(alloc, terms, tracked, policies, neighbour, dst, len, message)?;
+    let passes = sym_passes_lists(
+        alloc, terms, tracked, policies, neighbour, dst, len, message,
+    )?;
     let taken = both(terms, acceptable, passes)?;
     Ok(taken)
 }
@@ -369,7 +379,9 @@ fn sym_taken_in(
     let policies = &file.policies;
     let used = &neighbour.map_in;
     let side = side_of(end);
-    let left = sym_mapped(alloc, terms, tracked, policies, used, dst, len, before, side)?;
+    let left = sym_mapped(
+        alloc, terms, tracked, policies, used, dst, len, before, side,
+    )?;
     let made = if_short(terms, tracked, left)?;
     Ok(made)
 }

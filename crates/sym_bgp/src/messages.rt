@@ -23,8 +23,10 @@ use ios_ast::{Bgp, Neighbour};
 use mw_text::Addr;
 use route_record::Tracked;
 use std::alloc::{AllocError, Global};
-use sym_policy::{SymBgp, SymMapRec, SymPath, SymPreferences, SymRest, SymRoute};
-use sym_policy::{bare_rest, joined, path_of, sym_longer, sym_marks_with, sym_prepended};
+use sym_policy::{
+    SymBgp, SymMapRec, SymPath, SymPreferences, SymRest, SymRoute, bare_rest, joined, path_of,
+    sym_longer, sym_marks_with, sym_prepended,
+};
 use term_arith::gates::{both, constant_node, negate};
 use term_arith::{Bits, choose, constant, copy};
 use term_store::{NodeId, Terms};
@@ -49,7 +51,14 @@ fn sym_sent_marks(
         return copy(alloc, marks);
     }
     let communities = tracked.communities.as_slice();
-    let nodes = sym_marks_with(alloc, terms, communities, &[], false, marks.nodes.as_slice())?;
+    let nodes = sym_marks_with(
+        alloc,
+        terms,
+        communities,
+        &[],
+        false,
+        marks.nodes.as_slice(),
+    )?;
     Ok(Bits { nodes: nodes.items })
 }
 

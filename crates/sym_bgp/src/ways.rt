@@ -184,9 +184,7 @@ pub(crate) fn sym_crossing(
     let mut rest = known_way(alloc, terms, local_way())?;
     for i in (0..ends.len()).rev() {
         let over = &ends[i];
-        let way = way_from(
-            alloc, files, addresses, ends, process, neighbour, end, over,
-        )?;
+        let way = way_from(alloc, files, addresses, ends, process, neighbour, end, over)?;
         rest = way_or(alloc, terms, files, from, end, over, way, &rest)?;
     }
     Ok(rest)

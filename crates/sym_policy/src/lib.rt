@@ -33,4 +33,4 @@ pub use parts::{SymPath, SymPreferences, SymRest, SymRoute};
 pub use prefixes::sym_prefix_list;
 pub use records::{SymBgp, SymMapRec, SymNet, SymOspf, SymPacket};
 pub use sets::{sym_longer, sym_marks_with, sym_prepended};
-pub use through::{map_named, sym_through};
+pub use through::sym_through;

@@ -25,7 +25,7 @@ use term_arith::gates::constant_node;
 use term_store::Terms;
 
 /// The route map of that name.
-pub fn map_named<'a>(policies: &'a Policies, named: &Use) -> Option<&'a RouteMap>
+fn map_named<'a>(policies: &'a Policies, named: &Use) -> Option<&'a RouteMap>
     ensures { option_copied result ≡ find (λ map. same_text map.name named.now.name) policies.now.maps }
 {
     for map in policies.maps.as_slice() {
