@@ -1,5 +1,5 @@
 -- Routes of what route maps see of them and of the rest.
-use Rattle.std.specs.Prelude.{◌≡◌, ℕ, Bool, List, Option, length, option_map}
+use Rattle.std.specs.Prelude.{◌≡◌, ℕ, ◌+◌, ◌^◌, ◌&&◌, Bool, true, if◌then◌else◌, List, [], ◌∷◌, Option, length, option_map}
 use Rattle.term_store.specs.Terms.{Reading}
 use Rattle.term_arith.specs.Bits.{bits, number}
 use Rattle.mw_text.specs.declared.address.Prefix.{Prefix}
@@ -7,8 +7,11 @@ use Rattle.ios_ast.specs.declared.file.Use.{Use}
 use Rattle.ios_ast.specs.declared.policies.Policies.{Policies}
 use Rattle.route_record.specs.declared.tracked.Tracked.{Tracked}
 use Rattle.route_shapes.specs.Bgp.{BgpShape}
-use Rattle.route_shapes.specs.Shapes.{RouteShape, shape_through_map}
-use Rattle.bgp_shapes.specs.Messages.{seen_by_maps, with_seen}
+use Rattle.route_record.specs.Shape.{saturated}
+use Rattle.net_parts.specs.Tracked.{numbers_of}
+use Rattle.route_shapes.specs.Shapes.{RouteShape, marks_with, shape_through_map}
+use Rattle.bgp_shapes.specs.Crossings.{Crossing}
+use Rattle.bgp_shapes.specs.Messages.{lacks_address, seen_by_maps, with_seen}
 use Rattle.sym_policy.specs.declared.parts.SymRest.{SymRest}
 use Rattle.sym_policy.specs.declared.records.SymBgp.{SymBgp}
 
@@ -48,6 +51,16 @@ with_rest seen rest = record {
   from = rest.from;
   cluster_len = rest.cluster_len;
   clusters = rest.clusters;
+}
+
+-- what is sent over an internal session beside what maps see
+abbrev pub rest_sent : Tracked → ℕ → ℕ → Crossing → BgpShape → RestShape
+rest_sent tracked own id x t = record {
+  next_hop = if x.own_hop then own else t.next_hop;
+  originator = if x.reflected && lacks_address t.originator then 2 ^ 32 + x.peer else t.originator;
+  from = 0;
+  cluster_len = if x.reflected then saturated (t.cluster_len + 1) else t.cluster_len;
+  clusters = if x.reflected then marks_with (numbers_of tracked.clusters) (id ∷ []) true t.clusters else t.clusters;
 }
 
 -- there is one node for each tracked value
