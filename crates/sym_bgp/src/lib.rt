@@ -5,6 +5,7 @@
 #![tactic(auto)]
 
 mod candidates;
+mod exporting;
 mod importing;
 mod lists;
 mod messages;
