@@ -156,3 +156,9 @@ sent_by tracked files file process neighbour end p s x valid goes keeps left mad
         ∙ ap (λ b. if b then option_map message (shape_through_map tracked file.policies neighbour.map_out p
         (not end.internal) (seen_by_maps s)) else None) goes_is
     by_valid false = refl
+
+-- two calls that answer the same for a route
+pub same_there : {X Y : Type 0} (f g : X → Option Y) (s : X) (there : Bool) → f s ≡ g s →
+    option_and_then f (if there then Some s else None) ≡ option_and_then g (if there then Some s else None)
+same_there f g s true is = is
+same_there f g s false is = refl

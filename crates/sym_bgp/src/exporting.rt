@@ -301,3 +301,124 @@ fn left_out(
     let left = sym_mapped(alloc, terms, tracked, policies, used, dst, len, before, side)?;
     Ok(left)
 }
+
+/// The message after the outgoing lists and the outgoing map.
+fn sym_sent(
+    alloc: Global,
+    terms: &mut Terms,
+    tracked: &Tracked,
+    files: &[File],
+    addresses: &[Addressed],
+    ends: &[SessionEnd],
+    file: &File,
+    process: &Bgp,
+    neighbour: &Neighbour,
+    end: &SessionEnd,
+    id: Addr,
+    dst: &Bits,
+    len: u8,
+    held: &SymBgp,
+) -> Result<SymBgp, AllocError>
+    requires addresses { addresses.now ≡ addressed files.now }
+    requires ends { ends.now ≡ ends_of files.now }
+    requires id { id ≡ exports.router_id files.now end.now.router }
+    requires long { len ≤ 32 }
+    requires wide { length dst.now.nodes.items ≡ 32 }
+    requires dst { ids_end dst.now.nodes.items ≤ size terms.old }
+    requires marks { HasMarks tracked.now held.now }
+    requires nodes { bgp_end held.now ≤ size terms.old }
+    ensures builds { Builds terms.old terms.new }
+    ensures within { IfOk result (λ r. bgp_end r ≤ size terms.new) }
+    ensures marks { IfOk result (λ r. HasMarks tracked.now r) }
+    ensures value { Gives terms.new result (λ w r. bgp_of w r ≡ option_and_then
+        (exporting.shape_sent tracked.now files.now file.now process.now neighbour.now end.now
+        (prefix_of w dst.now len)) (bgp_of w held.now)) }
+{
+    let own = own_address(files, addresses, end);
+    let from = &held.from;
+    let x = sym_crossing(alloc, terms, files, addresses, ends, process, neighbour, end, from)?;
+    let made = sym_sent_by(
+        alloc, terms, tracked, files, file, process, neighbour, end, own, id, dst, len, held, &x,
+    )?;
+    Ok(made)
+}
+
+/// What the router at an end sends over the session of a route that it holds. `id` is the router's identifier.
+#[tactic(auto, using(crate::proofs::TakenIn::none_taken), unfolding(bgp_shapes::specs::Exporting::shape_exported))]
+fn sym_exported(
+    alloc: Global,
+    terms: &mut Terms,
+    tracked: &Tracked,
+    files: &[File],
+    addresses: &[Addressed],
+    ends: &[SessionEnd],
+    end: &SessionEnd,
+    id: Addr,
+    dst: &Bits,
+    len: u8,
+    held: &SymBgp,
+) -> Result<SymBgp, AllocError>
+    requires addresses { addresses.now ≡ addressed files.now }
+    requires ends { ends.now ≡ ends_of files.now }
+    requires id { id ≡ exports.router_id files.now end.now.router }
+    requires long { len ≤ 32 }
+    requires wide { length dst.now.nodes.items ≡ 32 }
+    requires dst { ids_end dst.now.nodes.items ≤ size terms.old }
+    requires marks { HasMarks tracked.now held.now }
+    requires nodes { bgp_end held.now ≤ size terms.old }
+    ensures builds { Builds terms.old terms.new }
+    ensures within { IfOk result (λ r. bgp_end r ≤ size terms.new) }
+    ensures marks { IfOk result (λ r. HasMarks tracked.now r) }
+    ensures value { Gives terms.new result (λ w r. bgp_of w r
+        ≡ option_and_then (exporting.shape_exported tracked.now files.now end.now (prefix_of w dst.now len))
+        (bgp_of w held.now)) }
+{
+    let Some(file) = file_of(files, end.router) else {
+        return nothing(alloc, terms, tracked, held);
+    };
+    let (Some(process), Some(neighbour)) = (&file.bgp, neighbour_of(files, end)) else {
+        return nothing(alloc, terms, tracked, held);
+    };
+    sym_sent(
+        alloc, terms, tracked, files, addresses, ends, file, process, neighbour, end, id, dst, len, held,
+    )
+}
+
+/// What the router at an end sends over the session of the route that it holds for the prefix of that length of an
+/// address, after the outgoing lists and the outgoing map of the neighbour (RFC 4271, section 9.1.3; RFC 4456; RFC
+/// 1997). There is no message where it sends none: no route is held, a community or the session over which the route
+/// came forbids it, a list denies it or the map drops it. `end` is a place in the network's ends. A message stands by
+/// the route of its fields: without a weight and a peer, with 0 for a local preference or a metric that it does not
+/// carry. The route is to have a node for each value that the network tracks.
+pub fn sym_export(
+    alloc: Global,
+    terms: &mut Terms,
+    net: &Net,
+    end: u32,
+    dst: &Bits,
+    len: u8,
+    held: &SymBgp,
+) -> Result<SymBgp, AllocError>
+    requires end { end < length (ends_of net.now.files) }
+    requires long { len ≤ 32 }
+    requires wide { length dst.now.nodes.items ≡ 32 }
+    requires dst { ids_end dst.now.nodes.items ≤ size terms.old }
+    requires marks { HasMarks net.now.tracked held.now }
+    requires nodes { bgp_end held.now ≤ size terms.old }
+    ensures builds { Builds terms.old terms.new }
+    ensures within { IfOk result (λ r. bgp_end r ≤ size terms.new) }
+    ensures marks { IfOk result (λ r. HasMarks net.now.tracked r) }
+    ensures value { Gives terms.new result (λ w r. bgp_of w r ≡ option_and_then (λ s. option_and_then (λ at.
+        exporting.shape_exported net.now.tracked net.now.files at (prefix_of w dst.now len) s)
+        (slice_get (ends_of net.now.files) end)) (bgp_of w held.now)) }
+{
+    let ends = net.ends();
+    let at = ends[end as usize];
+    let files = net.routers();
+    let addresses = net.addresses();
+    let tracked = net.tracked();
+    let id = router_id(alloc, files, addresses, at.router)?;
+    sym_exported(
+        alloc, terms, tracked, files, addresses, ends, &at, id, dst, len, held,
+    )
+}

@@ -19,6 +19,7 @@ mod survives;
 mod through;
 mod ways;
 
+pub use exporting::sym_export;
 pub use importing::sym_import;
 pub use parts::SymCand;
 pub use survives::sym_survives;
