@@ -79,7 +79,7 @@ fn address_or(
 }
 
 /// Whether a field has no address.
-fn lacks(alloc: Global, terms: &mut Terms, field: &Bits) -> Result<NodeId, AllocError>
+pub(crate) fn lacks(alloc: Global, terms: &mut Terms, field: &Bits) -> Result<NodeId, AllocError>
     requires wide { length field.now.nodes.items ≡ 33 }
     requires nodes { ids_end field.now.nodes.items ≤ size terms.old }
     ensures builds { Builds terms.old terms.new }

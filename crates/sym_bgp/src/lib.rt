@@ -5,6 +5,7 @@
 #![tactic(auto)]
 
 mod candidates;
+mod exporting;
 mod importing;
 mod lists;
 mod messages;
@@ -18,6 +19,7 @@ mod survives;
 mod through;
 mod ways;
 
+pub use exporting::sym_export;
 pub use importing::sym_import;
 pub use parts::SymCand;
 pub use survives::sym_survives;

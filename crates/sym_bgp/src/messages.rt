@@ -14,9 +14,10 @@ ghost use Rattle.bgp_shapes.specs.Messages.{lacks_address, seen_by_maps};
 ghost use Rattle.sym_policy.specs.Held.{bgp_at, bgp_end, bgp_of};
 ghost use Rattle.sym_policy.specs.Routes.{path_at, path_end, preferences_at, preferences_end, rest_end, route_at, route_end};
 ghost use Rattle.sym_policy.specs.Routes.{HasRows, IsBare};
-ghost use Rattle.sym_bgp.specs.Joined.{HasMarks, rest_at, rest_of_shape, with_rest};
+ghost use Rattle.sym_bgp.specs.Joined.{HasMarks, rest_at, rest_sent, with_rest};
 ghost use Rattle.sym_bgp.specs.Ways.{crossing_at, crossing_end};
 
+use crate::candidates::lacks;
 use crate::lists::numbers_of as cluster_numbers;
 use crate::parts::SymCrossing;
 use ios_ast::{Bgp, Neighbour};
@@ -219,6 +220,264 @@ pub(crate) fn sym_external(
 {
     let route = external_seen(alloc, terms, tracked, process, neighbour, keeps, left)?;
     let rest = external_rest(alloc, terms, tracked, own)?;
+    let rec = joined(left.valid, route, rest);
+    let SymMapRec { bgp, .. } = rec;
+    Ok(bgp)
+}
+
+// ---- over an internal session
+
+/// No weight, and the rest as the map leaves it.
+fn internal_preferences(
+    alloc: Global,
+    terms: &mut Terms,
+    left: &SymBgp,
+) -> Result<SymPreferences, AllocError>
+    requires { bgp_end left.now ≤ size terms.old }
+    ensures builds { Builds terms.old terms.new }
+    ensures within { IfOk result (λ r. preferences_end r ≤ size terms.new) }
+    ensures value { Gives terms.new result (λ w r. preferences_at w r
+        ≡ record (bgp_at w left.now).preferences { weight = 0 }) }
+{
+    let weight = constant(alloc, terms, 0, 32)?;
+    let local_pref = copy(alloc, &left.local_pref)?;
+    let med = copy(alloc, &left.med)?;
+    let origin = copy(alloc, &left.origin)?;
+    Ok(SymPreferences {
+        weight,
+        local_pref,
+        med,
+        origin,
+    })
+}
+
+/// What route maps see of the message over an internal session.
+#[tactic(auto, using(crate::proofs::Sent::path_steps))]
+fn internal_seen(
+    alloc: Global,
+    terms: &mut Terms,
+    tracked: &Tracked,
+    neighbour: &Neighbour,
+    left: &SymBgp,
+) -> Result<SymRoute, AllocError>
+    requires marks { HasMarks tracked.now left.now }
+    requires nodes { bgp_end left.now ≤ size terms.old }
+    ensures builds { Builds terms.old terms.new }
+    ensures within { IfOk result (λ r. route_end r ≤ size terms.new) }
+    ensures rows { IfOk result (λ r. HasRows tracked.now r) }
+    ensures value { Gives terms.new result (λ w r. route_at w r ≡ record {
+      preferences = record (bgp_at w left.now).preferences { weight = 0 };
+      path = (bgp_at w left.now).path;
+      communities = exporting.sent_marks tracked.now neighbour.now (bgp_at w left.now).communities;
+      type1 = false;
+    }) }
+{
+    let path = path_of(alloc, left)?;
+    let type1 = constant_node(terms, false)?;
+    let communities = sym_sent_marks(alloc, terms, tracked, neighbour, &left.communities)?;
+    let preferences = internal_preferences(alloc, terms, left)?;
+    Ok(SymRoute {
+        preferences,
+        path,
+        communities,
+        type1,
+    })
+}
+
+/// The own address where it is taken as next hop, else the route's.
+fn sent_hop(
+    alloc: Global,
+    terms: &mut Terms,
+    own: Addr,
+    x: &SymCrossing,
+    hop: &Bits,
+) -> Result<Bits, AllocError>
+    requires wide { length hop.now.nodes.items ≡ 32 }
+    requires way { crossing_end x.now ≤ size terms.old }
+    requires hop { ids_end hop.now.nodes.items ≤ size terms.old }
+    ensures builds { Builds terms.old terms.new }
+    ensures within { IfOk result (λ r. ids_end r.nodes.items ≤ size terms.new) }
+    ensures wide { IfOk result (λ r. length r.nodes.items ≡ 32) }
+    ensures value { Gives terms.new result (λ w r. number w r.nodes.items
+        ≡ (if (crossing_at w x.now).own_hop then own.0 else number w hop.now.nodes.items)) }
+{
+    let address = constant(alloc, terms, u64::from(own.0), 32)?;
+    choose(alloc, terms, x.own_hop, &address, hop)
+}
+
+/// The number of an address of which the bits are known.
+#[tactic(auto, using(crate::proofs::Sent::numbered_steps))]
+fn numbered_bits(
+    alloc: Global,
+    terms: &mut Terms,
+    address: &Bits,
+) -> Result<Bits, AllocError>
+    requires wide { length address.now.nodes.items ≡ 32 }
+    requires nodes { ids_end address.now.nodes.items ≤ size terms.old }
+    ensures builds { Builds terms.old terms.new }
+    ensures within { IfOk result (λ r. ids_end r.nodes.items ≤ size terms.new) }
+    ensures wide { IfOk result (λ r. length r.nodes.items ≡ 33) }
+    ensures value { Gives terms.new result (λ w r. number w r.nodes.items
+        ≡ 2 ^ 32 + number w address.now.nodes.items) }
+{
+    let there = constant_node(terms, true)?;
+    let mut nodes = copy(alloc, address)?.nodes;
+    nodes.push(there)?;
+    Ok(Bits { nodes })
+}
+
+/// The originator: where the route is reflected and has none, the peer from which it came.
+fn sent_originator(
+    alloc: Global,
+    terms: &mut Terms,
+    x: &SymCrossing,
+    originator: &Bits,
+) -> Result<Bits, AllocError>
+    requires wide { length originator.now.nodes.items ≡ 33 }
+    requires way { crossing_end x.now ≤ size terms.old }
+    requires nodes { ids_end originator.now.nodes.items ≤ size terms.old }
+    ensures builds { Builds terms.old terms.new }
+    ensures within { IfOk result (λ r. ids_end r.nodes.items ≤ size terms.new) }
+    ensures wide { IfOk result (λ r. length r.nodes.items ≡ 33) }
+    ensures value { Gives terms.new result (λ w r. number w r.nodes.items
+        ≡ (if (crossing_at w x.now).reflected && lacks_address (number w originator.now.nodes.items)
+        then 2 ^ 32 + (crossing_at w x.now).peer else number w originator.now.nodes.items)) }
+{
+    let peer = numbered_bits(alloc, terms, &x.peer)?;
+    let none = lacks(alloc, terms, originator)?;
+    let takes = both(terms, x.reflected, none)?;
+    let made = choose(alloc, terms, takes, &peer, originator)?;
+    Ok(made)
+}
+
+/// How many clusters there are: one more where the route is reflected.
+fn sent_count(
+    alloc: Global,
+    terms: &mut Terms,
+    x: &SymCrossing,
+    count: &Bits,
+) -> Result<Bits, AllocError>
+    requires wide { length count.now.nodes.items ≡ 32 }
+    requires way { crossing_end x.now ≤ size terms.old }
+    requires nodes { ids_end count.now.nodes.items ≤ size terms.old }
+    ensures builds { Builds terms.old terms.new }
+    ensures within { IfOk result (λ r. ids_end r.nodes.items ≤ size terms.new) }
+    ensures wide { IfOk result (λ r. length r.nodes.items ≡ 32) }
+    ensures value { Gives terms.new result (λ w r. number w r.nodes.items
+        ≡ (if (crossing_at w x.now).reflected then saturated (number w count.now.nodes.items + 1)
+        else number w count.now.nodes.items)) }
+{
+    let more = sym_longer(alloc, terms, count, 1)?;
+    let made = choose(alloc, terms, x.reflected, &more, count)?;
+    Ok(made)
+}
+
+/// The marks of the clusters with the own one in front.
+fn own_cluster_marked(
+    alloc: Global,
+    terms: &mut Terms,
+    tracked: &Tracked,
+    id: Addr,
+    marks: &Bits,
+) -> Result<Bits, AllocError>
+    requires rows { length marks.now.nodes.items ≡ length tracked.now.clusters }
+    requires nodes { ids_end marks.now.nodes.items ≤ size terms.old }
+    ensures builds { Builds terms.old terms.new }
+    ensures within { IfOk result (λ r. ids_end r.nodes.items ≤ size terms.new) }
+    ensures rows { IfOk result (λ r. length r.nodes.items ≡ length tracked.now.clusters) }
+    ensures value { Gives terms.new result (λ w r. bits w r.nodes.items
+        ≡ marks_with (numbers_of tracked.now.clusters) (id.0 ∷ []) true (bits w marks.now.nodes.items)) }
+{
+    let numbers = cluster_numbers(alloc, tracked.clusters.as_slice())?;
+    let marks = marks.nodes.as_slice();
+    let nodes = sym_marks_with(alloc, terms, numbers.as_slice(), &[id.0], true, marks)?;
+    Ok(Bits { nodes: nodes.items })
+}
+
+/// The marks of the clusters: with the own one in front where the route is reflected.
+fn sent_clusters(
+    alloc: Global,
+    terms: &mut Terms,
+    tracked: &Tracked,
+    id: Addr,
+    x: &SymCrossing,
+    marks: &Bits,
+) -> Result<Bits, AllocError>
+    requires rows { length marks.now.nodes.items ≡ length tracked.now.clusters }
+    requires way { crossing_end x.now ≤ size terms.old }
+    requires nodes { ids_end marks.now.nodes.items ≤ size terms.old }
+    ensures builds { Builds terms.old terms.new }
+    ensures within { IfOk result (λ r. ids_end r.nodes.items ≤ size terms.new) }
+    ensures rows { IfOk result (λ r. length r.nodes.items ≡ length tracked.now.clusters) }
+    ensures value { Gives terms.new result (λ w r. bits w r.nodes.items
+        ≡ (if (crossing_at w x.now).reflected
+        then marks_with (numbers_of tracked.now.clusters) (id.0 ∷ []) true (bits w marks.now.nodes.items)
+        else bits w marks.now.nodes.items)) }
+{
+    let own = own_cluster_marked(alloc, terms, tracked, id, marks)?;
+    let made = choose(alloc, terms, x.reflected, &own, marks)?;
+    Ok(made)
+}
+
+/// What route maps never set of the message over an internal session.
+fn internal_rest(
+    alloc: Global,
+    terms: &mut Terms,
+    tracked: &Tracked,
+    own: Addr,
+    id: Addr,
+    x: &SymCrossing,
+    left: &SymBgp,
+) -> Result<SymRest, AllocError>
+    requires marks { HasMarks tracked.now left.now }
+    requires way { crossing_end x.now ≤ size terms.old }
+    requires nodes { bgp_end left.now ≤ size terms.old }
+    ensures builds { Builds terms.old terms.new }
+    ensures within { IfOk result (λ r. rest_end r ≤ size terms.new) }
+    ensures rows { IfOk result (λ r. length r.clusters.nodes.items ≡ length tracked.now.clusters) }
+    ensures value { Gives terms.new result (λ w r. rest_at w r
+        ≡ rest_sent tracked.now own.0 id.0 (crossing_at w x.now) (bgp_at w left.now)) }
+{
+    let next_hop = sent_hop(alloc, terms, own, x, &left.next_hop)?;
+    let originator = sent_originator(alloc, terms, x, &left.originator)?;
+    let from = constant(alloc, terms, 0, 33)?;
+    let cluster_len = sent_count(alloc, terms, x, &left.cluster_len)?;
+    let clusters = sent_clusters(alloc, terms, tracked, id, x, &left.clusters)?;
+    Ok(SymRest {
+        next_hop,
+        originator,
+        from,
+        cluster_len,
+        clusters,
+    })
+}
+
+/// The message over an internal session: path, local preference and metric stay as the map leaves them; a route that is
+/// reflected gets an originator, where it has none, and the own cluster in front of its clusters. `id` is the router's
+/// identifier.
+#[tactic(auto, using(crate::proofs::Sent::internal_steps))]
+pub(crate) fn sym_internal(
+    alloc: Global,
+    terms: &mut Terms,
+    tracked: &Tracked,
+    neighbour: &Neighbour,
+    own: Addr,
+    id: Addr,
+    x: &SymCrossing,
+    left: &SymBgp,
+) -> Result<SymBgp, AllocError>
+    requires marks { HasMarks tracked.now left.now }
+    requires way { crossing_end x.now ≤ size terms.old }
+    requires nodes { bgp_end left.now ≤ size terms.old }
+    ensures builds { Builds terms.old terms.new }
+    ensures within { IfOk result (λ r. bgp_end r ≤ size terms.new) }
+    ensures marks { IfOk result (λ r. HasMarks tracked.now r) }
+    ensures value { Gives terms.new result (λ w r. bgp_of w r ≡ option_map
+        (λ t. exporting.internal_shape tracked.now neighbour.now own id t (crossing_at w x.now) (seen_by_maps t))
+        (bgp_of w left.now)) }
+{
+    let route = internal_seen(alloc, terms, tracked, neighbour, left)?;
+    let rest = internal_rest(alloc, terms, tracked, own, id, x, left)?;
     let rec = joined(left.valid, route, rest);
     let SymMapRec { bgp, .. } = rec;
     Ok(bgp)
