@@ -67,7 +67,12 @@ fn sym_may_leave(
         return constant_node(terms, true);
     }
     let communities = tracked.communities.as_slice();
-    let kept = sym_marked(terms, communities, held.communities.nodes.as_slice(), NO_EXPORT)?;
+    let kept = sym_marked(
+        terms,
+        communities,
+        held.communities.nodes.as_slice(),
+        NO_EXPORT,
+    )?;
     negate(terms, kept)
 }
 
@@ -87,7 +92,12 @@ fn sym_may_go(
         ≡ exporting.shape_may_go tracked.now end.now (bgp_at w held.now) (crossing_at w x.now)) }
 {
     let communities = tracked.communities.as_slice();
-    let kept = sym_marked(terms, communities, held.communities.nodes.as_slice(), NO_ADVERTISE)?;
+    let kept = sym_marked(
+        terms,
+        communities,
+        held.communities.nodes.as_slice(),
+        NO_ADVERTISE,
+    )?;
     let told = negate(terms, kept)?;
     let leaves = sym_may_leave(terms, tracked, end, held)?;
     let goes = both(terms, leaves, x.may)?;
@@ -258,9 +268,13 @@ fn sym_sent_by(
         (λ s. exporting.shape_sent_by tracked.now files.now file.now process.now neighbour.now end.now
         (prefix_of w dst.now len) s (crossing_at w x.now)) (bgp_of w held.now)) }
 {
-    let goes = sym_goes(alloc, terms, tracked, file, neighbour, end, dst, len, held, x)?;
+    let goes = sym_goes(
+        alloc, terms, tracked, file, neighbour, end, dst, len, held, x,
+    )?;
     let keeps = sym_keeps(alloc, terms, tracked, file, neighbour, end, dst, len, held)?;
-    let left = left_out(alloc, terms, tracked, file, neighbour, end, dst, len, held, goes)?;
+    let left = left_out(
+        alloc, terms, tracked, file, neighbour, end, dst, len, held, goes,
+    )?;
     let made = sym_message(
         alloc, terms, tracked, files, process, neighbour, end, own, id, keeps, x, &left,
     )?;
@@ -298,7 +312,9 @@ fn left_out(
     let side = side_of(end);
     let policies = &file.policies;
     let used = &neighbour.map_out;
-    let left = sym_mapped(alloc, terms, tracked, policies, used, dst, len, before, side)?;
+    let left = sym_mapped(
+        alloc, terms, tracked, policies, used, dst, len, before, side,
+    )?;
     Ok(left)
 }
 
@@ -336,7 +352,9 @@ fn sym_sent(
 {
     let own = own_address(files, addresses, end);
     let from = &held.from;
-    let x = sym_crossing(alloc, terms, files, addresses, ends, process, neighbour, end, from)?;
+    let x = sym_crossing(
+        alloc, terms, files, addresses, ends, process, neighbour, end, from,
+    )?;
     let made = sym_sent_by(
         alloc, terms, tracked, files, file, process, neighbour, end, own, id, dst, len, held, &x,
     )?;
@@ -380,7 +398,8 @@ fn sym_exported(
         return nothing(alloc, terms, tracked, held);
     };
     sym_sent(
-        alloc, terms, tracked, files, addresses, ends, file, process, neighbour, end, id, dst, len, held,
+        alloc, terms, tracked, files, addresses, ends, file, process, neighbour, end, id, dst, len,
+        held,
     )
 }
 

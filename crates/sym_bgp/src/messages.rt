@@ -307,11 +307,7 @@ fn sent_hop(
 
 /// The number of an address of which the bits are known.
 #[tactic(auto, using(crate::proofs::Sent::numbered_steps))]
-fn numbered_bits(
-    alloc: Global,
-    terms: &mut Terms,
-    address: &Bits,
-) -> Result<Bits, AllocError>
+fn numbered_bits(alloc: Global, terms: &mut Terms, address: &Bits) -> Result<Bits, AllocError>
     requires wide { length address.now.nodes.items ≡ 32 }
     requires nodes { ids_end address.now.nodes.items ≤ size terms.old }
     ensures builds { Builds terms.old terms.new }
