@@ -1,6 +1,7 @@
 //! What a router sends of a symbolic route that it holds (RFC 4271, section 9.1.3; RFC 4456; RFC 1997).
 
-ghost use Rattle.std.specs.Prelude.{◌≡◌, ◌==◌, ℕ, ◌+◌, ◌<◌, ◌≤◌, ◌&&◌, ◌||◌, Bool, false, not, if◌then◌else◌, Some, None};
+ghost use Rattle.std.specs.Prelude.{◌≡◌, ◌==◌, ℕ, ◌+◌, ◌<◌, ◌≤◌, ◌&&◌, ◌||◌, Bool, false, not, if◌then◌else◌, Some};
+ghost use Rattle.std.specs.Prelude.{None};
 ghost use Rattle.std.specs.Prelude.{IfOk, length, max, slice_get};
 ghost use Rattle.std.specs.Prelude.{Option as OptionOf};
 ghost use Rattle.std.specs.Option.{option_and_then, option_map};
@@ -70,7 +71,12 @@ fn sym_may_leave(
         return constant_node(terms, true);
     }
     let communities = tracked.communities.as_slice();
-    let kept = sym_marked(terms, communities, held.communities.nodes.as_slice(), NO_EXPORT)?;
+    let kept = sym_marked(
+        terms,
+        communities,
+        held.communities.nodes.as_slice(),
+        NO_EXPORT,
+    )?;
     negate(terms, kept)
 }
 
@@ -90,7 +96,12 @@ fn sym_may_go(
         ≡ exporting.shape_may_go tracked.now end.now (bgp_at w held.now) (crossing_at w x.now)) }
 {
     let communities = tracked.communities.as_slice();
-    let kept = sym_marked(terms, communities, held.communities.nodes.as_slice(), NO_ADVERTISE)?;
+    let kept = sym_marked(
+        terms,
+        communities,
+        held.communities.nodes.as_slice(),
+        NO_ADVERTISE,
+    )?;
     let told = negate(terms, kept)?;
     let leaves = sym_may_leave(terms, tracked, end, held)?;
     let goes = both(terms, leaves, x.may)?;
@@ -261,9 +272,13 @@ fn sym_sent_by(
         (λ s. exporting.shape_sent_by tracked.now files.now file.now process.now neighbour.now end.now
         (prefix_of w dst.now len) s (crossing_at w x.now)) (bgp_of w held.now)) }
 {
-    let goes = sym_goes(alloc, terms, tracked, file, neighbour, end, dst, len, held, x)?;
+    let goes = sym_goes(
+        alloc, terms, tracked, file, neighbour, end, dst, len, held, x,
+    )?;
     let keeps = sym_keeps(alloc, terms, tracked, file, neighbour, end, dst, len, held)?;
-    let left = left_out(alloc, terms, tracked, file, neighbour, end, dst, len, held, goes)?;
+    let left = left_out(
+        alloc, terms, tracked, file, neighbour, end, dst, len, held, goes,
+    )?;
     let made = sym_message(
         alloc, terms, tracked, files, process, neighbour, end, own, id, keeps, x, &left,
     )?;
@@ -301,7 +316,9 @@ fn left_out(
     let side = side_of(end);
     let policies = &file.policies;
     let used = &neighbour.map_out;
-    let left = sym_mapped(alloc, terms, tracked, policies, used, dst, len, before, side)?;
+    let left = sym_mapped(
+        alloc, terms, tracked, policies, used, dst, len, before, side,
+    )?;
     Ok(left)
 }
 
@@ -339,7 +356,9 @@ fn sym_sent(
 {
     let own = own_address(files, addresses, end);
     let from = &held.from;
-    let x = sym_crossing(alloc, terms, files, addresses, ends, process, neighbour, end, from)?;
+    let x = sym_crossing(
+        alloc, terms, files, addresses, ends, process, neighbour, end, from,
+    )?;
     let made = sym_sent_by(
         alloc, terms, tracked, files, file, process, neighbour, end, own, id, dst, len, held, &x,
     )?;
@@ -383,7 +402,8 @@ fn sym_exported(
         return nothing(alloc, terms, tracked, held);
     };
     sym_sent(
-        alloc, terms, tracked, files, addresses, ends, file, process, neighbour, end, id, dst, len, held,
+        alloc, terms, tracked, files, addresses, ends, file, process, neighbour, end, id, dst, len,
+        held,
     )
 }
 
@@ -427,8 +447,8 @@ fn export_at(
 /// 1997). There is no message where it sends none: no route is held, a community or the session over which the route
 /// came forbids it, a list denies it or the map drops it. `end` is a place in the network's ends. A message stands by
 /// the route of its fields: without a weight and a peer, with 0 for a local preference or a metric that it does not
-/// carry. The route is to have a node for each value that the network tracks; where it stands for a held one or for none,
-/// the result stands for what is sent of it.
+/// carry. The route is to have a node for each value that the network tracks; where it stands for a held one or for
+/// none, the result stands for what is sent of it.
 pub fn sym_export(
     alloc: Global,
     terms: &mut Terms,

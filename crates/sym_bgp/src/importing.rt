@@ -18,7 +18,8 @@ ghost use Rattle.bgp_shapes.specs.Messages.{message_shape, seen_by_maps};
 ghost use Rattle.sym_policy.specs.Held.{bgp_at, bgp_end, bgp_of, StandsForBgp};
 ghost use Rattle.sym_policy.specs.MapRecs.{map_rec_end};
 ghost use Rattle.sym_policy.specs.Records.{prefix_of};
-ghost use Rattle.sym_policy.specs.Routes.{path_at, path_end, preferences_at, preferences_end, rest_end, route_at, route_end};
+ghost use Rattle.sym_policy.specs.Routes.{path_at, path_end, preferences_at, preferences_end, rest_end, route_at};
+ghost use Rattle.sym_policy.specs.Routes.{route_end};
 ghost use Rattle.sym_policy.specs.Routes.{HasRows};
 ghost use Rattle.sym_bgp.specs.Joined.{HasMarks, rest_at, rest_of_shape, with_rest};
 
@@ -33,8 +34,9 @@ use net_parts::ends::{file_of, neighbour_of};
 use net_parts::router_ids::router_id;
 use route_record::Tracked;
 use std::alloc::{AllocError, Global};
-use sym_policy::{SymBgp, SymMapRec, SymPreferences, SymRest, SymRoute};
-use sym_policy::{joined, path_of, rest_of, sym_marked};
+use sym_policy::{
+    SymBgp, SymMapRec, SymPreferences, SymRest, SymRoute, joined, path_of, rest_of, sym_marked,
+};
 use term_arith::gates::{both, constant_node, negate};
 use term_arith::{Bits, above_number, constant, copy, equal_number};
 use term_store::{NodeId, Terms};
@@ -47,7 +49,8 @@ fn sym_is_short(terms: &mut Terms, len: &Bits) -> Result<NodeId, AllocError>
     requires { ids_end len.now.nodes.items ≤ size terms.old }
     ensures builds { Builds terms.old terms.new }
     ensures within { IfOk result (λ r. r.0 < size terms.new) }
-    ensures value { Gives terms.new result (λ w r. at w r ≡ nat_le (number w len.now.nodes.items) exports.most_numbers) }
+    ensures value { Gives terms.new result (λ w r. at w r
+        ≡ nat_le (number w len.now.nodes.items) exports.most_numbers) }
 {
     let long = above_number(terms, len.nodes.as_slice(), 255)?;
     let short = negate(terms, long)?;
@@ -69,7 +72,12 @@ fn sym_goes_straight(
         && nat_le (bgp_at w message.now).path.len exports.most_numbers)) }
 {
     let numbers = tracked.numbers.as_slice();
-    let own = sym_marked(terms, numbers, message.numbers.nodes.as_slice(), process.asn)?;
+    let own = sym_marked(
+        terms,
+        numbers,
+        message.numbers.nodes.as_slice(),
+        process.asn,
+    )?;
     let other = negate(terms, own)?;
     let short = sym_is_short(terms, &message.len)?;
     both(terms, other, short)
@@ -99,8 +107,8 @@ fn sym_other_clusters(
     negate(terms, here)
 }
 
-/// Whether the router takes the message: no loop by its AS, by its identifier or by its cluster, and no path that is too
-/// long. `own` is its identifier.
+/// Whether the router takes the message: no loop by its AS, by its identifier or by its cluster, and no path that is
+/// too long. `own` is its identifier.
 fn sym_is_acceptable(
     alloc: Global,
     terms: &mut Terms,
@@ -185,9 +193,13 @@ fn sym_takes_in(
         && shape_passes_paths tracked.now file.now.policies neighbour.now.filter_in (bgp_at w message.now).path))) }
 {
     let router = end.router;
-    let acceptable = sym_is_acceptable(alloc, terms, tracked, files, router, process, own, message)?;
+    let acceptable = sym_is_acceptable(
+        alloc, terms, tracked, files, router, process, own, message,
+    )?;
     let policies = &file.policies;
-    let passes = sym_passes_lists(alloc, terms, tracked, policies, neighbour, dst, len, message)?;
+    let passes = sym_passes_lists(
+        alloc, terms, tracked, policies, neighbour, dst, len, message,
+    )?;
     let taken = both(terms, acceptable, passes)?;
     Ok(taken)
 }
@@ -327,7 +339,8 @@ fn if_short(terms: &mut Terms, tracked: &Tracked, route: SymBgp) -> Result<SymBg
     ensures builds { Builds terms.old terms.new }
     ensures within { IfOk result (λ r. bgp_end r ≤ size terms.new) }
     ensures marks { IfOk result (λ r. HasMarks tracked.now r) }
-    ensures value { Gives terms.new result (λ w r. bgp_of w r ≡ option_and_then importing.shape_if_short (bgp_of w route)) }
+    ensures value { Gives terms.new result (λ w r. bgp_of w r
+        ≡ option_and_then importing.shape_if_short (bgp_of w route)) }
 {
     let _tracked = tracked.numbers.items.len();
     let mut made = route;
@@ -372,13 +385,15 @@ fn sym_taken_in(
     let policies = &file.policies;
     let used = &neighbour.map_in;
     let side = side_of(end);
-    let left = sym_mapped(alloc, terms, tracked, policies, used, dst, len, before, side)?;
+    let left = sym_mapped(
+        alloc, terms, tracked, policies, used, dst, len, before, side,
+    )?;
     let made = if_short(terms, tracked, left)?;
     Ok(made)
 }
 
-/// What the router at an end makes of a message that it receives over the session, if it takes it. `own` is the router's
-/// identifier.
+/// What the router at an end makes of a message that it receives over the session, if it takes it. `own` is the
+/// router's identifier.
 #[tactic(auto, using(crate::proofs::TakenIn::none_taken), unfolding(bgp_shapes::specs::Importing::shape_imported))]
 fn sym_imported(
     alloc: Global,
@@ -450,9 +465,9 @@ fn import_at(
 /// What the router at an end makes of a message for the prefix of that length of an address that it receives over the
 /// session, after the incoming lists and the incoming map of the neighbour (RFC 4271, section 9.1.1; RFC 4456, section
 /// 8). There is no route where it does not take the message: its own AS, identifier or cluster is in it, its path has
-/// more than 255 numbers or the map makes it so, a list denies it or the map drops it. `end` is a place in the network's
-/// ends; a message stands by the route of its fields. The message is to have a node for each value that the network
-/// tracks; where it stands for one that is received or for none, the result stands for what is made of it.
+/// more than 255 numbers or the map makes it so, a list denies it or the map drops it. `end` is a place in the
+/// network's ends; a message stands by the route of its fields. The message is to have a node for each value that the
+/// network tracks; where it stands for one that is received or for none, the result stands for what is made of it.
 pub fn sym_import(
     alloc: Global,
     terms: &mut Terms,

@@ -1,6 +1,7 @@
 //! What a router sends of a symbolic route as the outgoing map leaves it (RFC 4271, section 5.1; RFC 4456, section 8).
 
-ghost use Rattle.std.specs.Prelude.{◌≡◌, ◌==◌, ℕ, ◌+◌, ◌^◌, ◌<◌, ◌≤◌, ◌&&◌, Bool, true, false, not, if◌then◌else◌, nat_lt};
+ghost use Rattle.std.specs.Prelude.{◌≡◌, ◌==◌, ℕ, ◌+◌, ◌^◌, ◌<◌, ◌≤◌, ◌&&◌, Bool, true, false, not, if◌then◌else◌};
+ghost use Rattle.std.specs.Prelude.{nat_lt};
 ghost use Rattle.std.specs.Prelude.{[], ◌∷◌, ◌++◌, IfOk, length, map, max};
 ghost use Rattle.std.specs.Option.{option_map};
 ghost use Rattle.term_store.specs.Terms.{Reading, size, at};
@@ -12,7 +13,8 @@ ghost use Rattle.route_shapes.specs.Shapes.{marks_with, shape_prepended};
 ghost use Rattle.bgp_shapes.specs.Exporting as exporting;
 ghost use Rattle.bgp_shapes.specs.Messages.{lacks_address, seen_by_maps};
 ghost use Rattle.sym_policy.specs.Held.{bgp_at, bgp_end, bgp_of};
-ghost use Rattle.sym_policy.specs.Routes.{path_at, path_end, preferences_at, preferences_end, rest_end, route_at, route_end};
+ghost use Rattle.sym_policy.specs.Routes.{path_at, path_end, preferences_at, preferences_end, rest_end, route_at};
+ghost use Rattle.sym_policy.specs.Routes.{route_end};
 ghost use Rattle.sym_policy.specs.Routes.{HasRows, IsBare};
 ghost use Rattle.sym_bgp.specs.Joined.{HasMarks, rest_at, rest_sent, with_rest};
 ghost use Rattle.sym_bgp.specs.Ways.{crossing_at, crossing_end};
@@ -24,8 +26,10 @@ use ios_ast::{Bgp, Neighbour};
 use mw_text::Addr;
 use route_record::Tracked;
 use std::alloc::{AllocError, Global};
-use sym_policy::{SymBgp, SymMapRec, SymPath, SymPreferences, SymRest, SymRoute};
-use sym_policy::{bare_rest, joined, path_of, sym_longer, sym_marks_with, sym_prepended};
+use sym_policy::{
+    SymBgp, SymMapRec, SymPath, SymPreferences, SymRest, SymRoute, bare_rest, joined, path_of,
+    sym_longer, sym_marks_with, sym_prepended,
+};
 use term_arith::gates::{both, constant_node, negate};
 use term_arith::{Bits, choose, constant, copy};
 use term_store::{NodeId, Terms};
@@ -50,7 +54,14 @@ fn sym_sent_marks(
         return copy(alloc, marks);
     }
     let communities = tracked.communities.as_slice();
-    let nodes = sym_marks_with(alloc, terms, communities, &[], false, marks.nodes.as_slice())?;
+    let nodes = sym_marks_with(
+        alloc,
+        terms,
+        communities,
+        &[],
+        false,
+        marks.nodes.as_slice(),
+    )?;
     Ok(Bits { nodes: nodes.items })
 }
 
@@ -298,11 +309,7 @@ fn sent_hop(
 
 /// The number of an address of which the bits are known.
 #[tactic(auto, using(crate::proofs::Sent::numbered_steps))]
-fn numbered_bits(
-    alloc: Global,
-    terms: &mut Terms,
-    address: &Bits,
-) -> Result<Bits, AllocError>
+fn numbered_bits(alloc: Global, terms: &mut Terms, address: &Bits) -> Result<Bits, AllocError>
     requires wide { length address.now.nodes.items ≡ 32 }
     requires nodes { ids_end address.now.nodes.items ≤ size terms.old }
     ensures builds { Builds terms.old terms.new }

@@ -63,12 +63,7 @@ fn may_reflect(files: &[File], process: &Bgp, from: &SessionEnd, to: &SessionEnd
 }
 
 /// Whether a route that came over the one session may go over the other.
-pub(crate) fn may_go_on(
-    files: &[File],
-    process: &Bgp,
-    from: &SessionEnd,
-    end: &SessionEnd,
-) -> bool
+pub(crate) fn may_go_on(files: &[File], process: &Bgp, from: &SessionEnd, end: &SessionEnd) -> bool
     ensures { result ≡ (not (from.now.neighbour == end.now.neighbour)
         && (not (from.now.internal && end.now.internal)
         || exports.may_reflect files.now process.now from.now end.now)) }

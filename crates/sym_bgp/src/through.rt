@@ -16,7 +16,9 @@ ghost use Rattle.sym_bgp.specs.Joined.{HasMarks, shape_through};
 use ios_ast::{Policies, Use};
 use route_record::{Side, Tracked};
 use std::alloc::{AllocError, Global};
-use sym_policy::{SymBgp, SymMapRec, SymRoute, joined, path_of, preferences_of, rest_of, sym_through};
+use sym_policy::{
+    SymBgp, SymMapRec, SymRoute, joined, path_of, preferences_of, rest_of, sym_through,
+};
 use term_arith::gates::constant_node;
 use term_arith::{Bits, copy};
 use term_store::{NodeId, Terms};
@@ -64,7 +66,8 @@ pub(crate) fn copied(
     ensures within { IfOk result (λ r. map_rec_end r ≤ size terms.new) }
     ensures marks { IfOk result (λ r. HasMarks tracked.now r.bgp) }
     ensures type1 { Gives terms.new result (λ w r. at w r.type1 ≡ false) }
-    ensures value { Gives terms.new result (λ w r. bgp_of w r.bgp ≡ (if at w there then Some (bgp_at w held.now) else None)) }
+    ensures value { Gives terms.new result (λ w r. bgp_of w r.bgp
+        ≡ (if at w there then Some (bgp_at w held.now) else None)) }
 {
     let route = seen_of(alloc, terms, tracked, held)?;
     let rest = rest_of(alloc, held)?;
@@ -115,9 +118,7 @@ pub(crate) fn sym_mapped(
         ≡ option_and_then (shape_through tracked.now policies.now used.now (prefix_of w dst.now len) (at_external side))
         (bgp_of w rec.bgp)) }
 {
-    let left = sym_through(
-        alloc, terms, tracked, policies, used, dst, len, rec, side,
-    )?;
+    let left = sym_through(alloc, terms, tracked, policies, used, dst, len, rec, side)?;
     let SymMapRec { bgp, .. } = left;
     Ok(bgp)
 }

@@ -1,7 +1,8 @@
-//! How a route goes on over a session, by the end over which it was learnt, as terms (RFC 4271, section 5.1.3; RFC 4456,
-//! section 6).
+//! How a route goes on over a session, by the end over which it was learnt, as terms (RFC 4271, section 5.1.3; RFC
+//! 4456, section 6).
 
-ghost use Rattle.std.specs.Prelude.{◌≡◌, ◌==◌, ℕ, ◌+◌, ◌^◌, ◌<◌, ◌≤◌, Bool, false, if◌then◌else◌, Some, None, IfOk, length};
+ghost use Rattle.std.specs.Prelude.{◌≡◌, ◌==◌, ℕ, ◌+◌, ◌^◌, ◌<◌, ◌≤◌, Bool, false, if◌then◌else◌, Some, None, IfOk};
+ghost use Rattle.std.specs.Prelude.{length};
 ghost use Rattle.std.specs.Prelude.{max, List as ListOf};
 ghost use Rattle.ios_ast.specs.declared.bgp.Bgp.{Bgp as BgpOf};
 ghost use Rattle.ios_ast.specs.declared.bgp.Neighbour.{Neighbour as NeighbourOf};
@@ -184,9 +185,7 @@ pub(crate) fn sym_crossing(
     let mut rest = known_way(alloc, terms, local_way())?;
     for i in (0..ends.len()).rev() {
         let over = &ends[i];
-        let way = way_from(
-            alloc, files, addresses, ends, process, neighbour, end, over,
-        )?;
+        let way = way_from(alloc, files, addresses, ends, process, neighbour, end, over)?;
         rest = way_or(alloc, terms, files, from, end, over, way, &rest)?;
     }
     Ok(rest)
