@@ -1,10 +1,10 @@
 -- Routes that are put together, and what a map leaves of them.
-use Rattle.std.proofs.Common.{◌≡◌, ℕ, ◌+◌, ◌<◌, ◌≤◌, max, Bool, true, false, if◌then◌else◌, List, Option, Some, None}
-use Rattle.std.proofs.Common.{length, refl, sym, ap, subst, ◌∙◌, arith}
+use Rattle.std.proofs.Common.{◌≡◌, Bool, true, false, if◌then◌else◌, List, Option, Some, None}
+use Rattle.std.proofs.Common.{length, refl, sym, ap, ◌∙◌}
 use Rattle.std.specs.Option.{option_and_then, option_map}
 use Rattle.term_store.specs.declared.NodeId.{NodeId}
 use Rattle.term_store.specs.Terms.{Reading, at}
-use Rattle.term_arith.specs.Bits.{bits, number, ids_end}
+use Rattle.term_arith.specs.Bits.{bits, number}
 use Rattle.route_record.specs.declared.tracked.Tracked.{Tracked}
 use Rattle.route_shapes.specs.Bgp.{BgpShape}
 use Rattle.route_shapes.specs.Shapes.{PathShape, Preferences, RouteShape}
@@ -15,8 +15,8 @@ use Rattle.sym_policy.specs.declared.parts.SymRest.{SymRest}
 use Rattle.sym_policy.specs.declared.parts.SymRoute.{SymRoute}
 use Rattle.sym_policy.specs.declared.records.SymBgp.{SymBgp}
 use Rattle.sym_policy.specs.declared.records.SymMapRec.{SymMapRec}
-use Rattle.sym_policy.specs.Held.{bgp_at, bgp_end, bgp_of}
-use Rattle.sym_policy.specs.MapRecs.{KeepsRest, attributes_at, map_rec_at, map_rec_end}
+use Rattle.sym_policy.specs.Held.{bgp_at, bgp_of}
+use Rattle.sym_policy.specs.MapRecs.{KeepsRest, attributes_at, map_rec_at}
 use Rattle.sym_policy.specs.Routes.{path_at, preferences_at, route_at}
 use Rattle.sym_policy.specs.SameNodes.{HasPath, HasPreferences, IsJoined, IsRest}
 use Rattle.sym_policy.proofs.SameNodes.{joined_steps}

@@ -8,3 +8,4 @@ pub mod TakenIn
 pub mod WaySteps
 pub mod MetricSteps
 pub mod Sent
+pub mod StandsFor

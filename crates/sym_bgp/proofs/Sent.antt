@@ -38,8 +38,8 @@ sent_there true f t made is = ap Some is
 sent_there false f t made is = refl
 
 -- the message over an external session
-pub external_made : (w : Reading) (tracked : Tracked) (process : Bgp) (neighbour : Neighbour) (own : Addr) (keeps : Bool)
-    (t : BgpShape) (seen : RouteShape) (rest : SymRest) → IsBare w tracked own.0 rest →
+pub external_made : (w : Reading) (tracked : Tracked) (process : Bgp) (neighbour : Neighbour) (own : Addr)
+    (keeps : Bool) (t : BgpShape) (seen : RouteShape) (rest : SymRest) → IsBare w tracked own.0 rest →
     ◌≡◌ {A = RouteShape} seen (record {
       preferences = record {
         weight = 0;

@@ -1,6 +1,6 @@
 -- What a router takes of a message.
-use Rattle.std.proofs.Common.{◌≡◌, ℕ, ◌+◌, ◌^◌, ◌<◌, ◌≤◌, ◌&&◌, max, Bool, true, false, not, nat_lt, if◌then◌else◌}
-use Rattle.std.proofs.Common.{List, Option, Some, None, refl, sym, ap, ◌∙◌, arith}
+use Rattle.std.proofs.Common.{◌≡◌, ℕ, ◌+◌, ◌^◌, ◌&&◌, Bool, true, false, not, nat_lt, if◌then◌else◌}
+use Rattle.std.proofs.Common.{List, Option, Some, None, refl, ap, ◌∙◌, arith}
 use Rattle.std.specs.Prelude.{nat_le}
 use Rattle.std.specs.Option.{option_and_then, option_map}
 use Rattle.std.proofs.lemmas.Bool.Decides.{nat_tests}
@@ -13,7 +13,8 @@ use Rattle.net_parts.specs.declared.sessions.SessionEnd.{SessionEnd}
 use Rattle.net_parts.specs.Exports.{most_numbers, passes_prefixes}
 use Rattle.route_shapes.specs.Bgp.{BgpShape}
 use Rattle.route_shapes.specs.Shapes.{RouteShape, shape_passes_paths, shape_through_map}
-use Rattle.bgp_shapes.specs.Importing.{shape_if_short, shape_is_acceptable, shape_mapped_in, shape_received, shape_taken_in}
+use Rattle.bgp_shapes.specs.Importing.{shape_if_short, shape_is_acceptable, shape_mapped_in, shape_received}
+use Rattle.bgp_shapes.specs.Importing.{shape_taken_in}
 use Rattle.bgp_shapes.specs.Messages.{seen_by_maps, with_seen}
 use Rattle.term_store.specs.Terms.{Reading}
 use Rattle.term_arith.specs.Bits.{bits, number}
@@ -34,7 +35,8 @@ pub ruleset list_steps = (path_within, path_read)
 -- the nodes of what maps see before the incoming map
 pub ruleset seen_steps = (path_within, path_read, seen_read)
 
-pub rest_copied : (w : Reading) (held : SymBgp) (s : SymRest) → IsRest held s → rest_at w s ≡ rest_of_shape (bgp_at w held)
+pub rest_copied : (w : Reading) (held : SymBgp) (s : SymRest) → IsRest held s →
+    rest_at w s ≡ rest_of_shape (bgp_at w held)
 rest_copied w held s h = λ i. record {
   next_hop = number w (h.next_hop i);
   originator = number w (h.originator i);
@@ -78,8 +80,8 @@ taken_in tracked files file process neighbour end p s valid takes there external
     made_is
     ∙ ap (option_and_then shape_if_short) left_is
     ∙ (λ i. option_and_then shape_if_short (option_and_then (through (external_is i)) (before_is i)))
-    ∙ ap (λ b. option_and_then shape_if_short (option_and_then (through (not end.internal)) (if b then Some received else None)))
-    there_is
+    ∙ ap (λ b. option_and_then shape_if_short (option_and_then (through (not end.internal))
+    (if b then Some received else None))) there_is
     ∙ by_valid valid
   where
     received : BgpShape

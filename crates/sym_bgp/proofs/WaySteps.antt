@@ -1,7 +1,6 @@
 -- Ends over which a route was learnt, one after another.
-use Rattle.std.proofs.Common.{◌≡◌, ℕ, ◌+◌, ◌-◌, ◌<◌, ◌≤◌, ◌==◌, Bool, true, false, if◌then◌else◌, List, [], ◌∷◌}
+use Rattle.std.proofs.Common.{◌≡◌, ℕ, ◌+◌, ◌-◌, ◌<◌, ◌≤◌, ◌==◌, Bool, true, false, if◌then◌else◌, List, ◌∷◌}
 use Rattle.std.proofs.Common.{Option, Some, None, drop, get_or, length, refl, sym, ap, ◌∙◌, arith}
-use Rattle.std.specs.Prelude.{slice_get, unwrap_or, option_map}
 use Rattle.std.specs.List.{find}
 use Rattle.std.proofs.lemmas.Bool.Decides.{nat_tests}
 use Rattle.std.proofs.lemmas.List.{drop_all, drop_more}
@@ -18,7 +17,8 @@ equal_back a b = grind (arith, nat_tests)
 pub chosen_way : (b : Bool) (x y : Crossing) (may own_hop reflected : Bool) (peer : ℕ) →
     may ≡ (if b then x.may else y.may) → own_hop ≡ (if b then x.own_hop else y.own_hop) →
     reflected ≡ (if b then x.reflected else y.reflected) → peer ≡ (if b then x.peer else y.peer) →
-    ◌≡◌ {A = Crossing} (record { may = may; own_hop = own_hop; reflected = reflected; peer = peer }) (if b then x else y)
+    ◌≡◌ {A = Crossing} (record { may = may; own_hop = own_hop; reflected = reflected; peer = peer })
+    (if b then x else y)
 chosen_way true x y may own_hop reflected peer p q r s =
     λ i. record { may = p i; own_hop = q i; reflected = r i; peer = s i }
 chosen_way false x y may own_hop reflected peer p q r s =

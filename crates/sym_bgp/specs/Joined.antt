@@ -1,5 +1,6 @@
 -- Routes of what route maps see of them and of the rest.
-use Rattle.std.specs.Prelude.{◌≡◌, ℕ, ◌+◌, ◌^◌, ◌&&◌, Bool, true, if◌then◌else◌, List, [], ◌∷◌, Option, length, option_map}
+use Rattle.std.specs.Prelude.{◌≡◌, ℕ, ◌+◌, ◌^◌, ◌&&◌, Bool, true, if◌then◌else◌, List, [], ◌∷◌, Option, length}
+use Rattle.std.specs.Prelude.{option_map}
 use Rattle.term_store.specs.Terms.{Reading}
 use Rattle.term_arith.specs.Bits.{bits, number}
 use Rattle.mw_text.specs.declared.address.Prefix.{Prefix}

@@ -1,19 +1,23 @@
 //! What a router sends of a symbolic route that it holds (RFC 4271, section 9.1.3; RFC 4456; RFC 1997).
 
-ghost use Rattle.std.specs.Prelude.{◌≡◌, ◌==◌, ℕ, ◌+◌, ◌<◌, ◌≤◌, ◌&&◌, ◌||◌, Bool, false, not, if◌then◌else◌, Some, None};
+ghost use Rattle.std.specs.Prelude.{◌≡◌, ◌==◌, ℕ, ◌+◌, ◌<◌, ◌≤◌, ◌&&◌, ◌||◌, Bool, false, not, if◌then◌else◌, Some};
+ghost use Rattle.std.specs.Prelude.{None};
 ghost use Rattle.std.specs.Prelude.{IfOk, length, max, slice_get};
+ghost use Rattle.std.specs.Prelude.{Option as OptionOf};
 ghost use Rattle.std.specs.Option.{option_and_then, option_map};
+ghost use Rattle.route_record.specs.declared.BgpRec.{BgpRec as BgpRecOf};
 ghost use Rattle.term_store.specs.Terms.{Reading, size, at};
 ghost use Rattle.term_store.specs.Reading.{Reads, Builds, Gives};
 ghost use Rattle.term_arith.specs.Bits.{bits, number, ids_end};
 ghost use Rattle.net_interfaces.specs.Interfaces.{addressed};
 ghost use Rattle.net_parts.specs.Exports as exports;
 ghost use Rattle.net_parts.specs.Sessions.{ends_of};
+ghost use Rattle.net_parts.specs.Tracked.{TracksNet};
 ghost use Rattle.route_shapes.specs.Shapes.{marked, shape_passes_paths};
 ghost use Rattle.bgp_shapes.specs.Crossings.{crossing, end_numbered};
 ghost use Rattle.bgp_shapes.specs.Exporting as exporting;
-ghost use Rattle.bgp_shapes.specs.Messages.{seen_by_maps, shape_sets_metric};
-ghost use Rattle.sym_policy.specs.Held.{bgp_at, bgp_end, bgp_of};
+ghost use Rattle.bgp_shapes.specs.Messages.{message_shape, seen_by_maps, shape_sets_metric};
+ghost use Rattle.sym_policy.specs.Held.{bgp_at, bgp_end, bgp_of, StandsForBgp};
 ghost use Rattle.sym_policy.specs.MapRecs.{map_rec_end};
 ghost use Rattle.sym_policy.specs.Records.{prefix_of};
 ghost use Rattle.sym_policy.specs.Routes.{path_at, path_end};
@@ -403,12 +407,48 @@ fn sym_exported(
     )
 }
 
+/// What the router at an end of the network sends of a route.
+fn export_at(
+    alloc: Global,
+    terms: &mut Terms,
+    net: &Net,
+    end: u32,
+    dst: &Bits,
+    len: u8,
+    held: &SymBgp,
+) -> Result<SymBgp, AllocError>
+    requires end { end < length (ends_of net.now.files) }
+    requires long { len ≤ 32 }
+    requires wide { length dst.now.nodes.items ≡ 32 }
+    requires dst { ids_end dst.now.nodes.items ≤ size terms.old }
+    requires marks { HasMarks net.now.tracked held.now }
+    requires nodes { bgp_end held.now ≤ size terms.old }
+    ensures builds { Builds terms.old terms.new }
+    ensures within { IfOk result (λ r. bgp_end r ≤ size terms.new) }
+    ensures marks { IfOk result (λ r. HasMarks net.now.tracked r) }
+    ensures value { Gives terms.new result (λ w r. bgp_of w r ≡ option_and_then (λ s. option_and_then (λ at.
+        exporting.shape_exported net.now.tracked net.now.files at (prefix_of w dst.now len) s)
+        (slice_get (ends_of net.now.files) end)) (bgp_of w held.now)) }
+    ensures tracks { TracksNet net.now.files net.now.tracked }
+{
+    let ends = net.ends();
+    let at = ends[end as usize];
+    let files = net.routers();
+    let addresses = net.addresses();
+    let tracked = net.tracked();
+    let id = router_id(alloc, files, addresses, at.router)?;
+    sym_exported(
+        alloc, terms, tracked, files, addresses, ends, &at, id, dst, len, held,
+    )
+}
+
 /// What the router at an end sends over the session of the route that it holds for the prefix of that length of an
 /// address, after the outgoing lists and the outgoing map of the neighbour (RFC 4271, section 9.1.3; RFC 4456; RFC
 /// 1997). There is no message where it sends none: no route is held, a community or the session over which the route
 /// came forbids it, a list denies it or the map drops it. `end` is a place in the network's ends. A message stands by
 /// the route of its fields: without a weight and a peer, with 0 for a local preference or a metric that it does not
-/// carry. The route is to have a node for each value that the network tracks.
+/// carry. The route is to have a node for each value that the network tracks; where it stands for a held one or for
+/// none, the result stands for what is sent of it.
 pub fn sym_export(
     alloc: Global,
     terms: &mut Terms,
@@ -430,14 +470,12 @@ pub fn sym_export(
     ensures value { Gives terms.new result (λ w r. bgp_of w r ≡ option_and_then (λ s. option_and_then (λ at.
         exporting.shape_exported net.now.tracked net.now.files at (prefix_of w dst.now len) s)
         (slice_get (ends_of net.now.files) end)) (bgp_of w held.now)) }
+    ensures stands { Gives terms.new result (λ w r. (route : OptionOf BgpRecOf)
+        → StandsForBgp w net.now.tracked held.now route
+        → bgp_of w r ≡ option_map (message_shape net.now.tracked) (option_and_then (λ rec. option_and_then (λ at.
+        exports.exported net.now.files at (prefix_of w dst.now len) rec) (slice_get (ends_of net.now.files) end))
+        route)) }
 {
-    let ends = net.ends();
-    let at = ends[end as usize];
-    let files = net.routers();
-    let addresses = net.addresses();
-    let tracked = net.tracked();
-    let id = router_id(alloc, files, addresses, at.router)?;
-    sym_exported(
-        alloc, terms, tracked, files, addresses, ends, &at, id, dst, len, held,
-    )
+    let made = export_at(alloc, terms, net, end, dst, len, held)?;
+    Ok(made)
 }

@@ -2,20 +2,24 @@
 
 ghost use Rattle.std.specs.Prelude.{◌≡◌, ◌==◌, ℕ, ◌+◌, ◌^◌, ◌<◌, ◌≤◌, Bool, false, not, ◌&&◌, if◌then◌else◌, nat_le};
 ghost use Rattle.std.specs.Prelude.{Some, None, IfOk, length, map, max, slice_get};
-ghost use Rattle.std.specs.Option.{option_and_then};
+ghost use Rattle.std.specs.Prelude.{Option as OptionOf};
+ghost use Rattle.std.specs.Option.{option_and_then, option_map};
+ghost use Rattle.route_record.specs.declared.BgpMsg.{BgpMsg as BgpMsgOf};
 ghost use Rattle.term_store.specs.Terms.{Reading, size, at};
 ghost use Rattle.term_store.specs.Reading.{Reads, Builds, Gives};
 ghost use Rattle.term_arith.specs.Bits.{bits, number, ids_end};
 ghost use Rattle.net_parts.specs.Exports as exports;
 ghost use Rattle.net_parts.specs.Sessions.{ends_of};
+ghost use Rattle.net_parts.specs.Tracked.{TracksNet};
 ghost use Rattle.net_parts.specs.Tracked.{numbers_of};
 ghost use Rattle.route_shapes.specs.Shapes.{marked, shape_passes_paths};
 ghost use Rattle.bgp_shapes.specs.Importing as importing;
-ghost use Rattle.bgp_shapes.specs.Messages.{seen_by_maps};
-ghost use Rattle.sym_policy.specs.Held.{bgp_at, bgp_end, bgp_of};
+ghost use Rattle.bgp_shapes.specs.Messages.{message_shape, seen_by_maps};
+ghost use Rattle.sym_policy.specs.Held.{bgp_at, bgp_end, bgp_of, StandsForBgp};
 ghost use Rattle.sym_policy.specs.MapRecs.{map_rec_end};
 ghost use Rattle.sym_policy.specs.Records.{prefix_of};
-ghost use Rattle.sym_policy.specs.Routes.{path_at, path_end, preferences_at, preferences_end, rest_end, route_at, route_end};
+ghost use Rattle.sym_policy.specs.Routes.{path_at, path_end, preferences_at, preferences_end, rest_end, route_at};
+ghost use Rattle.sym_policy.specs.Routes.{route_end};
 ghost use Rattle.sym_policy.specs.Routes.{HasRows};
 ghost use Rattle.sym_bgp.specs.Joined.{HasMarks, rest_at, rest_of_shape, with_rest};
 
@@ -45,7 +49,8 @@ fn sym_is_short(terms: &mut Terms, len: &Bits) -> Result<NodeId, AllocError>
     requires { ids_end len.now.nodes.items ≤ size terms.old }
     ensures builds { Builds terms.old terms.new }
     ensures within { IfOk result (λ r. r.0 < size terms.new) }
-    ensures value { Gives terms.new result (λ w r. at w r ≡ nat_le (number w len.now.nodes.items) exports.most_numbers) }
+    ensures value { Gives terms.new result (λ w r. at w r
+        ≡ nat_le (number w len.now.nodes.items) exports.most_numbers) }
 {
     let long = above_number(terms, len.nodes.as_slice(), 255)?;
     let short = negate(terms, long)?;
@@ -102,8 +107,8 @@ fn sym_other_clusters(
     negate(terms, here)
 }
 
-/// Whether the router takes the message: no loop by its AS, by its identifier or by its cluster, and no path that is too
-/// long. `own` is its identifier.
+/// Whether the router takes the message: no loop by its AS, by its identifier or by its cluster, and no path that is
+/// too long. `own` is its identifier.
 fn sym_is_acceptable(
     alloc: Global,
     terms: &mut Terms,
@@ -334,7 +339,8 @@ fn if_short(terms: &mut Terms, tracked: &Tracked, route: SymBgp) -> Result<SymBg
     ensures builds { Builds terms.old terms.new }
     ensures within { IfOk result (λ r. bgp_end r ≤ size terms.new) }
     ensures marks { IfOk result (λ r. HasMarks tracked.now r) }
-    ensures value { Gives terms.new result (λ w r. bgp_of w r ≡ option_and_then importing.shape_if_short (bgp_of w route)) }
+    ensures value { Gives terms.new result (λ w r. bgp_of w r
+        ≡ option_and_then importing.shape_if_short (bgp_of w route)) }
 {
     let _tracked = tracked.numbers.items.len();
     let mut made = route;
@@ -386,8 +392,8 @@ fn sym_taken_in(
     Ok(made)
 }
 
-/// What the router at an end makes of a message that it receives over the session, if it takes it. `own` is the router's
-/// identifier.
+/// What the router at an end makes of a message that it receives over the session, if it takes it. `own` is the
+/// router's identifier.
 #[tactic(auto, using(crate::proofs::TakenIn::none_taken), unfolding(bgp_shapes::specs::Importing::shape_imported))]
 fn sym_imported(
     alloc: Global,
@@ -424,12 +430,44 @@ fn sym_imported(
     )
 }
 
+/// What the router at an end of the network makes of a message.
+fn import_at(
+    alloc: Global,
+    terms: &mut Terms,
+    net: &Net,
+    end: u32,
+    dst: &Bits,
+    len: u8,
+    message: &SymBgp,
+) -> Result<SymBgp, AllocError>
+    requires end { end < length (ends_of net.now.files) }
+    requires long { len ≤ 32 }
+    requires wide { length dst.now.nodes.items ≡ 32 }
+    requires dst { ids_end dst.now.nodes.items ≤ size terms.old }
+    requires marks { HasMarks net.now.tracked message.now }
+    requires nodes { bgp_end message.now ≤ size terms.old }
+    ensures builds { Builds terms.old terms.new }
+    ensures within { IfOk result (λ r. bgp_end r ≤ size terms.new) }
+    ensures marks { IfOk result (λ r. HasMarks net.now.tracked r) }
+    ensures value { Gives terms.new result (λ w r. bgp_of w r ≡ option_and_then (λ s. option_and_then (λ at.
+        importing.shape_imported net.now.tracked net.now.files at (prefix_of w dst.now len) s)
+        (slice_get (ends_of net.now.files) end)) (bgp_of w message.now)) }
+    ensures tracks { TracksNet net.now.files net.now.tracked }
+{
+    let ends = net.ends();
+    let at = ends[end as usize];
+    let files = net.routers();
+    let tracked = net.tracked();
+    let own = router_id(alloc, files, net.addresses(), at.router)?;
+    sym_imported(alloc, terms, tracked, files, &at, own, dst, len, message)
+}
+
 /// What the router at an end makes of a message for the prefix of that length of an address that it receives over the
 /// session, after the incoming lists and the incoming map of the neighbour (RFC 4271, section 9.1.1; RFC 4456, section
 /// 8). There is no route where it does not take the message: its own AS, identifier or cluster is in it, its path has
-/// more than 255 numbers or the map makes it so, a list denies it or the map drops it. `end` is a place in the network's
-/// ends; a message stands by the route of its fields. The message is to have a node for each value that the network
-/// tracks.
+/// more than 255 numbers or the map makes it so, a list denies it or the map drops it. `end` is a place in the
+/// network's ends; a message stands by the route of its fields. The message is to have a node for each value that the
+/// network tracks; where it stands for one that is received or for none, the result stands for what is made of it.
 pub fn sym_import(
     alloc: Global,
     terms: &mut Terms,
@@ -451,18 +489,11 @@ pub fn sym_import(
     ensures value { Gives terms.new result (λ w r. bgp_of w r ≡ option_and_then (λ s. option_and_then (λ at.
         importing.shape_imported net.now.tracked net.now.files at (prefix_of w dst.now len) s)
         (slice_get (ends_of net.now.files) end)) (bgp_of w message.now)) }
+    ensures stands { Gives terms.new result (λ w r. (sent : OptionOf BgpMsgOf)
+        → bgp_of w message.now ≡ option_map (message_shape net.now.tracked) sent
+        → StandsForBgp w net.now.tracked r (option_and_then (λ m. option_and_then (λ at.
+        exports.imported net.now.files at (prefix_of w dst.now len) m) (slice_get (ends_of net.now.files) end)) sent)) }
 {
-    let at = net.ends()[end as usize];
-    let own = router_id(alloc, net.routers(), net.addresses(), at.router)?;
-    sym_imported(
-        alloc,
-        terms,
-        net.tracked(),
-        net.routers(),
-        &at,
-        own,
-        dst,
-        len,
-        message,
-    )
+    let made = import_at(alloc, terms, net, end, dst, len, message)?;
+    Ok(made)
 }

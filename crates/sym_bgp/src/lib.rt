@@ -1,4 +1,5 @@
-//! BGP as terms over Boolean variables: whether a route is held, by the decision process.
+//! BGP as terms over Boolean variables: what a router sends, what it makes of what it receives, and whether a route is
+//! held by the decision process.
 //!
 //! Under every reading of the store a symbolic route is the shape of a plain one (`sym_policy`), and a call here reads
 //! as the function on shapes of its name (`bgp_shapes`), whose laws say what it stands for.

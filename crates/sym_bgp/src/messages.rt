@@ -1,6 +1,7 @@
 //! What a router sends of a symbolic route as the outgoing map leaves it (RFC 4271, section 5.1; RFC 4456, section 8).
 
-ghost use Rattle.std.specs.Prelude.{◌≡◌, ◌==◌, ℕ, ◌+◌, ◌^◌, ◌<◌, ◌≤◌, ◌&&◌, Bool, true, false, not, if◌then◌else◌, nat_lt};
+ghost use Rattle.std.specs.Prelude.{◌≡◌, ◌==◌, ℕ, ◌+◌, ◌^◌, ◌<◌, ◌≤◌, ◌&&◌, Bool, true, false, not, if◌then◌else◌};
+ghost use Rattle.std.specs.Prelude.{nat_lt};
 ghost use Rattle.std.specs.Prelude.{[], ◌∷◌, ◌++◌, IfOk, length, map, max};
 ghost use Rattle.std.specs.Option.{option_map};
 ghost use Rattle.term_store.specs.Terms.{Reading, size, at};
@@ -12,7 +13,8 @@ ghost use Rattle.route_shapes.specs.Shapes.{marks_with, shape_prepended};
 ghost use Rattle.bgp_shapes.specs.Exporting as exporting;
 ghost use Rattle.bgp_shapes.specs.Messages.{lacks_address, seen_by_maps};
 ghost use Rattle.sym_policy.specs.Held.{bgp_at, bgp_end, bgp_of};
-ghost use Rattle.sym_policy.specs.Routes.{path_at, path_end, preferences_at, preferences_end, rest_end, route_at, route_end};
+ghost use Rattle.sym_policy.specs.Routes.{path_at, path_end, preferences_at, preferences_end, rest_end, route_at};
+ghost use Rattle.sym_policy.specs.Routes.{route_end};
 ghost use Rattle.sym_policy.specs.Routes.{HasRows, IsBare};
 ghost use Rattle.sym_bgp.specs.Joined.{HasMarks, rest_at, rest_sent, with_rest};
 ghost use Rattle.sym_bgp.specs.Ways.{crossing_at, crossing_end};

@@ -66,7 +66,8 @@ pub(crate) fn copied(
     ensures within { IfOk result (λ r. map_rec_end r ≤ size terms.new) }
     ensures marks { IfOk result (λ r. HasMarks tracked.now r.bgp) }
     ensures type1 { Gives terms.new result (λ w r. at w r.type1 ≡ false) }
-    ensures value { Gives terms.new result (λ w r. bgp_of w r.bgp ≡ (if at w there then Some (bgp_at w held.now) else None)) }
+    ensures value { Gives terms.new result (λ w r. bgp_of w r.bgp
+        ≡ (if at w there then Some (bgp_at w held.now) else None)) }
 {
     let route = seen_of(alloc, terms, tracked, held)?;
     let rest = rest_of(alloc, held)?;

@@ -1,7 +1,8 @@
-//! How a route goes on over a session, by the end over which it was learnt, as terms (RFC 4271, section 5.1.3; RFC 4456,
-//! section 6).
+//! How a route goes on over a session, by the end over which it was learnt, as terms (RFC 4271, section 5.1.3; RFC
+//! 4456, section 6).
 
-ghost use Rattle.std.specs.Prelude.{◌≡◌, ◌==◌, ℕ, ◌+◌, ◌^◌, ◌<◌, ◌≤◌, Bool, false, if◌then◌else◌, Some, None, IfOk, length};
+ghost use Rattle.std.specs.Prelude.{◌≡◌, ◌==◌, ℕ, ◌+◌, ◌^◌, ◌<◌, ◌≤◌, Bool, false, if◌then◌else◌, Some, None, IfOk};
+ghost use Rattle.std.specs.Prelude.{length};
 ghost use Rattle.std.specs.Prelude.{max, List as ListOf};
 ghost use Rattle.ios_ast.specs.declared.bgp.Bgp.{Bgp as BgpOf};
 ghost use Rattle.ios_ast.specs.declared.bgp.Neighbour.{Neighbour as NeighbourOf};

@@ -1,5 +1,3 @@
-use Rattle.std.proofs.Common.{ap, ◌∙◌}
-use Rattle.std.proofs.Common.{length}
 use Rattle.route_record.specs.Sides.{at_external}
 use Rattle.route_shapes.specs.Shapes.{shape_through_map}
 use Rattle.sym_policy.specs.Records.{prefix_of}
