@@ -20,9 +20,9 @@ use Rattle.route_record.specs.declared.TheConstants.{LENGTHS}
 use Rattle.route_record.specs.Fits.{FitsSlot}
 use Rattle.route_record.specs.Places.{slot_at}
 use Rattle.net_parts.specs.Stable.{IsStableSlot, Stable}
-use Rattle.slot_places.specs.declared.places.Place.{Place}
-use Rattle.slot_places.specs.Places.{has_place, is_at, item_at, place}
-use Rattle.slot_places.specs.Tables.{all_hold, empty_slot, row_from, rows_from, slot_among, tables_over, tabulated}
+use Rattle.plan_places.specs.declared.places.Place.{Place}
+use Rattle.plan_places.specs.Places.{has_place, is_at, item_at, place}
+use Rattle.plan_places.specs.Tables.{all_hold, empty_slot, row_from, rows_from, slot_among, tables_over, tabulated}
 
 -- ---- the slot at each router and length
 

@@ -7,7 +7,7 @@ ghost use Rattle.slot_places.specs.Origins as origins;
 ghost use Rattle.slot_places.specs.Rooms as rooms;
 
 use crate::origins::{is_static_at, is_subnet_at};
-use crate::places::Place;
+use plan_places::Place;
 use crate::rooms::{Room, room_for};
 use ios_ast::{File, StaticRoute};
 use mw_text::{List, Prefix};

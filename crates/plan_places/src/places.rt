@@ -1,11 +1,11 @@
 //! The places of a plan: at which prefix lengths its slices stand, and so which slots a router has.
 
-ghost use Rattle.std.specs.Prelude.{◌≡◌, ◌==◌, ◌++◌, ◌<◌, IfOk, IfSome, OnOk, length, map, position, slice_get, unwrap_or};
+ghost use Rattle.std.specs.Prelude.{◌≡◌, ℕ, ◌==◌, ◌++◌, ◌*◌, ◌<◌, ◌≤◌, IfOk, IfSome, OnOk, length, map, position, slice_get, unwrap_or};
 ghost use Rattle.std.specs.List.{count_by};
 ghost use Rattle.std.specs.Option.{option_copied};
 ghost use Rattle.route_record.specs.declared.TheConstants as constants;
-ghost use Rattle.slot_places.specs.Places as standing;
-ghost use Rattle.slot_places.specs.Plans as plans;
+ghost use Rattle.plan_places.specs.Places as standing;
+ghost use Rattle.plan_places.specs.Plans as plans;
 
 use mw_text::List;
 use route_record::{LENGTHS, Plan};
@@ -146,5 +146,27 @@ pub fn item_at<'a, T>(places: &[Place], items: &'a [T], router: u32, len: u8) ->
     match find_place(places, router, len) {
         None => None,
         Some(at) => item(items, at),
+    }
+}
+
+// Where a length stands among some.
+fn find_length(lens: &[u8], len: u8) -> Option<usize>
+    ensures place { result ≡ position (λ l. l == len) lens.now }
+    ensures within { IfSome result (λ at. at < length lens.now) }
+{
+    lens.iter().position(|l| *l == len)
+}
+
+/// Of things that stand at the places of some routers, one at each, the one of that router and length, where each router
+/// has a place at each of these lengths. None where there is no such place.
+#[tactic(auto, using(crate::proofs::PlaceSteps::among_found, crate::proofs::PlaceSteps::among_none, crate::proofs::PlaceSteps::no_overflow))]
+pub fn item_among<'a, T>(lens: &[u8], items: &'a [T], router: u32, len: u8) -> Option<&'a T>
+    requires few { length lens.now ≤ constants.LENGTHS }
+    ensures { (routers : ℕ) → length items.now ≡ routers * length lens.now →
+        option_copied result ≡ standing.item_at (standing.places_below lens.now routers) items.now router len }
+{
+    match find_length(lens, len) {
+        None => None,
+        Some(at) => item(items, router as usize * lens.len() + at),
     }
 }

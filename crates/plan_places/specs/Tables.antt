@@ -5,8 +5,8 @@ use Rattle.std.specs.Option.{option_map_or}
 use Rattle.route_record.specs.declared.Slot.{Slot}
 use Rattle.route_record.specs.declared.Tables.{Tables}
 use Rattle.route_record.specs.declared.TheConstants.{LENGTHS}
-use Rattle.slot_places.specs.declared.places.Place.{Place}
-use Rattle.slot_places.specs.Places.{item_at, place}
+use Rattle.plan_places.specs.declared.places.Place.{Place}
+use Rattle.plan_places.specs.Places.{item_at, place}
 
 -- a slot in which nothing stands
 abbrev pub empty_slot : Slot

@@ -3,8 +3,8 @@ use Rattle.std.specs.Prelude.{ℕ, zero, suc, ◌==◌, ◌&&◌, ◌⊎◌, ◌
 use Rattle.std.specs.Prelude.{None, if◌then◌else◌}
 use Rattle.std.specs.List.{list_any}
 use Rattle.route_record.specs.declared.Plan.{Plan}
-use Rattle.slot_places.specs.declared.places.Place.{Place}
-use Rattle.slot_places.specs.Plans.{lens_of}
+use Rattle.plan_places.specs.declared.places.Place.{Place}
+use Rattle.plan_places.specs.Plans.{lens_of}
 
 abbrev pub place : ℕ → ℕ → Place
 place router len = record { router = router; len = len }

@@ -1,6 +1,6 @@
 use Rattle.std.proofs.Common.{◌≡◌, ◌++◌, drop, map}
-use Rattle.slot_places.specs.Places.{place}
-use Rattle.slot_places.proofs.places.add_places.Given as goal
+use Rattle.plan_places.specs.Places.{place}
+use Rattle.plan_places.proofs.places.add_places.Given as goal
 
 abbrev pub invariant-loop-len : goal.invariant-loop-len
 invariant-loop-len l =
