@@ -1,18 +1,15 @@
 -- Which places a plan has, in which order, and how many.
-use Rattle.std.proofs.Common.{◌≡◌, ℕ, zero, suc, ◌*◌, ◌<◌, ◌≤◌, Bool, true, false, List, [], ◌∷◌, ◌++◌, length, map}
-use Rattle.std.proofs.Common.{inl, inr, refl, sym, ap, subst, arith, ◌∙◌, length-append}
+use Rattle.std.proofs.Common.{◌≡◌, ℕ, zero, suc, ◌<◌, ◌≤◌, Bool, true, false, List, [], ◌∷◌, ◌++◌, length, map}
+use Rattle.std.proofs.Common.{inl, inr, refl, sym, ap, subst, arith, ◌∙◌}
 use Rattle.std.specs.Prelude.{◌⊎◌, ◌==◌, All, AllPairs, if◌then◌else◌}
 use Rattle.std.proofs.lemmas.Bool.{and_from, and_parts, cases_lt, eqb-true, eq-eqb, false≢true}
-use Rattle.std.proofs.lemmas.List.{length-map}
 use Rattle.std.proofs.lemmas.List.Elements.{All-append}
 use Rattle.std.proofs.lemmas.List.Kept.{AllPairs-cons}
-use Rattle.std.proofs.Math.Nat.{suc-mul}
 use Rattle.mw_text.proofs.Lists.{below_at}
 use Rattle.mw_text.specs.Members.{In, all_below}
 use Rattle.route_record.specs.declared.Plan.{Plan}
 use Rattle.net_parts.proofs.LeastWalks.{in-cases, in-left, in-map, in-right}
 use Rattle.plan_places.specs.declared.places.Place.{Place}
-use Rattle.plan_places.proofs.PlaceSteps.{places-length}
 use Rattle.mw_text.specs.declared.address.Prefix.{Prefix}
 use Rattle.ios_ast.specs.declared.file.File.{File}
 use Rattle.route_record.specs.declared.TheConstants.{LENGTHS}
@@ -98,8 +95,6 @@ in-places lens (suc n) p there =
         (In p (places_below lens n) → (p.router < n) × In p.len lens) → (p.router < suc n) × In p.len lens
     by (inl front) rest = let found = rest front in let less = found.0 in (omega (arith, less), found.1)
     by (inr back) rest = last (in-map (place n) lens p back)
-
-
 
 -- ---- in which order
 
