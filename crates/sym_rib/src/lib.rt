@@ -25,4 +25,4 @@ pub use entry::sym_entry;
 pub use into_bgp::sym_originate;
 pub use into_ospf::sym_redistribute;
 pub use places::slot_for;
-pub use slots::{SymRib, SymSlot};
+pub use slots::{SymRib, SymSlot, SymTables};
