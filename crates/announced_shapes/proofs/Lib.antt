@@ -1,0 +1,5 @@
+pub mod PlainShape
+pub mod PathLaw
+pub mod Announced
+pub mod Announcing
+pub mod AnnouncementLaw

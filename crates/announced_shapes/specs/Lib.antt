@@ -1,0 +1,3 @@
+pub mod Paths
+pub mod Announcements
+pub mod Sets
