@@ -3,3 +3,4 @@ pub mod PathLaw
 pub mod Announced
 pub mod Announcing
 pub mod AnnouncementLaw
+pub mod TakenSteps

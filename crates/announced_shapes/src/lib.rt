@@ -2,3 +2,6 @@
 #![tactic(auto)]
 
 pub mod laws;
+mod paths;
+
+pub use paths::{rebuilt_communities, rebuilt_path};
