@@ -1,0 +1,6 @@
+pub mod Options
+pub mod Marks
+pub mod ShapeMaps
+pub mod Crossed
+pub mod Numbered
+pub mod Ranks
