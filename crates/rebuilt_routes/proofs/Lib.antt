@@ -6,3 +6,4 @@ pub mod Numbered
 pub mod Ranks
 pub mod Fuel
 pub mod Followed
+pub mod EndsApart
