@@ -4,3 +4,6 @@ pub mod ShapeMaps
 pub mod Crossed
 pub mod Numbered
 pub mod Ranks
+pub mod Fuel
+pub mod Followed
+pub mod EndsApart

@@ -1,6 +1,6 @@
 -- The route that the shape of a held route stands for, followed back over the session over which it was learnt: over
 -- sessions between routers, to an announcement or to a local route.
-use Rattle.std.specs.Prelude.{ℕ, zero, suc, ◌==◌, ◌&&◌, List, [], map, Option, Some, None, option_and_then, option_map}
+use Rattle.std.specs.Prelude.{◌≡◌, ◌<◌, length, ℕ, zero, suc, ◌==◌, ◌&&◌, List, [], map, Option, Some, None, option_and_then, option_map}
 use Rattle.std.specs.Prelude.{slice_get, if◌then◌else◌}
 use Rattle.std.specs.List.{enumerate_from, find}
 use Rattle.std.specs.Option.{option_map_or}
@@ -20,7 +20,7 @@ use Rattle.net_parts.specs.Sessions.{ends_of, neighbour_of}
 use Rattle.route_shapes.specs.Bgp.{BgpShape, bgp_shape}
 use Rattle.bgp_shapes.specs.Candidates.{ShapeSlot, environment_shape, shape_arriving}
 use Rattle.bgp_shapes.specs.Crossings.{is_from}
-use Rattle.bgp_shapes.specs.Held.{same_shape}
+use Rattle.bgp_shapes.specs.Held.{HasMarks, same_shape}
 use Rattle.bgp_shapes.specs.Importing.{shape_imported}
 use Rattle.bgp_shapes.specs.Messages.{lacks_address}
 
@@ -86,3 +86,29 @@ shape_followed tracked files environment slots p router s =
     else option_and_then (λ e. option_and_then (shape_imported tracked files e.1 p)
     (shape_arriving tracked files (environment_shape tracked environment) slots p e.0 e.1))
     (numbered_end files router s.from)
+
+-- ---- the law
+
+-- a shape that a router of the network holds follows: the step on shapes gives it again
+pub record IsFollowed (tracked : Tracked) (files : List File) (environment : Environment) (slots : ℕ → Option ShapeSlot)
+    (p : Prefix) (router : ℕ) (s : BgpShape) : Type 0 where
+  pub within : router < length files
+  pub marks : HasMarks tracked s
+  pub follows : shape_followed tracked files environment slots p router s ≡ Some s
+
+-- so do all
+abbrev pub AllFollow : Tracked → List File → Environment → (ℕ → Option ShapeSlot) → Prefix → Type 0
+AllFollow tracked files environment slots p =
+    (router : ℕ) (s : BgpShape) → held_at slots router ≡ Some s → IsFollowed tracked files environment slots p router s
+
+-- routes have the held shapes, and each is the route that its shape says of the routes themselves
+pub record AreReal (tracked : Tracked) (files : List File) (environment : Environment) (slots : ℕ → Option ShapeSlot)
+    (p : Prefix) (routes : ℕ → Option BgpRec) : Type 0 where
+  pub shaped : (router : ℕ) → option_map (bgp_shape tracked) (routes router) ≡ held_at slots router
+  pub again : (router : ℕ) → routes router
+      ≡ option_and_then (followed tracked files environment slots p routes router) (held_at slots router)
+
+-- the routes of a network that are followed back over as many routers as there are
+abbrev pub real_routes : Tracked → List File → Environment → (ℕ → Option ShapeSlot) → Prefix → ℕ → Option BgpRec
+real_routes tracked files environment slots p router =
+    real_route tracked files environment slots p (length files) router
