@@ -4,3 +4,4 @@ pub mod Announced
 pub mod Announcing
 pub mod AnnouncementLaw
 pub mod TakenSteps
+pub mod EnvironmentLaw
