@@ -1,0 +1,3 @@
+pub mod Sets
+pub mod Ends
+pub mod Announced
