@@ -157,3 +157,99 @@ fn arriving(
         Far::Inside(far_at) => from_inside(alloc, net, p, far_at, route),
     }
 }
+
+// What the router makes of the message that arrives from the neighbour with that address, where the far router has that
+// route.
+fn learnt_route(
+    alloc: Global,
+    net: &Net,
+    env: &Environment,
+    p: &Prefix,
+    router: u32,
+    a: Addr,
+    route: &Option<BgpRec>,
+) -> Result<Option<BgpRec>, AllocError>
+    ensures { IfOk result (λ r. r ≡ option_and_then (λ e. option_and_then (exports.imported net.now.files e.1 p.now)
+        (routes.arriving_of net.now.files env.now (λ _. route.now) p.now e.0 e.1))
+        (routes.numbered_end net.now.files router (2 ^ 32 + a.0))) }
+{
+    let Some((at, end)) = numbered_end(net, router, a) else {
+        return Ok(None);
+    };
+    match arriving(alloc, net, env, p, at, &end, route)? {
+        None => Ok(None),
+        Some(msg) => import(alloc, net, at, p, &msg),
+    }
+}
+
+// The route of the router whose shape is known, where the router from which it was learnt has that route.
+#[tactic(auto, using(crate::proofs::Steps::has_address))]
+fn follow(
+    alloc: Global,
+    net: &Net,
+    env: &Environment,
+    held: &[Option<ShapeRec>],
+    rest: &Tables,
+    p: &Prefix,
+    router: u32,
+    known: &ShapeRec,
+    route: &Option<BgpRec>,
+) -> Result<Option<BgpRec>, AllocError>
+    requires { AreFew net.now.tracked }
+    ensures { IfOk result (λ r. r ≡ routes.followed net.now.tracked net.now.files env.now
+        (slots_of net.now.tracked held.now rest.now p.now.len) p.now (λ _. route.now) router
+        (route_of net.now.tracked known.now)) }
+{
+    match known.rec.from {
+        Learnt::Local => local_route(alloc, net, held, rest, p, router, known),
+        Learnt::Peer(a) => learnt_route(alloc, net, env, p, router, a, route),
+    }
+}
+
+// The shape that stands for a router that has a slot for the prefix.
+fn held_at<'a>(
+    held: &'a [Option<ShapeRec>],
+    rest: &Tables,
+    len: u8,
+    router: u32,
+) -> Option<&'a ShapeRec>
+    ensures { option_copied result ≡ option_and_then (λ _. known_at held.now len router) (slot_at rest.now router len) }
+{
+    match rest.slot(router, len) {
+        None => None,
+        Some(_) => known_at(held, len, router),
+    }
+}
+
+/// The route of a router for the prefix, followed back over the sessions of so many routers at most: where its shape is
+/// that of a local route, the first local route of that shape that the router has beside the rest of its slot; and else
+/// what the router makes of what the far side of the session really sends. `env` is what external peers announce, and
+/// `held` has the shapes by router and then by prefix length. None where the router has no shape, or the way back does
+/// not end.
+#[tactic(auto, using(crate::proofs::Steps::real_none, crate::proofs::Steps::real_unknown, crate::proofs::Steps::real_more))]
+pub fn real_route(
+    alloc: Global,
+    net: &Net,
+    env: &Environment,
+    held: &[Option<ShapeRec>],
+    rest: &Tables,
+    p: &Prefix,
+    fuel: u32,
+    router: u32,
+) -> Result<Option<BgpRec>, AllocError>
+    requires { AreFew net.now.tracked }
+    ensures { IfOk result (λ r. r ≡ routes.real_route net.now.tracked net.now.files env.now
+        (slots_of net.now.tracked held.now rest.now p.now.len) p.now fuel router) }
+{
+    if fuel == 0 {
+        return Ok(None);
+    }
+    let Some(known) = held_at(held, rest, p.len, router) else {
+        return Ok(None);
+    };
+    let route = match source(net, router, known) {
+        None => None,
+        Some(far) => real_route(alloc, net, env, held, rest, p, fuel - 1, far)?,
+    };
+    follow(alloc, net, env, held, rest, p, router, known, &route)
+}
