@@ -7,3 +7,5 @@ pub mod Ranks
 pub mod Fuel
 pub mod Followed
 pub mod EndsApart
+pub mod Plain
+pub mod Sources
