@@ -9,3 +9,4 @@ pub mod Followed
 pub mod EndsApart
 pub mod Plain
 pub mod Sources
+pub mod Supported
