@@ -10,3 +10,4 @@ pub mod EndsApart
 pub mod Plain
 pub mod Sources
 pub mod Supported
+pub mod ReflectorsOnce
