@@ -11,3 +11,5 @@ pub mod Plain
 pub mod Sources
 pub mod Supported
 pub mod ReflectorsOnce
+pub mod SameKeys
+pub mod ShapesFollow
