@@ -13,3 +13,4 @@ pub mod Supported
 pub mod ReflectorsOnce
 pub mod SameKeys
 pub mod ShapesFollow
+pub mod RoutesDecided
