@@ -14,3 +14,4 @@ pub mod ReflectorsOnce
 pub mod SameKeys
 pub mod ShapesFollow
 pub mod RoutesDecided
+pub mod StableShapes

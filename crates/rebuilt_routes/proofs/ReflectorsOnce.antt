@@ -308,8 +308,9 @@ module _ (files : List File) (environment : Environment) (p : Prefix) (tracked :
         IsPlain rec ⊎ IsHeardRoute files environment p routes router rec) →
         (router : ℕ) (rec : BgpRec) → routes router ≡ Some rec → IsUnlooped tracked files router rec
     all_unlooped limits routes sourced =
-        supported files environment p tracked net limits routes sourced
-        (λ router rec. IsUnlooped tracked files router rec) (λ router rec holds plain. plain_unlooped router rec plain)
+        supported files environment p tracked net limits routes (λ router rec. IsPlain rec) (λ router rec plain. plain)
+        sourced (λ router rec. IsUnlooped tracked files router rec)
+        (λ router rec plain. plain_unlooped router rec plain)
         (λ router rec heard said. subst (λ r. IsUnlooped tracked files r rec) heard.is.own
         (taken_unlooped heard.end heard.message rec
         (none_listed heard.message.clusters (sym (ap (λ (m : BgpMsg). m.clusters) said.is))) heard.taken))

@@ -74,7 +74,7 @@ map-in f x [] there = absurd there
 map-in f x (y ∷ ys) (inl same) = inl (ap f same)
 map-in f x (y ∷ ys) (inr later) = inr (map-in f x ys later)
 
-all_members : {X : Type 0} (P : X → Type 0) (xs : List X) → All P xs → (x : X) → In x xs → P x
+pub all_members : {X : Type 0} (P : X → Type 0) (xs : List X) → All P xs → (x : X) → In x xs → P x
 all_members P xs all x there = All-contains P xs x all (in-contains x xs there)
 
 any_member : {X : Type 0} (P : X → Type 0) (xs : List X) (x : X) → In x xs → P x → Any P xs

@@ -165,12 +165,13 @@ module _ (files : List File) (environment : Environment) (p : Prefix) where
         }
 
     -- a rank that is less behind a heard route
-    module _ (limits : list_all keeps_limits files ≡ true) (routes : ℕ → Option BgpRec)
-      (sourced : (router : ℕ) (rec : BgpRec) → routes router ≡ Some rec → IsPlain rec ⊎ IsHeardRoute routes router rec)
+    module _ (limits : list_all keeps_limits files ≡ true) (routes : ℕ → Option BgpRec) (Own : ℕ → BgpRec → Type 0)
+      (is_plain : (router : ℕ) (rec : BgpRec) → Own router rec → IsPlain rec)
+      (sourced : (router : ℕ) (rec : BgpRec) → routes router ≡ Some rec → Own router rec ⊎ IsHeardRoute routes router rec)
       where
-        kept : (router : ℕ) (rec : BgpRec) → IsPlain rec ⊎ IsHeardRoute routes router rec →
+        kept : (router : ℕ) (rec : BgpRec) → Own router rec ⊎ IsHeardRoute routes router rec →
             IsKept tracked files router (shape rec)
-        kept router rec (inl plain) = plain_kept router rec plain
+        kept router rec (inl own) = plain_kept router rec (is_plain router rec own)
         kept router rec (inr heard) = heard_kept routes router rec heard
 
         less : (router : ℕ) (rec : BgpRec) (heard : IsHeardRoute routes router rec) →
@@ -189,9 +190,9 @@ module _ (files : List File) (environment : Environment) (p : Prefix) where
             ∙ sym (end_alone files heard.end.router (2 ^ 32 + taken.neighbour.addr.0))
             ∙ ap (option_map (λ (e : ℕ × SessionEnd). e.1)) found))
 
-        -- what is true of plain routes and of what is made of announcements, and is kept by sessions
+        -- what is true of local routes and of what is made of announcements, and is kept by sessions
         module _ (P : ℕ → BgpRec → Type 0)
-          (plain : (router : ℕ) (rec : BgpRec) → routes router ≡ Some rec → IsPlain rec → P router rec)
+          (local : (router : ℕ) (rec : BgpRec) → Own router rec → P router rec)
           (announced : (router : ℕ) (rec : BgpRec) (heard : IsHeardRoute routes router rec) →
           IsAnnounced heard.at heard.end heard.message → P router rec)
           (sent : (router : ℕ) (rec : BgpRec) (heard : IsHeardRoute routes router rec) →
@@ -212,10 +213,10 @@ module _ (files : List File) (environment : Environment) (p : Prefix) where
                     let nearer = less router rec heard from in
                     sent router rec heard from (rest from.far.router from.held from.holds (omega (arith, nearer, below)))
 
-                by : IsPlain rec ⊎ IsHeardRoute routes router rec →
+                by : Own router rec ⊎ IsHeardRoute routes router rec →
                     ((far : ℕ) (held : BgpRec) → routes far ≡ Some held → rank files far (shape held) < fuel →
                     P far held) → P router rec
-                by (inl own) rest = plain router rec holds own
+                by (inl own) rest = local router rec own
                 by (inr heard) rest =
                     by_message heard (arrived_from routes heard.at heard.end heard.message heard.arrived) rest
 
