@@ -1,7 +1,8 @@
 -- The cluster lists of reflected routes (RFC 4456, section 7), and what sessions keep.
-use Rattle.std.specs.Prelude.{◌≡◌, ◌≤◌, ◌==◌, ◌&&◌, ℕ, Bool, true, not, List, [], ◌∷◌, length, slice_get, Some}
+use Rattle.std.specs.Prelude.{◌≡◌, ◌≤◌, ◌==◌, ◌&&◌, ℕ, Bool, true, not, List, [], ◌∷◌, length, slice_get, All, Some}
 use Rattle.std.specs.List.{find, list_all}
 use Rattle.mw_text.specs.declared.address.Prefix.{Prefix}
+use Rattle.ios_ast.specs.declared.bgp.Bgp.{Bgp}
 use Rattle.ios_ast.specs.declared.bgp.Neighbour.{Neighbour}
 use Rattle.ios_ast.specs.declared.file.File.{File}
 use Rattle.ios_ast.specs.Deciding.{carries}
@@ -9,10 +10,14 @@ use Rattle.route_record.specs.declared.Announcement.{Announcement}
 use Rattle.route_record.specs.declared.BgpMsg.{BgpMsg}
 use Rattle.route_record.specs.declared.BgpRec.{BgpRec}
 use Rattle.route_record.specs.declared.Environment.{Environment}
+use Rattle.route_record.specs.declared.Slot.{Slot}
+use Rattle.route_record.specs.declared.Tables.{Tables}
 use Rattle.route_record.specs.declared.tracked.Tracked.{Tracked}
+use Rattle.route_record.specs.Places.{slot_at}
 use Rattle.net_parts.specs.declared.sessions.Far.TheVariants.{Outside, Inside}
 use Rattle.net_parts.specs.declared.sessions.SessionEnd.{SessionEnd}
 use Rattle.net_parts.specs.Exports.{announced_message, exported, imported}
+use Rattle.net_parts.specs.Origins.{local_routes}
 use Rattle.net_parts.specs.Sessions.{ends_of, neighbour_of}
 use Rattle.net_parts.specs.Tracked.{numbers_of}
 
@@ -26,6 +31,13 @@ pub record NamesReflectorsOnce (tracked : Tracked) (rec : BgpRec) : Type 0 where
   pub once : stands_once (numbers_of rec.clusters) ≡ true
   pub tracked_all : list_all (carries (numbers_of tracked.clusters)) (numbers_of rec.clusters) ≡ true
   pub few : length rec.clusters ≤ length tracked.clusters
+
+-- what is true of the local routes that the tables give the routers
+abbrev pub HoldsOfLocalRoutes : List File → Tables → Prefix → (ℕ → BgpRec → Bool) → Type 0
+HoldsOfLocalRoutes files tables p P =
+    (router : ℕ) (file : File) (process : Bgp) (slot : Slot) → slice_get files router ≡ Some file →
+    file.bgp ≡ Some process → slot_at tables router p.len ≡ Some slot →
+    All (λ rec. P router rec ≡ true) (local_routes files router file process p slot)
 
 -- what is true of a route that a router makes of an announcement, and of one that it makes of what a router sends where
 -- it is true of the route that this one holds
