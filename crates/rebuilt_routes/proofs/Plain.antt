@@ -1,6 +1,6 @@
 -- Local routes have no lists, no originator and no peer.
-use Rattle.std.proofs.Common.{◌≡◌, ℕ, Bool, true, false, List, [], ◌∷◌, ◌++◌, Option, Some, None, refl, if◌then◌else◌}
-use Rattle.std.specs.Prelude.{All, IfSome, option_and_then, option_map, unwrap_or}
+use Rattle.std.proofs.Common.{◌≡◌, ℕ, Bool, true, false, List, [], ◌∷◌, Option, Some, None, refl, if◌then◌else◌}
+use Rattle.std.specs.Prelude.{All, IfSome, option_map, unwrap_or}
 use Rattle.std.specs.List.{cons_option, filter_map}
 use Rattle.std.proofs.lemmas.List.Elements.{All-append, All-cons, All-nil}
 use Rattle.mw_text.specs.declared.address.Prefix.{Prefix}

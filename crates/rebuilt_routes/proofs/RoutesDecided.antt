@@ -1,11 +1,11 @@
 -- The routes that are followed back from decided shapes are decided.
-use Rattle.std.proofs.Common.{◌≡◌, ℕ, zero, ◌+◌, ◌^◌, ◌<◌, ◌≤◌, ◌==◌, ◌⊎◌, inl, inr, Bool, true, false, not, List, []}
-use Rattle.std.proofs.Common.{◌∷◌, ◌++◌, length, map, Option, Some, None, refl, sym, ap, ◌∙◌, subst, arith}
+use Rattle.std.proofs.Common.{◌≡◌, ℕ, ◌+◌, ◌^◌, ◌==◌, ◌⊎◌, inl, inr, Bool, true, false, not, List, []}
+use Rattle.std.proofs.Common.{◌∷◌, length, map, Option, Some, None, refl, sym, ap, ◌∙◌, subst, arith}
 use Rattle.std.proofs.Common.{if◌then◌else◌, is_some}
 use Rattle.std.specs.Prelude.{All, Any, IfSome, MatchOption, filter, option_and_then, option_map, slice_get, unwrap_or}
 use Rattle.std.specs.List.{enumerate_from, filter_map, find, list_all}
 use Rattle.std.specs.Option.{option_map_or}
-use Rattle.std.proofs.lemmas.List.Elements.{All-contains, All-from_get_or, All-nil, All-weaker}
+use Rattle.std.proofs.lemmas.List.Elements.{All-contains, All-nil, All-weaker}
 use Rattle.mw_text.specs.Members.{In}
 use Rattle.mw_text.specs.declared.address.Addr.{Addr}
 use Rattle.mw_text.specs.declared.address.Prefix.{Prefix}
@@ -13,7 +13,6 @@ use Rattle.ios_ast.specs.declared.bgp.Bgp.{Bgp}
 use Rattle.ios_ast.specs.declared.file.File.{File}
 use Rattle.ios_ast.specs.Limits.{keeps_limits}
 use Rattle.ios_ast.specs.Paths.{first_of}
-use Rattle.route_record.specs.declared.BgpMsg.{BgpMsg}
 use Rattle.route_record.specs.declared.BgpRec.{BgpRec}
 use Rattle.route_record.specs.declared.Environment.{Environment}
 use Rattle.route_record.specs.declared.Failures.{Failures}
@@ -24,7 +23,6 @@ use Rattle.route_record.specs.Places.{slot_at}
 use Rattle.net_parts.specs.declared.sessions.SessionEnd.{SessionEnd}
 use Rattle.net_parts.specs.Decisions.{Candidate, DecidedByBgp, IsHeld, Key, arriving, candidates, candidates_from}
 use Rattle.net_parts.specs.Decisions.{is_local, key_of, learnt_candidate, local_candidate, peer_address, survivors}
-use Rattle.net_parts.specs.Decisions.{survivors_by}
 use Rattle.net_parts.specs.Exports.{imported, router_id}
 use Rattle.net_parts.specs.Origins.{local_routes}
 use Rattle.net_parts.specs.Sessions.{ends_of}
@@ -41,11 +39,9 @@ use Rattle.bgp_shapes.specs.Tracking.{TracksTests}
 use Rattle.bgp_shapes.proofs.CandidateLaw.{candidates_shape}
 use Rattle.bgp_shapes.proofs.HeldLaw.{held_sound}
 use Rattle.bgp_shapes.proofs.TrackedLaw.{tests_tracked}
-use Rattle.rebuilt_routes.specs.Clusters.{NamesReflectorsOnce}
-use Rattle.rebuilt_routes.specs.Deciding.{AreDecided, AreDecidedShapes, HaveRealRoutes, is_decided_shape}
+use Rattle.rebuilt_routes.specs.Deciding.{AreDecided, AreDecidedShapes, HaveRealRoutes}
 use Rattle.rebuilt_routes.specs.Following.{AllFollow, AreReal, arriving_of, followed, held_at, numbered_end, own_routes}
 use Rattle.rebuilt_routes.specs.Following.{real_routes, slot_with}
-use Rattle.rebuilt_routes.proofs.Crossed.{IsShapeTaken}
 use Rattle.rebuilt_routes.proofs.EndsApart.{end_again}
 use Rattle.rebuilt_routes.proofs.Followed.{are_real}
 use Rattle.rebuilt_routes.proofs.Numbered.{from_end, has_address, IsNumbered, numbered_place}
@@ -55,7 +51,7 @@ use Rattle.rebuilt_routes.proofs.ReflectorsOnce.{IsRouteTaken, IsUnlooped, all_u
 use Rattle.rebuilt_routes.proofs.ReflectorsOnce.{route_taken_parts}
 use Rattle.rebuilt_routes.proofs.SameKeys.{same_survives}
 use Rattle.rebuilt_routes.proofs.ShapesFollow.{all_follow, own_plain, own_there}
-use Rattle.rebuilt_routes.proofs.Sources.{IsCandidateFrom, IsEnd, IsLearntRoute, arriving_in, candidates_have_sources}
+use Rattle.rebuilt_routes.proofs.Sources.{IsCandidateFrom, IsLearntRoute, arriving_in, candidates_have_sources}
 use Rattle.rebuilt_routes.proofs.Sources.{routes_in, survivors_all}
 use Rattle.rebuilt_routes.proofs.Supported.{IsHeardRoute, arrived_from, taken_parts}
 

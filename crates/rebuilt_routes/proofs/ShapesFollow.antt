@@ -1,8 +1,8 @@
 -- Shapes that are decided follow: each is that of a local route, or was learnt over the end of which it says so.
-use Rattle.std.proofs.Common.{◌≡◌, ℕ, ◌+◌, ◌^◌, ◌<◌, ◌==◌, ◌⊎◌, inl, inr, Bool, true, false, not, List, [], ◌∷◌, length}
-use Rattle.std.proofs.Common.{map, Option, Some, None, refl, sym, ap, ◌∙◌, subst, if◌then◌else◌, is_some}
-use Rattle.std.specs.Prelude.{All, option_and_then, option_map, slice_get}
-use Rattle.std.specs.List.{find, list_all, list_any}
+use Rattle.std.proofs.Common.{◌≡◌, ℕ, ◌+◌, ◌^◌, ◌⊎◌, inl, inr, Bool, true, false, List, [], ◌∷◌}
+use Rattle.std.proofs.Common.{map, Option, Some, None, refl, sym, ap, ◌∙◌, subst, if◌then◌else◌}
+use Rattle.std.specs.Prelude.{All, option_and_then, slice_get}
+use Rattle.std.specs.List.{find, list_all}
 use Rattle.std.specs.Option.{option_map_or}
 use Rattle.std.proofs.lemmas.List.Elements.{All-contains, All-nil}
 use Rattle.std.proofs.lemmas.List.Folds.{Any-from_list_any}
@@ -12,7 +12,6 @@ use Rattle.mw_text.proofs.Lists.{item_there}
 use Rattle.ios_ast.specs.declared.bgp.Bgp.{Bgp}
 use Rattle.ios_ast.specs.declared.file.File.{File}
 use Rattle.ios_ast.specs.Limits.{keeps_limits}
-use Rattle.route_record.specs.declared.BgpMsg.{BgpMsg}
 use Rattle.route_record.specs.declared.BgpRec.{BgpRec}
 use Rattle.route_record.specs.declared.Environment.{Environment}
 use Rattle.route_record.specs.declared.Failures.{Failures}
@@ -38,7 +37,7 @@ use Rattle.bgp_shapes.proofs.CandidateLaw.{arriving_shape}
 use Rattle.bgp_shapes.proofs.HeldLaw.{same_itself, same_shape-true}
 use Rattle.bgp_shapes.proofs.TrackedLaw.{tests_tracked}
 use Rattle.rebuilt_routes.specs.Deciding.{AreDecidedShapes, is_decided_shape}
-use Rattle.rebuilt_routes.specs.Following.{AllFollow, IsFollowed, held_at, numbered_end, own_routes, shape_followed}
+use Rattle.rebuilt_routes.specs.Following.{AllFollow, held_at, numbered_end, own_routes, shape_followed}
 use Rattle.rebuilt_routes.specs.Following.{slot_with}
 use Rattle.rebuilt_routes.proofs.Crossed.{IsShapeSent, IsShapeTaken, shape_sent_parts, shape_taken_parts}
 use Rattle.rebuilt_routes.proofs.EndsApart.{end_again}

@@ -1,16 +1,15 @@
 -- Where candidates come from: each is a local route, or what the router made of what arrived over the session of one of
 -- its ends; of routes and of shapes.
-use Rattle.std.proofs.Common.{◌≡◌, ℕ, zero, suc, ◌+◌, ◌==◌, ◌&&◌, ◌⊎◌, inl, inr, Bool, true, false, not, List, []}
-use Rattle.std.proofs.Common.{◌∷◌, ◌++◌, Option, Some, None, map, filter, fold, if◌then◌else◌, refl, sym, ap, ◌∙◌}
+use Rattle.std.proofs.Common.{◌≡◌, ℕ, zero, suc, ◌+◌, ◌==◌, ◌⊎◌, inl, inr, Bool, true, false, not, List, []}
+use Rattle.std.proofs.Common.{◌∷◌, Option, Some, None, map, filter, fold, if◌then◌else◌, refl, sym, ap, ◌∙◌}
 use Rattle.std.proofs.Common.{arith}
 use Rattle.std.specs.Prelude.{All, IfSome, option_and_then, option_map, slice_get}
-use Rattle.std.specs.List.{cons_option, enumerate_from, filter_map, find, list_any}
+use Rattle.std.specs.List.{cons_option, enumerate_from, filter_map, list_any}
 use Rattle.std.specs.Option.{option_map_or}
 use Rattle.std.proofs.lemmas.Bool.{eqb-true}
 use Rattle.std.proofs.lemmas.List.Elements.{All-append, All-cons, All-filter, All-head, All-map, All-nil, All-tail}
 use Rattle.std.proofs.lemmas.List.Elements.{All-weaker, filter_passes}
 use Rattle.mw_text.specs.Members.{In}
-use Rattle.mw_text.specs.declared.address.Addr.{Addr}
 use Rattle.mw_text.specs.declared.address.Prefix.{Prefix}
 use Rattle.ios_ast.specs.declared.bgp.Bgp.{Bgp}
 use Rattle.ios_ast.specs.declared.file.File.{File}
@@ -37,7 +36,7 @@ use Rattle.bgp_shapes.specs.Candidates.{ShapeCandidate, ShapeEnvironment, ShapeS
 use Rattle.bgp_shapes.specs.Candidates.{shape_learnt, shape_local, shape_local_routes}
 use Rattle.bgp_shapes.specs.Importing.{shape_imported}
 use Rattle.rebuilt_routes.specs.Following.{arriving_of}
-use Rattle.rebuilt_routes.proofs.Options.{if_found, if_true}
+use Rattle.rebuilt_routes.proofs.Options.{if_true}
 
 -- ---- lists
 

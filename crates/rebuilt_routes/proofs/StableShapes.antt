@@ -1,11 +1,11 @@
 -- The shapes of a stable routing are decided.
-use Rattle.std.proofs.Common.{◌≡◌, ℕ, ◌+◌, ◌*◌, ◌^◌, ◌<◌, ◌≤◌, ◌⊎◌, inl, inr, Bool, true, false, not, List, [], length}
-use Rattle.std.proofs.Common.{map, Option, Some, None, refl, sym, ap, ◌∙◌, subst, arith, is_some}
-use Rattle.std.specs.Prelude.{All, MatchOption, option_and_then, option_map, slice_get}
+use Rattle.std.proofs.Common.{◌≡◌, ℕ, ◌+◌, ◌*◌, ◌<◌, ◌≤◌, ◌⊎◌, inl, inr, Bool, true, not, List, [], length}
+use Rattle.std.proofs.Common.{Option, Some, None, refl, sym, ap, ◌∙◌, subst, arith, is_some}
+use Rattle.std.specs.Prelude.{All, MatchOption, option_map, slice_get}
 use Rattle.std.specs.List.{list_all}
 use Rattle.std.specs.Option.{option_map_or}
 use Rattle.std.proofs.lemmas.List.Elements.{All-contains, All-nil, All-weaker}
-use Rattle.std.proofs.lemmas.Option.{same_Some, slice_get_within}
+use Rattle.std.proofs.lemmas.Option.{slice_get_within}
 use Rattle.mw_text.specs.declared.address.Addr.{Addr}
 use Rattle.mw_text.specs.declared.address.Prefix.{Prefix}
 use Rattle.mw_text.specs.Address.{prefix_at}
@@ -21,21 +21,20 @@ use Rattle.route_record.specs.declared.Tables.{Tables}
 use Rattle.route_record.specs.declared.TheConstants.{LENGTHS}
 use Rattle.route_record.specs.declared.tracked.Tracked.{Tracked}
 use Rattle.route_record.specs.Places.{slot_at}
-use Rattle.net_parts.specs.Decisions.{Candidate, DecidedByBgp, IsHeld, candidates, key_of, survivors}
+use Rattle.net_parts.specs.Decisions.{Candidate, DecidedByBgp, candidates, key_of, survivors}
 use Rattle.net_parts.specs.Origins.{local_routes}
 use Rattle.net_parts.specs.Stable.{IsDecided, Stable}
 use Rattle.net_parts.specs.Tracked.{TracksNet}
-use Rattle.route_shapes.specs.Bgp.{BgpShape, bgp_shape}
-use Rattle.bgp_shapes.specs.Candidates.{ShapeSlot, candidate_shape, environment_shape, shape_candidates, slot_shape}
+use Rattle.route_shapes.specs.Bgp.{bgp_shape}
+use Rattle.bgp_shapes.specs.Candidates.{ShapeSlot, environment_shape, shape_candidates, slot_shape}
 use Rattle.bgp_shapes.specs.Candidates.{slots_shape}
 use Rattle.bgp_shapes.specs.Held.{HasMarks, held_shape}
 use Rattle.bgp_shapes.specs.Lengths.{IsShort}
 use Rattle.bgp_shapes.proofs.CandidateLaw.{candidates_shape}
 use Rattle.bgp_shapes.proofs.HeldLaw.{held_complete}
 use Rattle.bgp_shapes.proofs.TrackedLaw.{tests_tracked}
-use Rattle.rebuilt_routes.specs.Clusters.{IsKeptBySessions, NamesReflectorsOnce}
+use Rattle.rebuilt_routes.specs.Clusters.{HasBoundedLists, IsKeptBySessions, NamesReflectorsOnce}
 use Rattle.rebuilt_routes.specs.Deciding.{AreDecidedShapes, is_decided_shape}
-use Rattle.rebuilt_routes.specs.Following.{held_at}
 use Rattle.rebuilt_routes.proofs.Options.{chained, if_is, mapped}
 use Rattle.rebuilt_routes.proofs.Plain.{IsPlain, locals_plain}
 use Rattle.rebuilt_routes.proofs.ReflectorsOnce.{IsRouteTaken, IsUnlooped, all_unlooped, heard_unlooped, once_named}
@@ -43,9 +42,8 @@ use Rattle.rebuilt_routes.proofs.ReflectorsOnce.{route_taken_parts}
 use Rattle.rebuilt_routes.proofs.RoutesDecided.{all_members}
 use Rattle.rebuilt_routes.proofs.Sources.{IsCandidateFrom, IsLearntRoute, arriving_in, candidates_have_sources}
 use Rattle.rebuilt_routes.proofs.Sources.{routes_in, survivors_all}
-use Rattle.rebuilt_routes.proofs.Supported.{IsAnnounced, IsHeardRoute, IsSentFrom, arrived_from, has_marks, supported}
+use Rattle.rebuilt_routes.proofs.Supported.{IsAnnounced, IsHeardRoute, arrived_from, has_marks, supported}
 use Rattle.net_parts.specs.Exports.{imported}
-use Rattle.net_parts.proofs.LeastWalks.{in-contains}
 use Rattle.mw_text.specs.Members.{In}
 
 module _ (files : List File) (destination : Addr) (failures : Failures) (environment : Environment) (tables : Tables)
@@ -180,6 +178,18 @@ module _ (files : List File) (destination : Addr) (failures : Failures) (environ
 
     pub reflectors_once : (router : ℕ) (rec : BgpRec) → routes router ≡ Some rec → NamesReflectorsOnce tracked rec
     reflectors_once router rec holds = once_named tracked files router rec (unlooped router rec holds)
+
+    pub lists_bounded : (router : ℕ) (rec : BgpRec) → routes router ≡ Some rec → HasBoundedLists tracked rec
+    lists_bounded router rec holds = record {
+      clusters = reflectors_once router rec holds;
+      path = by (plain_source router rec holds);
+    }
+      where
+        by : IsPlain rec ⊎ IsHeardRoute files environment p routes router rec → length rec.path ≤ 255
+        by (inl plain) = let none = ap length plain.path in omega (arith, none)
+        by (inr heard) =
+            (if_is (IsRouteTaken files heard.end heard.message) (imported files heard.end p heard.message) rec
+            (route_taken_parts files heard.end p heard.message) heard.taken).few
 
     -- ---- what is kept by sessions
 

@@ -1,12 +1,11 @@
 -- What is true of local routes and of what is made of announcements, and is kept by sessions, is true of all routes that
 -- are held: by the rank of their shapes.
-use Rattle.std.proofs.Common.{◌≡◌, ℕ, zero, suc, ◌+◌, ◌^◌, ◌<◌, ◌≤◌, ◌==◌, ◌&&◌, ◌⊎◌, inl, inr, Bool, true, false, List}
-use Rattle.std.proofs.Common.{length, map, Option, Some, None, refl, sym, ap, ◌∙◌, arith, subst, nat_lt}
-use Rattle.std.specs.Prelude.{IfSome, option_and_then, option_map, slice_get}
+use Rattle.std.proofs.Common.{◌≡◌, ℕ, zero, suc, ◌+◌, ◌^◌, ◌<◌, ◌==◌, ◌&&◌, ◌⊎◌, inl, inr, true, false, List}
+use Rattle.std.proofs.Common.{length, Option, Some, refl, sym, ap, ◌∙◌, arith, subst}
+use Rattle.std.specs.Prelude.{option_map, slice_get}
 use Rattle.std.specs.List.{find, list_all}
 use Rattle.std.proofs.lemmas.List.{length-map}
 use Rattle.mw_text.specs.declared.address.Prefix.{Prefix}
-use Rattle.ios_ast.specs.declared.bgp.Bgp.{Bgp}
 use Rattle.ios_ast.specs.declared.bgp.Neighbour.{Neighbour}
 use Rattle.ios_ast.specs.declared.file.File.{File}
 use Rattle.ios_ast.specs.Limits.{keeps_limits}
@@ -39,7 +38,8 @@ use Rattle.rebuilt_routes.proofs.EndsApart.{end_again}
 use Rattle.rebuilt_routes.proofs.Numbered.{end_alone, has_address, numbered_is}
 use Rattle.rebuilt_routes.proofs.Options.{chained, if_is, mapped}
 use Rattle.rebuilt_routes.proofs.Plain.{IsPlain}
-use Rattle.rebuilt_routes.proofs.Ranks.{IsKept, falls, rank}
+use Rattle.rebuilt_routes.specs.Ranks.{rank}
+use Rattle.rebuilt_routes.proofs.Ranks.{IsKept, falls}
 use Rattle.rebuilt_routes.proofs.Sources.{IsEnd}
 
 pub has_marks : (tracked : Tracked) (rec : BgpRec) → HasMarks tracked (bgp_shape tracked rec)
@@ -166,8 +166,8 @@ module _ (files : List File) (environment : Environment) (p : Prefix) where
 
     -- a rank that is less behind a heard route
     module _ (limits : list_all keeps_limits files ≡ true) (routes : ℕ → Option BgpRec) (Own : ℕ → BgpRec → Type 0)
-      (is_plain : (router : ℕ) (rec : BgpRec) → Own router rec → IsPlain rec)
-      (sourced : (router : ℕ) (rec : BgpRec) → routes router ≡ Some rec → Own router rec ⊎ IsHeardRoute routes router rec)
+        (is_plain : (router : ℕ) (rec : BgpRec) → Own router rec → IsPlain rec)
+        (sourced : (router : ℕ) (rec : BgpRec) → routes router ≡ Some rec → Own router rec ⊎ IsHeardRoute routes router rec)
       where
         kept : (router : ℕ) (rec : BgpRec) → Own router rec ⊎ IsHeardRoute routes router rec →
             IsKept tracked files router (shape rec)
@@ -192,11 +192,11 @@ module _ (files : List File) (environment : Environment) (p : Prefix) where
 
         -- what is true of local routes and of what is made of announcements, and is kept by sessions
         module _ (P : ℕ → BgpRec → Type 0)
-          (local : (router : ℕ) (rec : BgpRec) → Own router rec → P router rec)
-          (announced : (router : ℕ) (rec : BgpRec) (heard : IsHeardRoute routes router rec) →
-          IsAnnounced heard.at heard.end heard.message → P router rec)
-          (sent : (router : ℕ) (rec : BgpRec) (heard : IsHeardRoute routes router rec) →
-          (from : IsSentFrom routes heard.end heard.message) → P from.far.router from.held → P router rec)
+            (local : (router : ℕ) (rec : BgpRec) → Own router rec → P router rec)
+            (announced : (router : ℕ) (rec : BgpRec) (heard : IsHeardRoute routes router rec) →
+            IsAnnounced heard.at heard.end heard.message → P router rec)
+            (sent : (router : ℕ) (rec : BgpRec) (heard : IsHeardRoute routes router rec) →
+            (from : IsSentFrom routes heard.end heard.message) → P from.far.router from.held → P router rec)
           where
             within : (fuel router : ℕ) (rec : BgpRec) → routes router ≡ Some rec →
                 rank files router (shape rec) < fuel → P router rec

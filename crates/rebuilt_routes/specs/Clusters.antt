@@ -16,7 +16,7 @@ use Rattle.route_record.specs.declared.tracked.Tracked.{Tracked}
 use Rattle.route_record.specs.Places.{slot_at}
 use Rattle.net_parts.specs.declared.sessions.Far.TheVariants.{Outside, Inside}
 use Rattle.net_parts.specs.declared.sessions.SessionEnd.{SessionEnd}
-use Rattle.net_parts.specs.Exports.{announced_message, exported, imported}
+use Rattle.net_parts.specs.Exports.{announced_message, exported, imported, most_numbers}
 use Rattle.net_parts.specs.Origins.{local_routes}
 use Rattle.net_parts.specs.Sessions.{ends_of, neighbour_of}
 use Rattle.net_parts.specs.Tracked.{numbers_of}
@@ -31,6 +31,11 @@ pub record NamesReflectorsOnce (tracked : Tracked) (rec : BgpRec) : Type 0 where
   pub once : stands_once (numbers_of rec.clusters) ≡ true
   pub tracked_all : list_all (carries (numbers_of tracked.clusters)) (numbers_of rec.clusters) ≡ true
   pub few : length rec.clusters ≤ length tracked.clusters
+
+-- moreover its path has at most as many numbers as import takes
+pub record HasBoundedLists (tracked : Tracked) (rec : BgpRec) : Type 0 where
+  pub clusters : NamesReflectorsOnce tracked rec
+  pub path : length rec.path ≤ most_numbers
 
 -- what is true of the local routes that the tables give the routers
 abbrev pub HoldsOfLocalRoutes : List File → Tables → Prefix → (ℕ → BgpRec → Bool) → Type 0

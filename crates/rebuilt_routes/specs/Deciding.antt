@@ -11,7 +11,7 @@ use Rattle.route_record.specs.declared.tracked.Tracked.{Tracked}
 use Rattle.route_record.specs.Places.{slot_at}
 use Rattle.net_parts.specs.Stable.{IsDecided}
 use Rattle.route_shapes.specs.Bgp.{BgpShape}
-use Rattle.bgp_shapes.specs.Candidates.{ShapeEnvironment, ShapeSlot, environment_shape, shape_candidates, slots_shape}
+use Rattle.bgp_shapes.specs.Candidates.{ShapeEnvironment, ShapeSlot, shape_candidates, slots_shape}
 use Rattle.bgp_shapes.specs.Held.{HasMarks, held_shape}
 use Rattle.rebuilt_routes.specs.Following.{held_at, real_routes, slot_with}
 

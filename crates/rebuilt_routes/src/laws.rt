@@ -18,9 +18,10 @@ ghost use Rattle.route_record.specs.Places.{slot_at};
 ghost use Rattle.net_parts.specs.Stable.{Stable};
 ghost use Rattle.net_parts.specs.Tracked.{TracksNet};
 ghost use Rattle.bgp_shapes.specs.Candidates.{ShapeSlot, environment_shape, slots_shape};
-ghost use Rattle.rebuilt_routes.specs.Clusters.{HoldsOfLocalRoutes, IsKeptBySessions, NamesReflectorsOnce};
+ghost use Rattle.rebuilt_routes.specs.Clusters.{HoldsOfLocalRoutes, IsKeptBySessions, HasBoundedLists};
 ghost use Rattle.rebuilt_routes.specs.Deciding.{AreDecided, AreDecidedShapes, HaveRealRoutes};
 ghost use Rattle.rebuilt_routes.specs.Following.{AllFollow, AreReal, real_routes};
+ghost use Rattle.rebuilt_routes.specs.Ranks.{RanksLessBehind};
 
 /// Where each held shape follows, the routes that are followed back over as many routers as there are have these shapes,
 /// and each is the first local route of its shape, or what its router makes of what the far side of its session then
@@ -30,6 +31,14 @@ pub fn followed_law()
         (slots : ℕ → OptionOf ShapeSlot) (p : PrefixOf) → TracksNet files tracked →
         AllFollow tracked files environment slots p →
         AreReal tracked files environment slots p (real_routes tracked files environment slots p) }
+{}
+
+/// Where each held shape follows, no route is learnt in a circle: the router behind the session of a held shape holds one
+/// of less rank.
+pub fn rank_law()
+    ensures { (tracked : TrackedOf) (files : ListOf FileOf) (environment : EnvironmentOf)
+        (slots : ℕ → OptionOf ShapeSlot) (p : PrefixOf) → TracksNet files tracked →
+        AllFollow tracked files environment slots p → RanksLessBehind files slots }
 {}
 
 /// Shapes that are decided follow.
@@ -75,11 +84,12 @@ pub fn supported_law()
         slot.bgp ≡ Some held → P router held ≡ true }
 {}
 
-/// In a stable routing no cluster list names a reflector twice (RFC 4456, section 8).
-pub fn clusters_law()
+/// In a stable routing no cluster list names a reflector twice (RFC 4456, section 8), and no path has more than 255
+/// numbers.
+pub fn lists_law()
     ensures { (tracked : TrackedOf) (files : ListOf FileOf) (destination : AddrOf) (failures : FailuresOf)
         (environment : EnvironmentOf) (tables : TablesOf) (len : ℕ) → TracksNet files tracked →
         list_all keeps_limits files ≡ true → Stable files destination failures environment tables → len < LENGTHS →
         (router : ℕ) (slot : SlotOf) (held : BgpRecOf) → slot_at tables router len ≡ Some slot →
-        slot.bgp ≡ Some held → NamesReflectorsOnce tracked held }
+        slot.bgp ≡ Some held → HasBoundedLists tracked held }
 {}
