@@ -1,7 +1,7 @@
 -- What is known of the shape of a route that a router sends, and of one that a router makes of a message.
 use Rattle.std.proofs.Common.{◌≡◌, ℕ, ◌+◌, ◌^◌, ◌≤◌, ◌==◌, ◌&&◌, ◌||◌, Bool, true, false, not, List, [], ◌∷◌}
 use Rattle.std.proofs.Common.{Option, Some, None, length, refl, sym, ap, ◌∙◌, if◌then◌else◌, arith}
-use Rattle.std.specs.Prelude.{IfSome, map, nat_le, option_and_then, option_map, slice_get}
+use Rattle.std.specs.Prelude.{IfSome, nat_le, option_and_then, option_map, slice_get}
 use Rattle.std.proofs.lemmas.Bool.{and_parts, leb-true}
 use Rattle.std.proofs.lemmas.List.{length-map}
 use Rattle.mw_text.specs.declared.address.Addr.{Addr}
@@ -12,17 +12,17 @@ use Rattle.ios_ast.specs.declared.file.File.{File}
 use Rattle.route_record.specs.declared.tracked.Tracked.{Tracked}
 use Rattle.route_record.specs.Shape.{saturated}
 use Rattle.net_parts.specs.declared.sessions.SessionEnd.{SessionEnd}
-use Rattle.net_parts.specs.Exports.{is_reflector, most_numbers, own_address, passes_prefixes, router_id}
+use Rattle.net_parts.specs.Exports.{is_reflector, most_numbers, own_address, router_id}
 use Rattle.net_parts.specs.Sessions.{neighbour_of}
 use Rattle.net_parts.specs.Tracked.{numbers_of}
 use Rattle.route_shapes.specs.Bgp.{BgpShape}
-use Rattle.route_shapes.specs.Shapes.{RouteShape, marked, marks_with, shape_passes_paths, shape_prepended}
+use Rattle.route_shapes.specs.Shapes.{RouteShape, marked, marks_with}
 use Rattle.route_shapes.specs.Shapes.{shape_through_map}
 use Rattle.bgp_shapes.specs.Crossings.{Crossing, crossing, end_numbered}
-use Rattle.bgp_shapes.specs.Exporting.{external_shape, internal_shape, sent_marks, shape_exported, shape_may_go}
+use Rattle.bgp_shapes.specs.Exporting.{external_shape, internal_shape, sent_marks, shape_exported}
 use Rattle.bgp_shapes.specs.Exporting.{shape_message, shape_sent}
 use Rattle.bgp_shapes.specs.Held.{HasMarks}
-use Rattle.bgp_shapes.specs.Importing.{shape_if_short, shape_imported, shape_is_acceptable, shape_mapped_in}
+use Rattle.bgp_shapes.specs.Importing.{shape_if_short, shape_imported, shape_is_acceptable}
 use Rattle.bgp_shapes.specs.Importing.{shape_received, shape_taken_in}
 use Rattle.bgp_shapes.specs.Messages.{seen_by_maps, shape_sets_metric, with_seen}
 use Rattle.bgp_shapes.proofs.Once.{process_of}
@@ -35,7 +35,7 @@ unfolding saturated
 small n = omega arith
 
 -- a process that a router runs
-runs_there : (files : List File) (router : ℕ) (file : File) (process : Bgp) → slice_get files router ≡ Some file →
+pub runs_there : (files : List File) (router : ℕ) (file : File) (process : Bgp) → slice_get files router ≡ Some file →
     file.bgp ≡ Some process → process_of files router ≡ Some process
 runs_there files router file process is runs = ap (option_and_then (λ (f : File). f.bgp)) is ∙ runs
 

@@ -1,11 +1,11 @@
 -- Followed back over the sessions, the shapes that the routers hold become routes with these shapes.
-use Rattle.std.proofs.Common.{◌≡◌, ℕ, zero, suc, ◌<◌, ◌≤◌, ◌==◌, ◌&&◌, Bool, true, false, List, [], ◌∷◌, length, map}
+use Rattle.std.proofs.Common.{◌≡◌, ℕ, zero, suc, ◌<◌, ◌≤◌, Bool, true, false, List, [], ◌∷◌, length, map}
 use Rattle.std.proofs.Common.{Option, Some, None, refl, sym, ap, ◌∙◌, if◌then◌else◌, arith, subst}
-use Rattle.std.specs.Prelude.{IfSome, option_and_then, option_map, slice_get}
+use Rattle.std.specs.Prelude.{option_and_then, option_map, slice_get}
 use Rattle.std.specs.List.{find}
 use Rattle.std.specs.Option.{option_map_or}
+use Rattle.std.proofs.lemmas.Option.{same_Some}
 use Rattle.mw_text.specs.declared.address.Prefix.{Prefix}
-use Rattle.ios_ast.specs.declared.bgp.Bgp.{Bgp}
 use Rattle.ios_ast.specs.declared.file.File.{File}
 use Rattle.route_record.specs.declared.BgpMsg.{BgpMsg}
 use Rattle.route_record.specs.declared.BgpRec.{BgpRec}
@@ -24,7 +24,7 @@ use Rattle.route_shapes.specs.Shapes.{marked}
 use Rattle.bgp_shapes.specs.Candidates.{ShapeSlot, environment_shape, shape_arriving}
 use Rattle.bgp_shapes.specs.Crossings.{end_numbered}
 use Rattle.bgp_shapes.specs.Exporting.{shape_exported}
-use Rattle.bgp_shapes.specs.Held.{HasMarks, same_shape}
+use Rattle.bgp_shapes.specs.Held.{same_shape}
 use Rattle.bgp_shapes.specs.Importing.{shape_imported}
 use Rattle.bgp_shapes.specs.Messages.{lacks_address, message_shape}
 use Rattle.bgp_shapes.specs.Tracking.{TracksTests}
@@ -37,9 +37,10 @@ use Rattle.rebuilt_routes.specs.Following.{AllFollow, AreReal, IsFollowed, arriv
 use Rattle.rebuilt_routes.specs.Following.{own_routes, real_route, real_routes, shape_followed}
 use Rattle.rebuilt_routes.proofs.Crossed.{IsShapeSent, IsShapeTaken, shape_sent_parts, shape_taken_parts, small}
 use Rattle.rebuilt_routes.proofs.Fuel.{counted, counted_few, counted_strict}
-use Rattle.rebuilt_routes.proofs.Numbered.{IsNumbered, end_alone, has_address, numbered_is, numbered_place}
+use Rattle.rebuilt_routes.proofs.Numbered.{end_alone, has_address, numbered_is, numbered_place}
 use Rattle.rebuilt_routes.proofs.Options.{chained, if_is, mapped}
-use Rattle.rebuilt_routes.proofs.Ranks.{IsKept, falls, rank}
+use Rattle.rebuilt_routes.specs.Ranks.{RanksLessBehind, rank}
+use Rattle.rebuilt_routes.proofs.Ranks.{IsKept, falls}
 
 find_map : {X Y : Type 0} (f : X → Y) (q : Y → Bool) (xs : List X) →
     find q (map f xs) ≡ option_map f (find (λ x. q (f x)) xs)
@@ -403,3 +404,51 @@ module _ (tracked : Tracked) (files : List File) (environment : Environment) (sl
       shaped = λ router. routes_shaped router (held_at slots router) refl;
       again = λ router. routes_again router (held_at slots router) refl;
     }
+
+    -- the router behind the session of a held shape holds one of less rank
+    learnt_over : (router : ℕ) (s : BgpShape) (at : ℕ) (end : SessionEnd) → held_at slots router ≡ Some s →
+        numbered_end files router s.from ≡ Some (at, end) → IsLearntShape router s
+    learnt_over router s at end holds found =
+        learnt_shape router s
+        (has_address files router s.from end (numbered_is files router s.from end
+        (sym (end_alone files router s.from) ∙ ap (option_map (λ (e : ℕ × SessionEnd). e.1)) found)))
+        (follow router s holds).follows
+
+    heard_at : (at : ℕ) (end : SessionEnd) (m : BgpShape) (far_at : ℕ) (far : SessionEnd) →
+        arrives at end ≡ Some m → end.far ≡ Inside far_at → slice_get (ends_of files) far_at ≡ Some far →
+        (t : BgpShape) × (held_at slots far.router ≡ Some t) × (shape_exported tracked files far p t ≡ Some m)
+    unfolding shape_arriving
+    heard_at at end m far_at far arrived reached there =
+        chained (shape_exported tracked files far p) (held_at slots far.router) m
+        (sym (ap (λ o. option_and_then (λ (e : SessionEnd). option_and_then (shape_exported tracked files e p)
+        (held_at slots e.router)) o) there) ∙ sym (ap (λ f. arrives at (record end { far = f })) reached) ∙ arrived)
+
+    pub ranks_less : RanksLessBehind files slots
+    ranks_less = record { behind = behind }
+      where
+        behind : (router : ℕ) (s : BgpShape) (at : ℕ) (end : SessionEnd) (far_at : ℕ) (far : SessionEnd) →
+            held_at slots router ≡ Some s → numbered_end files router s.from ≡ Some (at, end) →
+            end.far ≡ Inside far_at → slice_get (ends_of files) far_at ≡ Some far →
+            (t : BgpShape) × (held_at slots far.router ≡ Some t) × (rank files far.router t < rank files router s)
+        behind router s at end far_at far holds found reached there =
+            let learnt = learnt_over router s at end holds found in
+            let same : learnt.end ≡ end = end_of (numbered_end files router s.from) learnt.found found in
+            let far_is = ap (λ (e : SessionEnd). e.far) same ∙ reached in
+            let route = heard_at learnt.at learnt.end learnt.message far_at far learnt.arrived far_is there in (
+              route.0,
+              route.1,
+              behind_less router s holds learnt (record {
+                far_at = far_at;
+                far = far;
+                reached = far_is;
+                there = there;
+                route = route.0;
+                holds = route.1;
+                sent = route.2;
+              }),
+            )
+          where
+            end_of : {i j : ℕ} {a b : SessionEnd} (o : Option (ℕ × SessionEnd)) → o ≡ Some (i, a) → o ≡ Some (j, b) →
+                a ≡ b
+            end_of {i} {j} {a} {b} o one other =
+                ap (λ (e : ℕ × SessionEnd). e.1) (same_Some (i, a) (j, b) (sym one ∙ other))

@@ -1,6 +1,6 @@
 -- As many steps back as there are routers are enough: how many of them have a lesser rank.
 use Rattle.std.proofs.Common.{◌≡◌, ℕ, zero, suc, ◌<◌, ◌≤◌, ◌+◌, Bool, true, false}
-use Rattle.std.proofs.Common.{refl, sym, ap, subst, arith, ◌∙◌, if◌then◌else◌, ltb-true, ltb-false, lt-ltb}
+use Rattle.std.proofs.Common.{refl, ap, subst, arith, if◌then◌else◌, ltb-true, ltb-false, lt-ltb}
 use Rattle.std.specs.Prelude.{nat_lt}
 use Rattle.std.proofs.lemmas.Bool.Decides.{nat_tests}
 

@@ -1,14 +1,10 @@
 -- Rows of marks: how many values are marked, and what a set line or a reflector makes of them.
-use Rattle.std.proofs.Common.{◌≡◌, ℕ, zero, suc, ◌+◌, ◌≤◌, ◌<◌, ◌==◌, ◌&&◌, ◌||◌, Bool, true, false, List, [], ◌∷◌}
-use Rattle.std.proofs.Common.{length, refl, sym, ap, ◌∙◌, if◌then◌else◌, arith}
+use Rattle.std.proofs.Common.{◌≡◌, ℕ, ◌≤◌, ◌<◌, ◌==◌, ◌&&◌, ◌||◌, Bool, true, false, List, [], ◌∷◌}
+use Rattle.std.proofs.Common.{length, refl, sym, if◌then◌else◌, arith}
 use Rattle.std.proofs.lemmas.Bool.{eq-eqb, eqb-true}
 use Rattle.ios_ast.specs.Deciding.{carries}
 use Rattle.route_shapes.specs.Shapes.{marked, marks_with}
-
--- how many are marked
-abbrev pub count : List Bool → ℕ
-count [] = 0
-count (b ∷ bs) = (if b then 1 else 0) + count bs
+use Rattle.rebuilt_routes.specs.Ranks.{count}
 
 pub count_few : (bs : List Bool) → count bs ≤ length bs
 count_few [] = omega arith

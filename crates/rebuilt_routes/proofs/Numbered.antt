@@ -1,8 +1,7 @@
 -- The end over which a route was learnt, by the number that stands for the peer.
-use Rattle.std.proofs.Common.{◌≡◌, ℕ, ◌+◌, ◌^◌, ◌==◌, ◌&&◌, Bool, true, false, List, Option, Some, None, nat_lt}
+use Rattle.std.proofs.Common.{◌≡◌, ℕ, ◌+◌, ◌^◌, ◌==◌, true, false, List, Option, Some, None, nat_lt}
 use Rattle.std.proofs.Common.{refl, sym, ap, ◌∙◌, arith}
 use Rattle.std.specs.Prelude.{option_map, slice_get}
-use Rattle.std.specs.List.{enumerate_from, find}
 use Rattle.std.specs.Option.{option_map_or}
 use Rattle.std.proofs.lemmas.Bool.{and_parts, eqb-true}
 use Rattle.std.proofs.lemmas.Bool.Decides.{nat_tests}
@@ -13,7 +12,7 @@ use Rattle.net_parts.specs.Sessions.{ends_of, neighbour_of}
 use Rattle.bgp_shapes.specs.Crossings.{end_numbered, is_from}
 use Rattle.bgp_shapes.specs.Messages.{lacks_address}
 use Rattle.rebuilt_routes.specs.Following.{numbered_end}
-use Rattle.rebuilt_routes.proofs.Options.{find_passes, mapped, numbered_there, unnumbered_find}
+use Rattle.rebuilt_routes.proofs.Options.{find_passes, numbered_there, unnumbered_find}
 
 -- an end of the router, whose neighbour has that number
 pub record IsNumbered (files : List File) (router n : ℕ) (end : SessionEnd) : Type 0 where

@@ -1,8 +1,8 @@
 -- Along the session over which a route was learnt its rank rises: an external session puts the own AS number in front of
 -- the path, a reflector marks its cluster, and what goes over an internal session for the first time was learnt over
 -- none.
-use Rattle.std.proofs.Common.{◌≡◌, ℕ, ◌+◌, ◌*◌, ◌≤◌, ◌<◌, Bool, true, false, not, List, [], ◌∷◌, ◌&&◌, ◌||◌, ◌==◌}
-use Rattle.std.proofs.Common.{Option, Some, None, length, refl, sym, ap, ◌∙◌, if◌then◌else◌, arith, subst}
+use Rattle.std.proofs.Common.{◌≡◌, ℕ, ◌≤◌, ◌<◌, Bool, true, false, not, List, [], ◌∷◌, ◌&&◌, ◌||◌}
+use Rattle.std.proofs.Common.{Option, Some, None, refl, sym, ap, ◌∙◌, if◌then◌else◌, arith}
 use Rattle.std.specs.Prelude.{option_and_then, slice_get}
 use Rattle.std.specs.Option.{option_map_or}
 use Rattle.std.proofs.lemmas.Bool.{and_parts}
@@ -10,10 +10,8 @@ use Rattle.std.proofs.lemmas.List.{length-map}
 use Rattle.mw_text.proofs.Lists.{all_found}
 use Rattle.mw_text.specs.declared.address.Addr.{Addr}
 use Rattle.ios_ast.specs.declared.bgp.Bgp.{Bgp}
-use Rattle.ios_ast.specs.declared.bgp.Neighbour.{Neighbour}
 use Rattle.ios_ast.specs.declared.file.File.{File}
 use Rattle.ios_ast.specs.Deciding.{carries}
-use Rattle.route_record.specs.declared.tracked.TheConstants.{MOST_TRACKED}
 use Rattle.route_record.specs.declared.tracked.Tracked.{Tracked}
 use Rattle.net_parts.specs.declared.sessions.Far.TheVariants.{Inside}
 use Rattle.net_parts.specs.declared.sessions.SessionEnd.{SessionEnd}
@@ -28,16 +26,8 @@ use Rattle.bgp_shapes.specs.Tracking.{TracksTests}
 use Rattle.bgp_shapes.proofs.EndLaw.{IsAlike, ends_alike}
 use Rattle.bgp_shapes.proofs.Once.{process_of}
 use Rattle.rebuilt_routes.proofs.Crossed.{IsShapeSent, IsShapeTaken}
-use Rattle.rebuilt_routes.proofs.Marks.{count, count_few, count_more}
-
--- whether the route was learnt over an internal session
-abbrev pub over_internal : List File → ℕ → BgpShape → ℕ
-over_internal files router s =
-    option_map_or (λ (end : SessionEnd). if end.internal then 1 else 0) (end_numbered files router s.from) 0
-
--- the length of the path, then the marked clusters, then whether the route was learnt over an internal session
-abbrev pub rank : List File → ℕ → BgpShape → ℕ
-rank files router s = (s.path.len * (MOST_TRACKED + 1) + count s.clusters) * 2 + over_internal files router s
+use Rattle.rebuilt_routes.specs.Ranks.{count, over_internal, rank}
+use Rattle.rebuilt_routes.proofs.Marks.{count_few, count_more}
 
 -- a route that a router may hold: its path is counted, and where it was learnt a reflector does not find its own cluster
 -- in it

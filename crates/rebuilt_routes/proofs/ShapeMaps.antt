@@ -1,7 +1,7 @@
 -- What route maps keep of the shape of a route: there stays a mark for each tracked value, and no path grows shorter.
-use Rattle.std.proofs.Common.{◌≡◌, ℕ, ◌+◌, ◌≤◌, Bool, true, false, List, [], ◌∷◌, Option, Some, None, length}
-use Rattle.std.proofs.Common.{refl, ◌∙◌, if◌then◌else◌, arith}
-use Rattle.std.specs.Prelude.{IfSome, option_and_then}
+use Rattle.std.proofs.Common.{◌≡◌, ℕ, ◌≤◌, Bool, true, false, List, [], ◌∷◌, Option, Some, None, length}
+use Rattle.std.proofs.Common.{if◌then◌else◌, arith}
+use Rattle.std.specs.Prelude.{IfSome}
 use Rattle.std.specs.List.{find}
 use Rattle.mw_text.specs.declared.address.Prefix.{Prefix}
 use Rattle.ios_ast.specs.declared.file.Use.{Use}
@@ -14,8 +14,8 @@ use Rattle.ios_ast.specs.Deciding.{in_order}
 use Rattle.ios_ast.specs.Maps.{entries_named}
 use Rattle.route_record.specs.declared.tracked.Tracked.{Tracked}
 use Rattle.route_record.specs.Shape.{saturated}
-use Rattle.route_shapes.specs.Shapes.{RouteShape, set_shape, set_shapes, shape_made, shape_mapped, shape_route_taken}
-use Rattle.route_shapes.specs.Shapes.{shape_prepended, shape_through_map}
+use Rattle.route_shapes.specs.Shapes.{RouteShape, set_shape, set_shapes, shape_made, shape_route_taken}
+use Rattle.route_shapes.specs.Shapes.{shape_through_map}
 use Rattle.rebuilt_routes.proofs.Marks.{long_with}
 use Rattle.rebuilt_routes.proofs.Options.{if_then}
 
