@@ -1,0 +1,4 @@
+pub mod Shapes
+pub mod Sources
+pub mod Environments
+pub mod Tables

@@ -1,0 +1,1 @@
+//! Tables whose routes are made again.

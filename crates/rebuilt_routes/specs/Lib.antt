@@ -1,0 +1,4 @@
+pub mod Following
+pub mod Clusters
+pub mod Deciding
+pub mod Ranks
