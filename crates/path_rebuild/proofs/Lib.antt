@@ -2,3 +2,4 @@ pub mod Sets
 pub mod Ends
 pub mod Announced
 pub mod Steps
+pub mod RealRoutes
