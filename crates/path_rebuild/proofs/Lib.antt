@@ -3,3 +3,4 @@ pub mod Ends
 pub mod Announced
 pub mod Steps
 pub mod RealRoutes
+pub mod Followed
