@@ -4,3 +4,4 @@ pub mod Announced
 pub mod Steps
 pub mod RealRoutes
 pub mod Followed
+pub mod Making
