@@ -1,11 +1,10 @@
 -- Shapes that follow over real routes follow by shapes.
 use Rattle.std.proofs.Common.{◌≡◌, ◌⊎◌, ℕ, ◌+◌, ◌*◌, ◌^◌, ◌<◌, Bool, true, false, List, [], ◌∷◌, Option, Some, None, length, map}
 use Rattle.std.proofs.Common.{inl, inr, refl, sym, ap, subst, ◌∙◌, option_map, option_and_then, if◌then◌else◌}
-use Rattle.std.specs.Prelude.{◌==◌, ◌&&◌, All, Contains, slice_get}
+use Rattle.std.specs.Prelude.{◌==◌, ◌&&◌, Contains, slice_get}
 use Rattle.std.specs.List.{find, list_all}
 use Rattle.std.specs.Option.{option_map_or}
 use Rattle.std.proofs.lemmas.List.Elements.{All-contains}
-use Rattle.std.proofs.lemmas.Option.{same_Some}
 use Rattle.mw_text.specs.declared.address.Addr.{Addr}
 use Rattle.mw_text.specs.declared.address.Prefix.{Prefix}
 use Rattle.mw_text.specs.Address.{prefix_at}
@@ -20,7 +19,6 @@ use Rattle.route_record.specs.declared.BgpRec.{BgpRec}
 use Rattle.route_record.specs.declared.Environment.{Environment}
 use Rattle.route_record.specs.declared.Failures.{Failures}
 use Rattle.route_record.specs.declared.Slot.{Slot}
-use Rattle.route_record.specs.declared.Tables.{Tables}
 use Rattle.route_record.specs.declared.TheConstants.{LENGTHS}
 use Rattle.route_record.specs.declared.tracked.Tracked.{Tracked}
 use Rattle.route_record.specs.Places.{slot_at}
@@ -28,11 +26,10 @@ use Rattle.route_record.proofs.Saturated.{saturated-none}
 use Rattle.net_parts.specs.declared.sessions.Far.{Far}
 use Rattle.net_parts.specs.declared.sessions.Far.TheVariants.{Outside, Inside}
 use Rattle.net_parts.specs.declared.sessions.SessionEnd.{SessionEnd}
-use Rattle.net_parts.specs.Exports.{announced_message, exported, imported}
+use Rattle.net_parts.specs.Exports.{announced_message, exported}
 use Rattle.net_parts.specs.Origins.{local_routes}
 use Rattle.net_parts.specs.Sessions.{IsPlaced, ends_of, neighbour_of}
 use Rattle.net_parts.specs.Tracked.{TracksNet}
-use Rattle.net_parts.specs.World.{IsAnnouncement}
 use Rattle.net_parts.proofs.EndPlaces.{ends_placed}
 use Rattle.net_parts.proofs.LeastWalks.{contains-in, in-contains}
 use Rattle.proto_rib.specs.Taken.{local_routes_at}
@@ -60,7 +57,7 @@ use Rattle.rebuilt_routes.proofs.Plain.{IsPlain}
 use Rattle.rebuilt_routes.proofs.RoutesDecided.{find_in}
 use Rattle.rebuilt_routes.proofs.ShapesFollow.{one_shape, own_plain}
 use Rattle.rebuilt_routes.proofs.Supported.{has_marks}
-use Rattle.path_rebuild.specs.Follows.{AllFollow, Follows, IsLearntShape, IsLocalShape, IsOfFarSide, Known, shape_at}
+use Rattle.path_rebuild.specs.Follows.{AllFollow, IsLearntShape, IsLocalShape, IsOfFarSide, Known, shape_at}
 use Rattle.path_rebuild.specs.Shapes.{route_of}
 use Rattle.path_rebuild.specs.Tables.{known_at, slots_of}
 use Rattle.path_rebuild.proofs.RealRoutes.{slot_there, slot_within}
@@ -136,8 +133,10 @@ module _ (tracked : Tracked) (files : List File) (failures : Failures) (known : 
       by None there =
           absurd (let none = ap (λ q. option_and_then (λ (x : ShapeSlot). x.bgp) (option_map (with_shape router) q)) there in
           let no = sym none ∙ holds in cc)
-      by (Some slot) there = (slot_within files known.rest router len slot size there,
-          sym (ap (λ q. option_and_then (λ (x : ShapeSlot). x.bgp) (option_map (with_shape router) q)) there) ∙ holds)
+      by (Some slot) there = (
+        slot_within files known.rest router len slot size there,
+        sym (ap (λ q. option_and_then (λ (x : ShapeSlot). x.bgp) (option_map (with_shape router) q)) there) ∙ holds,
+      )
 
   -- and conversely
   pub held_is : (router : ℕ) → router < length files → held_at slots router ≡ shape_at tracked known len router

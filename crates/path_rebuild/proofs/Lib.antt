@@ -5,3 +5,4 @@ pub mod Steps
 pub mod RealRoutes
 pub mod Followed
 pub mod Making
+pub mod Places

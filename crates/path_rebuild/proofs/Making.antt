@@ -1,9 +1,8 @@
 -- What is made again from shapes that follow has these shapes, and each route is a local one or is imported.
-use Rattle.std.proofs.Common.{◌≡◌, ◌⊎◌, ℕ, ◌+◌, ◌-◌, ◌*◌, ◌^◌, ◌<◌, Bool, true, false, List, [], Option, Some, None, length}
+use Rattle.std.proofs.Common.{◌≡◌, ◌⊎◌, ℕ, ◌+◌, ◌*◌, ◌^◌, ◌<◌, Bool, true, false, List, Option, Some, None, length}
 use Rattle.std.proofs.Common.{inl, inr, refl, sym, ap, subst, arith, ◌∙◌, option_map, option_and_then, if◌then◌else◌}
-use Rattle.std.specs.Prelude.{Contains, IfSome, nat_lt, slice_get}
+use Rattle.std.specs.Prelude.{All, Contains, IfSome}
 use Rattle.std.specs.List.{enumerate_from, find, list_all}
-use Rattle.std.proofs.lemmas.Bool.Decides.{nat_tests}
 use Rattle.std.proofs.lemmas.Option.{same_Some}
 use Rattle.mw_text.specs.declared.address.Addr.{Addr}
 use Rattle.mw_text.specs.declared.address.Prefix.{Prefix}
@@ -19,6 +18,7 @@ use Rattle.route_record.specs.declared.Slot.{Slot}
 use Rattle.route_record.specs.declared.Tables.{Tables}
 use Rattle.route_record.specs.declared.TheConstants.{LENGTHS}
 use Rattle.route_record.specs.declared.tracked.Tracked.{Tracked}
+use Rattle.route_record.specs.Fits.{IsAddress}
 use Rattle.route_record.specs.Places.{slot_at}
 use Rattle.net_parts.specs.declared.sessions.SessionEnd.{SessionEnd}
 use Rattle.net_parts.specs.Decisions.{arriving}
@@ -37,15 +37,18 @@ use Rattle.rebuilt_routes.specs.Deciding.{HaveRealRoutes}
 use Rattle.rebuilt_routes.specs.Following.{AreReal, arriving_of, followed, held_at, numbered_end, own_routes, real_routes}
 use Rattle.rebuilt_routes.specs.Following.{slot_with}
 use Rattle.rebuilt_routes.proofs.Followed.{are_real}
-use Rattle.rebuilt_routes.proofs.Numbered.{IsNumbered, from_end, numbered_place}
+use Rattle.rebuilt_routes.proofs.Numbered.{from_end, numbered_place}
 use Rattle.rebuilt_routes.proofs.Options.{chained, find_passes}
 use Rattle.rebuilt_routes.proofs.RoutesDecided.{find_in}
 use Rattle.rebuilt_routes.proofs.Sources.{arriving_in, routes_in}
 use Rattle.path_rebuild.specs.declared.Rebuilt.{Rebuilt}
-use Rattle.path_rebuild.specs.Follows.{AllFollow, IsImported, IsRebuilt, IsRebuiltSlot, Known, shape_at}
+use Rattle.path_rebuild.specs.Follows.{AllFollow, AreAnnounced, IsImported, IsRebuilt, IsRebuiltSlot, Known, known_of}
+use Rattle.path_rebuild.specs.declared.ShapeRec.{ShapeRec}
+use Rattle.path_rebuild.specs.Environments.{environment_of}
 use Rattle.path_rebuild.specs.Shapes.{route_of}
 use Rattle.path_rebuild.specs.Tables.{known_at, rebuilt_tables, slots_of}
 use Rattle.path_rebuild.proofs.Followed.{all_follow, held_is, own_is}
+use Rattle.path_rebuild.proofs.Places.{in_order}
 use Rattle.path_rebuild.proofs.RealRoutes.{have_real, size_again, slot_within}
 
 no_value : {A B : Type 0} (f : A → B) (o : Option A) → option_map f o ≡ None → o ≡ None
@@ -178,20 +181,21 @@ module _ (tracked : Tracked) (files : List File) (failures : Failures) (known : 
       (slot : Slot) × (slot_at tables router len ≡ Some slot)
       × IsRebuiltSlot tracked files known made (p len) router rest slot
   slot_made router len rest below there =
-      let within = slot_within files known.rest router len rest size there in
-      (record { ospf = rest.ospf; bgp = routes len router; rib = rest.rib },
-      have len below router ∙ ap (λ o. option_map (slot_with (routes len router)) (option_map (λ (slot : Slot). record {
-        ospf = slot.ospf;
-        bgp = option_map (route_of tracked) (known_at known.held len router);
-        rib = slot.rib;
-      }) o)) there,
-      record {
-        ospf = refl;
-        rib = refl;
-        shape = (real len below).shaped router
-            ∙ held_is tracked files failures known destination net limits announced follow size len below router within;
-        source = source len below router rest there (routes len router) refl;
-      })
+      let within = slot_within files known.rest router len rest size there in (
+        record { ospf = rest.ospf; bgp = routes len router; rib = rest.rib },
+        have len below router ∙ ap (λ o. option_map (slot_with (routes len router)) (option_map (λ (slot : Slot). record {
+          ospf = slot.ospf;
+          bgp = option_map (route_of tracked) (known_at known.held len router);
+          rib = slot.rib;
+        }) o)) there,
+        record {
+          ospf = refl;
+          rib = refl;
+          shape = (real len below).shaped router
+              ∙ held_is tracked files failures known destination net limits announced follow size len below router within;
+          source = source len below router rest there (routes len router) refl;
+        },
+      )
 
   pub is_rebuilt : IsRebuilt tracked files known destination made
   is_rebuilt = record {
@@ -200,3 +204,22 @@ module _ (tracked : Tracked) (files : List File) (failures : Failures) (known : 
     size = size_again tracked files env known.held known.rest destination ∙ size;
     slots = slot_made;
   }
+
+-- the shapes that stand by external end and then by prefix length are those of an environment
+pub made_of : (tracked : Tracked) (files : List File) (failures : Failures) (ids : List Addr)
+    (announced held : List (Option ShapeRec)) (rest : Tables) (destination : Addr) → TracksNet files tracked →
+    list_all keeps_limits files ≡ true → All IsAddress ids → length rest.slots ≡ LENGTHS * length files →
+    AreAnnounced tracked files (environment_of tracked files ids announced) →
+    AllFollow tracked files failures (known_of tracked files ids announced held rest) destination →
+    IsRebuilt tracked files (known_of tracked files ids announced held rest) destination (record {
+      tables = rebuilt_tables tracked files
+          (rebuilt_environment tracked (environment_of tracked files ids announced)) held rest destination;
+      env = rebuilt_environment tracked (environment_of tracked files ids announced);
+    })
+made_of tracked files failures ids announced held rest destination net limits fit size are follow =
+    is_rebuilt tracked files failures (known_of tracked files ids announced held rest) destination net limits (record {
+      ids = are.ids;
+      fit = fit;
+      announced = are.shapes;
+      once = in_order tracked 0 (ends_of files) announced;
+    }) follow size

@@ -1,6 +1,6 @@
 -- Tables that are made again have the routes that are followed back from their shapes.
 use Rattle.std.proofs.Common.{◌≡◌, ℕ, zero, suc, ◌+◌, ◌*◌, ◌/◌, ◌%◌, ◌<◌, List, [], ◌∷◌, Option, Some, None, length, map}
-use Rattle.std.proofs.Common.{refl, sym, ap, subst, ◌∙◌, arith, option_map, option_and_then}
+use Rattle.std.proofs.Common.{refl, ap, ◌∙◌, arith, option_map}
 use Rattle.std.specs.Prelude.{slice_get}
 use Rattle.std.specs.List.{enumerate_from}
 use Rattle.std.proofs.lemmas.List.{length-map}
@@ -16,7 +16,6 @@ use Rattle.route_record.specs.declared.TheConstants.{LENGTHS}
 use Rattle.route_record.specs.declared.tracked.Tracked.{Tracked}
 use Rattle.route_record.specs.Places.{slot_at}
 use Rattle.net_parts.specs.Tracked.{TracksNet}
-use Rattle.bgp_shapes.specs.Candidates.{ShapeSlot}
 use Rattle.rebuilt_routes.specs.Deciding.{HaveRealRoutes}
 use Rattle.rebuilt_routes.specs.Following.{real_routes, slot_with}
 use Rattle.path_rebuild.specs.declared.ShapeRec.{ShapeRec}

@@ -1,5 +1,5 @@
 -- Shapes that follow from each other over the sessions of a network, and a routing that has them (RFC 4271, section 9.1).
-use Rattle.std.specs.Prelude.{◌≡◌, ◌⊎◌, ◌<◌, ◌*◌, ◌+◌, ◌^◌, ◌==◌, ◌&&◌, ℕ, true, Contains, IfSome, List, length, Option, Some}
+use Rattle.std.specs.Prelude.{◌≡◌, ◌⊎◌, ◌<◌, ◌*◌, ◌+◌, ◌^◌, ◌==◌, ◌&&◌, ℕ, true, All, Contains, IfSome, List, length, Option, Some}
 use Rattle.std.specs.Prelude.{option_and_then, option_map, slice_get}
 use Rattle.std.specs.List.{find}
 use Rattle.mw_text.specs.declared.address.Addr.{Addr}
@@ -24,13 +24,15 @@ use Rattle.net_parts.specs.declared.sessions.SessionEnd.{SessionEnd}
 use Rattle.net_parts.specs.Decisions.{arriving}
 use Rattle.net_parts.specs.Exports.{announced_message, exported, imported}
 use Rattle.net_parts.specs.Resolution.{session_up}
-use Rattle.net_parts.specs.Sessions.{ends_of, neighbour_of}
+use Rattle.net_parts.specs.Sessions.{ends_of, external_ends, neighbour_of}
 use Rattle.net_parts.specs.World.{IsAnnouncement, IsEnvironment}
 use Rattle.proto_rib.specs.Taken.{local_routes_at}
 use Rattle.route_shapes.specs.Bgp.{BgpShape, bgp_shape}
 use Rattle.bgp_shapes.specs.Candidates.{ShapeAnnouncement, ShapeEnvironment, announcement_shape, environment_shape}
+use Rattle.announced_shapes.specs.Announcements.{IsAnnouncementShape}
 use Rattle.path_rebuild.specs.declared.Rebuilt.{Rebuilt}
 use Rattle.path_rebuild.specs.declared.ShapeRec.{ShapeRec}
+use Rattle.path_rebuild.specs.Environments.{environment_of}
 use Rattle.path_rebuild.specs.Shapes.{route_of}
 use Rattle.path_rebuild.specs.Tables.{known_at}
 
@@ -40,9 +42,21 @@ pub record Known : Type 0 where
   pub held : List (Option ShapeRec)
   pub rest : Tables
 
+abbrev pub known_of : Tracked → List File → List Addr → List (Option ShapeRec) → List (Option ShapeRec) → Tables → Known
+known_of tracked files ids announced held rest = record {
+  announced = environment_of tracked files ids announced;
+  held = held;
+  rest = rest;
+}
+
 -- the shape of the route that a router holds for prefixes of that length
 abbrev pub shape_at : Tracked → Known → ℕ → ℕ → Option BgpShape
 shape_at tracked known len router = option_map (route_of tracked) (known_at known.held len router)
+
+-- each shape of an announcement is one that its peer may announce, and there is an identifier for each external session
+pub record AreAnnounced (tracked : Tracked) (files : List File) (announced : ShapeEnvironment) : Type 0 where
+  pub ids : length announced.ids ≡ length (external_ends files)
+  pub shapes : All (IsAnnouncementShape files tracked) announced.announced
 
 -- an end of the router, at that place, whose neighbour has that address
 pub record IsEndOf (files : List File) (router at : ℕ) (end : SessionEnd) (a : Addr) : Type 0 where

@@ -1,9 +1,11 @@
 //! Tables whose BGP routes are made again from their shapes.
 
-ghost use Rattle.std.specs.Prelude.{◌≡◌, ◌<◌, ◌*◌, ◌++◌, IfOk, length, map};
+ghost use Rattle.std.specs.Prelude.{◌≡◌, ◌<◌, ◌*◌, ◌++◌, All, IfOk, length, map};
 ghost use Rattle.std.specs.List.{enumerate_from};
+ghost use Rattle.route_record.specs.Fits.{IsAddress, IsWord};
 ghost use Rattle.announced_shapes.specs.Environments.{rebuilt_environment};
 ghost use Rattle.path_rebuild.specs.Environments.{environment_of};
+ghost use Rattle.path_rebuild.specs.Follows.{AllFollow, AreAnnounced, IsRebuilt, known_of};
 ghost use Rattle.path_rebuild.specs.Shapes.{AreFew};
 ghost use Rattle.path_rebuild.specs.Tables as tables;
 
@@ -63,6 +65,25 @@ fn rebuilt_slots(
     Ok(made)
 }
 
+fn word(n: u32)
+    ensures { IsWord n }
+{}
+
+fn read_address(address: &Addr)
+    ensures { IsAddress address.now }
+{
+    word(address.0);
+}
+
+// That addresses have 32 bits, as a fact.
+fn read_addresses(addresses: &[Addr])
+    ensures { All IsAddress addresses.now }
+{
+    for address in addresses {
+        read_address(address);
+    }
+}
+
 /// The environment and the tables of announcements and routes of which the lists are known by their shapes alone.
 /// `announced` has what external peers announce by external end and then by prefix length, None for no announcement, and
 /// `ids` their identifiers; `held` has what routers hold by router and then by prefix length. Each announcement is made
@@ -84,8 +105,15 @@ pub fn rebuild(
         (environment_of net.now.tracked net.now.files ids.now announced.now)) }
     ensures tables { IfOk result (λ made. made.tables
         ≡ tables.rebuilt_tables net.now.tracked net.now.files made.env held.now rest.now d) }
+    ensures shapes { IfOk result (λ made.
+        let known = known_of net.now.tracked net.now.files ids.now announced.now held.now rest.now in
+        AreAnnounced net.now.tracked net.now.files known.announced →
+        AllFollow net.now.tracked net.now.files failures.now known d →
+        IsRebuilt net.now.tracked net.now.files known d made) }
 {
+    let _routers = net.routers();
     let _tracked = net.tracked();
+    read_addresses(ids);
     let env = environment(alloc, net, ids, announced)?;
     let items = rebuilt_slots(alloc, net, d, &env, held, rest)?;
     Ok(Rebuilt {
