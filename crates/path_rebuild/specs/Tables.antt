@@ -1,5 +1,5 @@
 -- Tables whose BGP routes are made again from their shapes.
-use Rattle.std.specs.Prelude.{ℕ, ◌+◌, ◌*◌, ◌/◌, ◌%◌, List, length, map, Option, option_and_then, option_map, slice_get}
+use Rattle.std.specs.Prelude.{ℕ, ◌+◌, ◌*◌, ◌/◌, ◌%◌, List, map, Option, option_and_then, option_map, slice_get}
 use Rattle.std.specs.List.{enumerate_from}
 use Rattle.mw_text.specs.declared.address.Addr.{Addr}
 use Rattle.mw_text.specs.Address.{prefix_at}
@@ -11,7 +11,6 @@ use Rattle.route_record.specs.declared.Tables.{Tables}
 use Rattle.route_record.specs.declared.TheConstants.{LENGTHS}
 use Rattle.route_record.specs.declared.tracked.Tracked.{Tracked}
 use Rattle.route_record.specs.Places.{slot_at}
-use Rattle.route_shapes.specs.Bgp.{BgpShape}
 use Rattle.bgp_shapes.specs.Candidates.{ShapeSlot}
 use Rattle.rebuilt_routes.specs.Following.{real_routes}
 use Rattle.path_rebuild.specs.declared.ShapeRec.{ShapeRec}
