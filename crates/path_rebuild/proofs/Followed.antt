@@ -1,5 +1,6 @@
 -- Shapes that follow over real routes follow by shapes.
-use Rattle.std.proofs.Common.{◌≡◌, ◌⊎◌, ℕ, ◌+◌, ◌*◌, ◌^◌, ◌<◌, Bool, true, false, List, [], ◌∷◌, Option, Some, None, length, map}
+use Rattle.std.proofs.Common.{◌≡◌, ◌⊎◌, ℕ, ◌+◌, ◌*◌, ◌^◌, ◌<◌, Bool, true, false, List, [], ◌∷◌, Option, Some, None}
+use Rattle.std.proofs.Common.{length, map}
 use Rattle.std.proofs.Common.{inl, inr, refl, sym, ap, subst, ◌∙◌, option_map, option_and_then, if◌then◌else◌}
 use Rattle.std.specs.Prelude.{◌==◌, ◌&&◌, Contains, slice_get}
 use Rattle.std.specs.List.{find, list_all}
@@ -82,7 +83,8 @@ found_alike tracked s (x ∷ rs) r has there is =
     by false same (inr later) rest = rest later
 
 -- local routes look at no BGP route of their slot
-unread : (files : List File) (router : ℕ) (file : File) (process : Bgp) (p : Prefix) (o : Option BgpShape) (slot : Slot) →
+unread : (files : List File) (router : ℕ) (file : File) (process : Bgp) (p : Prefix) (o : Option BgpShape)
+    (slot : Slot) →
     local_routes files router file process p (slot_with None (record { ospf = slot.ospf; bgp = o; rib = slot.rib }))
     ≡ local_routes files router file process p slot
 unfolding local_routes
@@ -131,7 +133,8 @@ module _ (tracked : Tracked) (files : List File) (failures : Failures) (known : 
       by : (o : Option Slot) → slot_at known.rest router len ≡ o →
           (router < length files) × (shape_at tracked known len router ≡ Some s)
       by None there =
-          absurd (let none = ap (λ q. option_and_then (λ (x : ShapeSlot). x.bgp) (option_map (with_shape router) q)) there in
+          absurd (let none =
+          ap (λ q. option_and_then (λ (x : ShapeSlot). x.bgp) (option_map (with_shape router) q)) there in
           let no = sym none ∙ holds in cc)
       by (Some slot) there = (
         slot_within files known.rest router len slot size there,
@@ -183,7 +186,8 @@ module _ (tracked : Tracked) (files : List File) (failures : Failures) (known : 
   local_follows router s has local =
       let own = own_is router local.slot local.there in
       let there = subst (λ (rs : List BgpRec). Contains rs local.route) (sym own) local.local in
-      let plain = All-contains IsPlain (own_routes files slots p router) local.route (own_plain files slots p router) there in
+      let plain =
+      All-contains IsPlain (own_routes files slots p router) local.route (own_plain files slots p router) there in
       let from = sym (ap (λ (t : BgpShape). t.from) local.shape) ∙ local_number local.route plain in
       ap (λ b. if b then find (λ t. same_shape t s) (map (bgp_shape tracked) (own_routes files slots p router))
       else option_and_then (λ (e : ℕ × SessionEnd). option_and_then (shape_imported tracked files e.1 p)
@@ -263,7 +267,8 @@ module _ (tracked : Tracked) (files : List File) (failures : Failures) (known : 
       let found : numbered_end files router s.from ≡ Some (at, end) =
       ap (numbered_end files router) from
       ∙ end_again files limits router at end neighbour learnt.is.there learnt.is.own learnt.is.line in
-      let sent = subst (λ a. IsOfFarSide tracked files known p at end a s end.far) (sym learnt.is.address) learnt.sent in
+      let sent =
+      subst (λ a. IsOfFarSide tracked files known p at end a s end.far) (sym learnt.is.address) learnt.sent in
       ap (λ b. if b then find (λ t. same_shape t s) (map (bgp_shape tracked) (own_routes files slots p router))
       else option_and_then (λ (e : ℕ × SessionEnd). option_and_then (shape_imported tracked files e.1 p)
       (arrives e.0 e.1)) (numbered_end files router s.from))

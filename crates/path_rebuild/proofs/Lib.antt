@@ -6,3 +6,4 @@ pub mod RealRoutes
 pub mod Followed
 pub mod Making
 pub mod Places
+pub mod Worlds

@@ -34,7 +34,8 @@ use Rattle.bgp_shapes.specs.Messages.{lacks_address}
 use Rattle.announced_shapes.specs.Environments.{IsShapeEnvironment, rebuilt_environment}
 use Rattle.announced_shapes.proofs.EnvironmentLaw.{environment_again, environment_may}
 use Rattle.rebuilt_routes.specs.Deciding.{HaveRealRoutes}
-use Rattle.rebuilt_routes.specs.Following.{AreReal, arriving_of, followed, held_at, numbered_end, own_routes, real_routes}
+use Rattle.rebuilt_routes.specs.Following.{AreReal, arriving_of, followed, held_at, numbered_end, own_routes}
+use Rattle.rebuilt_routes.specs.Following.{real_routes}
 use Rattle.rebuilt_routes.specs.Following.{slot_with}
 use Rattle.rebuilt_routes.proofs.Followed.{are_real}
 use Rattle.rebuilt_routes.proofs.Numbered.{from_end, numbered_place}
@@ -168,7 +169,8 @@ module _ (tracked : Tracked) (files : List File) (failures : Failures) (known : 
       ⊎ IsImported files env tables (p len) router r)
   source len below router rest there None holds = tt
   source len below router rest there (Some r) holds =
-      let s = chained (followed tracked files env (slots len) (p len) (routes len) router) (held_at (slots len) router) r
+      let s =
+      chained (followed tracked files env (slots len) (p len) (routes len) router) (held_at (slots len) router) r
       (sym ((real len below).again router) ∙ holds) in
       let shape : bgp_shape tracked r ≡ s.0 =
       same_Some (bgp_shape tracked r) s.0 (sym (ap (option_map (bgp_shape tracked)) holds)
@@ -183,16 +185,18 @@ module _ (tracked : Tracked) (files : List File) (failures : Failures) (known : 
   slot_made router len rest below there =
       let within = slot_within files known.rest router len rest size there in (
         record { ospf = rest.ospf; bgp = routes len router; rib = rest.rib },
-        have len below router ∙ ap (λ o. option_map (slot_with (routes len router)) (option_map (λ (slot : Slot). record {
-          ospf = slot.ospf;
-          bgp = option_map (route_of tracked) (known_at known.held len router);
-          rib = slot.rib;
-        }) o)) there,
+        have len below router
+            ∙ ap (λ o. option_map (slot_with (routes len router)) (option_map (λ (slot : Slot). record {
+              ospf = slot.ospf;
+              bgp = option_map (route_of tracked) (known_at known.held len router);
+              rib = slot.rib;
+            }) o)) there,
         record {
           ospf = refl;
           rib = refl;
           shape = (real len below).shaped router
-              ∙ held_is tracked files failures known destination net limits announced follow size len below router within;
+              ∙ held_is tracked files failures known destination net limits announced follow size len below router
+              within;
           source = source len below router rest there (routes len router) refl;
         },
       )

@@ -1,5 +1,6 @@
 -- Tables that are made again have the routes that are followed back from their shapes.
-use Rattle.std.proofs.Common.{◌≡◌, ℕ, zero, suc, ◌+◌, ◌*◌, ◌/◌, ◌%◌, ◌<◌, List, [], ◌∷◌, Option, Some, None, length, map}
+use Rattle.std.proofs.Common.{◌≡◌, ℕ, zero, suc, ◌+◌, ◌*◌, ◌/◌, ◌%◌, ◌<◌, List, [], ◌∷◌, Option, Some, None, length}
+use Rattle.std.proofs.Common.{map}
 use Rattle.std.proofs.Common.{refl, ap, ◌∙◌, arith, option_map}
 use Rattle.std.specs.Prelude.{slice_get}
 use Rattle.std.specs.List.{enumerate_from}
@@ -38,7 +39,7 @@ pub router_of : (router len : ℕ) → len < LENGTHS → (LENGTHS * router + len
 router_of router len below = omega (arith, below)
 
 -- what is made of items with their places stands at these places
-made_there : {A B : Type 0} (f : ℕ × A → B) (n : ℕ) (xs : List A) (k : ℕ) →
+pub made_there : {A B : Type 0} (f : ℕ × A → B) (n : ℕ) (xs : List A) (k : ℕ) →
     slice_get (map f (enumerate_from n xs)) k ≡ option_map (λ x. f (n + k, x)) (slice_get xs k)
 made_there f n [] k = refl
 made_there f n (x ∷ xs) zero =
@@ -70,7 +71,8 @@ have_real tracked files environment held rest destination len below router =
     ∙ by (slot_at rest router len)
   where
     by : (o : Option Slot) →
-        option_map (λ x. rebuilt_slot tracked files environment held rest destination (0 + (LENGTHS * router + len), x)) o
+        option_map (λ x. rebuilt_slot tracked files environment held rest destination
+        (0 + (LENGTHS * router + len), x)) o
         ≡ option_map (slot_with (real_routes tracked files environment (slots_of tracked held rest len)
         (prefix_at destination len) router)) (option_map (λ (slot : Slot). record {
           ospf = slot.ospf;

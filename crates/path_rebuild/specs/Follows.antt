@@ -1,5 +1,7 @@
--- Shapes that follow from each other over the sessions of a network, and a routing that has them (RFC 4271, section 9.1).
-use Rattle.std.specs.Prelude.{◌≡◌, ◌⊎◌, ◌<◌, ◌*◌, ◌+◌, ◌^◌, ◌==◌, ◌&&◌, ℕ, true, All, Contains, IfSome, List, length, Option, Some}
+-- Shapes that follow from each other over the sessions of a network, and a routing that has them (RFC 4271, section
+-- 9.1).
+use Rattle.std.specs.Prelude.{◌≡◌, ◌⊎◌, ◌<◌, ◌*◌, ◌+◌, ◌^◌, ◌==◌, ◌&&◌, ℕ, true, All, Contains, IfSome, List, length}
+use Rattle.std.specs.Prelude.{Option, Some}
 use Rattle.std.specs.Prelude.{option_and_then, option_map, slice_get}
 use Rattle.std.specs.List.{find}
 use Rattle.mw_text.specs.declared.address.Addr.{Addr}
@@ -140,7 +142,8 @@ pub record IsImported (files : List File) (environment : Environment) (tables : 
   pub from : r.from ≡ Peer address
   pub import : option_and_then (imported files end p) (arriving files environment tables p at end) ≡ Some r
 
--- a slot beside that of the given tables: it has the shape, and its route is a local one of the given slot or is imported
+-- a slot beside that of the given tables: it has the shape, and its route is a local one of the given slot or is
+-- imported
 pub record IsRebuiltSlot (tracked : Tracked) (files : List File) (known : Known) (made : Rebuilt) (p : Prefix)
     (router : ℕ) (rest slot : Slot) : Type 0 where
   pub ospf : slot.ospf ≡ rest.ospf

@@ -4,6 +4,7 @@ ghost use Rattle.std.specs.Prelude.{◌≡◌, ◌<◌, ◌*◌, ◌++◌, All, 
 ghost use Rattle.std.specs.List.{enumerate_from};
 ghost use Rattle.route_record.specs.Fits.{IsAddress, IsWord};
 ghost use Rattle.announced_shapes.specs.Environments.{rebuilt_environment};
+ghost use Rattle.shape_worlds.specs.Worlds.{ShapeWorld};
 ghost use Rattle.path_rebuild.specs.Environments.{environment_of};
 ghost use Rattle.path_rebuild.specs.Follows.{AllFollow, AreAnnounced, IsRebuilt, known_of};
 ghost use Rattle.path_rebuild.specs.Shapes.{AreFew};
@@ -105,6 +106,9 @@ pub fn rebuild(
         (environment_of net.now.tracked net.now.files ids.now announced.now)) }
     ensures tables { IfOk result (λ made. made.tables
         ≡ tables.rebuilt_tables net.now.tracked net.now.files made.env held.now rest.now d) }
+    ensures world { IfOk result (λ made. (s : ShapeWorld) →
+        tables.IsWorldOf net.now.tracked net.now.files d ids.now announced.now held.now rest.now s →
+        tables.IsMadeOf net.now.tracked net.now.files s made) }
     ensures shapes { IfOk result (λ made.
         let known = known_of net.now.tracked net.now.files ids.now announced.now held.now rest.now in
         AreAnnounced net.now.tracked net.now.files known.announced →
