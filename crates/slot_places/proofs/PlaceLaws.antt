@@ -167,7 +167,7 @@ places-ascend lens (suc n) pairs =
 
 -- ---- which places there are, as a test
 
-at-is : (p : Place) (router len : ℕ) → is_at router len p ≡ true → p ≡ place router len
+pub at-is : (p : Place) (router len : ℕ) → is_at router len p ≡ true → p ≡ place router len
 at-is p router len is =
     let both = and_parts (p.router == router) (p.len == len) is in
     let a = eqb-true p.router router both.0 in
