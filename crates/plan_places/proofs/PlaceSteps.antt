@@ -14,7 +14,7 @@ use Rattle.route_record.specs.declared.Plan.{Plan}
 use Rattle.route_record.specs.declared.TheConstants.{LENGTHS}
 use Rattle.plan_places.specs.declared.places.Place.{Place}
 use Rattle.plan_places.specs.Places.{is_at, item_at, place, places_below}
-use Rattle.plan_places.specs.Plans.{has_slice, lens_below, numbers_below}
+use Rattle.plan_places.specs.Plans.{has_slice, lens_below, lens_of, numbers_below}
 
 -- ---- one length more
 
@@ -256,3 +256,26 @@ among_none lens xs routers router len none = by (cases_lt router routers) where
 pub no_overflow : (lens : List ℕ) (router : ℕ) → router < 2 ^ 32 → length lens ≤ LENGTHS →
     router * length lens ≤ 2 ^ 32 * LENGTHS
 no_overflow lens router small few = mul-le router (length lens) (2 ^ 32) LENGTHS (omega (arith, small)) few
+
+-- those of routers from a number on stand at no place of the routers below it
+pub none_above : {X : Type 0} (lens : List ℕ) (xs : List X) (routers router len : ℕ) → routers ≤ router →
+    item_at (places_below lens routers) xs router len ≡ None
+none_above lens xs routers router len past =
+    item_none (places_below lens routers) xs router len (past-none lens routers router len past)
+
+lens_below-length : (plan : Plan) (n : ℕ) → length (lens_below plan n) ≤ n
+unfolding lens_below
+lens_below-length plan zero = omega arith
+lens_below-length plan (suc n) =
+    let shorter = lens_below-length plan n in
+    let both = length-append (lens_below plan n) (if has_slice plan n then n ∷ [] else []) in
+    let last = one (has_slice plan n) in
+    omega (arith, shorter, both, last)
+  where
+    one : (b : Bool) → length (if b then n ∷ [] else []) ≤ 1
+    one true = omega arith
+    one false = omega arith
+
+-- slices stand at no more lengths than there are
+pub lens_few : (plan : Plan) → length (lens_of plan) ≤ LENGTHS
+lens_few plan = lens_below-length plan LENGTHS

@@ -99,8 +99,6 @@ in-places lens (suc n) p there =
     by (inl front) rest = let found = rest front in let less = found.0 in (omega (arith, less), found.1)
     by (inr back) rest = last (in-map (place n) lens p back)
 
-
-
 -- ---- in which order
 
 first_rest : {X : Type 0} (R : X → X → Type 0) (x : X) (xs : List X) → AllPairs R (x ∷ xs) → All (R x) xs
