@@ -101,10 +101,10 @@ in-places lens (suc n) p there =
 
 -- ---- in which order
 
-first_rest : {X : Type 0} (R : X → X → Type 0) (x : X) (xs : List X) → AllPairs R (x ∷ xs) → All (R x) xs
+pub first_rest : {X : Type 0} (R : X → X → Type 0) (x : X) (xs : List X) → AllPairs R (x ∷ xs) → All (R x) xs
 first_rest R x xs pairs = λ k d within. pairs 0 (suc k) d (omega arith) (omega (arith, within))
 
-behind : {X : Type 0} (R : X → X → Type 0) (x : X) (xs : List X) → AllPairs R (x ∷ xs) → AllPairs R xs
+pub behind : {X : Type 0} (R : X → X → Type 0) (x : X) (xs : List X) → AllPairs R (x ∷ xs) → AllPairs R xs
 behind R x xs pairs = λ i j d earlier within. pairs (suc i) (suc j) d (omega (arith, earlier)) (omega (arith, within))
 
 pairs-append : {X : Type 0} (R : X → X → Type 0) (xs ys : List X) → AllPairs R xs → AllPairs R ys →
