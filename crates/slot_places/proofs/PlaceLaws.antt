@@ -98,10 +98,10 @@ in-places lens (suc n) p there =
 
 -- ---- in which order
 
-first_rest : {X : Type 0} (R : X → X → Type 0) (x : X) (xs : List X) → AllPairs R (x ∷ xs) → All (R x) xs
+pub first_rest : {X : Type 0} (R : X → X → Type 0) (x : X) (xs : List X) → AllPairs R (x ∷ xs) → All (R x) xs
 first_rest R x xs pairs = λ k d within. pairs 0 (suc k) d (omega arith) (omega (arith, within))
 
-behind : {X : Type 0} (R : X → X → Type 0) (x : X) (xs : List X) → AllPairs R (x ∷ xs) → AllPairs R xs
+pub behind : {X : Type 0} (R : X → X → Type 0) (x : X) (xs : List X) → AllPairs R (x ∷ xs) → AllPairs R xs
 behind R x xs pairs = λ i j d earlier within. pairs (suc i) (suc j) d (omega (arith, earlier)) (omega (arith, within))
 
 pairs-append : {X : Type 0} (R : X → X → Type 0) (xs ys : List X) → AllPairs R xs → AllPairs R ys →
@@ -162,7 +162,7 @@ places-ascend lens (suc n) pairs =
 
 -- ---- which places there are, as a test
 
-at-is : (p : Place) (router len : ℕ) → is_at router len p ≡ true → p ≡ place router len
+pub at-is : (p : Place) (router len : ℕ) → is_at router len p ≡ true → p ≡ place router len
 at-is p router len is =
     let both = and_parts (p.router == router) (p.len == len) is in
     let a = eqb-true p.router router both.0 in
