@@ -1,7 +1,7 @@
 //! The texts of a generated network: a ring of routers that run OSPF, and a question about it.
 #![tactic(auto)]
 
-ghost use Rattle.std.specs.Prelude.{◌≡◌, IfOk};
+ghost use Rattle.std.specs.Prelude.{◌≡◌, ◌≤◌, IfOk, length};
 ghost use Rattle.std.specs.List.{flat_map};
 ghost use Rattle.mw_gen.specs.Ring as ring;
 
@@ -135,9 +135,13 @@ fn interfaces_text(alloc: Global, routers: u64, router: u64) -> Result<List<u8>,
     )
 }
 
+/// How many bytes a text has at most.
+pub const MOST_BYTES: u64 = 10_000;
+
 /// The configuration of the router of that number in a ring of so many.
 pub fn router_text(alloc: Global, routers: u64, router: u64) -> Result<List<u8>, AllocError>
-    ensures { IfOk result (λ text. text ≡ ring.router_text routers router) }
+    ensures text { IfOk result (λ text. text ≡ ring.router_text routers router) }
+    ensures short { IfOk result (λ text. length text ≤ MOST_BYTES) }
 {
     let head = head_text(alloc, router)?;
     let interfaces = interfaces_text(alloc, routers, router)?;
@@ -153,8 +157,10 @@ pub fn router_text(alloc: Global, routers: u64, router: u64) -> Result<List<u8>,
 }
 
 /// The questions file of a ring of so many routers: whether the first reaches the last, whichever one link has failed.
+#[tactic(auto, using(crate::proofs::Lengths::question_short))]
 pub fn question_text(alloc: Global, routers: u64) -> Result<List<u8>, AllocError>
-    ensures { IfOk result (λ text. text ≡ ring.question_text routers) }
+    ensures text { IfOk result (λ text. text ≡ ring.question_text routers) }
+    ensures short { IfOk result (λ text. length text ≤ MOST_BYTES) }
 {
     let number = routers.to_string(alloc)?;
     let pieces: [&[u8]; 6] = [
