@@ -1,15 +1,13 @@
 -- Lines and the entries that they write.
-use Rattle.std.proofs.Common.{◌≡◌, ◌≢◌, ◌<◌, ◌≤◌, ◌∙◌, refl, ap, ap₂, sym, subst, arith, ℕ, zero, suc, ◌+◌, ◌==◌, Bool, true, false}
-use Rattle.std.proofs.Common.{List, [], ◌∷◌, ◌++◌, length, take, drop, get_or, take-append-drop, Option, Some, None, nat_lt, append_assoc}
+use Rattle.std.proofs.Common.{◌≡◌, ◌<◌, ◌≤◌, ◌∙◌, refl, ap, sym, arith, ℕ, ◌+◌, Bool, true, false}
+use Rattle.std.proofs.Common.{List, [], ◌∷◌, ◌++◌, length, take, drop, get_or, Some, None, nat_lt}
 use Rattle.std.specs.Prelude.{position, cond}
-use Rattle.std.specs.List.{slice_split, position_or_len, before_first, after_first, count_by, AllByRecursion}
+use Rattle.std.specs.List.{position_or_len}
 use Rattle.std.proofs.lemmas.Bool.{eqb-true, ltb-true, ltb-false}
 use Rattle.std.proofs.lemmas.List.Quantifiers.{position-Some}
-use Rattle.std.proofs.lemmas.List.Splits.{slice_split_first, slice_split_none, join_with_byte-slice_split, length-slice_split}
+use Rattle.std.proofs.lemmas.List.Splits.{slice_split_first, slice_split_none}
 use Rattle.std.proofs.lemmas.List.Sums.{fails_before_first}
-use Rattle.resolution_check.specs.declared.log.Entry.{Entry}
-use Rattle.resolution_check.specs.Text.{is_line_feed, text_of, line_of, log_text, HasText}
-use Rattle.resolution_check.proofs.LogLines.{lines-log_text}
+use Rattle.resolution_check.specs.Text.{is_line_feed}
 use Rattle.mw_text.proofs.Reading.{split-read}
 use Rattle.log_checker.specs.Lines.{pieces}
 

@@ -1,8 +1,8 @@
 -- What one entry, and one line, does to a section.
-use Rattle.std.specs.Prelude.{◌≡◌, ◌≢◌, ℕ, ◌++◌, ◌∷◌, false, true, ⊤, List, [], Some}
+use Rattle.std.specs.Prelude.{◌≡◌, ◌≢◌, ℕ, ◌++◌, ◌∷◌, false, true, List, [], Some}
 use Rattle.resolution_check.specs.declared.log.Clause.{Clause}
 use Rattle.resolution_check.specs.declared.log.Entry.{Entry}
-use Rattle.resolution_check.specs.declared.log.Entry.TheVariants.{Input, Add, Delete, End}
+use Rattle.resolution_check.specs.declared.log.Entry.TheVariants.{Input, End}
 use Rattle.resolution_check.specs.Entries.{adds_empty, fault_of, is_end}
 use Rattle.resolution_check.specs.Known.{HasRead, Known}
 use Rattle.resolution_check.specs.Text.{HasText, text_of}

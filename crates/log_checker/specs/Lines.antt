@@ -1,5 +1,5 @@
 -- Lines, ended by line feeds.
-use Rattle.std.specs.Prelude.{◌≡◌, ℕ, List, [], ◌∷◌}
+use Rattle.std.specs.Prelude.{ℕ, List}
 use Rattle.std.specs.List.{slice_split}
 use Rattle.resolution_check.specs.Text.{is_line_feed}
 

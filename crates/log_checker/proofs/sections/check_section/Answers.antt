@@ -1,4 +1,4 @@
-use Rattle.std.proofs.Common.{◌≡◌, ◌∙◌, inl, refl, subst, sym}
+use Rattle.std.proofs.Common.{◌≡◌, inl, refl, subst, sym}
 use Rattle.log_checker.specs.declared.cause.Cause.{Cause}
 use Rattle.log_checker.specs.Sections.{IsUnopened, opening_text}
 use Rattle.log_checker.proofs.Fronts.{opened_shown, some_wrong, unopened}
