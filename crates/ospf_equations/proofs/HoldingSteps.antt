@@ -12,7 +12,10 @@ use Rattle.std.proofs.lemmas.List.{drop_more, drop_all}
 use Rattle.route_record.specs.declared.OspfRec.{OspfRec}
 use Rattle.net_parts.specs.OspfRoutes.{is_as_good, is_better}
 use Rattle.net_parts.specs.Sending.{same_record}
-use Rattle.term_store.specs.Terms.{Reading}
+use Rattle.std.specs.Prelude.{Result, Ok, Err}
+use Rattle.std.specs.declared.alloc.AllocError.{AllocError}
+use Rattle.term_store.specs.Terms.{Reading, Store}
+use Rattle.term_store.specs.Reading.{Gives, Reads}
 use Rattle.sym_policy.specs.declared.records.SymOspf.{SymOspf}
 use Rattle.sym_policy.specs.Held.{ospf_of, ospf_end}
 use Rattle.sym_ospf.specs.Routes.{routes_end}
@@ -76,3 +79,9 @@ pub ruleset any_steps = (common_steps, some_next, routes_at, route_below, drop_a
 pub ends_same : (xs : List SymOspf) → routes_end xs ≡ list_end ospf_end xs
 ends_same [] = refl
 ends_same (x ∷ xs) = ap (max (ospf_end x)) (ends_same xs)
+
+-- what a call gives gives what follows from it
+pub gives_more : {A : Type 0} (t : Store) (result : Result A AllocError) (P Q : Reading → A → Type 0) →
+    ((w : Reading) (r : A) → Reads w t → P w r → Q w r) → Gives t result P → Gives t result Q
+gives_more t (Ok r) P Q follows given = λ w reads. follows w r reads (given w reads)
+gives_more t (Err e) P Q follows given = tt

@@ -105,6 +105,12 @@ dear_offer most cost (Some r) dear = by_test (nat_lt (r.cost + cost) (2 ^ 32)) w
 
 -- ---- by nodes
 
+-- what is offered where a node is true is within a limit where both are true
+pub up_within : (most : ℕ) (up within : Bool) (o : Option OspfRec) → within ≡ has_within most o →
+    (up && within) ≡ has_within most (if up then o else None)
+up_within most true within o same = same
+up_within most false within o same = refl
+
 -- two nodes of one value agree
 pub agrees : (b : Bool) → not (differ b b) ≡ true
 agrees true = refl

@@ -4,3 +4,4 @@ pub mod LevelSteps
 pub mod AdjacentSteps
 pub mod Wanted
 pub mod BareSlots
+pub mod SourceBits

@@ -14,9 +14,17 @@ use Rattle.net_parts.specs.Ospf.{advertisement, receives}
 use Rattle.net_parts.specs.OspfRoutes.{offer_over}
 use Rattle.net_parts.specs.World.{is_up}
 use Rattle.term_store.specs.Terms.{Reading}
-use Rattle.sym_policy.specs.Held.{bgp_of, internal_route}
+use Rattle.term_arith.specs.declared.Bits.{Bits}
+use Rattle.sym_policy.specs.declared.records.SymNet.{SymNet}
+use Rattle.sym_policy.specs.Held.{bgp_of, failures_of, internal_route}
+use Rattle.sym_policy.specs.Records.{address_of}
 use Rattle.sym_rib.specs.declared.slots.SymSlot.{SymSlot}
+use Rattle.sym_rib.specs.declared.slots.SymTables.{SymTables}
 use Rattle.sym_rib.specs.Into.{HasTracked}
+use Rattle.sym_rib.specs.Worlds.{slot_of as slot_read, slot_placed}
+use Rattle.world_variables.specs.declared.opens.SymOpen.{SymOpen}
+use Rattle.world_variables.specs.Slots.{open_slot}
+use Rattle.world_variables.specs.Symbols.{open_of}
 
 -- the router originates the prefix by that interface
 abbrev pub originates : List File → Failures → ℕ → Prefix → OspfInterface → Bool
@@ -43,9 +51,16 @@ unfoldable pub offers_by : List File → Failures → Tables → ℕ → Prefix 
 offers_by files failures tables router p links =
     filter_map (offer_over tables p) (filter (receives files failures router) links)
 
--- each slot has one node for each tracked number and community, and no BGP route under the reading
+-- each slot has one node for each tracked number, community and cluster, and no BGP route under the reading
 abbrev pub HaveTracked : Tracked → List SymSlot → Type 0
 HaveTracked tracked slots = All (λ s. HasTracked tracked s.bgp) slots
 
 abbrev pub AreBare : Reading → List SymSlot → Type 0
 AreBare w slots = All (λ s. bgp_of w s.bgp ≡ None) slots
+
+-- a symbolic slot stands at that router and length, and reads as the one that follows from what is open of it
+pub record IsOpenSlot (w : Reading) (files : List File) (sym : SymNet) (dst : Bits) (tables : SymTables) (router len : ℕ)
+    (part : SymOpen) : Type 0 where
+  pub slot : SymSlot
+  pub there : slot_placed tables router len ≡ Some slot
+  pub is : slot_read w slot ≡ open_slot files (failures_of w sym) (address_of w dst) router len (open_of w part)

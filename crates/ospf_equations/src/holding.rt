@@ -12,14 +12,15 @@ ghost use Rattle.sym_policy.specs.Held.{bgp_of, failures_of, ospf_at, ospf_of, o
 ghost use Rattle.sym_policy.specs.Records.{address_of};
 ghost use Rattle.sym_rib.specs.Into.{HasTracked, list_end};
 ghost use Rattle.sym_rib.specs.Slots.{slot_end};
-ghost use Rattle.sym_rib.specs.Worlds.{slots_end, tables_of, slot_of as slot_read};
-ghost use Rattle.ospf_equations.specs.Equations.{AreBare, HaveTracked};
-ghost use Rattle.world_variables.specs.Slots.{is_wanted, same_ospf, slot_holds, slot_of};
+ghost use Rattle.sym_rib.specs.Worlds.{read_tables, slots_end, slot_of as slot_read};
+ghost use Rattle.ospf_equations.specs.Equations.{AreBare, HaveTracked, IsOpenSlot};
+ghost use Rattle.world_variables.specs.Slots.{is_wanted, open_slot, same_ospf};
 ghost use Rattle.world_variables.specs.Symbols.{open_of, open_end};
 ghost use Rattle.term_store.specs.Terms.{Reading, at, size};
 ghost use Rattle.term_store.specs.Reading.{Reads, Builds, Gives};
 ghost use Rattle.term_arith.specs.Bits.{ids_end};
 
+use crate::dynamic::sym_dynamic;
 use crate::levels::sym_held;
 use crate::origins::own_routes;
 use net_model::Net;
@@ -27,7 +28,7 @@ use net_parts::ends::file_of;
 use std::alloc::{AllocError, Global};
 use sym_ospf::sym_better;
 use sym_policy::{SymNet, SymOspf};
-use sym_rib::{SymSlot, slot_for};
+use sym_rib::{SymSlot, SymTables, slot_for};
 use term_arith::Bits;
 use term_arith::gates::{agree, both, constant_node, either, negate};
 use term_store::{NodeId, Terms};
@@ -86,7 +87,7 @@ fn sym_wanted(
     terms: &mut Terms,
     net: &Net,
     sym: &SymNet,
-    slots: &[SymSlot],
+    tables: &SymTables<'_>,
     router: u32,
     dst: &Bits,
     len: u8,
@@ -99,49 +100,50 @@ fn sym_wanted(
     requires nodes { ids_end dst.now.nodes.items ≤ size terms.old }
     requires down { ids_end sym.now.down ≤ size terms.old }
     requires rows { HasTracked net.now.tracked slot.now.bgp }
-    requires slots { slots_end slots.now ≤ size terms.old }
+    requires tables { slots_end tables.now.slots.now ≤ size terms.old }
     requires slot { slot_end slot.now ≤ size terms.old }
     requires part { open_end part.now ≤ size terms.old }
     ensures builds { Builds terms.old terms.new }
     ensures within { IfOk result (λ r. r.0 < size terms.new) }
     ensures value { Gives terms.new result (λ w r. (file : FileOf) (process : OspfOf) →
         slice_get net.now.files router ≡ Some file → file.ospf ≡ Some process → bgp_of w slot.now.bgp ≡ None →
-        slot_at (tables_of w slots.now) router len ≡ Some (slot_read w slot.now) →
+        slot_at (read_tables w tables.now) router len ≡ Some (slot_read w slot.now) →
         slot_read w slot.now
-        ≡ slot_of net.now.files (failures_of w sym.now) (address_of w dst.now) router len (open_of w part.now) →
-        at w r ≡ is_wanted net.now.files (failures_of w sym.now) (address_of w dst.now) (tables_of w slots.now)
+        ≡ open_slot net.now.files (failures_of w sym.now) (address_of w dst.now) router len (open_of w part.now) →
+        at w r ≡ is_wanted net.now.files (failures_of w sym.now) (address_of w dst.now) (read_tables w tables.now)
         router len (open_of w part.now) file) }
 {
     let own = own_routes(alloc, terms, net, sym, router, dst, len, slot)?;
     let good = sym_as_good(terms, own.as_slice(), &part.ospf)?;
     let held = sym_held(
-        alloc, terms, net, sym, slots, router, dst, len, own, &part.ospf, limits,
+        alloc, terms, net, sym, tables, router, dst, len, own, &part.ospf, limits,
     )?;
-    let own_good = agree(terms, part.own, good)?;
-    let wanted = both(terms, held, own_good)?;
+    let bit = sym_dynamic(alloc, terms, net, sym, router, dst, len, slot, good)?;
+    let same = agree(terms, part.dynamic, bit)?;
+    let wanted = both(terms, held, same)?;
     Ok(wanted)
 }
 
-// The same for a router without OSPF: there is no route.
+// The same for a router without OSPF: there is no route, and no entry of OSPF.
 #[tactic(auto, using(crate::proofs::HoldingSteps::closed_is))]
 fn sym_closed(terms: &mut Terms, part: &SymOpen) -> Result<NodeId, AllocError>
     requires part { open_end part.now ≤ size terms.old }
     ensures builds { Builds terms.old terms.new }
     ensures within { IfOk result (λ r. r.0 < size terms.new) }
     ensures value { Gives terms.new result (λ w r. at w r
-        ≡ (same_ospf (ospf_of w part.now.ospf) None && beq (at w part.now.own) false)) }
+        ≡ (same_ospf (ospf_of w part.now.ospf) None && beq (at w part.now.dynamic) false)) }
 {
-    let some = either(terms, part.ospf.valid, part.own)?;
+    let some = either(terms, part.ospf.valid, part.dynamic)?;
     negate(terms, some)
 }
 
-// The same for each router that runs OSPF, whose symbolic slot stands in the list.
+// The same for each router that runs OSPF, whose symbolic slot stands in the tables.
 fn sym_runs(
     alloc: Global,
     terms: &mut Terms,
     net: &Net,
     sym: &SymNet,
-    slots: &[SymSlot],
+    tables: &SymTables<'_>,
     router: u32,
     dst: &Bits,
     len: u8,
@@ -152,37 +154,36 @@ fn sym_runs(
     requires wide { length dst.now.nodes.items ≡ 32 }
     requires nodes { ids_end dst.now.nodes.items ≤ size terms.old }
     requires down { ids_end sym.now.down ≤ size terms.old }
-    requires rows { HaveTracked net.now.tracked slots.now }
-    requires slots { slots_end slots.now ≤ size terms.old }
+    requires rows { HaveTracked net.now.tracked tables.now.slots.now }
+    requires tables { slots_end tables.now.slots.now ≤ size terms.old }
     requires part { open_end part.now ≤ size terms.old }
     ensures builds { Builds terms.old terms.new }
     ensures within { IfOk result (λ r. r.0 < size terms.new) }
     ensures value { Gives terms.new result (λ w r. (file : FileOf) (process : OspfOf) →
-        slice_get net.now.files router ≡ Some file → file.ospf ≡ Some process → AreBare w slots.now →
-        slot_at (tables_of w slots.now) router len
-        ≡ Some (slot_of net.now.files (failures_of w sym.now) (address_of w dst.now) router len (open_of w part.now)) →
-        at w r ≡ is_wanted net.now.files (failures_of w sym.now) (address_of w dst.now) (tables_of w slots.now)
+        slice_get net.now.files router ≡ Some file → file.ospf ≡ Some process → AreBare w tables.now.slots.now →
+        IsOpenSlot w net.now.files sym.now dst.now tables.now router len part.now →
+        at w r ≡ is_wanted net.now.files (failures_of w sym.now) (address_of w dst.now) (read_tables w tables.now)
         router len (open_of w part.now) file) }
 {
-    match slot_for(slots, router, len) {
+    match slot_for(tables, router, len) {
         None => constant_node(terms, false),
         Some(slot) => {
             let made = sym_wanted(
-                alloc, terms, net, sym, slots, router, dst, len, slot, part, limits,
+                alloc, terms, net, sym, tables, router, dst, len, slot, part, limits,
             )?;
             Ok(made)
         }
     }
 }
 
-/// Whether what is open of a slot is as the tables want it: its OSPF route is the one that its router holds, and it says
-/// rightly whether an own origin is as good. The symbolic slot stands in the list.
+/// Whether what is open of a slot is as the tables want it: its OSPF route is the one that its router holds, and its bit is
+/// that of the entry of the router's table. The symbolic slot that follows from what is open stands in the tables.
 pub fn sym_slot_holds(
     alloc: Global,
     terms: &mut Terms,
     net: &Net,
     sym: &SymNet,
-    slots: &[SymSlot],
+    tables: &SymTables<'_>,
     router: u32,
     dst: &Bits,
     len: u8,
@@ -193,16 +194,15 @@ pub fn sym_slot_holds(
     requires wide { length dst.now.nodes.items ≡ 32 }
     requires nodes { ids_end dst.now.nodes.items ≤ size terms.old }
     requires down { ids_end sym.now.down ≤ size terms.old }
-    requires rows { HaveTracked net.now.tracked slots.now }
-    requires slots { slots_end slots.now ≤ size terms.old }
+    requires rows { HaveTracked net.now.tracked tables.now.slots.now }
+    requires tables { slots_end tables.now.slots.now ≤ size terms.old }
     requires part { open_end part.now ≤ size terms.old }
     ensures builds { Builds terms.old terms.new }
     ensures within { IfOk result (λ r. r.0 < size terms.new) }
-    ensures value { Gives terms.new result (λ w r. AreBare w slots.now →
-        slot_at (tables_of w slots.now) router len
-        ≡ Some (slot_of net.now.files (failures_of w sym.now) (address_of w dst.now) router len (open_of w part.now)) →
-        at w r ≡ slot_holds net.now.files (failures_of w sym.now) (address_of w dst.now) (tables_of w slots.now)
-        router len (open_of w part.now)) }
+    ensures value { Gives terms.new result (λ w r. AreBare w tables.now.slots.now →
+        IsOpenSlot w net.now.files sym.now dst.now tables.now router len part.now →
+        at w r ≡ option_map_or (is_wanted net.now.files (failures_of w sym.now) (address_of w dst.now)
+        (read_tables w tables.now) router len (open_of w part.now)) (slice_get net.now.files router) false) }
 {
     match file_of(net.routers(), router) {
         None => constant_node(terms, false),
@@ -210,7 +210,7 @@ pub fn sym_slot_holds(
             None => sym_closed(terms, part),
             Some(_) => {
                 let made = sym_runs(
-                    alloc, terms, net, sym, slots, router, dst, len, part, limits,
+                    alloc, terms, net, sym, tables, router, dst, len, part, limits,
                 )?;
                 Ok(made)
             }

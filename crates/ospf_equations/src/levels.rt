@@ -9,7 +9,7 @@ ghost use Rattle.net_parts.specs.OspfRoutes.{first_best, offer_over};
 ghost use Rattle.sym_policy.specs.Held.{failures_of, ospf_of, ospf_end};
 ghost use Rattle.sym_policy.specs.Records.{prefix_of as prefix_read};
 ghost use Rattle.sym_rib.specs.Into.{list_end};
-ghost use Rattle.sym_rib.specs.Worlds.{slots_end, tables_of};
+ghost use Rattle.sym_rib.specs.Worlds.{read_tables, slots_end};
 ghost use Rattle.ospf_equations.specs.Adjacent.{offers_read, ups_end};
 ghost use Rattle.ospf_equations.specs.Equations.{offers_by};
 ghost use Rattle.ospf_equations.specs.Levels.{has_within, is_within, of_length};
@@ -25,7 +25,7 @@ use net_model::{Adjacency, Net};
 use std::alloc::{AllocError, Global};
 use sym_ospf::{sym_best, sym_same_record};
 use sym_policy::{SymNet, SymOspf};
-use sym_rib::{SymSlot, slot_for};
+use sym_rib::{SymTables, slot_for};
 use term_arith::gates::{agree, both, constant_node, either, is_never, negate};
 use term_arith::{Bits, above_number, equal_number};
 use term_store::{NodeId, Terms};
@@ -65,23 +65,24 @@ fn sym_some_within(terms: &mut Terms, own: &[SymOspf], most: u32) -> Result<Node
 // Whether the route that the far router of an adjacency offers is, where a node is true.
 fn sym_far_within(
     terms: &mut Terms,
-    slots: &[SymSlot],
+    tables: &SymTables<'_>,
     len: u8,
     a: &Adjacency,
     up: NodeId,
     most: u32,
 ) -> Result<NodeId, AllocError>
-    requires slots { slots_end slots.now ≤ size terms.old }
+    requires long { len ≤ 32 }
+    requires tables { slots_end tables.now.slots.now ≤ size terms.old }
     requires up { up.0 < size terms.old }
     ensures builds { Builds terms.old terms.new }
     ensures within { IfOk result (λ r. r.0 < size terms.new) }
     ensures value { Gives terms.new result (λ w r. at w r ≡ has_within most (if at w up
-        then offer_over (tables_of w slots.now) (of_length len) a.now else None)) }
+        then offer_over (read_tables w tables.now) (of_length len) a.now else None)) }
 {
     if a.cost > most {
         return constant_node(terms, false);
     }
-    match slot_for(slots, a.to.router, len) {
+    match slot_for(tables, a.to.router, len) {
         None => constant_node(terms, false),
         Some(far) => {
             let there = sym_within(terms, &far.ospf, most - a.cost)?;
@@ -94,21 +95,22 @@ fn sym_far_within(
 #[tactic(auto, using(crate::proofs::AdjacentSteps::within_steps))]
 fn sym_offers_within(
     terms: &mut Terms,
-    slots: &[SymSlot],
+    tables: &SymTables<'_>,
     over: &[SymAdjacency],
     len: u8,
     most: u32,
 ) -> Result<NodeId, AllocError>
-    requires slots { slots_end slots.now ≤ size terms.old }
+    requires long { len ≤ 32 }
+    requires tables { slots_end tables.now.slots.now ≤ size terms.old }
     requires over { ups_end over.now ≤ size terms.old }
     ensures builds { Builds terms.old terms.new }
     ensures within { IfOk result (λ r. r.0 < size terms.new) }
     ensures value { Gives terms.new result (λ w r. at w r ≡ list_any (is_within most)
-        (offers_read w (tables_of w slots.now) (of_length len) over.now)) }
+        (offers_read w (read_tables w tables.now) (of_length len) over.now)) }
 {
     let mut any = constant_node(terms, false)?;
     for s in over {
-        let here = sym_far_within(terms, slots, len, &s.adjacency, s.up, most)?;
+        let here = sym_far_within(terms, tables, len, &s.adjacency, s.up, most)?;
         any = either(terms, any, here)?;
     }
     Ok(any)
@@ -118,26 +120,27 @@ fn sym_offers_within(
 // these is.
 fn sym_level(
     terms: &mut Terms,
-    slots: &[SymSlot],
+    tables: &SymTables<'_>,
     over: &[SymAdjacency],
     len: u8,
     own: &[SymOspf],
     held: &SymOspf,
     most: u32,
 ) -> Result<NodeId, AllocError>
-    requires slots { slots_end slots.now ≤ size terms.old }
+    requires long { len ≤ 32 }
+    requires tables { slots_end tables.now.slots.now ≤ size terms.old }
     requires over { ups_end over.now ≤ size terms.old }
     requires own { list_end ospf_end own.now ≤ size terms.old }
     requires held { ospf_end held.now ≤ size terms.old }
     ensures builds { Builds terms.old terms.new }
     ensures within { IfOk result (λ r. r.0 < size terms.new) }
     ensures value { Gives terms.new result (λ w r. same_ospf (ospf_of w held.now) (first_best
-        (filter_map (ospf_of w) own.now ++ offers_read w (tables_of w slots.now) (of_length len) over.now)) ≡ true
+        (filter_map (ospf_of w) own.now ++ offers_read w (read_tables w tables.now) (of_length len) over.now)) ≡ true
         → at w r ≡ true) }
 {
     let here = sym_within(terms, held, most)?;
     let own = sym_some_within(terms, own, most)?;
-    let offered = sym_offers_within(terms, slots, over, len, most)?;
+    let offered = sym_offers_within(terms, tables, over, len, most)?;
     let some = either(terms, own, offered)?;
     let level = agree(terms, here, some)?;
     Ok(level)
@@ -163,26 +166,27 @@ fn sym_same(terms: &mut Terms, a: &SymOspf, b: &SymOspf) -> Result<NodeId, Alloc
 // True where the held route is the best of the own ones and the offers, whatever the limits.
 fn sym_all_levels(
     terms: &mut Terms,
-    slots: &[SymSlot],
+    tables: &SymTables<'_>,
     over: &[SymAdjacency],
     len: u8,
     own: &[SymOspf],
     held: &SymOspf,
     limits: &[u32],
 ) -> Result<NodeId, AllocError>
-    requires slots { slots_end slots.now ≤ size terms.old }
+    requires long { len ≤ 32 }
+    requires tables { slots_end tables.now.slots.now ≤ size terms.old }
     requires over { ups_end over.now ≤ size terms.old }
     requires own { list_end ospf_end own.now ≤ size terms.old }
     requires held { ospf_end held.now ≤ size terms.old }
     ensures builds { Builds terms.old terms.new }
     ensures within { IfOk result (λ r. r.0 < size terms.new) }
     ensures value { Gives terms.new result (λ w r. same_ospf (ospf_of w held.now) (first_best
-        (filter_map (ospf_of w) own.now ++ offers_read w (tables_of w slots.now) (of_length len) over.now)) ≡ true
+        (filter_map (ospf_of w) own.now ++ offers_read w (read_tables w tables.now) (of_length len) over.now)) ≡ true
         → at w r ≡ true) }
 {
     let mut all = constant_node(terms, true)?;
     for most in limits {
-        let level = sym_level(terms, slots, over, len, own, held, *most)?;
+        let level = sym_level(terms, tables, over, len, own, held, *most)?;
         all = both(terms, all, level)?;
     }
     Ok(all)
@@ -195,7 +199,7 @@ pub fn sym_held(
     terms: &mut Terms,
     net: &Net,
     sym: &SymNet,
-    slots: &[SymSlot],
+    tables: &SymTables<'_>,
     router: u32,
     dst: &Bits,
     len: u8,
@@ -204,13 +208,14 @@ pub fn sym_held(
     limits: &[u32],
 ) -> Result<NodeId, AllocError>
     requires down { ids_end sym.now.down ≤ size terms.old }
-    requires slots { slots_end slots.now ≤ size terms.old }
+    requires long { len ≤ 32 }
+    requires tables { slots_end tables.now.slots.now ≤ size terms.old }
     requires own { list_end ospf_end own ≤ size terms.old }
     requires held { ospf_end held.now ≤ size terms.old }
     ensures builds { Builds terms.old terms.new }
     ensures within { IfOk result (λ r. r.0 < size terms.new) }
     ensures value { Gives terms.new result (λ w r. at w r ≡ same_ospf (ospf_of w held.now) (first_best
-        (filter_map (ospf_of w) own ++ offers_by net.now.files (failures_of w sym.now) (tables_of w slots.now) router
+        (filter_map (ospf_of w) own ++ offers_by net.now.files (failures_of w sym.now) (read_tables w tables.now) router
         (prefix_read w dst.now len) (model.adjacencies net.now.files)))) }
 {
     let shown = if is_never(terms, held.valid) {
@@ -221,14 +226,14 @@ pub fn sym_held(
     let over = sym_adjacencies(alloc, terms, net, sym, router)?;
     let levels = sym_all_levels(
         terms,
-        slots,
+        tables,
         over.as_slice(),
         len,
         own.as_slice(),
         held,
         shown,
     )?;
-    let all = with_offers(alloc, terms, slots, over.as_slice(), dst, len, own)?;
+    let all = with_offers(alloc, terms, tables, over.as_slice(), dst, len, own)?;
     let best = sym_best(alloc, terms, all.as_slice())?;
     let same = sym_same(terms, held, &best)?;
     let firm = both(terms, same, levels)?;

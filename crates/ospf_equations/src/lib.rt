@@ -3,11 +3,13 @@
 #![tactic(auto)]
 
 mod adjacent;
+mod dynamic;
 mod holding;
 mod levels;
 mod limits;
 mod offers;
 mod origins;
 
+pub use dynamic::with_dynamic;
 pub use holding::sym_slot_holds;
 pub use limits::{is_meshed, limits_of};

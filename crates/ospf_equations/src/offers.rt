@@ -7,7 +7,7 @@ ghost use Rattle.net_parts.specs.OspfRoutes.{offer_over};
 ghost use Rattle.sym_policy.specs.Held.{ospf_of, ospf_end};
 ghost use Rattle.sym_policy.specs.Records.{prefix_of as prefix_read};
 ghost use Rattle.sym_rib.specs.Into.{list_end};
-ghost use Rattle.sym_rib.specs.Worlds.{slots_end, tables_of};
+ghost use Rattle.sym_rib.specs.Worlds.{read_tables, slots_end};
 ghost use Rattle.ospf_equations.specs.Adjacent.{offers_read, ups_end};
 ghost use Rattle.term_store.specs.Terms.{Reading, at, size};
 ghost use Rattle.term_store.specs.Reading.{Reads, Builds, Gives};
@@ -20,36 +20,38 @@ use net_model::Adjacency;
 use std::alloc::{AllocError, Global};
 use sym_ospf::sym_transfer;
 use sym_policy::SymOspf;
-use sym_rib::{SymSlot, slot_for};
+use sym_rib::{SymTables, slot_for};
 use term_arith::Bits;
 use term_store::{NodeId, Terms};
 
 // Puts the route behind some that the far router of an adjacency offers, where a node is true.
-#[tactic(auto, using(crate::proofs::EquationSteps::routes_push, crate::proofs::EquationSteps::routes_end_push, sym_rib::proofs::SlotPlaces::slot_read))]
+#[tactic(auto, using(crate::proofs::EquationSteps::routes_push, crate::proofs::EquationSteps::routes_end_push))]
 fn put_far(
     alloc: Global,
     terms: &mut Terms,
-    slots: &[SymSlot],
+    tables: &SymTables<'_>,
     dst: &Bits,
     len: u8,
     a: &Adjacency,
     up: NodeId,
     made: &mut List<SymOspf>,
 ) -> Result<(), AllocError>
-    requires slots { slots_end slots.now ≤ size terms.old }
+    requires long { len ≤ 32 }
+    requires tables { slots_end tables.now.slots.now ≤ size terms.old }
     requires up { up.0 < size terms.old }
     requires made { list_end ospf_end made.old ≤ size terms.old }
     ensures builds { Builds terms.old terms.new }
     ensures within { OnOk result (list_end ospf_end made.new ≤ size terms.new) }
     ensures value { Gives terms.new result (λ w _. filter_map (ospf_of w) made.new
         ≡ filter_map (ospf_of w) made.old ++ option_to_list (if at w up
-        then offer_over (tables_of w slots.now) (prefix_read w dst.now len) a.now else None)) }
+        then offer_over (read_tables w tables.now) (prefix_read w dst.now len) a.now else None)) }
 {
-    match slot_for(slots, a.to.router, len) {
+    match slot_for(tables, a.to.router, len) {
         None => Ok(()),
         Some(far) => {
             let offer = sym_transfer(alloc, terms, &far.ospf, up, a.cost)?;
-            put_route(made, offer)
+            put_route(made, offer)?;
+            Ok(())
         }
     }
 }
@@ -60,23 +62,33 @@ fn put_far(
 pub fn with_offers(
     alloc: Global,
     terms: &mut Terms,
-    slots: &[SymSlot],
+    tables: &SymTables<'_>,
     over: &[SymAdjacency],
     dst: &Bits,
     len: u8,
     own: List<SymOspf>,
 ) -> Result<List<SymOspf>, AllocError>
-    requires slots { slots_end slots.now ≤ size terms.old }
+    requires long { len ≤ 32 }
+    requires tables { slots_end tables.now.slots.now ≤ size terms.old }
     requires over { ups_end over.now ≤ size terms.old }
     requires own { list_end ospf_end own ≤ size terms.old }
     ensures builds { Builds terms.old terms.new }
     ensures within { IfOk result (λ r. list_end ospf_end r ≤ size terms.new) }
     ensures value { Gives terms.new result (λ w r. filter_map (ospf_of w) r ≡ filter_map (ospf_of w) own
-        ++ offers_read w (tables_of w slots.now) (prefix_read w dst.now len) over.now) }
+        ++ offers_read w (read_tables w tables.now) (prefix_read w dst.now len) over.now) }
 {
     let mut made = own;
     for s in over {
-        put_far(alloc, terms, slots, dst, len, &s.adjacency, s.up, &mut made)?;
+        put_far(
+            alloc,
+            terms,
+            tables,
+            dst,
+            len,
+            &s.adjacency,
+            s.up,
+            &mut made,
+        )?;
     }
     Ok(made)
 }

@@ -49,6 +49,9 @@ world_of w sym packet tables = record {
   tables = tables;
 }
 
+abbrev pub read_world : Reading → SymNet → SymPacket → SymTables → World
+read_world w sym packet tables = world_of w sym packet (read_tables w tables)
+
 -- each symbolic slot stands for the slot at its place in the tables of so many routers, which are empty at all other
 -- lengths
 pub record StandForTables (w : Reading) (tracked : Tracked) (lens : List ℕ) (routers : ℕ) (slots : List SymSlot)

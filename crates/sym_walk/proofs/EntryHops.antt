@@ -1,8 +1,8 @@
 -- The next hops of an entry by the number of its source, and the longest prefix with an entry, one length at a time.
-use Rattle.std.proofs.Common.{◌≡◌, ℕ, suc, ◌+◌, ◌*◌, Bool, true, false, cond, List, [], ◌∷◌, Option, Some, None}
+use Rattle.std.proofs.Common.{◌≡◌, ℕ, suc, ◌+◌, ◌<◌, Bool, true, false, cond, List, [], ◌∷◌, Option, Some, None}
 use Rattle.std.proofs.Common.{refl, sym, ap, ◌∙◌, eqb, arith}
 use Rattle.std.proofs.lemmas.Bool.{eqb-true}
-use Rattle.std.specs.Prelude.{slice_get, option_map, option_and_then}
+use Rattle.std.specs.Prelude.{option_map, option_and_then}
 use Rattle.std.specs.Option.{option_map_or}
 use Rattle.mw_text.specs.Address.{prefix_at}
 use Rattle.ios_ast.specs.declared.file.File.{File}
@@ -20,12 +20,13 @@ use Rattle.question_lang.specs.declared.walk.Hop.{Hop}
 use Rattle.question_lang.specs.declared.walk.Hop.TheVariants.{Ends}
 use Rattle.question_lang.specs.Hops.{all_up, bgp_hops, connected_hops, entry_at, entry_hops, longest_below, ospf_hops}
 use Rattle.sym_rib.specs.declared.slots.SymSlot.{SymSlot}
+use Rattle.sym_rib.specs.declared.slots.SymTables.{SymTables}
 use Rattle.sym_rib.specs.Slots.{rib_at, rib_of}
 use Rattle.term_store.specs.Terms.{Reading, at}
 use Rattle.term_arith.specs.Bits.{number}
 use Rattle.sym_walk.specs.Entries.{by_entry, by_number, entry_of, longer, static_part}
-use Rattle.sym_rib.specs.Worlds.{slot_of, tables_of}
-use Rattle.sym_rib.proofs.SlotPlaces.{slot_read}
+use Rattle.sym_rib.specs.Worlds.{read_tables, slot_of, slot_placed}
+use Rattle.sym_rib.proofs.SlotPlaces.{slot_missing, slot_there}
 
 -- by the number of its source
 pub entry_by_number : (w : Reading) (files : List File) (world : World) (up own : List Addressed) (router : ℕ)
@@ -108,38 +109,41 @@ longer_hops hops none true len slot e found o is =
 longer_hops hops none false len slot e found o is =
     ap (λ x. option_map_or hops (option_map_or (λ f. Some (len, f.0, f.1)) x o) none) is
 
+-- what is read of a slot: its entry, with it
+abbrev entry_in : Slot → Option (Slot × RibEntry)
+entry_in slot = option_map (λ entry. (slot, entry)) slot.rib
+
 -- the entry of a slot that is there
-pub entry_there : (w : Reading) (slots : List SymSlot) (router len : ℕ) (s : SymSlot) →
-    slice_get slots (LENGTHS * router + len) ≡ Some s →
-    entry_at (tables_of w slots) router len ≡ option_map (λ x. (slot_of w s, x)) (rib_of w s.rib)
-entry_there w slots router len s here =
-    ap (option_and_then (λ slot. option_map (λ entry. (slot, entry)) slot.rib))
-    (slot_read w slots (LENGTHS * router + len) ∙ ap (option_map (slot_of w)) here)
+pub entry_there : (w : Reading) (tables : SymTables) (router len : ℕ) (s : SymSlot) → len < LENGTHS →
+    slot_placed tables router len ≡ Some s →
+    entry_at (read_tables w tables) router len ≡ option_map (λ x. (slot_of w s, x)) (rib_of w s.rib)
+entry_there w tables router len s short here =
+    ap (option_and_then entry_in)
+    (slot_there w tables.lens.now tables.routers tables.slots.now router len s short here)
 
 -- and where there is none
-pub entry_missing : (w : Reading) (slots : List SymSlot) (router len : ℕ) →
-    slice_get slots (LENGTHS * router + len) ≡ None → entry_at (tables_of w slots) router len ≡ None
-entry_missing w slots router len here =
-    ap (option_and_then (λ slot. option_map (λ entry. (slot, entry)) slot.rib))
-    (slot_read w slots (LENGTHS * router + len) ∙ ap (option_map (slot_of w)) here)
+pub entry_missing : (w : Reading) (tables : SymTables) (router len : ℕ) → len < LENGTHS →
+    slot_placed tables router len ≡ None → entry_at (read_tables w tables) router len ≡ None
+entry_missing w tables router len short here =
+    slot_missing w tables.lens.now tables.routers tables.slots.now entry_in router len refl short here
 
 -- the hops with one length more, where the router has a slot for it, and where it has none
-pub longer_there : (w : Reading) (files : List File) (world : World) (router : ℕ) (file : File) (slots : List SymSlot)
-    (len : ℕ) (s : SymSlot) (shorter : Option (ℕ × Slot × RibEntry)) →
-    slice_get slots (LENGTHS * router + len) ≡ Some s →
+pub longer_there : (w : Reading) (files : List File) (world : World) (router : ℕ) (file : File) (tables : SymTables)
+    (len : ℕ) (s : SymSlot) (shorter : Option (ℕ × Slot × RibEntry)) → len < LENGTHS →
+    slot_placed tables router len ≡ Some s →
     cond (at w s.rib.valid) (entry_of w files world (all_up files world.failures)
     (up_interfaces files world.failures router) router file len s) (by_entry files world router file shorter)
-    ≡ by_entry files world router file (longer (tables_of w slots) router len shorter)
-longer_there w files world router file slots len s shorter here =
+    ≡ by_entry files world router file (longer (read_tables w tables) router len shorter)
+longer_there w files world router file tables len s shorter short here =
     sym (longer_hops (entry_hops files world (all_up files world.failures) (up_interfaces files world.failures router)
     router file) (Ends NoRoute ∷ []) (at w s.rib.valid) len (slot_of w s) (rib_at w s.rib)
-    (entry_at (tables_of w slots) router len) shorter (entry_there w slots router len s here))
+    (entry_at (read_tables w tables) router len) shorter (entry_there w tables router len s short here))
 
 pub longer_missing : (w : Reading) (files : List File) (world : World) (router : ℕ) (file : File)
-    (slots : List SymSlot) (len : ℕ) (shorter : Option (ℕ × Slot × RibEntry)) →
-    slice_get slots (LENGTHS * router + len) ≡ None →
+    (tables : SymTables) (len : ℕ) (shorter : Option (ℕ × Slot × RibEntry)) → len < LENGTHS →
+    slot_placed tables router len ≡ None →
     by_entry files world router file shorter
-    ≡ by_entry files world router file (longer (tables_of w slots) router len shorter)
-longer_missing w files world router file slots len shorter here =
+    ≡ by_entry files world router file (longer (read_tables w tables) router len shorter)
+longer_missing w files world router file tables len shorter short here =
     sym (ap (λ found. by_entry files world router file (option_map_or (λ f. Some (len, f.0, f.1)) found shorter))
-    (entry_missing w slots router len here))
+    (entry_missing w tables router len short here))

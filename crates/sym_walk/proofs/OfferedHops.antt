@@ -1,7 +1,7 @@
 -- Over which adjacencies an OSPF entry sends, one adjacency at a time.
 use Rattle.std.proofs.Common.{◌≡◌, ℕ, ◌-◌, ◌<◌, ◌≤◌, Bool, true, false, ◌&&◌, cond, List, [], ◌∷◌}
-use Rattle.std.proofs.Common.{◌++◌, length, get_or, drop, Option, Some, None, refl, sym, ap, ◌∙◌}
-use Rattle.std.specs.Prelude.{◌*◌, ◌+◌, option_and_then, option_map, filter, map, slice_get}
+use Rattle.std.proofs.Common.{◌++◌, length, get_or, drop, Option, Some, None, refl, sym, ap}
+use Rattle.std.specs.Prelude.{option_and_then, filter, map}
 use Rattle.std.specs.Option.{option_map_or}
 use Rattle.mw_text.specs.declared.address.Prefix.{Prefix}
 use Rattle.ios_ast.specs.declared.file.File.{File}
@@ -20,8 +20,9 @@ use Rattle.question_lang.specs.Hops.{send_adjacent}
 use Rattle.term_store.specs.Terms.{Reading}
 use Rattle.sym_policy.specs.Held.{ospf_of}
 use Rattle.sym_rib.specs.declared.slots.SymSlot.{SymSlot}
-use Rattle.sym_rib.specs.Worlds.{slot_of, tables_of}
-use Rattle.sym_rib.proofs.SlotPlaces.{slot_read}
+use Rattle.sym_rib.specs.declared.slots.SymTables.{SymTables}
+use Rattle.sym_rib.specs.Worlds.{read_tables, slot_placed}
+use Rattle.sym_rib.proofs.SlotPlaces.{slot_missing, slot_there}
 use Rattle.sym_forwarding.specs.Offers.{is_up_from, offered_hops, offers, offers_held}
 use Rattle.sym_forwarding.proofs.OwnerHops.{back}
 
@@ -81,10 +82,24 @@ offered_where true offer over held is =
 offered_where false offer over None is = refl
 offered_where false offer over (Some h) is = ap (λ (o : Option OspfRec). option_map_or (same_record h) o false) is
 
--- what the slot of the far router offers, and nothing where there is none
-pub far_offer : (w : Reading) (slots : List SymSlot) (p : Prefix) (a : Adjacency) (s : SymSlot) →
-    slice_get slots (LENGTHS * a.to.router + p.len) ≡ Some s →
-    option_and_then (extended a.cost) (ospf_of w s.ospf) ≡ offer_over (tables_of w slots) p a
-far_offer w slots p a s there =
+-- what the slot of the far router offers
+pub far_offer : (w : Reading) (tables : SymTables) (p : Prefix) (a : Adjacency) (s : SymSlot) → p.len < LENGTHS →
+    slot_placed tables a.to.router p.len ≡ Some s →
+    option_and_then (extended a.cost) (ospf_of w s.ospf) ≡ offer_over (read_tables w tables) p a
+far_offer w tables p a s short there =
     sym (ap (λ (o : Option Slot). option_and_then (extended a.cost) (option_and_then (λ (slot : Slot). slot.ospf) o))
-    (slot_read w slots (LENGTHS * a.to.router + p.len) ∙ ap (option_map (slot_of w)) there))
+    (slot_there w tables.lens.now tables.routers tables.slots.now a.to.router p.len s short there))
+
+-- and nothing where there is none
+pub none_offered : (w : Reading) (tables : SymTables) (p : Prefix) (a : Adjacency) (up : Bool) (held : Option OspfRec) →
+    p.len < LENGTHS → slot_placed tables a.to.router p.len ≡ None →
+    false ≡ (up && offers (read_tables w tables) p held a)
+none_offered w tables p a up held short none = by up held (ap (option_and_then (extended a.cost))
+    (slot_missing w tables.lens.now tables.routers tables.slots.now (λ slot. slot.ospf) a.to.router p.len refl short
+    none))
+  where
+    by : (b : Bool) (o : Option OspfRec) → offer_over (read_tables w tables) p a ≡ None →
+        false ≡ (b && offers (read_tables w tables) p o a)
+    by false o nothing = refl
+    by true None nothing = refl
+    by true (Some h) nothing = sym (ap (λ x. option_map_or (same_record h) x false) nothing)

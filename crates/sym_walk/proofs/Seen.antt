@@ -1,10 +1,11 @@
 -- Walks read of a BGP route its next hop alone.
-use Rattle.std.proofs.Common.{◌≡◌, ℕ, zero, suc, ◌+◌, ◌*◌, Bool, true, false, cond, List, [], ◌∷◌, length, Option, Some}
-use Rattle.std.proofs.Common.{None, eqb, refl, ap, ap₂, arith, ◌∙◌}
-use Rattle.std.specs.Prelude.{filter, map, slice_get, option_map, option_and_then}
+use Rattle.std.proofs.Common.{◌≡◌, ℕ, zero, suc, ◌+◌, ◌*◌, ◌<◌, ◌≤◌, Bool, true, false, cond, List, [], ◌∷◌, Option}
+use Rattle.std.proofs.Common.{Some, None, eqb, refl, sym, ap, ap₂, arith, get_or, ◌∙◌}
+use Rattle.std.specs.Prelude.{filter, map, slice_get, option_map, option_and_then, unwrap_or}
 use Rattle.std.specs.List.{list_any}
 use Rattle.std.specs.Option.{option_map_or}
-use Rattle.std.proofs.lemmas.Option.{slice_get-map}
+use Rattle.std.proofs.lemmas.List.{length-map}
+use Rattle.std.proofs.lemmas.Option.{slice_get-get_or, slice_get-map}
 use Rattle.mw_text.specs.declared.address.Prefix.{Prefix}
 use Rattle.mw_text.specs.Address.{prefix_at}
 use Rattle.ios_ast.specs.declared.file.File.{File}
@@ -37,7 +38,9 @@ use Rattle.sym_policy.specs.declared.records.SymBgp.{SymBgp}
 use Rattle.sym_rib.specs.declared.slots.SymSlot.{SymSlot}
 use Rattle.sym_rib.specs.Slots.{StandsForSlot}
 use Rattle.sym_policy.specs.Seen.{route_towards, seen, seen_tables, seen_world}
-use Rattle.sym_rib.specs.Worlds.{StandForTables, slot_of, tables_of}
+use Rattle.plan_places.specs.Tables.{empty_slot}
+use Rattle.plan_places.proofs.Tabulated.{as_tabulated, tabulated-same}
+use Rattle.sym_rib.specs.Worlds.{StandForTables, slot_of, sym_slot_at, tables_of}
 use Rattle.sym_policy.specs.Seen.{towards_of}
 
 -- ---- slots
@@ -194,27 +197,40 @@ stands_seen w tracked s slot stands =
       rib = stands.rib i;
     }
 
-all_seen : (w : Reading) (tracked : Tracked) (slots : List SymSlot) (held : List Slot) → length slots ≡ length held →
-    ((i : ℕ) (s : SymSlot) (slot : Slot) → slice_get slots i ≡ Some s → slice_get held i ≡ Some slot →
-    StandsForSlot w tracked s slot) → map (slot_of w) slots ≡ map seen held
-all_seen w tracked [] [] long each = refl
-all_seen w tracked [] (x ∷ held) long each = absurd (omega arith)
-all_seen w tracked (s ∷ slots) [] long each = absurd (omega arith)
-all_seen w tracked (s ∷ slots) (x ∷ held) long each =
-    let rest : map (slot_of w) slots ≡ map seen held =
-    all_seen w tracked slots held (omega arith) (λ i t slot here there. each (suc i) t slot here there) in
-    ap₂ (λ y ys. y ∷ ys) (stands_seen w tracked s x (each 0 s x refl refl)) rest
+pub tables_seen : (w : Reading) (tracked : Tracked) (lens : List ℕ) (routers : ℕ) (slots : List SymSlot)
+    (tables : Tables) → StandForTables w tracked lens routers slots tables →
+    tables_of w lens routers slots ≡ seen_tables tables
+tables_seen w tracked lens routers slots tables stand =
+    tabulated-same (λ q k. option_map_or (slot_of w) (sym_slot_at lens routers slots q k) empty_slot)
+    (λ q k. unwrap_or (slot_at (seen_tables tables) q k) empty_slot) routers each
+    ∙ sym (as_tabulated (seen_tables tables) routers (length-map tables.slots seen ∙ stand.long))
+  where
+    each : (q k : ℕ) → q < routers → k < LENGTHS →
+        option_map_or (slot_of w) (sym_slot_at lens routers slots q k) empty_slot
+        ≡ unwrap_or (slot_at (seen_tables tables) q k) empty_slot
+    each q k below short =
+        by (sym_slot_at lens routers slots q k) refl
+        ∙ ap (λ o. unwrap_or o empty_slot) (ap (option_map seen) (sym there) ∙ sym (slot_seen tables q k))
+      where
+        slot : Slot
+        slot = get_or tables.slots (LENGTHS * q + k) empty_slot
 
-pub tables_seen : (w : Reading) (tracked : Tracked) (slots : List SymSlot) (tables : Tables) →
-    StandForTables w tracked slots tables → tables_of w slots ≡ seen_tables tables
-tables_seen w tracked slots tables stand =
-    ap (λ (xs : List Slot). record { slots = xs }) (all_seen w tracked slots tables.slots stand.long stand.each)
+        there : slot_at tables q k ≡ Some slot
+        there =
+            let long = stand.long in
+            let row : LENGTHS * q + LENGTHS ≤ LENGTHS * routers = omega (arith, below) in
+            slice_get-get_or tables.slots (LENGTHS * q + k) empty_slot (omega (arith, short, long, row))
+
+        by : (o : Option SymSlot) → sym_slot_at lens routers slots q k ≡ o →
+            option_map_or (slot_of w) o empty_slot ≡ seen slot
+        by (Some s) is = stands_seen w tracked s slot (stand.each q k s slot below short is there)
+        by None is = sym (ap seen (stand.off q k slot below short is there))
 
 -- the next hops in a world with symbolic slots that stand for those of its tables
-pub hops_stand : (w : Reading) (tracked : Tracked) (slots : List SymSlot) (world : World) →
-    StandForTables w tracked slots world.tables → (files : List File) (router : ℕ) →
-    next_hops files (record world { tables = tables_of w slots }) router ≡ next_hops files world router
-hops_stand w tracked slots world stand files router =
+pub hops_stand : (w : Reading) (tracked : Tracked) (lens : List ℕ) (routers : ℕ) (slots : List SymSlot)
+    (world : World) → StandForTables w tracked lens routers slots world.tables → (files : List File) (router : ℕ) →
+    next_hops files (record world { tables = tables_of w lens routers slots }) router ≡ next_hops files world router
+hops_stand w tracked lens routers slots world stand files router =
     ap (λ (t : Tables). next_hops files (record world { tables = t }) router)
-    (tables_seen w tracked slots world.tables stand)
+    (tables_seen w tracked lens routers slots world.tables stand)
     ∙ hops_seen files world router

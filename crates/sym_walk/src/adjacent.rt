@@ -16,7 +16,7 @@ ghost use Rattle.sym_forwarding.specs.Offers as defined;
 ghost use Rattle.sym_policy.specs.Packets.{packet_of};
 ghost use Rattle.sym_forwarding.specs.Symbolic.{forwarding_of, forwarding_end};
 ghost use Rattle.sym_forwarding.specs.Twins.{IsTwin};
-ghost use Rattle.sym_rib.specs.Worlds.{slots_end, tables_of};
+ghost use Rattle.sym_rib.specs.Worlds.{read_tables, slots_end};
 ghost use Rattle.term_store.specs.Terms.{size};
 ghost use Rattle.term_store.specs.Reading.{Builds, Gives};
 ghost use Rattle.term_arith.specs.Bits.{ids_end};
@@ -26,7 +26,7 @@ use net_model::{Adjacency, Net};
 use std::alloc::{AllocError, Global};
 use sym_forwarding::{SymAim, SymForwarding, join_forwarding, sym_send_adjacent};
 use sym_policy::{SymNet, SymOspf, SymPacket};
-use sym_rib::SymSlot;
+use sym_rib::SymTables;
 use term_arith::gates::constant_node;
 use term_store::Terms;
 
@@ -36,7 +36,7 @@ fn sym_adjacent_or(
     terms: &mut Terms,
     net: &Net,
     sym: &SymNet,
-    slots: &[SymSlot],
+    tables: &SymTables<'_>,
     packet: &SymPacket,
     aim: &SymAim,
     router: u32,
@@ -45,8 +45,9 @@ fn sym_adjacent_or(
     a: &Adjacency,
     rest: SymForwarding,
 ) -> Result<SymForwarding, AllocError>
+    requires long { len ≤ 32 }
     requires downs { ids_end sym.now.down ≤ size terms.old }
-    requires slots { slots_end slots.now ≤ size terms.old }
+    requires slots { slots_end tables.now.slots.now ≤ size terms.old }
     requires packet { packet_end packet.now ≤ size terms.old }
     requires aim { aim.now.here.0 < size terms.old }
     requires held { ospf_end held.now ≤ size terms.old }
@@ -57,7 +58,7 @@ fn sym_adjacent_or(
         IsTwin (sought_by w aim.now) others (forwarding_of w rest) →
         IsTwin (sought_by w aim.now)
         ((if defined.is_up_from net.now.files (failures_of w sym.now) router a.now
-        && defined.offers (tables_of w slots.now) (prefix_read w packet.now.dst len) (ospf_of w held.now) a.now
+        && defined.offers (read_tables w tables.now) (prefix_read w packet.now.dst len) (ospf_of w held.now) a.now
         then hops.send_adjacent net.now.files (packet_of w packet.now) a.now ∷ [] else []) ++ others) (forwarding_of w r)) }
 {
     if a.from.router != router {
@@ -68,7 +69,7 @@ fn sym_adjacent_or(
         terms,
         net,
         sym,
-        slots,
+        tables,
         router,
         &packet.dst,
         len,
@@ -87,15 +88,16 @@ pub fn sym_ospf_hops(
     terms: &mut Terms,
     net: &Net,
     sym: &SymNet,
-    slots: &[SymSlot],
+    tables: &SymTables<'_>,
     packet: &SymPacket,
     aim: &SymAim,
     router: u32,
     len: u8,
     held: &SymOspf,
 ) -> Result<SymForwarding, AllocError>
+    requires long { len ≤ 32 }
     requires downs { ids_end sym.now.down ≤ size terms.old }
-    requires slots { slots_end slots.now ≤ size terms.old }
+    requires slots { slots_end tables.now.slots.now ≤ size terms.old }
     requires packet { packet_end packet.now ≤ size terms.old }
     requires aim { aim.now.here.0 < size terms.old }
     requires held { ospf_end held.now ≤ size terms.old }
@@ -103,7 +105,7 @@ pub fn sym_ospf_hops(
     ensures within { IfOk result (λ r. forwarding_end r ≤ size terms.new) }
     ensures value { Gives terms.new result (λ w r. IsTwin (sought_by w aim.now)
         (option_map_or (λ h. map (hops.send_adjacent net.now.files (packet_of w packet.now)) (sent_by_ospf net.now.files
-        (failures_of w sym.now) (tables_of w slots.now) router (prefix_at (address_of w packet.now.dst) len) h))
+        (failures_of w sym.now) (read_tables w tables.now) router (prefix_at (address_of w packet.now.dst) len) h))
         (ospf_of w held.now) []) (forwarding_of w r)) }
 {
     let all = net.adjacencies();
@@ -114,7 +116,7 @@ pub fn sym_ospf_hops(
     };
     for i in (0..all.len()).rev() {
         rest = sym_adjacent_or(
-            alloc, terms, net, sym, slots, packet, aim, router, len, held, &all[i], rest,
+            alloc, terms, net, sym, tables, packet, aim, router, len, held, &all[i], rest,
         )?;
     }
     Ok(rest)

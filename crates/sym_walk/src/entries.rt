@@ -17,7 +17,7 @@ ghost use Rattle.sym_walk.specs.Entries as defined;
 ghost use Rattle.sym_policy.specs.Packets.{packet_of};
 ghost use Rattle.sym_forwarding.specs.Symbolic.{forwarding_of, forwarding_end};
 ghost use Rattle.sym_forwarding.specs.Twins.{IsTwin};
-ghost use Rattle.sym_rib.specs.Worlds.{slot_of, slots_end, world_of};
+ghost use Rattle.sym_rib.specs.Worlds.{read_world, slot_of, slots_end};
 ghost use Rattle.term_store.specs.Terms.{size, at};
 ghost use Rattle.term_store.specs.Reading.{Builds, Gives};
 ghost use Rattle.term_arith.specs.Bits.{ids_end, number};
@@ -30,7 +30,7 @@ use sym_forwarding::{
     SymAim, SymForwarding, choose_forwarding, sym_bgp_hops, sym_connected, sym_statics,
 };
 use sym_policy::{SymNet, SymPacket};
-use sym_rib::SymSlot;
+use sym_rib::{SymSlot, SymTables};
 use term_arith::equal_number;
 use term_store::{NodeId, Terms};
 
@@ -50,7 +50,7 @@ fn sym_by_ospf(
     terms: &mut Terms,
     net: &Net,
     sym: &SymNet,
-    slots: &[SymSlot],
+    tables: &SymTables<'_>,
     packet: &SymPacket,
     aim: &SymAim,
     router: u32,
@@ -58,8 +58,9 @@ fn sym_by_ospf(
     slot: &SymSlot,
     rest: &SymForwarding,
 ) -> Result<SymForwarding, AllocError>
+    requires long { len ≤ 32 }
     requires downs { ids_end sym.now.down ≤ size terms.old }
-    requires slots { slots_end slots.now ≤ size terms.old }
+    requires slots { slots_end tables.now.slots.now ≤ size terms.old }
     requires packet { packet_end packet.now ≤ size terms.old }
     requires aim { aim.now.here.0 < size terms.old }
     requires slot { slot_end slot.now ≤ size terms.old }
@@ -70,12 +71,12 @@ fn sym_by_ospf(
         IsTwin (sought_by w aim.now) others (forwarding_of w rest.now) →
         IsTwin (sought_by w aim.now)
         (if number w slot.now.rib.source.nodes.items == 3 then hops.ospf_hops net.now.files
-        (world_of w sym.now packet.now slots.now) router (prefix_at (address_of w packet.now.dst) len)
+        (read_world w sym.now packet.now tables.now) router (prefix_at (address_of w packet.now.dst) len)
         (slot_of w slot.now) else others) (forwarding_of w r)) }
 {
     let test = sym_source(terms, slot, 3)?;
     let to = sym_ospf_hops(
-        alloc, terms, net, sym, slots, packet, aim, router, len, &slot.ospf,
+        alloc, terms, net, sym, tables, packet, aim, router, len, &slot.ospf,
     )?;
     let made = choose_forwarding(alloc, terms, test, &to, rest)?;
     Ok(made)
@@ -168,7 +169,7 @@ pub fn sym_entry_hops(
     terms: &mut Terms,
     net: &Net,
     sym: &SymNet,
-    slots: &[SymSlot],
+    tables: &SymTables<'_>,
     packet: &SymPacket,
     aim: &SymAim,
     router: u32,
@@ -177,7 +178,7 @@ pub fn sym_entry_hops(
     slot: &SymSlot,
 ) -> Result<SymForwarding, AllocError>
     requires net { net_end sym.now ≤ size terms.old }
-    requires slots { slots_end slots.now ≤ size terms.old }
+    requires slots { slots_end tables.now.slots.now ≤ size terms.old }
     requires packet { packet_end packet.now ≤ size terms.old }
     requires aim { aim.now.here.0 < size terms.old }
     requires long { len ≤ 32 }
@@ -186,13 +187,13 @@ pub fn sym_entry_hops(
     ensures within { IfOk result (λ r. forwarding_end r ≤ size terms.new) }
     ensures value { Gives terms.new result (λ w r. DistancesIfNeeded w net.now.files sym.now slot.now →
         IsTwin (sought_by w aim.now)
-        (defined.entry_of w net.now.files (world_of w sym.now packet.now slots.now)
+        (defined.entry_of w net.now.files (read_world w sym.now packet.now tables.now)
         (hops.all_up net.now.files (failures_of w sym.now)) (up_interfaces net.now.files (failures_of w sym.now) router) router
         file.now len slot.now) (forwarding_of w r)) }
 {
     let bgp = sym_bgp_hops(alloc, terms, net, sym, packet, aim, router, &slot.bgp)?;
     let ospf = sym_by_ospf(
-        alloc, terms, net, sym, slots, packet, aim, router, len, slot, &bgp,
+        alloc, terms, net, sym, tables, packet, aim, router, len, slot, &bgp,
     )?;
     let plain = sym_by_static(
         alloc, terms, net, sym, packet, aim, router, file, len, slot, &ospf,

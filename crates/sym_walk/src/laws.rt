@@ -17,13 +17,18 @@ pub use sym_forwarding::laws::{forwardings_law, layers_law};
 /// A walk reads of a BGP route its next hop alone: the world with tables and the one with symbolic slots that stand for
 /// theirs have the same next hops, and a walk breaks a question in the one exactly where it does in the other.
 pub fn tables_law()
-    ensures hops { (w : Reading) (tracked : TrackedOf) (slots : ListOf SymSlotOf) (world : WorldOf) →
-        StandForTables w tracked slots world.tables → (files : ListOf File) (router : ℕ) →
-        next_hops files (record world { tables = tables_of w slots }) router ≡ next_hops files world router }
-    ensures breaks { (w : Reading) (tracked : TrackedOf) (slots : ListOf SymSlotOf) (world : WorldOf) →
-        StandForTables w tracked slots world.tables → (files : ListOf File) (kind : KindOf) (walk : Option WalkOf) →
-        Breaks files world kind walk → Breaks files (record world { tables = tables_of w slots }) kind walk }
-    ensures only { (w : Reading) (tracked : TrackedOf) (slots : ListOf SymSlotOf) (world : WorldOf) →
-        StandForTables w tracked slots world.tables → (files : ListOf File) (kind : KindOf) (walk : Option WalkOf) →
-        Breaks files (record world { tables = tables_of w slots }) kind walk → Breaks files world kind walk }
+    ensures hops { (w : Reading) (tracked : TrackedOf) (lens : ListOf ℕ) (routers : ℕ) (slots : ListOf SymSlotOf)
+        (world : WorldOf) → StandForTables w tracked lens routers slots world.tables →
+        (files : ListOf File) (router : ℕ) →
+        next_hops files (record world { tables = tables_of w lens routers slots }) router
+        ≡ next_hops files world router }
+    ensures breaks { (w : Reading) (tracked : TrackedOf) (lens : ListOf ℕ) (routers : ℕ) (slots : ListOf SymSlotOf)
+        (world : WorldOf) → StandForTables w tracked lens routers slots world.tables → (files : ListOf File)
+        (kind : KindOf) (walk : Option WalkOf) → Breaks files world kind walk →
+        Breaks files (record world { tables = tables_of w lens routers slots }) kind walk }
+    ensures only { (w : Reading) (tracked : TrackedOf) (lens : ListOf ℕ) (routers : ℕ) (slots : ListOf SymSlotOf)
+        (world : WorldOf) → StandForTables w tracked lens routers slots world.tables → (files : ListOf File)
+        (kind : KindOf) (walk : Option WalkOf) →
+        Breaks files (record world { tables = tables_of w lens routers slots }) kind walk →
+        Breaks files world kind walk }
 {}

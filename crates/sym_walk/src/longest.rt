@@ -20,7 +20,7 @@ ghost use Rattle.sym_walk.specs.Distances.{DistancesIfNeeded, DistancesWhereNeed
 ghost use Rattle.sym_walk.specs.Entries as defined;
 ghost use Rattle.sym_forwarding.specs.Symbolic.{forwarding_of, forwarding_end};
 ghost use Rattle.sym_forwarding.specs.Twins.{IsTwin};
-ghost use Rattle.sym_rib.specs.Worlds.{slots_end, tables_of, world_of};
+ghost use Rattle.sym_rib.specs.Worlds.{read_tables, read_world, slots_end};
 ghost use Rattle.term_store.specs.Terms.{Reading, size, at};
 ghost use Rattle.term_store.specs.Reading.{Reads, Builds, Gives};
 
@@ -32,7 +32,7 @@ use route_record::LENGTHS;
 use std::alloc::{AllocError, Global};
 use sym_forwarding::{SymAim, SymForwarding, choose_forwarding, sym_ends, sym_own};
 use sym_policy::{SymNet, SymPacket};
-use sym_rib::{SymSlot, slot_for};
+use sym_rib::{SymSlot, SymTables, slot_for};
 use term_store::Terms;
 
 // By the entry of the slot where it has one, and else as given.
@@ -41,7 +41,7 @@ fn sym_by_slot(
     terms: &mut Terms,
     net: &Net,
     sym: &SymNet,
-    slots: &[SymSlot],
+    tables: &SymTables<'_>,
     packet: &SymPacket,
     aim: &SymAim,
     router: u32,
@@ -51,7 +51,7 @@ fn sym_by_slot(
     rest: SymForwarding,
 ) -> Result<SymForwarding, AllocError>
     requires net { net_end sym.now ≤ size terms.old }
-    requires slots { slots_end slots.now ≤ size terms.old }
+    requires slots { slots_end tables.now.slots.now ≤ size terms.old }
     requires packet { packet_end packet.now ≤ size terms.old }
     requires aim { aim.now.here.0 < size terms.old }
     requires long { len ≤ 32 }
@@ -63,12 +63,12 @@ fn sym_by_slot(
         (others : ListOf HopOf) →
         IsTwin (sought_by w aim.now) others (forwarding_of w rest) →
         IsTwin (sought_by w aim.now) (if at w slot.now.rib.valid then defined.entry_of w net.now.files
-        (world_of w sym.now packet.now slots.now) (hops.all_up net.now.files (failures_of w sym.now))
+        (read_world w sym.now packet.now tables.now) (hops.all_up net.now.files (failures_of w sym.now))
         (up_interfaces net.now.files (failures_of w sym.now) router) router file.now len slot.now else others)
         (forwarding_of w r)) }
 {
     let to = sym_entry_hops(
-        alloc, terms, net, sym, slots, packet, aim, router, file, len, slot,
+        alloc, terms, net, sym, tables, packet, aim, router, file, len, slot,
     )?;
     let made = choose_forwarding(alloc, terms, slot.rib.valid, &to, &rest)?;
     Ok(made)
@@ -80,7 +80,7 @@ fn sym_longer(
     terms: &mut Terms,
     net: &Net,
     sym: &SymNet,
-    slots: &[SymSlot],
+    tables: &SymTables<'_>,
     packet: &SymPacket,
     aim: &SymAim,
     router: u32,
@@ -89,25 +89,26 @@ fn sym_longer(
     rest: SymForwarding,
 ) -> Result<SymForwarding, AllocError>
     requires net { net_end sym.now ≤ size terms.old }
-    requires slots { slots_end slots.now ≤ size terms.old }
+    requires slots { slots_end tables.now.slots.now ≤ size terms.old }
     requires packet { packet_end packet.now ≤ size terms.old }
     requires aim { aim.now.here.0 < size terms.old }
     requires long { len ≤ 32 }
     requires rest { forwarding_end rest ≤ size terms.old }
     ensures builds { Builds terms.old terms.new }
     ensures within { IfOk result (λ r. forwarding_end r ≤ size terms.new) }
-    ensures value { Gives terms.new result (λ w r. DistancesWhereNeeded w net.now.files sym.now slots.now →
+    ensures value { Gives terms.new result (λ w r. DistancesWhereNeeded w net.now.files sym.now tables.now.slots.now →
         (shorter : OptionOf (ℕ × Slot × RibEntry)) →
-        IsTwin (sought_by w aim.now) (defined.by_entry net.now.files (world_of w sym.now packet.now slots.now) router file.now
-        shorter) (forwarding_of w rest) →
-        IsTwin (sought_by w aim.now) (defined.by_entry net.now.files (world_of w sym.now packet.now slots.now) router file.now
-        (defined.longer (tables_of w slots.now) router len shorter)) (forwarding_of w r)) }
+        IsTwin (sought_by w aim.now) (defined.by_entry net.now.files (read_world w sym.now packet.now tables.now)
+        router file.now shorter) (forwarding_of w rest) →
+        IsTwin (sought_by w aim.now) (defined.by_entry net.now.files (read_world w sym.now packet.now tables.now)
+        router file.now
+        (defined.longer (read_tables w tables.now) router len shorter)) (forwarding_of w r)) }
 {
-    match slot_for(slots, router, len) {
+    match slot_for(tables, router, len) {
         None => Ok(rest),
         Some(slot) => {
             let made = sym_by_slot(
-                alloc, terms, net, sym, slots, packet, aim, router, file, len, slot, rest,
+                alloc, terms, net, sym, tables, packet, aim, router, file, len, slot, rest,
             )?;
             Ok(made)
         }
@@ -120,27 +121,28 @@ fn sym_longest(
     terms: &mut Terms,
     net: &Net,
     sym: &SymNet,
-    slots: &[SymSlot],
+    tables: &SymTables<'_>,
     packet: &SymPacket,
     aim: &SymAim,
     router: u32,
     file: &File,
 ) -> Result<SymForwarding, AllocError>
     requires net { net_end sym.now ≤ size terms.old }
-    requires slots { slots_end slots.now ≤ size terms.old }
+    requires slots { slots_end tables.now.slots.now ≤ size terms.old }
     requires packet { packet_end packet.now ≤ size terms.old }
     requires aim { aim.now.here.0 < size terms.old }
     ensures builds { Builds terms.old terms.new }
     ensures within { IfOk result (λ r. forwarding_end r ≤ size terms.new) }
-    ensures value { Gives terms.new result (λ w r. DistancesWhereNeeded w net.now.files sym.now slots.now →
+    ensures value { Gives terms.new result (λ w r. DistancesWhereNeeded w net.now.files sym.now tables.now.slots.now →
         IsTwin (sought_by w aim.now)
-        (defined.by_entry net.now.files (world_of w sym.now packet.now slots.now) router file.now
-        (hops.longest_below (tables_of w slots.now) router constants.LENGTHS)) (forwarding_of w r)) }
+        (defined.by_entry net.now.files (read_world w sym.now packet.now tables.now)
+        router file.now
+        (hops.longest_below (read_tables w tables.now) router constants.LENGTHS)) (forwarding_of w r)) }
 {
     let mut rest = sym_ends(alloc, terms, aim, End::NoRoute)?;
     for len in 0..LENGTHS as u8 {
         rest = sym_longer(
-            alloc, terms, net, sym, slots, packet, aim, router, file, len, rest,
+            alloc, terms, net, sym, tables, packet, aim, router, file, len, rest,
         )?;
     }
     Ok(rest)
@@ -153,26 +155,27 @@ pub fn sym_hops(
     terms: &mut Terms,
     net: &Net,
     sym: &SymNet,
-    slots: &[SymSlot],
+    tables: &SymTables<'_>,
     packet: &SymPacket,
     aim: &SymAim,
     router: u32,
     file: &File,
 ) -> Result<SymForwarding, AllocError>
     requires net { net_end sym.now ≤ size terms.old }
-    requires slots { slots_end slots.now ≤ size terms.old }
+    requires slots { slots_end tables.now.slots.now ≤ size terms.old }
     requires packet { packet_end packet.now ≤ size terms.old }
     requires aim { aim.now.here.0 < size terms.old }
     ensures builds { Builds terms.old terms.new }
     ensures within { IfOk result (λ r. forwarding_end r ≤ size terms.new) }
-    ensures value { Gives terms.new result (λ w r. DistancesWhereNeeded w net.now.files sym.now slots.now →
+    ensures value { Gives terms.new result (λ w r. DistancesWhereNeeded w net.now.files sym.now tables.now.slots.now →
         IsTwin (sought_by w aim.now)
-        (hops.hops_over net.now.files (world_of w sym.now packet.now slots.now) (hops.all_up net.now.files (failures_of w sym.now))
+        (hops.hops_over net.now.files (read_world w sym.now packet.now tables.now)
+        (hops.all_up net.now.files (failures_of w sym.now))
         (up_interfaces net.now.files (failures_of w sym.now) router) router file.now) (forwarding_of w r)) }
 {
     let own = sym_own(alloc, terms, net, sym, router, &packet.dst)?;
     let here = sym_ends(alloc, terms, aim, End::Delivered)?;
-    let on = sym_longest(alloc, terms, net, sym, slots, packet, aim, router, file)?;
+    let on = sym_longest(alloc, terms, net, sym, tables, packet, aim, router, file)?;
     let made = choose_forwarding(alloc, terms, own, &here, &on)?;
     Ok(made)
 }

@@ -9,7 +9,7 @@ ghost use Rattle.sym_policy.specs.Held.{failures_of, ospf_of, ospf_end};
 ghost use Rattle.sym_policy.specs.Records.{prefix_of as prefix_read};
 ghost use Rattle.sym_forwarding.specs.Offers as defined;
 ghost use Rattle.route_record.specs.declared.TheConstants as constants;
-ghost use Rattle.sym_rib.specs.Worlds.{slot_of, slots_end, tables_of};
+ghost use Rattle.sym_rib.specs.Worlds.{read_tables, slots_end};
 ghost use Rattle.term_store.specs.Terms.{size, at};
 ghost use Rattle.term_store.specs.Reading.{Builds, Gives};
 ghost use Rattle.term_arith.specs.Bits.{ids_end};
@@ -19,7 +19,7 @@ use std::alloc::{AllocError, Global};
 use sym_forwarding::sym_up_from;
 use sym_ospf::{sym_same_record, sym_transfer};
 use sym_policy::{SymNet, SymOspf};
-use sym_rib::{SymSlot, slot_for};
+use sym_rib::{SymTables, slot_for};
 use term_arith::Bits;
 use term_arith::gates::{both, constant_node};
 use term_store::{NodeId, Terms};
@@ -42,22 +42,23 @@ fn sym_is_held(terms: &mut Terms, held: &SymOspf, offer: &SymOspf) -> Result<Nod
 fn sym_offers(
     alloc: Global,
     terms: &mut Terms,
-    slots: &[SymSlot],
+    tables: &SymTables<'_>,
     dst: &Bits,
     len: u8,
     held: &SymOspf,
     up: NodeId,
     a: &Adjacency,
 ) -> Result<NodeId, AllocError>
-    requires slots { slots_end slots.now ≤ size terms.old }
+    requires long { len ≤ 32 }
+    requires slots { slots_end tables.now.slots.now ≤ size terms.old }
     requires held { ospf_end held.now ≤ size terms.old }
     requires up { up.0 < size terms.old }
     ensures builds { Builds terms.old terms.new }
     ensures within { IfOk result (λ r. r.0 < size terms.new) }
     ensures value { Gives terms.new result (λ w r. at w r ≡ (at w up
-        && defined.offers (tables_of w slots.now) (prefix_read w dst.now len) (ospf_of w held.now) a.now)) }
+        && defined.offers (read_tables w tables.now) (prefix_read w dst.now len) (ospf_of w held.now) a.now)) }
 {
-    match slot_for(slots, a.to.router, len) {
+    match slot_for(tables, a.to.router, len) {
         None => constant_node(terms, false),
         Some(far) => {
             let offer = sym_transfer(alloc, terms, &far.ospf, up, a.cost)?;
@@ -73,25 +74,26 @@ pub(crate) fn sym_sends_over(
     terms: &mut Terms,
     net: &Net,
     sym: &SymNet,
-    slots: &[SymSlot],
+    tables: &SymTables<'_>,
     router: u32,
     dst: &Bits,
     len: u8,
     held: &SymOspf,
     a: &Adjacency,
 ) -> Result<NodeId, AllocError>
+    requires long { len ≤ 32 }
     requires downs { ids_end sym.now.down ≤ size terms.old }
-    requires slots { slots_end slots.now ≤ size terms.old }
+    requires slots { slots_end tables.now.slots.now ≤ size terms.old }
     requires held { ospf_end held.now ≤ size terms.old }
     ensures builds { Builds terms.old terms.new }
     ensures within { IfOk result (λ r. r.0 < size terms.new) }
     ensures value { Gives terms.new result (λ w r. at w r ≡
         (defined.is_up_from net.now.files (failures_of w sym.now) router a.now
-        && defined.offers (tables_of w slots.now) (prefix_read w dst.now len) (ospf_of w held.now) a.now)) }
+        && defined.offers (read_tables w tables.now) (prefix_read w dst.now len) (ospf_of w held.now) a.now)) }
 {
     if a.from.router != router {
         return constant_node(terms, false);
     }
     let up = sym_up_from(alloc, terms, net, sym, router, a)?;
-    sym_offers(alloc, terms, slots, dst, len, held, up, a)
+    sym_offers(alloc, terms, tables, dst, len, held, up, a)
 }

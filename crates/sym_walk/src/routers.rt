@@ -12,7 +12,7 @@ ghost use Rattle.sym_policy.specs.Packets.{packet_of};
 ghost use Rattle.sym_forwarding.specs.Symbolic.{forwarding_of, forwarding_end, table_end, table_of};
 ghost use Rattle.sym_walk.specs.TwinTables.{AreTwins};
 ghost use Rattle.sym_forwarding.specs.Twins.{IsTwin, is_sought};
-ghost use Rattle.sym_rib.specs.Worlds.{slots_end, world_of};
+ghost use Rattle.sym_rib.specs.Worlds.{read_world, slots_end};
 ghost use Rattle.term_store.specs.Terms.{Reading, size, at};
 ghost use Rattle.term_store.specs.Reading.{Reads, Builds, Gives};
 
@@ -24,7 +24,7 @@ use question_lang::Kind;
 use std::alloc::{AllocError, Global};
 use sym_forwarding::{SymAim, SymForwarding, still_forwarding, sym_here};
 use sym_policy::{SymNet, SymPacket};
-use sym_rib::SymSlot;
+use sym_rib::SymTables;
 use term_store::Terms;
 
 // What the router of that number does with the packet. A number that is no router's does nothing.
@@ -33,19 +33,20 @@ fn sym_next(
     terms: &mut Terms,
     net: &Net,
     sym: &SymNet,
-    slots: &[SymSlot],
+    tables: &SymTables<'_>,
     packet: &SymPacket,
     aim: &SymAim,
     router: u32,
 ) -> Result<SymForwarding, AllocError>
     requires net { net_end sym.now ≤ size terms.old }
-    requires slots { slots_end slots.now ≤ size terms.old }
+    requires slots { slots_end tables.now.slots.now ≤ size terms.old }
     requires packet { packet_end packet.now ≤ size terms.old }
     requires aim { aim.now.here.0 < size terms.old }
     ensures builds { Builds terms.old terms.new }
     ensures within { IfOk result (λ r. forwarding_end r ≤ size terms.new) }
-    ensures value { Gives terms.new result (λ w r. DistancesWhereNeeded w net.now.files sym.now slots.now → IsTwin (sought_by w aim.now)
-        (hops.next_hops net.now.files (world_of w sym.now packet.now slots.now) router) (forwarding_of w r)) }
+    ensures value { Gives terms.new result (λ w r. DistancesWhereNeeded w net.now.files sym.now tables.now.slots.now →
+        IsTwin (sought_by w aim.now)
+        (hops.next_hops net.now.files (read_world w sym.now packet.now tables.now) router) (forwarding_of w r)) }
 {
     match file_of(net.routers(), router) {
         None => {
@@ -53,7 +54,7 @@ fn sym_next(
             Ok(none)
         }
         Some(file) => {
-            let made = sym_hops(alloc, terms, net, sym, slots, packet, aim, router, file)?;
+            let made = sym_hops(alloc, terms, net, sym, tables, packet, aim, router, file)?;
             Ok(made)
         }
     }
@@ -65,23 +66,24 @@ fn sym_router(
     terms: &mut Terms,
     net: &Net,
     sym: &SymNet,
-    slots: &[SymSlot],
+    tables: &SymTables<'_>,
     packet: &SymPacket,
     kind: Kind,
     router: u32,
 ) -> Result<SymForwarding, AllocError>
     requires net { net_end sym.now ≤ size terms.old }
-    requires slots { slots_end slots.now ≤ size terms.old }
+    requires slots { slots_end tables.now.slots.now ≤ size terms.old }
     requires packet { packet_end packet.now ≤ size terms.old }
     ensures builds { Builds terms.old terms.new }
     ensures within { IfOk result (λ r. forwarding_end r ≤ size terms.new) }
-    ensures value { Gives terms.new result (λ w r. DistancesWhereNeeded w net.now.files sym.now slots.now → IsTwin
+    ensures value { Gives terms.new result (λ w r. DistancesWhereNeeded w net.now.files sym.now tables.now.slots.now →
+        IsTwin
         (is_sought kind (ends_here net.now.files (failures_of w sym.now) (packet_of w packet.now) router kind))
-        (hops.next_hops net.now.files (world_of w sym.now packet.now slots.now) router) (forwarding_of w r)) }
+        (hops.next_hops net.now.files (read_world w sym.now packet.now tables.now) router) (forwarding_of w r)) }
 {
     let here = sym_here(alloc, terms, net, sym, packet, router, kind)?;
     let aim = SymAim { kind, here };
-    let made = sym_next(alloc, terms, net, sym, slots, packet, &aim, router)?;
+    let made = sym_next(alloc, terms, net, sym, tables, packet, &aim, router)?;
     Ok(made)
 }
 
@@ -97,8 +99,8 @@ fn with_one(
     Ok(longer)
 }
 
-// How many routers there are.
-fn router_count(net: &Net) -> u32
+/// How many routers there are.
+pub(crate) fn router_count(net: &Net) -> u32
     ensures { result ≡ length net.now.files }
 {
     net.routers().len() as u32
@@ -111,23 +113,23 @@ fn add_router(
     terms: &mut Terms,
     net: &Net,
     sym: &SymNet,
-    slots: &[SymSlot],
+    tables: &SymTables<'_>,
     packet: &SymPacket,
     kind: Kind,
     router: u32,
     table: List<SymForwarding>,
 ) -> Result<List<SymForwarding>, AllocError>
     requires net { net_end sym.now ≤ size terms.old }
-    requires slots { slots_end slots.now ≤ size terms.old }
+    requires slots { slots_end tables.now.slots.now ≤ size terms.old }
     requires packet { packet_end packet.now ≤ size terms.old }
     requires table { table_end table ≤ size terms.old }
     ensures builds { Builds terms.old terms.new }
     ensures within { IfOk result (λ r. table_end r ≤ size terms.new) }
-    ensures value { Gives terms.new result (λ w r. DistancesWhereNeeded w net.now.files sym.now slots.now →
-        AreTwins net.now.files (world_of w sym.now packet.now slots.now) kind router (table_of w table) →
-        AreTwins net.now.files (world_of w sym.now packet.now slots.now) kind (router + 1) (table_of w r)) }
+    ensures value { Gives terms.new result (λ w r. DistancesWhereNeeded w net.now.files sym.now tables.now.slots.now →
+        AreTwins net.now.files (read_world w sym.now packet.now tables.now) kind router (table_of w table) →
+        AreTwins net.now.files (read_world w sym.now packet.now tables.now) kind (router + 1) (table_of w r)) }
 {
-    let one = sym_router(alloc, terms, net, sym, slots, packet, kind, router)?;
+    let one = sym_router(alloc, terms, net, sym, tables, packet, kind, router)?;
     let made = with_one(table, one)?;
     Ok(made)
 }
@@ -139,22 +141,22 @@ pub fn sym_table(
     terms: &mut Terms,
     net: &Net,
     sym: &SymNet,
-    slots: &[SymSlot],
+    tables: &SymTables<'_>,
     packet: &SymPacket,
     kind: Kind,
 ) -> Result<List<SymForwarding>, AllocError>
     requires net { net_end sym.now ≤ size terms.old }
-    requires slots { slots_end slots.now ≤ size terms.old }
+    requires slots { slots_end tables.now.slots.now ≤ size terms.old }
     requires packet { packet_end packet.now ≤ size terms.old }
     ensures builds { Builds terms.old terms.new }
     ensures within { IfOk result (λ r. table_end r ≤ size terms.new) }
-    ensures value { Gives terms.new result (λ w r. DistancesWhereNeeded w net.now.files sym.now slots.now →
-        AreTwins net.now.files (world_of w sym.now packet.now slots.now) kind
+    ensures value { Gives terms.new result (λ w r. DistancesWhereNeeded w net.now.files sym.now tables.now.slots.now →
+        AreTwins net.now.files (read_world w sym.now packet.now tables.now) kind
         (length net.now.files) (table_of w r)) }
 {
     let mut table = List::new(alloc);
     for router in 0..router_count(net) {
-        table = add_router(alloc, terms, net, sym, slots, packet, kind, router, table)?;
+        table = add_router(alloc, terms, net, sym, tables, packet, kind, router, table)?;
     }
     Ok(table)
 }

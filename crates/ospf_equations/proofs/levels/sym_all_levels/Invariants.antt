@@ -2,7 +2,7 @@ use Rattle.std.proofs.Common.{◌≡◌, ◌<◌, ◌++◌, true}
 use Rattle.std.specs.List.{filter_map}
 use Rattle.net_parts.specs.OspfRoutes.{first_best}
 use Rattle.sym_policy.specs.Held.{ospf_of}
-use Rattle.sym_rib.specs.Worlds.{tables_of}
+use Rattle.sym_rib.specs.Worlds.{read_tables}
 use Rattle.term_store.specs.Terms.{Reading, at, size}
 use Rattle.term_store.specs.Reading.{Reads, Builds}
 use Rattle.ospf_equations.specs.Adjacent.{offers_read}
@@ -16,5 +16,5 @@ invariant-loop-most l = record {
   within : l.all.0 < size l.terms;
   value : (w : Reading) → Reads w l.terms →
       same_ospf (ospf_of w l.held) (first_best (filter_map (ospf_of w) l.own
-      ++ offers_read w (tables_of w l.slots) (of_length l.len) l.over)) ≡ true → at w l.all ≡ true;
+      ++ offers_read w (read_tables w l.tables) (of_length l.len) l.over)) ≡ true → at w l.all ≡ true;
 }

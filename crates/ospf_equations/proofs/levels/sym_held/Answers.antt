@@ -8,7 +8,7 @@ use Rattle.sym_policy.specs.declared.records.SymOspf.{SymOspf}
 use Rattle.sym_policy.specs.Held.{failures_of, ospf_of}
 use Rattle.sym_policy.specs.Records.{prefix_of}
 use Rattle.sym_ospf.specs.Routes.{routes_end}
-use Rattle.sym_rib.specs.Worlds.{tables_of}
+use Rattle.sym_rib.specs.Worlds.{read_tables}
 use Rattle.ospf_equations.specs.Adjacent.{offers_read}
 use Rattle.ospf_equations.specs.Equations.{offers_by}
 use Rattle.ospf_equations.specs.Levels.{of_length}
@@ -35,7 +35,7 @@ returns-clause-value c = λ w reads.
     let held = ospf_of w c.args.held.now in
     let files = c.args.net.now.files in
     let failures = failures_of w c.args.sym.now in
-    let tables = tables_of w c.args.slots.now in
+    let tables = read_tables w c.args.tables.now in
     let p = prefix_of w c.args.dst.now c.args.len in
     let own = filter_map (ospf_of w) c.args.own in
     let offers = offers_by files failures tables c.args.router p (adjacencies files) in

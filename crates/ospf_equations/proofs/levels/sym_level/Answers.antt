@@ -3,7 +3,7 @@ use Rattle.std.specs.List.{filter_map}
 use Rattle.std.proofs.lemmas.List.Folds.{list_any-append}
 use Rattle.term_store.specs.Terms.{at, differ}
 use Rattle.sym_policy.specs.Held.{ospf_of}
-use Rattle.sym_rib.specs.Worlds.{tables_of}
+use Rattle.sym_rib.specs.Worlds.{read_tables}
 use Rattle.ospf_equations.specs.Adjacent.{offers_read}
 use Rattle.ospf_equations.specs.Levels.{is_within, of_length}
 use Rattle.ospf_equations.proofs.LevelSteps.{agrees, level_is}
@@ -17,7 +17,7 @@ returns-clause-value c = λ w reads best.
     let r0 = c.sym_some_within.ensures.builds.reads w r1 in
     let most = c.args.most in
     let routes = filter_map (ospf_of w) c.args.own.now in
-    let offers = offers_read w (tables_of w c.args.slots.now) (of_length c.args.len) c.args.over.now in
+    let offers = offers_read w (read_tables w c.args.tables.now) (of_length c.args.len) c.args.over.now in
     let some = c.in_ok-some.some in
     let same : at w c.in_ok-here.here ≡ at w some =
     c.in_ok-here.ensures.value w r0

@@ -1,6 +1,6 @@
 use Rattle.std.proofs.Common.{◌≡◌, ◌<◌, ◌||◌, drop}
 use Rattle.std.specs.List.{list_any}
-use Rattle.sym_rib.specs.Worlds.{tables_of}
+use Rattle.sym_rib.specs.Worlds.{read_tables}
 use Rattle.term_store.specs.Terms.{Reading, at, size}
 use Rattle.term_store.specs.Reading.{Reads, Builds}
 use Rattle.ospf_equations.specs.Adjacent.{offers_read}
@@ -14,6 +14,6 @@ invariant-loop-s l = record {
   within : l.any.0 < size l.terms;
   value : (w : Reading) → Reads w l.terms →
       (at w l.any || list_any (is_within l.most)
-      (offers_read w (tables_of w l.slots) (of_length l.len) (drop l.s-index l.over)))
-      ≡ list_any (is_within l.most) (offers_read w (tables_of w l.slots) (of_length l.len) l.over);
+      (offers_read w (read_tables w l.tables) (of_length l.len) (drop l.s-index l.over)))
+      ≡ list_any (is_within l.most) (offers_read w (read_tables w l.tables) (of_length l.len) l.over);
 }

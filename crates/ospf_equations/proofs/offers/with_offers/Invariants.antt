@@ -3,7 +3,7 @@ use Rattle.std.specs.List.{filter_map}
 use Rattle.sym_policy.specs.Held.{ospf_of, ospf_end}
 use Rattle.sym_policy.specs.Records.{prefix_of}
 use Rattle.sym_rib.specs.Into.{list_end}
-use Rattle.sym_rib.specs.Worlds.{tables_of}
+use Rattle.sym_rib.specs.Worlds.{read_tables}
 use Rattle.term_store.specs.Terms.{Reading, size}
 use Rattle.term_store.specs.Reading.{Reads, Builds}
 use Rattle.ospf_equations.specs.Adjacent.{offers_read}
@@ -15,6 +15,6 @@ invariant-loop-s l = record {
   builds : Builds l.fn.terms l.terms;
   within : list_end ospf_end l.made ≤ size l.terms;
   value : (w : Reading) → Reads w l.terms → filter_map (ospf_of w) l.made
-      ++ offers_read w (tables_of w l.slots) (prefix_of w l.dst l.len) (drop l.s-index l.over)
-      ≡ filter_map (ospf_of w) l.fn.own ++ offers_read w (tables_of w l.slots) (prefix_of w l.dst l.len) l.over;
+      ++ offers_read w (read_tables w l.tables) (prefix_of w l.dst l.len) (drop l.s-index l.over)
+      ≡ filter_map (ospf_of w) l.fn.own ++ offers_read w (read_tables w l.tables) (prefix_of w l.dst l.len) l.over;
 }

@@ -32,7 +32,7 @@ returns-clause-value c = λ w reads file process held found runs stands.
     let failures = failures_of w c.args.sym.now in
     let by_process : File → List OspfRec =
     λ f. option_map_or (λ (q : Ospf). redistributed f q p held) f.ospf [] in
-    let taken = c.in_ok-taken.ensures.value w reads held stands
+    let taken = c.in_ok-taken.ensures.stands w reads held stands
     ∙ ap (λ o. option_map_or by_process o []) found
     ∙ ap (λ o. option_map_or (λ (q : Ospf). redistributed file q p held) o []) runs in
     ap (filter_map (ospf_of w)) c.in_ok-all.ensures

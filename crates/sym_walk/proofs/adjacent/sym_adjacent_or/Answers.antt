@@ -6,7 +6,7 @@ use Rattle.sym_forwarding.specs.Aims.{sought_by}
 use Rattle.sym_forwarding.specs.Offers.{is_up_from, offers}
 use Rattle.sym_policy.specs.Packets.{packet_of}
 use Rattle.sym_forwarding.specs.Symbolic.{forwarding_of}
-use Rattle.sym_rib.specs.Worlds.{tables_of}
+use Rattle.sym_rib.specs.Worlds.{read_tables}
 use Rattle.sym_forwarding.proofs.Twins.{united_twin}
 use Rattle.term_store.specs.Terms.{at}
 use Rattle.sym_walk.proofs.adjacent.sym_adjacent_or.Goals as goal
@@ -21,7 +21,7 @@ returns-clause-value c = λ w reads others twin.
     let net = c.args.net.now.files in
     united_twin (sought_by w c.args.aim.now) (at w c.in_ok-taken.taken)
     (is_up_from net (failures_of w c.args.sym.now) c.args.router a
-    && offers (tables_of w c.args.slots.now) (prefix_of w c.args.packet.now.dst c.args.len) (ospf_of w
+    && offers (read_tables w c.args.tables.now) (prefix_of w c.args.packet.now.dst c.args.len) (ospf_of w
     c.args.held.now) a) others
     (send_adjacent net (packet_of w c.args.packet.now) a ∷ [])
     (forwarding_of w c.args.rest) (forwarding_of w c.in_ok-to.to) (forwarding_of w c.in_ok-made.made)

@@ -8,7 +8,7 @@ use Rattle.sym_forwarding.specs.Offers.{offered_hops}
 use Rattle.sym_policy.specs.Packets.{packet_of}
 use Rattle.sym_forwarding.specs.Symbolic.{forwarding_of}
 use Rattle.sym_forwarding.specs.Twins.{IsTwin}
-use Rattle.sym_rib.specs.Worlds.{tables_of}
+use Rattle.sym_rib.specs.Worlds.{read_tables}
 use Rattle.sym_forwarding.proofs.LeastWalks.{no_adjacency}
 use Rattle.sym_walk.proofs.OfferedHops.{offered_all, offered_back}
 use Rattle.sym_walk.proofs.adjacent.sym_ospf_hops.Goals as goal
@@ -21,7 +21,7 @@ loop-i-preserved c = record {
       let net = c.args.net.now.files in
       let failures = failures_of w c.args.sym.now in
       let packet = packet_of w c.args.packet.now in
-      let tables = tables_of w c.args.slots.now in
+      let tables = read_tables w c.args.tables.now in
       let key = prefix_of w c.args.packet.now.dst c.args.len in
       let held = ospf_of w c.args.held.now in
       let all = c.adjacencies-all.result.now in
@@ -40,7 +40,7 @@ returns-clause-value c = λ w reads.
     let net = c.args.net.now.files in
     let failures = failures_of w c.args.sym.now in
     let packet = packet_of w c.args.packet.now in
-    let tables = tables_of w c.args.slots.now in
+    let tables = read_tables w c.args.tables.now in
     let key = prefix_of w c.args.packet.now.dst c.args.len in
     let held = ospf_of w c.args.held.now in
     let all = c.adjacencies-all.result.now in

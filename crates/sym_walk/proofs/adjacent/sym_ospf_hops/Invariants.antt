@@ -8,7 +8,7 @@ use Rattle.sym_forwarding.specs.Offers.{offered_hops}
 use Rattle.sym_policy.specs.Packets.{packet_of}
 use Rattle.sym_forwarding.specs.Symbolic.{forwarding_end, forwarding_of}
 use Rattle.sym_forwarding.specs.Twins.{IsTwin}
-use Rattle.sym_rib.specs.Worlds.{tables_of}
+use Rattle.sym_rib.specs.Worlds.{read_tables}
 use Rattle.sym_walk.proofs.adjacent.sym_ospf_hops.Given as goal
 
 abbrev pub invariant-loop-i : goal.invariant-loop-i
@@ -16,7 +16,7 @@ invariant-loop-i l = record {
   builds : Builds l.fn.terms l.terms;
   within : forwarding_end l.rest ≤ size l.terms;
   value : (w : Reading) → Reads w l.terms → IsTwin (sought_by w l.aim)
-      (offered_hops l.net.files (failures_of w l.sym) (packet_of w l.packet) (tables_of w l.slots) l.router
+      (offered_hops l.net.files (failures_of w l.sym) (packet_of w l.packet) (read_tables w l.tables) l.router
       (prefix_of w l.packet.dst l.len) (ospf_of w l.held) (drop l.i l.all))
       (forwarding_of w l.rest);
 }

@@ -4,7 +4,7 @@ use Rattle.question_lang.specs.Hops.{ospf_hops}
 use Rattle.sym_policy.specs.Records.{address_of}
 use Rattle.sym_forwarding.specs.Aims.{sought_by}
 use Rattle.sym_forwarding.specs.Symbolic.{forwarding_of}
-use Rattle.sym_rib.specs.Worlds.{slot_of, world_of}
+use Rattle.sym_rib.specs.Worlds.{read_world, slot_of}
 use Rattle.sym_forwarding.proofs.Twins.{chosen_lists}
 use Rattle.term_arith.specs.Bits.{number}
 use Rattle.term_store.specs.Terms.{at}
@@ -18,7 +18,7 @@ returns-clause-value c = λ w reads others twin.
     let after_to = made.builds.reads w reads in
     let slot = c.args.slot.now in
     chosen_lists (sought_by w c.args.aim.now) (at w c.in_ok-test.test) (eqb (number w slot.rib.source.nodes.items) 3)
-    (ospf_hops c.args.net.now.files (world_of w c.args.sym.now c.args.packet.now c.args.slots.now) c.args.router
+    (ospf_hops c.args.net.now.files (read_world w c.args.sym.now c.args.packet.now c.args.tables.now) c.args.router
     (prefix_at (address_of w c.args.packet.now.dst) c.args.len) (slot_of w slot)) others
     (forwarding_of w c.in_ok-to.to) (forwarding_of w c.args.rest.now) (forwarding_of w c.in_ok-made.made)
     (made.value w reads) (test.value w (to.builds.reads w after_to)) (to.value w after_to) twin

@@ -10,7 +10,7 @@ use Rattle.sym_walk.specs.Entries.{static_part}
 use Rattle.sym_policy.specs.Packets.{packet_of}
 use Rattle.sym_forwarding.specs.Symbolic.{forwarding_of}
 use Rattle.sym_forwarding.specs.Twins.{IsTwin}
-use Rattle.sym_rib.specs.Worlds.{slot_of, world_of}
+use Rattle.sym_rib.specs.Worlds.{read_world, slot_of}
 use Rattle.sym_walk.proofs.EntryHops.{entry_by_number}
 use Rattle.term_arith.specs.Bits.{number}
 use Rattle.sym_walk.proofs.entries.sym_entry_hops.Goals as goal
@@ -27,7 +27,7 @@ returns-clause-value c = λ w reads needed.
     let slot = c.args.slot.now in
     let net = c.args.net.now.files in
     let failures = failures_of w c.args.sym.now in
-    let world = world_of w c.args.sym.now c.args.packet.now c.args.slots.now in
+    let world = read_world w c.args.sym.now c.args.packet.now c.args.tables.now in
     let up = all_up net failures in
     let own = up_interfaces net failures c.args.router in
     let p = prefix_at (address_of w c.args.packet.now.dst) c.args.len in

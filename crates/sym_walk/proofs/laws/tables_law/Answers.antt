@@ -8,11 +8,11 @@ pub returns-clause-hops : goal.returns-clause-hops
 returns-clause-hops c = hops_stand
 
 pub returns-clause-breaks : goal.returns-clause-breaks
-returns-clause-breaks c = λ w tracked slots world stand files kind walk breaks.
-    breaks_same files world world.tables (tables_of w slots)
-    (λ router. sym (hops_stand w tracked slots world stand files router)) kind walk breaks
+returns-clause-breaks c = λ w tracked lens routers slots world stand files kind walk breaks.
+    breaks_same files world world.tables (tables_of w lens routers slots)
+    (λ router. sym (hops_stand w tracked lens routers slots world stand files router)) kind walk breaks
 
 pub returns-clause-only : goal.returns-clause-only
-returns-clause-only c = λ w tracked slots world stand files kind walk breaks.
-    breaks_same files world (tables_of w slots) world.tables (hops_stand w tracked slots world stand files) kind walk
-    breaks
+returns-clause-only c = λ w tracked lens routers slots world stand files kind walk breaks.
+    breaks_same files world (tables_of w lens routers slots) world.tables
+    (hops_stand w tracked lens routers slots world stand files) kind walk breaks

@@ -4,7 +4,7 @@ use Rattle.sym_policy.specs.Held.{failures_of}
 use Rattle.sym_forwarding.specs.Aims.{sought_by}
 use Rattle.sym_walk.specs.Entries.{entry_of}
 use Rattle.sym_forwarding.specs.Symbolic.{forwarding_of}
-use Rattle.sym_rib.specs.Worlds.{world_of}
+use Rattle.sym_rib.specs.Worlds.{read_world}
 use Rattle.sym_forwarding.proofs.Twins.{chosen_lists}
 use Rattle.std.proofs.Common.{refl}
 use Rattle.term_store.specs.Terms.{at}
@@ -18,7 +18,7 @@ returns-clause-value c = λ w reads needed others twin.
     let net = c.args.net.now.files in
     let failures = failures_of w c.args.sym.now in
     chosen_lists (sought_by w c.args.aim.now) (at w slot.rib.valid) (at w slot.rib.valid)
-    (entry_of w net (world_of w c.args.sym.now c.args.packet.now c.args.slots.now) (all_up net failures)
+    (entry_of w net (read_world w c.args.sym.now c.args.packet.now c.args.tables.now) (all_up net failures)
     (up_interfaces net failures c.args.router) c.args.router c.args.file.now c.args.len slot) others
     (forwarding_of w c.in_ok-to.to) (forwarding_of w c.args.rest) (forwarding_of w c.in_ok-made.made)
     (made.value w reads) refl (to.value w (made.builds.reads w reads) needed) twin

@@ -10,7 +10,7 @@ use Rattle.sym_policy.specs.Held.{failures_of}
 use Rattle.sym_forwarding.specs.Aims.{sought_by}
 use Rattle.sym_walk.specs.Entries.{by_entry}
 use Rattle.sym_forwarding.specs.Symbolic.{forwarding_of}
-use Rattle.sym_rib.specs.Worlds.{tables_of, world_of}
+use Rattle.sym_rib.specs.Worlds.{read_tables, read_world}
 use Rattle.sym_forwarding.proofs.Twins.{chosen_lists}
 use Rattle.term_arith.specs.Bits.{number}
 use Rattle.term_store.specs.Terms.{at}
@@ -29,8 +29,8 @@ returns-clause-value c = λ w reads needed.
     chosen_lists (sought_by w c.args.aim.now) (at w c.in_ok-own.own)
     (list_any (λ x. x.addr.0 == number w c.args.packet.now.dst.nodes.items) mine)
     (Ends Delivered ∷ [])
-    (by_entry net (world_of w c.args.sym.now c.args.packet.now c.args.slots.now) c.args.router c.args.file.now
-    (longest_below (tables_of w c.args.slots.now) c.args.router LENGTHS))
+    (by_entry net (read_world w c.args.sym.now c.args.packet.now c.args.tables.now) c.args.router c.args.file.now
+    (longest_below (read_tables w c.args.tables.now) c.args.router LENGTHS))
     (forwarding_of w c.in_ok-here.here) (forwarding_of w c.in_ok-on.on) (forwarding_of w c.in_ok-made.made)
     (made.value w reads) (own.value w (here.builds.reads w after_here)) (here.value w after_here)
     (on.value w after_on needed)

@@ -7,7 +7,7 @@ use Rattle.sym_forwarding.specs.Aims.{sought_by}
 use Rattle.sym_walk.specs.Entries.{by_entry}
 use Rattle.sym_forwarding.specs.Symbolic.{forwarding_of}
 use Rattle.sym_forwarding.specs.Twins.{IsTwin}
-use Rattle.sym_rib.specs.Worlds.{tables_of, world_of}
+use Rattle.sym_rib.specs.Worlds.{read_tables, read_world}
 use Rattle.sym_walk.proofs.EntryHops.{longest_more, longest_none}
 use Rattle.sym_walk.proofs.longest.sym_longest.Goals as goal
 
@@ -16,10 +16,10 @@ loop-len-init c = record {
   builds = search rules;
   within = search rules;
   value = λ w reads needed.
-      let world = world_of w c.args.sym.now c.args.packet.now c.args.slots.now in
+      let world = read_world w c.args.sym.now c.args.packet.now c.args.tables.now in
       let P : Option (ℕ × Slot × RibEntry) → Type 0 = λ found. IsTwin (sought_by w c.args.aim.now)
       (by_entry c.args.net.now.files world c.args.router c.args.file.now found) (forwarding_of w c.in_ok-rest.rest) in
-      subst P (sym (longest_none (tables_of w c.args.slots.now) c.args.router)) (c.in_ok-rest.ensures.value w reads);
+      subst P (sym (longest_none (read_tables w c.args.tables.now) c.args.router)) (c.in_ok-rest.ensures.value w reads);
 }
 
 pub loop-len-preserved : goal.loop-len-preserved
@@ -27,8 +27,8 @@ loop-len-preserved c = record {
   builds = search rules;
   within = search rules;
   value = λ w reads needed.
-      let world = world_of w c.args.sym.now c.args.packet.now c.args.slots.now in
-      let tables = tables_of w c.args.slots.now in
+      let world = read_world w c.args.sym.now c.args.packet.now c.args.tables.now in
+      let tables = read_tables w c.args.tables.now in
       let step = c.in_ok-rest-2.ensures in
       let P : Option (ℕ × Slot × RibEntry) → Type 0 = λ found. IsTwin (sought_by w c.args.aim.now)
       (by_entry c.args.net.now.files world c.args.router c.args.file.now found) (forwarding_of w c.in_ok-rest-2.rest) in
@@ -40,8 +40,8 @@ loop-len-preserved c = record {
 pub returns-clause-value : goal.returns-clause-value
 returns-clause-value c = λ w reads needed.
     let all : c.loop-len.len ≡ 33 = omega arith in
-    let world = world_of w c.args.sym.now c.args.packet.now c.args.slots.now in
+    let world = read_world w c.args.sym.now c.args.packet.now c.args.tables.now in
     let P : ℕ → Type 0 = λ n. IsTwin (sought_by w c.args.aim.now)
-    (by_entry c.args.net.now.files world c.args.router c.args.file.now (longest_below (tables_of w c.args.slots.now)
+    (by_entry c.args.net.now.files world c.args.router c.args.file.now (longest_below (read_tables w c.args.tables.now)
     c.args.router n)) (forwarding_of w c.loop-len.rest) in
     subst P all (c.loop-len.invariant.value w reads needed)

@@ -7,7 +7,7 @@ use Rattle.sym_walk.specs.Distances.{DistancesWhereNeeded}
 use Rattle.sym_walk.specs.Entries.{by_entry}
 use Rattle.sym_forwarding.specs.Symbolic.{forwarding_end, forwarding_of}
 use Rattle.sym_forwarding.specs.Twins.{IsTwin}
-use Rattle.sym_rib.specs.Worlds.{tables_of, world_of}
+use Rattle.sym_rib.specs.Worlds.{read_tables, read_world}
 use Rattle.sym_walk.proofs.longest.sym_longest.Given as goal
 
 -- by the entry of the longest prefix that is shorter than the length
@@ -15,8 +15,9 @@ abbrev pub invariant-loop-len : goal.invariant-loop-len
 invariant-loop-len l = record {
   builds : Builds l.fn.terms l.terms;
   within : forwarding_end l.rest ≤ size l.terms;
-  value : (w : Reading) → Reads w l.terms → DistancesWhereNeeded w l.net.files l.sym l.slots → IsTwin (sought_by w l.aim)
-      (by_entry l.net.files (world_of w l.sym l.packet l.slots) l.router l.file
-      (longest_below (tables_of w l.slots) l.router l.len))
+  value : (w : Reading) → Reads w l.terms → DistancesWhereNeeded w l.net.files l.sym l.tables.slots.now →
+      IsTwin (sought_by w l.aim)
+      (by_entry l.net.files (read_world w l.sym l.packet l.tables) l.router l.file
+      (longest_below (read_tables w l.tables) l.router l.len))
       (forwarding_of w l.rest);
 }

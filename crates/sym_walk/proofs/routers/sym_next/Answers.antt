@@ -8,14 +8,14 @@ use Rattle.sym_policy.specs.Held.{failures_of}
 use Rattle.sym_forwarding.specs.Aims.{sought_by}
 use Rattle.sym_forwarding.specs.Symbolic.{forwarding_of}
 use Rattle.sym_forwarding.specs.Twins.{IsTwin}
-use Rattle.sym_rib.specs.Worlds.{world_of}
+use Rattle.sym_rib.specs.Worlds.{read_world}
 use Rattle.sym_walk.proofs.routers.sym_next.Goals as goal
 
 pub returns-in_ok-none-in-None-clause-value : goal.returns-in_ok-none-in-None-clause-value
 returns-in_ok-none-in-None-clause-value c = λ w reads needed.
     let net = c.args.net.now.files in
     let failures = failures_of w c.args.sym.now in
-    let world = world_of w c.args.sym.now c.args.packet.now c.args.slots.now in
+    let world = read_world w c.args.sym.now c.args.packet.now c.args.tables.now in
     let P : Option File → Type 0 = λ file. IsTwin (sought_by w c.args.aim.now)
     (option_map_or (hops_over net world (all_up net failures) (up_interfaces net failures c.args.router) c.args.router)
     file []) (forwarding_of w c.in_ok-none-in-None.none) in
@@ -26,7 +26,7 @@ pub returns-in_ok-made-in-Some-clause-value : goal.returns-in_ok-made-in-Some-cl
 returns-in_ok-made-in-Some-clause-value c = λ w reads needed.
     let net = c.args.net.now.files in
     let failures = failures_of w c.args.sym.now in
-    let world = world_of w c.args.sym.now c.args.packet.now c.args.slots.now in
+    let world = read_world w c.args.sym.now c.args.packet.now c.args.tables.now in
     let P : Option File → Type 0 = λ file. IsTwin (sought_by w c.args.aim.now)
     (option_map_or (hops_over net world (all_up net failures) (up_interfaces net failures c.args.router) c.args.router)
     file []) (forwarding_of w c.in_ok-made-in-Some.made) in

@@ -2,13 +2,13 @@ use Rattle.std.proofs.Common.{Bool, subst}
 use Rattle.question_lang.specs.Hops.{next_hops}
 use Rattle.sym_forwarding.specs.Symbolic.{forwarding_of}
 use Rattle.sym_forwarding.specs.Twins.{IsTwin, is_sought}
-use Rattle.sym_rib.specs.Worlds.{world_of}
+use Rattle.sym_rib.specs.Worlds.{read_world}
 use Rattle.sym_walk.proofs.routers.sym_router.Goals as goal
 
 pub returns-clause-value : goal.returns-clause-value
 returns-clause-value c = λ w reads needed.
     let made = c.in_ok-made.ensures in
     let P : Bool → Type 0 = λ b. IsTwin (is_sought c.args.kind b)
-    (next_hops c.args.net.now.files (world_of w c.args.sym.now c.args.packet.now c.args.slots.now) c.args.router)
+    (next_hops c.args.net.now.files (read_world w c.args.sym.now c.args.packet.now c.args.tables.now) c.args.router)
     (forwarding_of w c.in_ok-made.made) in
     subst P (c.in_ok-here.ensures.value w (made.builds.reads w reads)) (made.value w reads needed)

@@ -2,7 +2,7 @@ use Rattle.std.proofs.Common.{◌≡◌, ℕ, List, arith, length, rules, subst,
 use Rattle.sym_forwarding.specs.declared.forwarding.SymForwarding.{SymForwarding}
 use Rattle.sym_forwarding.specs.Symbolic.{table_of}
 use Rattle.sym_walk.specs.TwinTables.{AreTwins}
-use Rattle.sym_rib.specs.Worlds.{world_of}
+use Rattle.sym_rib.specs.Worlds.{read_world}
 use Rattle.sym_walk.proofs.PushedTwins.{twins_none}
 use Rattle.sym_walk.proofs.routers.sym_table.Goals as goal
 
@@ -12,7 +12,7 @@ loop-router-init c = record {
   within = search rules;
   value = λ w reads needed.
       let net = c.args.net.now.files in
-      let world = world_of w c.args.sym.now c.args.packet.now c.args.slots.now in
+      let world = read_world w c.args.sym.now c.args.packet.now c.args.tables.now in
       let P : List SymForwarding → Type 0 = λ t. AreTwins net world c.args.kind 0 (table_of w t) in
       subst P (sym c.new-table.ensures) (twins_none net world c.args.kind);
 }
@@ -30,5 +30,5 @@ pub returns-clause-value : goal.returns-clause-value
 returns-clause-value c = λ w reads needed.
     let all : c.loop-router.router ≡ length c.args.net.now.files = omega arith in
     let P : ℕ → Type 0 = λ n. AreTwins c.args.net.now.files
-    (world_of w c.args.sym.now c.args.packet.now c.args.slots.now) c.args.kind n (table_of w c.loop-router.table) in
+    (read_world w c.args.sym.now c.args.packet.now c.args.tables.now) c.args.kind n (table_of w c.loop-router.table) in
     subst P all (c.loop-router.invariant.value w reads needed)

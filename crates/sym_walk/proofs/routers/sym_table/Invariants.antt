@@ -4,7 +4,7 @@ use Rattle.term_store.specs.Reading.{Reads, Builds}
 use Rattle.sym_walk.specs.Distances.{DistancesWhereNeeded}
 use Rattle.sym_forwarding.specs.Symbolic.{table_end, table_of}
 use Rattle.sym_walk.specs.TwinTables.{AreTwins}
-use Rattle.sym_rib.specs.Worlds.{world_of}
+use Rattle.sym_rib.specs.Worlds.{read_world}
 use Rattle.sym_walk.proofs.routers.sym_table.Given as goal
 
 -- the table of the routers so far
@@ -12,6 +12,6 @@ abbrev pub invariant-loop-router : goal.invariant-loop-router
 invariant-loop-router l = record {
   builds : Builds l.fn.terms l.terms;
   within : table_end l.table ≤ size l.terms;
-  value : (w : Reading) → Reads w l.terms → DistancesWhereNeeded w l.net.files l.sym l.slots →
-      AreTwins l.net.files (world_of w l.sym l.packet l.slots) l.kind l.router (table_of w l.table);
+  value : (w : Reading) → Reads w l.terms → DistancesWhereNeeded w l.net.files l.sym l.tables.slots.now →
+      AreTwins l.net.files (read_world w l.sym l.packet l.tables) l.kind l.router (table_of w l.table);
 }
