@@ -1,0 +1,3 @@
+pub mod EntryBit
+pub mod Placed
+pub mod OpenSound
