@@ -1,5 +1,5 @@
 -- One bit of the source of an entry tells whether the entry is made with OSPF's route, also beside a route of BGP.
-use Rattle.std.proofs.Common.{◌≡◌, ℕ, ◌<◌, ◌≤◌, Bool, true, false, not, List, [], ◌∷◌, ◌++◌, map, Option, Some, None}
+use Rattle.std.proofs.Common.{◌≡◌, ℕ, ◌≤◌, Bool, true, false, not, List, [], ◌∷◌, ◌++◌, map, Option, Some, None}
 use Rattle.std.proofs.Common.{refl, sym, ap, ◌∙◌, arith}
 use Rattle.std.specs.Prelude.{All, IfSome, fold, nat_lt, option_and_then, option_map, if◌then◌else◌}
 use Rattle.std.specs.Option.{option_to_list}

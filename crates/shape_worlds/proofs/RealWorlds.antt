@@ -95,7 +95,7 @@ module _ (tracked : Tracked) (files : List File) (s : ShapeWorld) (net : TracksN
   p : ℕ → Prefix
   p len = prefix_at s.packet.dst len
 
-  decided_shapes : (len : ℕ) → len < LENGTHS →
+  pub decided_shapes : (len : ℕ) → len < LENGTHS →
       AreDecidedShapes tracked files s.failures s.environment (slots_for s len) (prefix_at s.packet.dst len)
   decided_shapes len below = record {
     within = λ router slot there. router_within router len slot there;
