@@ -26,7 +26,7 @@ use Rattle.world_variables.specs.Slots.{entry_of_bit, has_dynamic, is_dynamic, s
 abbrev IsCloser : RibEntry → Type 0
 IsCloser e = is_dynamic e.source ≡ true → e.distance ≤ 110
 
-of_closer : (P : RibEntry → Type 0) (entries : List RibEntry) (best : Option RibEntry) → IfSome best P →
+pub of_closer : (P : RibEntry → Type 0) (entries : List RibEntry) (best : Option RibEntry) → IfSome best P →
     All P entries → IfSome (fold closer best entries) P
 of_closer P [] best here all = here
 of_closer P (e ∷ entries) None here all =

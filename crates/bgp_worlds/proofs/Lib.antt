@@ -3,3 +3,4 @@ pub mod Placed
 pub mod OpenSound
 pub mod SameShapes
 pub mod OpenComplete
+pub mod OpensFit

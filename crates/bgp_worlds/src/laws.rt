@@ -12,7 +12,6 @@ ghost use Rattle.route_record.specs.declared.Packet.{Packet as PacketOf};
 ghost use Rattle.route_record.specs.declared.Plan.{Plan as PlanOf};
 ghost use Rattle.route_record.specs.declared.tracked.Tracked.{Tracked as TrackedOf};
 ghost use Rattle.route_record.specs.declared.World.{World as WorldOf};
-ghost use Rattle.route_record.specs.Fits.{FitsSlot};
 ghost use Rattle.net_parts.specs.Ospf.{adjacencies};
 ghost use Rattle.net_parts.specs.Stable.{Stable};
 ghost use Rattle.net_parts.specs.Tracked.{TracksNet};
@@ -22,11 +21,11 @@ ghost use Rattle.plan_places.specs.Places.{places_of};
 ghost use Rattle.slot_places.specs.Rooms.{HasUsed};
 ghost use Rattle.shape_worlds.specs.Worlds.{IsRealWorld, ShapeWorld, environment_of, rebuilt_tables, rebuilt_world};
 ghost use Rattle.shape_worlds.specs.Worlds.{shapes_of};
-ghost use Rattle.bgp_worlds.specs.Opens.{HaveRooms, OpenSlot, opens_hold, opens_of, shape_world_of};
+ghost use Rattle.bgp_worlds.specs.Opens.{FitOpens, HaveRooms, OpenSlot, opens_hold, opens_of, shape_world_of};
 
 /// Where what is open at the places of a plan passes its test, the real world that is made of its shapes has these shapes,
-/// in an environment that the peers may make (`real`); and its tables are a stable routing, where their numbers fit their
-/// fields (`stable`). The plan has a slice at each length at which something can stand.
+/// in an environment that the peers may make (`real`); and its tables are a stable routing, where the numbers of what is
+/// open fit their fields (`stable`). The plan has a slice at each length at which something can stand.
 pub fn routing_law()
     ensures real { (tracked : TrackedOf) (files : ListOf FileOf) (destinations : PrefixOf) (plan : PlanOf)
         (packet : PacketOf) (failures : FailuresOf) (opens : ListOf OpenSlot) (announced : ShapeEnvironment)
@@ -39,7 +38,7 @@ pub fn routing_law()
         (s : ShapeWorld) → s ≡ shape_world_of files destinations plan packet failures opens announced →
         TracksNet files tracked → list_all keeps_limits files ≡ true → HasUsed files destinations plan →
         covers destinations packet.dst ≡ true → HaveRooms files destinations (places_of plan (length files)) opens →
-        opens_hold tracked files destinations plan s opens ≡ true → All FitsSlot (rebuilt_tables tracked files s).slots →
+        FitOpens tracked files opens → opens_hold tracked files destinations plan s opens ≡ true →
         Stable files packet.dst failures (environment_of tracked s) (rebuilt_tables tracked files s) }
 {}
 
