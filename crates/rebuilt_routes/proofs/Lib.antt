@@ -1,0 +1,16 @@
+pub mod Options
+pub mod Marks
+pub mod ShapeMaps
+pub mod Crossed
+pub mod Numbered
+pub mod Ranks
+pub mod Fuel
+pub mod Followed
+pub mod EndsApart
+pub mod Plain
+pub mod Sources
+pub mod Supported
+pub mod ReflectorsOnce
+pub mod SameKeys
+pub mod ShapesFollow
+pub mod RoutesDecided
