@@ -74,7 +74,7 @@ same_record-same a =
     and_from _ _ (eq-eqb (kind_rank a.kind) (kind_rank a.kind) refl)
     (and_from _ _ (eq-eqb a.metric a.metric refl) (eq-eqb a.cost a.cost refl))
 
-same_ospf-is : (a b : Option OspfRec) → same_ospf a b ≡ true → a ≡ b
+pub same_ospf-is : (a b : Option OspfRec) → same_ospf a b ≡ true → a ≡ b
 same_ospf-is None None same = refl
 same_ospf-is None (Some b) same = absurd (false≢true same)
 same_ospf-is (Some a) None same = absurd (false≢true same)
