@@ -6,12 +6,14 @@
 //! whose records are small, a list is handed in, by the places of the adjacencies.
 #![tactic(auto)]
 
+mod announced;
 mod held;
 mod learnt;
 mod local;
 mod own;
 mod underlay;
 
+pub use announced::from_outside;
 pub use held::held_from;
 pub use learnt::learnt_candidate;
 pub use local::local_candidates;

@@ -1,0 +1,4 @@
+pub mod Paths
+pub mod Announcements
+pub mod Sets
+pub mod Environments

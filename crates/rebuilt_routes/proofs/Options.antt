@@ -1,0 +1,88 @@
+-- What is known of options that a call gives, and of the first item that passes.
+use Rattle.std.proofs.Common.{◌≡◌, ℕ, zero, suc, ◌+◌, ◌⊎◌, inl, inr, Bool, true, false, List, [], ◌∷◌, map}
+use Rattle.std.proofs.Common.{Option, Some, None, refl, sym, ap, subst, ◌∙◌, if◌then◌else◌, arith}
+use Rattle.std.specs.Prelude.{IfSome, option_and_then, option_map, slice_get}
+use Rattle.std.specs.List.{enumerate_from, find}
+use Rattle.std.proofs.lemmas.Option.{same_Some}
+
+-- what holds of all that the two calls give
+pub if_then : {X Y : Type 0} (P : Y → Type 0) (f : X → Option Y) → ((x : X) → IfSome (f x) P) → (o : Option X) →
+    IfSome (option_and_then f o) P
+if_then P f each None = tt
+if_then P f each (Some x) = each x
+
+pub if_true : {X : Type 0} (P : X → Type 0) (b : Bool) (o : Option X) → (b ≡ true → IfSome o P) →
+    IfSome (if b then o else None) P
+if_true P true o holds = holds refl
+if_true P false o holds = tt
+
+-- the same with the value that the first call gave
+pub if_found : {X Y : Type 0} (P : Y → Type 0) (f : X → Option Y) (o : Option X) →
+    ((x : X) → o ≡ Some x → IfSome (f x) P) → IfSome (option_and_then f o) P
+if_found P f None each = tt
+if_found P f (Some x) each = each x refl
+
+pub if_is : {X : Type 0} (P : X → Type 0) (o : Option X) (x : X) → IfSome o P → o ≡ Some x → P x
+if_is P None x holds is = absurd cc
+if_is P (Some y) x holds is = subst P (same_Some y x is) holds
+
+-- a value of two calls is one of the second, at a value of the first
+pub chained : {X Y : Type 0} (f : X → Option Y) (o : Option X) (y : Y) → option_and_then f o ≡ Some y →
+    (x : X) × (o ≡ Some x) × (f x ≡ Some y)
+chained f None y is = absurd cc
+chained f (Some x) y is = (x, refl, is)
+
+pub mapped : {X Y : Type 0} (f : X → Y) (o : Option X) (y : Y) → option_map f o ≡ Some y →
+    (x : X) × (o ≡ Some x) × (f x ≡ y)
+mapped f None y is = absurd cc
+mapped f (Some x) y is = (x, refl, same_Some (f x) y is)
+
+pub chosen : {X : Type 0} (b : Bool) (o : Option X) (x : X) → (if b then o else None) ≡ Some x →
+    (b ≡ true) × (o ≡ Some x)
+chosen true o x is = (refl, is)
+chosen false o x is = absurd cc
+
+-- ---- the first item that passes
+
+-- it passes
+pub find_passes : {X : Type 0} (p : X → Bool) (xs : List X) (x : X) → find p xs ≡ Some x → p x ≡ true
+find_passes p [] x is = absurd cc
+find_passes p (y ∷ ys) x is = by (p y) refl is (find_passes p ys x)
+  where
+    by : (b : Bool) → p y ≡ b → (if b then Some y else find p ys) ≡ Some x → (find p ys ≡ Some x → p x ≡ true) →
+        p x ≡ true
+    by true e is rest = ap p (sym (same_Some y x is)) ∙ e
+    by false e is rest = rest is
+
+-- among numbered items, it stands at its place
+pub numbered_there : {X : Type 0} (p : ℕ × X → Bool) (n : ℕ) (xs : List X) (at : ℕ) (x : X) →
+    find p (enumerate_from n xs) ≡ Some (at, x) → (k : ℕ) × (at ≡ n + k) × (slice_get xs k ≡ Some x)
+numbered_there p n [] at x is = absurd cc
+numbered_there {X = X} p n (y ∷ ys) at x is = by (p (n, y)) is (numbered_there p (n + 1) ys at x)
+  where
+    by : (b : Bool) → (if b then Some (n, y) else find p (enumerate_from (n + 1) ys)) ≡ Some (at, x) →
+        (find p (enumerate_from (n + 1) ys) ≡ Some (at, x) → (k : ℕ) × (at ≡ n + 1 + k) × (slice_get ys k ≡ Some x)) →
+        (k : ℕ) × (at ≡ n + k) × (slice_get (y ∷ ys) k ≡ Some x)
+    by true is rest =
+        let same = same_Some (n, y) (at, x) is in
+        let place : n ≡ at = ap (λ (e : ℕ × X). e.0) same in
+        let item : y ≡ x = ap (λ (e : ℕ × X). e.1) same in
+        (zero, omega (arith, place), ap Some item)
+    by false is rest =
+        let found = rest is in
+        let place = found.1 in
+        (suc found.0, omega (arith, place), found.2)
+
+-- without its number it is the first that passes of the items alone
+pub unnumbered_find : {X : Type 0} (p : X → Bool) (n : ℕ) (xs : List X) →
+    option_map (λ (e : ℕ × X). e.1) (find (λ (e : ℕ × X). p e.1) (enumerate_from n xs)) ≡ find p xs
+unnumbered_find p n [] = refl
+unnumbered_find {X = X} p n (x ∷ xs) = by (p x) (unnumbered_find p (n + 1) xs)
+  where
+    by : (b : Bool) → option_map (λ (e : ℕ × X). e.1) (find (λ (e : ℕ × X). p e.1) (enumerate_from (n + 1) xs))
+        ≡ find p xs →
+        option_map (λ (e : ℕ × X). e.1)
+        (if b then Some (n, x) else find (λ (e : ℕ × X). p e.1) (enumerate_from (n + 1) xs))
+        ≡ (if b then Some x else find p xs)
+    by true rest = refl
+    by false rest = rest
