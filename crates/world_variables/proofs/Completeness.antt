@@ -36,7 +36,8 @@ use Rattle.slot_places.specs.Rooms.{FitsIn, HasUsed, can_be_used, room_for}
 use Rattle.slot_places.proofs.Fitting.{held_fits, unused_empty}
 use Rattle.slot_places.proofs.Members.{all-from-in}
 use Rattle.slot_places.proofs.PlaceLaws.{has-in, in-lens, in-places, lens-in, places-in}
-use Rattle.slot_places.proofs.Tabulated.{all_hold_again, as_tabulated, tables_again}
+use Rattle.plan_places.proofs.Tabulated.{as_tabulated}
+use Rattle.slot_places.proofs.Tabulated.{all_hold_again, tables_again}
 use Rattle.world_variables.specs.declared.unknowns.Unknown.{Unknown}
 use Rattle.world_variables.specs.Slots.{are_wanted, bare, entry_of, entry_of_bit, has_dynamic, is_wanted, open_slot}
 use Rattle.world_variables.specs.Slots.{runs_no_bgp, same_ospf, slot_holds, slot_of, tables_of, unknown_at, unknown_of}

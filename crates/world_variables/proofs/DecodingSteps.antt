@@ -16,7 +16,7 @@ use Rattle.plan_places.specs.declared.places.Place.{Place}
 use Rattle.plan_places.specs.Places.{places_of}
 use Rattle.plan_places.specs.Plans.{has_slice, lens_below, lens_of}
 use Rattle.plan_places.specs.Tables.{row_from, rows_from}
-use Rattle.plan_places.proofs.PlaceSteps.{places-length}
+use Rattle.plan_places.proofs.PlaceSteps.{lens_few, places-length}
 use Rattle.slot_places.specs.declared.rooms.Room.{Room}
 use Rattle.slot_places.proofs.Members.{all-from-in}
 use Rattle.slot_places.proofs.PlaceLaws.{in-lens, in-places}
@@ -83,23 +83,6 @@ length-unknowns (room ∷ rooms) v from = ap suc (length-unknowns rooms v (from 
 
 -- ---- places
 
--- a plan has no more than all lengths
-lens_few : (plan : Plan) (n : ℕ) → length (lens_below plan n) ≤ n
-unfolding lens_below
-lens_few plan zero = omega arith
-lens_few plan (suc n) =
-    let front = lens_few plan n in
-    let both = length-append (lens_below plan n) (if has_slice plan n then n ∷ [] else []) in
-    let last = by (has_slice plan n) in
-    omega (arith, front, both, last)
-  where
-    by : (b : Bool) → length (if b then n ∷ [] else []) ≤ 1
-    by true = omega arith
-    by false = omega arith
-
-pub few_lens : (plan : Plan) → length (lens_of plan) ≤ LENGTHS
-few_lens plan = lens_few plan LENGTHS
-
 pub places_short : (plan : Plan) (n : ℕ) → All (λ p. p.len < LENGTHS) (places_of plan n)
 places_short plan n = all-from-in (λ (p : Place). p.len < LENGTHS) (places_of plan n)
     (λ p there. (in-lens plan LENGTHS p.len (in-places (lens_of plan) n p there).1).0)
@@ -118,4 +101,4 @@ pub ruleset rows_steps = (common_steps, rows_next, rows_end)
 
 pub ruleset unknown_steps = (common_steps, places_at, unknowns_next, widths_next, unknowns_none, narrow_there)
 
-pub ruleset table_steps = (common_steps, few_lens, places_short, many_unknowns)
+pub ruleset table_steps = (common_steps, lens_few, places_short, many_unknowns)

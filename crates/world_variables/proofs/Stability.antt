@@ -40,7 +40,8 @@ use Rattle.plan_places.specs.Plans.{lens_of}
 use Rattle.plan_places.specs.Tables.{empty_slot, slot_among}
 use Rattle.slot_places.specs.Rooms.{HasUsed, can_be_used, room_at, room_for, runs_ospf}
 use Rattle.slot_places.proofs.PlaceLaws.{has-in, lens-in, places-in}
-use Rattle.slot_places.proofs.Tabulated.{all_stable, none_past, rows-all, tabulated-at, tabulated-length}
+use Rattle.plan_places.proofs.Tabulated.{none_past, rows-all, tabulated-at, tabulated-length}
+use Rattle.slot_places.proofs.Tabulated.{all_stable}
 use Rattle.slot_places.proofs.Unused.{empty_stable}
 use Rattle.world_variables.specs.declared.unknowns.Unknown.{Unknown}
 use Rattle.world_variables.specs.Slots.{are_wanted, bare, entry_of_bit, has_dynamic, is_dynamic, is_wanted}
