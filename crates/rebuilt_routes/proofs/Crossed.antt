@@ -35,7 +35,7 @@ unfolding saturated
 small n = omega arith
 
 -- a process that a router runs
-runs_there : (files : List File) (router : ℕ) (file : File) (process : Bgp) → slice_get files router ≡ Some file →
+pub runs_there : (files : List File) (router : ℕ) (file : File) (process : Bgp) → slice_get files router ≡ Some file →
     file.bgp ≡ Some process → process_of files router ≡ Some process
 runs_there files router file process is runs = ap (option_and_then (λ (f : File). f.bgp)) is ∙ runs
 

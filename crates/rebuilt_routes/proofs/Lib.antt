@@ -7,3 +7,10 @@ pub mod Ranks
 pub mod Fuel
 pub mod Followed
 pub mod EndsApart
+pub mod Plain
+pub mod Sources
+pub mod Supported
+pub mod ReflectorsOnce
+pub mod SameKeys
+pub mod ShapesFollow
+pub mod RoutesDecided
