@@ -69,7 +69,7 @@ empty_fits files none = record {
 
 -- ---- what is read fits
 
-value_small : (values : List ℕ) (n bound : ℕ) → 0 < bound → All (λ x. x < bound) values → slice_index values n < bound
+pub value_small : (values : List ℕ) (n bound : ℕ) → 0 < bound → All (λ x. x < bound) values → slice_index values n < bound
 value_small [] n bound some all = some
 value_small (x ∷ values) zero bound some all = All-head (λ y. y < bound) x values all
 value_small (x ∷ values) (suc n) bound some all = value_small values n bound some (All-tail (λ y. y < bound) x values all)
