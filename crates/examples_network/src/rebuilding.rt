@@ -11,9 +11,7 @@ use net_parts::ends::is_outside;
 use path_rebuild::{Rebuilt, ShapeRec, rebuild};
 use policy_eval::copy_list;
 use question_lang::Question;
-use route_record::{
-    Announcement, BgpRec, Environment, LENGTHS, Learnt, Tables, shape,
-};
+use route_record::{Announcement, BgpRec, Environment, LENGTHS, Learnt, Tables, shape};
 use std::alloc::{AllocError, Global};
 
 /// The route without its lists, and their shape.
