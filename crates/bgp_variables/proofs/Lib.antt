@@ -5,4 +5,5 @@ pub mod Joining
 pub mod Steps
 pub mod EnvironmentSteps
 pub mod EnvironmentReading
+pub mod ArrivedAgain
 pub mod AnnouncedSteps
