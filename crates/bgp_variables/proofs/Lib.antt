@@ -7,3 +7,4 @@ pub mod EnvironmentSteps
 pub mod EnvironmentReading
 pub mod ArrivedAgain
 pub mod AnnouncedSteps
+pub mod OpenedTest

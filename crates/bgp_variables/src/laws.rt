@@ -16,18 +16,20 @@ ghost use Rattle.route_record.specs.declared.tracked.Tracked.{Tracked as Tracked
 ghost use Rattle.route_record.specs.Fits.{IsAddress};
 ghost use Rattle.route_record.specs.Places.{slot_at};
 ghost use Rattle.net_parts.specs.declared.sessions.SessionEnd.{SessionEnd as SessionEndOf};
-ghost use Rattle.net_parts.specs.Sessions.{ends_of};
+ghost use Rattle.net_parts.specs.Sessions.{ends_of, is_outside, neighbour_of};
 ghost use Rattle.net_parts.specs.Stable.{Stable};
 ghost use Rattle.route_shapes.specs.Bgp.{BgpShape, bgp_shape};
 ghost use Rattle.failed_links.specs.Rows.{IsAt};
 ghost use Rattle.bgp_shapes.specs.Candidates.{ShapeAnnouncement, ShapeEnvironment, ShapeSlot, shape_announced, shape_arriving};
 ghost use Rattle.announced_places.specs.Announced.{Ascend};
-ghost use Rattle.announced_places.specs.Environments.{environment_of};
-ghost use Rattle.announced_shapes.specs.Announcements.{IsAnnouncementShape};
+ghost use Rattle.announced_places.specs.Environments.{announcement_of, environment_of};
+ghost use Rattle.announced_shapes.specs.Announcements.{IsAnnouncementShape, is_announcement_shape};
+ghost use Rattle.announced_shapes.specs.Paths.{is_word};
+ghost use Rattle.bgp_variables.specs.Announced.{is_announced};
 ghost use Rattle.bgp_variables.specs.declared.rooms.BgpRoom.{BgpRoom as BgpRoomOf};
 ghost use Rattle.bgp_variables.specs.Environments.{announced_from, announced_rooms, arrivals, environment_bits, environment_width, ids_from, peers_count};
 ghost use Rattle.bgp_variables.specs.Rooms.{announcement_room, full_room};
-ghost use Rattle.bgp_variables.specs.Shapes.{FitBgpRooms, FitsBgpRoom, FitsShape, bgp_bits, bgp_from, bgp_width, bgps_bits, bgps_from, bgps_width};
+ghost use Rattle.bgp_variables.specs.Shapes.{FitBgpRooms, FitsBgpRoom, FitsShape, bgp_bits, bgp_from, bgp_width, bgps_bits, bgps_from, bgps_width, shape_from};
 
 /// A route that fits its room is read from its bits, and so are routes one after another.
 pub fn reading_law()
@@ -79,4 +81,15 @@ pub fn arriving_law()
         slice_get (ends_of files) at ≡ Some end →
         shape_arriving tracked files (environment_of files lens s.ids (arrivals tracked files lens s.announced)) slots p at end
         ≡ shape_arriving tracked files s slots p at end }
+{}
+
+/// Where tracked communities have 32 bits, what is asked of an announcement of new variables is all that its peer may
+/// announce: one of an external end at a length.
+pub fn test_law()
+    ensures { (files : ListOf FileOf) (tracked : TrackedOf) (at : ℕ) (end : SessionEndOf) (neighbour : NeighbourOf)
+        (len : ℕ) (v : ℕ → Bool) (from : ℕ) → slice_get (ends_of files) at ≡ Some end → is_outside end.far ≡ true →
+        neighbour_of files end ≡ Some neighbour → len < LENGTHS → list_all is_word tracked.communities ≡ true →
+        is_announcement_shape files tracked
+        (announcement_of at len (shape_from (announcement_room tracked neighbour) v from))
+        ≡ is_announced tracked neighbour.asn (shape_from (announcement_room tracked neighbour) v from) }
 {}
