@@ -2,4 +2,5 @@ pub mod FrameSteps
 pub mod SlotSteps
 pub mod RoutingSteps
 pub mod WorldSteps
+pub mod TrueWorlds
 pub mod BareNeeds
