@@ -6,12 +6,13 @@ ghost use Rattle.std.specs.Prelude.{◌≡◌, ◌+◌, ◌≤◌, ◌<◌, ◌*
 ghost use Rattle.std.specs.List.{filter_map, list_any};
 ghost use Rattle.net_parts.specs.Ospf as model;
 ghost use Rattle.net_parts.specs.OspfRoutes.{first_best, offer_over};
+ghost use Rattle.route_record.specs.declared.Tables.{Tables as TablesOf};
 ghost use Rattle.sym_policy.specs.Held.{failures_of, ospf_of, ospf_end};
 ghost use Rattle.sym_policy.specs.Records.{prefix_of as prefix_read};
 ghost use Rattle.sym_rib.specs.Into.{list_end};
 ghost use Rattle.sym_rib.specs.Worlds.{read_tables, slots_end};
 ghost use Rattle.ospf_equations.specs.Adjacent.{offers_read, ups_end};
-ghost use Rattle.ospf_equations.specs.Equations.{offers_by};
+ghost use Rattle.ospf_equations.specs.Equations.{StandFor, offers_by};
 ghost use Rattle.ospf_equations.specs.Levels.{has_within, is_within, of_length};
 ghost use Rattle.world_variables.specs.Slots.{same_ospf};
 ghost use Rattle.term_store.specs.Terms.{Reading, at, size};
@@ -214,9 +215,10 @@ pub fn sym_held(
     requires held { ospf_end held.now ≤ size terms.old }
     ensures builds { Builds terms.old terms.new }
     ensures within { IfOk result (λ r. r.0 < size terms.new) }
-    ensures value { Gives terms.new result (λ w r. at w r ≡ same_ospf (ospf_of w held.now) (first_best
-        (filter_map (ospf_of w) own ++ offers_by net.now.files (failures_of w sym.now) (read_tables w tables.now) router
-        (prefix_read w dst.now len) (model.adjacencies net.now.files)))) }
+    ensures value { Gives terms.new result (λ w r. (real : TablesOf) → StandFor w net.now.tracked tables.now real →
+        at w r ≡ same_ospf (ospf_of w held.now) (first_best (filter_map (ospf_of w) own
+        ++ offers_by net.now.files (failures_of w sym.now) real router (prefix_read w dst.now len)
+        (model.adjacencies net.now.files)))) }
 {
     let shown = if is_never(terms, held.valid) {
         &[]

@@ -1,4 +1,4 @@
-use Rattle.std.proofs.Common.{◌≡◌, ◌≤◌, ◌++◌, ap, ap₂, subst, sym, ◌∙◌, true, List}
+use Rattle.std.proofs.Common.{arith, ◌≡◌, ◌≤◌, ◌++◌, ap, ap₂, subst, sym, ◌∙◌, true, List}
 use Rattle.std.specs.List.{filter_map}
 use Rattle.route_record.specs.declared.OspfRec.{OspfRec}
 use Rattle.net_parts.specs.Ospf.{adjacencies}
@@ -15,6 +15,7 @@ use Rattle.ospf_equations.specs.Levels.{of_length}
 use Rattle.world_variables.specs.Slots.{same_ospf}
 use Rattle.ospf_equations.proofs.HoldingSteps.{ends_same}
 use Rattle.ospf_equations.proofs.LevelSteps.{implied, offers_of_length}
+use Rattle.ospf_equations.proofs.Standing.{offers_stand}
 use Rattle.ospf_equations.proofs.levels.sym_held.Goals as goal
 
 pub sym_best-requires : goal.sym_best-requires
@@ -26,7 +27,7 @@ sym_best-requires c =
     }
 
 pub returns-clause-value : goal.returns-clause-value
-returns-clause-value c = λ w reads.
+returns-clause-value c = λ w reads real stand.
     let r4 = c.both.ensures.builds.reads w reads in
     let r3 = c.sym_same.ensures.builds.reads w r4 in
     let r2 = c.sym_best.ensures.builds.reads w r3 in
@@ -50,4 +51,8 @@ returns-clause-value c = λ w reads.
     ∙ offers_of_length files failures tables c.args.router p (adjacencies files)) in
     let follows : at w c.in_ok-same.same ≡ true → at w c.in_ok-levels.levels ≡ true =
     λ same. c.in_ok-levels.ensures.value w r1 (shown ∙ sym is ∙ same) in
+    let sym_tables = c.args.tables.now in
+    let stood = offers_stand w c.args.net.now.tracked sym_tables.lens.now sym_tables.routers sym_tables.slots.now real stand
+    files failures c.args.router p (adjacencies files) (omega arith) in
     c.in_ok-firm.ensures.value w reads ∙ implied (at w c.in_ok-same.same) (at w c.in_ok-levels.levels) follows ∙ is
+    ∙ ap (λ (xs : List OspfRec). same_ospf held (first_best (own ++ xs))) stood
