@@ -1,4 +1,4 @@
-use Rattle.std.proofs.Common.{arith, ◌≡◌, ◌≤◌, ◌++◌, ap, ap₂, subst, sym, ◌∙◌, true, List}
+use Rattle.std.proofs.Common.{◌≡◌, ◌≤◌, ◌++◌, ap, ap₂, subst, sym, ◌∙◌, true, List}
 use Rattle.std.specs.List.{filter_map}
 use Rattle.route_record.specs.declared.OspfRec.{OspfRec}
 use Rattle.net_parts.specs.Ospf.{adjacencies}
@@ -8,14 +8,12 @@ use Rattle.sym_policy.specs.declared.records.SymOspf.{SymOspf}
 use Rattle.sym_policy.specs.Held.{failures_of, ospf_of}
 use Rattle.sym_policy.specs.Records.{prefix_of}
 use Rattle.sym_ospf.specs.Routes.{routes_end}
-use Rattle.sym_rib.specs.Worlds.{read_tables}
 use Rattle.ospf_equations.specs.Adjacent.{offers_read}
 use Rattle.ospf_equations.specs.Equations.{offers_by}
 use Rattle.ospf_equations.specs.Levels.{of_length}
 use Rattle.world_variables.specs.Slots.{same_ospf}
 use Rattle.ospf_equations.proofs.HoldingSteps.{ends_same}
 use Rattle.ospf_equations.proofs.LevelSteps.{implied, offers_of_length}
-use Rattle.ospf_equations.proofs.Standing.{offers_stand}
 use Rattle.ospf_equations.proofs.levels.sym_held.Goals as goal
 
 pub sym_best-requires : goal.sym_best-requires
@@ -36,23 +34,19 @@ returns-clause-value c = λ w reads real stand.
     let held = ospf_of w c.args.held.now in
     let files = c.args.net.now.files in
     let failures = failures_of w c.args.sym.now in
-    let tables = read_tables w c.args.tables.now in
     let p = prefix_of w c.args.dst.now c.args.len in
     let own = filter_map (ospf_of w) c.args.own in
-    let offers = offers_by files failures tables c.args.router p (adjacencies files) in
-    let read = c.in_ok-over.ensures.value w r0 tables in
-    let all = c.in_ok-all.ensures.value w r2
-    ∙ ap (λ over. own ++ offers_read w tables p over) c.as_slice-3.ensures ∙ ap (λ l. own ++ l) (read p) in
+    let offers = offers_by files failures real c.args.router p (adjacencies files) in
+    let read = c.in_ok-over.ensures.value w r0 real in
+    let tracked = c.args.net.now.tracked in
+    let all = c.in_ok-all.ensures.value w r2 tracked real stand
+    ∙ ap (λ over. own ++ offers_read w real p over) c.as_slice-3.ensures ∙ ap (λ l. own ++ l) (read p) in
     let is = c.in_ok-same.ensures.value w r4 ∙ ap (same_ospf held) (c.in_ok-best.ensures.value w r3
     ∙ ap first_best (ap (filter_map (ospf_of w)) c.as_slice-4.ensures ∙ all)) in
     let shown = ap₂ (λ (xs ys : List OspfRec). same_ospf held (first_best (xs ++ ys)))
     (ap (filter_map (ospf_of w)) c.as_slice-2.ensures)
-    (ap (offers_read w tables (of_length c.args.len)) c.as_slice.ensures ∙ read (of_length c.args.len)
-    ∙ offers_of_length files failures tables c.args.router p (adjacencies files)) in
+    (ap (offers_read w real (of_length c.args.len)) c.as_slice.ensures ∙ read (of_length c.args.len)
+    ∙ offers_of_length files failures real c.args.router p (adjacencies files)) in
     let follows : at w c.in_ok-same.same ≡ true → at w c.in_ok-levels.levels ≡ true =
-    λ same. c.in_ok-levels.ensures.value w r1 (shown ∙ sym is ∙ same) in
-    let sym_tables = c.args.tables.now in
-    let stood = offers_stand w c.args.net.now.tracked sym_tables.lens.now sym_tables.routers sym_tables.slots.now real stand
-    files failures c.args.router p (adjacencies files) (omega arith) in
+    λ same. c.in_ok-levels.ensures.value w r1 tracked real stand (shown ∙ sym is ∙ same) in
     c.in_ok-firm.ensures.value w reads ∙ implied (at w c.in_ok-same.same) (at w c.in_ok-levels.levels) follows ∙ is
-    ∙ ap (λ (xs : List OspfRec). same_ospf held (first_best (own ++ xs))) stood
