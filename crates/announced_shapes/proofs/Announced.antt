@@ -225,14 +225,16 @@ abbrev ends_by : Bool → ℕ
 ends_by b = if b then 1 else 2
 
 ends_fit : (tracked : List ℕ) (x : ℕ) (xs : List ℕ) → ascends tracked ≡ true →
-    length (between tracked (plain_shape tracked (x ∷ xs))) + ends_count (plain_shape tracked (x ∷ xs)) ≤ suc (length xs)
+    length (between tracked (plain_shape tracked (x ∷ xs))) + ends_count (plain_shape tracked (x ∷ xs))
+    ≤ suc (length xs)
 unfolding inner
 ends_fit tracked x xs up =
     let few = no_more (between tracked (plain_shape tracked (x ∷ xs))) (inner xs)
     (between_ascends tracked (plain_shape tracked (x ∷ xs)) up) (between_inside tracked x xs) in by xs few
   where
     by : (ys : List ℕ) → length (between tracked (plain_shape tracked (x ∷ xs))) ≤ length (inner ys) →
-        length (between tracked (plain_shape tracked (x ∷ xs))) + (if suc (length ys) == 1 then 1 else 2) ≤ suc (length ys)
+        length (between tracked (plain_shape tracked (x ∷ xs))) + (if suc (length ys) == 1 then 1 else 2)
+        ≤ suc (length ys)
     by [] few = omega (arith, few)
     by (y ∷ ys) few =
         let two = ap ends_by (not_one (length ys)) in omega (arith, few, length-inner y ys, two)

@@ -7,11 +7,13 @@ use Rattle.std.proofs.lemmas.Bool.{and_from, and_parts, eq-eqb, eqb-true}
 use Rattle.std.proofs.lemmas.List.Folds.{list_all-append}
 use Rattle.net_parts.specs.Exports.{most_numbers}
 use Rattle.route_shapes.specs.Shapes.{PathShape}
-use Rattle.announced_shapes.specs.Paths.{IsPathShape, is_path_shape, taken, is_end, between, rebuilt_path, are_marked}
+use Rattle.announced_shapes.specs.Paths.{IsPathShape, after_first, is_path_shape, taken, is_end, between}
+use Rattle.announced_shapes.specs.Paths.{rebuilt_path, are_marked}
 use Rattle.announced_shapes.specs.Paths.{is_as_number, ends_count, has_path_length, has_path_ends, has_path_marks}
 use Rattle.announced_shapes.proofs.Announced.{all_kept}
 
-pub tested : (asn : ℕ) (tracked : List ℕ) (s : PathShape) → is_path_shape asn tracked s ≡ true → IsPathShape asn tracked s
+pub tested : (asn : ℕ) (tracked : List ℕ) (s : PathShape) → is_path_shape asn tracked s ≡ true →
+    IsPathShape asn tracked s
 unfolding is_path_shape
 tested asn tracked s is =
     let thirds = and_parts (has_path_length s) (has_path_ends asn s && has_path_marks tracked s) is in
@@ -40,7 +42,8 @@ tested asn tracked s is =
       room = others.1;
     }
 
-pub passes : (asn : ℕ) (tracked : List ℕ) (s : PathShape) → IsPathShape asn tracked s → is_path_shape asn tracked s ≡ true
+pub passes : (asn : ℕ) (tracked : List ℕ) (s : PathShape) → IsPathShape asn tracked s →
+    is_path_shape asn tracked s ≡ true
 unfolding is_path_shape
 passes asn tracked s is =
     and_from _ _ (and_from _ _ is.some is.short)
@@ -69,7 +72,7 @@ rebuilt_numbers asn tracked s is = by (s.len == 1) where
       ∙ and_from _ _ (all_again is_as_number n s.first first) (and_from _ _ is.last refl))
 
   by : (b : Bool) → list_all is_as_number (if b then s.first ∷ []
-      else s.first ∷ (between tracked s ++ (replicate (s.len - 2 - length (between tracked s)) s.first ++ (s.last ∷ [])))) ≡ true
+      else s.first ∷ after_first s (between tracked s)) ≡ true
   by true = and_from _ _ first refl
   by false = and_from _ _ first (behind (s.len - 2 - length (between tracked s)))
 
@@ -82,6 +85,6 @@ rebuilt_first asn tracked s is = by (s.len == 1) where
   same = eqb-true s.first asn is.first
 
   by : (b : Bool) → (rest : List ℕ) × ((if b then s.first ∷ []
-      else s.first ∷ (between tracked s ++ (replicate (s.len - 2 - length (between tracked s)) s.first ++ (s.last ∷ [])))) ≡ asn ∷ rest)
+      else s.first ∷ after_first s (between tracked s)) ≡ asn ∷ rest)
   by true = ([], ap (λ x. x ∷ []) same)
-  by false = (_, ap (λ x. x ∷ (between tracked s ++ (replicate (s.len - 2 - length (between tracked s)) s.first ++ (s.last ∷ [])))) same)
+  by false = (_, ap (λ x. x ∷ after_first s (between tracked s)) same)

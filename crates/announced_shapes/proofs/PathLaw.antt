@@ -1,6 +1,7 @@
 -- A path that is rebuilt from a shape has that shape.
 use Rattle.std.proofs.Common.{◌≡◌, ℕ, zero, suc, ◌+◌, ◌-◌, Bool, true, false, not, ◌&&◌, ◌||◌, List, [], ◌∷◌, ◌++◌}
-use Rattle.std.proofs.Common.{length, map, filter, replicate, refl, sym, ap, subst, arith, ◌∙◌, if◌then◌else◌, get_or, leb-true, append_assoc}
+use Rattle.std.proofs.Common.{length, map, filter, replicate, refl, sym, ap, subst, arith, ◌∙◌, if◌then◌else◌, get_or}
+use Rattle.std.proofs.Common.{leb-true, append_assoc}
 use Rattle.std.specs.Prelude.{◌==◌, nat_lt, nat_le}
 use Rattle.std.specs.List.{list_all}
 use Rattle.std.proofs.lemmas.Bool.{and_parts, eqb-true, eq-eqb}
@@ -13,7 +14,7 @@ use Rattle.ios_ast.specs.Deciding.{carries}
 use Rattle.ios_ast.specs.Paths.{last_of}
 use Rattle.net_parts.specs.World.{ascends}
 use Rattle.route_shapes.specs.Shapes.{PathShape}
-use Rattle.announced_shapes.specs.Paths.{IsPathShape, taken, is_end, between, rebuilt_path}
+use Rattle.announced_shapes.specs.Paths.{IsPathShape, after_first, taken, is_end, between, rebuilt_path}
 use Rattle.announced_shapes.specs.Paths.{are_marked}
 use Rattle.announced_shapes.proofs.PlainShape.{plain_shape}
 
@@ -188,7 +189,7 @@ path_again asn tracked s up is = by (s.len == 1) refl where
   fill = s.len - 2 - length (between tracked s)
 
   long_path : List ℕ
-  long_path = s.first ∷ (between tracked s ++ (replicate (s.len - 2 - length (between tracked s)) s.first ++ (s.last ∷ [])))
+  long_path = s.first ∷ after_first s (between tracked s)
 
   front : List ℕ
   front = s.first ∷ (between tracked s ++ replicate (s.len - 2 - length (between tracked s)) s.first)

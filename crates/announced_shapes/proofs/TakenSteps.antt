@@ -27,10 +27,12 @@ pub taken_marked : (ts made : List ℕ) (k set : ℕ) → k < length ts → set 
 taken_marked ts made k set within mark =
     append_assoc made (get_or ts k 0 ∷ []) (taken_from ts (k + 1) (set / 2))
     ∙ sym (ap (λ xs. made ++ xs) (here ts k set within
-    ∙ ap (λ b. if b then get_or ts k 0 ∷ taken_from ts (k + 1) (set / 2) else taken_from ts (k + 1) (set / 2)) (eq-eqb (set % 2) 1 mark)))
+    ∙ ap (λ b. if b then get_or ts k 0 ∷ taken_from ts (k + 1) (set / 2) else taken_from ts (k + 1) (set / 2))
+    (eq-eqb (set % 2) 1 mark)))
 
 pub taken_unmarked : (ts made : List ℕ) (k set : ℕ) → k < length ts → (set % 2 ≡ 1 → ⊥) →
     made ++ taken_from ts (k + 1) (set / 2) ≡ made ++ taken_from ts k set
 taken_unmarked ts made k set within mark =
     sym (ap (λ xs. made ++ xs) (here ts k set within
-    ∙ ap (λ b. if b then get_or ts k 0 ∷ taken_from ts (k + 1) (set / 2) else taken_from ts (k + 1) (set / 2)) (unequal (set % 2) mark)))
+    ∙ ap (λ b. if b then get_or ts k 0 ∷ taken_from ts (k + 1) (set / 2) else taken_from ts (k + 1) (set / 2))
+    (unequal (set % 2) mark)))

@@ -35,8 +35,8 @@ pub record IsPeersPath (files : List File) (tracked : Tracked) (s : ShapeAnnounc
   pub line : neighbour_of files end ≡ Some neighbour
   pub path : IsPathShape neighbour.asn tracked.numbers s.path
 
--- the shape of what an external peer may announce: length of the prefix, metric and origin are in their ranges, and there
--- is a mark for each tracked community, of which each marked one has 32 bits (RFC 1997)
+-- the shape of what an external peer may announce: length of the prefix, metric and origin are in their ranges, and
+-- there is a mark for each tracked community, of which each marked one has 32 bits (RFC 1997)
 pub record IsAnnouncementShape (files : List File) (tracked : Tracked) (s : ShapeAnnouncement) : Type 0 where
   pub peer : IsPeersPath files tracked s
   pub len : s.len < LENGTHS

@@ -46,9 +46,9 @@ is_as_number n = nat_lt 0 n && is_word n
 abbrev pub ends_count : PathShape → ℕ
 ends_count s = if s.len == 1 then 1 else 2
 
--- the shape of a path that the peer of that AS may announce: of 1 to 255 AS numbers, of which the first is the peer's. A
--- path of one number has one first and last number, both ends are marked where they are tracked, and the path has room
--- for the other marked ones
+-- the shape of a path that the peer of that AS may announce: of 1 to 255 AS numbers, of which the first is the peer's.
+-- A path of one number has one first and last number, both ends are marked where they are tracked, and the path has
+-- room for the other marked ones
 pub record IsPathShape (asn : ℕ) (tracked : List ℕ) (s : PathShape) : Type 0 where
   pub marks : length s.numbers ≡ length tracked
   pub some : nat_lt 0 s.len ≡ true

@@ -8,7 +8,8 @@ ghost use Rattle.route_record.specs.declared.tracked.Tracked.{Tracked as Tracked
 ghost use Rattle.net_parts.specs.World.{IsAnnouncement, IsEnvironment, ascends};
 ghost use Rattle.bgp_shapes.specs.Candidates.{ShapeAnnouncement, ShapeEnvironment, announcement_shape};
 ghost use Rattle.bgp_shapes.specs.Candidates.{environment_shape};
-ghost use Rattle.announced_shapes.specs.Announcements.{IsAnnouncementShape, is_announcement_shape, rebuilt_announcement};
+ghost use Rattle.announced_shapes.specs.Announcements.{IsAnnouncementShape, is_announcement_shape};
+ghost use Rattle.announced_shapes.specs.Announcements.{rebuilt_announcement};
 ghost use Rattle.announced_shapes.specs.Environments.{IsShapeEnvironment, rebuilt_environment};
 
 /// The test of a shape is true exactly of the shapes of what external peers may announce.

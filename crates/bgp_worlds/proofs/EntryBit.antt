@@ -1,5 +1,5 @@
 -- One bit of the source of an entry tells whether the entry is made with OSPF's route, also beside a route of BGP.
-use Rattle.std.proofs.Common.{◌≡◌, ℕ, ◌<◌, ◌≤◌, Bool, true, false, not, List, [], ◌∷◌, ◌++◌, map, Option, Some, None}
+use Rattle.std.proofs.Common.{◌≡◌, ℕ, ◌≤◌, Bool, true, false, not, List, [], ◌∷◌, ◌++◌, map, Option, Some, None}
 use Rattle.std.proofs.Common.{refl, sym, ap, ◌∙◌, arith}
 use Rattle.std.specs.Prelude.{All, IfSome, fold, nat_lt, option_and_then, option_map, if◌then◌else◌}
 use Rattle.std.specs.Option.{option_to_list}
@@ -26,7 +26,7 @@ use Rattle.world_variables.specs.Slots.{entry_of_bit, has_dynamic, is_dynamic, s
 abbrev IsCloser : RibEntry → Type 0
 IsCloser e = is_dynamic e.source ≡ true → e.distance ≤ 110
 
-of_closer : (P : RibEntry → Type 0) (entries : List RibEntry) (best : Option RibEntry) → IfSome best P →
+pub of_closer : (P : RibEntry → Type 0) (entries : List RibEntry) (best : Option RibEntry) → IfSome best P →
     All P entries → IfSome (fold closer best entries) P
 of_closer P [] best here all = here
 of_closer P (e ∷ entries) None here all =

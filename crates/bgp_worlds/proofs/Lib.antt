@@ -1,3 +1,6 @@
 pub mod EntryBit
 pub mod Placed
 pub mod OpenSound
+pub mod SameShapes
+pub mod OpenComplete
+pub mod OpensFit

@@ -1,15 +1,14 @@
 -- What is open of slots and passes the test makes a stable routing.
-use Rattle.std.proofs.Common.{◌≡◌, ℕ, ◌+◌, ◌*◌, ◌/◌, ◌%◌, ◌<◌, ◌≤◌, ◌==◌, ◌&&◌, ◌||◌, ◌⊎◌, inl, inr, not, Bool, true, false}
-use Rattle.std.proofs.Common.{List, [], ◌∷◌, length, map, Option, Some, None, refl, sym, ap, ◌∙◌, subst, arith, is_some}
+use Rattle.std.proofs.Common.{◌≡◌, ℕ, ◌+◌, ◌*◌, ◌/◌, ◌%◌, ◌<◌, ◌==◌, ◌&&◌, ◌||◌, not, Bool, true, false}
+use Rattle.std.proofs.Common.{List, length, Option, Some, None, refl, sym, ap, ◌∙◌, subst, arith, is_some}
 use Rattle.std.specs.Prelude.{All, option_and_then, option_map, slice_get, if◌then◌else◌}
 use Rattle.std.specs.Bool.{beq}
 use Rattle.std.specs.List.{enumerate_from, list_all, range_with_len}
 use Rattle.std.specs.Option.{option_map_or}
-use Rattle.std.proofs.lemmas.Bool.{and_from, and_parts, cases_lt, eq-eqb, false≢true, or_parts}
+use Rattle.std.proofs.lemmas.Bool.{and_from, and_parts, eq-eqb, or_parts}
 use Rattle.std.proofs.lemmas.List.{length-map}
 use Rattle.std.proofs.lemmas.Option.{same_Some, slice_get-map, slice_get_within}
 use Rattle.mw_text.proofs.Lists.{beq-true, item_there}
-use Rattle.mw_text.specs.declared.address.Addr.{Addr}
 use Rattle.mw_text.specs.declared.address.Prefix.{Prefix}
 use Rattle.mw_text.specs.Address.{covers, prefix_at}
 use Rattle.ios_ast.specs.declared.bgp.Bgp.{Bgp}
@@ -20,7 +19,6 @@ use Rattle.route_record.specs.declared.Environment.{Environment}
 use Rattle.route_record.specs.declared.Failures.{Failures}
 use Rattle.route_record.specs.declared.Packet.{Packet}
 use Rattle.route_record.specs.declared.Plan.{Plan}
-use Rattle.route_record.specs.declared.RibEntry.{RibEntry}
 use Rattle.route_record.specs.declared.Slot.{Slot}
 use Rattle.route_record.specs.declared.Tables.{Tables}
 use Rattle.route_record.specs.declared.TheConstants.{LENGTHS}
@@ -31,20 +29,18 @@ use Rattle.net_parts.specs.Entries.{entry_with, own_is_as_good, table_entry}
 use Rattle.net_parts.specs.Stable.{IsStableSlot, Stable, held_ospf}
 use Rattle.net_parts.specs.Tracked.{TracksNet}
 use Rattle.route_shapes.specs.Bgp.{BgpShape, bgp_shape, learnt_number}
-use Rattle.bgp_shapes.specs.Candidates.{ShapeEnvironment, ShapeSlot, shape_candidates, slot_shape, slots_shape}
+use Rattle.bgp_shapes.specs.Candidates.{ShapeEnvironment, ShapeSlot, shape_candidates, slot_shape}
 use Rattle.bgp_shapes.specs.Held.{held_shape}
 use Rattle.plan_places.specs.declared.places.Place.{Place}
 use Rattle.plan_places.specs.Places.{has_place, item_at, place, places_of}
 use Rattle.plan_places.specs.Plans.{lens_of}
 use Rattle.plan_places.specs.Tables.{all_hold, empty_slot}
-use Rattle.slot_places.specs.Rooms.{HasUsed, can_be_used, has_sources, has_subnet, room_among, room_at, room_for, rooms_of}
+use Rattle.slot_places.specs.Rooms.{HasUsed, can_be_used, has_sources, has_subnet, room_among, room_at, rooms_of}
 use Rattle.slot_places.specs.Rooms.{runs_ospf}
-use Rattle.slot_places.specs.Origins.{is_static_at}
 use Rattle.slot_places.proofs.PlaceLaws.{has-in, lens-in, places-in}
 use Rattle.slot_places.proofs.Unused.{empty_stable}
 use Rattle.sym_rib.specs.Sources.{entry_from}
 use Rattle.sym_rib.proofs.TableEntries.{entry_same}
-use Rattle.world_variables.specs.declared.unknowns.Unknown.{Unknown}
 use Rattle.world_variables.specs.Slots.{entry_of_bit, has_dynamic, same_ospf}
 use Rattle.world_variables.proofs.Stability.{same_ospf-is}
 use Rattle.shape_worlds.specs.Worlds.{IsRealWorld, ShapeWorld, environment_of, has_all_marks, is_decided_at, rebuilt_tables}
@@ -53,9 +49,9 @@ use Rattle.shape_worlds.proofs.RealWorlds.{is_real}
 use Rattle.shape_worlds.proofs.Tested.{from_places}
 use Rattle.rebuilt_routes.specs.Deciding.{is_decided_shape}
 use Rattle.bgp_worlds.specs.Opens.{HaveRooms, OpenSlot, empty_shape, is_bgp_wanted, is_igp_wanted, open_shape, opens_hold}
-use Rattle.bgp_worlds.specs.Opens.{place_holds, shape_entry, shape_slot_among, shape_slot_of, shape_world_of}
+use Rattle.bgp_worlds.specs.Opens.{place_holds, shape_slot_among, shape_slot_of, shape_world_of}
 use Rattle.bgp_worlds.proofs.EntryBit.{entry_again}
-use Rattle.bgp_worlds.proofs.Placed.{IsMade, len_at, len_small, made, place_again, place_small, range-at, range-length}
+use Rattle.bgp_worlds.proofs.Placed.{len_at, len_small, made, place_small, range-at, range-length}
 use Rattle.bgp_worlds.proofs.Placed.{router_at, router_small}
 
 not_there : {A : Type 0} (o : Option A) → is_some o ≡ false → o ≡ None

@@ -1,6 +1,6 @@
 -- What is open of the slots at the places of a plan, in a network with BGP: of each its OSPF route, one bit of the source
 -- of its entry, and the shape of its BGP route. And the worlds that follow.
-use Rattle.std.specs.Prelude.{◌≡◌, ℕ, ◌*◌, ◌/◌, ◌%◌, ◌&&◌, ◌||◌, Bool, true, false, not, List, length, map, slice_get}
+use Rattle.std.specs.Prelude.{◌≡◌, All, IfSome, ℕ, ◌*◌, ◌/◌, ◌%◌, ◌&&◌, ◌||◌, Bool, true, false, not, List, length, map, slice_get}
 use Rattle.std.specs.Prelude.{Option, Some, None, option_and_then, option_map, unwrap_or, if◌then◌else◌}
 use Rattle.std.specs.List.{range_with_len}
 use Rattle.std.specs.Option.{option_map_or}
@@ -16,6 +16,7 @@ use Rattle.route_record.specs.declared.Slot.{Slot}
 use Rattle.route_record.specs.declared.Tables.{Tables}
 use Rattle.route_record.specs.declared.TheConstants.{LENGTHS}
 use Rattle.route_record.specs.declared.tracked.Tracked.{Tracked}
+use Rattle.route_record.specs.Fits.{FitsOspf}
 use Rattle.route_record.specs.Places.{slot_at}
 use Rattle.route_shapes.specs.Bgp.{BgpShape, bgp_shape}
 use Rattle.bgp_shapes.specs.Candidates.{ShapeEnvironment, ShapeSlot}
@@ -26,7 +27,9 @@ use Rattle.slot_places.specs.Rooms.{can_be_used, room_for}
 use Rattle.sym_rib.specs.Sources.{entry_from}
 use Rattle.world_variables.specs.declared.unknowns.Unknown.{Unknown}
 use Rattle.world_variables.specs.Slots.{entry_of_bit, is_wanted, unknown_of}
+use Rattle.world_variables.specs.Worlds.{FitsDistance}
 use Rattle.rebuilt_routes.specs.Deciding.{is_decided_shape}
+use Rattle.rebuilt_routes.specs.Words.{HasWordNumbers, HasWordValues}
 use Rattle.shape_worlds.specs.Worlds.{ShapeWorld, has_all_marks, may_be_announced, rebuilt_tables, slots_for}
 
 pub record OpenSlot : Type 0 where
@@ -110,6 +113,14 @@ abbrev pub HaveRooms : List File → Prefix → List Place → List OpenSlot →
 HaveRooms files destinations places opens =
     (router len : ℕ) (o : OpenSlot) → item_at places opens router len ≡ Some o →
     room_for files destinations router len ≡ None → o.unknown.ospf ≡ None
+
+-- the numbers of what is open fit their fields, and so do the distances of static routes and the values that lines of the
+-- files bring into the lists of BGP routes
+pub record FitOpens (tracked : Tracked) (files : List File) (opens : List OpenSlot) : Type 0 where
+  pub ospf : All (λ o. IfSome o.unknown.ospf FitsOspf) opens
+  pub bgp : All (λ o. IfSome o.bgp HasWordNumbers) opens
+  pub distances : (router : ℕ) (file : File) → slice_get files router ≡ Some file → All FitsDistance file.statics
+  pub values : HasWordValues tracked files
 
 -- ---- what is open of slots that are known
 

@@ -1,5 +1,5 @@
 -- Small networks, and the routes that go over them.
-use Rattle.std.specs.Prelude.{ℕ, true, false, List, [], ◌∷◌, ◌++◌, codes, replicate, Option, Some, None}
+use Rattle.std.specs.Prelude.{ℕ, Bool, true, false, List, [], ◌∷◌, ◌++◌, codes, replicate, Option, Some, None}
 use Rattle.mw_text.specs.declared.address.Addr.{Addr}
 use Rattle.mw_text.specs.declared.address.Prefix.{Prefix}
 use Rattle.ios_ast.specs.declared.bgp.Bgp.{Bgp}
@@ -28,6 +28,7 @@ use Rattle.route_record.specs.declared.RibSource.TheVariants as source
 use Rattle.route_record.specs.declared.Slot.{Slot}
 use Rattle.route_record.specs.declared.Tables.{Tables}
 use Rattle.net_parts.specs.Decisions.{Candidate}
+use Rattle.route_shapes.specs.Shapes.{PathShape}
 
 abbrev pub address : ℕ → Addr
 address a = record { 0 = a }
@@ -330,3 +331,7 @@ depot =
         } ∷ [];
       };
     } ∷ []
+
+-- the shape of a path of that length, with its first and its last number and the marks of the tracked numbers
+abbrev pub path_shape : ℕ → ℕ → ℕ → List Bool → PathShape
+path_shape len first last numbers = record { len = len; first = first; last = last; numbers = numbers }

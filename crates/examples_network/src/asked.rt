@@ -6,6 +6,7 @@ use crate::lists::{show_mapped, show_permitted};
 use crate::page::Page;
 use crate::protocols::{show_of_network, show_offer, show_preferred, show_survivors};
 use crate::reading::{read_outcome, show_asked, show_outcome, show_read};
+use crate::rebuilding::show_rebuilt;
 use crate::setup::Setup;
 use crate::shown_network::{show_network, show_why};
 use ios_ast::File;
@@ -25,6 +26,7 @@ fn answer_by_network(out: &mut Page, net: &Net, setup: &Setup, word: &str, order
     match word {
         "net" => show_network(out, net),
         "cex" => show_again(out, net, setup.questions.as_slice(), order),
+        "rebuild" => show_rebuilt(out, net, setup.questions.as_slice(), order),
         _ => show_of_network(out, net, setup, word, order),
     }
 }

@@ -5,14 +5,16 @@ use cex_json::{CexRefused, Counterexample, read_cex, write_cex};
 use net_model::Net;
 use question_lang::Question;
 
-fn show_written(out: &mut Page, net: &Net, questions: &[Question], cex: &Counterexample) {
+/// The text of a counterexample.
+pub fn show_written(out: &mut Page, net: &Net, questions: &[Question], cex: &Counterexample) {
     match write_cex(out.alloc(), net, questions, cex) {
         Ok(written) => out.bytes(" ", written.as_slice()),
         Err(wanting) => out.note(Err(wanting)),
     }
 }
 
-fn show_refused(out: &mut Page, refused: &CexRefused) {
+/// Why a text is refused.
+pub fn show_refused(out: &mut Page, refused: &CexRefused) {
     match refused {
         CexRefused::NotJson => out.put(" NotJson"),
         CexRefused::Field { path } => out.bytes(" Field ", path.as_slice()),

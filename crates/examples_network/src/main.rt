@@ -18,6 +18,7 @@ mod lists;
 mod page;
 mod protocols;
 mod reading;
+mod rebuilding;
 mod routes;
 mod setup;
 mod shown;

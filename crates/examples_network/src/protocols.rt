@@ -3,7 +3,7 @@
 
 use crate::page::Page;
 use crate::routes::{
-    held, message, ospf_record, show_entry, show_ospf_record, show_route, show_sent,
+    held, held_with, message, ospf_record, show_entry, show_ospf_record, show_route, show_sent,
 };
 use crate::setup::Setup;
 use crate::words::{address, cut, number, prefix};
@@ -143,7 +143,7 @@ fn show_export(out: &mut Page, net: &Net, order: &str) {
     if end as usize >= net.ends().len() {
         return out.put(" no end");
     }
-    let (rec, _) = held(out, route);
+    let rec = held_with(out, route);
     match export(out.alloc(), net, end, &announced(), &rec) {
         Ok(None) => out.put(" none"),
         Ok(Some(sent)) => show_sent(out, &sent),

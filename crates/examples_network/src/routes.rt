@@ -48,30 +48,94 @@ pub fn carried(out: &mut Page, text: &str) -> MapRec {
     MapRec { bgp, type1: false }
 }
 
-/// `LENGTH AS PEER`, and what follows them: a route that was learnt from a peer.
+/// `LENGTH AS PEER`, and what follows them: a route that was learnt from a peer, or with `local` in its place a local one.
 pub fn held<'a>(out: &mut Page, text: &'a str) -> (BgpRec, &'a str) {
     let (len, rest) = cut(text);
     let (asn, rest) = cut(rest);
     let (from, rest) = cut(rest);
     let path = path_of(out, number(len), number(asn));
-    let from = address(from);
-    (plain(out, Learnt::Peer(from), from, path), rest)
+    let learnt = if from == "local" {
+        Learnt::Local
+    } else {
+        Learnt::Peer(address(from))
+    };
+    (plain(out, learnt, address(from), path), rest)
 }
 
-/// `LENGTH AS NEXT-HOP ORIGINATOR`. An originator that is no address is none.
+/// What may follow a route or a message, in pairs of words: `communities N,N`, `clusters A,A`, `originator A` and `med N`.
+#[derive(Drop)]
+pub struct Others {
+    communities: List<u32>,
+    clusters: List<Addr>,
+    originator: Option<Addr>,
+    med: Option<u32>,
+}
+
+/// Addresses with commas between them.
+fn addresses(out: &mut Page, text: &str) -> List<Addr> {
+    let mut all = out.none();
+    for word in text.split(',') {
+        out.add(&mut all, address(word));
+    }
+    all
+}
+
+fn put_other(out: &mut Page, made: &mut Others, key: &str, word: &str) {
+    match key {
+        "communities" => made.communities = numbers(out, word),
+        "clusters" => made.clusters = addresses(out, word),
+        "originator" => made.originator = Some(address(word)),
+        _ => made.med = Some(number(word)),
+    }
+}
+
+fn others_in(out: &mut Page, text: &str) -> Others {
+    let mut made = Others {
+        communities: out.none(),
+        clusters: out.none(),
+        originator: None,
+        med: None,
+    };
+    let mut key = "";
+    for word in text.split(' ') {
+        if key == "" {
+            key = word;
+        } else {
+            put_other(out, &mut made, key, word);
+            key = "";
+        }
+    }
+    made
+}
+
+/// `LENGTH AS PEER OTHERS`: a route with these communities, clusters, originator and MED.
+pub fn held_with(out: &mut Page, text: &str) -> BgpRec {
+    let (mut rec, rest) = held(out, text);
+    let more = others_in(out, rest);
+    rec.communities = more.communities;
+    rec.clusters = more.clusters;
+    rec.originator = more.originator;
+    rec.med = more.med.unwrap_or(0);
+    rec
+}
+
+/// `LENGTH AS NEXT-HOP ORIGINATOR OTHERS`. An originator that is no address is none.
 pub fn message(out: &mut Page, text: &str) -> BgpMsg {
     let (len, rest) = cut(text);
     let (asn, rest) = cut(rest);
-    let (next_hop, originator) = cut(rest);
+    let (next_hop, rest) = cut(rest);
+    let (originator, rest) = cut(rest);
+    let path = path_of(out, number(len), number(asn));
+    let more = others_in(out, rest);
     BgpMsg {
         local_pref: None,
-        path: path_of(out, number(len), number(asn)),
+        path,
         origin: Origin::Igp,
-        med: None,
-        communities: out.none(),
+        med: more.med,
+        communities: more.communities,
         next_hop: address(next_hop),
         originator: read_addr(originator.as_bytes()),
-        clusters: out.none(),
+        clusters: more.clusters,
     }
 }
 
@@ -124,21 +188,58 @@ fn show_from(out: &mut Page, from: Learnt) {
     }
 }
 
-/// A BGP route: where it came from, its numbers and the length of its path.
+/// A path by its length, and by its numbers where it has two to eight.
+fn show_path(out: &mut Page, path: &[u32]) {
+    out.place(" path of ", path.len() as u64);
+    if path.len() > 1 && path.len() < 9 {
+        for asn in path {
+            out.number(" ", *asn);
+        }
+    }
+}
+
+/// Communities, originator and clusters, each where there are any.
+fn show_others(out: &mut Page, communities: &[u32], originator: Option<Addr>, clusters: &[Addr]) {
+    if communities.len() > 0 {
+        out.put(" communities");
+        out.numbers(communities);
+    }
+    if let Some(originator) = originator {
+        out.address(" originator ", originator)
+    }
+    for cluster in clusters {
+        out.address(" cluster ", *cluster);
+    }
+}
+
+/// A BGP route: where it came from, its numbers, its path, and what else it has.
 pub fn show_route(out: &mut Page, rec: &BgpRec) {
     show_from(out, rec.from);
     out.number(" weight ", rec.weight);
     out.number(" preference ", rec.local_pref);
     out.put(origin_name(rec.origin));
     out.number(" med ", rec.med);
-    out.place(" path of ", rec.path.as_slice().len() as u64);
-    out.address(" next hop ", rec.next_hop)
+    show_path(out, rec.path.as_slice());
+    out.address(" next hop ", rec.next_hop);
+    show_others(
+        out,
+        rec.communities.as_slice(),
+        rec.originator,
+        rec.clusters.as_slice(),
+    )
 }
 
 /// What is sent of a route.
 pub fn show_sent(out: &mut Page, sent: &BgpMsg) {
-    out.place(" path of ", sent.path.as_slice().len() as u64);
-    out.address(" next hop ", sent.next_hop)
+    show_path(out, sent.path.as_slice());
+    out.address(" next hop ", sent.next_hop);
+    out.number_if(" med ", sent.med);
+    show_others(
+        out,
+        sent.communities.as_slice(),
+        sent.originator,
+        sent.clusters.as_slice(),
+    )
 }
 
 fn kind_name(kind: OspfKind) -> &'static str {

@@ -3,6 +3,7 @@
 use crate::nodes::{broken, distances, permitted, session};
 use crate::page::Page;
 use crate::routes::{best, entry, mapped, originated, redistributed, resolved, transferred};
+use crate::sessions::{sent, survives, taken};
 use crate::setup::{Setup, policies};
 use crate::values::{found_of, number_at, show_ospf, value_of};
 use net_model::Net;
@@ -169,6 +170,68 @@ fn ask_redistributed(out: &mut Page, net: &Net, order: &str) -> Result<(), Alloc
     Ok(())
 }
 
+/// What is read of a message: its path, its next hop, its numbers and its addresses.
+fn show_message(out: &mut Page, found: &[bool], bgp: &SymBgp) {
+    if !value_of(found, bgp.valid) {
+        return out.put(" none");
+    }
+    out.number(" path of ", number_at(found, &bgp.len));
+    out.number(" first ", number_at(found, &bgp.first));
+    out.number(" last ", number_at(found, &bgp.last));
+    out.number(" next hop ", number_at(found, &bgp.next_hop));
+    out.number(" preference ", number_at(found, &bgp.local_pref));
+    out.number(" weight ", number_at(found, &bgp.weight));
+    out.number(" med ", number_at(found, &bgp.med));
+    out.number(" from ", number_at(found, &bgp.from))
+}
+
+/// `END LENGTH WORDS`: what is sent or taken over a session; of `exporting` and `importing` how many nodes it takes beside
+/// the variables.
+fn ask_session(out: &mut Page, net: &Net, word: &str, order: &str) -> Result<(), AllocError> {
+    let (end, rest) = cut(order);
+    let (len, words) = cut(rest);
+    let mut terms = Terms::new(out.alloc());
+    let len = number(len).min(32) as u8;
+    let made = match word {
+        "sent" | "exporting" => sent(out.alloc(), &mut terms, net, number(end), len)?,
+        _ => taken(out.alloc(), &mut terms, net, number(end), len)?,
+    };
+    if word == "exporting" || word == "importing" {
+        out.number(" ", terms.len().saturating_sub(terms.vars()));
+        return Ok(());
+    }
+    let found = found_of(out.alloc(), &terms, words)?;
+    if let Some(bgp) = &made {
+        show_message(out, found.as_slice(), bgp)
+    }
+    Ok(())
+}
+
+/// `MEDS IDENTIFIERS COUNT WORDS`: whether a route survives among so many candidates, where MEDs are always compared or
+/// not, and identifiers or not; of `deciding` how many nodes that takes beside the variables.
+fn ask_survives(out: &mut Page, net: &Net, word: &str, order: &str) -> Result<(), AllocError> {
+    let (meds, rest) = cut(order);
+    let (identifiers, rest) = cut(rest);
+    let (count, words) = cut(rest);
+    let mut terms = Terms::new(out.alloc());
+    let made = survives(
+        out.alloc(),
+        &mut terms,
+        net,
+        meds == "always",
+        identifiers == "identifiers",
+        number(count),
+    )?;
+    if word == "deciding" {
+        out.number(" ", terms.len().saturating_sub(terms.vars()));
+        return Ok(());
+    }
+    match made {
+        Some(node) => show_node(out, &terms, node, words),
+        None => Ok(()),
+    }
+}
+
 fn answer(
     out: &mut Page,
     setup: &Setup,
@@ -181,6 +244,8 @@ fn answer(
         "entry" => ask_entry(out, net, order),
         "originated" => ask_originated(out, net, order),
         "redistributed" => ask_redistributed(out, net, order),
+        "sent" | "taken" | "exporting" | "importing" => ask_session(out, net, word, order),
+        "survives" | "deciding" => ask_survives(out, net, word, order),
         "best" | "transferred" | "resolved" => ask_ospf(out, net, word, order),
         _ => ask_node(out, setup, net, word, order),
     }

@@ -14,6 +14,7 @@ mod nodes;
 mod page;
 mod routes;
 mod rows;
+mod sessions;
 mod setup;
 mod values;
 

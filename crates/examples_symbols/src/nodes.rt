@@ -1,8 +1,8 @@
 //! The calls that make one node: lists, interior distances, sessions and walks.
 
-ghost use Rattle.std.specs.Prelude.{◌≤◌, IfOk};
+ghost use Rattle.std.specs.Prelude.{◌≡◌, ◌*◌, ◌≤◌, IfOk, length};
 ghost use Rattle.term_store.specs.Terms.{size};
-ghost use Rattle.sym_walk.specs.Whole.{whole_end};
+ghost use Rattle.sym_walk.specs.Whole.{HasSlots, whole_end};
 
 use crate::fresh::fresh_packet;
 use crate::rows::{fresh_links, fresh_net, has_rows};
@@ -72,9 +72,10 @@ pub fn session(
     Ok(Some(sym_session_up(alloc, terms, net, &sym, end)?))
 }
 
-/// A packet and failed links, where no router has learnt a route.
+/// A packet and failed links, where no slice stands at any length, so that no router has learnt a route.
 fn fresh_world(alloc: Global, terms: &mut Terms, net: &Net) -> Result<SymWorld, AllocError>
-    ensures { IfOk result (λ r. whole_end r ≤ size terms.new) }
+    ensures nodes { IfOk result (λ r. whole_end r ≤ size terms.new) }
+    ensures slots { IfOk result (λ r. HasSlots net.now.files r) }
 {
     let packet = fresh_packet(alloc, terms)?;
     let down = fresh_links(alloc, terms, net)?;

@@ -29,13 +29,14 @@ fn has_marks(tracked: &Tracked, rec: &SymMapRec) -> bool
         && rec.bgp.communities.nodes.as_slice().len() == tracked.communities.as_slice().len()
 }
 
-/// Whether the route has a node for each number and community that is tracked in the network.
+/// Whether the route has a node for each number, community and cluster that is tracked in the network.
 fn has_tracked(net: &Net, bgp: &SymBgp) -> bool
     ensures { result ≡ true → HasTracked net.now.tracked bgp.now }
 {
     let tracked = net.tracked();
     bgp.numbers.nodes.as_slice().len() == tracked.numbers.as_slice().len()
         && bgp.communities.nodes.as_slice().len() == tracked.communities.as_slice().len()
+        && bgp.clusters.nodes.as_slice().len() == tracked.clusters.as_slice().len()
 }
 
 /// What an external neighbour's map makes of a route to the prefix of length 16 of an address: first the variables of

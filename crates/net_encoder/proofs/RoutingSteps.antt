@@ -1,9 +1,8 @@
 -- Ranges of ports, and how many links fail.
-use Rattle.std.proofs.Common.{◌≡◌, ℕ, suc, ◌+◌, Bool, true, false, not, List, [], ◌∷◌, length, refl, ap, sym}
+use Rattle.std.proofs.Common.{◌≡◌, ℕ, suc, ◌+◌, ◌*◌, ◌≤◌, Bool, true, false, not, List, [], ◌∷◌, length, refl, ap, sym}
 use Rattle.std.proofs.Common.{◌&&◌, ap₂, arith, subst, ◌∙◌}
 use Rattle.std.specs.Prelude.{cond, nat_le, nat_lt, if◌then◌else◌}
 use Rattle.std.specs.List.{count_by}
-use Rattle.std.proofs.lemmas.Bool.Decides.{nat_tests}
 use Rattle.std.proofs.lemmas.List.Sums.{sum_by-cons}
 use Rattle.ios_ast.specs.declared.file.File.{File}
 use Rattle.route_record.specs.declared.World.{World}
@@ -14,8 +13,14 @@ use Rattle.term_arith.specs.Bits.{bits}
 use Rattle.term_arith.proofs.CountLemmas.{not_more}
 use Rattle.sym_policy.specs.Held.{positions}
 use Rattle.world_variables.specs.Packets.{is_in_set}
-use Rattle.world_variables.specs.Slots.{all_hold, slots_of}
-use Rattle.world_variables.specs.Unknowns.{Unknown}
+use Rattle.route_record.specs.declared.Plan.{Plan}
+use Rattle.route_record.specs.declared.TheConstants.{LENGTHS}
+use Rattle.route_record.specs.declared.tracked.Tracked.{Tracked}
+use Rattle.term_store.specs.Terms.{Store}
+use Rattle.world_variables.specs.declared.unknowns.Unknown.{Unknown}
+use Rattle.world_variables.specs.Slots.{are_wanted}
+use Rattle.net_encoder.specs.declared.unknowns.OpenWorld.{OpenWorld}
+use Rattle.net_encoder.specs.Opened.{StandsIn}
 use Rattle.world_variables.specs.Worlds.{is_routing, opens_from, world_from}
 
 -- a number that is not below another is at least it, and one that is not above it at most
@@ -40,27 +45,25 @@ counted w (id ∷ ids) first =
 pub as_many_fail : (w : Reading) (ids : List NodeId) → length (positions 0 (bits w ids)) ≡ count_by (at w) ids
 as_many_fail w ids = counted w ids 0
 
--- the slots of the world are those that follow from what is open
-pub slots_are : (files : List File) (question : Question) (v : ℕ → Bool) (from : ℕ) (world : World)
-    (us : List Unknown) →
-    us ≡ opens_from files question v from → world ≡ world_from files question v from →
-    world.tables.slots ≡ slots_of files world.failures world.packet.dst 0 us
-unfolding world_from
-slots_are files question v from world us opens same =
-    let P : World → Type 0 = λ x. x.tables.slots ≡ slots_of files x.failures x.packet.dst 0 us in
-    let whole = world_from files question v from in
-    subst P (sym same) (ap (λ xs. slots_of files whole.failures whole.packet.dst 0 xs) (sym opens))
+-- a world that stands in a store has a slot for each place of its frame
+pub stands_long : (files : List File) (question : Question) (tracked : Tracked) (t : Store) (made : OpenWorld) →
+    StandsIn files question tracked t made → (length made.frame.lens.items ≤ LENGTHS)
+    × (length made.world.slots ≡ length files * length made.frame.lens.items)
+stands_long files question tracked t made stands =
+    (stands.frame.few, stands.slots ∙ ap (λ ls. length files * length ls) (sym stands.lens))
 
 -- the test of a routing by its three parts
-pub routing_is : (files : List File) (question : Question) (v : ℕ → Bool) (from : ℕ) (world : World) (us : List Unknown)
-    (a b c : Bool) → us ≡ opens_from files question v from → world ≡ world_from files question v from →
+pub routing_is : (files : List File) (question : Question) (plan : Plan) (v : ℕ → Bool) (from : ℕ) (world : World)
+    (us : List Unknown) (a b c : Bool) → us ≡ opens_from files question plan v from →
+    world ≡ world_from files question plan v from →
     a ≡ is_in_set question.packets world.packet → b ≡ nat_le (length world.failures.links) question.failures →
-    c ≡ all_hold files world.failures world.packet.dst world.tables 0 us →
-    (a && (b && c)) ≡ is_routing files question v from
+    c ≡ are_wanted files question.packets.dst plan world.failures world.packet.dst world.tables us →
+    (a && (b && c)) ≡ is_routing files question plan v from
 unfolding is_routing
-routing_is files question v from world us a b c opens same in_set few hold =
+routing_is files question plan v from world us a b c opens same in_set few hold =
     let P : World → Type 0 = λ x. (a && (b && c)) ≡ (is_in_set question.packets x.packet
     && (nat_le (length x.failures.links) question.failures
-    && all_hold files x.failures x.packet.dst x.tables 0 (opens_from files question v from))) in
+    && are_wanted files question.packets.dst plan x.failures x.packet.dst x.tables
+    (opens_from files question plan v from))) in
     subst P same (ap₂ (λ x y. x && y) in_set (ap₂ (λ x y. x && y) few
-    (hold ∙ ap (all_hold files world.failures world.packet.dst world.tables 0) opens)))
+    (hold ∙ ap (are_wanted files question.packets.dst plan world.failures world.packet.dst world.tables) opens)))

@@ -1,9 +1,10 @@
+pub mod Frames
 pub mod Opened
+pub mod Encoded
 pub use Rattle.failed_links.specs.Rows
 pub use Rattle.failed_links.specs.Failures
 pub use Rattle.world_variables.specs.Packets
 pub use Rattle.world_variables.specs.Unknowns
-pub use Rattle.world_variables.specs.Rooms
 pub use Rattle.world_variables.specs.Slots
 pub use Rattle.world_variables.specs.Worlds
 pub use Rattle.world_variables.specs.Symbols

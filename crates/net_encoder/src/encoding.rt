@@ -1,17 +1,14 @@
 //! A question about a network as a formula: its solutions are the routings that break the question.
 
-ghost use Rattle.std.specs.Prelude.{◌≡◌, ℕ, ◌<◌, ◌^◌, All, ◌+◌, Bool, IfOk, OnOk, List as ListOf, Option as OptionOf, true};
-ghost use Rattle.question_lang.specs.declared.walk.Walk.{Walk as WalkOf};
-ghost use Rattle.route_record.specs.declared.Environment.{Environment as EnvironmentOf};
-ghost use Rattle.route_record.specs.declared.World.{World as WorldOf};
+ghost use Rattle.std.specs.Prelude.{◌≡◌, ℕ, ◌<◌, ◌^◌, All, ◌+◌, IfOk, true};
+ghost use Rattle.net_encoder.specs.Encoded.{IsEncoding};
 ghost use Rattle.net_encoder.specs.Opened.{IsRoot, ReadsAs, StandsIn};
 ghost use Rattle.sym_walk.specs.Whole.{whole_of};
-ghost use Rattle.question_lang.specs.Breaking.{IsBreaking};
 ghost use Rattle.world_variables.specs.Packets.{FitsSet};
 ghost use Rattle.world_variables.specs.Slots.{runs_no_bgp};
-ghost use Rattle.world_variables.specs.Worlds.{FitsDistance, no_environment, world_bits, world_from, world_width};
-ghost use Rattle.term_store.specs.Terms.{Reading, size, truth, value_of};
-ghost use Rattle.term_store.specs.Reading.{Reads, Builds, Gives};
+ghost use Rattle.world_variables.specs.Worlds.{FitsDistance, HaveWords, world_from, world_width};
+ghost use Rattle.term_store.specs.Terms.{size};
+ghost use Rattle.term_store.specs.Reading.{Builds, Gives};
 
 use crate::routing::sym_routing;
 use crate::unknowns::{OpenWorld, open_world};
@@ -72,7 +69,9 @@ fn all_distances_fit(files: &[File])
 }
 
 // A plan of the same lengths.
-fn copied(alloc: Global, plan: &Plan) -> Result<Plan, AllocError> {
+fn copied(alloc: Global, plan: &Plan) -> Result<Plan, AllocError>
+    ensures { IfOk result (λ p. p ≡ plan.now) }
+{
     let class = Vec::from_slice(alloc, plan.class.as_slice())?;
     let slices = Vec::from_slice(alloc, plan.slices.as_slice())?;
     Ok(Plan {
@@ -87,16 +86,16 @@ fn root_of(
     terms: &mut Terms,
     net: &Net,
     question: &Question,
-    open: &OpenWorld,
+    made: &OpenWorld,
 ) -> Result<NodeId, AllocError>
-    requires stands { StandsIn net.now.files net.now.tracked terms.old open.now }
+    requires stands { StandsIn net.now.files question.now net.now.tracked terms.old made.now }
     ensures builds { Builds terms.old terms.new }
     ensures within { IfOk result (λ r. r.0 < size terms.new) }
-    ensures value { Gives terms.new result (λ w r. (from : ℕ) → ReadsAs net.now.files question.now from w open.now →
-        IsRoot net.now.files question.now from w r) }
+    ensures value { Gives terms.new result (λ w r. (from : ℕ) → ReadsAs net.now.files question.now from w made.now →
+        IsRoot net.now.files question.now made.now.world.plan from w r) }
 {
-    let routing = sym_routing(alloc, terms, net, question, open)?;
-    let broken = sym_breaks(alloc, terms, net, question, &open.world)?;
+    let routing = sym_routing(alloc, terms, net, question, made)?;
+    let broken = sym_breaks(alloc, terms, net, question, &made.world)?;
     let root = both(terms, routing, broken)?;
     Ok(root)
 }
@@ -117,22 +116,26 @@ fn root_over_new(
     plan: Plan,
 ) -> Result<Rooted, AllocError>
     ensures root { IfOk result (λ r. r.root.0 < size terms.new) }
-    ensures vars { OnOk result (terms.new.vars ≡ terms.old.vars + world_width net.now.files question.now) }
-    ensures world { Gives terms.new result (λ w r. whole_of w r.world
-        ≡ world_from net.now.files question.now w.variable terms.old.vars) }
-    ensures value { Gives terms.new result (λ w r. IsRoot net.now.files question.now terms.old.vars w r.root) }
+    ensures plan { IfOk result (λ r. r.world.plan ≡ plan) }
+    ensures metrics { IfOk result (λ r. HaveWords net.now.files question.now) }
+    ensures vars { IfOk result (λ r. terms.new.vars
+        ≡ terms.old.vars + world_width net.now.files question.now r.world.plan) }
+    ensures world { Gives terms.new result (λ w r. whole_of w net.now.files r.world
+        ≡ world_from net.now.files question.now r.world.plan w.variable terms.old.vars) }
+    ensures value { Gives terms.new result (λ w r. IsRoot net.now.files question.now r.world.plan terms.old.vars w r.root) }
 {
-    let open = open_world(alloc, terms, net, question, plan)?;
-    let root = root_of(alloc, terms, net, question, &open)?;
+    let made = open_world(alloc, terms, net, question, plan)?;
+    let root = root_of(alloc, terms, net, question, &made)?;
     Ok(Rooted {
         root,
-        world: open.world,
+        world: made.world,
     })
 }
 
-/// A question about a network without BGP as a formula. The root is true under exactly those values of the variables
-/// whose world is a stable routing that breaks the question: whatever values make it true, their world breaks it
-/// (`sound`); and where a routing breaks the question its own bits make it true (`complete`).
+/// A question about a network without BGP as a formula, over the places of a plan. The root is true under exactly those
+/// values of the variables whose world is a stable routing that breaks the question, for each plan that has a slice at each
+/// length at which something can stand: whatever values make it true, their world breaks it; and where a routing breaks the
+/// question its own bits make it true.
 pub fn encode(
     alloc: Global,
     net: &Net,
@@ -140,16 +143,8 @@ pub fn encode(
     plan: &Plan,
 ) -> Result<Encoding, AllocError>
     requires no_bgp { runs_no_bgp net.now.files ≡ true }
-    ensures root { IfOk result (λ e. e.root.0 < size e.terms) }
-    ensures vars { IfOk result (λ e. e.terms.vars ≡ world_width net.now.files question.now) }
-    ensures world { IfOk result (λ e. (w : Reading) → Reads w e.terms → whole_of w e.world
-        ≡ world_from net.now.files question.now w.variable 0) }
-    ensures sound { IfOk result (λ e. (valuation : ListOf Bool) →
-        value_of e.terms.nodes valuation e.root.0 ≡ true → (walk : OptionOf WalkOf) × IsBreaking net.now.files question.now
-        (world_from net.now.files question.now (truth valuation) 0) no_environment walk) }
-    ensures complete { IfOk result (λ e. (world : WorldOf) (environment : EnvironmentOf) (walk : OptionOf WalkOf) →
-        IsBreaking net.now.files question.now world environment walk →
-        value_of e.terms.nodes (world_bits net.now.files question.now world) e.root.0 ≡ true) }
+    ensures plan { IfOk result (λ e. e.world.plan ≡ plan.now) }
+    ensures encoding { IfOk result (IsEncoding net.now.files question.now) }
 {
     let lengths = copied(alloc, plan)?;
     let mut terms = Terms::new(alloc);

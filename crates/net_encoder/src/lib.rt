@@ -2,11 +2,11 @@
 #![tactic(auto)]
 
 mod encoding;
+mod frame;
 mod routing;
 mod slots;
-mod tables;
 mod unknowns;
 
 pub use encoding::{Encoding, encode};
 pub use ospf_equations::is_meshed;
-pub use world_variables::{decode, decoding, laws};
+pub use world_variables::laws;

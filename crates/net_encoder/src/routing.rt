@@ -1,13 +1,18 @@
 //! Whether a world is a routing of a question, as a term: its packet is in the set, no more links fail than may, and its
 //! tables are stable.
 
-ghost use Rattle.std.specs.Prelude.{◌≡◌, ℕ, ◌≤◌, ◌<◌, ◌==◌, ◌&&◌, ◌||◌, not, nat_le, IfOk, length};
+ghost use Rattle.std.specs.Prelude.{◌≡◌, ℕ, ◌*◌, ◌≤◌, ◌<◌, ◌==◌, ◌&&◌, ◌||◌, not, nat_le, IfOk, length, map};
+ghost use Rattle.route_record.specs.declared.TheConstants as constants;
 ghost use Rattle.net_encoder.specs.Opened.{ReadsAs, StandsIn};
+ghost use Rattle.plan_places.specs.Tables.{all_hold};
 ghost use Rattle.sym_policy.specs.Held.{failures_of};
-ghost use Rattle.sym_policy.specs.Records.{packet_end};
+ghost use Rattle.sym_policy.specs.Records.{address_of, packet_end};
 ghost use Rattle.sym_policy.specs.Packets.{packet_of};
+ghost use Rattle.sym_walk.specs.Whole.{whole_of};
 ghost use Rattle.world_variables.specs.Packets.{is_in_set, is_portless};
-ghost use Rattle.world_variables.specs.Worlds.{is_routing};
+ghost use Rattle.world_variables.specs.Slots.{slot_holds};
+ghost use Rattle.world_variables.specs.Symbols.{open_of};
+ghost use Rattle.world_variables.specs.Worlds.{is_routing, places_in};
 ghost use Rattle.term_store.specs.Terms.{at, size};
 ghost use Rattle.term_store.specs.Reading.{Builds, Gives};
 ghost use Rattle.term_arith.specs.Bits.{number, ids_end};
@@ -19,6 +24,7 @@ use ospf_equations::limits_of;
 use question_lang::{PacketSet, Question};
 use std::alloc::{AllocError, Global};
 use sym_policy::{SymNet, SymPacket};
+use sym_rib::SymTables;
 use term_arith::gates::{both, either, negate};
 use term_arith::{Bits, at_most, constant, equal_number, less};
 use term_store::{NodeId, Terms};
@@ -101,6 +107,56 @@ fn sym_few_fail(
     at_most(alloc, terms, sym.down.as_slice(), most)
 }
 
+// The slots of a world, where they stand.
+fn tables_of<'a>(net: &Net, made: &'a OpenWorld) -> SymTables<'a>
+    requires few { length made.now.frame.lens.items ≤ constants.LENGTHS }
+    requires long { length made.now.world.slots ≡ length net.now.files * length made.now.frame.lens.items }
+    ensures lens { result.lens.now ≡ made.now.frame.lens.items }
+    ensures routers { result.routers ≡ length net.now.files }
+    ensures slots { result.slots.now ≡ made.now.world.slots }
+{
+    let routers = net.routers();
+    SymTables {
+        lens: made.frame.lens.as_slice(),
+        routers: routers.len() as u32,
+        slots: made.world.slots.as_slice(),
+    }
+}
+
+// Whether the tables of a world are a stable routing.
+#[tactic(auto, using(crate::proofs::RoutingSteps::stands_long))]
+fn sym_stable(
+    alloc: Global,
+    terms: &mut Terms,
+    net: &Net,
+    question: &Question,
+    made: &OpenWorld,
+) -> Result<NodeId, AllocError>
+    requires stands { StandsIn net.now.files question.now net.now.tracked terms.old made.now }
+    ensures builds { Builds terms.old terms.new }
+    ensures within { IfOk result (λ r. r.0 < size terms.new) }
+    ensures value { Gives terms.new result (λ w r. (from : ℕ) → ReadsAs net.now.files question.now from w made.now →
+        at w r ≡ all_hold (slot_holds net.now.files question.now.packets.dst (failures_of w made.now.world.net)
+        (address_of w made.now.world.packet.dst) (whole_of w net.now.files made.now.world).tables)
+        (places_in net.now.files made.now.world.plan) (map (open_of w) made.now.parts)) }
+{
+    let world = &made.world;
+    let tables = tables_of(net, made);
+    let limits = limits_of(alloc, net, question.failures)?;
+    let hold = sym_all_hold(
+        alloc,
+        terms,
+        net,
+        &world.net,
+        &tables,
+        &world.packet.dst,
+        &made.frame,
+        made.parts.as_slice(),
+        limits.as_slice(),
+    )?;
+    Ok(hold)
+}
+
 /// Whether the values of a question's variables are a routing of it.
 pub fn sym_routing(
     alloc: Global,
@@ -109,27 +165,16 @@ pub fn sym_routing(
     question: &Question,
     made: &OpenWorld,
 ) -> Result<NodeId, AllocError>
-    requires stands { StandsIn net.now.files net.now.tracked terms.old made.now }
+    requires stands { StandsIn net.now.files question.now net.now.tracked terms.old made.now }
     ensures builds { Builds terms.old terms.new }
     ensures within { IfOk result (λ r. r.0 < size terms.new) }
     ensures value { Gives terms.new result (λ w r. (from : ℕ) → ReadsAs net.now.files question.now from w made.now →
-        at w r ≡ is_routing net.now.files question.now w.variable from) }
+        at w r ≡ is_routing net.now.files question.now made.now.world.plan w.variable from) }
 {
-    let _routers = net.routers();
     let world = &made.world;
+    let hold = sym_stable(alloc, terms, net, question, made)?;
     let in_set = sym_in_set(alloc, terms, &question.packets, &world.packet)?;
     let few = sym_few_fail(alloc, terms, &world.net, question.failures)?;
-    let limits = limits_of(alloc, net, question.failures)?;
-    let hold = sym_all_hold(
-        alloc,
-        terms,
-        net,
-        &world.net,
-        world.slots.as_slice(),
-        &world.packet.dst,
-        made.parts.as_slice(),
-        limits.as_slice(),
-    )?;
     let rest = both(terms, few, hold)?;
     let routing = both(terms, in_set, rest)?;
     Ok(routing)

@@ -1,16 +1,13 @@
 -- Marks that are kept as sets of positions.
-use Rattle.std.proofs.Common.{◌≡◌, ℕ, zero, suc, ◌+◌, ◌*◌, ◌/◌, ◌%◌, ◌^◌, ◌<◌, Bool, true, false, List, [], ◌∷◌, length, map}
-use Rattle.std.proofs.Common.{refl, sym, ap, ◌∙◌, arith, add-one, if◌then◌else◌}
+use Rattle.std.proofs.Common.{◌≡◌, ℕ, zero, suc, ◌+◌, ◌/◌, ◌%◌, ◌^◌, ◌<◌, length}
+use Rattle.std.proofs.Common.{refl, sym, ap, arith, add-one, if◌then◌else◌}
 use Rattle.std.specs.Prelude.{◌==◌}
-use Rattle.std.proofs.Math.Nat.{pow-suc}
-use Rattle.std.proofs.lemmas.Bool.Decides.{nat_tests}
 use Rattle.std.proofs.lemmas.Nat.{mod-pow-add}
-use Rattle.ios_ast.specs.Deciding.{carries}
 use Rattle.route_record.specs.declared.BgpRec.{BgpRec}
 use Rattle.route_record.specs.declared.tracked.Tracked.{Tracked}
-use Rattle.route_record.specs.Shape.{has_address, marked_number, shape_of}
+use Rattle.route_record.specs.Shape.{marked_number, shape_of}
 use Rattle.route_shapes.specs.Bgp.{bgp_shape}
-use Rattle.bgp_shapes.specs.Held.{HasMarks, same_shape}
+use Rattle.bgp_shapes.specs.Held.{same_shape}
 use Rattle.announced_shapes.specs.Sets.{marks_of}
 use Rattle.path_rebuild.specs.declared.ShapeRec.{ShapeRec}
 use Rattle.path_rebuild.specs.Shapes.{route_of, same_known}

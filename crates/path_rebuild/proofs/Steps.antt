@@ -1,10 +1,9 @@
 -- One step back, over the route of one other router.
 use Rattle.std.proofs.Common.{◌≡◌, ℕ, zero, suc, ◌+◌, ◌-◌, ◌^◌, ◌<◌, Bool, true, false, List, Option, Some, None}
 use Rattle.std.proofs.Common.{refl, sym, ap, ◌∙◌, arith, option_and_then, option_map, if◌then◌else◌}
-use Rattle.std.specs.Prelude.{nat_lt, slice_get}
+use Rattle.std.specs.Prelude.{slice_get}
 use Rattle.std.specs.List.{find}
 use Rattle.std.proofs.lemmas.Bool.Decides.{nat_tests}
-use Rattle.mw_text.specs.declared.address.Addr.{Addr}
 use Rattle.mw_text.specs.declared.address.Prefix.{Prefix}
 use Rattle.ios_ast.specs.declared.file.File.{File}
 use Rattle.route_record.specs.declared.BgpRec.{BgpRec}
@@ -40,10 +39,12 @@ arriving_one : (files : List File) (environment : Environment) (routes : ℕ →
 unfolding arriving_of
 arriving_one files environment routes p at end = by end.far where
   by : (far : Far) → arriving_of files environment routes p at (record end { far = far })
-      ≡ arriving_of files environment (λ _. option_and_then routes (router_behind files far)) p at (record end { far = far })
+      ≡ arriving_of files environment (λ _. option_and_then routes (router_behind files far)) p at
+      (record end { far = far })
   by Outside = refl
   by (Inside far_at) = inside (slice_get (ends_of files) far_at) where
-    inside : (o : Option SessionEnd) → option_and_then (λ far. option_and_then (exported files far p) (routes far.router)) o
+    inside : (o : Option SessionEnd) →
+        option_and_then (λ far. option_and_then (exported files far p) (routes far.router)) o
         ≡ option_and_then (λ far. option_and_then (exported files far p)
         (option_and_then routes (option_map (λ f. f.router) o))) o
     inside None = refl
@@ -133,7 +134,8 @@ pub real_more : (tracked : Tracked) (files : List File) (environment : Environme
     route ≡ option_and_then (real_route tracked files environment (slots_of tracked held rest p.len) p (fuel - 1))
     (source_of files router (route_of tracked known)) →
     real_route tracked files environment (slots_of tracked held rest p.len) p fuel router
-    ≡ followed tracked files environment (slots_of tracked held rest p.len) p (λ _. route) router (route_of tracked known)
+    ≡ followed tracked files environment (slots_of tracked held rest p.len) p (λ _. route) router
+    (route_of tracked known)
 real_more tracked files environment held rest p fuel router known route more there is =
     let slots = slots_of tracked held rest p.len in
     let before = real_route tracked files environment slots p (fuel - 1) in

@@ -2,3 +2,4 @@ pub mod Shapes
 pub mod Sources
 pub mod Environments
 pub mod Tables
+pub mod Follows

@@ -8,6 +8,7 @@ mod shapes;
 mod tables;
 
 use route_record::{BgpRec, Environment, Shape, Tables};
+pub use tables::rebuild;
 
 /// A BGP route, or an announcement, of which the lists are known by their shape alone: `rec` has the plain fields, and
 /// its lists are not read. A set of the shape has a bit for each position of the tracked values; bits past these are not

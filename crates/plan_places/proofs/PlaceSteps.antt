@@ -84,7 +84,7 @@ position-cons t x xs = by (t x) where
 
 -- ---- what stands at a place is what stands where the place is found
 
-item_is : {X : Type 0} (ps : List Place) (xs : List X) (router len : ℕ) →
+pub item_is : {X : Type 0} (ps : List Place) (xs : List X) (router len : ℕ) →
     option_and_then (slice_get xs) (position (is_at router len) ps) ≡ item_at ps xs router len
 unfolding item_at
 item_is [] xs router len = refl
@@ -116,7 +116,7 @@ item_found ps xs router len k found = sym (ap (option_and_then (slice_get xs)) f
 
 -- ---- the place of a router and a length is found by counting
 
-position-left : {X : Type 0} (t : X → Bool) (xs ys : List X) (k : ℕ) → position t xs ≡ Some k →
+pub position-left : {X : Type 0} (t : X → Bool) (xs ys : List X) (k : ℕ) → position t xs ≡ Some k →
     position t (xs ++ ys) ≡ Some k
 position-left t [] ys k found = absurd cc
 position-left {X} t (x ∷ xs) ys k found =
@@ -130,7 +130,7 @@ position-left {X} t (x ∷ xs) ys k found =
     by false None at is rest = absurd cc
     by false (Some j) at is rest = ap (option_map suc) (rest j at) ∙ is
 
-position-right : {X : Type 0} (t : X → Bool) (xs ys : List X) → position t xs ≡ None →
+pub position-right : {X : Type 0} (t : X → Bool) (xs ys : List X) → position t xs ≡ None →
     position t (xs ++ ys) ≡ option_map (λ k. length xs + k) (position t ys)
 position-right t [] ys none = by (position t ys) where
   by : (o : Option ℕ) → o ≡ option_map (λ k. 0 + k) o
@@ -152,7 +152,7 @@ position-right {X} t (x ∷ xs) ys none =
       twice None = refl
       twice (Some k) = let e : suc (length xs + k) ≡ suc (length xs) + k = omega arith in ap Some e
 
-position-row : (router len : ℕ) (lens : List ℕ) →
+pub position-row : (router len : ℕ) (lens : List ℕ) →
     position (is_at router len) (map (place router) lens) ≡ position (λ l. l == len) lens
 position-row router len [] = refl
 position-row router len (l ∷ lens) =
@@ -163,7 +163,7 @@ position-row router len (l ∷ lens) =
     own : is_at router len (place router l) ≡ (l == len)
     own = ap (λ b. b && (l == len)) (eq-eqb router router refl)
 
-position-other : (router other len : ℕ) (lens : List ℕ) → (other == router) ≡ false →
+pub position-other : (router other len : ℕ) (lens : List ℕ) → (other == router) ≡ false →
     position (is_at router len) (map (place other) lens) ≡ None
 position-other router other len [] apart = refl
 position-other router other len (l ∷ lens) apart =
@@ -192,7 +192,7 @@ places-length lens (suc n) =
     let more = suc-mul n (length lens) in
     omega (arith, both, front, row, more)
 
-counted : (lens : List ℕ) (n router len : ℕ) → router < n → position (is_at router len) (places_below lens n)
+pub counted : (lens : List ℕ) (n router len : ℕ) → router < n → position (is_at router len) (places_below lens n)
     ≡ option_map (λ k. router * length lens + k) (position (λ l. l == len) lens)
 unfolding places_below
 counted lens zero router len below = absurd (omega (arith, below))

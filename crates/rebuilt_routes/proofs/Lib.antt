@@ -13,5 +13,8 @@ pub mod Supported
 pub mod ReflectorsOnce
 pub mod SameKeys
 pub mod ShapesFollow
+pub mod RealSources
 pub mod RoutesDecided
 pub mod StableShapes
+pub mod Words
+pub mod RoutesFit

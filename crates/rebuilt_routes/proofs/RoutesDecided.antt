@@ -1,5 +1,5 @@
 -- The routes that are followed back from decided shapes are decided.
-use Rattle.std.proofs.Common.{◌≡◌, ℕ, ◌+◌, ◌^◌, ◌==◌, ◌⊎◌, inl, inr, Bool, true, false, not, List, []}
+use Rattle.std.proofs.Common.{◌≡◌, ℕ, ◌+◌, ◌^◌, ◌==◌, ◌⊎◌, inl, inr, true, false, not, List, []}
 use Rattle.std.proofs.Common.{◌∷◌, length, map, Option, Some, None, refl, sym, ap, ◌∙◌, subst, arith}
 use Rattle.std.proofs.Common.{if◌then◌else◌, is_some}
 use Rattle.std.specs.Prelude.{All, Any, IfSome, MatchOption, filter, option_and_then, option_map, slice_get, unwrap_or}
@@ -44,34 +44,24 @@ use Rattle.rebuilt_routes.specs.Following.{AllFollow, AreReal, arriving_of, foll
 use Rattle.rebuilt_routes.specs.Following.{real_routes, slot_with}
 use Rattle.rebuilt_routes.proofs.EndsApart.{end_again}
 use Rattle.rebuilt_routes.proofs.Followed.{are_real}
-use Rattle.rebuilt_routes.proofs.Numbered.{from_end, has_address, IsNumbered, numbered_place}
-use Rattle.rebuilt_routes.proofs.Options.{chained, find_passes, if_is, mapped}
+use Rattle.rebuilt_routes.proofs.Numbered.{has_address, IsNumbered}
+use Rattle.rebuilt_routes.proofs.Options.{if_is, mapped}
 use Rattle.rebuilt_routes.proofs.Plain.{IsPlain, locals_plain}
 use Rattle.rebuilt_routes.proofs.ReflectorsOnce.{IsRouteTaken, IsUnlooped, all_unlooped, heard_unlooped, once_named}
 use Rattle.rebuilt_routes.proofs.ReflectorsOnce.{route_taken_parts}
+use Rattle.rebuilt_routes.proofs.RealSources.{all_members, find_in, plain_source}
 use Rattle.rebuilt_routes.proofs.SameKeys.{same_survives}
-use Rattle.rebuilt_routes.proofs.ShapesFollow.{all_follow, own_plain, own_there}
+use Rattle.rebuilt_routes.proofs.ShapesFollow.{all_follow, own_there}
 use Rattle.rebuilt_routes.proofs.Sources.{IsCandidateFrom, IsLearntRoute, arriving_in, candidates_have_sources}
 use Rattle.rebuilt_routes.proofs.Sources.{routes_in, survivors_all}
 use Rattle.rebuilt_routes.proofs.Supported.{IsHeardRoute, arrived_from, taken_parts}
 
 -- ---- members
 
-pub find_in : {X : Type 0} (p : X → Bool) (xs : List X) (x : X) → find p xs ≡ Some x → In x xs
-find_in p [] x is = absurd cc
-find_in {X = X} p (y ∷ ys) x is = by (p y) is (find_in p ys x)
-  where
-    by : (b : Bool) → (if b then Some y else find p ys) ≡ Some x → (find p ys ≡ Some x → In x ys) → In x (y ∷ ys)
-    by true is rest = let same : y ≡ x = cc in inl (sym same)
-    by false is rest = inr (rest is)
-
 map-in : {X Y : Type 0} (f : X → Y) (x : X) (xs : List X) → In x xs → In (f x) (map f xs)
 map-in f x [] there = absurd there
 map-in f x (y ∷ ys) (inl same) = inl (ap f same)
 map-in f x (y ∷ ys) (inr later) = inr (map-in f x ys later)
-
-pub all_members : {X : Type 0} (P : X → Type 0) (xs : List X) → All P xs → (x : X) → In x xs → P x
-all_members P xs all x there = All-contains P xs x all (in-contains x xs there)
 
 any_member : {X : Type 0} (P : X → Type 0) (xs : List X) (x : X) → In x xs → P x → Any P xs
 any_member P xs x there holds = let at = in-contains x xs there in (at.0, x, at.1, at.2, holds)
@@ -183,43 +173,9 @@ module _ (tracked : Tracked) (files : List File) (failures : Failures) (environm
 
   -- ---- where routes come from
 
-  followed_source : (router : ℕ) (s : BgpShape) (rec : BgpRec) (b : Bool) → lacks_address s.from ≡ b →
-      followed tracked files environment slots p routes router s ≡ Some rec →
-      IsPlain rec ⊎ IsHeardRoute files environment p routes router rec
-  followed_source router s rec true local is =
-      let there = sym (ap (λ b. if b
-      then find (λ r. same_shape (bgp_shape tracked r) s) (own_routes files slots p router)
-      else option_and_then (λ (e : ℕ × SessionEnd). option_and_then (imported files e.1 p)
-      (arriving_of files environment routes p e.0 e.1)) (numbered_end files router s.from)) local) ∙ is in
-      inl (all_members IsPlain (own_routes files slots p router) (own_plain files slots p router) rec
-      (find_in (λ r. same_shape (bgp_shape tracked r) s) (own_routes files slots p router) rec there))
-  followed_source router s rec false far is =
-      let there = sym (ap (λ b. if b
-      then find (λ r. same_shape (bgp_shape tracked r) s) (own_routes files slots p router)
-      else option_and_then (λ (e : ℕ × SessionEnd). option_and_then (imported files e.1 p)
-      (arriving_of files environment routes p e.0 e.1)) (numbered_end files router s.from)) far) ∙ is in
-      let end = chained _ (numbered_end files router s.from) rec there in
-      let message = chained (imported files end.0.1 p) (arriving_of files environment routes p end.0.0 end.0.1) rec
-      end.2 in
-      inr (record {
-        at = end.0.0;
-        end = end.0.1;
-        is = record {
-          there = numbered_place files router s.from end.0.0 end.0.1 end.1;
-          own = (from_end files router s.from end.0.1
-              (find_passes _ (enumerate_from 0 (ends_of files)) end.0 end.1)).own;
-        };
-        message = message.0;
-        arrived = message.1;
-        taken = message.2;
-      })
-
   sourced : (router : ℕ) (rec : BgpRec) → routes router ≡ Some rec →
       IsPlain rec ⊎ IsHeardRoute files environment p routes router rec
-  sourced router rec holds =
-      let s = chained (followed tracked files environment slots p routes router) (held_at slots router) rec
-      (sym (real.again router) ∙ holds) in
-      followed_source router s.0 rec (lacks_address s.0.from) refl s.2
+  sourced = plain_source tracked files environment slots p net follow
 
   unlooped : (router : ℕ) (rec : BgpRec) → routes router ≡ Some rec → IsUnlooped tracked files router rec
   unlooped = all_unlooped files environment p tracked net limits routes sourced

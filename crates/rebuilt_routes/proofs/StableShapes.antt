@@ -39,7 +39,7 @@ use Rattle.rebuilt_routes.proofs.Options.{chained, if_is, mapped}
 use Rattle.rebuilt_routes.proofs.Plain.{IsPlain, locals_plain}
 use Rattle.rebuilt_routes.proofs.ReflectorsOnce.{IsRouteTaken, IsUnlooped, all_unlooped, heard_unlooped, once_named}
 use Rattle.rebuilt_routes.proofs.ReflectorsOnce.{route_taken_parts}
-use Rattle.rebuilt_routes.proofs.RoutesDecided.{all_members}
+use Rattle.rebuilt_routes.proofs.RealSources.{all_members}
 use Rattle.rebuilt_routes.proofs.Sources.{IsCandidateFrom, IsLearntRoute, arriving_in, candidates_have_sources}
 use Rattle.rebuilt_routes.proofs.Sources.{routes_in, survivors_all}
 use Rattle.rebuilt_routes.proofs.Supported.{IsAnnounced, IsHeardRoute, arrived_from, has_marks, supported}

@@ -14,14 +14,18 @@ ghost use Rattle.route_record.specs.declared.Slot.{Slot as SlotOf};
 ghost use Rattle.route_record.specs.declared.Tables.{Tables as TablesOf};
 ghost use Rattle.route_record.specs.declared.TheConstants.{LENGTHS};
 ghost use Rattle.route_record.specs.declared.tracked.Tracked.{Tracked as TrackedOf};
+ghost use Rattle.route_record.specs.Fits.{FitsBgp};
 ghost use Rattle.route_record.specs.Places.{slot_at};
 ghost use Rattle.net_parts.specs.Stable.{Stable};
 ghost use Rattle.net_parts.specs.Tracked.{TracksNet};
+ghost use Rattle.net_parts.specs.World.{IsEnvironment};
+ghost use Rattle.route_shapes.specs.Bgp.{BgpShape};
 ghost use Rattle.bgp_shapes.specs.Candidates.{ShapeSlot, environment_shape, slots_shape};
 ghost use Rattle.rebuilt_routes.specs.Clusters.{HoldsOfLocalRoutes, IsKeptBySessions, HasBoundedLists};
 ghost use Rattle.rebuilt_routes.specs.Deciding.{AreDecided, AreDecidedShapes, HaveRealRoutes};
-ghost use Rattle.rebuilt_routes.specs.Following.{AllFollow, AreReal, real_routes};
+ghost use Rattle.rebuilt_routes.specs.Following.{AllFollow, AreReal, held_at, real_routes};
 ghost use Rattle.rebuilt_routes.specs.Ranks.{RanksLessBehind};
+ghost use Rattle.rebuilt_routes.specs.Words.{HasWordNumbers, HasWordValues};
 
 /// Where each held shape follows, the routes that are followed back over as many routers as there are have these shapes,
 /// and each is the first local route of its shape, or what its router makes of what the far side of its session then
@@ -60,6 +64,17 @@ pub fn decided_law()
         AreDecidedShapes tracked files failures (environment_shape tracked environment) slots p →
         HaveRealRoutes tracked files environment slots p tables →
         AreDecided tracked files failures environment slots p tables }
+{}
+
+/// The routes that are followed back fit their fields, where the numbers of their shapes do, and the values that lines of
+/// the files bring into lists.
+pub fn fits_law()
+    ensures { (tracked : TrackedOf) (files : ListOf FileOf) (environment : EnvironmentOf)
+        (slots : ℕ → OptionOf ShapeSlot) (p : PrefixOf) → TracksNet files tracked →
+        list_all keeps_limits files ≡ true → AllFollow tracked files environment slots p →
+        HasWordValues tracked files → IsEnvironment files environment →
+        ((router : ℕ) (s : BgpShape) → held_at slots router ≡ Some s → HasWordNumbers s) → (router : ℕ) (rec : BgpRecOf) →
+        real_routes tracked files environment slots p router ≡ Some rec → FitsBgp rec }
 {}
 
 /// The shapes of a stable routing are decided.

@@ -1,24 +1,26 @@
 -- The world that is made of shapes that hold is real; and the shapes of a stable routing hold.
 use Rattle.std.proofs.Common.{◌≡◌, ℕ, ◌+◌, ◌*◌, ◌/◌, ◌%◌, ◌<◌, ◌==◌, ◌&&◌, Bool, true, false, List}
 use Rattle.std.proofs.Common.{length, map, Option, Some, None, refl, sym, ap, ◌∙◌, subst, arith}
-use Rattle.std.specs.Prelude.{option_and_then, option_map, slice_get}
+use Rattle.std.specs.Prelude.{All, IfSome, option_and_then, option_map, slice_get}
 use Rattle.std.specs.List.{enumerate_from, list_all}
 use Rattle.std.specs.Option.{option_map_or}
 use Rattle.std.proofs.lemmas.Bool.{and_from, and_parts, eq-eqb, eqb-true}
 use Rattle.std.proofs.lemmas.List.{length-map}
 use Rattle.std.proofs.lemmas.List.FromFn.{length-enumerate_from}
-use Rattle.std.proofs.lemmas.Option.{slice_get-map, slice_get_within}
+use Rattle.std.proofs.lemmas.Option.{get_or_from_slice_get, slice_get-map, slice_get_within}
 use Rattle.mw_text.specs.declared.address.Prefix.{Prefix}
 use Rattle.mw_text.specs.Address.{prefix_at}
-use Rattle.mw_text.proofs.Lists.{item_there, list_ext}
+use Rattle.mw_text.proofs.Lists.{all_found, item_there, list_ext}
 use Rattle.ios_ast.specs.declared.file.File.{File}
 use Rattle.ios_ast.specs.Limits.{keeps_limits}
 use Rattle.route_record.specs.declared.BgpRec.{BgpRec}
 use Rattle.route_record.specs.declared.Environment.{Environment}
+use Rattle.route_record.specs.declared.Slot.{Slot}
 use Rattle.route_record.specs.declared.Tables.{Tables}
 use Rattle.route_record.specs.declared.TheConstants.{LENGTHS}
 use Rattle.route_record.specs.declared.tracked.Tracked.{Tracked}
 use Rattle.route_record.specs.declared.World.{World}
+use Rattle.route_record.specs.Places.{slot_at}
 use Rattle.net_parts.specs.Stable.{Stable}
 use Rattle.net_parts.specs.Tracked.{TracksNet}
 use Rattle.net_parts.specs.World.{IsEnvironment}
@@ -26,9 +28,13 @@ use Rattle.route_shapes.specs.Bgp.{BgpShape}
 use Rattle.bgp_shapes.specs.Candidates.{ShapeSlot, environment_shape, slot_shape, slots_shape}
 use Rattle.announced_shapes.specs.Environments.{IsShapeEnvironment, rebuilt_environment}
 use Rattle.announced_shapes.proofs.EnvironmentLaw.{environment_again, environment_may, environment_shapes}
+use Rattle.rebuilt_routes.specs.Words.{HasWordNumbers, HasWordValues}
+use Rattle.rebuilt_routes.proofs.RoutesFit.{route_fits}
+use Rattle.rebuilt_routes.proofs.ShapesFollow.{all_follow}
+use Rattle.route_record.specs.Fits.{FitsBgp}
 use Rattle.rebuilt_routes.specs.Deciding.{AreDecided, AreDecidedShapes, HaveRealRoutes, is_decided_shape}
-use Rattle.rebuilt_routes.specs.Following.{real_routes, slot_with}
-use Rattle.rebuilt_routes.proofs.Options.{chained}
+use Rattle.rebuilt_routes.specs.Following.{AllFollow, held_at, real_routes, slot_with}
+use Rattle.rebuilt_routes.proofs.Options.{chained, if_is, mapped}
 use Rattle.rebuilt_routes.proofs.RoutesDecided.{are_decided}
 use Rattle.rebuilt_routes.proofs.StableShapes.{shapes_decided}
 use Rattle.shape_worlds.specs.Worlds.{IsRealWorld, ShapeWorld, environment_of, has_all_marks, is_decided_at}
@@ -95,7 +101,7 @@ module _ (tracked : Tracked) (files : List File) (s : ShapeWorld) (net : TracksN
   p : ℕ → Prefix
   p len = prefix_at s.packet.dst len
 
-  decided_shapes : (len : ℕ) → len < LENGTHS →
+  pub decided_shapes : (len : ℕ) → len < LENGTHS →
       AreDecidedShapes tracked files s.failures s.environment (slots_for s len) (prefix_at s.packet.dst len)
   decided_shapes len below = record {
     within = λ router slot there. router_within router len slot there;
@@ -159,6 +165,51 @@ module _ (tracked : Tracked) (files : List File) (s : ShapeWorld) (net : TracksN
       limits
       (subst (λ e. AreDecidedShapes tracked files s.failures e (slots_for s len) (prefix_at s.packet.dst len))
       (sym environment_same) (decided_shapes len below)) (rebuilt_tables tracked files s) (have len below)
+
+  -- ---- what fits
+
+  follow : (len : ℕ) → len < LENGTHS →
+      AllFollow tracked files (environment_of tracked s) (slots_for s len) (prefix_at s.packet.dst len)
+  follow len below =
+      all_follow tracked files s.failures (environment_of tracked s) (slots_for s len) (prefix_at s.packet.dst len) net
+      limits
+      (subst (λ e. AreDecidedShapes tracked files s.failures e (slots_for s len) (prefix_at s.packet.dst len))
+      (sym environment_same) (decided_shapes len below))
+
+  number_fits : All (λ (slot : ShapeSlot). IfSome slot.bgp HasWordNumbers) s.slots → (len router : ℕ) (t : BgpShape) →
+      held_at (slots_for s len) router ≡ Some t → HasWordNumbers t
+  number_fits all len router t holds =
+      let slot = chained (λ (x : ShapeSlot). x.bgp) (slots_for s len router) t holds in
+      if_is HasWordNumbers slot.0.bgp t
+      (all_found (λ (x : ShapeSlot). IfSome x.bgp HasWordNumbers) s.slots (LENGTHS * router + len) slot.0 all slot.1)
+      slot.2
+
+  pub routes_fit : HasWordValues tracked files → All (λ (slot : ShapeSlot). IfSome slot.bgp HasWordNumbers) s.slots →
+      All (λ (slot : Slot). IfSome slot.bgp FitsBgp) (rebuilt_tables tracked files s).slots
+  routes_fit values numbers k d within =
+      let found = item_there (rebuilt_tables tracked files s).slots k within in
+      subst (λ (slot : Slot). IfSome slot.bgp FitsBgp)
+      (sym (get_or_from_slice_get (rebuilt_tables tracked files s).slots k found.0 d found.1)) (by found.0 found.1)
+    where
+      by : (slot : Slot) → slice_get (rebuilt_tables tracked files s).slots k ≡ Some slot → IfSome slot.bgp FitsBgp
+      by slot there =
+          let here : slot_at (rebuilt_tables tracked files s) (k / LENGTHS) (k % LENGTHS) ≡ Some slot =
+          ap (slice_get (rebuilt_tables tracked files s).slots) (place_of k) ∙ there in
+          let shape = mapped (slot_with (real_routes tracked files (environment_of tracked s)
+          (slots_for s (k % LENGTHS)) (prefix_at s.packet.dst (k % LENGTHS)) (k / LENGTHS)))
+          (slots_for s (k % LENGTHS) (k / LENGTHS)) slot
+          (sym (have (k % LENGTHS) (len_small k) (k / LENGTHS)) ∙ here) in
+          by_route slot.bgp (ap (λ (x : Slot). x.bgp) (sym shape.2))
+        where
+          by_route : (o : Option BgpRec) → o
+              ≡ real_routes tracked files (environment_of tracked s) (slots_for s (k % LENGTHS))
+              (prefix_at s.packet.dst (k % LENGTHS)) (k / LENGTHS) → IfSome o FitsBgp
+          by_route None is = tt
+          by_route (Some rec) is =
+              route_fits tracked files (environment_of tracked s) (slots_for s (k % LENGTHS))
+              (prefix_at s.packet.dst (k % LENGTHS)) net limits (follow (k % LENGTHS) (len_small k)) values
+              (environment_may files tracked s.environment net.numbers_ascend net.communities_ascend announced)
+              (λ router t holds. number_fits numbers (k % LENGTHS) router t holds) (k / LENGTHS) rec (sym is)
 
   size : length (rebuilt_tables tracked files s).slots ≡ LENGTHS * length files
   unfolding rebuilt_tables

@@ -1,18 +1,15 @@
 -- Which places a plan has, in which order, and how many.
-use Rattle.std.proofs.Common.{◌≡◌, ℕ, zero, suc, ◌*◌, ◌<◌, ◌≤◌, Bool, true, false, List, [], ◌∷◌, ◌++◌, length, map}
-use Rattle.std.proofs.Common.{inl, inr, refl, sym, ap, subst, arith, ◌∙◌, length-append}
+use Rattle.std.proofs.Common.{◌≡◌, ℕ, zero, suc, ◌<◌, ◌≤◌, Bool, true, false, List, [], ◌∷◌, ◌++◌, length, map}
+use Rattle.std.proofs.Common.{inl, inr, refl, sym, ap, subst, arith, ◌∙◌}
 use Rattle.std.specs.Prelude.{◌⊎◌, ◌==◌, All, AllPairs, if◌then◌else◌}
 use Rattle.std.proofs.lemmas.Bool.{and_from, and_parts, cases_lt, eqb-true, eq-eqb, false≢true}
-use Rattle.std.proofs.lemmas.List.{length-map}
 use Rattle.std.proofs.lemmas.List.Elements.{All-append}
 use Rattle.std.proofs.lemmas.List.Kept.{AllPairs-cons}
-use Rattle.std.proofs.Math.Nat.{suc-mul}
 use Rattle.mw_text.proofs.Lists.{below_at}
 use Rattle.mw_text.specs.Members.{In, all_below}
 use Rattle.route_record.specs.declared.Plan.{Plan}
 use Rattle.net_parts.proofs.LeastWalks.{in-cases, in-left, in-map, in-right}
 use Rattle.plan_places.specs.declared.places.Place.{Place}
-use Rattle.plan_places.proofs.PlaceSteps.{places-length}
 use Rattle.mw_text.specs.declared.address.Prefix.{Prefix}
 use Rattle.ios_ast.specs.declared.file.File.{File}
 use Rattle.route_record.specs.declared.TheConstants.{LENGTHS}
@@ -101,10 +98,10 @@ in-places lens (suc n) p there =
 
 -- ---- in which order
 
-first_rest : {X : Type 0} (R : X → X → Type 0) (x : X) (xs : List X) → AllPairs R (x ∷ xs) → All (R x) xs
+pub first_rest : {X : Type 0} (R : X → X → Type 0) (x : X) (xs : List X) → AllPairs R (x ∷ xs) → All (R x) xs
 first_rest R x xs pairs = λ k d within. pairs 0 (suc k) d (omega arith) (omega (arith, within))
 
-behind : {X : Type 0} (R : X → X → Type 0) (x : X) (xs : List X) → AllPairs R (x ∷ xs) → AllPairs R xs
+pub behind : {X : Type 0} (R : X → X → Type 0) (x : X) (xs : List X) → AllPairs R (x ∷ xs) → AllPairs R xs
 behind R x xs pairs = λ i j d earlier within. pairs (suc i) (suc j) d (omega (arith, earlier)) (omega (arith, within))
 
 pairs-append : {X : Type 0} (R : X → X → Type 0) (xs ys : List X) → AllPairs R xs → AllPairs R ys →

@@ -31,7 +31,7 @@ use net_model::Net;
 use question_lang::End;
 use std::alloc::{AllocError, Global};
 use sym_policy::{SymNet, SymPacket};
-use term_arith::gates::{both, constant_node};
+use term_arith::gates::{both, constant_node, is_never};
 use term_arith::{Bits, constant, equal_number};
 use term_store::{NodeId, Terms};
 
@@ -107,6 +107,9 @@ fn sym_taken(
         return constant_node(terms, false);
     }
     let same = sym_is_prefix(terms, &route.prefix, dst, len)?;
+    if is_never(terms, same) {
+        return Ok(same);
+    }
     let close = equal_number(terms, distance.nodes.as_slice(), u64::from(route.distance))?;
     both(terms, same, close)
 }
@@ -140,6 +143,9 @@ fn sym_static_or(
         (forwarding_of w r)) }
 {
     let taken = sym_taken(terms, &packet.dst, len, distance, route)?;
+    if is_never(terms, taken) {
+        return Ok(rest);
+    }
     let to = sym_static(alloc, terms, net, sym, packet, aim, router, route)?;
     let made = join_forwarding(terms, taken, rest, &to)?;
     Ok(made)

@@ -19,8 +19,8 @@ use Rattle.route_record.specs.declared.RibEntry.{RibEntry}
 use Rattle.route_record.specs.declared.Slot.{Slot}
 use Rattle.route_record.specs.declared.tracked.Tracked.{Tracked}
 use Rattle.ios_ast.specs.Maps.{through_map}
-use Rattle.net_parts.specs.Origins.{external_record, into_ospf, is_ospf_entry, is_taken, originated_default, plain_route}
-use Rattle.net_parts.specs.Origins.{redistributed, redistributed_route}
+use Rattle.net_parts.specs.Origins.{external_record, into_ospf, is_ospf_entry, is_taken, originated_default}
+use Rattle.net_parts.specs.Origins.{plain_route, redistributed, redistributed_route}
 use Rattle.sym_policy.specs.Held.{kind_of_number}
 use Rattle.route_shapes.specs.Bgp.{BgpShape, bgp_shape}
 use Rattle.route_shapes.specs.Shapes.{RouteShape, route_shape}

@@ -1,6 +1,6 @@
 -- Slots at their places.
-use Rattle.std.proofs.Common.{◌≡◌, ℕ, ◌≤◌, ◌<◌, ◌⊎◌, inl, inr, Bool, true, false, List, [], ◌∷◌, ◌++◌, max, Option, Some}
-use Rattle.std.proofs.Common.{None, sym, ap, arith, ◌∙◌, rules, subst, All}
+use Rattle.std.proofs.Common.{◌≡◌, ℕ, ◌≤◌, ◌<◌, ◌⊎◌, inl, inr, Bool, true, false, List, [], ◌∷◌, ◌++◌, max, Option}
+use Rattle.std.proofs.Common.{Some, None, sym, ap, arith, ◌∙◌, rules, subst, All}
 use Rattle.std.specs.Prelude.{option_copied, option_and_then, if◌then◌else◌, IfSome}
 use Rattle.std.specs.Borrow.{Bor}
 use Rattle.std.specs.Option.{option_map_or}

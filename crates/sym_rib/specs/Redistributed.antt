@@ -1,5 +1,5 @@
--- What an OSPF process takes from the table of its router, by the shape of the BGP route of the slot and by its entry: what
--- the definitions of the network take from a slot, word by word on shapes.
+-- What an OSPF process takes from the table of its router, by the shape of the BGP route of the slot and by its entry:
+-- what the definitions of the network take from a slot, word by word on shapes.
 use Rattle.std.specs.Prelude.{List, ◌++◌, false, if◌then◌else◌, Option, Some, None, option_and_then, option_map}
 use Rattle.std.specs.List.{filter_map}
 use Rattle.std.specs.Option.{option_to_list}

@@ -44,8 +44,8 @@ learnt_entry files router n = option_map entry_over (end_numbered files router n
 abbrev pub ospf_candidate : Bool → OspfRec → Option RibEntry
 ospf_candidate own held = if own then None else Some (record { source = Ospf; distance = 110 })
 
--- the entry of a router's table from what is looked at of its slot: the number that tells where its BGP route was learnt,
--- and its OSPF route
+-- the entry of a router's table from what is looked at of its slot: the number that tells where its BGP route was
+-- learnt, and its OSPF route
 abbrev pub entry_from : List File → Failures → ℕ → File → Prefix → Option ℕ → Option OspfRec → Bool → Option RibEntry
 entry_from files failures router file p learnt ospf own =
     least_distance (candidates (up_interfaces files failures router) file.statics p

@@ -145,8 +145,8 @@ fn table_rib(
 /// The entry of a router's table for the prefix of that length of a destination: the candidate of least
 /// administrative distance among its connected and static routes, the held BGP route and the held OSPF route, the
 /// latter only where no own origin is as good (`own_ospf`). Equal distances go to the first of connected, static, BGP
-/// and OSPF. Where there is no such router, there is no entry. Of the BGP route it looks at where it was learnt alone, so
-/// whatever the slot stands for, `value` says what is made of it.
+/// and OSPF. Where there is no such router, there is no entry. Of the BGP route it looks at where it was learnt alone,
+/// so `value` says what is made of every slot, and `stands` what that is where the slot stands for one.
 pub fn sym_entry(
     alloc: Global,
     terms: &mut Terms,
@@ -168,8 +168,8 @@ pub fn sym_entry(
     ensures within { IfOk result (λ r. rib_end r ≤ size terms.new) }
     ensures numbered { Gives terms.new result (λ w r. IsNumbered w r) }
     ensures value { Gives terms.new result (λ w r. rib_of w r ≡ option_and_then (λ file. entry_from net.now.files
-        (failures_of w sym.now) router file (prefix_of w dst.now len) (learnt_of w slot.now.bgp) (ospf_of w slot.now.ospf)
-        (at w own_ospf)) (slice_get net.now.files router)) }
+        (failures_of w sym.now) router file (prefix_of w dst.now len) (learnt_of w slot.now.bgp)
+        (ospf_of w slot.now.ospf) (at w own_ospf)) (slice_get net.now.files router)) }
     ensures stands { Gives terms.new result (λ w r. (held : Slot) → StandsForSlot w net.now.tracked slot.now held
         → rib_of w r ≡ option_and_then (λ file. entries.entry_with net.now.files (failures_of w sym.now) router file
         (prefix_of w dst.now len) held (at w own_ospf)) (slice_get net.now.files router)) }

@@ -365,8 +365,9 @@ fn of_file(
 
 /// The local BGP routes of a router from its own entry for the prefix of that length of a destination: by `network`
 /// lines, and then by redistribution, each through the route map of its line (RFC 4271, section 9.4). Each item is a
-/// route that may be there. None where there is no such router, or where it runs no BGP. Of the slot it looks at the OSPF
-/// route and the entry alone, so `value` holds whatever its BGP route stands for.
+/// route that may be there, with one node for each tracked number, community and cluster. None where there is no such
+/// router, or where it runs no BGP. Of the slot it looks at the OSPF route and the entry alone, so `value` holds
+/// whatever its BGP route is.
 pub fn sym_originate(
     alloc: Global,
     terms: &mut Terms,

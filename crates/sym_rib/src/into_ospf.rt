@@ -14,8 +14,8 @@ ghost use Rattle.sym_policy.specs.Records.{prefix_of};
 ghost use Rattle.route_shapes.specs.Shapes.{route_shape};
 ghost use Rattle.sym_rib.specs.Brought.{brought_of, brought_end};
 ghost use Rattle.sym_rib.specs.Into.{source_taken, list_end, HasTracked};
-ghost use Rattle.sym_rib.specs.Redistributed.{entry_slot, shape_into_ospf, shape_left, shape_of_bgp, shape_redistributed};
-ghost use Rattle.sym_rib.specs.Redistributed.{shape_seen};
+ghost use Rattle.sym_rib.specs.Redistributed.{entry_slot, shape_into_ospf, shape_left, shape_of_bgp, shape_seen};
+ghost use Rattle.sym_rib.specs.Redistributed.{shape_redistributed};
 ghost use Rattle.sym_rib.specs.Slots.{rib_of, rib_end, slot_end, source_of_number, StandsForSlot};
 ghost use Rattle.term_store.specs.Terms.{Reading, size, at};
 ghost use Rattle.term_store.specs.Reading.{Reads, Builds, Gives};
@@ -222,7 +222,8 @@ fn seen_rec(
     ensures builds { Builds terms.old terms.new }
     ensures within { IfOk result (λ r. map_rec_end r ≤ size terms.new) }
     ensures marks { IfOk result (λ r. HasMarks tracked.now r) }
-    ensures value { Gives terms.new result (λ w r. map_rec_at w r ≡ shape_seen tracked.now line.now (bgp_of w bgp.now)) }
+    ensures value { Gives terms.new result (λ w r. map_rec_at w r
+        ≡ shape_seen tracked.now line.now (bgp_of w bgp.now)) }
 {
     match line.source {
         Source::Connected => plain_rec(alloc, terms, tracked, line, true, 20),
@@ -485,8 +486,9 @@ fn of_file(
 
 /// What the OSPF process of a router takes from its own entry for the prefix of that length of a destination: by each
 /// `redistribute` line through its route map, and the default route (RFC 2328, section 12.4.4). Each item is a record
-/// that may be there. Nothing where there is no such router, or where it runs no OSPF. Of the slot it looks at the shape
-/// of the BGP route and at the entry, so whatever the slot stands for, `value` says what is made of it.
+/// that may be there. Nothing where there is no such router, or where it runs no OSPF. Of the slot it looks at the
+/// shape of the BGP route and at the entry, so `value` says what is made of every slot, and `stands` what that is where
+/// the slot stands for one.
 pub fn sym_redistribute(
     alloc: Global,
     terms: &mut Terms,

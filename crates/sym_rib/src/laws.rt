@@ -16,8 +16,8 @@ ghost use Rattle.sym_rib.specs.Redistributed.{shape_redistributed};
 ghost use Rattle.sym_rib.specs.Sources.{entry_from};
 
 /// The entry of a table for a slot follows from the number that tells where its BGP route was learnt, and from its OSPF
-/// route (`entry`); what OSPF takes from the table, from the shape of its BGP route and from its entry, where the values
-/// that the lists of the file test are tracked (`redistributed`).
+/// route (`entry`); what OSPF takes from the table, from the shape of its BGP route and from its entry, where the
+/// values that the lists of the file test are tracked (`redistributed`).
 pub fn parts_law()
     ensures entry { (files : ListOf FileOf) (failures : FailuresOf) (router : ℕ) (file : FileOf) (p : PrefixOf)
         (slot : SlotOf) (own : Bool) →

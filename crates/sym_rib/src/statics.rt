@@ -22,7 +22,7 @@ use route_record::RibSource;
 use std::alloc::{AllocError, Global};
 use sym_policy::SymNet;
 use term_arith::Bits;
-use term_arith::gates::{both, constant_node};
+use term_arith::gates::{both, constant_node, is_never};
 use term_store::{NodeId, Terms};
 
 /// Whether a static route counts: it goes to Null0 or its next hop is on the subnet of an interface of the router
@@ -51,29 +51,25 @@ fn sym_counts(
     }
 }
 
-/// The entry of a static route.
+/// The entry of a static route, which is there where the route is one to the prefix and counts.
 fn static_rib(
     alloc: Global,
     terms: &mut Terms,
     net: &Net,
     sym: &SymNet,
     router: u32,
-    dst: &Bits,
-    len: u8,
+    same: NodeId,
     route: &StaticRoute,
 ) -> Result<SymRib, AllocError>
-    requires long { len ≤ 32 }
-    requires wide { length dst.now.nodes.items ≡ 32 }
-    requires nodes { ids_end dst.now.nodes.items ≤ size terms.old }
+    requires same { same.0 < size terms.old }
     requires down { ids_end sym.now.down ≤ size terms.old }
     ensures builds { Builds terms.old terms.new }
     ensures within { IfOk result (λ r. rib_end r ≤ size terms.new) }
     ensures numbered { Gives terms.new result (λ w r. IsNumbered w r) }
     ensures value { Gives terms.new result (λ w r. rib_of w r
-        ≡ static_entry (routing.up_interfaces net.now.files (failures_of w sym.now) router)
-        (prefix_of w dst.now len) route.now) }
+        ≡ (if at w same && routing.counts (routing.up_interfaces net.now.files (failures_of w sym.now) router) route.now
+        then Some (static_candidate route.now) else None)) }
 {
-    let same = sym_same_prefix(terms, &route.prefix, dst, len)?;
     let counted = sym_counts(alloc, terms, net, sym, router, route)?;
     let valid = both(terms, same, counted)?;
     entry_where(alloc, terms, valid, RibSource::Static, route.distance)
@@ -106,7 +102,11 @@ fn after_static(
     if route.prefix.len != len {
         return Ok(best);
     }
-    let next = static_rib(alloc, terms, net, sym, router, dst, len, route)?;
+    let same = sym_same_prefix(terms, &route.prefix, dst, len)?;
+    if is_never(terms, same) {
+        return Ok(best);
+    }
+    let next = static_rib(alloc, terms, net, sym, router, same, route)?;
     closer_rib(alloc, terms, &best, &next)
 }
 

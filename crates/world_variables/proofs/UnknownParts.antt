@@ -26,7 +26,7 @@ kind_again Ext1 = refl
 kind_again Ext2 = refl
 
 -- a number that a field tells
-told_at : (field : Field) (n : ℕ) (v : ℕ → Bool) (from : ℕ) (rest : List Bool) → FitsField field n →
+pub told_at : (field : Field) (n : ℕ) (v : ℕ → Bool) (from : ℕ) (rest : List Bool) → FitsField field n →
     IsAt v from (field_digits field n ++ rest) →
     (read_as field (number_from v from (field_width field)) ≡ n) × IsAt v (from + field_width field) rest
 told_at field n v from rest fits here =
@@ -45,7 +45,7 @@ route_at room r v from rest fits here =
       subst (λ k. IsAt v k rest) (omega arith) cost.1,
     )
 
-length-none : (n : ℕ) → length (none_of n) ≡ n
+pub length-none : (n : ℕ) → length (none_of n) ≡ n
 length-none zero = refl
 length-none (suc n) = ap suc (length-none n)
 

@@ -69,12 +69,12 @@ empty_fits files none = record {
 
 -- ---- what is read fits
 
-value_small : (values : List ℕ) (n bound : ℕ) → 0 < bound → All (λ x. x < bound) values → slice_index values n < bound
+pub value_small : (values : List ℕ) (n bound : ℕ) → 0 < bound → All (λ x. x < bound) values → slice_index values n < bound
 value_small [] n bound some all = some
 value_small (x ∷ values) zero bound some all = All-head (λ y. y < bound) x values all
 value_small (x ∷ values) (suc n) bound some all = value_small values n bound some (All-tail (λ y. y < bound) x values all)
 
-told_small : (bits : ℕ) (field : Field) (v : ℕ → Bool) (from : ℕ) → TellsWithin bits field →
+pub told_small : (bits : ℕ) (field : Field) (v : ℕ → Bool) (from : ℕ) → TellsWithin bits field →
     read_as field (number_from v from (field_width field)) < 2 ^ bits
 told_small bits (Bits width) v from narrow =
     let below = number_from-below v from width in let top = pow_mono narrow in omega (arith, below, top)
@@ -94,7 +94,7 @@ open_fits (Some room) v from narrow = by (v from) where
   by true = route_fits room v (from + 1) narrow
   by false = tt
 
-opens_fit : (files : List File) (destinations : Prefix) (places : List Place) (v : ℕ → Bool) (from : ℕ) →
+pub opens_fit : (files : List File) (destinations : Prefix) (places : List Place) (v : ℕ → Bool) (from : ℕ) →
     All (λ o. IfSome o (λ r. HasWords r.metric)) (rooms_of files destinations) → All (λ p. p.len < LENGTHS) places →
     All (λ u. IfSome u.ospf FitsOspf) (unknowns_from (rooms_at files destinations places) v from)
 unfolding unknowns_from

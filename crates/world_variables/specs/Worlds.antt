@@ -23,13 +23,17 @@ use Rattle.std.specs.List.{list_all}
 abbrev pub FitsDistance : StaticRoute → Type 0
 FitsDistance route = route.distance < 2 ^ 8
 
+-- the metrics that lines of the files bring in fit 32 bits
+abbrev pub HaveWords : List File → Question → Type 0
+HaveWords files question = All (λ o. IfSome o (λ room. HasWords room.metric)) (rooms_of files question.packets.dst)
+
 -- what is encoded: networks without BGP, in which every number fits its field
 pub record IsEncodable (files : List File) (question : Question) : Type 0 where
   pub limits : list_all keeps_limits files ≡ Bool.true
   pub no_bgp : runs_no_bgp files ≡ Bool.true
   pub distances : (router : ℕ) (file : File) → slice_get files router ≡ Some file →
       All FitsDistance file.statics
-  pub metrics : All (λ o. IfSome o (λ room. HasWords room.metric)) (rooms_of files question.packets.dst)
+  pub metrics : HaveWords files question
   pub packets : FitsSet question.packets
 
 -- the places at which slots stand

@@ -57,9 +57,9 @@ fn route(
     })
 }
 
-// A route that is not there.
+/// A route that is not there.
 #[tactic(auto, using(failed_links::proofs::Steps::grows_built))]
-fn no_route(alloc: Global, terms: &mut Terms) -> Result<SymOspf, AllocError>
+pub fn no_route(alloc: Global, terms: &mut Terms) -> Result<SymOspf, AllocError>
     ensures builds { Builds terms.old terms.new }
     ensures within { IfOk result (λ r. ospf_end r ≤ size terms.new) }
     ensures value { Gives terms.new result (λ w r. ospf_of w r ≡ None) }

@@ -1,8 +1,4 @@
-use Rattle.std.proofs.Common.{◌≡◌, ◌++◌, drop, map, option_map}
-use Rattle.std.specs.List.{enumerate_from, filter_map}
-use Rattle.announced_shapes.specs.Announcements.{rebuilt_announcement}
-use Rattle.path_rebuild.specs.Environments.{of_end}
-use Rattle.path_rebuild.specs.Shapes.{announcement_of}
+use Rattle.std.proofs.Common.{◌≡◌, ◌++◌, drop}
 use Rattle.path_rebuild.proofs.Announced.{made_from}
 use Rattle.path_rebuild.proofs.environment.add_of_end.Given as goal
 

@@ -3,7 +3,7 @@ use Rattle.std.specs.Prelude.{option_and_then}
 use Rattle.mw_text.specs.Address.{prefix_at}
 use Rattle.net_parts.specs.Origins.{local_routes}
 use Rattle.route_record.specs.declared.Slot.{Slot}
-use Rattle.rebuilt_routes.proofs.RoutesDecided.{all_members}
+use Rattle.rebuilt_routes.proofs.RealSources.{all_members}
 use Rattle.rebuilt_routes.proofs.StableShapes.{kept_held}
 use Rattle.rebuilt_routes.proofs.laws.supported_law.Goals as goal
 

@@ -18,7 +18,8 @@ returns-clause-within c = bgp_within c.in_ok-left.left _ c.in_ok-left.ensures.wi
 pub returns-clause-rows : goal.returns-clause-rows
 returns-clause-rows c =
     let left = c.in_ok-left.ensures in
-    tracked_kept c.args.tracked.now c.in_ok-before.before c.in_ok-left.left c.in_ok-before.ensures.rows left.marks left.rest
+    tracked_kept c.args.tracked.now c.in_ok-before.before c.in_ok-left.left c.in_ok-before.ensures.rows left.marks
+    left.rest
 
 pub returns-clause-value : goal.returns-clause-value
 returns-clause-value c = λ w reads all.

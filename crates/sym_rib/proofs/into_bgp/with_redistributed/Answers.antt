@@ -17,7 +17,8 @@ loop-line-preserved c =
     record {
       builds = search rules;
       within = grind (arith, common_steps, list_end-append);
-      rows = λ before. all_put (HasTracked c.args.tracked.now) c.loop-line.made _ c.in_ok-rec.rec c.in_ok-put_bgp.ensures
+      rows = λ before.
+          all_put (HasTracked c.args.tracked.now) c.loop-line.made _ c.in_ok-rec.rec c.in_ok-put_bgp.ensures
           (old.rows before) rec.rows;
       value = λ w reads held all stands.
           ap (filter_map (bgp_of w)) c.in_ok-put_bgp.ensures

@@ -37,6 +37,7 @@ returns-in_ok-made-in-Some-clause-stands c = λ w reads held stands.
     (bgp_of w slot.bgp) (rib_of w slot.rib)) file.ospf [] in
     let by_file : File → List OspfRec = λ f. option_map_or (λ process. redistributed f process p held) f.ospf [] in
     let taken : Option File → List OspfRec = λ o. option_map_or by_file o [] in
-    let same : of_file tracked ≡ by_file file = λ i. option_map_or (λ process. redistributed_stands tracked file p process
-    (bgp_of w slot.bgp) (rib_of w slot.rib) held all stands.bgp stands.rib i) file.ospf [] in
+    let same : of_file tracked ≡ by_file file = λ i. option_map_or
+    (λ process. redistributed_stands tracked file p process (bgp_of w slot.bgp) (rib_of w slot.rib) held
+    all stands.bgp stands.rib i) file.ospf [] in
     c.in_ok-made-in-Some.ensures.value w reads ∙ ap of_file c.tracked.ensures.value ∙ same ∙ ap taken here

@@ -1,0 +1,10 @@
+use Rattle.routing_worlds.proofs.RoutingComplete.{routing_complete, shapes_read}
+use Rattle.routing_worlds.proofs.laws.complete_law.Goals as goal
+
+pub returns-clause-read : goal.returns-clause-read
+returns-clause-read c files tracked question plan world environment v from fits external wide routing here =
+    shapes_read files tracked question plan world environment fits external wide routing v from here
+
+pub returns-clause-passes : goal.returns-clause-passes
+returns-clause-passes c files tracked question plan world environment v from fits external wide routing here =
+    routing_complete files tracked question plan world environment fits external wide routing v from here

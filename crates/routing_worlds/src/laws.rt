@@ -1,0 +1,49 @@
+//! Laws about the worlds of values of variables. Each function only carries its law.
+
+ghost use Rattle.std.specs.Prelude.{◌≡◌, ℕ, Bool, List as ListOf, not, true};
+ghost use Rattle.std.specs.List.{list_all};
+ghost use Rattle.ios_ast.specs.declared.file.File.{File as FileOf};
+ghost use Rattle.route_record.specs.declared.Environment.{Environment as EnvironmentOf};
+ghost use Rattle.route_record.specs.declared.Plan.{Plan as PlanOf};
+ghost use Rattle.route_record.specs.declared.tracked.Tracked.{Tracked as TrackedOf};
+ghost use Rattle.route_record.specs.declared.World.{World as WorldOf};
+ghost use Rattle.net_parts.specs.Sessions.{ends_of};
+ghost use Rattle.question_lang.specs.declared.question.Question.{Question as QuestionOf};
+ghost use Rattle.slot_places.specs.Rooms.{HasUsed};
+ghost use Rattle.failed_links.specs.Rows.{IsAt};
+ghost use Rattle.shape_worlds.specs.Worlds.{shapes_of};
+ghost use Rattle.routing_worlds.specs.Worlds.{HasWordNetwork, IsRouting, environment_from, is_routing, shape_world_from};
+ghost use Rattle.routing_worlds.specs.Worlds.{world_bits, world_from};
+
+/// Values of variables stand for a world by shapes, whatever they are. Where they pass the test, the real world and the
+/// environment that are made of it are a routing of the question (`routing`), and have these shapes (`shapes`). The plan
+/// has a slice at each length at which something can stand, and every number fits its field.
+pub fn sound_law()
+    ensures routing { (files : ListOf FileOf) (tracked : TrackedOf) (question : QuestionOf) (plan : PlanOf)
+        (v : ℕ → Bool) (from : ℕ) → HasWordNetwork files tracked question → HasUsed files question.packets.dst plan →
+        is_routing files tracked question plan v from ≡ true →
+        IsRouting files question (world_from files tracked question plan v from)
+        (environment_from files tracked question plan v from) }
+    ensures shapes { (files : ListOf FileOf) (tracked : TrackedOf) (question : QuestionOf) (plan : PlanOf)
+        (v : ℕ → Bool) (from : ℕ) → HasWordNetwork files tracked question → HasUsed files question.packets.dst plan →
+        is_routing files tracked question plan v from ≡ true →
+        shapes_of tracked (world_from files tracked question plan v from)
+        (environment_from files tracked question plan v from) ≡ shape_world_from files tracked question plan v from }
+{}
+
+/// Where each session is external, the shapes of a routing of the question are read from its own bits (`read`), which pass
+/// the test (`passes`).
+pub fn complete_law()
+    ensures read { (files : ListOf FileOf) (tracked : TrackedOf) (question : QuestionOf) (plan : PlanOf)
+        (world : WorldOf) (environment : EnvironmentOf) (v : ℕ → Bool) (from : ℕ) →
+        HasWordNetwork files tracked question → list_all (λ end. not end.internal) (ends_of files) ≡ true →
+        HasUsed files question.packets.dst plan → IsRouting files question world environment →
+        IsAt v from (world_bits files tracked question plan world environment) →
+        shape_world_from files tracked question plan v from ≡ shapes_of tracked world environment }
+    ensures passes { (files : ListOf FileOf) (tracked : TrackedOf) (question : QuestionOf) (plan : PlanOf)
+        (world : WorldOf) (environment : EnvironmentOf) (v : ℕ → Bool) (from : ℕ) →
+        HasWordNetwork files tracked question → list_all (λ end. not end.internal) (ends_of files) ≡ true →
+        HasUsed files question.packets.dst plan → IsRouting files question world environment →
+        IsAt v from (world_bits files tracked question plan world environment) →
+        is_routing files tracked question plan v from ≡ true }
+{}

@@ -1,0 +1,5 @@
+//! The worlds and environments that values of variables stand for in a network with BGP, and the laws that tie them to its
+//! routings.
+#![tactic(auto)]
+
+pub mod laws;
