@@ -69,7 +69,7 @@ fit_each : (room : Option BgpRoom) (x : ℕ → Option BgpShape) (lens : List �
 fit_each room x [] each = tt
 fit_each room x (len ∷ lens) each = (each len, fit_each room x lens each)
 
-found_such : {X : Type 0} (P : X → Type 0) (p : X → Bool) (xs : List X) (x : X) → All P xs → find p xs ≡ Some x →
+pub found_such : {X : Type 0} (P : X → Type 0) (p : X → Bool) (xs : List X) (x : X) → All P xs → find p xs ≡ Some x →
     P x × (p x ≡ true)
 found_such P p [] x all is = absurd cc
 found_such P p (y ∷ ys) x all is = by (p y) refl is (found_such P p ys x (All-tail P y ys all)) where

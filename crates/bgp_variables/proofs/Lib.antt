@@ -5,4 +5,6 @@ pub mod Joining
 pub mod Steps
 pub mod EnvironmentSteps
 pub mod EnvironmentReading
+pub mod ArrivedAgain
 pub mod AnnouncedSteps
+pub mod OpenedTest

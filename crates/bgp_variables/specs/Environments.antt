@@ -9,7 +9,8 @@ use Rattle.route_record.specs.declared.tracked.Tracked.{Tracked}
 use Rattle.net_parts.specs.declared.sessions.SessionEnd.{SessionEnd}
 use Rattle.net_parts.specs.Sessions.{ends_of, external_ends, is_outside, neighbour_of}
 use Rattle.route_shapes.specs.Bgp.{BgpShape}
-use Rattle.bgp_shapes.specs.Candidates.{ShapeAnnouncement, shape_announced}
+use Rattle.bgp_shapes.specs.Candidates.{ShapeAnnouncement, ShapeEnvironment, shape_announced}
+use Rattle.announced_places.specs.Environments.{environment_of}
 use Rattle.failed_links.specs.Rows.{digits, number_from}
 use Rattle.bgp_variables.specs.declared.rooms.BgpRoom.{BgpRoom}
 use Rattle.bgp_variables.specs.Rooms.{announcement_room}
@@ -86,3 +87,8 @@ environment_width tracked files lens =
 abbrev pub environment_bits : Tracked → List File → List ℕ → List Addr → List (Option BgpShape) → List Bool → List Bool
 environment_bits tracked files lens ids shapes rest =
     addresses_bits ids (bgps_bits (announced_rooms tracked files (length lens)) shapes rest)
+
+-- the environment that the values of variables say
+abbrev pub environment_from : Tracked → List File → List ℕ → (ℕ → Bool) → ℕ → ShapeEnvironment
+environment_from tracked files lens v from =
+    environment_of files lens (ids_from files v from) (announced_from tracked files lens v from)

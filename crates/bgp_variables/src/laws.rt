@@ -1,8 +1,10 @@
 //! Laws about the variables of BGP. Each function only carries its law.
 
-ghost use Rattle.std.specs.Prelude.{◌≡◌, ◌+◌, ◌<◌, ℕ, All, Bool, IfSome, length, List as ListOf, Option as OptionOf, Some, not, true};
+ghost use Rattle.std.specs.Prelude.{◌≡◌, ◌+◌, ◌<◌, ℕ, All, Bool, IfSome, length, List as ListOf, Option as OptionOf, slice_get, Some, not, true};
 ghost use Rattle.std.specs.List.{list_all};
 ghost use Rattle.mw_text.specs.declared.address.Addr.{Addr as AddrOf};
+ghost use Rattle.mw_text.specs.declared.address.Prefix.{Prefix as PrefixOf};
+ghost use Rattle.ios_ast.specs.Deciding.{carries};
 ghost use Rattle.ios_ast.specs.declared.bgp.Neighbour.{Neighbour as NeighbourOf};
 ghost use Rattle.ios_ast.specs.declared.file.File.{File as FileOf};
 ghost use Rattle.route_record.specs.declared.Environment.{Environment as EnvironmentOf};
@@ -13,16 +15,21 @@ ghost use Rattle.route_record.specs.declared.TheConstants.{LENGTHS};
 ghost use Rattle.route_record.specs.declared.tracked.Tracked.{Tracked as TrackedOf};
 ghost use Rattle.route_record.specs.Fits.{IsAddress};
 ghost use Rattle.route_record.specs.Places.{slot_at};
-ghost use Rattle.net_parts.specs.Sessions.{ends_of};
+ghost use Rattle.net_parts.specs.declared.sessions.SessionEnd.{SessionEnd as SessionEndOf};
+ghost use Rattle.net_parts.specs.Sessions.{ends_of, is_outside, neighbour_of};
 ghost use Rattle.net_parts.specs.Stable.{Stable};
 ghost use Rattle.route_shapes.specs.Bgp.{BgpShape, bgp_shape};
 ghost use Rattle.failed_links.specs.Rows.{IsAt};
-ghost use Rattle.bgp_shapes.specs.Candidates.{ShapeAnnouncement, shape_announced};
-ghost use Rattle.announced_shapes.specs.Announcements.{IsAnnouncementShape};
+ghost use Rattle.bgp_shapes.specs.Candidates.{ShapeAnnouncement, ShapeEnvironment, ShapeSlot, shape_announced, shape_arriving};
+ghost use Rattle.announced_places.specs.Announced.{Ascend};
+ghost use Rattle.announced_places.specs.Environments.{announcement_of, environment_of};
+ghost use Rattle.announced_shapes.specs.Announcements.{IsAnnouncementShape, is_announcement_shape};
+ghost use Rattle.announced_shapes.specs.Paths.{is_word};
+ghost use Rattle.bgp_variables.specs.Announced.{is_announced};
 ghost use Rattle.bgp_variables.specs.declared.rooms.BgpRoom.{BgpRoom as BgpRoomOf};
 ghost use Rattle.bgp_variables.specs.Environments.{announced_from, announced_rooms, arrivals, environment_bits, environment_width, ids_from, peers_count};
 ghost use Rattle.bgp_variables.specs.Rooms.{announcement_room, full_room};
-ghost use Rattle.bgp_variables.specs.Shapes.{FitBgpRooms, FitsBgpRoom, FitsShape, bgp_bits, bgp_from, bgp_width, bgps_bits, bgps_from, bgps_width};
+ghost use Rattle.bgp_variables.specs.Shapes.{FitBgpRooms, FitsBgpRoom, FitsShape, bgp_bits, bgp_from, bgp_width, bgps_bits, bgps_from, bgps_width, shape_from};
 
 /// A route that fits its room is read from its bits, and so are routes one after another.
 pub fn reading_law()
@@ -63,4 +70,26 @@ pub fn environment_law()
     ensures fits { (tracked : TrackedOf) (files : ListOf FileOf) (announced : ListOf ShapeAnnouncement) (lens : ListOf ℕ) →
         All (IsAnnouncementShape files tracked) announced →
         FitBgpRooms (announced_rooms tracked files (length lens)) (arrivals tracked files lens announced) }
+{}
+
+/// The environment of the messages at all places is that of the announcements, as far as routers look at it: the same
+/// arrives over each session for a prefix of one of these lengths.
+pub fn arriving_law()
+    ensures { (tracked : TrackedOf) (files : ListOf FileOf) (s : ShapeEnvironment) (lens : ListOf ℕ)
+        (slots : ℕ → OptionOf ShapeSlot) (p : PrefixOf) (at : ℕ) (end : SessionEndOf) →
+        All (IsAnnouncementShape files tracked) s.announced → Ascend lens → carries lens p.len ≡ true →
+        slice_get (ends_of files) at ≡ Some end →
+        shape_arriving tracked files (environment_of files lens s.ids (arrivals tracked files lens s.announced)) slots p at end
+        ≡ shape_arriving tracked files s slots p at end }
+{}
+
+/// Where tracked communities have 32 bits, what is asked of an announcement of new variables is all that its peer may
+/// announce: one of an external end at a length.
+pub fn test_law()
+    ensures { (files : ListOf FileOf) (tracked : TrackedOf) (at : ℕ) (end : SessionEndOf) (neighbour : NeighbourOf)
+        (len : ℕ) (v : ℕ → Bool) (from : ℕ) → slice_get (ends_of files) at ≡ Some end → is_outside end.far ≡ true →
+        neighbour_of files end ≡ Some neighbour → len < LENGTHS → list_all is_word tracked.communities ≡ true →
+        is_announcement_shape files tracked
+        (announcement_of at len (shape_from (announcement_room tracked neighbour) v from))
+        ≡ is_announced tracked neighbour.asn (shape_from (announcement_room tracked neighbour) v from) }
 {}

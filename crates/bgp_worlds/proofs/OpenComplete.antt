@@ -56,8 +56,10 @@ use Rattle.bgp_worlds.specs.Opens.{opens_hold, opens_of, place_holds, shape_entr
 use Rattle.bgp_worlds.specs.Opens.{shape_world_of}
 use Rattle.bgp_worlds.proofs.EntryBit.{entry_again}
 use Rattle.bgp_worlds.proofs.OpenSound.{used_there}
-use Rattle.bgp_worlds.proofs.Placed.{item_again, len_small, place_again, range-at, range-length, router_small}
 use Rattle.bgp_worlds.proofs.SameShapes.{entries_same, held_same, learnt_shape}
+use Rattle.std.proofs.lemmas.List.FromFn.{length-range_with_len}
+use Rattle.shape_worlds.proofs.RealWorlds.{len_small, place_of}
+use Rattle.bgp_worlds.proofs.Placed.{item_again, range-at, router_small}
 
 module _ (tracked : Tracked) (files : List File) (destinations : Prefix) (plan : Plan) (world : World)
     (environment : Environment) (net : TracksNet files tracked) (limits : list_all keeps_limits files ≡ true)
@@ -160,7 +162,7 @@ module _ (tracked : Tracked) (files : List File) (destinations : Prefix) (plan :
       let slots = list_ext (map (λ k. among (k / LENGTHS) (k % LENGTHS)) (range_with_len 0 (LENGTHS * length files)))
       (map (slot_shape tracked) world.tables.slots)
       (length-map (range_with_len 0 (LENGTHS * length files)) (λ (k : ℕ). among (k / LENGTHS) (k % LENGTHS))
-      ∙ range-length 0 (LENGTHS * length files) ∙ sym stable.size
+      ∙ length-range_with_len 0 (LENGTHS * length files) ∙ sym stable.size
       ∙ sym (length-map world.tables.slots (slot_shape tracked))) agree in
       λ i. record {
         packet = world.packet;
@@ -185,7 +187,7 @@ module _ (tracked : Tracked) (files : List File) (destinations : Prefix) (plan :
           ∙ ap (λ m. Some (among (m / LENGTHS) (m % LENGTHS))) first
           ∙ ap Some (among_is (k / LENGTHS) (k % LENGTHS) (router_small k (length files) small) (len_small k) is)
           ∙ sym (slice_get-map (slot_shape tracked) world.tables.slots k
-          ∙ ap (λ m. option_map (slot_shape tracked) (slice_get world.tables.slots m)) (sym (place_again k))
+          ∙ ap (λ m. option_map (slot_shape tracked) (slice_get world.tables.slots m)) (sym (place_of k))
           ∙ ap (option_map (slot_shape tracked)) is.here) ∙ there)
 
   -- ---- the test

@@ -51,12 +51,10 @@ use Rattle.rebuilt_routes.specs.Deciding.{is_decided_shape}
 use Rattle.bgp_worlds.specs.Opens.{HaveRooms, OpenSlot, empty_shape, is_bgp_wanted, is_igp_wanted, open_shape, opens_hold}
 use Rattle.bgp_worlds.specs.Opens.{place_holds, shape_slot_among, shape_slot_of, shape_world_of}
 use Rattle.bgp_worlds.proofs.EntryBit.{entry_again}
-use Rattle.bgp_worlds.proofs.Placed.{len_at, len_small, made, place_small, range-at, range-length}
-use Rattle.bgp_worlds.proofs.Placed.{router_at, router_small}
-
-not_there : {A : Type 0} (o : Option A) → is_some o ≡ false → o ≡ None
-not_there None is = refl
-not_there (Some x) is = absurd cc
+use Rattle.std.proofs.lemmas.List.FromFn.{length-range_with_len}
+use Rattle.shape_worlds.proofs.RealWorlds.{len_at, len_small, router_at}
+use Rattle.bgp_worlds.proofs.Placed.{made, place_small, range-at, router_small}
+use Rattle.net_parts.proofs.Defined.{none_here}
 
 -- a router runs no BGP where nothing can stand in its slot
 pub no_process : (files : List File) (destinations : Prefix) (router len : ℕ) (file : File) →
@@ -67,7 +65,7 @@ no_process files destinations router len file unused found =
     (is_some (room_among files (rooms_of files destinations) router len)) unused).0 in
     let sources = (or_parts (has_subnet files destinations router len)
     (option_map_or (has_sources destinations len) (slice_get files router) false) front).1 in
-    not_there file.bgp ((or_parts _ (is_some file.bgp)
+    none_here file.bgp ((or_parts _ (is_some file.bgp)
     (sym (ap (λ o. option_map_or (has_sources destinations len) o false) found) ∙ sources)).1)
 
 -- so it stands at a place of a plan that has all lengths at which something can stand
@@ -177,7 +175,7 @@ module _ (tracked : Tracked) (files : List File) (destinations : Prefix) (plan :
       small =
           let within = slice_get_within s.slots k slot there in
           let long = length-map (range_with_len 0 (LENGTHS * length files)) (λ (k : ℕ). among (k / LENGTHS) (k % LENGTHS)) in
-          let count = range-length 0 (LENGTHS * length files) in
+          let count = length-range_with_len 0 (LENGTHS * length files) in
           omega (arith, within, long, count)
 
       is : slot ≡ among (k / LENGTHS) (k % LENGTHS)
@@ -226,7 +224,7 @@ module _ (tracked : Tracked) (files : List File) (destinations : Prefix) (plan :
       (list_all (slot_holds tracked files s) (enumerate_from 0 s.slots))
       (eq-eqb (length s.slots) (LENGTHS * length files)
       (length-map (range_with_len 0 (LENGTHS * length files)) (λ (k : ℕ). among (k / LENGTHS) (k % LENGTHS))
-      ∙ range-length 0 (LENGTHS * length files)))
+      ∙ length-range_with_len 0 (LENGTHS * length files)))
       (from_places (slot_holds tracked files s) 0 s.slots (λ k slot there.
       let first : 0 + k ≡ k = omega arith in
       ap (λ m. slot_holds tracked files s (m, slot)) first ∙ slot_passes k slot there)))

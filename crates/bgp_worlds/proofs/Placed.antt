@@ -1,6 +1,6 @@
 -- What stands at the places of a plan, and the slots of a shape world by router and length.
-use Rattle.std.proofs.Common.{◌≡◌, ℕ, zero, suc, ◌+◌, ◌*◌, ◌/◌, ◌%◌, ◌<◌, ◌||◌, Bool, true, false, List, []}
-use Rattle.std.proofs.Common.{◌∷◌, length, map, Some, None, refl, sym, ap, ◌∙◌, arith}
+use Rattle.std.proofs.Common.{◌≡◌, ℕ, zero, suc, ◌+◌, ◌*◌, ◌/◌, ◌<◌, ◌||◌, Bool, true, false, List, []}
+use Rattle.std.proofs.Common.{◌∷◌, map, Some, None, refl, sym, ap, ◌∙◌, arith}
 use Rattle.std.specs.Prelude.{if◌then◌else◌, slice_get}
 use Rattle.std.specs.List.{range_with_len}
 use Rattle.std.proofs.lemmas.Bool.{and_parts}
@@ -16,10 +16,6 @@ range-at a zero k below = absurd (omega (arith, below))
 range-at a (suc n) zero below = ap Some (omega arith)
 range-at a (suc n) (suc k) below =
     range-at (a + 1) n k (omega (arith, below)) ∙ ap Some (omega arith)
-
-pub range-length : (a n : ℕ) → length (range_with_len a n) ≡ n
-range-length a zero = refl
-range-length a (suc n) = let rest = range-length (a + 1) n in omega (arith, rest)
 
 -- ---- things at places
 
@@ -83,18 +79,6 @@ item_again {U} open_at (p ∷ ps) router len there =
     by false is there' rest = rest there'
 
 -- ---- places by number
-
-pub len_at : (router len : ℕ) → len < 33 → (33 * router + len) % 33 ≡ len
-len_at router len below = omega (arith, below)
-
-pub router_at : (router len : ℕ) → len < 33 → (33 * router + len) / 33 ≡ router
-router_at router len below = omega (arith, below)
-
-pub place_again : (k : ℕ) → 33 * (k / 33) + k % 33 ≡ k
-place_again k = omega arith
-
-pub len_small : (k : ℕ) → k % 33 < 33
-len_small k = omega arith
 
 pub router_small : (k n : ℕ) → k < 33 * n → k / 33 < n
 router_small k n below = omega (arith, below)

@@ -1,5 +1,5 @@
 -- What is known of the shape of a route that a router sends, and of one that a router makes of a message.
-use Rattle.std.proofs.Common.{◌≡◌, ℕ, ◌+◌, ◌^◌, ◌≤◌, ◌==◌, ◌&&◌, ◌||◌, Bool, true, false, not, List, [], ◌∷◌}
+use Rattle.std.proofs.Common.{◌≡◌, ℕ, ◌+◌, ◌^◌, ◌≤◌, ◌==◌, ◌||◌, Bool, true, false, not, List, [], ◌∷◌}
 use Rattle.std.proofs.Common.{Option, Some, None, length, refl, sym, ap, ◌∙◌, if◌then◌else◌, arith}
 use Rattle.std.specs.Prelude.{IfSome, nat_le, option_and_then, option_map, slice_get}
 use Rattle.std.proofs.lemmas.Bool.{and_parts, leb-true}
@@ -27,7 +27,7 @@ use Rattle.bgp_shapes.specs.Importing.{shape_received, shape_taken_in}
 use Rattle.bgp_shapes.specs.Messages.{seen_by_maps, shape_sets_metric, with_seen}
 use Rattle.bgp_shapes.proofs.Once.{process_of}
 use Rattle.rebuilt_routes.proofs.Marks.{long_with}
-use Rattle.rebuilt_routes.proofs.Options.{if_found, if_then, if_true}
+use Rattle.rebuilt_routes.proofs.Options.{if_found, if_then, if_true, not_both}
 use Rattle.rebuilt_routes.proofs.ShapeMaps.{HasRows, IsAtLeast, IsCounted, through_counted, through_long, through_rows}
 
 pub small : (n : ℕ) → saturated n ≤ 4294967295
@@ -82,11 +82,6 @@ module _ (tracked : Tracked) (files : List File) (end : SessionEnd) (p : Prefix)
           (HasMarks tracked m → IfSome o (HasRows tracked)) → IfSome o IsLeft
       by None long rows = tt
       by (Some r) long rows = record { longer = long; rows = rows }
-
-  not_both : (a b : Bool) → not (a && b) ≡ true → a ≡ true → b ≡ false
-  not_both true true none held = absurd cc
-  not_both true false none held = refl
-  not_both false b none held = absurd cc
 
   taken_short : (r : RouteShape) → shape_is_acceptable tracked files end.router process m ≡ true → IsLeft r →
       IfSome (shape_if_short (with_seen before r)) (IsShapeTaken tracked files end m)

@@ -1,5 +1,5 @@
 -- What is known of options that a call gives, and of the first item that passes.
-use Rattle.std.proofs.Common.{◌≡◌, ℕ, zero, suc, ◌+◌, Bool, true, false, List, [], ◌∷◌}
+use Rattle.std.proofs.Common.{◌≡◌, ℕ, zero, suc, ◌+◌, not, ◌&&◌, ◌||◌, Bool, true, false, List, [], ◌∷◌}
 use Rattle.std.proofs.Common.{Option, Some, None, refl, sym, ap, subst, ◌∙◌, if◌then◌else◌, arith}
 use Rattle.std.specs.Prelude.{IfSome, option_and_then, option_map, slice_get}
 use Rattle.std.specs.List.{enumerate_from, find}
@@ -41,6 +41,17 @@ pub chosen : {X : Type 0} (b : Bool) (o : Option X) (x : X) → (if b then o els
     (b ≡ true) × (o ≡ Some x)
 chosen true o x is = (refl, is)
 chosen false o x is = absurd cc
+
+-- of two of which not both hold, and of a third that holds where both do
+pub not_both : (a b : Bool) → not (a && b) ≡ true → a ≡ true → b ≡ false
+not_both true true none held = absurd cc
+not_both true false none held = refl
+not_both false b none held = absurd cc
+
+pub not_or : (a b c : Bool) → a ≡ true → b ≡ true → (not (a && b) || c) ≡ true → c ≡ true
+not_or true true c one other either = either
+not_or true false c one other either = absurd cc
+not_or false b c one other either = absurd cc
 
 -- ---- the first item that passes
 

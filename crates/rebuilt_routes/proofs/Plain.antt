@@ -52,7 +52,8 @@ through_plain file used p origin med =
     by_map None h = tt
     by_map (Some r) h = record { from = refl; path = h; originator = refl; clusters = refl }
 
-all_given : {X Y : Type 0} (P : Y → Type 0) (h : X → Option Y) → ((x : X) → IfSome (h x) P) → (xs : List X) →
+-- all that a call gives of items
+pub all_given : {X Y : Type 0} (P : Y → Type 0) (h : X → Option Y) → ((x : X) → IfSome (h x) P) → (xs : List X) →
     All P (filter_map h xs)
 all_given P h gives [] = All-nil P
 all_given {X = X} {Y = Y} P h gives (x ∷ xs) = by (h x) (gives x) (all_given P h gives xs)

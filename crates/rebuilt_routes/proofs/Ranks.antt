@@ -1,7 +1,7 @@
 -- Along the session over which a route was learnt its rank rises: an external session puts the own AS number in front of
 -- the path, a reflector marks its cluster, and what goes over an internal session for the first time was learnt over
 -- none.
-use Rattle.std.proofs.Common.{◌≡◌, ℕ, ◌≤◌, ◌<◌, Bool, true, false, not, List, [], ◌∷◌, ◌&&◌, ◌||◌}
+use Rattle.std.proofs.Common.{◌≡◌, ℕ, ◌≤◌, ◌<◌, Bool, true, false, List, [], ◌∷◌}
 use Rattle.std.proofs.Common.{Option, Some, None, refl, sym, ap, ◌∙◌, if◌then◌else◌, arith}
 use Rattle.std.specs.Prelude.{option_and_then, slice_get}
 use Rattle.std.specs.Option.{option_map_or}
@@ -25,6 +25,7 @@ use Rattle.bgp_shapes.specs.Held.{HasMarks}
 use Rattle.bgp_shapes.specs.Tracking.{TracksTests}
 use Rattle.bgp_shapes.proofs.EndLaw.{IsAlike, ends_alike}
 use Rattle.bgp_shapes.proofs.Once.{process_of}
+use Rattle.rebuilt_routes.proofs.Options.{not_or}
 use Rattle.rebuilt_routes.proofs.Crossed.{IsShapeSent, IsShapeTaken}
 use Rattle.rebuilt_routes.specs.Ranks.{count, over_internal, rank}
 use Rattle.rebuilt_routes.proofs.Marks.{count_few, count_more}
@@ -92,11 +93,6 @@ module _ (tracked : Tracked) (files : List File) (net : TracksNet files tracked)
   bit_inside inside =
       ap (λ o. option_map_or (λ (e : SessionEnd). if e.internal then 1 else 0) o 0) found
       ∙ ap (λ b. if b then 1 else 0) (same_kind ∙ inside)
-
-  not_or : (a b c : Bool) → a ≡ true → b ≡ true → (not (a && b) || c) ≡ true → c ≡ true
-  not_or true true c one other either = either
-  not_or true false c one other either = absurd cc
-  not_or false b c one other either = absurd cc
 
   -- a route of an internal session that goes over another is reflected
   reflects : (from : SessionEnd) → far.internal ≡ true → from.internal ≡ true →

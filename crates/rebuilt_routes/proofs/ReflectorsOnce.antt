@@ -36,7 +36,7 @@ use Rattle.bgp_shapes.proofs.Once.{process_of}
 use Rattle.bgp_shapes.proofs.TrackedLaw.{tests_tracked}
 use Rattle.rebuilt_routes.specs.Clusters.{NamesReflectorsOnce, stands_once}
 use Rattle.rebuilt_routes.proofs.Crossed.{runs_there}
-use Rattle.rebuilt_routes.proofs.Options.{if_found, if_is, if_then, if_true}
+use Rattle.rebuilt_routes.proofs.Options.{if_found, if_is, if_then, if_true, not_both, not_or}
 use Rattle.rebuilt_routes.proofs.Plain.{IsPlain}
 use Rattle.rebuilt_routes.proofs.Supported.{IsAnnounced, IsHeardRoute, IsSentFrom, supported}
 
@@ -49,11 +49,6 @@ pub record IsRouteTaken (files : List File) (end : SessionEnd) (message : BgpMsg
   pub few : length rec.path ≤ 255
   pub unlooped : is_reflector process ≡ true →
       list_any (λ id. id.0 == (router_id files end.router).0) rec.clusters ≡ false
-
-not_both : (a b : Bool) → not (a && b) ≡ true → a ≡ true → b ≡ false
-not_both true true none held = absurd cc
-not_both true false none held = refl
-not_both false b none held = absurd cc
 
 taken_length : (files : List File) (end : SessionEnd) (message : BgpMsg) (file : File) (process : Bgp) →
     slice_get files end.router ≡ Some file → file.bgp ≡ Some process → (neighbour : Neighbour) →
@@ -236,11 +231,6 @@ module _ (files : List File) (environment : Environment) (p : Prefix) (tracked :
 
     tests : TracksTests files tracked
     tests = tests_tracked files tracked net
-
-    not_or : (a b c : Bool) → a ≡ true → b ≡ true → (not (a && b) || c) ≡ true → c ≡ true
-    not_or true true c one other either = either
-    not_or true false c one other either = absurd cc
-    not_or false b c one other either = absurd cc
 
     none_listed : (cs : List Addr) → cs ≡ [] → IsListed cs
     none_listed cs none = record {

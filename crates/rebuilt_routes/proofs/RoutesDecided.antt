@@ -109,7 +109,8 @@ key_is tracked files router r s plain same =
       address = address i;
     }
 
-no_value : {X Y : Type 0} (f : X → Y) (o : Option X) → option_map f o ≡ None → o ≡ None
+-- nothing comes of nothing
+pub no_value : {X Y : Type 0} (f : X → Y) (o : Option X) → option_map f o ≡ None → o ≡ None
 no_value f None is = refl
 no_value f (Some x) is = absurd cc
 

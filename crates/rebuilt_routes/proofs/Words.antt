@@ -4,7 +4,7 @@ use Rattle.std.proofs.Common.{◌≡◌, ℕ, ◌==◌, ◌||◌, not, Bool, tru
 use Rattle.std.proofs.Common.{◌∷◌, length, Option, Some, None, nat_lt, refl, subst}
 use Rattle.std.proofs.Common.{if◌then◌else◌}
 use Rattle.std.specs.Prelude.{All, IfSome, nat_le, option_and_then, option_map, slice_get, unwrap_or}
-use Rattle.std.specs.List.{cons_option, filter_map, find}
+use Rattle.std.specs.List.{filter_map, find}
 use Rattle.std.specs.Option.{option_map_or}
 use Rattle.std.proofs.lemmas.Bool.{eqb-true}
 use Rattle.std.proofs.lemmas.List.Elements.{All-append, All-cons, All-head, All-nil, All-tail}
@@ -40,6 +40,7 @@ use Rattle.net_parts.specs.Origins.{by_network, entry_metric, into_bgp, is_defau
 use Rattle.net_parts.specs.Origins.{local_through, taken_metric}
 use Rattle.net_parts.specs.Sessions.{neighbour_of}
 use Rattle.bgp_shapes.specs.Tracking.{TracksTests}
+use Rattle.rebuilt_routes.proofs.Plain.{all_given}
 use Rattle.rebuilt_routes.specs.Words.{HasWordSets, HasWordValues, SetsWords}
 use Rattle.rebuilt_routes.proofs.Options.{if_found, if_then, if_true}
 
@@ -263,15 +264,6 @@ local_words file used p origin med words =
         IfSome (option_map (with_attributes (local_route origin med)) o) IsWordRoute
     by None left = tt
     by (Some r) left = record { path = left.path; communities = left.communities }
-
-all_given : {X Y : Type 0} (P : Y → Type 0) (h : X → Option Y) → ((x : X) → IfSome (h x) P) → (xs : List X) →
-    All P (filter_map h xs)
-all_given P h gives [] = All-nil P
-all_given {X = X} {Y = Y} P h gives (x ∷ xs) = by (h x) (gives x) (all_given P h gives xs)
-  where
-    by : (o : Option Y) → IfSome o P → All P (filter_map h xs) → All P (cons_option o (filter_map h xs))
-    by None holds rest = rest
-    by (Some y) holds rest = All-cons P y (filter_map h xs) holds rest
 
 pub locals_words : (files : List File) (router : ℕ) (file : File) (process : Bgp) (p : Prefix) (slot : Slot) →
     HasWordSets file → All IsWordRoute (local_routes files router file process p slot)

@@ -1,20 +1,17 @@
 -- Things that stand at places in their order are found there again, and make the same list.
 use Rattle.std.proofs.Common.{◌≡◌, ℕ, ◌<◌, ◌==◌, ◌&&◌, ◌⊎◌, inl, inr, Bool, true, false, List, [], ◌∷◌, map}
 use Rattle.std.proofs.Common.{Option, Some, None, refl, sym, ap, ◌∙◌, subst, arith}
-use Rattle.std.specs.Prelude.{All, AllPairs, option_map, if◌then◌else◌}
+use Rattle.std.specs.Prelude.{AllPairs, option_map, if◌then◌else◌}
 use Rattle.std.specs.List.{find}
 use Rattle.std.proofs.lemmas.Bool.Decides.{nat_tests}
-use Rattle.std.proofs.lemmas.List.Elements.{All-contains}
 use Rattle.mw_text.specs.Members.{In}
 use Rattle.net_interfaces.proofs.Pairs.{first, later}
-use Rattle.net_parts.proofs.LeastWalks.{in-contains}
 use Rattle.plan_places.specs.declared.places.Place.{Place}
 use Rattle.plan_places.specs.Places.{IsBefore, is_at, place}
 use Rattle.slot_places.proofs.PlaceLaws.{at-is}
 use Rattle.announced_places.specs.Announced.{made_over}
-
-member : {X : Type 0} (P : X → Type 0) (xs : List X) → All P xs → (x : X) → In x xs → P x
-member P xs all x there = All-contains P xs x all (in-contains x xs there)
+use Rattle.rebuilt_routes.proofs.RealSources.{all_members}
+use Rattle.rebuilt_routes.proofs.RoutesDecided.{no_value}
 
 find_none : {X : Type 0} (p : X → Bool) (xs : List X) → ((x : X) → In x xs → p x ≡ false) → find p xs ≡ None
 find_none p [] none = refl
@@ -41,10 +38,6 @@ before_trans p q r (inl one) (inl other) = inl (omega (arith, one, other))
 before_trans p q r (inl one) (inr (same, other)) = inl (omega (arith, one, same))
 before_trans p q r (inr (same, one)) (inl other) = inl (omega (arith, same, other))
 before_trans p q r (inr (same, one)) (inr (alike, other)) = inr (same ∙ alike, omega (arith, one, other))
-
-no_value : {X Y : Type 0} (f : X → Y) (o : Option X) → option_map f o ≡ None → o ≡ None
-no_value f None is = refl
-no_value f (Some x) is = absurd cc
 
 module _ {U A : Type 0} (build : ℕ → ℕ → U → A) (at : A → Place) (thing : Place → Option U) where
   -- what is found at the place of a thing is what is made there
@@ -82,10 +75,10 @@ module _ {U A : Type 0} (build : ℕ → ℕ → U → A) (at : A → Place) (th
       R a b = IsBefore (at a) (at b)
 
       after : (q : Place) → In q ps → IsBefore p q
-      after q there = member (IsBefore p) ps (first IsBefore p ps up) q there
+      after q there = all_members (IsBefore p) ps (first IsBefore p ps up) q there
 
       behind : (y : A) → In y xs → IsBefore (at x) (at y)
-      behind y there = member (λ b. IsBefore (at x) (at b)) xs (first (λ a b. IsBefore (at a) (at b)) x xs across) y there
+      behind y there = all_members (λ b. IsBefore (at x) (at b)) xs (first (λ a b. IsBefore (at a) (at b)) x xs across) y there
 
       never : (b : Bool) → b ≡ true → b ≡ false → ⊥
       never true one other = cc

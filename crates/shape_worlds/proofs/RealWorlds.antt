@@ -45,16 +45,16 @@ use Rattle.shape_worlds.proofs.Tested.{marks_tested, numbered_at}
 
 -- ---- places
 
-len_at : (router len : ℕ) → len < 33 → (33 * router + len) % 33 ≡ len
+pub len_at : (router len : ℕ) → len < 33 → (33 * router + len) % 33 ≡ len
 len_at router len below = omega (arith, below)
 
-router_at : (router len : ℕ) → len < 33 → (33 * router + len) / 33 ≡ router
+pub router_at : (router len : ℕ) → len < 33 → (33 * router + len) / 33 ≡ router
 router_at router len below = omega (arith, below)
 
-place_of : (k : ℕ) → 33 * (k / 33) + k % 33 ≡ k
+pub place_of : (k : ℕ) → 33 * (k / 33) + k % 33 ≡ k
 place_of k = omega arith
 
-len_small : (k : ℕ) → k % 33 < 33
+pub len_small : (k : ℕ) → k % 33 < 33
 len_small k = omega arith
 
 -- ---- from shapes

@@ -130,7 +130,7 @@ module _ {U : Type 0} (slot_of : Place → U → Slot) (files : List File) (d : 
 
 -- ---- complete: tables that are empty off the places follow from what is open of their slots
 
-item_again : {U : Type 0} (open_at : Place → U) (ps : List Place) (router len : ℕ) →
+pub item_again : {U : Type 0} (open_at : Place → U) (ps : List Place) (router len : ℕ) →
     has_place ps router len ≡ true → item_at ps (map open_at ps) router len ≡ Some (open_at (place router len))
 unfolding item_at
 item_again open_at [] router len there = absurd cc

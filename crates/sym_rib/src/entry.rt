@@ -25,7 +25,7 @@ use route_record::RibSource;
 use std::alloc::{AllocError, Global};
 use sym_policy::{SymNet, SymOspf};
 use term_arith::Bits;
-use term_arith::gates::{both, constant_node, negate};
+use term_arith::gates::{both, negate};
 use term_store::{NodeId, Terms};
 
 /// The entry of a connected subnet.

@@ -1,14 +1,12 @@
 //! Which OSPF records are offered over adjacencies, as terms (RFC 2328, section 16.1).
 
 ghost use Rattle.std.specs.Prelude.{◌≡◌, ℕ, ◌+◌, ◌*◌, ◌<◌, ◌≤◌, ◌==◌, ◌&&◌, ◌||◌, Bool, false, IfOk};
-ghost use Rattle.std.specs.Prelude.{IfSome, Some, None};
-ghost use Rattle.std.specs.Prelude.{if◌then◌else◌, length, slice_get, map, option_copied};
+ghost use Rattle.std.specs.Prelude.{if◌then◌else◌, length, Some, None};
 ghost use Rattle.std.specs.Option.{option_map_or};
 ghost use Rattle.net_parts.specs.Sending as sent;
 ghost use Rattle.sym_policy.specs.Held.{failures_of, ospf_of, ospf_end};
 ghost use Rattle.sym_policy.specs.Records.{prefix_of as prefix_read};
 ghost use Rattle.sym_forwarding.specs.Offers as defined;
-ghost use Rattle.route_record.specs.declared.TheConstants as constants;
 ghost use Rattle.sym_rib.specs.Worlds.{read_tables, slots_end};
 ghost use Rattle.term_store.specs.Terms.{size, at};
 ghost use Rattle.term_store.specs.Reading.{Builds, Gives};
