@@ -2,7 +2,6 @@
 -- of its entry, and the shape of its BGP route. And the worlds that follow.
 use Rattle.std.specs.Prelude.{◌≡◌, All, IfSome, ℕ, ◌*◌, ◌/◌, ◌%◌, ◌&&◌, ◌||◌, Bool, true, false, not, List, length, map, slice_get}
 use Rattle.std.specs.Prelude.{Option, Some, None, option_and_then, option_map, unwrap_or, if◌then◌else◌}
-use Rattle.std.specs.Bool.{beq}
 use Rattle.std.specs.List.{range_with_len}
 use Rattle.std.specs.Option.{option_map_or}
 use Rattle.mw_text.specs.declared.address.Addr.{Addr}
@@ -19,8 +18,6 @@ use Rattle.route_record.specs.declared.TheConstants.{LENGTHS}
 use Rattle.route_record.specs.declared.tracked.Tracked.{Tracked}
 use Rattle.route_record.specs.Fits.{FitsOspf}
 use Rattle.route_record.specs.Places.{slot_at}
-use Rattle.net_parts.specs.Entries.{table_entry}
-use Rattle.net_parts.specs.Stable.{held_ospf}
 use Rattle.route_shapes.specs.Bgp.{BgpShape, bgp_shape}
 use Rattle.bgp_shapes.specs.Candidates.{ShapeEnvironment, ShapeSlot}
 use Rattle.plan_places.specs.declared.places.Place.{Place}
@@ -29,7 +26,7 @@ use Rattle.plan_places.specs.Tables.{all_hold, empty_slot}
 use Rattle.slot_places.specs.Rooms.{can_be_used, room_for}
 use Rattle.sym_rib.specs.Sources.{entry_from}
 use Rattle.world_variables.specs.declared.unknowns.Unknown.{Unknown}
-use Rattle.world_variables.specs.Slots.{entry_of_bit, has_dynamic, same_ospf, unknown_of}
+use Rattle.world_variables.specs.Slots.{entry_of_bit, is_wanted, unknown_of}
 use Rattle.world_variables.specs.Worlds.{FitsDistance}
 use Rattle.rebuilt_routes.specs.Deciding.{is_decided_shape}
 use Rattle.rebuilt_routes.specs.Words.{HasWordNumbers, HasWordValues}
@@ -94,8 +91,7 @@ is_bgp_wanted tracked files s p held file =
 -- the OSPF route is the one that the router holds, and the bit is that of its table's entry, as the tables have it
 abbrev pub is_igp_wanted : List File → ShapeWorld → Tables → Place → Unknown → File → Slot → Bool
 is_igp_wanted files s tables p u file slot =
-    same_ospf u.ospf (held_ospf files s.failures tables p.router file (prefix_at s.packet.dst p.len))
-    && beq u.dynamic (has_dynamic (table_entry files s.failures p.router file (prefix_at s.packet.dst p.len) slot))
+    is_wanted files s.failures s.packet.dst tables p.router p.len u slot file
 
 -- what is open of a slot is as shapes and tables want it; nothing is asked where nothing can stand
 abbrev pub place_holds : Tracked → List File → Prefix → ShapeWorld → Tables → Place → OpenSlot → Bool

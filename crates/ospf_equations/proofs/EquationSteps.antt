@@ -1,7 +1,7 @@
 -- Routes of a router, one interface and one adjacency after another.
 use Rattle.std.proofs.Common.{◌≡◌, ℕ, ◌+◌, ◌*◌, ◌<◌, ◌≤◌, Bool, true, false, ◌||◌, not, List, [], ◌∷◌, ◌++◌, length}
 use Rattle.std.proofs.Common.{drop, filter, map, max, get_or, Option, Some, None, refl, sym, ap, ap₂, arith, ◌∙◌}
-use Rattle.std.specs.Prelude.{◌==◌, ◌&&◌, if◌then◌else◌, cond, option_and_then}
+use Rattle.std.specs.Prelude.{◌==◌, ◌&&◌, if◌then◌else◌, cond}
 use Rattle.std.specs.List.{filter_map, cons_option}
 use Rattle.std.specs.Option.{option_to_list}
 use Rattle.std.proofs.lemmas.Grind.{common_steps}
@@ -11,22 +11,17 @@ use Rattle.mw_text.specs.Address.{same_prefix}
 use Rattle.ios_ast.specs.declared.file.File.{File}
 use Rattle.route_record.specs.declared.Failures.{Failures}
 use Rattle.route_record.specs.declared.OspfRec.{OspfRec}
-use Rattle.route_record.specs.declared.Slot.{Slot}
 use Rattle.route_record.specs.declared.Tables.{Tables}
-use Rattle.route_record.specs.declared.TheConstants.{LENGTHS}
 use Rattle.net_parts.specs.declared.adjacencies.Adjacency.{Adjacency}
 use Rattle.net_parts.specs.declared.ospf.OspfInterface.{OspfInterface}
 use Rattle.net_parts.specs.Ospf.{advertisement, receives}
-use Rattle.net_parts.specs.OspfRoutes.{extended, offer_over}
+use Rattle.net_parts.specs.OspfRoutes.{offer_over}
 use Rattle.net_parts.specs.World.{is_up}
 use Rattle.term_store.specs.Terms.{Reading}
 use Rattle.sym_policy.specs.declared.records.SymOspf.{SymOspf}
 use Rattle.sym_policy.specs.Held.{internal_route, ospf_of, ospf_end}
-use Rattle.sym_rib.specs.declared.slots.SymSlot.{SymSlot}
 use Rattle.sym_rib.specs.Into.{list_end}
 use Rattle.sym_rib.proofs.OneEach.{filter_map_push, list_end_push}
-use Rattle.sym_rib.specs.Worlds.{sym_slot_at, tables_of}
-use Rattle.sym_rib.proofs.SlotPlaces.{slot_missing, slot_there}
 use Rattle.ospf_equations.specs.Equations.{offered_by, offers_by, origin_by, originates, origins_by}
 
 -- ---- one route more
@@ -95,22 +90,7 @@ pub routes_joined : (first : List SymOspf) (x : SymOspf) (rest : List SymOspf) �
     (first ++ x ∷ []) ++ rest ≡ first ++ x ∷ rest
 routes_joined first x rest = append_assoc first (x ∷ []) rest
 
--- ---- offers of a far router
-
-module _ (w : Reading) (lens : List ℕ) (routers : ℕ) (slots : List SymSlot) (p : Prefix) (a : Adjacency)
-    (short : p.len < LENGTHS) where
-  -- one that has no slot offers nothing
-  pub no_offer : sym_slot_at lens routers slots a.to.router p.len ≡ None →
-      offer_over (tables_of w lens routers slots) p a ≡ None
-  no_offer none = ap (option_and_then (extended a.cost))
-      (slot_missing w lens routers slots (λ (slot : Slot). slot.ospf) a.to.router p.len refl short none)
-
-  -- and another what its slot holds
-  pub offer_placed : (s : SymSlot) → sym_slot_at lens routers slots a.to.router p.len ≡ Some s →
-      offer_over (tables_of w lens routers slots) p a ≡ option_and_then (extended a.cost) (ospf_of w s.ospf)
-  offer_placed s here =
-      ap (λ o. option_and_then (extended a.cost) (option_and_then (λ (slot : Slot). slot.ospf) o))
-      (slot_there w lens routers slots a.to.router p.len s short here)
+-- ---- lists of routes
 
 pub nothing_put : (xs : List OspfRec) (b : Bool) (o : Option OspfRec) → o ≡ None →
     xs ≡ xs ++ option_to_list (if b then o else None)

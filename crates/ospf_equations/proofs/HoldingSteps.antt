@@ -3,7 +3,6 @@ use Rattle.std.proofs.Common.{◌≡◌, ℕ, zero, suc, ◌+◌, ◌<◌, ◌�
 use Rattle.std.proofs.Common.{length, drop}
 use Rattle.std.proofs.Common.{get_or, max, Option, Some, None, refl, ap, arith}
 use Rattle.std.specs.Prelude.{if◌then◌else◌}
-use Rattle.std.specs.Bool.{beq}
 use Rattle.std.specs.List.{filter_map, cons_option, list_any}
 use Rattle.std.specs.Option.{option_map_or}
 use Rattle.std.proofs.lemmas.Grind.{common_steps}
@@ -44,12 +43,10 @@ pub held_is : (b any : Bool) (f : OspfRec → Bool) (x : OspfRec) → any ≡ f 
 held_is true any f x same = same
 held_is false any f x same = refl
 
--- no route and no own origin
-pub closed_is : (a own : Bool) (x : OspfRec) → not (a || own)
-    ≡ (same_ospf (if a then Some x else None) None && beq own false)
-closed_is true own x = refl
-closed_is false true x = refl
-closed_is false false x = refl
+-- no route is there exactly where the node is false
+pub none_is : (there : Bool) (x : OspfRec) → not there ≡ same_ospf (if there then Some x else None) None
+none_is true x = refl
+none_is false x = refl
 
 -- ---- one route after another
 

@@ -23,11 +23,9 @@ use Rattle.net_parts.specs.OspfRoutes.{first_best, held_by_ospf, is_as_good, off
 use Rattle.term_store.specs.Terms.{differ}
 use Rattle.sym_policy.specs.Held.{internal_route}
 use Rattle.ospf_equations.specs.Equations.{offers_by, originates, origins_by}
-use Rattle.route_record.specs.declared.RibEntry.{RibEntry}
-use Rattle.net_parts.specs.Entries.{entry_with, own_is_as_good, table_entry}
-use Rattle.world_variables.specs.Slots.{bare, has_dynamic, is_wanted, open_slot, same_ospf}
+use Rattle.net_parts.specs.Entries.{entry_with}
+use Rattle.world_variables.specs.Slots.{has_dynamic, is_wanted, same_ospf}
 use Rattle.world_variables.specs.declared.unknowns.Unknown.{Unknown}
-use Rattle.world_variables.proofs.Stability.{entry_bare, not_dynamic}
 
 pub some_same : {A : Type 0} (x y : A) → Some x ≡ Some y → x ≡ y
 some_same x y same = cc
@@ -41,54 +39,41 @@ agree_is false false = refl
 -- the held route is the first best of all, and the bit that of the entry, where an own origin is as good as one of the own
 -- is
 pub wanted_is : (files : List File) (failures : Failures) (d : Addr) (tables : Tables) (router len : ℕ) (u : Unknown)
-    (file : File) (process : Ospf) (slot : Slot) → file.ospf ≡ Some process → slot_at tables router len ≡ Some slot →
-    slot ≡ open_slot files failures d router len u →
-    is_wanted files failures d tables router len u file
+    (slot : Slot) (file : File) (process : Ospf) → file.ospf ≡ Some process → slot_at tables router len ≡ Some slot →
+    u.ospf ≡ slot.ospf → is_wanted files failures d tables router len u slot file
     ≡ (same_ospf u.ospf (first_best (own_origins files failures router file process (prefix_at d len) slot
     ++ offers_by files failures tables router (prefix_at d len) (adjacencies files)))
     && beq u.dynamic (has_dynamic (entry_with files failures router file (prefix_at d len) slot
     (option_map_or (λ h. list_any (λ o. is_as_good o h)
     (own_origins files failures router file process (prefix_at d len) slot)) u.ospf false))))
 unfolding up_adjacencies offers_by
-wanted_is files failures d tables router len u file process slot runs there same =
+wanted_is files failures d tables router len u slot file process runs there same =
     ap₂ (λ a b. same_ospf u.ospf a && beq u.dynamic (has_dynamic b))
     (ap (λ o. option_and_then (λ q. held_by_ospf files failures tables router file q (prefix_at d len)) o) runs
     ∙ held_by_offers files failures tables router file process (prefix_at d len)
     ∙ ap (λ o. first_best (option_map_or (own_origins files failures router file process (prefix_at d len)) o []
     ++ filter_map (offer_over tables (prefix_at d len)) (up_adjacencies files failures router))) there)
-    (ap (λ o. entry_with files failures router file (prefix_at d len) (open_slot files failures d router len u)
+    (ap (λ o. entry_with files failures router file (prefix_at d len) slot
     (option_map_or (λ h. option_map_or (λ q. list_any (λ r. is_as_good r h)
-    (own_origins files failures router file q (prefix_at d len) (open_slot files failures d router len u))) o false)
-    u.ospf false)) runs
-    ∙ ap (λ s. entry_with files failures router file (prefix_at d len) s (option_map_or (λ h. list_any
-    (λ r. is_as_good r h) (own_origins files failures router file process (prefix_at d len) s)) u.ospf false)) (sym same))
+    (own_origins files failures router file q (prefix_at d len) slot)) o false) slot.ospf false)) runs
+    ∙ ap (λ (o : Option OspfRec). entry_with files failures router file (prefix_at d len) slot (option_map_or (λ h. list_any
+    (λ r. is_as_good r h) (own_origins files failures router file process (prefix_at d len) slot)) o false)) (sym same))
 
--- a router without OSPF holds no OSPF route, and its entry is not OSPF's
+-- a router without OSPF holds no OSPF route, and its entry is made without one
 pub closed_wanted : (files : List File) (failures : Failures) (d : Addr) (tables : Tables) (router len : ℕ)
-    (u : Unknown) (file : File) → file.ospf ≡ None → (same_ospf u.ospf None && beq u.dynamic false)
-    ≡ is_wanted files failures d tables router len u file
-closed_wanted files failures d tables router len u file none =
-    by u.ospf refl
-    ∙ ap (λ o. same_ospf u.ospf (option_and_then (λ q. held_by_ospf files failures tables router file q (prefix_at d len)) o)
-    && beq u.dynamic (has_dynamic entry)) (sym none)
+    (u : Unknown) (slot : Slot) (file : File) → file.ospf ≡ None → (same_ospf u.ospf None && beq u.dynamic (has_dynamic
+    (entry_with files failures router file (prefix_at d len) slot false)))
+    ≡ is_wanted files failures d tables router len u slot file
+closed_wanted files failures d tables router len u slot file none =
+    ap₂ (λ o own. same_ospf u.ospf (option_and_then (λ q. held_by_ospf files failures tables router file q
+    (prefix_at d len)) o) && beq u.dynamic (has_dynamic (entry_with files failures router file (prefix_at d len) slot own)))
+    (sym none) (no_own slot.ospf)
   where
-    slot : Slot
-    slot = open_slot files failures d router len u
-
-    entry : Option RibEntry
-    entry = table_entry files failures router file (prefix_at d len) slot
-
-    by : (o : Option OspfRec) → u.ospf ≡ o → (same_ospf u.ospf None && beq u.dynamic false)
-        ≡ (same_ospf u.ospf None && beq u.dynamic (has_dynamic entry))
-    by None is =
-        let own = own_is_as_good files failures router file (prefix_at d len) slot in
-        let bare_is : entry ≡ entry_with files failures router file (prefix_at d len) (bare None) own =
-        entry_bare files failures router file (prefix_at d len) slot own refl
-        ∙ ap (λ o. entry_with files failures router file (prefix_at d len) (bare o) own) is in
-        ap (λ b. same_ospf u.ospf None && beq u.dynamic b)
-        (sym (ap has_dynamic bare_is ∙ not_dynamic files failures router file (prefix_at d len) own))
-    by (Some r) is = ap (λ o. same_ospf o None && beq u.dynamic false) is
-        ∙ sym (ap (λ o. same_ospf o None && beq u.dynamic (has_dynamic entry)) is)
+    no_own : (o : Option OspfRec) → false ≡ option_map_or (λ h. option_map_or (λ q. list_any (λ r. is_as_good r h)
+        (own_origins files failures router file q (prefix_at d len) slot)) file.ospf false) o false
+    no_own None = refl
+    no_own (Some h) = sym (ap (λ o. option_map_or (λ q. list_any (λ r. is_as_good r h)
+        (own_origins files failures router file q (prefix_at d len) slot)) o false) none)
 
 -- the own origins are those by interfaces, and what the process takes from the router's own table
 pub own_is : (files : List File) (failures : Failures) (router : ℕ) (file : File) (process : Ospf) (p : Prefix)

@@ -7,14 +7,17 @@ ghost use Rattle.std.specs.Option.{option_map_or};
 ghost use Rattle.ios_ast.specs.declared.file.File.{File as FileOf};
 ghost use Rattle.ios_ast.specs.declared.ospf.Ospf.{Ospf as OspfOf};
 ghost use Rattle.net_parts.specs.OspfRoutes.{is_as_good};
+ghost use Rattle.net_parts.specs.Entries.{entry_with};
+ghost use Rattle.route_record.specs.declared.Slot.{Slot as SlotOf};
+ghost use Rattle.route_record.specs.declared.Tables.{Tables as TablesOf};
 ghost use Rattle.route_record.specs.Places.{slot_at};
-ghost use Rattle.sym_policy.specs.Held.{bgp_of, failures_of, ospf_at, ospf_of, ospf_end};
-ghost use Rattle.sym_policy.specs.Records.{address_of};
+ghost use Rattle.sym_policy.specs.Held.{failures_of, ospf_at, ospf_of, ospf_end};
+ghost use Rattle.sym_policy.specs.Records.{address_of, prefix_of as prefix_read};
 ghost use Rattle.sym_rib.specs.Into.{HasTracked, list_end};
-ghost use Rattle.sym_rib.specs.Slots.{slot_end};
-ghost use Rattle.sym_rib.specs.Worlds.{read_tables, slots_end, slot_of as slot_read};
-ghost use Rattle.ospf_equations.specs.Equations.{AreBare, HaveTracked, IsOpenSlot};
-ghost use Rattle.world_variables.specs.Slots.{is_wanted, open_slot, same_ospf};
+ghost use Rattle.sym_rib.specs.Slots.{StandsForSlot, slot_end};
+ghost use Rattle.sym_rib.specs.Worlds.{slots_end};
+ghost use Rattle.ospf_equations.specs.Equations.{HaveTracked, IsOpenIn, StandFor};
+ghost use Rattle.world_variables.specs.Slots.{has_dynamic, is_wanted, same_ospf};
 ghost use Rattle.world_variables.specs.Symbols.{open_of, open_end};
 ghost use Rattle.term_store.specs.Terms.{Reading, at, size};
 ghost use Rattle.term_store.specs.Reading.{Reads, Builds, Gives};
@@ -82,6 +85,81 @@ fn sym_as_good(terms: &mut Terms, own: &[SymOspf], held: &SymOspf) -> Result<Nod
 }
 
 // Whether what is open of the slot of a router that runs OSPF is as the tables want it.
+fn sym_runs(
+    alloc: Global,
+    terms: &mut Terms,
+    net: &Net,
+    sym: &SymNet,
+    tables: &SymTables<'_>,
+    router: u32,
+    dst: &Bits,
+    len: u8,
+    slot: &SymSlot,
+    part: &SymOpen,
+    limits: &[u32],
+) -> Result<NodeId, AllocError>
+    requires long { len ≤ 32 }
+    requires wide { length dst.now.nodes.items ≡ 32 }
+    requires nodes { ids_end dst.now.nodes.items ≤ size terms.old }
+    requires down { ids_end sym.now.down ≤ size terms.old }
+    requires rows { HasTracked net.now.tracked slot.now.bgp }
+    requires tables { slots_end tables.now.slots.now ≤ size terms.old }
+    requires slot { slot_end slot.now ≤ size terms.old }
+    requires part { open_end part.now ≤ size terms.old }
+    ensures builds { Builds terms.old terms.new }
+    ensures within { IfOk result (λ r. r.0 < size terms.new) }
+    ensures value { Gives terms.new result (λ w r. (real : TablesOf) (held : SlotOf) (file : FileOf) (process : OspfOf) →
+        StandFor w net.now.tracked tables.now real → StandsForSlot w net.now.tracked slot.now held →
+        slot_at real router len ≡ Some held → ospf_of w part.now.ospf ≡ held.ospf →
+        slice_get net.now.files router ≡ Some file → file.ospf ≡ Some process →
+        at w r ≡ is_wanted net.now.files (failures_of w sym.now) (address_of w dst.now) real router len
+        (open_of w part.now) held file) }
+{
+    let own = own_routes(alloc, terms, net, sym, router, dst, len, slot)?;
+    let good = sym_as_good(terms, own.as_slice(), &part.ospf)?;
+    let best = sym_held(
+        alloc, terms, net, sym, tables, router, dst, len, own, &part.ospf, limits,
+    )?;
+    let bit = sym_dynamic(alloc, terms, net, sym, router, dst, len, slot, good)?;
+    let same = agree(terms, part.dynamic, bit)?;
+    let wanted = both(terms, best, same)?;
+    Ok(wanted)
+}
+
+// The same for a router without OSPF: there is no route, and the bit is that of an entry without OSPF's.
+fn sym_closed(
+    alloc: Global,
+    terms: &mut Terms,
+    net: &Net,
+    sym: &SymNet,
+    router: u32,
+    dst: &Bits,
+    len: u8,
+    slot: &SymSlot,
+    part: &SymOpen,
+) -> Result<NodeId, AllocError>
+    requires long { len ≤ 32 }
+    requires wide { length dst.now.nodes.items ≡ 32 }
+    requires nodes { ids_end dst.now.nodes.items ≤ size terms.old }
+    requires down { ids_end sym.now.down ≤ size terms.old }
+    requires slot { slot_end slot.now ≤ size terms.old }
+    requires part { open_end part.now ≤ size terms.old }
+    ensures builds { Builds terms.old terms.new }
+    ensures within { IfOk result (λ r. r.0 < size terms.new) }
+    ensures value { Gives terms.new result (λ w r. (held : SlotOf) (file : FileOf) →
+        StandsForSlot w net.now.tracked slot.now held → slice_get net.now.files router ≡ Some file →
+        at w r ≡ (same_ospf (ospf_of w part.now.ospf) None && beq (at w part.now.dynamic) (has_dynamic (entry_with
+        net.now.files (failures_of w sym.now) router file (prefix_read w dst.now len) held false)))) }
+{
+    let never = constant_node(terms, false)?;
+    let bit = sym_dynamic(alloc, terms, net, sym, router, dst, len, slot, never)?;
+    let same = agree(terms, part.dynamic, bit)?;
+    let none = negate(terms, part.ospf.valid)?;
+    let closed = both(terms, none, same)?;
+    Ok(closed)
+}
+
+// The same for each router, whether it runs OSPF or not.
 fn sym_wanted(
     alloc: Global,
     terms: &mut Terms,
@@ -105,79 +183,32 @@ fn sym_wanted(
     requires part { open_end part.now ≤ size terms.old }
     ensures builds { Builds terms.old terms.new }
     ensures within { IfOk result (λ r. r.0 < size terms.new) }
-    ensures value { Gives terms.new result (λ w r. (file : FileOf) (process : OspfOf) →
-        slice_get net.now.files router ≡ Some file → file.ospf ≡ Some process → bgp_of w slot.now.bgp ≡ None →
-        slot_at (read_tables w tables.now) router len ≡ Some (slot_read w slot.now) →
-        slot_read w slot.now
-        ≡ open_slot net.now.files (failures_of w sym.now) (address_of w dst.now) router len (open_of w part.now) →
-        at w r ≡ is_wanted net.now.files (failures_of w sym.now) (address_of w dst.now) (read_tables w tables.now)
-        router len (open_of w part.now) file) }
+    ensures value { Gives terms.new result (λ w r. (real : TablesOf) (held : SlotOf) →
+        StandFor w net.now.tracked tables.now real → StandsForSlot w net.now.tracked slot.now held →
+        slot_at real router len ≡ Some held → ospf_of w part.now.ospf ≡ held.ospf →
+        at w r ≡ option_map_or (is_wanted net.now.files (failures_of w sym.now) (address_of w dst.now) real router len
+        (open_of w part.now) held) (slice_get net.now.files router) false) }
 {
-    let own = own_routes(alloc, terms, net, sym, router, dst, len, slot)?;
-    let good = sym_as_good(terms, own.as_slice(), &part.ospf)?;
-    let held = sym_held(
-        alloc, terms, net, sym, tables, router, dst, len, own, &part.ospf, limits,
-    )?;
-    let bit = sym_dynamic(alloc, terms, net, sym, router, dst, len, slot, good)?;
-    let same = agree(terms, part.dynamic, bit)?;
-    let wanted = both(terms, held, same)?;
-    Ok(wanted)
-}
-
-// The same for a router without OSPF: there is no route, and no entry of OSPF.
-#[tactic(auto, using(crate::proofs::HoldingSteps::closed_is))]
-fn sym_closed(terms: &mut Terms, part: &SymOpen) -> Result<NodeId, AllocError>
-    requires part { open_end part.now ≤ size terms.old }
-    ensures builds { Builds terms.old terms.new }
-    ensures within { IfOk result (λ r. r.0 < size terms.new) }
-    ensures value { Gives terms.new result (λ w r. at w r
-        ≡ (same_ospf (ospf_of w part.now.ospf) None && beq (at w part.now.dynamic) false)) }
-{
-    let some = either(terms, part.ospf.valid, part.dynamic)?;
-    negate(terms, some)
-}
-
-// The same for each router that runs OSPF, whose symbolic slot stands in the tables.
-fn sym_runs(
-    alloc: Global,
-    terms: &mut Terms,
-    net: &Net,
-    sym: &SymNet,
-    tables: &SymTables<'_>,
-    router: u32,
-    dst: &Bits,
-    len: u8,
-    part: &SymOpen,
-    limits: &[u32],
-) -> Result<NodeId, AllocError>
-    requires long { len ≤ 32 }
-    requires wide { length dst.now.nodes.items ≡ 32 }
-    requires nodes { ids_end dst.now.nodes.items ≤ size terms.old }
-    requires down { ids_end sym.now.down ≤ size terms.old }
-    requires rows { HaveTracked net.now.tracked tables.now.slots.now }
-    requires tables { slots_end tables.now.slots.now ≤ size terms.old }
-    requires part { open_end part.now ≤ size terms.old }
-    ensures builds { Builds terms.old terms.new }
-    ensures within { IfOk result (λ r. r.0 < size terms.new) }
-    ensures value { Gives terms.new result (λ w r. (file : FileOf) (process : OspfOf) →
-        slice_get net.now.files router ≡ Some file → file.ospf ≡ Some process → AreBare w tables.now.slots.now →
-        IsOpenSlot w net.now.files sym.now dst.now tables.now router len part.now →
-        at w r ≡ is_wanted net.now.files (failures_of w sym.now) (address_of w dst.now) (read_tables w tables.now)
-        router len (open_of w part.now) file) }
-{
-    match slot_for(tables, router, len) {
+    match file_of(net.routers(), router) {
         None => constant_node(terms, false),
-        Some(slot) => {
-            let made = sym_wanted(
-                alloc, terms, net, sym, tables, router, dst, len, slot, part, limits,
-            )?;
-            Ok(made)
-        }
+        Some(file) => match &file.ospf {
+            None => {
+                let made = sym_closed(alloc, terms, net, sym, router, dst, len, slot, part)?;
+                Ok(made)
+            }
+            Some(_) => {
+                let made = sym_runs(
+                    alloc, terms, net, sym, tables, router, dst, len, slot, part, limits,
+                )?;
+                Ok(made)
+            }
+        },
     }
 }
 
 /// Whether what is open of a slot is as the tables want it: its OSPF route is the one that its router holds, and its bit is
-/// that of the entry of the router's table. The symbolic slot that follows from what is open stands in the tables.
+/// that of the entry of the router's table. The tables are real ones that the symbolic slots stand for; one of these stands
+/// for the router's slot at that length, and what is open has its OSPF route.
 pub fn sym_slot_holds(
     alloc: Global,
     terms: &mut Terms,
@@ -199,21 +230,18 @@ pub fn sym_slot_holds(
     requires part { open_end part.now ≤ size terms.old }
     ensures builds { Builds terms.old terms.new }
     ensures within { IfOk result (λ r. r.0 < size terms.new) }
-    ensures value { Gives terms.new result (λ w r. AreBare w tables.now.slots.now →
-        IsOpenSlot w net.now.files sym.now dst.now tables.now router len part.now →
-        at w r ≡ option_map_or (is_wanted net.now.files (failures_of w sym.now) (address_of w dst.now)
-        (read_tables w tables.now) router len (open_of w part.now)) (slice_get net.now.files router) false) }
+    ensures value { Gives terms.new result (λ w r. (real : TablesOf) (held : SlotOf) →
+        StandFor w net.now.tracked tables.now real → IsOpenIn w tables.now real router len part.now held →
+        at w r ≡ option_map_or (is_wanted net.now.files (failures_of w sym.now) (address_of w dst.now) real router len
+        (open_of w part.now) held) (slice_get net.now.files router) false) }
 {
-    match file_of(net.routers(), router) {
+    match slot_for(tables, router, len) {
         None => constant_node(terms, false),
-        Some(file) => match &file.ospf {
-            None => sym_closed(terms, part),
-            Some(_) => {
-                let made = sym_runs(
-                    alloc, terms, net, sym, tables, router, dst, len, part, limits,
-                )?;
-                Ok(made)
-            }
-        },
+        Some(slot) => {
+            let made = sym_wanted(
+                alloc, terms, net, sym, tables, router, dst, len, slot, part, limits,
+            )?;
+            Ok(made)
+        }
     }
 }

@@ -6,12 +6,14 @@ ghost use Rattle.std.specs.Prelude.{◌≡◌, ◌+◌, ◌≤◌, ◌<◌, ◌*
 ghost use Rattle.std.specs.List.{filter_map, list_any};
 ghost use Rattle.net_parts.specs.Ospf as model;
 ghost use Rattle.net_parts.specs.OspfRoutes.{first_best, offer_over};
+ghost use Rattle.route_record.specs.declared.Tables.{Tables as TablesOf};
+ghost use Rattle.route_record.specs.declared.tracked.Tracked.{Tracked as TrackedOf};
 ghost use Rattle.sym_policy.specs.Held.{failures_of, ospf_of, ospf_end};
 ghost use Rattle.sym_policy.specs.Records.{prefix_of as prefix_read};
 ghost use Rattle.sym_rib.specs.Into.{list_end};
-ghost use Rattle.sym_rib.specs.Worlds.{read_tables, slots_end};
+ghost use Rattle.sym_rib.specs.Worlds.{slots_end};
 ghost use Rattle.ospf_equations.specs.Adjacent.{offers_read, ups_end};
-ghost use Rattle.ospf_equations.specs.Equations.{offers_by};
+ghost use Rattle.ospf_equations.specs.Equations.{StandFor, offers_by};
 ghost use Rattle.ospf_equations.specs.Levels.{has_within, is_within, of_length};
 ghost use Rattle.world_variables.specs.Slots.{same_ospf};
 ghost use Rattle.term_store.specs.Terms.{Reading, at, size};
@@ -76,8 +78,9 @@ fn sym_far_within(
     requires up { up.0 < size terms.old }
     ensures builds { Builds terms.old terms.new }
     ensures within { IfOk result (λ r. r.0 < size terms.new) }
-    ensures value { Gives terms.new result (λ w r. at w r ≡ has_within most (if at w up
-        then offer_over (read_tables w tables.now) (of_length len) a.now else None)) }
+    ensures value { Gives terms.new result (λ w r. (tracked : TrackedOf) (real : TablesOf) →
+        StandFor w tracked tables.now real →
+        at w r ≡ has_within most (if at w up then offer_over real (of_length len) a.now else None)) }
 {
     if a.cost > most {
         return constant_node(terms, false);
@@ -105,8 +108,9 @@ fn sym_offers_within(
     requires over { ups_end over.now ≤ size terms.old }
     ensures builds { Builds terms.old terms.new }
     ensures within { IfOk result (λ r. r.0 < size terms.new) }
-    ensures value { Gives terms.new result (λ w r. at w r ≡ list_any (is_within most)
-        (offers_read w (read_tables w tables.now) (of_length len) over.now)) }
+    ensures value { Gives terms.new result (λ w r. (tracked : TrackedOf) (real : TablesOf) →
+        StandFor w tracked tables.now real →
+        at w r ≡ list_any (is_within most) (offers_read w real (of_length len) over.now)) }
 {
     let mut any = constant_node(terms, false)?;
     for s in over {
@@ -134,9 +138,9 @@ fn sym_level(
     requires held { ospf_end held.now ≤ size terms.old }
     ensures builds { Builds terms.old terms.new }
     ensures within { IfOk result (λ r. r.0 < size terms.new) }
-    ensures value { Gives terms.new result (λ w r. same_ospf (ospf_of w held.now) (first_best
-        (filter_map (ospf_of w) own.now ++ offers_read w (read_tables w tables.now) (of_length len) over.now)) ≡ true
-        → at w r ≡ true) }
+    ensures value { Gives terms.new result (λ w r. (tracked : TrackedOf) (real : TablesOf) →
+        StandFor w tracked tables.now real → same_ospf (ospf_of w held.now) (first_best (filter_map (ospf_of w) own.now
+        ++ offers_read w real (of_length len) over.now)) ≡ true → at w r ≡ true) }
 {
     let here = sym_within(terms, held, most)?;
     let own = sym_some_within(terms, own, most)?;
@@ -180,9 +184,9 @@ fn sym_all_levels(
     requires held { ospf_end held.now ≤ size terms.old }
     ensures builds { Builds terms.old terms.new }
     ensures within { IfOk result (λ r. r.0 < size terms.new) }
-    ensures value { Gives terms.new result (λ w r. same_ospf (ospf_of w held.now) (first_best
-        (filter_map (ospf_of w) own.now ++ offers_read w (read_tables w tables.now) (of_length len) over.now)) ≡ true
-        → at w r ≡ true) }
+    ensures value { Gives terms.new result (λ w r. (tracked : TrackedOf) (real : TablesOf) →
+        StandFor w tracked tables.now real → same_ospf (ospf_of w held.now) (first_best (filter_map (ospf_of w) own.now
+        ++ offers_read w real (of_length len) over.now)) ≡ true → at w r ≡ true) }
 {
     let mut all = constant_node(terms, true)?;
     for most in limits {
@@ -214,9 +218,10 @@ pub fn sym_held(
     requires held { ospf_end held.now ≤ size terms.old }
     ensures builds { Builds terms.old terms.new }
     ensures within { IfOk result (λ r. r.0 < size terms.new) }
-    ensures value { Gives terms.new result (λ w r. at w r ≡ same_ospf (ospf_of w held.now) (first_best
-        (filter_map (ospf_of w) own ++ offers_by net.now.files (failures_of w sym.now) (read_tables w tables.now) router
-        (prefix_read w dst.now len) (model.adjacencies net.now.files)))) }
+    ensures value { Gives terms.new result (λ w r. (real : TablesOf) → StandFor w net.now.tracked tables.now real →
+        at w r ≡ same_ospf (ospf_of w held.now) (first_best (filter_map (ospf_of w) own
+        ++ offers_by net.now.files (failures_of w sym.now) real router (prefix_read w dst.now len)
+        (model.adjacencies net.now.files)))) }
 {
     let shown = if is_never(terms, held.valid) {
         &[]

@@ -4,11 +4,14 @@ ghost use Rattle.std.specs.Prelude.{◌≡◌, ℕ, ◌+◌, ◌≤◌, ◌<◌,
 ghost use Rattle.std.specs.List.{filter_map};
 ghost use Rattle.std.specs.Option.{option_to_list};
 ghost use Rattle.net_parts.specs.OspfRoutes.{offer_over};
+ghost use Rattle.route_record.specs.declared.Tables.{Tables as TablesOf};
+ghost use Rattle.route_record.specs.declared.tracked.Tracked.{Tracked as TrackedOf};
 ghost use Rattle.sym_policy.specs.Held.{ospf_of, ospf_end};
 ghost use Rattle.sym_policy.specs.Records.{prefix_of as prefix_read};
 ghost use Rattle.sym_rib.specs.Into.{list_end};
-ghost use Rattle.sym_rib.specs.Worlds.{read_tables, slots_end};
+ghost use Rattle.sym_rib.specs.Worlds.{slots_end};
 ghost use Rattle.ospf_equations.specs.Adjacent.{offers_read, ups_end};
+ghost use Rattle.ospf_equations.specs.Equations.{StandFor};
 ghost use Rattle.term_store.specs.Terms.{Reading, at, size};
 ghost use Rattle.term_store.specs.Reading.{Reads, Builds, Gives};
 ghost use Rattle.term_arith.specs.Bits.{ids_end};
@@ -42,9 +45,10 @@ fn put_far(
     requires made { list_end ospf_end made.old ≤ size terms.old }
     ensures builds { Builds terms.old terms.new }
     ensures within { OnOk result (list_end ospf_end made.new ≤ size terms.new) }
-    ensures value { Gives terms.new result (λ w _. filter_map (ospf_of w) made.new
+    ensures value { Gives terms.new result (λ w _. (tracked : TrackedOf) (real : TablesOf) →
+        StandFor w tracked tables.now real → filter_map (ospf_of w) made.new
         ≡ filter_map (ospf_of w) made.old ++ option_to_list (if at w up
-        then offer_over (read_tables w tables.now) (prefix_read w dst.now len) a.now else None)) }
+        then offer_over real (prefix_read w dst.now len) a.now else None)) }
 {
     match slot_for(tables, a.to.router, len) {
         None => Ok(()),
@@ -74,8 +78,9 @@ pub fn with_offers(
     requires own { list_end ospf_end own ≤ size terms.old }
     ensures builds { Builds terms.old terms.new }
     ensures within { IfOk result (λ r. list_end ospf_end r ≤ size terms.new) }
-    ensures value { Gives terms.new result (λ w r. filter_map (ospf_of w) r ≡ filter_map (ospf_of w) own
-        ++ offers_read w (read_tables w tables.now) (prefix_read w dst.now len) over.now) }
+    ensures value { Gives terms.new result (λ w r. (tracked : TrackedOf) (real : TablesOf) →
+        StandFor w tracked tables.now real → filter_map (ospf_of w) r ≡ filter_map (ospf_of w) own
+        ++ offers_read w real (prefix_read w dst.now len) over.now) }
 {
     let mut made = own;
     for s in over {

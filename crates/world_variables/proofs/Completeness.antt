@@ -79,9 +79,11 @@ slot_again files failures d tables router len slot meets =
 -- and what is open of it passes the test
 open_holds : (files : List File) (failures : Failures) (d : Addr) (tables : Tables) (router len : ℕ) (slot : Slot) →
     Meets files failures d tables router len slot →
-    option_map_or (is_wanted files failures d tables router len (unknown_of slot)) (slice_get files router) false ≡ true
+    option_map_or (is_wanted files failures d tables router len (unknown_of slot)
+    (open_slot files failures d router len (unknown_of slot))) (slice_get files router) false ≡ true
 open_holds files failures d tables router len slot meets =
-    ap (λ o. option_map_or (is_wanted files failures d tables router len u) o false) meets.there
+    ap (λ o. option_map_or (is_wanted files failures d tables router len u
+    (open_slot files failures d router len u)) o false) meets.there
     ∙ and_from _ _ same bit
   where
     u : Unknown
@@ -176,8 +178,8 @@ module _ (files : List File) (destinations : Prefix) (plan : Plan) (d : Addr) (f
 
     by : (b : Bool) → can_be_used files destinations router len ≡ b →
         ((if b then open_slot files failures d router len u else empty_slot) ≡ slot_in router len)
-        × ((not b || option_map_or (is_wanted files failures d tables router len u) (slice_get files router) false)
-        ≡ true)
+        × ((not b || option_map_or (is_wanted files failures d tables router len u
+        (open_slot files failures d router len u)) (slice_get files router) false) ≡ true)
     by false unused = (sym (nothing_in router len below short unused), refl)
     by true used =
         let slot = there router len below short in
@@ -186,7 +188,8 @@ module _ (files : List File) (destinations : Prefix) (plan : Plan) (d : Addr) (f
         slot.here in (
           ap (λ (s : Slot). open_slot files failures d router len (unknown_of s)) is
               ∙ slot_again files failures d tables router len slot.slot meets ∙ sym is,
-          ap (λ (s : Slot). option_map_or (is_wanted files failures d tables router len (unknown_of s))
+          ap (λ (s : Slot). option_map_or (is_wanted files failures d tables router len (unknown_of s)
+              (open_slot files failures d router len (unknown_of s)))
               (slice_get files router) false) is ∙ open_holds files failures d tables router len slot.slot meets,
         )
 

@@ -378,15 +378,16 @@ module _ (files : List File) (destinations : Prefix) (plan : Plan) (d : Addr) (f
       (held_nowhere len short)
 
   open_stable : (router len : ℕ) (file : File) (u : Unknown) → slice_get files router ≡ Some file →
-      option_map_or (is_wanted files failures d tables router len u) (slice_get files router) false ≡ true →
+      option_map_or (is_wanted files failures d tables router len u
+      (open_slot files failures d router len u)) (slice_get files router) false ≡ true →
       IsStableSlot files failures environment tables router file (prefix_at d len)
       (open_slot files failures d router len u)
   open_stable router len file u at holds =
-      let wanted : is_wanted files failures d tables router len u file ≡ true =
-      ap (λ o. option_map_or (is_wanted files failures d tables router len u) o false) (sym at) ∙ holds in
+      let slot = open_slot files failures d router len u in
+      let wanted : is_wanted files failures d tables router len u slot file ≡ true =
+      ap (λ o. option_map_or (is_wanted files failures d tables router len u slot) o false) (sym at) ∙ holds in
       let both = and_parts (same_ospf u.ospf (held_ospf files failures tables router file (prefix_at d len))) _ wanted in
       let p = prefix_at d len in
-      let slot = open_slot files failures d router len u in
       let own = own_is_as_good files failures router file p slot in
       let entry : table_entry files failures router file p slot ≡ entry_with files failures router file p
       (bare u.ospf) own = entry_bare files failures router file p slot own refl in
@@ -409,11 +410,13 @@ module _ (files : List File) (destinations : Prefix) (plan : Plan) (d : Addr) (f
       (slot_of files destinations failures d (place router len) u)
   held_there router len file u at short = by (can_be_used files destinations router len) refl where
     wanted : Bool
-    wanted = option_map_or (is_wanted files failures d tables router len u) (slice_get files router) false
+    wanted = option_map_or (is_wanted files failures d tables router len u (open_slot files failures d router len u))
+        (slice_get files router) false
 
     by : (b : Bool) → can_be_used files destinations router len ≡ b →
         slot_at tables router len ≡ Some (if b then open_slot files failures d router len u else empty_slot) →
-        (not b || option_map_or (is_wanted files failures d tables router len u) (slice_get files router) false) ≡ true →
+        (not b || option_map_or (is_wanted files failures d tables router len u
+        (open_slot files failures d router len u)) (slice_get files router) false) ≡ true →
         IsStableSlot files failures environment tables router file (prefix_at d len)
         (if b then open_slot files failures d router len u else empty_slot)
     by true used here holds = open_stable router len file u at holds

@@ -93,18 +93,19 @@ same_ospf None (Some b) = false
 same_ospf (Some a) None = false
 same_ospf (Some a) (Some b) = same_record a b
 
--- what is open of a slot is as the tables want it: the route that the router holds, and the bit of its table's entry
-abbrev pub is_wanted : List File → Failures → Addr → Tables → ℕ → ℕ → Unknown → File → Bool
-is_wanted files failures d tables router len u file =
+-- what is open of a slot of some tables is as they want it: the route that the router holds, and the bit of its table's
+-- entry, also beside a route of BGP
+abbrev pub is_wanted : List File → Failures → Addr → Tables → ℕ → ℕ → Unknown → Slot → File → Bool
+is_wanted files failures d tables router len u slot file =
     same_ospf u.ospf (held_ospf files failures tables router file (prefix_at d len))
-    && beq u.dynamic (has_dynamic (table_entry files failures router file (prefix_at d len)
-    (open_slot files failures d router len u)))
+    && beq u.dynamic (has_dynamic (table_entry files failures router file (prefix_at d len) slot))
 
 -- nothing is asked where nothing can stand
 abbrev pub slot_holds : List File → Prefix → Failures → Addr → Tables → Place → Unknown → Bool
 slot_holds files destinations failures d tables p u =
     not (can_be_used files destinations p.router p.len)
-    || option_map_or (is_wanted files failures d tables p.router p.len u) (slice_get files p.router) false
+    || option_map_or (is_wanted files failures d tables p.router p.len u
+    (open_slot files failures d p.router p.len u)) (slice_get files p.router) false
 
 -- so are all at the places of a plan
 abbrev pub are_wanted : List File → Prefix → Plan → Failures → Addr → Tables → List Unknown → Bool

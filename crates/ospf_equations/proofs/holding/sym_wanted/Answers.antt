@@ -1,56 +1,35 @@
-use Rattle.std.proofs.Common.{◌++◌, ap, ap₂, refl, sym, ◌∙◌, Bool, List, ◌&&◌}
-use Rattle.std.specs.Bool.{beq}
-use Rattle.std.specs.List.{filter_map, list_any}
+use Rattle.std.proofs.Common.{◌≡◌, Some, false, sym, ap, ◌∙◌}
+use Rattle.std.specs.Prelude.{option_copied, slice_get}
 use Rattle.std.specs.Option.{option_map_or}
-use Rattle.mw_text.specs.Address.{prefix_at}
-use Rattle.route_record.specs.declared.OspfRec.{OspfRec}
-use Rattle.net_parts.specs.Ospf.{adjacencies}
-use Rattle.net_parts.specs.OspfRoutes.{first_best, is_as_good}
-use Rattle.term_store.specs.Terms.{at}
-use Rattle.sym_policy.specs.Held.{failures_of, ospf_of}
+use Rattle.sym_policy.specs.Held.{failures_of}
 use Rattle.sym_policy.specs.Records.{address_of}
-use Rattle.sym_rib.specs.Worlds.{read_tables, slot_of as slot_read}
-use Rattle.ospf_equations.specs.Equations.{offers_by}
-use Rattle.std.specs.Prelude.{option_and_then}
-use Rattle.net_parts.specs.Entries.{entry_with}
-use Rattle.sym_rib.specs.Slots.{StandsForSlot}
-use Rattle.world_variables.specs.Slots.{has_dynamic, same_ospf}
+use Rattle.world_variables.specs.Slots.{is_wanted}
 use Rattle.world_variables.specs.Symbols.{open_of}
-use Rattle.ospf_equations.proofs.BareSlots.{bare_stands}
-use Rattle.ospf_equations.proofs.Wanted.{agree_is, wanted_is}
+use Rattle.ospf_equations.proofs.Wanted.{closed_wanted}
 use Rattle.ospf_equations.proofs.holding.sym_wanted.Goals as goal
 
-pub returns-clause-value : goal.returns-clause-value
-returns-clause-value c = λ w reads file process found runs bare there same.
-    let r5 = c.both.ensures.builds.reads w reads in
-    let r4 = c.agree.ensures.builds.reads w r5 in
-    let r3 = c.sym_dynamic.ensures.builds.reads w r4 in
-    let r2 = c.sym_held.ensures.builds.reads w r3 in
-    let r1 = c.sym_as_good.ensures.builds.reads w r2 in
+pub returns-in_ok-made-in-None-ospf-clause-value : goal.returns-in_ok-made-in-None-ospf-clause-value
+returns-in_ok-made-in-None-ospf-clause-value c = λ w reads real slot stand stands there same.
     let files = c.args.net.now.files in
     let failures = failures_of w c.args.sym.now in
+    let d = address_of w c.args.dst.now in
     let part = open_of w c.args.part.now in
-    let slot = slot_read w c.args.slot.now in
-    let p = prefix_at (address_of w c.args.dst.now) c.args.len in
-    let offers = offers_by files failures (read_tables w c.args.tables.now) c.args.router p (adjacencies files) in
-    let stands : StandsForSlot w c.args.net.now.tracked c.args.slot.now slot = record {
-      ospf = refl;
-      bgp = bare_stands w c.args.net.now.tracked c.args.slot.now.bgp bare;
-      rib = refl;
-    } in
-    let own = c.in_ok-own.ensures.value w r1 file process slot found runs stands in
-    let good = c.in_ok-good.ensures.value w r2
-    ∙ ap (λ (rs : List OspfRec). option_map_or (λ h. list_any (λ o. is_as_good o h) rs) part.ospf Bool.false)
-    (ap (filter_map (ospf_of w)) c.as_slice.ensures ∙ own) in
-    let held = c.in_ok-held.ensures.value w r3 in
-    let bit = c.in_ok-bit.ensures.value w r4 slot stands
-    ∙ ap (λ o. has_dynamic (option_and_then (λ f. entry_with files failures c.args.router f p slot
-    (at w c.in_ok-good.good)) o)) found
-    ∙ ap (λ b. has_dynamic (entry_with files failures c.args.router file p slot b)) good in
-    let agreed = c.in_ok-same.ensures.value w r5 in
-    c.in_ok-wanted.ensures.value w reads
-    ∙ ap₂ (λ a b. a && b)
-    (held ∙ ap (λ (rs : List OspfRec). same_ospf part.ospf (first_best (rs ++ offers))) own)
-    (agreed ∙ agree_is part.dynamic (at w c.in_ok-bit.bit) ∙ ap (beq part.dynamic) bit)
-    ∙ sym (wanted_is files failures (address_of w c.args.dst.now) (read_tables w c.args.tables.now) c.args.router
-    c.args.len part file process slot runs there same)
+    let file = c.in-Some.file.now in
+    let found : slice_get files c.args.router ≡ Some file = ap (λ xs. slice_get xs c.args.router) (sym c.routers.ensures.all)
+    ∙ sym c.file_of.ensures ∙ ap option_copied c.in-Some.is in
+    c.in_ok-made-in-None-ospf.ensures.value w reads slot file stands found
+    ∙ closed_wanted files failures d real c.args.router c.args.len part slot file c.in-None-ospf.is
+    ∙ ap (λ o. option_map_or (is_wanted files failures d real c.args.router c.args.len part slot) o false) (sym found)
+
+pub returns-in_ok-made-in-Some-ospf-clause-value : goal.returns-in_ok-made-in-Some-ospf-clause-value
+returns-in_ok-made-in-Some-ospf-clause-value c = λ w reads real slot stand stands there same.
+    let files = c.args.net.now.files in
+    let failures = failures_of w c.args.sym.now in
+    let d = address_of w c.args.dst.now in
+    let part = open_of w c.args.part.now in
+    let file = c.in-Some.file.now in
+    let found : slice_get files c.args.router ≡ Some file = ap (λ xs. slice_get xs c.args.router) (sym c.routers.ensures.all)
+    ∙ sym c.file_of.ensures ∙ ap option_copied c.in-Some.is in
+    c.in_ok-made-in-Some-ospf.ensures.value w reads real slot file c.in-Some-ospf.field-0 stand stands there same found
+    c.in-Some-ospf.is
+    ∙ ap (λ o. option_map_or (is_wanted files failures d real c.args.router c.args.len part slot) o false) (sym found)
