@@ -1,1 +1,5 @@
 pub mod ExternalCost
+pub mod Environments
+pub mod Arriving
+pub mod LearntOver
+pub mod CandidateSteps
