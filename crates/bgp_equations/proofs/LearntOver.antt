@@ -215,11 +215,11 @@ inner_with files failures end up there reached valid way external s r peer there
     by_way false (Some n) is = absurd cc
 
     by : (v b : Bool) → (if way then made r.cost else None) ≡ option_map (λ cost. record {
-          rec = s;
-          external = external;
-          cost = cost;
-          peer_id = peer;
-        }) (resolved files failures end.router (record { 0 = s.next_hop })) →
+      rec = s;
+      external = external;
+      cost = cost;
+      peer_id = peer;
+    }) (resolved files failures end.router (record { 0 = s.next_hop })) →
         (if v && (b && way) then made r.cost else None)
         ≡ (if b then option_and_then (λ s. option_map (λ cost. record {
           rec = s;

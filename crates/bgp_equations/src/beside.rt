@@ -40,12 +40,7 @@ use term_store::{NodeId, Terms};
 // ---- who sent it
 
 /// The identifier of the router of the end at a place, 0 where there is no such end.
-fn router_id_at(
-    alloc: Global,
-    terms: &mut Terms,
-    net: &Net,
-    at: u32,
-) -> Result<Bits, AllocError>
+fn router_id_at(alloc: Global, terms: &mut Terms, net: &Net, at: u32) -> Result<Bits, AllocError>
     ensures builds { Builds terms.old terms.new }
     ensures within { IfOk result (λ r. ids_end r.nodes.items ≤ size terms.new) }
     ensures width { IfOk result (λ r. length r.nodes.items ≡ 32) }
