@@ -55,7 +55,7 @@ use Rattle.rebuilt_routes.specs.Following.{held_at, numbered_end, own_routes, sh
 use Rattle.rebuilt_routes.proofs.EndsApart.{end_again}
 use Rattle.rebuilt_routes.proofs.Followed.{taken_shape}
 use Rattle.rebuilt_routes.proofs.Plain.{IsPlain}
-use Rattle.rebuilt_routes.proofs.RoutesDecided.{find_in}
+use Rattle.rebuilt_routes.proofs.RealSources.{find_in}
 use Rattle.rebuilt_routes.proofs.ShapesFollow.{one_shape, own_plain}
 use Rattle.rebuilt_routes.proofs.Supported.{has_marks}
 use Rattle.path_rebuild.specs.Follows.{AllFollow, IsLearntShape, IsLocalShape, IsOfFarSide, Known, shape_at}

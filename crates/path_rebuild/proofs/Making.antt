@@ -40,7 +40,7 @@ use Rattle.rebuilt_routes.specs.Following.{slot_with}
 use Rattle.rebuilt_routes.proofs.Followed.{are_real}
 use Rattle.rebuilt_routes.proofs.Numbered.{from_end, numbered_place}
 use Rattle.rebuilt_routes.proofs.Options.{chained, find_passes}
-use Rattle.rebuilt_routes.proofs.RoutesDecided.{find_in}
+use Rattle.rebuilt_routes.proofs.RealSources.{find_in}
 use Rattle.rebuilt_routes.proofs.Sources.{arriving_in, routes_in}
 use Rattle.path_rebuild.specs.declared.Rebuilt.{Rebuilt}
 use Rattle.path_rebuild.specs.Follows.{AllFollow, AreAnnounced, IsImported, IsRebuilt, IsRebuiltSlot, Known, known_of}
