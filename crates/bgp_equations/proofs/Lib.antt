@@ -3,3 +3,4 @@ pub mod Environments
 pub mod Arriving
 pub mod LearntOver
 pub mod CandidateSteps
+pub mod LocalSteps

@@ -10,6 +10,7 @@ use Rattle.route_record.specs.declared.tracked.Tracked.{Tracked}
 use Rattle.net_parts.specs.Ospf.{advertised}
 use Rattle.net_parts.specs.Sessions.{ends_of, is_outside}
 use Rattle.net_parts.specs.declared.sessions.SessionEnd.{SessionEnd}
+use Rattle.route_shapes.specs.Bgp.{BgpShape}
 use Rattle.bgp_shapes.specs.Candidates.{ShapeCandidate, ShapeEnvironment, ShapeSlot, shape_arriving, shape_learnt}
 use Rattle.rebuilt_routes.specs.Deciding.{is_decided_shape}
 use Rattle.term_store.specs.Terms.{Reading}
@@ -50,6 +51,10 @@ learnt_read w tracked files sym env tables dst len e =
 -- the same where the end is one of the router
 abbrev pub learnt_by : (ℕ × SessionEnd → Option ShapeCandidate) → ℕ → ℕ → SessionEnd → Option ShapeCandidate
 learnt_by learnt router at end = if end.router == router then learnt (at, end) else None
+
+-- the candidate of a local route of a router with that identifier
+abbrev pub local_with : ℕ → BgpShape → ShapeCandidate
+local_with id s = record { rec = s; external = false; cost = 0; peer_id = id }
 
 -- ---- interior distances
 

@@ -90,7 +90,7 @@ fn learnt(
 }
 
 /// Puts a candidate at the end.
-fn put_cand(cands: &mut List<SymCand>, cand: SymCand) -> Result<(), AllocError>
+pub(crate) fn put_cand(cands: &mut List<SymCand>, cand: SymCand) -> Result<(), AllocError>
     ensures { OnOk result (cands.new ≡ cands.old ++ cand ∷ []) }
 {
     cands.items.push(cand)?;

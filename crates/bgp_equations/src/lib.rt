@@ -6,10 +6,13 @@
 #![tactic(auto)]
 
 mod beside;
+mod candidates;
 mod environment;
+mod holding;
 pub mod laws;
 mod learnt;
 mod messages;
 mod parts;
 
 pub use environment::SymEnv;
+pub use holding::sym_bgp_holds;
