@@ -7,13 +7,13 @@ use Rattle.std.proofs.Common.{Option, Some, None, refl, sym, ap, ◌∙◌, subs
 use Rattle.std.specs.Prelude.{All, IfSome, MatchOption, nat_le, option_and_then, option_map, slice_get, unwrap_or}
 use Rattle.std.specs.List.{cons_option, enumerate_from, filter_map, list_all, list_any, range_with_len}
 use Rattle.std.specs.Option.{option_map_or}
-use Rattle.std.proofs.lemmas.Bool.{eq-eqb, eqb-true, leb-true, or_left, or_right}
+use Rattle.std.proofs.lemmas.Bool.{eq-eqb, eqb-true, false≢true, leb-true, or_left, or_right}
 use Rattle.std.proofs.lemmas.List.{length-map}
 use Rattle.std.proofs.lemmas.List.Elements.{All-append, All-cons, All-contains, All-filter, All-head, All-map, All-nil}
 use Rattle.std.proofs.lemmas.List.Elements.{All-tail, All-weaker, filter_passes}
 use Rattle.std.proofs.lemmas.Map.Steps.{le-length_from_below}
 use Rattle.std.proofs.lemmas.Option.{same_Some, slice_get_within}
-use Rattle.mw_text.proofs.Lists.{all_found, item_there}
+use Rattle.mw_text.proofs.Lists.{all_at, all_found, item_there}
 use Rattle.mw_text.specs.declared.address.Addr.{Addr}
 use Rattle.mw_text.specs.declared.address.Prefix.{Prefix}
 use Rattle.mw_text.specs.Address.{prefix_at, same_prefix}
@@ -30,6 +30,7 @@ use Rattle.route_record.specs.declared.BgpRec.{BgpRec}
 use Rattle.route_record.specs.declared.Environment.{Environment}
 use Rattle.route_record.specs.declared.Failures.{Failures}
 use Rattle.route_record.specs.declared.Learnt.TheVariants.{Peer}
+use Rattle.route_record.specs.declared.Origin.{Origin as OriginOf}
 use Rattle.route_record.specs.declared.Origin.TheVariants.{Igp, Incomplete}
 use Rattle.route_record.specs.declared.Slot.{Slot}
 use Rattle.route_record.specs.declared.Tables.{Tables}
@@ -108,13 +109,14 @@ survivors_all P always compare_id xs all =
 pub record IsBare (rec : BgpRec) : Type 0 where
   pub path : rec.path ≡ []
   pub clusters : rec.clusters ≡ []
+  pub originator : rec.originator ≡ None
 
-local_bare : (file : File) (used : Option Use) (p : Prefix) (rec : BgpRec) → rec.path ≡ [] → rec.clusters ≡ [] →
+local_bare : (file : File) (used : Option Use) (p : Prefix) (rec : BgpRec) → IsBare rec →
     IfSome (local_through file used p rec) IsBare
-local_bare file used p rec path clusters =
+local_bare file used p rec bare =
     by_map (through_map file.policies used p false (attributes_of rec))
     (through_keeps (λ r. r.path ≡ []) false (λ r line is. by_line r line is) file.policies used p (attributes_of rec)
-    path)
+    bare.path)
   where
     by_line : (r : Attributes) (line : SetAct) → r.path ≡ [] → (set_one false r line).path ≡ []
     by_line r (LocalPref n) is = is
@@ -128,7 +130,10 @@ local_bare file used p rec path clusters =
 
     by_map : (o : Option Attributes) → IfSome o (λ r. r.path ≡ []) → IfSome (option_map (with_attributes rec) o) IsBare
     by_map None h = tt
-    by_map (Some r) h = record { path = h; clusters = clusters }
+    by_map (Some r) h = record { path = h; clusters = bare.clusters; originator = bare.originator }
+
+nothing_bare : (origin : OriginOf) (med : ℕ) → IsBare (local_route origin med)
+nothing_bare origin med = record { path = refl; clusters = refl; originator = refl }
 
 locals_bare : (files : List File) (router : ℕ) (file : File) (process : Bgp) (p : Prefix) (slot : Slot) →
     All IsBare (local_routes files router file process p slot)
@@ -138,12 +143,13 @@ locals_bare files router file process p slot =
     (filter_map (into_bgp files router file p slot) process.redistribute)
     (all_kept (λ x. Unit {0}) IsBare (by_network file p slot) (λ line yes.
     if_then IsBare _ (λ entry. if_then IsBare _ (λ med.
-    if_true IsBare (same_prefix line.prefix p) _ (local_bare file line.map p (local_route Igp med) refl refl))
+    if_true IsBare (same_prefix line.prefix p) _ (local_bare file line.map p (local_route Igp med) (nothing_bare Igp med)))
     (entry_metric slot entry.source)) slot.rib) process.networks (all_such process.networks))
     (all_kept (λ x. Unit {0}) IsBare (into_bgp files router file p slot) (λ line yes.
     if_then IsBare _ (λ entry. if_then IsBare _ (λ metric.
     by_default (is_default p) _
-    (local_bare file line.map p (local_route Incomplete (unwrap_or line.metric metric)) refl refl))
+    (local_bare file line.map p (local_route Incomplete (unwrap_or line.metric metric))
+    (nothing_bare Incomplete (unwrap_or line.metric metric))))
     (taken_metric files router p slot line entry.source)) slot.rib) process.redistribute
     (all_such process.redistribute))
   where
@@ -155,6 +161,7 @@ locals_bare files router file process p slot =
 
 pub record IsTaken (files : List File) (end : SessionEnd) (message : BgpMsg) (rec : BgpRec) : Type 0 where
   pub clusters : rec.clusters ≡ message.clusters
+  pub originator : rec.originator ≡ message.originator
   pub few : length rec.path ≤ 255
   pub neighbour : Neighbour
   pub named : neighbour_of files end ≡ Some neighbour
@@ -179,6 +186,7 @@ taken_parts files end p message =
             IfSome (if b then Some rec else None) (IsTaken files end message)
         by_test true is = record {
           clusters = refl;
+          originator = refl;
           few = leb-true (length r.path) exports.most_numbers is;
           neighbour = neighbour;
           named = named;
@@ -197,10 +205,14 @@ taken_parts files end p message =
 
 -- ---- what is sent
 
--- a message over an external session has no clusters, and over an internal one those of a reflected route
+-- a message of a route that no router has reflected
+abbrev IsPlain : BgpMsg → Type 0
+IsPlain message = (message.clusters ≡ []) × (message.originator ≡ None)
+
+-- such is a message over an external session, and one over an internal session has the clusters of a reflected route
 abbrev IsSent : List File → SessionEnd → BgpRec → BgpMsg → Type 0
 IsSent files end held message =
-    (message.clusters ≡ []) ⊎ ((end.internal ≡ true)
+    IsPlain message ⊎ ((end.internal ≡ true)
     × (message.clusters
     ≡ exports.reflected_clusters files end.router held (exports.learnt_over files end.router held.from)))
 
@@ -216,7 +228,7 @@ sent_parts files end p held =
   where
     by_kind : (b : Bool) → end.internal ≡ b → (m n : BgpMsg) →
         m.clusters ≡ exports.reflected_clusters files end.router held (exports.learnt_over files end.router held.from) →
-        n.clusters ≡ [] → IsSent files end held (if b then m else n)
+        IsPlain n → IsSent files end held (if b then m else n)
     by_kind true is m n one none = inr (is, one)
     by_kind false is m n one none = inl none
 
@@ -228,7 +240,7 @@ sent_parts files end p held =
         held r) o)
         (IsSent files end held)
     by_map file process neighbour None = tt
-    by_map file process neighbour (Some r) = by_kind end.internal refl _ _ refl refl
+    by_map file process neighbour (Some r) = by_kind end.internal refl _ _ refl (refl, refl)
 
 -- ---- the candidates of a router over given tables
 
@@ -375,10 +387,10 @@ module _ (files : List File) (failures : Failures) (environment : Environment) (
     holds : held far.router ≡ Some route
     sent : IsSent files far route message
 
-  -- what arrives has no clusters, or a far router sent it
+  -- what arrives was never reflected, or a far router sent it
   heard_from : (at : ℕ) (end : SessionEnd) (message : BgpMsg) →
       arriving files environment tables p at end ≡ Some message →
-      (message.clusters ≡ []) ⊎ IsHeardFrom end message
+      IsPlain message ⊎ IsHeardFrom end message
   unfolding arriving
   heard_from at end message arrived = by_far end.far refl arrived
     where
@@ -393,11 +405,11 @@ module _ (files : List File) (failures : Failures) (environment : Environment) (
       some_from f (Some x) y is = (x, refl, same_Some (f x) y is)
 
       by_far : (far : Far) → end.far ≡ far → arriving files environment tables p at (record end { far = far })
-          ≡ Some message → (message.clusters ≡ []) ⊎ IsHeardFrom end message
+          ≡ Some message → IsPlain message ⊎ IsHeardFrom end message
       by_far Outside is arrived =
           let line = some_then _ (neighbour_of files end) message arrived in
           let said = some_from _ _ message line.2 in
-          inl (ap (λ m. m.clusters) (sym said.2))
+          inl (ap (λ m. m.clusters) (sym said.2), ap (λ m. m.originator) (sym said.2))
       by_far (Inside far_at) is arrived =
           let far = some_then _ (slice_get (ends_of files) far_at) message arrived in
           let route = some_then (exports.exported files far.0 p) _ message far.2 in
@@ -411,6 +423,39 @@ module _ (files : List File) (failures : Failures) (environment : Environment) (
             holds = route.1;
             sent = subst (λ o. IfSome o (IsSent files far.0 route.0)) route.2 sent;
           })
+
+  -- ---- what no router has reflected
+
+  -- no path is too long
+  short_path : (router : ℕ) (rec : BgpRec) → IsFrom router rec → length rec.path ≤ 255
+  short_path router rec (inl bare) = let none = ap length bare.path in omega (arith, none)
+  short_path router rec (inr learnt) = learnt.taken.few
+
+  -- where each session is external no route has clusters or an originator
+  plain_from : list_all (λ end. not end.internal) (ends_of files) ≡ true → (router : ℕ) (rec : BgpRec) →
+      IsFrom router rec → (rec.clusters ≡ []) × (rec.originator ≡ None)
+  plain_from external router rec (inl bare) = (bare.clusters, bare.originator)
+  plain_from external router rec (inr learnt) =
+      by_message (heard_from learnt.at learnt.end learnt.message learnt.arrived)
+    where
+      inside : (end : SessionEnd) (at : ℕ) → slice_get (ends_of files) at ≡ Some end → end.internal ≡ true → ⊥
+      inside end at there internal =
+          let outer : not end.internal ≡ true = all_at (λ (e : SessionEnd). not e.internal)
+          (ends_of files) at end external there in
+          false≢true (sym (ap not internal) ∙ outer)
+
+      whole : IsPlain learnt.message → (rec.clusters ≡ []) × (rec.originator ≡ None)
+      whole plain = (learnt.taken.clusters ∙ plain.0, learnt.taken.originator ∙ plain.1)
+
+      by_sent : (heard : IsHeardFrom learnt.end learnt.message) → IsSent files heard.far heard.route learnt.message →
+          IsPlain learnt.message
+      by_sent heard (inl plain) = plain
+      by_sent heard (inr (internal, clusters)) = absurd (inside heard.far heard.at heard.there internal)
+
+      by_message : IsPlain learnt.message ⊎ IsHeardFrom learnt.end learnt.message →
+          (rec.clusters ≡ []) × (rec.originator ≡ None)
+      by_message (inl plain) = whole plain
+      by_message (inr heard) = whole (by_sent heard heard.sent)
 
   -- ---- clusters one by one
 
@@ -440,7 +485,7 @@ module _ (files : List File) (failures : Failures) (environment : Environment) (
           by_sent : (heard : IsHeardFrom learnt.end learnt.message) →
               IsSent files heard.far heard.route learnt.message →
               IsReflected router rec
-          by_sent heard (inl none) = absurd (none_not rec.clusters k (same ∙ none) long)
+          by_sent heard (inl plain) = absurd (none_not rec.clusters k (same ∙ plain.0) long)
           by_sent heard (inr (internal, clusters)) = record {
             learnt = learnt;
             heard = heard;
@@ -448,8 +493,8 @@ module _ (files : List File) (failures : Failures) (environment : Environment) (
             clusters = same ∙ clusters;
           }
 
-          by_message : (learnt.message.clusters ≡ []) ⊎ IsHeardFrom learnt.end learnt.message → IsReflected router rec
-          by_message (inl none) = absurd (none_not rec.clusters k (same ∙ none) long)
+          by_message : IsPlain learnt.message ⊎ IsHeardFrom learnt.end learnt.message → IsReflected router rec
+          by_message (inl plain) = absurd (none_not rec.clusters k (same ∙ plain.0) long)
           by_message (inr heard) = by_sent heard heard.sent
 
       -- and the end over which it was learnt is internal
@@ -595,7 +640,7 @@ module _ (files : List File) (failures : Failures) (environment : Environment) (
 
             by_sent : (heard : IsHeardFrom learnt.end learnt.message) →
                 IsSent files heard.far heard.route learnt.message → length rec.clusters ≤ routers
-            by_sent heard (inl none) = let long = ap length (same ∙ none) in omega (arith, long)
+            by_sent heard (inl plain) = let long = ap length (same ∙ plain.0) in omega (arith, long)
             by_sent heard (inr (internal, clusters)) =
                 let long = ap length (same ∙ clusters) in
                 let over = exports.learnt_over files heard.far.router heard.route.from in
@@ -603,9 +648,9 @@ module _ (files : List File) (failures : Failures) (environment : Environment) (
                 let less = fewer heard.far.router heard.route heard.holds in
                 omega (arith, long, more, less)
 
-            by_message : (learnt.message.clusters ≡ []) ⊎ IsHeardFrom learnt.end learnt.message →
+            by_message : IsPlain learnt.message ⊎ IsHeardFrom learnt.end learnt.message →
                 length rec.clusters ≤ routers
-            by_message (inl none) = let long = ap length (same ∙ none) in omega (arith, long)
+            by_message (inl plain) = let long = ap length (same ∙ plain.0) in omega (arith, long)
             by_message (inr heard) = by_sent heard heard.sent
 
         short : routers < 2 ^ 32 → (router : ℕ) (c : Candidate) → IsFrom router c.rec → IsShort c
@@ -674,3 +719,18 @@ stable_short files destination failures environment tables limits few stable rou
     (is_router files destination failures environment tables stable len below) few router)
     (candidates files failures environment tables router file process p)
     (all_from files failures environment tables p router file process)
+
+-- in a stable routing the path of a held route has at most 255 numbers, and where each session is external it has neither
+-- clusters nor an originator
+pub stable_plain : (files : List File) (destination : Addr) (failures : Failures) (environment : Environment)
+    (tables : Tables) → Stable files destination failures environment tables → (router len : ℕ) (slot : Slot)
+    (rec : BgpRec) → len < LENGTHS → slot_at tables router len ≡ Some slot → slot.bgp ≡ Some rec →
+    (length rec.path ≤ 255) × (list_all (λ end. not end.internal) (ends_of files) ≡ true →
+    (rec.clusters ≡ []) × (rec.originator ≡ None))
+stable_plain files destination failures environment tables stable router len slot rec below there holds =
+    let p = prefix_at destination len in
+    let from = held_from files destination failures environment tables stable len below router rec
+    (ap (option_and_then (λ (s : Slot). s.bgp)) there ∙ holds) in (
+      short_path files failures environment tables p router rec from,
+      λ external. plain_from files failures environment tables p external router rec from,
+    )

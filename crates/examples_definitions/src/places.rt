@@ -4,8 +4,8 @@ ghost use Rattle.std.specs.Prelude.{◌≡◌, ◌++◌, true, false, [], ◌∷
 ghost use Rattle.route_record.specs.declared.OspfKind.TheVariants.{Internal, Ext2};
 ghost use Rattle.slot_places.specs.declared.fields.Field.TheVariants.{Among};
 ghost use Rattle.slot_places.specs.Origins.{origins_at};
-ghost use Rattle.slot_places.specs.Places.{places_of};
-ghost use Rattle.slot_places.specs.Plans.{lens_of};
+ghost use Rattle.plan_places.specs.Places.{places_of};
+ghost use Rattle.plan_places.specs.Plans.{lens_of};
 ghost use Rattle.slot_places.specs.Rooms.{can_be_used, room_at};
 ghost use Rattle.slot_places.specs.Values.{field_of, field_width, once};
 ghost use Rattle.examples_definitions.specs.Networks.{depot, outside, pair, plan, prefix, route, triangle};

@@ -45,7 +45,7 @@ use Rattle.slot_places.specs.Origins.{is_static_at, is_subnet_at, origins_at}
 use Rattle.slot_places.specs.Rooms.{FitsIn, can_be_used, dearest_of, dearest_walk, has_sources, has_subnet}
 use Rattle.slot_places.specs.Rooms.{room_among, room_around, room_at, room_for, room_of, rooms_of, runs_ospf}
 use Rattle.slot_places.specs.Supported.{AreOrigins}
-use Rattle.slot_places.specs.Tables.{empty_slot}
+use Rattle.plan_places.specs.Tables.{empty_slot}
 use Rattle.slot_places.specs.Values.{FitsField, field_of, greatest, once, put_once, width_for}
 use Rattle.slot_places.proofs.Bounded.{cost_bound}
 use Rattle.slot_places.proofs.Brought.{IsBacked, entry_backed}

@@ -1,7 +1,6 @@
 pub mod Members
 pub mod Meeting
 pub mod Widths
-pub mod PlaceSteps
 pub mod PlaceLaws
 pub mod RoomSteps
 pub mod Tabulated

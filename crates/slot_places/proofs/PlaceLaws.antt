@@ -11,12 +11,13 @@ use Rattle.mw_text.proofs.Lists.{below_at}
 use Rattle.mw_text.specs.Members.{In, all_below}
 use Rattle.route_record.specs.declared.Plan.{Plan}
 use Rattle.net_parts.proofs.LeastWalks.{in-cases, in-left, in-map, in-right}
-use Rattle.slot_places.specs.declared.places.Place.{Place}
+use Rattle.plan_places.specs.declared.places.Place.{Place}
+use Rattle.plan_places.proofs.PlaceSteps.{places-length}
 use Rattle.mw_text.specs.declared.address.Prefix.{Prefix}
 use Rattle.ios_ast.specs.declared.file.File.{File}
 use Rattle.route_record.specs.declared.TheConstants.{LENGTHS}
-use Rattle.slot_places.specs.Places.{IsBefore, has_place, is_at, place, places_below, places_of}
-use Rattle.slot_places.specs.Plans.{has_slice, lens_below, lens_of, numbers_below, single_plan}
+use Rattle.plan_places.specs.Places.{IsBefore, has_place, is_at, place, places_below, places_of}
+use Rattle.plan_places.specs.Plans.{has_slice, lens_below, lens_of, numbers_below, single_plan}
 use Rattle.slot_places.specs.Rooms.{HasUsed, can_be_used, used_among}
 use Rattle.slot_places.proofs.Members.{all-from-in, any-in, filter-in, in-any, map-in}
 use Rattle.slot_places.proofs.Supports.{all_in}
@@ -98,18 +99,6 @@ in-places lens (suc n) p there =
     by (inl front) rest = let found = rest front in let less = found.0 in (omega (arith, less), found.1)
     by (inr back) rest = last (in-map (place n) lens p back)
 
--- ---- how many
-
-pub places-length : (lens : List ℕ) (n : ℕ) → length (places_below lens n) ≡ n * length lens
-unfolding places_below
-places-length lens zero = let none : 0 * length lens ≡ 0 = omega arith in sym none
-places-length lens (suc n) =
-    let front = places-length lens n in
-    let both = length-append (places_below lens n) (map (place n) lens) in
-    let row : length (map (place n) lens) ≡ length lens = length-map lens (place n) in
-    let more = suc-mul n (length lens) in
-    omega (arith, both, front, row, more)
-
 -- ---- in which order
 
 first_rest : {X : Type 0} (R : X → X → Type 0) (x : X) (xs : List X) → AllPairs R (x ∷ xs) → All (R x) xs
@@ -176,7 +165,7 @@ places-ascend lens (suc n) pairs =
 
 -- ---- which places there are, as a test
 
-at-is : (p : Place) (router len : ℕ) → is_at router len p ≡ true → p ≡ place router len
+pub at-is : (p : Place) (router len : ℕ) → is_at router len p ≡ true → p ≡ place router len
 at-is p router len is =
     let both = and_parts (p.router == router) (p.len == len) is in
     let a = eqb-true p.router router both.0 in

@@ -37,7 +37,7 @@ use Rattle.slot_places.specs.declared.rooms.Room.{Room}
 use Rattle.slot_places.specs.Origins.{is_static_at, is_subnet_at, origins_at}
 use Rattle.slot_places.specs.Rooms.{can_be_used, dearest_walk, has_sources, has_subnet, room_around, room_at}
 use Rattle.slot_places.specs.Rooms.{room_among, room_of, rooms_of, runs_ospf}
-use Rattle.slot_places.specs.Tables.{empty_slot}
+use Rattle.plan_places.specs.Tables.{empty_slot}
 use Rattle.slot_places.proofs.Brought.{IsBacked, entry_backed}
 use Rattle.slot_places.proofs.Known.{each_known, static_there, subnet_there}
 use Rattle.slot_places.proofs.Members.{any-in, not_empty}

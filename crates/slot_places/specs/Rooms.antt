@@ -13,10 +13,10 @@ use Rattle.route_record.specs.declared.TheConstants.{LENGTHS}
 use Rattle.net_interfaces.specs.Interfaces.{addressed}
 use Rattle.net_parts.specs.Ospf.{adjacencies}
 use Rattle.net_parts.specs.OspfRoutes.{kind_rank}
-use Rattle.slot_places.specs.declared.places.Place.{Place}
+use Rattle.plan_places.specs.declared.places.Place.{Place}
 use Rattle.slot_places.specs.declared.rooms.Room.{Room}
 use Rattle.slot_places.specs.Origins.{is_static_at, is_subnet_at, origins_at}
-use Rattle.slot_places.specs.Plans.{has_slice}
+use Rattle.plan_places.specs.Plans.{has_slice}
 use Rattle.slot_places.specs.Values.{FitsField, field_of, once, width_for}
 
 -- ---- rooms

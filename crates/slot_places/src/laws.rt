@@ -17,14 +17,14 @@ ghost use Rattle.route_record.specs.Places.{slot_at};
 ghost use Rattle.net_parts.specs.Ospf.{adjacencies};
 ghost use Rattle.net_parts.specs.Stable.{IsStableSlot, Stable};
 ghost use Rattle.slot_places.specs.declared.fields.Field.{Field as FieldOf};
-ghost use Rattle.slot_places.specs.declared.places.Place.{Place as PlaceOf};
+ghost use Rattle.plan_places.specs.declared.places.Place.{Place as PlaceOf};
 ghost use Rattle.slot_places.specs.declared.rooms.Room.{Room as RoomOf};
 ghost use Rattle.slot_places.specs.Origins.{origins_at};
-ghost use Rattle.slot_places.specs.Places.{IsBefore, has_place, place, places_of};
-ghost use Rattle.slot_places.specs.Plans.{has_slice, lens_of, single_plan};
+ghost use Rattle.plan_places.specs.Places.{IsBefore, has_place, place, places_of};
+ghost use Rattle.plan_places.specs.Plans.{has_slice, lens_of, single_plan};
 ghost use Rattle.slot_places.specs.Rooms.{FitsIn, HasUsed, can_be_used, dearest_of, dearest_walk, room_at, room_for, used_among};
 ghost use Rattle.slot_places.specs.Supported.{AreOrigins, IsKept};
-ghost use Rattle.slot_places.specs.Tables.{empty_slot};
+ghost use Rattle.plan_places.specs.Tables.{empty_slot};
 ghost use Rattle.slot_places.specs.Values.{FitsField, field_width, read_as, told_as};
 
 /// The places of a plan over so many routers are each router's at each length at which a slice stands (`there`), and no

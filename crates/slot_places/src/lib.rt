@@ -5,11 +5,9 @@
 pub mod fields;
 pub mod laws;
 pub mod origins;
-pub mod places;
 pub mod rooms;
 pub mod usable;
 
 pub use fields::{Field, MOST_VALUES, width_for};
-pub use places::{Place, find_place, item_at, lens_of, places_of, single_plan};
 pub use rooms::{Room, room_for, rooms_of};
 pub use usable::{can_be_used, used_among};

@@ -7,12 +7,12 @@ ghost use Rattle.slot_places.specs.Origins as origins;
 ghost use Rattle.slot_places.specs.Rooms as rooms;
 
 use crate::origins::{is_static_at, is_subnet_at};
-use crate::places::Place;
 use crate::rooms::{Room, room_for};
 use ios_ast::{File, StaticRoute};
 use mw_text::{List, Prefix};
 use net_model::Addressed;
 use net_parts::ends::file_of;
+use plan_places::Place;
 use std::alloc::{AllocError, Global};
 
 fn is_subnet_of(x: &Addressed, destinations: &Prefix, router: u32, len: u8) -> bool

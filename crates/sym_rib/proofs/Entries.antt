@@ -1,6 +1,6 @@
 -- Entries of routing tables: their sources by numbers, choices between two, and the closer of two.
 use Rattle.std.proofs.Common.{◌≡◌, ℕ, Bool, true, false, not, ◌&&◌, ◌||◌, if◌then◌else◌, nat_lt, Option, Some, None}
-use Rattle.std.proofs.Common.{refl, ap}
+use Rattle.std.proofs.Common.{◌≤◌, arith, refl, ap}
 use Rattle.std.proofs.Common.{sym}
 use Rattle.route_record.specs.declared.RibEntry.{RibEntry}
 use Rattle.route_record.specs.declared.RibSource.{RibSource}
@@ -38,3 +38,8 @@ closer_chosen true true n b = by (nat_lt n.distance b.distance) refl
     by : (c : Bool) → nat_lt n.distance b.distance ≡ c
         → (if c then Some n else Some b) ≡ (if nat_lt n.distance b.distance then Some n else Some b)
     by c e = ap (λ x. if x then Some n else Some b) (sym e)
+
+-- the number of what is chosen is one of both
+pub chosen_numbered : (c : Bool) (n a b : ℕ) → n ≡ (if c then a else b) → a ≤ 4 → b ≤ 4 → n ≤ 4
+chosen_numbered true n a b is first second = omega (arith, is, first)
+chosen_numbered false n a b is first second = omega (arith, is, second)

@@ -1,8 +1,7 @@
 -- A local route as the map of its line leaves it, from the terms of the record and from the route for which they stand.
 use Rattle.std.proofs.Common.{◌≡◌, ℕ, zero, suc, ◌≤◌, Bool, true, false, if◌then◌else◌, Option, Some, None}
-use Rattle.std.proofs.Common.{[], map, refl, ap, sym, ◌∙◌, arith, ◌+◌, max}
+use Rattle.std.proofs.Common.{[], map, refl, ap, sym, ◌∙◌, arith}
 use Rattle.std.specs.Prelude.{IfSome, option_and_then, option_map}
-use Rattle.std.proofs.Math.Nat.{max-le}
 use Rattle.mw_text.specs.declared.address.Prefix.{Prefix}
 use Rattle.ios_ast.specs.declared.file.Use.{Use}
 use Rattle.ios_ast.specs.declared.policies.Policies.{Policies}
@@ -16,9 +15,9 @@ use Rattle.ios_ast.specs.Maps.{through_map}
 use Rattle.net_parts.specs.Mapping.{attributes_of, with_attributes}
 use Rattle.net_parts.specs.Origins.{local_route}
 use Rattle.sym_policy.specs.declared.records.SymMapRec.{SymMapRec}
-use Rattle.sym_policy.specs.Held.{bgp_at, bgp_end, bgp_of}
+use Rattle.sym_policy.specs.Held.{bgp_at, bgp_of}
 use Rattle.route_shapes.specs.Bgp.{BgpShape, bgp_shape}
-use Rattle.sym_policy.specs.MapRecs.{KeepsRest, attributes_at, kept_end, map_rec_at, map_rec_end, seen_end}
+use Rattle.sym_policy.specs.MapRecs.{KeepsRest, attributes_at, map_rec_at}
 use Rattle.route_shapes.specs.Shapes.{RouteShape, route_shape}
 use Rattle.term_store.specs.Terms.{Reading, at}
 use Rattle.term_arith.specs.Bits.{bits, number}

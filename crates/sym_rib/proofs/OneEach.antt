@@ -1,11 +1,12 @@
 -- Lists of records that may be there, one for each line.
 use Rattle.std.proofs.Common.{◌≡◌, ℕ, ◌+◌, ◌<◌, max, List, [], ◌∷◌, ◌++◌, take, get_or, length, map, refl, ap}
-use Rattle.std.proofs.Common.{ap₂, sym}
+use Rattle.std.proofs.Common.{ap₂, subst, sym}
 use Rattle.std.proofs.Common.{Option, Some, None, ◌∙◌, arith}
+use Rattle.std.specs.Prelude.{All, IfSome}
 use Rattle.std.specs.List.{filter_map}
 use Rattle.std.specs.Option.{option_and_then, option_map, option_to_list}
 use Rattle.std.proofs.lemmas.List.{append_assoc, map-append, take_more}
-use Rattle.std.proofs.lemmas.List.Elements.{filter_map-append}
+use Rattle.std.proofs.lemmas.List.Elements.{All-append, All-cons, All-nil, filter_map-append}
 use Rattle.sym_rib.specs.Into.{list_end}
 
 -- one more record for one more line
@@ -46,6 +47,16 @@ of_option : {A B : Type 0} (f : A → Option B) (o : Option A)
     → filter_map f (option_to_list o) ≡ option_to_list (option_and_then f o)
 of_option f None = refl
 of_option f (Some a) = one (f a)
+
+-- what is true of each record is true with one more
+pub all_put : {A : Type 0} (P : A → Type 0) (made longer : List A) (rec : Option A) →
+    longer ≡ made ++ option_to_list rec → All P made → IfSome rec P → All P longer
+all_put P made longer rec is before here =
+    subst (All P) (sym is) (All-append P made (option_to_list rec) before (last rec here))
+  where
+    last : (o : Option _) → IfSome o P → All P (option_to_list o)
+    last None none = All-nil P
+    last (Some a) holds = All-cons P a [] holds (All-nil P)
 
 mapped_one : {X B C : Type 0} (v : C → B) (g : X → Option C) (x : X)
     → map v (filter_map g (x ∷ [])) ≡ option_to_list (option_map v (g x))

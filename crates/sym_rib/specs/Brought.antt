@@ -1,15 +1,10 @@
 -- What a reading makes of what OSPF takes of a route.
 use Rattle.std.specs.Prelude.{ℕ, ◌+◌, max, if◌then◌else◌, Option, Some, None}
-use Rattle.ios_ast.specs.Setting.{Attributes}
 use Rattle.route_record.specs.declared.OspfRec.{OspfRec}
 use Rattle.net_parts.specs.Origins.{external_record}
 use Rattle.sym_rib.specs.declared.brought.SymBrought.{SymBrought}
 use Rattle.term_store.specs.Terms.{Reading, at}
 use Rattle.term_arith.specs.Bits.{number, ids_end}
-
--- the external route of what a map leaves
-abbrev pub external_of : Attributes → OspfRec
-external_of r = external_record r.type1 r.med
 
 -- the external route, where it is there
 abbrev pub brought_of : Reading → SymBrought → Option OspfRec

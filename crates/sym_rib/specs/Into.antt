@@ -2,10 +2,6 @@
 use Rattle.std.specs.Prelude.{◌≡◌, ℕ, max, List, [], ◌∷◌, Option, Some, None, length}
 use Rattle.ios_ast.specs.declared.ospf.Source.{Source}
 use Rattle.ios_ast.specs.declared.ospf.Source.TheVariants as source
-use Rattle.ios_ast.specs.declared.ospf.Redist.{Redist}
-use Rattle.ios_ast.specs.Setting.{Attributes}
-use Rattle.route_record.specs.declared.BgpRec.{BgpRec}
-use Rattle.net_parts.specs.Origins.{plain_route}
 use Rattle.route_record.specs.declared.tracked.Tracked.{Tracked}
 use Rattle.sym_policy.specs.declared.records.SymBgp.{SymBgp}
 
@@ -16,14 +12,11 @@ source_taken source.Static = Some 1
 source_taken (source.Bgp asn) = Some 2
 source_taken (source.Ospf process) = None
 
--- what the route map of a line sees of a BGP route
-abbrev pub seen_of_bgp : Redist → BgpRec → Attributes
-seen_of_bgp line h = record (plain_route line 1) { path = h.path; communities = h.communities }
-
--- there is one node for each tracked number and community
+-- there is one node for each tracked number, community and cluster
 pub record HasTracked (tracked : Tracked) (s : SymBgp) : Type 0 where
   pub numbers : length s.numbers.nodes.items ≡ length tracked.numbers
   pub communities : length s.communities.nodes.items ≡ length tracked.communities
+  pub clusters : length s.clusters.nodes.items ≡ length tracked.clusters
 
 -- the greatest of the items' ends
 abbrev pub list_end : {A : Type 0} → (A → ℕ) → List A → ℕ

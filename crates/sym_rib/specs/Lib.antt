@@ -3,6 +3,7 @@ pub mod Into
 pub mod IntoBgp
 pub mod Known
 pub mod KnownParts
+pub mod Redistributed
 pub mod Slots
 pub mod Sources
 pub mod Worlds

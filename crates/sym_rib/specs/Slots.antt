@@ -1,5 +1,5 @@
 -- What a reading makes of symbolic entries of routing tables and of symbolic slots.
-use Rattle.std.specs.Prelude.{◌≡◌, ℕ, ◌+◌, ◌==◌, max, if◌then◌else◌, Option, Some, None}
+use Rattle.std.specs.Prelude.{◌≡◌, ℕ, ◌+◌, ◌≤◌, ◌==◌, max, if◌then◌else◌, Option, Some, None}
 use Rattle.term_store.specs.Terms.{Reading, at}
 use Rattle.term_arith.specs.Bits.{number, ids_end}
 use Rattle.route_record.specs.declared.RibEntry.{RibEntry}
@@ -8,6 +8,7 @@ use Rattle.route_record.specs.declared.RibSource.TheVariants.{Connected, Static,
 use Rattle.route_record.specs.declared.Slot.{Slot}
 use Rattle.route_record.specs.declared.tracked.Tracked.{Tracked}
 use Rattle.sym_policy.specs.Held.{ospf_of, ospf_end, bgp_end, StandsForBgp}
+use Rattle.sym_policy.specs.declared.records.SymBgp.{SymBgp}
 use Rattle.sym_rib.specs.declared.slots.SymRib.{SymRib}
 use Rattle.sym_rib.specs.declared.slots.SymSlot.{SymSlot}
 
@@ -42,6 +43,19 @@ rib_end s = max (s.valid.0 + 1) (max (ids_end s.source.nodes.items) (ids_end s.d
 -- and all nodes of the slot
 abbrev pub slot_end : SymSlot → ℕ
 slot_end s = max (ospf_end s.ospf) (max (bgp_end s.bgp) (rib_end s.rib))
+
+-- the number that tells where the BGP route was learnt, where the route is there
+abbrev pub learnt_of : Reading → SymBgp → Option ℕ
+learnt_of w s = if at w s.valid then Some (number w s.from.nodes.items) else None
+
+-- the number of the entry's source is one that stands for a source
+abbrev pub IsNumbered : Reading → SymRib → Type 0
+IsNumbered w s = number w s.source.nodes.items ≤ 4
+
+-- under the reading the symbolic slot has the OSPF route and the entry of that slot, whatever its BGP route
+pub record StandsBesideBgp (w : Reading) (s : SymSlot) (slot : Slot) : Type 0 where
+  pub ospf : ospf_of w s.ospf ≡ slot.ospf
+  pub rib : rib_of w s.rib ≡ slot.rib
 
 -- under the reading the symbolic slot stands for that slot
 pub record StandsForSlot (w : Reading) (tracked : Tracked) (s : SymSlot) (slot : Slot) : Type 0 where

@@ -5,17 +5,17 @@ ghost use Rattle.std.specs.Prelude.{None, IfOk, length, slice_get, option_and_th
 ghost use Rattle.net_parts.specs.Entries as entries;
 ghost use Rattle.net_parts.specs.Routing as routing;
 ghost use Rattle.route_record.specs.declared.Slot.{Slot};
-ghost use Rattle.sym_policy.specs.Held.{failures_of, ospf_end};
+ghost use Rattle.sym_policy.specs.Held.{failures_of, ospf_of, ospf_end};
 ghost use Rattle.sym_policy.specs.Records.{prefix_of};
-ghost use Rattle.sym_rib.specs.Slots.{rib_of, rib_end, slot_end, StandsForSlot};
-ghost use Rattle.sym_rib.specs.Sources.{closer_of, entry_read, learnt_entry};
+ghost use Rattle.sym_rib.specs.Slots.{learnt_of, rib_of, rib_end, slot_end, IsNumbered, StandsForSlot};
+ghost use Rattle.sym_rib.specs.Sources.{closer_of, entry_from, entry_read, learnt_entry};
 ghost use Rattle.term_store.specs.Terms.{Reading, size, at};
 ghost use Rattle.term_store.specs.Reading.{Reads, Builds, Gives};
 ghost use Rattle.term_arith.specs.Bits.{number, ids_end};
 
 use crate::interfaces::sym_direct;
 use crate::learnt::bgp_rib;
-use crate::ribs::{closer_rib, entry_where};
+use crate::ribs::{closer_rib, entry_where, no_entry};
 use crate::slots::{SymRib, SymSlot};
 use crate::statics::best_static;
 use ios_ast::File;
@@ -44,6 +44,7 @@ fn direct_rib(
     requires down { ids_end sym.now.down ≤ size terms.old }
     ensures builds { Builds terms.old terms.new }
     ensures within { IfOk result (λ r. rib_end r ≤ size terms.new) }
+    ensures numbered { Gives terms.new result (λ w r. IsNumbered w r) }
     ensures value { Gives terms.new result (λ w r. rib_of w r
         ≡ (if routing.is_direct (routing.up_interfaces net.now.files (failures_of w sym.now) router) (prefix_of w dst.now len)
         then Some (record { source = RibSource.Connected; distance = 0 }) else None)) }
@@ -63,6 +64,7 @@ fn ospf_rib(
     requires own { own.0 < size terms.old }
     ensures builds { Builds terms.old terms.new }
     ensures within { IfOk result (λ r. rib_end r ≤ size terms.new) }
+    ensures numbered { Gives terms.new result (λ w r. IsNumbered w r) }
     ensures value { Gives terms.new result (λ w r. rib_of w r ≡ (if at w ospf.now.valid && not (at w own)
         then Some (record { source = RibSource.Ospf; distance = 110 }) else None)) }
 {
@@ -88,6 +90,7 @@ fn plain_rib(
     requires down { ids_end sym.now.down ≤ size terms.old }
     ensures builds { Builds terms.old terms.new }
     ensures within { IfOk result (λ r. rib_end r ≤ size terms.new) }
+    ensures numbered { Gives terms.new result (λ w r. IsNumbered w r) }
     ensures value { Gives terms.new result (λ w r. rib_of w r ≡ routing.least_distance (routing.candidates
         (routing.up_interfaces net.now.files (failures_of w sym.now) router) file.now.statics (prefix_of w dst.now len))) }
 {
@@ -126,6 +129,7 @@ fn table_rib(
     requires own { own.0 < size terms.old }
     ensures builds { Builds terms.old terms.new }
     ensures within { IfOk result (λ r. rib_end r ≤ size terms.new) }
+    ensures numbered { Gives terms.new result (λ w r. IsNumbered w r) }
     ensures value { Gives terms.new result (λ w r. rib_of w r
         ≡ entry_read net.now.files (failures_of w sym.now) router file.now (prefix_of w dst.now len)
         (if at w slot.now.bgp.valid then learnt_entry net.now.files router (number w slot.now.bgp.from.nodes.items) else None)
@@ -141,7 +145,8 @@ fn table_rib(
 /// The entry of a router's table for the prefix of that length of a destination: the candidate of least
 /// administrative distance among its connected and static routes, the held BGP route and the held OSPF route, the
 /// latter only where no own origin is as good (`own_ospf`). Equal distances go to the first of connected, static, BGP
-/// and OSPF. Where there is no such router, there is no entry.
+/// and OSPF. Where there is no such router, there is no entry. Of the BGP route it looks at where it was learnt alone, so
+/// whatever the slot stands for, `value` says what is made of it.
 pub fn sym_entry(
     alloc: Global,
     terms: &mut Terms,
@@ -161,15 +166,16 @@ pub fn sym_entry(
     requires own { own_ospf.0 < size terms.old }
     ensures builds { Builds terms.old terms.new }
     ensures within { IfOk result (λ r. rib_end r ≤ size terms.new) }
-    ensures value { Gives terms.new result (λ w r. (held : Slot) → StandsForSlot w net.now.tracked slot.now held
+    ensures numbered { Gives terms.new result (λ w r. IsNumbered w r) }
+    ensures value { Gives terms.new result (λ w r. rib_of w r ≡ option_and_then (λ file. entry_from net.now.files
+        (failures_of w sym.now) router file (prefix_of w dst.now len) (learnt_of w slot.now.bgp) (ospf_of w slot.now.ospf)
+        (at w own_ospf)) (slice_get net.now.files router)) }
+    ensures stands { Gives terms.new result (λ w r. (held : Slot) → StandsForSlot w net.now.tracked slot.now held
         → rib_of w r ≡ option_and_then (λ file. entries.entry_with net.now.files (failures_of w sym.now) router file
         (prefix_of w dst.now len) held (at w own_ospf)) (slice_get net.now.files router)) }
 {
     match file_of(net.routers(), router) {
-        None => {
-            let valid = constant_node(terms, false)?;
-            entry_where(alloc, terms, valid, RibSource::Connected, 0)
-        }
+        None => no_entry(alloc, terms),
         Some(file) => {
             let entry = table_rib(
                 alloc, terms, net, sym, router, file, dst, len, slot, own_ospf,

@@ -2,7 +2,7 @@
 //! `redistribute`).
 
 ghost use Rattle.std.specs.Prelude.{◌≡◌, ◌==◌, ◌&&◌, ◌++◌, ◌∷◌, [], ℕ, ◌+◌, ◌<◌, ◌≤◌, ◌^◌, Bool, false, true};
-ghost use Rattle.std.specs.Prelude.{if◌then◌else◌, Some, None, IfOk, OnOk, length, map, max, All};
+ghost use Rattle.std.specs.Prelude.{if◌then◌else◌, Some, None, IfOk, IfSome, OnOk, length, map, max, All};
 ghost use Rattle.std.specs.Prelude.{option_and_then, slice_get};
 ghost use Rattle.std.specs.List.{filter_map};
 ghost use Rattle.std.specs.Option.{option_map, option_map_or, option_to_list};
@@ -14,10 +14,10 @@ ghost use Rattle.route_shapes.specs.Bgp.{bgp_shape};
 ghost use Rattle.sym_policy.specs.MapRecs.{attributes_at, map_rec_at, map_rec_end, HasMarks};
 ghost use Rattle.sym_policy.specs.Records.{prefix_of};
 ghost use Rattle.route_shapes.specs.Shapes.{all_tracked, route_shape};
-ghost use Rattle.sym_rib.specs.Into.{list_end};
+ghost use Rattle.sym_rib.specs.Into.{list_end, HasTracked};
 ghost use Rattle.sym_rib.specs.IntoBgp.{metric_of, metric_end};
 ghost use Rattle.sym_rib.specs.Known.{IsOwn};
-ghost use Rattle.sym_rib.specs.Slots.{rib_of, slot_end, StandsForSlot};
+ghost use Rattle.sym_rib.specs.Slots.{rib_of, slot_end, StandsBesideBgp};
 ghost use Rattle.term_store.specs.Terms.{Reading, size, at};
 ghost use Rattle.term_store.specs.Reading.{Reads, Builds, Gives};
 ghost use Rattle.term_arith.specs.Bits.{ids_end};
@@ -49,6 +49,7 @@ fn local_rec(
     requires { metric_end metric ≤ size terms.old }
     ensures builds { Builds terms.old terms.new }
     ensures within { IfOk result (λ r. map_rec_end r ≤ size terms.new) }
+    ensures rows { IfOk result (λ r. HasTracked tracked.now r.bgp) }
     ensures marks { IfOk result (λ r. HasMarks tracked.now r) }
     ensures own { Gives terms.new result (λ w r. IsOwn w tracked.now r) }
     ensures value { Gives terms.new result (λ w r. map_rec_at w r ≡ option_map (route_shape tracked.now)
@@ -78,6 +79,7 @@ fn mapped_bgp(
     requires metric { metric_end metric ≤ size terms.old }
     ensures builds { Builds terms.old terms.new }
     ensures within { IfOk result (λ r. bgp_end r ≤ size terms.new) }
+    ensures rows { IfOk result (λ r. HasTracked tracked.now r) }
     ensures value { Gives terms.new result (λ w r. all_tracked tracked.now file.now.policies ≡ true
         → bgp_of w r ≡ option_map (bgp_shape tracked.now) (option_and_then (λ med. origins.local_through file.now
         used.now (prefix_of w dst.now len) (origins.local_route origin med)) (metric_of w metric))) }
@@ -116,6 +118,7 @@ fn local_bgp(
     requires metric { metric_end metric ≤ size terms.old }
     ensures builds { Builds terms.old terms.new }
     ensures within { IfOk result (λ r. list_end bgp_end (option_to_list r) ≤ size terms.new) }
+    ensures rows { IfOk result (λ r. IfSome r (HasTracked tracked.now)) }
     ensures value { Gives terms.new result (λ w r. all_tracked tracked.now file.now.policies ≡ true
         → option_and_then (bgp_of w) r ≡ option_map (bgp_shape tracked.now) (option_and_then (λ med.
         origins.local_through file.now used.now (prefix_of w dst.now len) (origins.local_route origin med))
@@ -145,8 +148,9 @@ fn network_bgp(
     requires slot { slot_end slot.now ≤ size terms.old }
     ensures builds { Builds terms.old terms.new }
     ensures within { IfOk result (λ r. list_end bgp_end (option_to_list r) ≤ size terms.new) }
+    ensures rows { IfOk result (λ r. IfSome r (HasTracked tracked.now)) }
     ensures value { Gives terms.new result (λ w r. (held : Slot) → all_tracked tracked.now file.now.policies ≡ true
-        → StandsForSlot w tracked.now slot.now held
+        → StandsBesideBgp w slot.now held
         → option_and_then (bgp_of w) r
         ≡ option_map (bgp_shape tracked.now) (origins.by_network file.now (prefix_of w dst.now len) held line.now)) }
 {
@@ -188,8 +192,9 @@ fn line_bgp(
     requires slot { slot_end slot.now ≤ size terms.old }
     ensures builds { Builds terms.old terms.new }
     ensures within { IfOk result (λ r. list_end bgp_end (option_to_list r) ≤ size terms.new) }
+    ensures rows { IfOk result (λ r. IfSome r (HasTracked tracked.now)) }
     ensures value { Gives terms.new result (λ w r. (held : Slot) → all_tracked tracked.now file.now.policies ≡ true
-        → StandsForSlot w tracked.now slot.now held
+        → StandsBesideBgp w slot.now held
         → option_and_then (bgp_of w) r ≡ option_map (bgp_shape tracked.now)
         (origins.into_bgp net.now.files router file.now (prefix_of w dst.now len) held line.now)) }
 {
@@ -238,8 +243,9 @@ fn by_networks(
     requires slot { slot_end slot.now ≤ size terms.old }
     ensures builds { Builds terms.old terms.new }
     ensures within { IfOk result (λ r. list_end bgp_end r ≤ size terms.new) }
+    ensures rows { IfOk result (λ r. All (HasTracked tracked.now) r) }
     ensures value { Gives terms.new result (λ w r. (held : Slot) → all_tracked tracked.now file.now.policies ≡ true
-        → StandsForSlot w tracked.now slot.now held
+        → StandsBesideBgp w slot.now held
         → filter_map (bgp_of w) r ≡ map (bgp_shape tracked.now)
         (filter_map (origins.by_network file.now (prefix_of w dst.now len) held) lines.now)) }
 {
@@ -272,8 +278,9 @@ fn with_redistributed(
     requires before { list_end bgp_end before ≤ size terms.old }
     ensures builds { Builds terms.old terms.new }
     ensures within { IfOk result (λ r. list_end bgp_end r ≤ size terms.new) }
+    ensures rows { IfOk result (λ r. All (HasTracked tracked.now) before → All (HasTracked tracked.now) r) }
     ensures value { Gives terms.new result (λ w r. (held : Slot) → all_tracked tracked.now file.now.policies ≡ true
-        → StandsForSlot w tracked.now slot.now held
+        → StandsBesideBgp w slot.now held
         → filter_map (bgp_of w) r ≡ filter_map (bgp_of w) before ++ map (bgp_shape tracked.now)
         (filter_map (origins.into_bgp net.now.files router file.now (prefix_of w dst.now len) held) lines.now)) }
 {
@@ -306,8 +313,9 @@ fn of_process(
     requires slot { slot_end slot.now ≤ size terms.old }
     ensures builds { Builds terms.old terms.new }
     ensures within { IfOk result (λ r. list_end bgp_end r ≤ size terms.new) }
+    ensures rows { IfOk result (λ r. All (HasTracked tracked.now) r) }
     ensures value { Gives terms.new result (λ w r. (held : Slot) → all_tracked tracked.now file.now.policies ≡ true
-        → StandsForSlot w tracked.now slot.now held
+        → StandsBesideBgp w slot.now held
         → filter_map (bgp_of w) r ≡ map (bgp_shape tracked.now)
         (origins.local_routes net.now.files router file.now process.now (prefix_of w dst.now len) held)) }
 {
@@ -338,8 +346,9 @@ fn of_file(
     requires slot { slot_end slot.now ≤ size terms.old }
     ensures builds { Builds terms.old terms.new }
     ensures within { IfOk result (λ r. list_end bgp_end r ≤ size terms.new) }
+    ensures rows { IfOk result (λ r. All (HasTracked tracked.now) r) }
     ensures value { Gives terms.new result (λ w r. (held : Slot) → all_tracked tracked.now file.now.policies ≡ true
-        → StandsForSlot w tracked.now slot.now held
+        → StandsBesideBgp w slot.now held
         → filter_map (bgp_of w) r ≡ map (bgp_shape tracked.now) (option_map_or (λ process.
         origins.local_routes net.now.files router file.now process (prefix_of w dst.now len) held) file.now.bgp [])) }
 {
@@ -356,7 +365,8 @@ fn of_file(
 
 /// The local BGP routes of a router from its own entry for the prefix of that length of a destination: by `network`
 /// lines, and then by redistribution, each through the route map of its line (RFC 4271, section 9.4). Each item is a
-/// route that may be there. None where there is no such router, or where it runs no BGP.
+/// route that may be there. None where there is no such router, or where it runs no BGP. Of the slot it looks at the OSPF
+/// route and the entry alone, so `value` holds whatever its BGP route stands for.
 pub fn sym_originate(
     alloc: Global,
     terms: &mut Terms,
@@ -372,7 +382,8 @@ pub fn sym_originate(
     requires slot { slot_end slot.now ≤ size terms.old }
     ensures builds { Builds terms.old terms.new }
     ensures within { IfOk result (λ r. list_end bgp_end r ≤ size terms.new) }
-    ensures value { Gives terms.new result (λ w r. (held : Slot) → StandsForSlot w net.now.tracked slot.now held
+    ensures rows { IfOk result (λ r. All (HasTracked net.now.tracked) r) }
+    ensures value { Gives terms.new result (λ w r. (held : Slot) → StandsBesideBgp w slot.now held
         → filter_map (bgp_of w) r ≡ map (bgp_shape net.now.tracked) (option_map_or (λ file. option_map_or
         (λ process. origins.local_routes net.now.files router file process (prefix_of w dst.now len) held) file.bgp [])
         (slice_get net.now.files router) [])) }

@@ -1,21 +1,21 @@
 //! What a router takes from its own table into OSPF, as terms (RFC 2328, section 12.4.4; Cisco IOS, `redistribute` and
 //! `default-information originate`).
 
-ghost use Rattle.std.specs.Prelude.{◌≡◌, Option as OptionOf, ◌==◌, ◌&&◌, ◌||◌, ◌++◌, ◌∷◌, [], ℕ, ◌+◌, ◌<◌, ◌≤◌, Bool};
+ghost use Rattle.std.specs.Prelude.{◌≡◌, ◌==◌, ◌&&◌, ◌||◌, ◌++◌, ◌∷◌, [], ℕ, ◌+◌, ◌<◌, ◌≤◌, Bool};
 ghost use Rattle.std.specs.Prelude.{false, true, not, if◌then◌else◌, Some, None, IfOk, OnOk, length, max};
 ghost use Rattle.std.specs.Prelude.{option_and_then, slice_get};
 ghost use Rattle.std.specs.List.{filter_map};
 ghost use Rattle.std.specs.Option.{option_map, option_map_or, option_to_list};
-ghost use Rattle.ios_ast.specs.Maps as maps;
 ghost use Rattle.net_parts.specs.Origins as origins;
-ghost use Rattle.route_record.specs.declared.BgpRec.{BgpRec as BgpOf};
 ghost use Rattle.route_record.specs.declared.Slot.{Slot};
-ghost use Rattle.sym_policy.specs.Held.{ospf_of, ospf_end, bgp_end, StandsForBgp};
+ghost use Rattle.sym_policy.specs.Held.{bgp_of, bgp_end, ospf_of, ospf_end};
 ghost use Rattle.sym_policy.specs.MapRecs.{attributes_at, map_rec_at, map_rec_end, HasMarks};
 ghost use Rattle.sym_policy.specs.Records.{prefix_of};
-ghost use Rattle.route_shapes.specs.Shapes.{all_tracked, route_shape};
-ghost use Rattle.sym_rib.specs.Brought.{brought_of, brought_end, external_of};
-ghost use Rattle.sym_rib.specs.Into.{source_taken, seen_of_bgp, list_end, HasTracked};
+ghost use Rattle.route_shapes.specs.Shapes.{route_shape};
+ghost use Rattle.sym_rib.specs.Brought.{brought_of, brought_end};
+ghost use Rattle.sym_rib.specs.Into.{source_taken, list_end, HasTracked};
+ghost use Rattle.sym_rib.specs.Redistributed.{entry_slot, shape_into_ospf, shape_left, shape_of_bgp, shape_redistributed};
+ghost use Rattle.sym_rib.specs.Redistributed.{shape_seen};
 ghost use Rattle.sym_rib.specs.Slots.{rib_of, rib_end, slot_end, source_of_number, StandsForSlot};
 ghost use Rattle.term_store.specs.Terms.{Reading, size, at};
 ghost use Rattle.term_store.specs.Reading.{Reads, Builds, Gives};
@@ -201,8 +201,8 @@ fn bgp_rec(
     ensures builds { Builds terms.old terms.new }
     ensures within { IfOk result (λ r. map_rec_end r ≤ size terms.new) }
     ensures marks { IfOk result (λ r. HasMarks tracked.now r) }
-    ensures value { Gives terms.new result (λ w r. (bgp : OptionOf BgpOf) → StandsForBgp w tracked.now held.now bgp
-        → map_rec_at w r ≡ option_map (route_shape tracked.now) (option_map (seen_of_bgp line.now) bgp)) }
+    ensures value { Gives terms.new result (λ w r. map_rec_at w r
+        ≡ option_map (shape_of_bgp tracked.now line.now) (bgp_of w held.now)) }
 {
     let parts = held_parts(alloc, held)?;
     let plain = plain_rec(alloc, terms, tracked, line, true, 1)?;
@@ -222,8 +222,7 @@ fn seen_rec(
     ensures builds { Builds terms.old terms.new }
     ensures within { IfOk result (λ r. map_rec_end r ≤ size terms.new) }
     ensures marks { IfOk result (λ r. HasMarks tracked.now r) }
-    ensures value { Gives terms.new result (λ w r. (held : Slot) → StandsForBgp w tracked.now bgp.now held.bgp
-        → map_rec_at w r ≡ option_map (route_shape tracked.now) (origins.redistributed_route line.now held)) }
+    ensures value { Gives terms.new result (λ w r. map_rec_at w r ≡ shape_seen tracked.now line.now (bgp_of w bgp.now)) }
 {
     match line.source {
         Source::Connected => plain_rec(alloc, terms, tracked, line, true, 20),
@@ -251,10 +250,8 @@ fn left_part(
     requires nodes { bgp_end bgp.now ≤ size terms.old }
     ensures builds { Builds terms.old terms.new }
     ensures within { IfOk result (λ r. brought_end r ≤ size terms.new) }
-    ensures value { Gives terms.new result (λ w r. (held : Slot) → all_tracked tracked.now file.now.policies ≡ true
-        → StandsForBgp w tracked.now bgp.now held.bgp
-        → brought_of w r ≡ option_map external_of (option_and_then (maps.through_map file.now.policies
-        line.now.map (prefix_of w dst.now len) false) (origins.redistributed_route line.now held))) }
+    ensures value { Gives terms.new result (λ w r. brought_of w r
+        ≡ shape_left tracked.now file.now (prefix_of w dst.now len) line.now (bgp_of w bgp.now)) }
 {
     let seen = seen_rec(alloc, terms, tracked, line, bgp)?;
     let left = sym_through(
@@ -293,9 +290,8 @@ fn line_ospf(
     requires slot { slot_end slot.now ≤ size terms.old }
     ensures builds { Builds terms.old terms.new }
     ensures within { IfOk result (λ r. ospf_end r ≤ size terms.new) }
-    ensures value { Gives terms.new result (λ w r. (held : Slot) → all_tracked tracked.now file.now.policies ≡ true
-        → StandsForSlot w tracked.now slot.now held
-        → ospf_of w r ≡ origins.into_ospf file.now (prefix_of w dst.now len) held line.now) }
+    ensures value { Gives terms.new result (λ w r. ospf_of w r ≡ shape_into_ospf tracked.now file.now
+        (prefix_of w dst.now len) (bgp_of w slot.now.bgp) (rib_of w slot.now.rib) line.now) }
 {
     let taken = sym_taken(terms, line, dst, len, &slot.rib)?;
     let left = left_part(alloc, terms, tracked, file, line, dst, len, &slot.bgp)?;
@@ -353,8 +349,8 @@ fn default_ospf(
     requires { rib_end rib.now ≤ size terms.old }
     ensures builds { Builds terms.old terms.new }
     ensures within { IfOk result (λ r. ospf_end r ≤ size terms.new) }
-    ensures value { Gives terms.new result (λ w r. (held : Slot) → rib_of w rib.now ≡ held.rib
-        → ospf_of w r ≡ origins.originated_default (prefix_of w dst.now len) held line.now) }
+    ensures value { Gives terms.new result (λ w r. ospf_of w r
+        ≡ origins.originated_default (prefix_of w dst.now len) (entry_slot (rib_of w rib.now)) line.now) }
 {
     let _width = dst.nodes.as_slice().len();
     let valid = sym_gives(terms, line, len, rib)?;
@@ -390,9 +386,8 @@ fn by_lines(
     requires slot { slot_end slot.now ≤ size terms.old }
     ensures builds { Builds terms.old terms.new }
     ensures within { IfOk result (λ r. list_end ospf_end r ≤ size terms.new) }
-    ensures value { Gives terms.new result (λ w r. (held : Slot) → all_tracked tracked.now file.now.policies ≡ true
-        → StandsForSlot w tracked.now slot.now held
-        → filter_map (ospf_of w) r ≡ filter_map (origins.into_ospf file.now (prefix_of w dst.now len) held) lines.now) }
+    ensures value { Gives terms.new result (λ w r. filter_map (ospf_of w) r ≡ filter_map (shape_into_ospf tracked.now
+        file.now (prefix_of w dst.now len) (bgp_of w slot.now.bgp) (rib_of w slot.now.rib)) lines.now) }
 {
     let mut made = List::new(alloc);
     for line in lines {
@@ -416,9 +411,9 @@ fn with_default(
     requires made { list_end ospf_end made ≤ size terms.old }
     ensures builds { Builds terms.old terms.new }
     ensures within { IfOk result (λ r. list_end ospf_end r ≤ size terms.new) }
-    ensures value { Gives terms.new result (λ w r. (held : Slot) → rib_of w rib.now ≡ held.rib
-        → filter_map (ospf_of w) r ≡ filter_map (ospf_of w) made
-        ++ option_to_list (option_and_then (origins.originated_default (prefix_of w dst.now len) held) default.now)) }
+    ensures value { Gives terms.new result (λ w r. filter_map (ospf_of w) r ≡ filter_map (ospf_of w) made
+        ++ option_to_list (option_and_then (origins.originated_default (prefix_of w dst.now len)
+        (entry_slot (rib_of w rib.now))) default.now)) }
 {
     let mut all = made;
     match default {
@@ -449,9 +444,8 @@ fn of_process(
     requires slot { slot_end slot.now ≤ size terms.old }
     ensures builds { Builds terms.old terms.new }
     ensures within { IfOk result (λ r. list_end ospf_end r ≤ size terms.new) }
-    ensures value { Gives terms.new result (λ w r. (held : Slot) → all_tracked tracked.now file.now.policies ≡ true
-        → StandsForSlot w tracked.now slot.now held
-        → filter_map (ospf_of w) r ≡ origins.redistributed file.now process.now (prefix_of w dst.now len) held) }
+    ensures value { Gives terms.new result (λ w r. filter_map (ospf_of w) r ≡ shape_redistributed tracked.now file.now
+        process.now (prefix_of w dst.now len) (bgp_of w slot.now.bgp) (rib_of w slot.now.rib)) }
 {
     let lines = process.redistribute.as_slice();
     let made = by_lines(alloc, terms, tracked, file, lines, dst, len, slot)?;
@@ -476,10 +470,9 @@ fn of_file(
     requires slot { slot_end slot.now ≤ size terms.old }
     ensures builds { Builds terms.old terms.new }
     ensures within { IfOk result (λ r. list_end ospf_end r ≤ size terms.new) }
-    ensures value { Gives terms.new result (λ w r. (held : Slot) → all_tracked tracked.now file.now.policies ≡ true
-        → StandsForSlot w tracked.now slot.now held
-        → filter_map (ospf_of w) r ≡ option_map_or (λ process.
-        origins.redistributed file.now process (prefix_of w dst.now len) held) file.now.ospf []) }
+    ensures value { Gives terms.new result (λ w r. filter_map (ospf_of w) r ≡ option_map_or (λ process.
+        shape_redistributed tracked.now file.now process (prefix_of w dst.now len) (bgp_of w slot.now.bgp)
+        (rib_of w slot.now.rib)) file.now.ospf []) }
 {
     match &file.ospf {
         None => Ok(List::new(alloc)),
@@ -492,7 +485,8 @@ fn of_file(
 
 /// What the OSPF process of a router takes from its own entry for the prefix of that length of a destination: by each
 /// `redistribute` line through its route map, and the default route (RFC 2328, section 12.4.4). Each item is a record
-/// that may be there. Nothing where there is no such router, or where it runs no OSPF.
+/// that may be there. Nothing where there is no such router, or where it runs no OSPF. Of the slot it looks at the shape
+/// of the BGP route and at the entry, so whatever the slot stands for, `value` says what is made of it.
 pub fn sym_redistribute(
     alloc: Global,
     terms: &mut Terms,
@@ -509,7 +503,10 @@ pub fn sym_redistribute(
     requires slot { slot_end slot.now ≤ size terms.old }
     ensures builds { Builds terms.old terms.new }
     ensures within { IfOk result (λ r. list_end ospf_end r ≤ size terms.new) }
-    ensures value { Gives terms.new result (λ w r. (held : Slot) → StandsForSlot w net.now.tracked slot.now held
+    ensures value { Gives terms.new result (λ w r. filter_map (ospf_of w) r ≡ option_map_or (λ file. option_map_or
+        (λ process. shape_redistributed net.now.tracked file process (prefix_of w dst.now len) (bgp_of w slot.now.bgp)
+        (rib_of w slot.now.rib)) file.ospf []) (slice_get net.now.files router) []) }
+    ensures stands { Gives terms.new result (λ w r. (held : Slot) → StandsForSlot w net.now.tracked slot.now held
         → filter_map (ospf_of w) r ≡ option_map_or (λ file. option_map_or (λ process.
         origins.redistributed file process (prefix_of w dst.now len) held) file.ospf [])
         (slice_get net.now.files router) []) }

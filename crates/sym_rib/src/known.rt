@@ -7,6 +7,7 @@ ghost use Rattle.route_shapes.specs.Shapes.{path_shape, route_shape};
 ghost use Rattle.sym_policy.specs.MapRecs.{attributes_at, map_rec_end, HasMarks};
 ghost use Rattle.sym_policy.specs.Routes.{preferences_at, preferences_end, rest_end, route_at, route_end, HasRows};
 ghost use Rattle.sym_policy.specs.Routes.{IsBare};
+ghost use Rattle.sym_rib.specs.Into.{HasTracked};
 ghost use Rattle.sym_rib.specs.Known.{known_attributes, IsOwn};
 ghost use Rattle.sym_rib.specs.KnownParts.{HasPartsOf, PutsParts};
 ghost use Rattle.term_store.specs.Terms.{Reading, size, at};
@@ -111,6 +112,7 @@ fn known_route(
 fn own_part(alloc: Global, terms: &mut Terms, tracked: &Tracked) -> Result<SymRest, AllocError>
     ensures builds { Builds terms.old terms.new }
     ensures within { IfOk result (λ r. rest_end r ≤ size terms.new) }
+    ensures rows { IfOk result (λ r. length r.clusters.nodes.items ≡ length tracked.now.clusters) }
     ensures value { Gives terms.new result (λ w r. IsBare w tracked.now 0 r) }
 {
     let hop = word(alloc, terms, 0)?;
@@ -138,6 +140,7 @@ pub(crate) fn known_rec(
     ensures within { IfOk result (λ r. map_rec_end r ≤ size terms.new) }
     ensures valid { IfOk result (λ r. r.bgp.valid ≡ valid) }
     ensures marks { IfOk result (λ r. HasMarks tracked.now r) }
+    ensures rows { IfOk result (λ r. HasTracked tracked.now r.bgp) }
     ensures own { Gives terms.new result (λ w r. IsOwn w tracked.now r) }
     ensures value { Gives terms.new result (λ w r. attributes_at w r
         ≡ route_shape tracked.now

@@ -5,7 +5,7 @@ ghost use Rattle.std.specs.Prelude.{length};
 ghost use Rattle.std.specs.List.{find};
 ghost use Rattle.std.specs.Option.{option_map_or};
 ghost use Rattle.sym_policy.specs.Held.{bgp_end};
-ghost use Rattle.sym_rib.specs.Slots.{rib_of, rib_end};
+ghost use Rattle.sym_rib.specs.Slots.{rib_of, rib_end, IsNumbered};
 ghost use Rattle.bgp_shapes.specs.Crossings.{end_numbered, is_from};
 ghost use Rattle.sym_rib.specs.Sources.{is_of_kind, learnt_entry};
 ghost use Rattle.term_store.specs.Terms.{Reading, size, at};
@@ -104,6 +104,7 @@ pub(crate) fn bgp_rib(
     requires { bgp_end bgp.now ≤ size terms.old }
     ensures builds { Builds terms.old terms.new }
     ensures within { IfOk result (λ r. rib_end r ≤ size terms.new) }
+    ensures numbered { Gives terms.new result (λ w r. IsNumbered w r) }
     ensures value { Gives terms.new result (λ w r. rib_of w r
         ≡ (if at w bgp.now.valid then learnt_entry net.now.files router (number w bgp.now.from.nodes.items) else None)) }
 {

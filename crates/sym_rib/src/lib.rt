@@ -5,6 +5,7 @@
 //! for a slot, what a call here answers stands for what the definitions of the network make of that slot.
 #![tactic(auto)]
 
+mod bare;
 mod brought;
 mod entry;
 mod interfaces;
@@ -12,6 +13,7 @@ mod into_bgp;
 mod into_ospf;
 mod known;
 mod known_parts;
+pub mod laws;
 mod learnt;
 mod metric;
 mod metrics;
@@ -21,8 +23,10 @@ mod ribs;
 mod slots;
 mod statics;
 
+pub use bare::{bare_slot, no_bgp};
 pub use entry::sym_entry;
 pub use into_bgp::sym_originate;
 pub use into_ospf::sym_redistribute;
 pub use places::slot_for;
-pub use slots::{SymRib, SymSlot};
+pub use ribs::no_entry;
+pub use slots::{SymRib, SymSlot, SymTables};

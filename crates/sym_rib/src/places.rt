@@ -1,24 +1,24 @@
 //! The symbolic slot of a router for a prefix length.
 
-ghost use Rattle.std.specs.Prelude.{◌≡◌, ◌+◌, ◌*◌, ◌≤◌, IfSome, slice_get, option_copied};
-ghost use Rattle.route_record.specs.declared.TheConstants as constants;
+ghost use Rattle.std.specs.Prelude.{◌≡◌, ◌≤◌, IfSome, option_copied};
 ghost use Rattle.sym_rib.specs.Slots.{slot_end};
-ghost use Rattle.sym_rib.specs.Worlds.{slots_end};
+ghost use Rattle.sym_rib.specs.Worlds.{slot_placed, slots_end};
 
-use crate::slots::SymSlot;
-use route_record::LENGTHS;
+use crate::slots::{SymSlot, SymTables};
+use plan_places::item_among;
 
-fn slot_there(slots: &[SymSlot], router: u32, len: u8) -> Option<&SymSlot>
-    ensures { option_copied result ≡ slice_get slots.now (constants.LENGTHS * router + len) }
+// The same, without what is known of its nodes.
+fn slot_there<'a>(tables: &SymTables<'a>, router: u32, len: u8) -> Option<&'a SymSlot>
+    ensures { option_copied result ≡ slot_placed tables.now router len }
 {
-    let place = LENGTHS * router as usize + len as usize;
-    slots.get(place)
+    item_among(tables.lens, tables.slots, router, len)
 }
 
-/// The symbolic slot of a router for a prefix length. None exactly where there is none there.
-pub fn slot_for(slots: &[SymSlot], router: u32, len: u8) -> Option<&SymSlot>
-    ensures place { option_copied result ≡ slice_get slots.now (constants.LENGTHS * router + len) }
-    ensures within { IfSome result (λ r. slot_end r.now ≤ slots_end slots.now) }
+/// The symbolic slot of a router for a prefix length. None exactly where no slot stands there: at a length at which no
+/// slice of the plan does, and at a number that is no router's.
+pub fn slot_for<'a>(tables: &SymTables<'a>, router: u32, len: u8) -> Option<&'a SymSlot>
+    ensures place { option_copied result ≡ slot_placed tables.now router len }
+    ensures within { IfSome result (λ r. slot_end r.now ≤ slots_end tables.now.slots.now) }
 {
-    slot_there(slots, router, len)
+    slot_there(tables, router, len)
 }

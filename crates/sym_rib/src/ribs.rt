@@ -2,7 +2,7 @@
 
 ghost use Rattle.std.specs.Prelude.{◌≡◌, ◌==◌, ℕ, ◌+◌, ◌^◌, ◌<◌, ◌≤◌, Bool, if◌then◌else◌, Some, None, IfOk, length};
 ghost use Rattle.route_record.specs.declared.RibEntry.{RibEntry as Entry};
-ghost use Rattle.sym_rib.specs.Slots.{number_of_source, rib_of, rib_end};
+ghost use Rattle.sym_rib.specs.Slots.{number_of_source, rib_of, rib_end, IsNumbered};
 ghost use Rattle.sym_rib.specs.Sources.{closer_of};
 ghost use Rattle.term_store.specs.Terms.{Reading, size, at};
 ghost use Rattle.term_store.specs.Reading.{Reads, Builds, Gives};
@@ -11,13 +11,13 @@ ghost use Rattle.term_arith.specs.Bits.{number, ids_end};
 use crate::slots::SymRib;
 use route_record::RibSource;
 use std::alloc::{AllocError, Global};
-use term_arith::gates::{both, either, negate, select};
+use term_arith::gates::{both, constant_node, either, negate, select};
 use term_arith::{choose, constant, less};
 use term_store::{NodeId, Terms};
 
 fn number_of(source: RibSource) -> u64
     ensures value { result ≡ number_of_source source }
-    ensures small { result < 2 ^ 3 }
+    ensures small { result ≤ 4 }
 {
     match source {
         RibSource::Connected => 0,
@@ -40,6 +40,7 @@ pub(crate) fn entry_where(
     requires { valid.0 < size terms.old }
     ensures builds { Builds terms.old terms.new }
     ensures within { IfOk result (λ r. rib_end r ≤ size terms.new) }
+    ensures numbered { Gives terms.new result (λ w r. IsNumbered w r) }
     ensures value { Gives terms.new result (λ w r. rib_of w r
         ≡ (if at w valid then Some (record { source = source; distance = distance }) else None)) }
 {
@@ -52,8 +53,19 @@ pub(crate) fn entry_where(
     })
 }
 
+/// No entry.
+pub fn no_entry(alloc: Global, terms: &mut Terms) -> Result<SymRib, AllocError>
+    ensures builds { Builds terms.old terms.new }
+    ensures within { IfOk result (λ r. rib_end r ≤ size terms.new) }
+    ensures numbered { Gives terms.new result (λ w r. IsNumbered w r) }
+    ensures value { Gives terms.new result (λ w r. rib_of w r ≡ None) }
+{
+    let valid = constant_node(terms, false)?;
+    entry_where(alloc, terms, valid, RibSource::Connected, 0)
+}
+
 /// The first entry where `c` is true, else the second.
-#[tactic(auto, using(crate::proofs::Entries::chosen_entry))]
+#[tactic(auto, using(crate::proofs::Entries::chosen_entry, crate::proofs::Entries::chosen_numbered))]
 pub(crate) fn choose_rib(
     alloc: Global,
     terms: &mut Terms,
@@ -66,6 +78,7 @@ pub(crate) fn choose_rib(
     requires second { rib_end b.now ≤ size terms.old }
     ensures builds { Builds terms.old terms.new }
     ensures within { IfOk result (λ r. rib_end r ≤ size terms.new) }
+    ensures numbered { Gives terms.new result (λ w r. IsNumbered w a.now → IsNumbered w b.now → IsNumbered w r) }
     ensures value { Gives terms.new result (λ w r. rib_of w r ≡ (if at w c then rib_of w a.now else rib_of w b.now)) }
 {
     let valid = select(terms, c, a.valid, b.valid)?;
@@ -90,6 +103,7 @@ pub(crate) fn closer_rib(
     requires second { rib_end next.now ≤ size terms.old }
     ensures builds { Builds terms.old terms.new }
     ensures within { IfOk result (λ r. rib_end r ≤ size terms.new) }
+    ensures numbered { Gives terms.new result (λ w r. IsNumbered w best.now → IsNumbered w next.now → IsNumbered w r) }
     ensures value { Gives terms.new result (λ w r. rib_of w r ≡ closer_of (rib_of w best.now) (rib_of w next.now)) }
 {
     let nearer = less(terms, &next.distance, &best.distance)?;

@@ -1,6 +1,7 @@
 //! Entries of routing tables and slots of routers as terms.
 
-ghost use Rattle.std.specs.Prelude.{◌≡◌, length};
+ghost use Rattle.std.specs.Prelude.{◌≡◌, ◌*◌, ◌≤◌, length};
+ghost use Rattle.route_record.specs.declared.TheConstants as constants;
 
 use sym_policy::{SymBgp, SymOspf};
 use term_arith::Bits;
@@ -24,4 +25,15 @@ pub struct SymSlot {
     pub ospf: SymOspf,
     pub bgp: SymBgp,
     pub rib: SymRib,
+}
+
+/// The slots of so many routers as terms, by router and then by length: each router has one at each of these prefix
+/// lengths, which are at most 33.
+#[derive(Clone, Copy)]
+pub struct SymTables<'a> {
+    pub lens: &'a [u8],
+    pub routers: u32,
+    pub slots: &'a [SymSlot],
+    pub ghost few: { length lens.now ≤ constants.LENGTHS },
+    pub ghost long: { length slots.now ≡ routers * length lens.now },
 }

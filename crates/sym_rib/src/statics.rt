@@ -6,7 +6,7 @@ ghost use Rattle.net_parts.specs.Routing as routing;
 ghost use Rattle.route_record.specs.declared.RibSource as source;
 ghost use Rattle.sym_policy.specs.Held.{failures_of};
 ghost use Rattle.sym_policy.specs.Records.{prefix_of};
-ghost use Rattle.sym_rib.specs.Slots.{rib_of, rib_end};
+ghost use Rattle.sym_rib.specs.Slots.{rib_of, rib_end, IsNumbered};
 ghost use Rattle.sym_rib.specs.Sources.{closer_of, static_entry, static_candidate};
 ghost use Rattle.term_store.specs.Terms.{Reading, size, at};
 ghost use Rattle.term_store.specs.Reading.{Reads, Builds, Gives};
@@ -68,6 +68,7 @@ fn static_rib(
     requires down { ids_end sym.now.down ≤ size terms.old }
     ensures builds { Builds terms.old terms.new }
     ensures within { IfOk result (λ r. rib_end r ≤ size terms.new) }
+    ensures numbered { Gives terms.new result (λ w r. IsNumbered w r) }
     ensures value { Gives terms.new result (λ w r. rib_of w r
         ≡ static_entry (routing.up_interfaces net.now.files (failures_of w sym.now) router)
         (prefix_of w dst.now len) route.now) }
@@ -97,6 +98,7 @@ fn after_static(
     requires best { rib_end best ≤ size terms.old }
     ensures builds { Builds terms.old terms.new }
     ensures within { IfOk result (λ r. rib_end r ≤ size terms.new) }
+    ensures numbered { Gives terms.new result (λ w r. IsNumbered w best → IsNumbered w r) }
     ensures value { Gives terms.new result (λ w r. rib_of w r ≡ closer_of (rib_of w best)
         (static_entry (routing.up_interfaces net.now.files (failures_of w sym.now) router)
         (prefix_of w dst.now len) route.now)) }
@@ -127,6 +129,7 @@ pub(crate) fn best_static(
     requires first { rib_end first ≤ size terms.old }
     ensures builds { Builds terms.old terms.new }
     ensures within { IfOk result (λ r. rib_end r ≤ size terms.new) }
+    ensures numbered { Gives terms.new result (λ w r. IsNumbered w first → IsNumbered w r) }
     ensures value { Gives terms.new result (λ w r. rib_of w r
         ≡ fold routing.closer (rib_of w first) (map static_candidate
         (routing.static_routes (routing.up_interfaces net.now.files (failures_of w sym.now) router) statics.now

@@ -1,11 +1,11 @@
 pub mod PacketParts
 pub mod PacketSound
 pub mod UnknownParts
+pub mod FieldSteps
+pub mod RoomSteps
 pub mod Stability
 pub mod Completeness
-pub mod Rooms
 pub mod Worlds
 pub mod WorldBits
 pub mod Steps
-pub mod RoomSteps
 pub mod DecodingSteps

@@ -1,8 +1,6 @@
 -- Numbers of new variables, widths, and what is open of slots.
-use Rattle.std.proofs.Common.{◌≡◌, ℕ, suc, ◌+◌, ◌*◌, ◌^◌, ◌≤◌, Bool, List, [], ◌∷◌, ◌++◌, length, refl, sym, ap}
+use Rattle.std.proofs.Common.{◌≡◌, ℕ, ◌+◌, ◌*◌, ◌^◌, Bool, List, [], ◌∷◌, ◌++◌, length, Option, refl, sym, ap}
 use Rattle.std.proofs.Common.{arith}
-use Rattle.std.specs.Prelude.{if◌then◌else◌}
-use Rattle.std.proofs.lemmas.Bool.{le-ltb, lt-ltb}
 use Rattle.std.proofs.Common.{◌∙◌, drop, get_or, map, ◌-◌, ◌/◌, ◌<◌, max, subst}
 use Rattle.std.proofs.lemmas.List.{drop_more, map-append}
 use Rattle.std.proofs.Math.Nat.{div-lt_iff_lt-mul, mul_comm}
@@ -11,8 +9,9 @@ use Rattle.term_store.specs.Terms.{Reading}
 use Rattle.std.proofs.lemmas.Grind.{common_steps}
 use Rattle.failed_links.proofs.Steps.{grows_grown}
 use Rattle.world_variables.specs.declared.opens.SymOpen.{SymOpen}
-use Rattle.world_variables.specs.declared.widths.Widths.{Widths}
 use Rattle.world_variables.specs.Symbols.{open_end, open_of, opens_end}
+use Rattle.plan_places.specs.declared.places.Place.{Place}
+use Rattle.slot_places.specs.declared.rooms.Room.{Room}
 use Rattle.world_variables.specs.Unknowns.{unknown_from, unknown_width, unknowns_from, unknowns_width}
 
 -- the first bits of an address fit the width that is left
@@ -36,19 +35,18 @@ pub opens_push : (w : Reading) (xs : List SymOpen) (x : SymOpen) →
     map (open_of w) (xs ++ x ∷ []) ≡ map (open_of w) xs ++ open_of w x ∷ []
 opens_push w xs x = map-append (open_of w) xs (x ∷ [])
 
-pub rooms_at : (rooms : List Bool) (i : ℕ) (d : Bool) → i < length rooms →
-    (get_or rooms i d ≡ get_or rooms i d) × (drop i rooms ≡ get_or rooms i d ∷ drop (i + 1) rooms)
-rooms_at rooms i d within = (refl, drop_more rooms i d within)
+pub places_at : (places : List Place) (i : ℕ) (d : Place) → i < length places →
+    (get_or places i d ≡ get_or places i d) × (drop i places ≡ get_or places i d ∷ drop (i + 1) places)
+places_at places i d within = (refl, drop_more places i d within)
 
-pub unknowns_next : (widths : Widths) (room : Bool) (rooms : List Bool) (v : ℕ → Bool) (from : ℕ) →
-    unknowns_from widths (room ∷ rooms) v from
-    ≡ unknown_from widths room v from ∷ unknowns_from widths rooms v (from + unknown_width widths room)
+pub unknowns_next : (room : Option Room) (rooms : List (Option Room)) (v : ℕ → Bool) (from : ℕ) →
+    unknowns_from (room ∷ rooms) v from ≡ unknown_from room v from ∷ unknowns_from rooms v (from + unknown_width room)
 unfolding unknowns_from
-unknowns_next widths room rooms v from = refl
+unknowns_next room rooms v from = refl
 
-pub widths_next : (widths : Widths) (room : Bool) (rooms : List Bool) →
-    unknowns_width widths (room ∷ rooms) ≡ unknown_width widths room + unknowns_width widths rooms
+pub widths_next : (room : Option Room) (rooms : List (Option Room)) →
+    unknowns_width (room ∷ rooms) ≡ unknown_width room + unknowns_width rooms
 unfolding unknowns_width
-widths_next widths room rooms = refl
+widths_next room rooms = refl
 
-pub ruleset open_steps = (common_steps, grows_grown, opens_end_push, opens_push, rooms_at, unknowns_next, widths_next)
+pub ruleset open_steps = (common_steps, grows_grown, opens_end_push, opens_push, places_at, unknowns_next, widths_next)

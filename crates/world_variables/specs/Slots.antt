@@ -1,54 +1,91 @@
--- The tables that follow from what is open of the slots, and the test that they are a stable routing, in a network
--- without BGP.
-use Rattle.std.specs.Prelude.{ℕ, suc, ◌/◌, ◌%◌, ◌&&◌, Bool, true, false, not, List, [], ◌∷◌, slice_get}
-use Rattle.std.specs.Prelude.{Option, Some, None, is_some, option_and_then}
+-- The tables that follow from what is open of the slots at the places of a plan, and the test that they are a stable
+-- routing, in a network without BGP.
+use Rattle.std.specs.Prelude.{ℕ, ◌&&◌, ◌||◌, Bool, true, false, not, List, length, map, slice_get, if◌then◌else◌}
+use Rattle.std.specs.Prelude.{Option, Some, None, is_some, option_and_then, option_map, unwrap_or}
 use Rattle.std.specs.Bool.{beq}
 use Rattle.std.specs.List.{list_all}
 use Rattle.std.specs.Option.{option_map_or}
 use Rattle.mw_text.specs.declared.address.Addr.{Addr}
+use Rattle.mw_text.specs.declared.address.Prefix.{Prefix}
 use Rattle.mw_text.specs.Address.{prefix_at}
 use Rattle.ios_ast.specs.declared.file.File.{File}
 use Rattle.route_record.specs.declared.Failures.{Failures}
 use Rattle.route_record.specs.declared.OspfRec.{OspfRec}
+use Rattle.route_record.specs.declared.Plan.{Plan}
 use Rattle.route_record.specs.declared.RibEntry.{RibEntry}
+use Rattle.route_record.specs.declared.RibSource.{RibSource}
+use Rattle.route_record.specs.declared.RibSource.TheVariants.{Connected, Static, Ebgp, Ospf, Ibgp}
 use Rattle.route_record.specs.declared.Slot.{Slot}
 use Rattle.route_record.specs.declared.Tables.{Tables}
-use Rattle.route_record.specs.declared.TheConstants.{LENGTHS}
-use Rattle.net_parts.specs.Entries.{entry_with, own_is_as_good}
+use Rattle.route_record.specs.Places.{slot_at}
+use Rattle.net_parts.specs.Entries.{entry_with, table_entry}
 use Rattle.net_parts.specs.Sending.{same_record}
 use Rattle.net_parts.specs.Stable.{held_ospf}
-use Rattle.world_variables.specs.Unknowns.{Unknown}
+use Rattle.plan_places.specs.declared.places.Place.{Place}
+use Rattle.plan_places.specs.Places.{places_of}
+use Rattle.plan_places.specs.Tables.{all_hold, empty_slot, tables_over}
+use Rattle.slot_places.specs.Rooms.{can_be_used}
+use Rattle.world_variables.specs.declared.unknowns.Unknown.{Unknown}
 
 -- no router runs BGP
 abbrev pub runs_no_bgp : List File → Bool
 runs_no_bgp files = list_all (λ file. not (is_some file.bgp)) files
 
+-- ---- the bit of value 2 in the number of a source: 0 is a connected subnet, 1 a static route, 2 external BGP, 3 OSPF and
+-- 4 internal BGP
+
+abbrev pub is_dynamic : RibSource → Bool
+is_dynamic Connected = false
+is_dynamic Static = false
+is_dynamic Ebgp = true
+is_dynamic Ospf = true
+is_dynamic Ibgp = false
+
+-- that of an entry; false where there is none
+abbrev pub has_dynamic : Option RibEntry → Bool
+has_dynamic entry = option_map_or (λ e. is_dynamic e.source) entry false
+
+-- the source whose number has that bit, and else the bits of another's
+abbrev pub source_with : Bool → RibSource → RibSource
+source_with dynamic Connected = if dynamic then Ebgp else Connected
+source_with dynamic Static = if dynamic then Ospf else Static
+source_with dynamic Ebgp = if dynamic then Ebgp else Connected
+source_with dynamic Ospf = if dynamic then Ospf else Static
+source_with dynamic Ibgp = Ibgp
+
+abbrev pub entry_of_bit : Bool → RibEntry → RibEntry
+entry_of_bit dynamic entry = record entry { source = source_with dynamic entry.source }
+
+-- ---- slots
+
 -- a slot with that OSPF route alone
 abbrev pub bare : Option OspfRec → Slot
 bare ospf = record { ospf = ospf; bgp = None; rib = None }
 
--- the entry of the table that follows
+-- the entry of the table that follows: OSPF's counts only where the bit says so
 abbrev pub entry_of : List File → Failures → Addr → ℕ → ℕ → Unknown → Option RibEntry
 entry_of files failures d router len u =
-    option_and_then (λ file. entry_with files failures router file (prefix_at d len) (bare u.ospf) u.own)
-    (slice_get files router)
+    option_map (entry_of_bit u.dynamic) (option_and_then (λ file. entry_with files failures router file (prefix_at d len)
+    (bare u.ospf) (not u.dynamic)) (slice_get files router))
 
-abbrev pub slot_of : List File → Failures → Addr → ℕ → ℕ → Unknown → Slot
-slot_of files failures d router len u = record {
+abbrev pub open_slot : List File → Failures → Addr → ℕ → ℕ → Unknown → Slot
+open_slot files failures d router len u = record {
   ospf = u.ospf;
   bgp = None;
   rib = entry_of files failures d router len u;
 }
 
--- the slots from a place on
-unfoldable pub slots_of : List File → Failures → Addr → ℕ → List Unknown → List Slot
-slots_of files failures d at [] = []
-slots_of files failures d at (u ∷ us) =
-    slot_of files failures d (at / LENGTHS) (at % LENGTHS) u ∷ slots_of files failures d (suc at) us
+-- the slot at a place: an empty one where nothing can stand
+abbrev pub slot_of : List File → Prefix → Failures → Addr → Place → Unknown → Slot
+slot_of files destinations failures d p u =
+    if can_be_used files destinations p.router p.len then open_slot files failures d p.router p.len u else empty_slot
 
--- the tables of a routing
-abbrev pub tables_of : List File → Failures → Addr → List Unknown → Tables
-tables_of files failures d us = record { slots = slots_of files failures d 0 us }
+-- the tables of what is open at the places of a plan
+abbrev pub tables_of : List File → Prefix → Plan → Failures → Addr → List Unknown → Tables
+tables_of files destinations plan failures d us =
+    tables_over (slot_of files destinations failures d) (places_of plan (length files)) us (length files)
+
+-- ---- the test
 
 abbrev pub same_ospf : Option OspfRec → Option OspfRec → Bool
 same_ospf None None = true
@@ -56,32 +93,31 @@ same_ospf None (Some b) = false
 same_ospf (Some a) None = false
 same_ospf (Some a) (Some b) = same_record a b
 
--- what is open of a slot is as the tables want it
+-- what is open of a slot is as the tables want it: the route that the router holds, and the bit of its table's entry
 abbrev pub is_wanted : List File → Failures → Addr → Tables → ℕ → ℕ → Unknown → File → Bool
 is_wanted files failures d tables router len u file =
     same_ospf u.ospf (held_ospf files failures tables router file (prefix_at d len))
-    && beq u.own (own_is_as_good files failures router file (prefix_at d len)
-    (slot_of files failures d router len u))
+    && beq u.dynamic (has_dynamic (table_entry files failures router file (prefix_at d len)
+    (open_slot files failures d router len u)))
 
-abbrev pub slot_holds : List File → Failures → Addr → Tables → ℕ → ℕ → Unknown → Bool
-slot_holds files failures d tables router len u =
-    option_map_or (is_wanted files failures d tables router len u) (slice_get files router) false
+-- nothing is asked where nothing can stand
+abbrev pub slot_holds : List File → Prefix → Failures → Addr → Tables → Place → Unknown → Bool
+slot_holds files destinations failures d tables p u =
+    not (can_be_used files destinations p.router p.len)
+    || option_map_or (is_wanted files failures d tables p.router p.len u) (slice_get files p.router) false
 
--- so are all from a place on
-unfoldable pub all_hold : List File → Failures → Addr → Tables → ℕ → List Unknown → Bool
-all_hold files failures d tables at [] = true
-all_hold files failures d tables at (u ∷ us) =
-    slot_holds files failures d tables (at / LENGTHS) (at % LENGTHS) u && all_hold files failures d tables (suc at) us
+-- so are all at the places of a plan
+abbrev pub are_wanted : List File → Prefix → Plan → Failures → Addr → Tables → List Unknown → Bool
+are_wanted files destinations plan failures d tables us =
+    all_hold (slot_holds files destinations failures d tables) (places_of plan (length files)) us
 
--- what is open of a slot
-abbrev pub unknown_of : List File → Failures → Addr → ℕ → ℕ → Slot → Unknown
-unknown_of files failures d router len slot = record {
-  ospf = slot.ospf;
-  own = option_map_or (λ file. own_is_as_good files failures router file (prefix_at d len) slot)
-      (slice_get files router) false;
-}
+-- ---- what is open of slots that are known
 
-unfoldable pub unknowns_of : List File → Failures → Addr → ℕ → List Slot → List Unknown
-unknowns_of files failures d at [] = []
-unknowns_of files failures d at (slot ∷ slots) =
-    unknown_of files failures d (at / LENGTHS) (at % LENGTHS) slot ∷ unknowns_of files failures d (suc at) slots
+abbrev pub unknown_of : Slot → Unknown
+unknown_of slot = record { ospf = slot.ospf; dynamic = has_dynamic slot.rib }
+
+abbrev pub unknown_at : Tables → Place → Unknown
+unknown_at tables p = unknown_of (unwrap_or (slot_at tables p.router p.len) empty_slot)
+
+abbrev pub unknowns_of : Tables → List Place → List Unknown
+unknowns_of tables places = map (unknown_at tables) places

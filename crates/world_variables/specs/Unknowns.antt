@@ -1,82 +1,108 @@
--- What a formula leaves open of the slots of a routing: the OSPF route of a slot, and whether an own origin is as good.
-use Rattle.std.specs.Prelude.{◌≡◌, ℕ, ◌+◌, ◌^◌, ◌<◌, Bool, true, false, List, [], ◌∷◌, ◌++◌, Option, Some, None, IfSome}
-use Rattle.std.specs.Prelude.{if◌then◌else◌, is_some, unwrap_or}
-use Rattle.route_record.specs.declared.OspfKind.TheVariants.{Internal}
+-- What a formula leaves open of a slot of a routing, by variables: its OSPF route, and one bit of the source of its entry.
+use Rattle.std.specs.Prelude.{◌≡◌, ℕ, ◌+◌, ◌^◌, ◌<◌, ◌≤◌, All, Bool, true, false, List, [], ◌∷◌, ◌++◌, Option, Some, None}
+use Rattle.std.specs.Prelude.{IfSome, if◌then◌else◌, map}
+use Rattle.mw_text.specs.declared.address.Prefix.{Prefix}
+use Rattle.ios_ast.specs.declared.file.File.{File}
 use Rattle.route_record.specs.declared.OspfRec.{OspfRec}
 use Rattle.net_parts.specs.OspfRoutes.{kind_rank}
+use Rattle.plan_places.specs.declared.places.Place.{Place}
+use Rattle.slot_places.specs.declared.fields.Field.{Field}
+use Rattle.slot_places.specs.declared.fields.Field.TheVariants.{Bits, Among}
+use Rattle.slot_places.specs.declared.rooms.Room.{Room}
+use Rattle.slot_places.specs.Rooms.{FitsIn, room_for}
+use Rattle.slot_places.specs.Values.{field_width, read_as, told_as}
 use Rattle.sym_policy.specs.Held.{kind_of_number}
+use Rattle.failed_links.specs.Failures.{none_of}
 use Rattle.failed_links.specs.Rows.{digits, number_from}
-use Rattle.world_variables.specs.declared.widths.Widths.{Widths}
+use Rattle.world_variables.specs.declared.unknowns.Unknown.{Unknown}
 
-pub record Unknown : Type 0 where
-  pub ospf : Option OspfRec
-  pub own : Bool
+-- ---- a route of a room: its kind, its metric and its cost
 
--- a route of so many bits
-abbrev pub route_from : Widths → (ℕ → Bool) → ℕ → OspfRec
-route_from widths v from = record {
-  kind = kind_of_number (number_from v from widths.kind);
-  metric = number_from v (from + widths.kind) widths.metric;
-  cost = number_from v (from + widths.kind + widths.metric) widths.cost;
+abbrev pub route_from : Room → (ℕ → Bool) → ℕ → OspfRec
+route_from room v from = record {
+  kind = kind_of_number (read_as room.kind (number_from v from (field_width room.kind)));
+  metric = read_as room.metric (number_from v (from + field_width room.kind) (field_width room.metric));
+  cost = number_from v (from + field_width room.kind + field_width room.metric) room.cost;
 }
 
-abbrev pub route_width : Widths → ℕ
-route_width widths = widths.kind + widths.metric + widths.cost
+abbrev pub route_width : Room → ℕ
+route_width room = field_width room.kind + field_width room.metric + room.cost
 
-abbrev pub route_bits : Widths → OspfRec → List Bool → List Bool
-route_bits widths r rest =
-    digits widths.kind (kind_rank r.kind) ++ (digits widths.metric r.metric ++ (digits widths.cost r.cost ++ rest))
+abbrev pub field_digits : Field → ℕ → List Bool
+field_digits field n = digits (field_width field) (told_as field n)
 
--- what is open of a slot, where there is room for a route: whether there is one, the route, and whether an own
--- origin is
--- as good
-abbrev pub unknown_from : Widths → Bool → (ℕ → Bool) → ℕ → Unknown
-unknown_from widths false v from = record { ospf = None; own = false }
-unknown_from widths true v from = record {
-  ospf = if v from then Some (route_from widths v (from + 1)) else None;
-  own = v (from + 1 + route_width widths);
+abbrev pub route_bits : Room → OspfRec → List Bool → List Bool
+route_bits room r rest =
+    field_digits room.kind (kind_rank r.kind) ++ (field_digits room.metric r.metric ++ (digits room.cost r.cost ++ rest))
+
+-- ---- what is open of a slot, where that is its room: whether there is a route, the route, and the bit of the entry
+
+abbrev pub unknown_from : Option Room → (ℕ → Bool) → ℕ → Unknown
+unknown_from None v from = record { ospf = None; dynamic = false }
+unknown_from (Some room) v from = record {
+  ospf = if v from then Some (route_from room v (from + 1)) else None;
+  dynamic = v (from + 1 + route_width room);
 }
 
-abbrev pub unknown_width : Widths → Bool → ℕ
-unknown_width widths false = 0
-unknown_width widths true = 1 + route_width widths + 1
+abbrev pub unknown_width : Option Room → ℕ
+unknown_width None = 0
+unknown_width (Some room) = 1 + route_width room + 1
 
--- the route, and where there is none any
-abbrev pub route_or_any : Option OspfRec → OspfRec
-route_or_any ospf = unwrap_or ospf (record { kind = Internal; metric = 0; cost = 0 })
+-- the variables of a route that is not there are false
+abbrev pub ospf_bits : Room → Option OspfRec → List Bool → List Bool
+ospf_bits room None rest = false ∷ (none_of (route_width room) ++ rest)
+ospf_bits room (Some r) rest = true ∷ route_bits room r rest
 
-abbrev pub unknown_bits : Widths → Bool → Unknown → List Bool → List Bool
-unknown_bits widths false u rest = rest
-unknown_bits widths true u rest = is_some u.ospf ∷ route_bits widths (route_or_any u.ospf) (u.own ∷ rest)
+abbrev pub unknown_bits : Option Room → Unknown → List Bool → List Bool
+unknown_bits None u rest = rest
+unknown_bits (Some room) u rest = ospf_bits room u.ospf (u.dynamic ∷ rest)
 
--- all slots, in their order
-unfoldable pub unknowns_from : Widths → List Bool → (ℕ → Bool) → ℕ → List Unknown
-unknowns_from widths [] v from = []
-unknowns_from widths (room ∷ rooms) v from =
-    unknown_from widths room v from ∷ unknowns_from widths rooms v (from + unknown_width widths room)
+-- ---- what is open of all slots, one after another
 
-unfoldable pub unknowns_width : Widths → List Bool → ℕ
-unknowns_width widths [] = 0
-unknowns_width widths (room ∷ rooms) = unknown_width widths room + unknowns_width widths rooms
+unfoldable pub unknowns_from : List (Option Room) → (ℕ → Bool) → ℕ → List Unknown
+unknowns_from [] v from = []
+unknowns_from (room ∷ rooms) v from =
+    unknown_from room v from ∷ unknowns_from rooms v (from + unknown_width room)
 
-unfoldable pub unknowns_bits : Widths → List Bool → List Unknown → List Bool → List Bool
-unknowns_bits widths [] us rest = rest
-unknowns_bits widths (room ∷ rooms) [] rest = rest
-unknowns_bits widths (room ∷ rooms) (u ∷ us) rest = unknown_bits widths room u (unknowns_bits widths rooms us rest)
+unfoldable pub unknowns_width : List (Option Room) → ℕ
+unknowns_width [] = 0
+unknowns_width (room ∷ rooms) = unknown_width room + unknowns_width rooms
 
--- a route of so many bits
-pub record FitsWidths (widths : Widths) (r : OspfRec) : Type 0 where
-  pub kind : kind_rank r.kind < 2 ^ widths.kind
-  pub metric : r.metric < 2 ^ widths.metric
-  pub cost : r.cost < 2 ^ widths.cost
+unfoldable pub unknowns_bits : List (Option Room) → List Unknown → List Bool → List Bool
+unknowns_bits [] us rest = rest
+unknowns_bits (room ∷ rooms) [] rest = rest
+unknowns_bits (room ∷ rooms) (u ∷ us) rest = unknown_bits room u (unknowns_bits rooms us rest)
 
--- where there is no room there is no route
-abbrev pub FitsRoom : Widths → Bool → Unknown → Type 0
-FitsRoom widths false u = (u.ospf ≡ None) × (u.own ≡ false)
-FitsRoom widths true u = IfSome u.ospf (FitsWidths widths)
+-- the rooms of the slots at some places
+abbrev pub rooms_at : List File → Prefix → List Place → List (Option Room)
+rooms_at files destinations places = map (λ p. room_for files destinations p.router p.len) places
 
-abbrev pub FitRooms : Widths → List Bool → List Unknown → Type 0
-FitRooms widths [] [] = Unit {0}
-FitRooms widths [] (u ∷ us) = ⊥
-FitRooms widths (room ∷ rooms) [] = ⊥
-FitRooms widths (room ∷ rooms) (u ∷ us) = FitsRoom widths room u × FitRooms widths rooms us
+-- ---- what fits
+
+-- a route that fits the room; where there is no room there is no route, and the bit is false
+abbrev pub FitsRoom : Option Room → Unknown → Type 0
+FitsRoom None u = (u.ospf ≡ None) × (u.dynamic ≡ false)
+FitsRoom (Some room) u = IfSome u.ospf (FitsIn room)
+
+abbrev pub FitRooms : List (Option Room) → List Unknown → Type 0
+FitRooms [] [] = Unit {0}
+FitRooms [] (u ∷ us) = ⊥
+FitRooms (room ∷ rooms) [] = ⊥
+FitRooms (room ∷ rooms) (u ∷ us) = FitsRoom room u × FitRooms rooms us
+
+-- ---- rooms whose numbers fit the fields of a route
+
+-- the values among which a field tells one fit 32 bits
+abbrev pub HasWords : Field → Type 0
+HasWords (Bits width) = Unit {0}
+HasWords (Among values) = All (λ n. n < 2 ^ 32) values
+
+-- no number that the field can tell has more bits than that
+abbrev pub TellsWithin : ℕ → Field → Type 0
+TellsWithin bits (Bits width) = width ≤ bits
+TellsWithin bits (Among values) = All (λ n. n < 2 ^ bits) values
+
+pub record IsNarrow (room : Room) : Type 0 where
+  pub kind : TellsWithin 2 room.kind
+  pub metric : TellsWithin 32 room.metric
+  pub cost : room.cost ≤ 32

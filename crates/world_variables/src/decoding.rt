@@ -1,27 +1,23 @@
-//! The world that values of variables say: a packet, failed links, and the tables that follow from what is open of them.
+//! A packet that values of variables say, and the OSPF route of a slot.
 
-ghost use Rattle.std.specs.Prelude.{◌≡◌, ◌+◌, ◌-◌, ◌/◌, ◌%◌, ◌^◌, ◌<◌, ◌≤◌, ◌++◌, ◌∷◌, [], ◌*◌, IfOk, IfSome, OnOk, length};
-ghost use Rattle.route_record.specs.declared.TheConstants.{LENGTHS};
+ghost use Rattle.std.specs.Prelude.{◌≡◌, ◌+◌, ◌-◌, ◌/◌, ◌^◌, ◌<◌, ◌≤◌, ◌*◌, IfSome, Some, None, if◌then◌else◌, length};
+ghost use Rattle.std.specs.Option.{option_copied};
 ghost use Rattle.term_store.specs.Terms.{truth};
 ghost use Rattle.sym_policy.specs.Held.{kind_of_number};
+ghost use Rattle.slot_places.specs.Values.{field_width as told_width, read_as};
+ghost use Rattle.failed_links.specs.Rows.{number_from};
 ghost use Rattle.world_variables.specs.Packets as packets;
 ghost use Rattle.world_variables.specs.Packets.{address_from, field_from, packet_from, packet_width};
-ghost use Rattle.world_variables.specs.Rooms as room;
-ghost use Rattle.world_variables.specs.Slots.{slot_of, slots_of, tables_of};
 ghost use Rattle.world_variables.specs.Unknowns as unknowns;
-ghost use Rattle.world_variables.specs.Unknowns.{route_from, unknown_from, unknowns_from, unknowns_width};
-ghost use Rattle.world_variables.specs.Worlds.{world_from, world_width};
+ghost use Rattle.world_variables.specs.Unknowns.{IsNarrow, TellsWithin, route_from, unknown_from};
 
 use crate::packets::known_port;
-use crate::widths::{Widths, rooms, widths_of};
-use failed_links::{downs_size, failures_at, number_at, value_at};
-use mw_text::{Addr, List, Prefix, prefix_of};
-use net_model::Net;
-use proto_rib::best_entry;
-use question_lang::{PacketSet, Question};
-use route_record::{Failures, LENGTHS, OspfKind, OspfRec, Packet, Slot, Tables, World};
-use slot_places::rooms_of;
-use std::alloc::{AllocError, Global};
+use crate::unknowns::Unknown;
+use failed_links::{number_at, value_at};
+use mw_text::{Addr, prefix_of};
+use question_lang::PacketSet;
+use route_record::{OspfKind, OspfRec, Packet};
+use slot_places::{Field, Room};
 
 // How many variables a field has.
 fn field_width(fixed: Option<u16>, width: u8) -> u8
@@ -57,9 +53,9 @@ fn address_at(values: &[bool], from: usize, addr: u32, len: u8) -> Addr
     Addr(number_at(values, from, free) + first.addr.0)
 }
 
-// How many variables a packet of the set has.
+/// How many variables a packet of the set has.
 #[tactic(auto, unfolding(crate::specs::Packets::packet_width))]
-fn packet_size(set: PacketSet) -> usize
+pub fn packet_size(set: PacketSet) -> usize
     ensures value { result ≡ packet_width set }
     ensures few { result < 2 ^ 16 }
 {
@@ -75,9 +71,9 @@ fn packet_size(set: PacketSet) -> usize
         + usize::from(dport)
 }
 
-// The packet, whose variables are the first.
+/// The packet, whose variables are the first.
 #[tactic(auto, unfolding(crate::specs::Packets::packet_from, crate::specs::Packets::packet_width))]
-fn packet_at(values: &[bool], set: PacketSet) -> Packet
+pub fn packet_at(values: &[bool], set: PacketSet) -> Packet
     requires { packet_width set ≤ length values.now }
     ensures { result ≡ packet_from set (truth values.now) 0 }
 {
@@ -97,7 +93,7 @@ fn packet_at(values: &[bool], set: PacketSet) -> Packet
     }
 }
 
-// The kind of a number of two bits.
+// The kind of a number.
 fn kind_of(number: u32) -> OspfKind
     ensures { result ≡ kind_of_number number }
 {
@@ -108,195 +104,80 @@ fn kind_of(number: u32) -> OspfKind
     }
 }
 
-// How many variables a route has.
-fn route_width(widths: Widths) -> usize
-    ensures { result ≡ unknowns.route_width widths }
+// The number that a field tells by its variables.
+#[tactic(auto, using(crate::proofs::RoomSteps::few_bits))]
+fn told_at(values: &[bool], from: usize, field: &Field) -> u32
+    requires narrow { TellsWithin 32 field.now }
+    requires within { from + told_width field.now ≤ length values.now }
+    ensures { result ≡ read_as field.now (number_from (truth values.now) from (told_width field.now)) }
 {
-    usize::from(widths.kind) + usize::from(widths.metric) + usize::from(widths.cost)
+    field.read(number_at(values, from, field.width()))
+}
+
+// How many variables a route has.
+#[tactic(auto, using(crate::proofs::RoomSteps::few_bits))]
+fn route_width(room: &Room) -> usize
+    requires narrow { IsNarrow room.now }
+    ensures value { result ≡ unknowns.route_width room.now }
+    ensures few { result ≤ 96 }
+{
+    usize::from(room.kind.width()) + usize::from(room.metric.width()) + usize::from(room.cost)
 }
 
 // The route of its variables.
-fn route_at(values: &[bool], from: usize, widths: Widths) -> OspfRec
-    requires kind { widths.kind ≤ 32 }
-    requires metric { widths.metric ≤ 32 }
-    requires cost { widths.cost ≤ 32 }
-    requires within { from + unknowns.route_width widths ≤ length values.now }
-    ensures { result ≡ route_from widths (truth values.now) from }
+fn route_at(values: &[bool], from: usize, room: &Room) -> OspfRec
+    requires narrow { IsNarrow room.now }
+    requires within { from + unknowns.route_width room.now ≤ length values.now }
+    ensures { result ≡ route_from room.now (truth values.now) from }
 {
-    let metric = from + usize::from(widths.kind);
-    let cost = metric + usize::from(widths.metric);
+    let metric = from + usize::from(room.kind.width());
+    let cost = metric + usize::from(room.metric.width());
     OspfRec {
-        kind: kind_of(number_at(values, from, widths.kind)),
-        metric: number_at(values, metric, widths.metric),
-        cost: number_at(values, cost, widths.cost),
+        kind: kind_of(told_at(values, from, &room.kind)),
+        metric: told_at(values, metric, &room.metric),
+        cost: number_at(values, cost, room.cost),
     }
 }
 
-// How many variables a slot has.
-fn unknown_width(widths: Widths, room: bool) -> usize
-    ensures { result ≡ unknowns.unknown_width widths room }
+/// How many variables a slot of that room has.
+pub fn unknown_width(room: Option<&Room>) -> usize
+    requires narrow { IfSome (option_copied room) IsNarrow }
+    ensures value { result ≡ unknowns.unknown_width (option_copied room.entry) }
+    ensures few { result ≤ 98 }
 {
-    if room { 1 + route_width(widths) + 1 } else { 0 }
+    match room {
+        None => 0,
+        Some(room) => 1 + route_width(room) + 1,
+    }
 }
 
-// The route of a slot, where it has room for one.
-fn ospf_at(values: &[bool], from: usize, widths: Widths, room: bool) -> Option<OspfRec>
-    requires kind { widths.kind ≤ 32 }
-    requires metric { widths.metric ≤ 32 }
-    requires cost { widths.cost ≤ 32 }
-    requires within { from + unknowns.unknown_width widths room ≤ length values.now }
-    ensures { result ≡ (unknown_from widths room (truth values.now) from).ospf }
+// The route of a slot of that room, where there is one.
+fn ospf_at(values: &[bool], from: usize, room: &Room) -> Option<OspfRec>
+    requires narrow { IsNarrow room.now }
+    requires within { from + 1 + unknowns.route_width room.now ≤ length values.now }
+    ensures { result ≡ (if truth values.now from then Some (route_from room.now (truth values.now) (from + 1)) else None) }
 {
-    if room && value_at(values, from) {
-        Some(route_at(values, from + 1, widths))
+    if value_at(values, from) {
+        Some(route_at(values, from + 1, room))
     } else {
         None
     }
 }
 
-// Whether an own origin is as good as the route of a slot.
-fn own_at(values: &[bool], from: usize, widths: Widths, room: bool) -> bool
-    requires { from + unknowns.unknown_width widths room ≤ length values.now }
-    ensures { result ≡ (unknown_from widths room (truth values.now) from).own }
+/// What is open of a slot of that room, by its variables.
+pub fn unknown_at(values: &[bool], from: usize, room: Option<&Room>) -> Unknown
+    requires narrow { IfSome (option_copied room) IsNarrow }
+    requires within { from + unknowns.unknown_width (option_copied room) ≤ length values.now }
+    ensures { result ≡ unknown_from (option_copied room.entry) (truth values.now) from }
 {
-    room && value_at(values, from + 1 + route_width(widths))
-}
-
-// The slot at a place, with that route and the entry that follows.
-fn slot_at(
-    net: &Net,
-    failures: &Failures,
-    destination: Addr,
-    place: u32,
-    ospf: Option<OspfRec>,
-    own: bool,
-) -> Slot
-    ensures { result ≡ slot_of net.now.files failures.now destination (place / LENGTHS) (place % LENGTHS)
-        (record { ospf = ospf; own = own }) }
-{
-    let router = place / LENGTHS as u32;
-    let len = (place % LENGTHS as u32) as u8;
-    let bare = Slot {
-        ospf,
-        bgp: None,
-        rib: None,
-    };
-    let rib = best_entry(
-        net,
-        failures,
-        router,
-        &prefix_of(destination, len),
-        &bare,
-        own,
-    );
-    Slot {
-        ospf,
-        bgp: None,
-        rib,
+    match room {
+        None => Unknown {
+            ospf: None,
+            dynamic: false,
+        },
+        Some(room) => Unknown {
+            ospf: ospf_at(values, from, room),
+            dynamic: value_at(values, from + 1 + route_width(room)),
+        },
     }
-}
-
-fn put_slot(slots: &mut List<Slot>, slot: Slot) -> Result<(), AllocError>
-    ensures { OnOk result (slots.new ≡ slots.old ++ slot ∷ []) }
-{
-    slots.items.push(slot)?;
-    Ok(())
-}
-
-// All slots, in their order, whose variables begin at one.
-#[tactic(auto, using(crate::proofs::DecodingSteps::slot_steps))]
-fn slots_at(
-    alloc: Global,
-    values: &[bool],
-    from: usize,
-    widths: Widths,
-    rooms: &[bool],
-    net: &Net,
-    failures: &Failures,
-    destination: Addr,
-) -> Result<List<Slot>, AllocError>
-    requires kind { widths.kind ≤ 32 }
-    requires metric { widths.metric ≤ 32 }
-    requires cost { widths.cost ≤ 32 }
-    requires few { length rooms.now < 2 ^ 32 }
-    requires within { from + unknowns_width widths rooms.now ≤ length values.now }
-    ensures { IfOk result (λ r. r ≡ slots_of net.now.files failures.now destination 0
-        (unknowns_from widths rooms.now (truth values.now) from)) }
-{
-    let mut at = from;
-    let mut slots = List::new(alloc);
-    for place in 0..rooms.len() {
-        let room = rooms[place];
-        let ospf = ospf_at(values, at, widths, room);
-        let own = own_at(values, at, widths, room);
-        let slot = slot_at(net, failures, destination, place as u32, ospf, own);
-        put_slot(&mut slots, slot)?;
-        at += unknown_width(widths, room);
-    }
-    Ok(slots)
-}
-
-// The tables of the slots whose variables begin at one.
-#[tactic(auto, using(crate::proofs::DecodingSteps::rooms_few), unfolding(crate::specs::Rooms::widths_of))]
-fn tables_at(
-    alloc: Global,
-    values: &[bool],
-    from: usize,
-    net: &Net,
-    destinations: &Prefix,
-    failures: &Failures,
-    destination: Addr,
-) -> Result<Tables, AllocError>
-    requires { from + unknowns_width (room.widths_of net.now.files destinations.now)
-        (room.rooms_from net.now.files destinations.now 0 (LENGTHS * length net.now.files)) ≤ length values.now }
-    ensures { IfOk result (λ r. r ≡ tables_of net.now.files failures.now destination (unknowns_from (room.widths_of net.now.files destinations.now)
-        (room.rooms_from net.now.files destinations.now 0 (LENGTHS * length net.now.files)) (truth values.now) from)) }
-{
-    let _routers = net.routers();
-    let all = rooms_of(alloc, net, destinations)?;
-    let widths = widths_of(all.as_slice());
-    let rooms = rooms(alloc, net, destinations, all.as_slice())?;
-    let slots = slots_at(
-        alloc,
-        values,
-        from,
-        widths,
-        rooms.as_slice(),
-        net,
-        failures,
-        destination,
-    )?;
-    Ok(Tables { slots })
-}
-
-/// The world that these values say: one value for each variable of the formula of the question over the network.
-#[tactic(auto, unfolding(crate::specs::Worlds::opens_from, crate::specs::Worlds::world_from, crate::specs::Worlds::world_width))]
-pub fn decode(
-    alloc: Global,
-    values: &[bool],
-    net: &Net,
-    question: &Question,
-) -> Result<World, AllocError>
-    requires width { length values.now ≡ world_width net.now.files question.now }
-    ensures world { IfOk result (λ r. r ≡ world_from net.now.files question.now (truth values.now) 0) }
-{
-    let packet = packet_at(values, question.packets);
-    let links = net.links().len() as u32;
-    let from = packet_size(question.packets);
-    let failures = failures_at(alloc, values, from, question.failures, links)?;
-    let start = from + downs_size(question.failures, links);
-    let tables = tables_at(
-        alloc,
-        values,
-        start,
-        net,
-        &question.packets.dst,
-        &failures,
-        packet.dst,
-    )?;
-    Ok(World {
-        failures,
-        packet,
-        tables,
-    })
 }

@@ -1,13 +1,18 @@
-//! The variables of the worlds of a question, in a network without BGP: those of a packet and of what is open of slots as
-//! terms, and the world that values of all variables say.
+//! The variables of the worlds of a question over the places of a plan, in a network without BGP: those of a packet and of
+//! what is open of slots as terms, and the world that values of all variables say.
 #![tactic(auto)]
 
-pub mod decoding;
+mod decoding;
+pub mod fields;
 pub mod laws;
 pub mod opens;
 mod packets;
-pub mod widths;
+mod rooms;
+mod tables;
+mod unknowns;
 
-pub use decoding::decode;
 pub use opens::SymOpen;
 pub use packets::packet_in;
+pub use rooms::read_rooms;
+pub use tables::decode;
+pub use unknowns::Unknown;

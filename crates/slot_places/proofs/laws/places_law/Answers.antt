@@ -1,9 +1,10 @@
-use Rattle.slot_places.specs.Places.{place}
-use Rattle.slot_places.specs.Plans.{lens_of}
+use Rattle.plan_places.specs.Places.{place}
+use Rattle.plan_places.specs.Plans.{lens_of}
 use Rattle.route_record.specs.declared.TheConstants.{LENGTHS}
 use Rattle.net_parts.proofs.LeastWalks.{contains-in, in-contains}
 use Rattle.slot_places.proofs.PlaceLaws.{in-lens, in-places, lens-ascend, lens-in, places-ascend, places-in}
-use Rattle.slot_places.proofs.PlaceLaws.{places-length, single-has}
+use Rattle.plan_places.proofs.PlaceSteps.{places-length}
+use Rattle.slot_places.proofs.PlaceLaws.{single-has}
 use Rattle.slot_places.proofs.laws.places_law.Goals as goal
 
 pub returns-clause-there : goal.returns-clause-there

@@ -1,11 +1,13 @@
-use Rattle.std.proofs.Common.{rules, arith, [], ap, ◌∙◌}
+use Rattle.std.proofs.Common.{rules, arith, [], ap, map, ◌∙◌}
 use Rattle.std.proofs.lemmas.Grind.{common_steps}
+use Rattle.std.proofs.lemmas.List.{take_all}
 use Rattle.std.specs.List.{filter_map}
 use Rattle.net_parts.specs.Origins.{by_network}
 use Rattle.sym_policy.specs.Held.{bgp_of}
 use Rattle.route_shapes.specs.Bgp.{bgp_shape}
 use Rattle.sym_policy.specs.Records.{prefix_of}
-use Rattle.sym_rib.proofs.OneEach.{lines_step, list_end-append}
+use Rattle.sym_rib.specs.Into.{HasTracked}
+use Rattle.sym_rib.proofs.OneEach.{all_put, lines_step, list_end-append}
 use Rattle.sym_rib.proofs.into_bgp.by_networks.Goals as goal
 
 pub loop-line-preserved : goal.loop-line-preserved
@@ -15,6 +17,8 @@ loop-line-preserved c =
     record {
       builds = search rules;
       within = grind (arith, common_steps, list_end-append);
+      rows = all_put (HasTracked c.args.tracked.now) c.loop-line.made _ c.in_ok-rec.rec c.in_ok-put_bgp.ensures
+          old.rows rec.rows;
       value = λ w reads held all stands.
           ap (filter_map (bgp_of w)) c.in_ok-put_bgp.ensures
           ∙ lines_step (bgp_of w) (bgp_shape c.args.tracked.now)
@@ -23,3 +27,10 @@ loop-line-preserved c =
           c.line-item.is (rec.value w reads held all stands)
           (old.value w (rec.builds.reads w reads) held all stands);
     }
+
+pub returns-clause-value : goal.returns-clause-value
+returns-clause-value c = λ w reads held all stands.
+    let of_line = by_network c.args.file.now (prefix_of w c.args.dst.now c.args.len) held in
+    c.loop-line.invariant.value w reads held all stands
+    ∙ ap (λ ls. map (bgp_shape c.args.tracked.now) (filter_map of_line ls))
+    (take_all c.loop-line.line-index c.args.lines.now c.loop-line-test.false)

@@ -1,4 +1,4 @@
-use Rattle.std.proofs.Common.{◌≡◌, ◌≤◌, true, map, take}
+use Rattle.std.proofs.Common.{◌≡◌, ◌≤◌, true, All, map, take}
 use Rattle.std.specs.List.{filter_map}
 use Rattle.route_record.specs.declared.Slot.{Slot}
 use Rattle.net_parts.specs.Origins.{by_network}
@@ -8,8 +8,8 @@ use Rattle.sym_policy.specs.Records.{prefix_of}
 use Rattle.route_shapes.specs.Shapes.{all_tracked}
 use Rattle.term_store.specs.Terms.{Reading, size}
 use Rattle.term_store.specs.Reading.{Reads, Builds}
-use Rattle.sym_rib.specs.Into.{list_end}
-use Rattle.sym_rib.specs.Slots.{StandsForSlot}
+use Rattle.sym_rib.specs.Into.{HasTracked, list_end}
+use Rattle.sym_rib.specs.Slots.{StandsBesideBgp}
 use Rattle.sym_rib.proofs.into_bgp.by_networks.Given as goal
 
 -- the routes of the lines so far
@@ -17,8 +17,9 @@ abbrev pub invariant-loop-line : goal.invariant-loop-line
 invariant-loop-line l = record {
   builds : Builds l.fn.terms l.terms;
   within : list_end bgp_end l.made ≤ size l.terms;
+  rows : All (HasTracked l.tracked) l.made;
   value : (w : Reading) → Reads w l.terms → (held : Slot) → all_tracked l.tracked l.file.policies ≡ true
-      → StandsForSlot w l.tracked l.slot held
+      → StandsBesideBgp w l.slot held
       → filter_map (bgp_of w) l.made
       ≡ map (bgp_shape l.tracked)
       (filter_map (by_network l.file (prefix_of w l.dst l.len) held) (take l.line-index l.lines));

@@ -8,11 +8,17 @@ use Rattle.route_shapes.specs.Bgp.{bgp_shape}
 use Rattle.sym_policy.specs.Records.{prefix_of}
 use Rattle.sym_rib.specs.IntoBgp.{metric_of}
 use Rattle.sym_policy.proofs.SameNodes.{bgp_within}
+use Rattle.sym_rib.proofs.KnownRoutes.{tracked_kept}
 use Rattle.sym_rib.proofs.LocalRoutes.{local_code, local_left, own_kept, record_stands}
 use Rattle.sym_rib.proofs.into_bgp.mapped_bgp.Goals as goal
 
 pub returns-clause-within : goal.returns-clause-within
 returns-clause-within c = bgp_within c.in_ok-left.left _ c.in_ok-left.ensures.within
+
+pub returns-clause-rows : goal.returns-clause-rows
+returns-clause-rows c =
+    let left = c.in_ok-left.ensures in
+    tracked_kept c.args.tracked.now c.in_ok-before.before c.in_ok-left.left c.in_ok-before.ensures.rows left.marks left.rest
 
 pub returns-clause-value : goal.returns-clause-value
 returns-clause-value c = λ w reads all.

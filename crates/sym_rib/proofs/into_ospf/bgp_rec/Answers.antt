@@ -9,7 +9,7 @@ use Rattle.sym_rib.proofs.Redistribution.{no_less, seen_bgp}
 use Rattle.sym_rib.proofs.into_ospf.bgp_rec.Goals as goal
 
 pub returns-clause-value : goal.returns-clause-value
-returns-clause-value c = λ w reads bgp stands.
+returns-clause-value c = λ w reads.
     let plain = c.in_ok-plain in
     let put = c.put_held in
     let held = c.args.held.now in
@@ -17,7 +17,7 @@ returns-clause-value c = λ w reads bgp stands.
     let there : NodeId → Option RouteShape = λ id. if at w id then Some made else None in
     ap there put.ensures.valid
     ∙ seen_bgp c.args.tracked.now c.args.line.now (at w held.valid) (bgp_at w held)
-    (attributes_at w plain.plain) made bgp stands (plain.ensures.value w reads)
+    (attributes_at w plain.plain) made (plain.ensures.value w reads)
     (put.ensures.value w ∙ parts_read w held c.in_ok-parts.parts (attributes_at w plain.plain) c.in_ok-parts.ensures)
 
 pub returns-clause-within : goal.returns-clause-within

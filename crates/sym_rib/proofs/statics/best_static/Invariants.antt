@@ -4,7 +4,7 @@ use Rattle.sym_policy.specs.Held.{failures_of}
 use Rattle.sym_policy.specs.Records.{prefix_of}
 use Rattle.term_store.specs.Terms.{Reading, size}
 use Rattle.term_store.specs.Reading.{Reads, Builds}
-use Rattle.sym_rib.specs.Slots.{rib_of, rib_end}
+use Rattle.sym_rib.specs.Slots.{IsNumbered, rib_of, rib_end}
 use Rattle.sym_rib.specs.Sources.{static_candidate}
 use Rattle.sym_rib.proofs.statics.best_static.Given as goal
 
@@ -13,6 +13,7 @@ abbrev pub invariant-loop-route : goal.invariant-loop-route
 invariant-loop-route l = record {
   builds : Builds l.fn.terms l.terms;
   within : rib_end l.best ≤ size l.terms;
+  numbered : (w : Reading) → Reads w l.terms → IsNumbered w l.fn.first → IsNumbered w l.best;
   value : (w : Reading) → Reads w l.terms
       → fold closer (rib_of w l.best) (map static_candidate
       (static_routes (up_interfaces l.net.files (failures_of w l.sym) l.router) (drop l.route-index l.statics)

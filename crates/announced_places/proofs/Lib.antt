@@ -1,0 +1,2 @@
+pub mod PlacedThings
+pub mod ExternalPlaces

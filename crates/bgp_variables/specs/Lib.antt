@@ -1,0 +1,6 @@
+pub mod Marks
+pub mod Shapes
+pub mod Rooms
+pub mod Parts
+pub mod Environments
+pub mod Announced

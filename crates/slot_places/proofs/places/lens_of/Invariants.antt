@@ -1,6 +1,0 @@
-use Rattle.std.proofs.Common.{◌≡◌}
-use Rattle.slot_places.specs.Plans.{lens_below}
-use Rattle.slot_places.proofs.places.lens_of.Given as goal
-
-abbrev pub invariant-loop-len : goal.invariant-loop-len
-invariant-loop-len l = l.lens.items ≡ lens_below l.plan l.len
