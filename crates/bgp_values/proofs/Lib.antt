@@ -1,0 +1,2 @@
+pub mod MarkSteps
+pub mod NumberSteps

@@ -1,0 +1,8 @@
+//! What values of variables say of BGP routes: numbers, paths and sets of marks, as fields of routes.
+#![tactic(auto)]
+
+mod marks;
+mod routes;
+
+pub use marks::{marks_at, marks_size};
+pub use routes::{PathTold, address_of, learnt_of, long_told_at, path_at, told_at, with_preferences};
