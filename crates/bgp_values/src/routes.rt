@@ -9,7 +9,7 @@ ghost use Rattle.route_record.specs.Shape.{marked_number};
 ghost use Rattle.route_shapes.specs.Bgp.{address_number, learnt_number};
 ghost use Rattle.slot_places.specs.Values.{field_width, read_as};
 ghost use Rattle.world_variables.specs.Unknowns.{TellsWithin};
-ghost use Rattle.bgp_values.specs.Told.{as_told, plain_address};
+ghost use Rattle.bgp_values.specs.Told.{HasFewMarks, lists_of, plain_address};
 ghost use Rattle.bgp_variables.specs.Shapes as shapes;
 ghost use Rattle.path_rebuild.specs.Shapes.{AreFew, route_of};
 
@@ -152,5 +152,81 @@ pub fn path_at(values: &[bool], from: usize, room: &PathRoom) -> PathTold
         first: told_at(values, first, &room.first),
         last: told_at(values, last, &room.last),
         numbers: marks_at(values, numbers, room.numbers.as_slice()),
+    }
+}
+
+// ---- the whole
+
+// How many variables the numbers by which a route is preferred have.
+#[tactic(auto, unfolding(bgp_variables::specs::Shapes::preferences_width), using(world_variables::proofs::RoomSteps::few_bits))]
+fn preferences_size(room: &PreferencesRoom) -> usize
+    requires { shapes.ArePreferences room.now }
+    ensures { result ≡ shapes.preferences_width room.now }
+{
+    usize::from(room.weight.width())
+        + usize::from(room.local_pref.width())
+        + usize::from(room.med.width())
+        + usize::from(room.origin.width())
+}
+
+// How many a path has.
+#[tactic(auto, unfolding(bgp_variables::specs::Shapes::path_width))]
+fn path_size(room: &PathRoom) -> usize
+    requires { length room.now.numbers ≤ MOST_TRACKED }
+    ensures { result ≡ shapes.path_width room.now }
+{
+    usize::from(room.len.width())
+        + usize::from(room.first.width())
+        + usize::from(room.last.width())
+        + marks_size(room.numbers.as_slice())
+}
+
+// Where the variables of the communities begin.
+#[tactic(auto, unfolding(bgp_variables::specs::Shapes::shape_width))]
+fn communities_start(from: usize, room: &BgpRoom, most: usize) -> usize
+    requires room { shapes.IsBgpRoom room.now }
+    requires few { HasFewMarks room.now }
+    requires within { from + shapes.shape_width room.now ≤ most }
+    ensures { result ≡ shapes.communities_start room.now from }
+{
+    from + usize::from(room.from.width())
+        + preferences_size(&room.preferences)
+        + path_size(&room.path)
+}
+
+// Where those of the next hop begin.
+#[tactic(auto, unfolding(bgp_variables::specs::Shapes::shape_width))]
+fn hop_start(from: usize, room: &BgpRoom, most: usize) -> usize
+    requires room { shapes.IsBgpRoom room.now }
+    requires few { HasFewMarks room.now }
+    requires within { from + shapes.shape_width room.now ≤ most }
+    ensures { result ≡ shapes.hop_start room.now from }
+{
+    communities_start(from, room, most) + marks_size(room.communities.as_slice())
+}
+
+/// The shape of the lists of the route that variables say, from one on.
+#[tactic(auto, unfolding(bgp_variables::specs::Shapes::shape_from, bgp_variables::specs::Shapes::shape_width))]
+pub fn lists_at(values: &[bool], from: usize, room: &BgpRoom) -> Shape
+    requires room { shapes.IsBgpRoom room.now }
+    requires few { HasFewMarks room.now }
+    requires within { from + shapes.shape_width room.now ≤ length values.now }
+    ensures { result ≡ lists_of (shapes.shape_from room.now (truth values.now) from) }
+{
+    let communities = communities_start(from, room, values.len());
+    let cluster_len = hop_start(from, room, values.len())
+        + usize::from(room.next_hop.width())
+        + usize::from(room.originator.width());
+    let clusters = cluster_len + usize::from(room.cluster_len.width());
+    let path_from = communities - path_size(&room.path);
+    let path = path_at(values, path_from, &room.path);
+    Shape {
+        len: path.len,
+        first: path.first,
+        last: path.last,
+        numbers: path.numbers,
+        communities: marks_at(values, communities, room.communities.as_slice()),
+        cluster_len: told_at(values, cluster_len, &room.cluster_len),
+        clusters: marks_at(values, clusters, room.clusters.as_slice()),
     }
 }
