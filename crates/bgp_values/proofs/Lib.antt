@@ -1,2 +1,3 @@
 pub mod MarkSteps
 pub mod NumberSteps
+pub mod RouteSteps

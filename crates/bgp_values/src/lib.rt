@@ -5,4 +5,7 @@ mod marks;
 mod routes;
 
 pub use marks::{marks_at, marks_size};
-pub use routes::{PathTold, address_of, learnt_of, long_told_at, path_at, told_at, with_preferences};
+pub use routes::{
+    PathTold, address_of, known_at, learnt_of, lists_at, long_told_at, path_at, told_at,
+    with_preferences,
+};

@@ -9,7 +9,7 @@ ghost use Rattle.route_record.specs.Shape.{marked_number};
 ghost use Rattle.route_shapes.specs.Bgp.{address_number, learnt_number};
 ghost use Rattle.slot_places.specs.Values.{field_width, read_as};
 ghost use Rattle.world_variables.specs.Unknowns.{TellsWithin};
-ghost use Rattle.bgp_values.specs.Told.{HasFewMarks, lists_of, plain_address};
+ghost use Rattle.bgp_values.specs.Told.{HasFewMarks, as_told, lists_of, plain_address};
 ghost use Rattle.bgp_variables.specs.Shapes as shapes;
 ghost use Rattle.path_rebuild.specs.Shapes.{AreFew, route_of};
 
@@ -120,8 +120,12 @@ pub fn with_preferences(values: &[bool], from: usize, room: &PreferencesRoom, re
     requires room { shapes.ArePreferences room.now }
     requires within { from + shapes.preferences_width room.now ≤ length values.now }
     ensures { let told = shapes.preferences_from room.now (truth values.now) from in
-        result ≡ record rec { weight = told.weight; local_pref = told.local_pref; med = told.med;
-        origin = origin_of_code told.origin } }
+        result ≡ record rec {
+          weight = told.weight;
+          local_pref = told.local_pref;
+          med = told.med;
+          origin = origin_of_code told.origin;
+        } }
 {
     let local_pref = from + usize::from(room.weight.width());
     let med = local_pref + usize::from(room.local_pref.width());
@@ -228,5 +232,52 @@ pub fn lists_at(values: &[bool], from: usize, room: &BgpRoom) -> Shape
         communities: marks_at(values, communities, room.communities.as_slice()),
         cluster_len: told_at(values, cluster_len, &room.cluster_len),
         clusters: marks_at(values, clusters, room.clusters.as_slice()),
+    }
+}
+
+// The plain fields of a route, whose lists are empty: whence it came, its next hop and its originator. The numbers by
+// which it is preferred are 0.
+#[tactic(auto, unfolding(bgp_variables::specs::Shapes::shape_from, bgp_variables::specs::Shapes::shape_width))]
+fn peers_at(alloc: Global, values: &[bool], from: usize, room: &BgpRoom) -> BgpRec
+    requires room { shapes.IsBgpRoom room.now }
+    requires few { HasFewMarks room.now }
+    requires within { from + shapes.shape_width room.now ≤ length values.now }
+    ensures came { learnt_number result.from ≡ plain_address (shapes.shape_from room.now (truth values.now) from).from }
+    ensures hop { result.next_hop.0 ≡ (shapes.shape_from room.now (truth values.now) from).next_hop }
+    ensures originator { address_number result.originator
+        ≡ plain_address (shapes.shape_from room.now (truth values.now) from).originator }
+{
+    let next_hop = hop_start(from, room, values.len());
+    let originator = next_hop + usize::from(room.next_hop.width());
+    BgpRec {
+        from: learnt_of(long_told_at(values, from, &room.from)),
+        weight: 0,
+        local_pref: 0,
+        path: List::new(alloc),
+        origin: Origin::Igp,
+        med: 0,
+        communities: List::new(alloc),
+        next_hop: Addr(told_at(values, next_hop, &room.next_hop)),
+        originator: address_of(long_told_at(values, originator, &room.originator)),
+        clusters: List::new(alloc),
+    }
+}
+
+/// The route that variables say, from one on: its plain fields, and the shape of its lists. A number that stands for no
+/// address or for no origin is read as the nearest that does; the shape of a real route has none.
+#[tactic(auto, unfolding(bgp_variables::specs::Shapes::shape_from, bgp_variables::specs::Shapes::shape_width))]
+pub fn known_at(alloc: Global, values: &[bool], from: usize, room: &BgpRoom) -> ShapeRec
+    requires room { shapes.IsBgpRoom room.now }
+    requires few { HasFewMarks room.now }
+    requires within { from + shapes.shape_width room.now ≤ length values.now }
+    ensures { (tracked : TrackedOf) → shapes.MarksTracked tracked room.now →
+        route_of tracked result ≡ as_told (shapes.shape_from room.now (truth values.now) from) }
+{
+    let peers = peers_at(alloc, values, from, room);
+    let start = from + usize::from(room.from.width());
+    let rec = with_preferences(values, start, &room.preferences, peers);
+    ShapeRec {
+        rec,
+        shape: lists_at(values, from, room),
     }
 }

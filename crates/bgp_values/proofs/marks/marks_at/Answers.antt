@@ -11,10 +11,11 @@ loop-i-init c =
     let mays = c.args.mays.now in
     let size = c.marks_size.ensures.value in
     let none = width_end mays (length mays) (omega arith) in
-    let zero : length mays - length mays ≡ 0 = omega arith in
-    (omega (arith, size, none),
-    marks_end mays (length mays) (truth c.args.values.now) (c.args.from + c.marks_size.result) (omega arith),
-    subst (λ k. 0 < 2 ^ k) (sym zero) (omega arith))
+    let zero : length mays - length mays ≡ 0 = omega arith in (
+      omega (arith, size, none),
+      marks_end mays (length mays) (truth c.args.values.now) (c.args.from + c.marks_size.result) (omega arith),
+      subst (λ k. 0 < 2 ^ k) (sym zero) (omega arith),
+    )
 
 pub overflow_sub-end : goal.overflow_sub-end
 overflow_sub-end c =
@@ -49,8 +50,9 @@ loop-i-preserved c =
     let said = marks_before mays i v at (omega arith) (omega arith) in
     let small = small_more c.loop-i.set i (length mays) (may && v at) (omega arith) (omega arith) c.loop-i.invariant.2 in
     let made : c.with_mark-set.result ≡ (if may && v at then 1 else 0) + 2 * c.loop-i.set =
-    c.with_mark-set.ensures ∙ ap (λ b. (if b then 1 else 0) + 2 * c.loop-i.set) c.mark_at.ensures in
-    (omega (arith, before, part, c.loop-i.invariant.0, c.mark_size-end.ensures),
-    made ∙ ap (λ n. (if may && v at then 1 else 0) + 2 * n)
-    (c.loop-i.invariant.1 ∙ ap (λ k. marked_number (marks_from (drop i mays) v k)) (sym end)) ∙ sym said,
-    subst (λ n. n < 2 ^ (length mays - (i - 1))) (sym made) small)
+    c.with_mark-set.ensures ∙ ap (λ b. (if b then 1 else 0) + 2 * c.loop-i.set) c.mark_at.ensures in (
+      omega (arith, before, part, c.loop-i.invariant.0, c.mark_size-end.ensures),
+      made ∙ ap (λ n. (if may && v at then 1 else 0) + 2 * n)
+          (c.loop-i.invariant.1 ∙ ap (λ k. marked_number (marks_from (drop i mays) v k)) (sym end)) ∙ sym said,
+      subst (λ n. n < 2 ^ (length mays - (i - 1))) (sym made) small,
+    )
