@@ -1,5 +1,5 @@
 -- A route whose fields and lists are as variables say has the shape that they say.
-use Rattle.std.proofs.Common.{◌≡◌, ℕ, zero, suc, ◌+◌, ◌*◌, ◌/◌, ◌%◌, Bool, true, false, List, [], ◌∷◌, length, refl, sym, ap, ◌∙◌}
+use Rattle.std.proofs.Common.{◌≡◌, ℕ, zero, suc, ◌+◌, ◌*◌, ◌/◌, ◌%◌, Bool, true, false, List, [], ◌∷◌, length, refl, sym, ap, ◌∙◌, Some, None, option_map}
 use Rattle.std.proofs.Common.{arith, if◌then◌else◌}
 use Rattle.std.specs.Prelude.{◌==◌}
 use Rattle.route_record.specs.declared.BgpRec.{BgpRec}
@@ -11,10 +11,10 @@ use Rattle.route_shapes.specs.Bgp.{BgpShape, address_number, learnt_number}
 use Rattle.announced_shapes.specs.Sets.{marks_of}
 use Rattle.bgp_variables.specs.declared.rooms.BgpRoom.{BgpRoom}
 use Rattle.bgp_variables.specs.Marks.{marks_from}
-use Rattle.bgp_variables.specs.Shapes.{MarksTracked, path_from, preferences_from, shape_from}
+use Rattle.bgp_variables.specs.Shapes.{IsRoomOf, MarksTracked, bgp_from, path_from, shape_from}
 use Rattle.path_rebuild.specs.declared.ShapeRec.{ShapeRec}
-use Rattle.path_rebuild.specs.Shapes.{route_of}
-use Rattle.bgp_values.specs.Told.{as_told, lists_of, plain_address}
+use Rattle.path_rebuild.specs.Shapes.{AreFew, route_of}
+use Rattle.bgp_values.specs.Told.{HasFewMarks, as_told, lists_of, plain_address}
 
 odd : (n : ℕ) → (1 + 2 * n) % 2 ≡ 1
 odd n = omega arith
@@ -78,3 +78,23 @@ route_told tracked room v from peers marks came hop originator =
       cluster_len = s.cluster_len;
       clusters = clusters i;
     }
+
+-- a row of the room has a mark for each tracked value, of which there are few
+pub few_marks : (tracked : Tracked) (room : BgpRoom) → AreFew tracked → IsRoomOf tracked room → HasFewMarks room
+few_marks tracked room few is =
+    let numbers = is.1.numbers in
+    let communities = is.1.communities in
+    let clusters = is.1.clusters in
+    record {
+      numbers = omega (arith, numbers, few.numbers);
+      communities = omega (arith, communities, few.communities);
+      clusters = omega (arith, clusters, few.clusters);
+    }
+
+pub told_there : (room : BgpRoom) (v : ℕ → Bool) (from : ℕ) (b : Bool) → v from ≡ b →
+    option_map as_told (bgp_from (Some room) v from)
+    ≡ (if b then Some (as_told (shape_from room v (from + 1))) else None)
+told_there room v from true is =
+    ap (λ b. option_map as_told (if b then Some (shape_from room v (from + 1)) else None)) is
+told_there room v from false is =
+    ap (λ b. option_map as_told (if b then Some (shape_from room v (from + 1)) else None)) is

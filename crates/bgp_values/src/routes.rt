@@ -1,6 +1,6 @@
 //! The routes that values of variables say.
 
-ghost use Rattle.std.specs.Prelude.{◌≡◌, ◌+◌, ◌^◌, ◌<◌, ◌≤◌, length};
+ghost use Rattle.std.specs.Prelude.{◌≡◌, ◌+◌, ◌^◌, ◌<◌, ◌≤◌, IfSome, length, option_map};
 ghost use Rattle.term_store.specs.Terms.{truth};
 ghost use Rattle.failed_links.specs.Rows.{number_from};
 ghost use Rattle.route_record.specs.declared.tracked.Tracked.{Tracked as TrackedOf};
@@ -18,7 +18,7 @@ use bgp_variables::{BgpRoom, PathRoom, PreferencesRoom};
 use failed_links::{number_at, value_at};
 use mw_text::{Addr, List};
 use path_rebuild::ShapeRec;
-use route_record::{BgpRec, Learnt, MOST_TRACKED, Origin, Shape};
+use route_record::{BgpRec, Learnt, MOST_TRACKED, Origin, Shape, Tracked};
 use slot_places::Field;
 use std::alloc::Global;
 
@@ -279,5 +279,32 @@ pub fn known_at(alloc: Global, values: &[bool], from: usize, room: &BgpRoom) -> 
     ShapeRec {
         rec,
         shape: lists_at(values, from, room),
+    }
+}
+
+/// The route that may be there, by its variables; none where there is no room for one.
+#[tactic(auto, using(crate::proofs::RouteSteps::few_marks, crate::proofs::RouteSteps::told_there))]
+pub fn route_at(
+    alloc: Global,
+    tracked: &Tracked,
+    values: &[bool],
+    from: usize,
+    room: &Option<BgpRoom>,
+) -> Option<ShapeRec>
+    requires few { AreFew tracked.now }
+    requires room { IfSome room.now (shapes.IsRoomOf tracked.now) }
+    requires within { from + shapes.bgp_width room.now ≤ length values.now }
+    ensures { option_map (route_of tracked.now) result
+        ≡ option_map as_told (shapes.bgp_from room.now (truth values.now) from) }
+{
+    match room {
+        None => None,
+        Some(room) => {
+            if value_at(values, from) {
+                Some(known_at(alloc, values, from + 1, room))
+            } else {
+                None
+            }
+        }
     }
 }
