@@ -1,3 +1,4 @@
 pub mod MarkSteps
 pub mod NumberSteps
 pub mod RouteSteps
+pub mod RowSteps

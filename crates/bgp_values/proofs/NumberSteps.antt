@@ -1,14 +1,12 @@
 -- Numbers of up to 33 variables.
-use Rattle.std.proofs.Common.{◌≡◌, ℕ, zero, suc, ◌+◌, ◌-◌, ◌*◌, ◌^◌, ◌<◌, ◌≤◌, Bool, true, false, List, length, refl, sym, ap}
+use Rattle.std.proofs.Common.{◌≡◌, ℕ, zero, suc, ◌+◌, ◌-◌, ◌*◌, ◌^◌, ◌≤◌, Bool, true, false, List, length, ap}
 use Rattle.std.proofs.Common.{arith, ◌∙◌, if◌then◌else◌}
 use Rattle.std.specs.Prelude.{nat_lt}
 use Rattle.std.proofs.Math.Nat.{pow-suc}
 use Rattle.failed_links.specs.Rows.{number_from, row}
 use Rattle.term_arith.specs.Bits.{bit, number_of}
-use Rattle.slot_places.specs.declared.fields.Field.{Field}
-use Rattle.slot_places.specs.declared.fields.Field.TheVariants.{Bits, Among}
+use Rattle.slot_places.specs.declared.fields.Field.TheVariants.{Among}
 use Rattle.slot_places.specs.Values.{field_width, width_from}
-use Rattle.world_variables.specs.Unknowns.{TellsWithin}
 
 twice : (width : ℕ) (b : Bool) → 2 ^ suc width * bit b ≡ 2 * (2 ^ width * bit b)
 twice width true = omega (arith, pow-suc 2 width)

@@ -1,9 +1,8 @@
 -- A route whose fields and lists are as variables say has the shape that they say.
-use Rattle.std.proofs.Common.{◌≡◌, ℕ, zero, suc, ◌+◌, ◌*◌, ◌/◌, ◌%◌, Bool, true, false, List, [], ◌∷◌, length, refl, sym, ap, ◌∙◌, Some, None, option_map}
+use Rattle.std.proofs.Common.{◌≡◌, ℕ, suc, ◌+◌, ◌*◌, ◌/◌, ◌%◌, Bool, true, false, List, [], ◌∷◌, length, refl, sym, ap, ◌∙◌, Some, None, option_map}
 use Rattle.std.proofs.Common.{arith, if◌then◌else◌}
 use Rattle.std.specs.Prelude.{◌==◌}
 use Rattle.route_record.specs.declared.BgpRec.{BgpRec}
-use Rattle.route_record.specs.declared.tracked.Shape.{Shape}
 use Rattle.route_record.specs.declared.tracked.Tracked.{Tracked}
 use Rattle.route_record.specs.Origins.{origin_code, origin_of_code}
 use Rattle.route_record.specs.Shape.{marked_number}
@@ -12,7 +11,6 @@ use Rattle.announced_shapes.specs.Sets.{marks_of}
 use Rattle.bgp_variables.specs.declared.rooms.BgpRoom.{BgpRoom}
 use Rattle.bgp_variables.specs.Marks.{marks_from}
 use Rattle.bgp_variables.specs.Shapes.{IsRoomOf, MarksTracked, bgp_from, path_from, shape_from}
-use Rattle.path_rebuild.specs.declared.ShapeRec.{ShapeRec}
 use Rattle.path_rebuild.specs.Shapes.{AreFew, route_of}
 use Rattle.bgp_values.specs.Told.{HasFewMarks, as_told, lists_of, plain_address}
 

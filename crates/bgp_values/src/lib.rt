@@ -3,9 +3,11 @@
 
 mod marks;
 mod routes;
+mod rows;
 
 pub use marks::{marks_at, marks_size};
 pub use routes::{
     PathTold, address_of, known_at, learnt_of, lists_at, long_told_at, path_at, told_at,
     with_preferences,
 };
+pub use rows::routes_at;

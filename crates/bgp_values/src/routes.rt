@@ -163,9 +163,10 @@ pub fn path_at(values: &[bool], from: usize, room: &PathRoom) -> PathTold
 
 // How many variables the numbers by which a route is preferred have.
 #[tactic(auto, unfolding(bgp_variables::specs::Shapes::preferences_width), using(world_variables::proofs::RoomSteps::few_bits))]
-fn preferences_size(room: &PreferencesRoom) -> usize
+pub fn preferences_size(room: &PreferencesRoom) -> usize
     requires { shapes.ArePreferences room.now }
-    ensures { result ≡ shapes.preferences_width room.now }
+    ensures value { result ≡ shapes.preferences_width room.now }
+    ensures few { result < 2 ^ 12 }
 {
     usize::from(room.weight.width())
         + usize::from(room.local_pref.width())
@@ -175,9 +176,10 @@ fn preferences_size(room: &PreferencesRoom) -> usize
 
 // How many a path has.
 #[tactic(auto, unfolding(bgp_variables::specs::Shapes::path_width))]
-fn path_size(room: &PathRoom) -> usize
+pub fn path_size(room: &PathRoom) -> usize
     requires { length room.now.numbers ≤ MOST_TRACKED }
-    ensures { result ≡ shapes.path_width room.now }
+    ensures value { result ≡ shapes.path_width room.now }
+    ensures few { result < 2 ^ 12 }
 {
     usize::from(room.len.width())
         + usize::from(room.first.width())

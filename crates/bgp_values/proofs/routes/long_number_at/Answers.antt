@@ -1,4 +1,4 @@
-use Rattle.std.proofs.Common.{◌≡◌, ◌∙◌, ℕ, ap, arith, if◌then◌else◌, ◌+◌, sym}
+use Rattle.std.proofs.Common.{◌≡◌, ◌∙◌, ℕ, ap, arith, if◌then◌else◌, sym}
 use Rattle.failed_links.specs.Rows.{number_from}
 use Rattle.term_store.specs.Terms.{truth}
 use Rattle.bgp_values.proofs.NumberSteps.{number_long}
