@@ -2,3 +2,4 @@ pub mod MarkSteps
 pub mod NumberSteps
 pub mod RouteSteps
 pub mod RowSteps
+pub mod IdSteps

@@ -39,7 +39,7 @@ pub room_there : (tracked : Tracked) (rooms : List (Option BgpRoom)) (k : ℕ) (
 room_there tracked rooms k room all within is =
     subst (λ r. IfSome r (IsRoomOf tracked)) (sym is) (all k room within)
 
-nothing_behind : {A : Type 0} (xs : List A) → xs ++ [] ≡ xs
+pub nothing_behind : {A : Type 0} (xs : List A) → xs ++ [] ≡ xs
 nothing_behind [] = refl
 nothing_behind (x ∷ xs) = ap (λ ys. x ∷ ys) (nothing_behind xs)
 
