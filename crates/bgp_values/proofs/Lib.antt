@@ -3,3 +3,4 @@ pub mod NumberSteps
 pub mod RouteSteps
 pub mod RowSteps
 pub mod IdSteps
+pub mod RealShapes

@@ -2,6 +2,7 @@
 #![tactic(auto)]
 
 mod ids;
+pub mod laws;
 mod marks;
 mod routes;
 mod rows;
