@@ -1,5 +1,6 @@
 -- Addresses in a row, one by one.
-use Rattle.std.proofs.Common.{◌≡◌, ℕ, zero, suc, ◌+◌, ◌-◌, ◌*◌, ◌<◌, ◌≤◌, Bool, List, [], ◌∷◌, ◌++◌, sym, ap, ◌∙◌, arith}
+use Rattle.std.proofs.Common.{◌≡◌, ℕ, zero, suc, ◌+◌, ◌-◌, ◌*◌, ◌<◌, ◌≤◌, Bool, List, [], ◌∷◌, ◌++◌, sym, ap, ◌∙◌}
+use Rattle.std.proofs.Common.{arith}
 use Rattle.std.proofs.Common.{append_assoc}
 use Rattle.mw_text.specs.declared.address.Addr.{Addr}
 use Rattle.failed_links.specs.Rows.{number_from}
@@ -15,7 +16,8 @@ first (suc n) v at some =
     ap (λ k. record { 0 = number_from v at 32 } ∷ addresses_from k v (at + 32)) less
 
 pub addresses_more : (count i from : ℕ) (v : ℕ → Bool) (made : List Addr) → i < count →
-    (made ++ record { 0 = number_from v (from + 32 * i) 32 } ∷ []) ++ addresses_from (count - (i + 1)) v (from + 32 * (i + 1))
+    (made ++ record { 0 = number_from v (from + 32 * i) 32 } ∷ [])
+    ++ addresses_from (count - (i + 1)) v (from + 32 * (i + 1))
     ≡ made ++ addresses_from (count - i) v (from + 32 * i)
 addresses_more count i from v made below =
     let one : Addr = record { 0 = number_from v (from + 32 * i) 32 } in

@@ -1,5 +1,6 @@
 -- Rows of marks, mark by mark.
-use Rattle.std.proofs.Common.{◌≡◌, ℕ, zero, suc, ◌+◌, ◌-◌, ◌*◌, ◌^◌, ◌<◌, ◌≤◌, Bool, true, false, List, [], ◌∷◌, length, drop, get_or}
+use Rattle.std.proofs.Common.{◌≡◌, ℕ, zero, suc, ◌+◌, ◌-◌, ◌*◌, ◌^◌, ◌<◌, ◌≤◌, Bool, true, false, List, [], ◌∷◌}
+use Rattle.std.proofs.Common.{length, drop, get_or}
 use Rattle.std.proofs.Common.{refl, sym, ap, subst, ◌∙◌, arith, if◌then◌else◌, ◌&&◌}
 use Rattle.std.proofs.lemmas.List.{drop_all, drop_more}
 use Rattle.std.proofs.Math.Nat.{pow-suc}
@@ -47,7 +48,8 @@ marks_before mays i v at above within =
     let may = get_or mays (i - 1) false in
     let next : i - 1 + 1 ≡ i = omega arith in
     ap (λ ms. marked_number (marks_from ms v at)) (drop_more mays (i - 1) false (omega arith))
-    ∙ ap (λ k. (if may && v at then 1 else 0) + 2 * marked_number (marks_from (drop k mays) v (at + mark_width may))) next
+    ∙ ap (λ k. (if may && v at then 1 else 0)
+    + 2 * marked_number (marks_from (drop k mays) v (at + mark_width may))) next
 
 pub marks_end : (mays : List Bool) (k : ℕ) (v : ℕ → Bool) (at : ℕ) → length mays ≤ k →
     0 ≡ marked_number (marks_from (drop k mays) v at)

@@ -1,5 +1,5 @@
--- The shape of a route as its fields hold it: numbers that stand for no address or for no origin are read as the nearest
--- that do.
+-- The shape of a route as its fields hold it: numbers that stand for no address or for no origin are read as the
+-- nearest that do.
 use Rattle.std.specs.Prelude.{ℕ, ◌≤◌, length, if◌then◌else◌}
 use Rattle.route_record.specs.declared.tracked.Shape.{Shape}
 use Rattle.route_record.specs.declared.tracked.TheConstants.{MOST_TRACKED}

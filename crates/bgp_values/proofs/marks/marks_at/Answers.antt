@@ -1,9 +1,11 @@
-use Rattle.std.proofs.Common.{◌≡◌, ◌∙◌, ◌+◌, ◌-◌, ◌*◌, ap, arith, drop, false, get_or, if◌then◌else◌, length, subst, sym}
+use Rattle.std.proofs.Common.{◌≡◌, ◌∙◌, ◌+◌, ◌-◌, ◌*◌, ap, arith, drop, false, get_or, if◌then◌else◌, length, subst}
+use Rattle.std.proofs.Common.{sym}
 use Rattle.std.specs.Prelude.{◌&&◌, ◌<◌, ◌^◌}
 use Rattle.route_record.specs.Shape.{marked_number}
 use Rattle.term_store.specs.Terms.{truth}
 use Rattle.bgp_variables.specs.Marks.{mark_width, marks_from}
-use Rattle.bgp_values.proofs.MarkSteps.{marks_before, marks_end, room_for_more, small_more, width_before, width_end, width_part}
+use Rattle.bgp_values.proofs.MarkSteps.{marks_before, marks_end, room_for_more, small_more, width_before, width_end}
+use Rattle.bgp_values.proofs.MarkSteps.{width_part}
 use Rattle.bgp_values.proofs.marks.marks_at.Goals as goal
 
 pub loop-i-init : goal.loop-i-init
