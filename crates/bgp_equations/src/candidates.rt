@@ -183,8 +183,6 @@ pub(crate) fn sym_candidates(
         process (prefix_of w dst.now len)) }
 {
     let own = own_cands(alloc, terms, net, router, dst, len, slot)?;
-    let all = with_learnt(
-        alloc, terms, net, sym, env, tables, router, dst, len, own,
-    )?;
+    let all = with_learnt(alloc, terms, net, sym, env, tables, router, dst, len, own)?;
     Ok(all)
 }

@@ -71,9 +71,7 @@ fn process_holds(
         (environment_read w net.now.files tables.now.lens.now env.now) (slots_read w tables.now len) router file
         process.now (prefix_of w dst.now len)) (bgp_of w slot.now.bgp)) }
 {
-    let cands = sym_candidates(
-        alloc, terms, net, sym, env, tables, router, dst, len, slot,
-    )?;
+    let cands = sym_candidates(alloc, terms, net, sym, env, tables, router, dst, len, slot)?;
     sym_survives(
         alloc,
         terms,

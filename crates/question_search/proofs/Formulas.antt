@@ -39,59 +39,37 @@ use Rattle.run_answers.specs.Verdicts.{section_text}
 
 -- the root can be true exactly where something breaks the question
 pub encodes : (files : List File) (question : Question) (formula : Formula) → IsFormula files question formula →
-    CanBeTrue formula.terms.nodes (formula.root ∷ []) ↔ IsBreakable files question
+    CanBeTrue formula.encoding.terms.nodes (formula.encoding.root ∷ []) ↔ IsBreakable files question
 encodes files question formula is = (
-  λ (can : CanBeTrue formula.terms.nodes (formula.root ∷ [])).
-      let breaking = is.sound can.0 (and_parts _ _ can.1).0 in
-      (world_from files question (truth can.0) 0, no_environment, breaking.0, breaking.1),
-  λ (b : IsBreakable files question).
-      (world_bits files question b.0, and_from _ _ (is.complete b.0 b.1 b.2 b.3) refl),
+  λ (can : CanBeTrue formula.encoding.terms.nodes (formula.encoding.root ∷ [])).
+      let breaking = is.encoding.sound is.used can.0 (and_parts _ _ can.1).0 in
+      (world_from files question formula.encoding.world.plan (truth can.0) 0, no_environment, breaking.0, breaking.1),
+  λ (b : IsBreakable files question). (
+    world_bits files question formula.encoding.world.plan b.0,
+    and_from _ _ (is.encoding.complete is.used b.0 b.1 b.2 b.3) refl,
+  ),
 )
 
 -- nothing breaks a question whose clauses cannot be satisfied
 pub unsat_holds : (files : List File) (question : Question) (formula : Formula) → IsFormula files question formula →
     IsUnsatisfiable formula.cnf.clauses → IsUnbroken files question
 unsat_holds files question formula is never world environment walk breaking =
-    let can : CanBeTrue formula.terms.nodes (formula.root ∷ []) =
-    (world_bits files question world, and_from _ _ (is.complete world environment walk breaking) refl) in
+    let can : CanBeTrue formula.encoding.terms.nodes (formula.encoding.root ∷ []) = (
+      world_bits files question formula.encoding.world.plan world,
+      and_from _ _ (is.encoding.complete is.used world environment walk breaking) refl,
+    ) in
     let some = is.equal.1 can in
     let clash : true ≡ false = sym some.1 ∙ never some.0 in absurd cc
 
--- values that satisfy the clauses stand for what breaks the question
-pub sat_breaks : (files : List File) (question : Question) (formula : Formula) (values row : List Bool)
-    (world : World) → IsFormula files question formula → satisfies (truth values) formula.cnf.clauses ≡ true →
-    (satisfies (truth values) (clauses_of formula.terms.nodes (formula.root ∷ [])) ≡ true →
-    roots_value formula.terms.nodes (formula.root ∷ []) row ≡ true) →
-    world ≡ world_from files question (truth row) 0 →
-    (walk : Option Walk) × IsBreaking files question world no_environment walk
-sat_breaks files question formula values row world is satisfied roots same =
+-- values that satisfy the clauses make the root true
+pub sat_true : (files : List File) (question : Question) (formula : Formula) (values row : List Bool) →
+    IsFormula files question formula → satisfies (truth values) formula.cnf.clauses ≡ true →
+    (satisfies (truth values) (clauses_of formula.encoding.terms.nodes (formula.encoding.root ∷ [])) ≡ true →
+    roots_value formula.encoding.terms.nodes (formula.encoding.root ∷ []) row ≡ true) →
+    value_of formula.encoding.terms.nodes row formula.encoding.root.0 ≡ true
+sat_true files question formula values row is satisfied roots =
     let S : List Clause → Type 0 = λ cs. satisfies (truth values) cs ≡ true in
-    let true_root = (and_parts _ _ (roots (subst S is.clauses satisfied))).0 in
-    let W : World → Type 0 = λ w. (walk : Option Walk) × IsBreaking files question w no_environment walk in
-    subst W (sym same) (is.sound row true_root)
-
--- what breaks the question in such a world makes a true counterexample
-pub true_from : (files : List File) (number : ℕ) (question : Question) (world : World) (environment : Environment)
-    (walk : Option Walk) → (other : Option Walk) × IsBreaking files question world no_environment other →
-    environment ≡ no_environment → Breaks files world question.kind walk →
-    IsTrueCounterexample files number question (record {
-      question = number;
-      packet = world.packet;
-      failures = world.failures;
-      env = environment;
-      tables = world.tables;
-      walk = walk;
-    })
-true_from files number question world environment walk (other, breaking) none breaks =
-    let E : Environment → Type 0 = λ e. IsBreaking files question world e walk in
-    let here : E no_environment = record {
-      packet = breaking.packet;
-      environment_fits = breaking.environment_fits;
-      failures = breaking.failures;
-      stable = breaking.stable;
-      breaks = breaks;
-    } in
-    (refl, subst E (sym none) here)
+    (and_parts _ _ (roots (subst S is.clauses satisfied))).0
 
 -- what shows an outcome shows its verdict
 few_shown : (budget : ℕ) (entries : List Entry) (outcome : Outcome) → Shows budget entries outcome →
@@ -106,8 +84,8 @@ searched_from : (files : List File) (question : Question) (formula : Formula) (b
     IsSearched files question budget entries
 searched_from files question formula budget entries is log within =
     let L : List Clause → Type 0 = λ cs. IsSearchLog cs entries in record {
-      nodes = formula.terms.nodes;
-      root = formula.root;
+      nodes = formula.encoding.terms.nodes;
+      root = formula.encoding.root;
       encodes = encodes files question formula is;
       log = subst L is.clauses log;
       within = within;

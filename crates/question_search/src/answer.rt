@@ -1,12 +1,9 @@
 //! Answers one question by a search, whose log shows the answer.
 
-ghost use Rattle.std.specs.Prelude.{◌≡◌, ℕ, List as ListOf, Option as OptionOf, IfOk, OnErr, length, true};
-ghost use Rattle.question_lang.specs.Breaking.{IsBreaking};
+ghost use Rattle.std.specs.Prelude.{◌≡◌, ℕ, List as ListOf, IfOk, OnErr, length, true};
 ghost use Rattle.cdcl_search.specs.Outcomes.{OnLogFault, OnSat, OnUnknown, OnUnsat, Shows, UnlessLogFault};
 ghost use Rattle.mw_outside.specs.Faults.{Rose};
 ghost use Rattle.world_variables.specs.Slots.{runs_no_bgp};
-ghost use Rattle.world_variables.specs.Worlds.{no_environment};
-ghost use Rattle.question_lang.specs.declared.walk.Walk.{Walk as WalkOf};
 ghost use Rattle.question_search.specs.Formulas.{IsFormula};
 ghost use Rattle.question_search.specs.Searches.{IsFound};
 ghost use Rattle.resolution_check.specs.declared.log.Entry.{Entry};
@@ -22,44 +19,16 @@ use cdcl_search::{Outcome, SolveFault, solve_by_turns};
 use cex_json::Counterexample;
 use cnf_blaster::decoded;
 use mw_outside::Sink;
-use mw_text::List;
+use net_encoder::decode;
 use net_model::Net;
 use ospf_equations::is_meshed;
 use question_lang::Question;
-use route_record::Environment;
 use run_answers::Verdict;
 use run_answers::section::{write_end, write_opening};
 use std::alloc::{AllocError, Global};
-use walk_def::World;
-use walk_finder::find_walk;
-use world_variables::decode;
-
-// A counterexample of that world, which something breaks.
-fn broken_world(
-    alloc: Global,
-    net: &Net,
-    number: u32,
-    question: &Question,
-    world: World,
-) -> Result<Counterexample, AllocError>
-    requires breaking { (walk : OptionOf WalkOf) × IsBreaking net.now.files question.now world no_environment walk }
-    ensures { IfOk result (IsTrueCounterexample net.now.files number question.now) }
-{
-    let walk = find_walk(alloc, net, &world, &question.kind)?;
-    Ok(Counterexample {
-        question: number,
-        packet: world.packet,
-        failures: world.failures,
-        env: Environment {
-            ids: List::new(alloc),
-            announced: List::new(alloc),
-        },
-        tables: world.tables,
-        walk,
-    })
-}
 
 // The counterexample of values that satisfy the clauses of the question.
+#[tactic(auto, using(crate::proofs::Formulas::sat_true))]
 fn counterexample_of(
     alloc: Global,
     net: &Net,
@@ -73,16 +42,17 @@ fn counterexample_of(
     requires satisfied { satisfies (truth values.now) formula.now.cnf.clauses ≡ true }
     ensures { IfOk result (IsTrueCounterexample net.now.files number question.now) }
 {
-    let roots = [formula.root];
+    let encoding = &formula.encoding;
+    let roots = [encoding.root];
     let row = decoded(
         alloc,
-        &formula.terms,
+        &encoding.terms,
         &roots,
         formula.cnf.node_of.as_slice(),
         values,
     )?;
-    let world = decode(alloc, row.as_slice(), net, question)?;
-    broken_world(alloc, net, number, question, world)
+    let cex = decode(alloc, net, question, number, encoding, row.as_slice())?;
+    Ok(cex)
 }
 
 // The right verdict of what a search of the question's clauses found.
