@@ -58,7 +58,7 @@ first_of (x ∷ xs) ys h = first_by x xs ys (is_line_feed x) refl (λ k. first_o
 line_then : (e : Entry) (more : List ℕ) → line_of e ++ more ≡ text_of e ++ 10 ∷ more
 line_then e more = append_assoc (text_of e) (10 ∷ []) more
 
-pieces_entry : (e : Entry) (more : List ℕ) → HasText e → pieces (line_of e ++ more) ≡ text_of e ∷ pieces more
+pub pieces_entry : (e : Entry) (more : List ℕ) → HasText e → pieces (line_of e ++ more) ≡ text_of e ∷ pieces more
 pieces_entry e more h =
     let alone : pieces (text_of e ++ 10 ∷ []) ≡ text_of e ∷ [] ∷ [] =
     ap pieces (sym (append-nil (line_of e))) ∙ lines-log_text (e ∷ []) (h, tt) in

@@ -1,3 +1,4 @@
 pub mod Cutting
 pub mod Fronts
 pub mod Refuting
+pub mod Exact
