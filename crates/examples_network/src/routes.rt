@@ -62,7 +62,7 @@ pub fn held<'a>(out: &mut Page, text: &'a str) -> (BgpRec, &'a str) {
     (plain(out, learnt, address(from), path), rest)
 }
 
-/// What may follow a route or a message, in pairs of words: `communities N,N`, `clusters A,A`, `originator A` and `med N`.
+/// What may follow a route or a message: `communities=N,N`, `clusters=A,A`, `originator=A` and `med=N`.
 #[derive(Drop)]
 pub struct Others {
     communities: List<u32>,
@@ -96,13 +96,9 @@ fn others_in(out: &mut Page, text: &str) -> Others {
         originator: None,
         med: None,
     };
-    let mut key = "";
-    for word in text.split(' ') {
-        if key == "" {
-            key = word;
-        } else {
-            put_other(out, &mut made, key, word);
-            key = "";
+    for pair in text.split(' ') {
+        if let Some((key, word)) = pair.split_once('=') {
+            put_other(out, &mut made, key, word)
         }
     }
     made
