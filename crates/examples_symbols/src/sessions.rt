@@ -114,11 +114,10 @@ fn fresh_candidates(
     tracked: &Tracked,
     count: u32,
 ) -> Result<List<SymCand>, AllocError>
-    ensures larger { size terms.old ≤ size terms.new }
     ensures within { IfOk result (λ r. candidates_end r ≤ size terms.new) }
 {
     let mut candidates = List::new(alloc);
-    for _ in 0..count {
+    for place in 0..count {
         let next = fresh_candidate(alloc, terms, tracked)?;
         put_candidate(&mut candidates, next)?;
     }
