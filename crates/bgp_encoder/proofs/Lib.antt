@@ -1,0 +1,3 @@
+pub mod FrameSteps
+pub mod RouteSteps
+pub mod OutsideSteps
