@@ -1,3 +1,4 @@
 pub mod FrameSteps
 pub mod RouteSteps
 pub mod OutsideSteps
+pub mod OpeningSteps

@@ -2,5 +2,6 @@
 #![tactic(auto)]
 
 mod frame;
+mod opening;
 mod outside;
 mod routes;
