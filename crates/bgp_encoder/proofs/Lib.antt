@@ -2,3 +2,5 @@ pub mod FrameSteps
 pub mod RouteSteps
 pub mod OutsideSteps
 pub mod OpeningSteps
+pub mod SlotSteps
+pub mod LoopSteps

@@ -1,7 +1,9 @@
 //! Questions about a network with BGP as formulas over Boolean variables.
 #![tactic(auto)]
 
+mod copies;
 mod frame;
 mod opening;
 mod outside;
 mod routes;
+mod slots;
