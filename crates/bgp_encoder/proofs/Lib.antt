@@ -4,3 +4,4 @@ pub mod OutsideSteps
 pub mod OpeningSteps
 pub mod SlotSteps
 pub mod LoopSteps
+pub mod WorldSteps

@@ -7,3 +7,4 @@ mod opening;
 mod outside;
 mod routes;
 mod slots;
+mod world;
