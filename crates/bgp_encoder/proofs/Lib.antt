@@ -5,3 +5,4 @@ pub mod OpeningSteps
 pub mod SlotSteps
 pub mod LoopSteps
 pub mod WorldSteps
+pub mod AskedSteps

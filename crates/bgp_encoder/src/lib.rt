@@ -1,6 +1,7 @@
 //! Questions about a network with BGP as formulas over Boolean variables.
 #![tactic(auto)]
 
+mod asked;
 mod copies;
 mod frame;
 mod opening;
