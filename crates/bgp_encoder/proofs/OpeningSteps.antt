@@ -1,5 +1,5 @@
 -- The routing of new variables, by its parts.
-use Rattle.std.proofs.Common.{◌≡◌, ℕ, ◌+◌, List, arith, length, map, sym, ap, ap₂, ◌∙◌}
+use Rattle.std.proofs.Common.{◌≡◌, ℕ, ◌+◌, List, arith, length, map, ap, ap₂, ◌∙◌}
 use Rattle.mw_text.specs.declared.address.Prefix.{Prefix}
 use Rattle.ios_ast.specs.declared.file.File.{File}
 use Rattle.route_record.specs.declared.Plan.{Plan}
@@ -13,15 +13,15 @@ use Rattle.term_store.specs.Terms.{Reading}
 use Rattle.sym_policy.specs.Held.{bgp_of, failures_of}
 use Rattle.sym_policy.specs.Packets.{packet_of}
 use Rattle.sym_policy.specs.Records.{address_of}
-use Rattle.failed_links.specs.Failures.{downs_width, failures_from}
+use Rattle.failed_links.specs.Failures.{failures_from}
 use Rattle.announced_places.specs.Environments.{environment_of}
 use Rattle.bgp_variables.specs.Environments.{announced_from, environment_width, ids_from}
 use Rattle.bgp_variables.specs.Shapes.{bgps_from, bgps_width}
-use Rattle.world_variables.specs.Packets.{packet_from, packet_width}
+use Rattle.world_variables.specs.Packets.{packet_from}
 use Rattle.world_variables.specs.Symbols.{open_of}
 use Rattle.world_variables.specs.Unknowns.{rooms_at, unknowns_from, unknowns_width}
 use Rattle.world_variables.specs.Worlds.{downs_start, opens_from, places_in, slots_start}
-use Rattle.routing_worlds.specs.Worlds.{bgp_rooms, bgps_start, environment_start}
+use Rattle.routing_worlds.specs.Worlds.{bgp_rooms, environment_start}
 use Rattle.bgp_encoder.specs.declared.frame.Frame.{Frame}
 use Rattle.bgp_encoder.specs.declared.opening.OpenRouting.{OpenRouting}
 use Rattle.bgp_encoder.specs.Frames.{IsFrame}

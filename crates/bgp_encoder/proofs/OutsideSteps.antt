@@ -1,5 +1,5 @@
 -- Announcements of new variables fit a network.
-use Rattle.std.proofs.Common.{◌<◌, ℕ, List, length}
+use Rattle.std.proofs.Common.{List}
 use Rattle.std.specs.Prelude.{All}
 use Rattle.route_record.specs.declared.tracked.Tracked.{Tracked}
 use Rattle.sym_policy.specs.declared.records.SymBgp.{SymBgp}

@@ -1,18 +1,16 @@
 -- The slots of a routing, by router and length.
-use Rattle.std.proofs.Common.{◌≡◌, ℕ, suc, ◌+◌, ◌*◌, ◌/◌, ◌%◌, ◌<◌, ◌≤◌, ◌||◌, Bool, true, false, List, [], ◌∷◌, length, map, max}
-use Rattle.std.proofs.Common.{Option, Some, None, refl, sym, ap, ap₂, arith, subst, is_some, ◌∙◌}
-use Rattle.std.specs.Prelude.{All, option_map, slice_get, if◌then◌else◌}
+use Rattle.std.proofs.Common.{◌≡◌, ℕ, ◌+◌, ◌*◌, ◌/◌, ◌%◌, ◌<◌, ◌≤◌, ◌||◌, Bool, true, false, List, [], ◌∷◌, length, map}
+use Rattle.std.proofs.Common.{Option, Some, None, refl, sym, ap, arith, is_some, ◌∙◌}
+use Rattle.std.specs.Prelude.{option_map, slice_get, if◌then◌else◌}
 use Rattle.std.specs.List.{range_with_len}
 use Rattle.std.specs.Option.{option_map_or}
 use Rattle.std.proofs.lemmas.Option.{slice_get-map}
-use Rattle.mw_text.specs.declared.address.Addr.{Addr}
 use Rattle.ios_ast.specs.declared.file.File.{File}
 use Rattle.route_record.specs.declared.Failures.{Failures}
 use Rattle.route_record.specs.declared.Packet.{Packet}
 use Rattle.route_record.specs.declared.Plan.{Plan}
 use Rattle.route_record.specs.declared.TheConstants.{LENGTHS}
 use Rattle.route_record.specs.declared.tracked.Tracked.{Tracked}
-use Rattle.route_shapes.specs.Bgp.{BgpShape}
 use Rattle.bgp_shapes.specs.Candidates.{ShapeEnvironment, ShapeSlot}
 use Rattle.plan_places.specs.declared.places.Place.{Place}
 use Rattle.plan_places.specs.Places.{has_place, is_at, item_at, place, places_of}
@@ -20,21 +18,18 @@ use Rattle.question_lang.specs.declared.question.Question.{Question}
 use Rattle.slot_places.proofs.PlaceLaws.{at-is}
 use Rattle.term_store.specs.Terms.{Reading, Store, size}
 use Rattle.term_arith.specs.Bits.{ids_end}
-use Rattle.sym_policy.specs.Held.{bgp_end, bgp_of, failures_of}
-use Rattle.sym_policy.specs.Packets.{packet_of}
+use Rattle.sym_policy.specs.Held.{bgp_of, failures_of}
 use Rattle.sym_policy.specs.Records.{address_of}
-use Rattle.sym_rib.specs.Into.{list_end}
 use Rattle.sym_rib.specs.declared.slots.SymSlot.{SymSlot}
-use Rattle.world_variables.specs.declared.unknowns.Unknown.{Unknown}
 use Rattle.world_variables.specs.Packets.{packet_from}
-use Rattle.world_variables.specs.Symbols.{open_of, opens_end}
-use Rattle.world_variables.specs.Worlds.{opens_from as unknowns_read_from, places_in}
+use Rattle.world_variables.specs.Symbols.{open_of}
+use Rattle.world_variables.specs.Worlds.{places_in}
 use Rattle.bgp_equations.specs.Equations.{slot_read}
 use Rattle.shape_worlds.specs.Worlds.{slots_for}
 use Rattle.shape_worlds.proofs.RealWorlds.{len_at, router_at}
 use Rattle.bgp_worlds.specs.Opens.{OpenSlot, empty_shape, shape_slot_among, shape_slot_of, shape_world_of}
 use Rattle.bgp_worlds.proofs.Placed.{place_small, range-at}
-use Rattle.routing_worlds.specs.Worlds.{announced_by, bgps_read_from, failures_read_from, opens_from, opens_with, shape_world_from}
+use Rattle.routing_worlds.specs.Worlds.{announced_by, failures_read_from, opens_from, opens_with, shape_world_from}
 use Rattle.bgp_encoder.specs.declared.opening.OpenRouting.{OpenRouting}
 use Rattle.bgp_encoder.specs.Opened.{ReadsAs, StandsIn}
 use Rattle.bgp_encoder.specs.Shapes.{ReadAsShapes}

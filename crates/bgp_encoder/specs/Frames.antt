@@ -4,7 +4,6 @@ use Rattle.ios_ast.specs.declared.file.File.{File}
 use Rattle.route_record.specs.declared.Plan.{Plan}
 use Rattle.route_record.specs.declared.TheConstants.{LENGTHS}
 use Rattle.route_record.specs.declared.tracked.Tracked.{Tracked}
-use Rattle.plan_places.specs.declared.places.Place.{Place}
 use Rattle.plan_places.specs.Places.{IsBefore, places_below}
 use Rattle.plan_places.specs.Plans.{lens_of}
 use Rattle.slot_places.specs.Rooms.{rooms_of}

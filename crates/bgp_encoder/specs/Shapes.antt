@@ -1,5 +1,5 @@
 -- Slots as terms that read as those of a world by shapes.
-use Rattle.std.specs.Prelude.{◌≡◌, ℕ, ◌<◌, Bool, true, List, length, option_map}
+use Rattle.std.specs.Prelude.{◌≡◌, ℕ, ◌<◌, true, List, length, option_map}
 use Rattle.ios_ast.specs.declared.file.File.{File}
 use Rattle.route_record.specs.declared.Plan.{Plan}
 use Rattle.route_record.specs.declared.TheConstants.{LENGTHS}

@@ -1,4 +1,4 @@
-use Rattle.std.proofs.Common.{arith, not, ap, ◌∙◌}
+use Rattle.std.proofs.Common.{arith, ap, ◌∙◌}
 use Rattle.std.specs.Prelude.{option_and_then, option_map, slice_get}
 use Rattle.mw_text.specs.Address.{prefix_at}
 use Rattle.route_shapes.specs.Bgp.{BgpShape}

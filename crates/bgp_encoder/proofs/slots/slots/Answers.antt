@@ -1,15 +1,12 @@
 use Rattle.std.proofs.Common.{◌≡◌, ◌+◌, ◌≤◌, [], ◌∷◌, ◌++◌, List, arith, drop, length, map, rules, subst, sym, ap, ◌∙◌}
 use Rattle.std.proofs.lemmas.List.{append_assoc, drop_more, length-append}
 use Rattle.mw_text.specs.declared.address.Prefix.{Prefix}
-use Rattle.plan_places.specs.declared.places.Place.{Place}
 use Rattle.slot_places.specs.Rooms.{room_for}
-use Rattle.sym_policy.specs.declared.records.SymBgp.{SymBgp}
 use Rattle.sym_policy.specs.Held.{bgp_of, failures_of}
 use Rattle.sym_policy.specs.Records.{address_of}
 use Rattle.sym_rib.specs.declared.slots.SymSlot.{SymSlot}
 use Rattle.sym_rib.specs.Worlds.{slots_end}
 use Rattle.term_store.specs.Terms.{size}
-use Rattle.world_variables.specs.declared.opens.SymOpen.{SymOpen}
 use Rattle.bgp_equations.specs.Equations.{HaveTracked, slot_read}
 use Rattle.bgp_shapes.specs.Candidates.{ShapeSlot}
 use Rattle.bgp_worlds.specs.Opens.{shape_slot_of}

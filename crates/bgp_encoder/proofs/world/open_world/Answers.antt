@@ -1,5 +1,4 @@
-use Rattle.std.proofs.Common.{List, map, ◌∙◌}
-use Rattle.sym_policy.specs.declared.records.SymBgp.{SymBgp}
+use Rattle.std.proofs.Common.{map, ◌∙◌}
 use Rattle.sym_policy.specs.Held.{bgp_of, failures_of}
 use Rattle.sym_policy.specs.Records.{address_of}
 use Rattle.world_variables.specs.Symbols.{open_of}
