@@ -1,0 +1,4 @@
+pub mod Frames
+pub mod Opened
+pub mod Slots
+pub mod Shapes
