@@ -3,6 +3,7 @@
 
 mod asked;
 mod copies;
+mod decided;
 mod frame;
 mod opening;
 mod outside;
