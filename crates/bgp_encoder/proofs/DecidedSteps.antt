@@ -1,6 +1,15 @@
 -- The BGP equation at a place, of what is read and of the world by shapes.
 use Rattle.std.proofs.Common.{◌≡◌, ℕ, ◌+◌, ◌*◌, ◌<◌, ◌≤◌, Bool, true, false, List, length, map, Option, None, refl, sym, ap, arith, ◌∙◌}
-use Rattle.std.proofs.Common.{◌⊎◌, inl, inr}
+use Rattle.std.proofs.Common.{◌⊎◌, inl, inr, zero, suc, ◌&&◌, ◌||◌, [], ◌∷◌, drop, get_or, subst}
+use Rattle.std.specs.List.{list_all}
+use Rattle.std.proofs.Math.Bool.{and_assoc, and-true}
+use Rattle.std.proofs.lemmas.Bool.{and_from, eq-eqb}
+use Rattle.std.proofs.lemmas.Grind.{common_steps}
+use Rattle.std.proofs.lemmas.List.{drop_all, drop_more}
+use Rattle.plan_places.specs.Places.{is_at}
+use Rattle.bgp_variables.proofs.Steps.{items_at}
+use Rattle.bgp_encoder.proofs.OpeningSteps.{places_are}
+use Rattle.bgp_encoder.proofs.WorldSteps.{stands_grown}
 use Rattle.std.specs.Prelude.{option_map, slice_get}
 use Rattle.std.specs.List.{range_with_len}
 use Rattle.std.proofs.lemmas.Bool.{cases_lt}
@@ -108,3 +117,47 @@ decided_is w files tracked question plan from t made tables slots p stands read 
     each router =
         (λ i. option_map (slot_read w) (item_at (places_below (all_lens i) (routers i)) (same i) router p.len))
         ∙ slots_are w files tracked question plan from slots p.router p.len router shapes short there
+
+-- ---- all places
+
+-- a routing that stands in a store has a slot for each place of its frame
+pub stands_long : (files : List File) (tracked : Tracked) (question : Question) (plan : Plan) (t : Store)
+    (made : OpenRouting) (slots : List SymSlot) → StandsIn files tracked question plan t made →
+    length slots ≡ length made.frame.places → (length made.frame.lens.items ≤ LENGTHS)
+    × (length slots ≡ length files * length made.frame.lens.items)
+stands_long files tracked question plan t made slots stands long =
+    (stands.frame.few, long ∙ stands.frame.many)
+
+-- a place of the frame is one of the plan
+pub place_has : (files : List File) (tracked : Tracked) (question : Question) (plan : Plan) (t : Store)
+    (made : OpenRouting) (at : ℕ) (d : Place) → StandsIn files tracked question plan t made →
+    at < length made.frame.places →
+    ((get_or made.frame.places at d).len < LENGTHS)
+    × (has_place (places_in files plan) (get_or made.frame.places at d).router (get_or made.frame.places at d).len ≡ true)
+place_has files tracked question plan t made at d stands below = (
+  stands.frame.short at d below,
+  subst (λ ps. has_place ps (get_or made.frame.places at d).router (get_or made.frame.places at d).len ≡ true)
+      (places_are files tracked plan made.frame stands.frame) (nth_has made.frame.places at d below),
+)
+  where
+    or_right : (a b : Bool) → b ≡ true → (a || b) ≡ true
+    or_right true b is = refl
+    or_right false b is = is
+
+    nth_has : (ps : List Place) (i : ℕ) (d : Place) → i < length ps →
+        has_place ps (get_or ps i d).router (get_or ps i d).len ≡ true
+    nth_has [] i d below = absurd (omega (arith, below))
+    nth_has (q ∷ ps) zero d below =
+        ap (λ b. b || has_place ps q.router q.len) (and_from _ _ (eq-eqb q.router q.router refl) (eq-eqb q.len q.len refl))
+    nth_has (q ∷ ps) (suc i) d below =
+        or_right (is_at (get_or ps i d).router (get_or ps i d).len q) _ (nth_has ps i d (omega (arith, below)))
+
+pub decided_next : (test : Place → Bool) (ps : List Place) (at : ℕ) (d : Place) → at < length ps →
+    list_all test (drop at ps) ≡ (test (get_or ps at d) && list_all test (drop (at + 1) ps))
+decided_next test ps at d below = ap (list_all test) (drop_more ps at d below)
+
+pub decided_none : (test : Place → Bool) (ps : List Place) (at : ℕ) → length ps ≤ at → list_all test (drop at ps) ≡ true
+decided_none test ps at past = ap (list_all test) (drop_all at ps past)
+
+pub ruleset decided_steps =
+    (common_steps, stands_long, stands_grown, place_has, decided_next, decided_none, items_at, and_assoc, and-true)

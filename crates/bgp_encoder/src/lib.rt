@@ -10,3 +10,9 @@ mod outside;
 mod routes;
 mod slots;
 mod world;
+
+pub use asked::sym_asked;
+pub use decided::sym_all_decided;
+pub use frame::Frame;
+pub use opening::OpenRouting;
+pub use world::{OpenWorld, open_world};
