@@ -1,5 +1,5 @@
 -- The BGP equation at a place, of what is read and of the world by shapes.
-use Rattle.std.proofs.Common.{◌≡◌, ℕ, ◌+◌, ◌*◌, ◌<◌, ◌≤◌, Bool, true, false, List, length, map, Option, None, refl, sym, ap, arith, ◌∙◌}
+use Rattle.std.proofs.Common.{◌≡◌, ℕ, ◌+◌, ◌*◌, ◌<◌, ◌≤◌, Bool, true, false, List, length, None, refl, sym, ap, arith, ◌∙◌}
 use Rattle.std.proofs.Common.{◌⊎◌, inl, inr, zero, suc, ◌&&◌, ◌||◌, [], ◌∷◌, drop, get_or, subst}
 use Rattle.std.specs.List.{list_all}
 use Rattle.std.proofs.Math.Bool.{and_assoc, and-true}
@@ -10,7 +10,7 @@ use Rattle.plan_places.specs.Places.{is_at}
 use Rattle.bgp_variables.proofs.Steps.{items_at}
 use Rattle.bgp_encoder.proofs.OpeningSteps.{places_are}
 use Rattle.bgp_encoder.proofs.WorldSteps.{stands_grown}
-use Rattle.std.specs.Prelude.{option_map, slice_get}
+use Rattle.std.specs.Prelude.{option_map}
 use Rattle.std.specs.List.{range_with_len}
 use Rattle.std.proofs.lemmas.Bool.{cases_lt}
 use Rattle.std.proofs.lemmas.List.{length-map}
@@ -18,11 +18,9 @@ use Rattle.std.proofs.lemmas.List.FromFn.{length-range_with_len}
 use Rattle.std.proofs.lemmas.Option.{slice_get_past}
 use Rattle.mw_text.specs.Address.{prefix_at}
 use Rattle.ios_ast.specs.declared.file.File.{File}
-use Rattle.route_record.specs.declared.Packet.{Packet}
 use Rattle.route_record.specs.declared.Plan.{Plan}
 use Rattle.route_record.specs.declared.TheConstants.{LENGTHS}
 use Rattle.route_record.specs.declared.tracked.Tracked.{Tracked}
-use Rattle.bgp_shapes.specs.Candidates.{ShapeSlot}
 use Rattle.plan_places.specs.declared.places.Place.{Place}
 use Rattle.plan_places.specs.Places.{has_place, item_at, place, places_below}
 use Rattle.plan_places.specs.Plans.{lens_of}
@@ -30,13 +28,13 @@ use Rattle.question_lang.specs.declared.question.Question.{Question}
 use Rattle.slot_places.proofs.PlaceLaws.{has-in, in-has, in-places, places-in}
 use Rattle.term_store.specs.Terms.{Reading, Store}
 use Rattle.sym_policy.specs.Held.{failures_of}
-use Rattle.sym_policy.specs.Records.{address_of, prefix_of}
+use Rattle.sym_policy.specs.Records.{prefix_of}
 use Rattle.sym_rib.specs.declared.slots.SymSlot.{SymSlot}
 use Rattle.sym_rib.specs.declared.slots.SymTables.{SymTables}
 use Rattle.world_variables.specs.Worlds.{places_in}
 use Rattle.bgp_equations.specs.Environments.{environment_read}
 use Rattle.bgp_equations.specs.Equations.{is_decided_at, slot_read, slots_read}
-use Rattle.shape_worlds.specs.Worlds.{ShapeWorld, slots_for}
+use Rattle.shape_worlds.specs.Worlds.{slots_for}
 use Rattle.bgp_worlds.proofs.Placed.{not_made}
 use Rattle.routing_worlds.specs.Worlds.{shape_world_from}
 use Rattle.bgp_encoder.specs.declared.opening.OpenRouting.{OpenRouting}
