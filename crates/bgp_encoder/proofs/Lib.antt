@@ -6,3 +6,4 @@ pub mod SlotSteps
 pub mod LoopSteps
 pub mod WorldSteps
 pub mod AskedSteps
+pub mod DecidedSteps

@@ -2,3 +2,4 @@ pub mod Frames
 pub mod Opened
 pub mod Slots
 pub mod Shapes
+pub mod Decided

@@ -3,9 +3,16 @@
 
 mod asked;
 mod copies;
+mod decided;
 mod frame;
 mod opening;
 mod outside;
 mod routes;
 mod slots;
 mod world;
+
+pub use asked::sym_asked;
+pub use decided::sym_all_decided;
+pub use frame::Frame;
+pub use opening::OpenRouting;
+pub use world::{OpenWorld, open_world};
