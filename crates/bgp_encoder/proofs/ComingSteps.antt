@@ -1,6 +1,6 @@
 -- The loops over announcements.
 use Rattle.std.proofs.Common.{◌≡◌, ℕ, zero, suc, ◌+◌, ◌<◌, ◌≤◌, ◌&&◌, ◌||◌, Bool, true, false, List, [], ◌∷◌, length, refl, not}
-use Rattle.std.proofs.Common.{ap, arith, drop, get_or, sym, ◌∙◌}
+use Rattle.std.proofs.Common.{ap, arith, drop, get_or}
 use Rattle.std.specs.Prelude.{All, Option, Some, None, take, if◌then◌else◌}
 use Rattle.std.specs.List.{list_all}
 use Rattle.std.specs.Option.{option_map_or}

@@ -1,8 +1,4 @@
-use Rattle.std.proofs.Common.{◌≡◌, List, ap, ◌∙◌}
-use Rattle.net_parts.specs.Sessions.{ends_of}
-use Rattle.sym_policy.specs.declared.records.SymBgp.{SymBgp}
-use Rattle.sym_policy.specs.Held.{bgp_of}
-use Rattle.bgp_encoder.specs.Announced.{may_come, rows_pass}
+use Rattle.std.proofs.Common.{◌∙◌}
 use Rattle.bgp_encoder.proofs.PassingRows.{coming_of}
 use Rattle.bgp_encoder.proofs.announced.sym_all_announced.Goals as goal
 
