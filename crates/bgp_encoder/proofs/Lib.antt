@@ -7,3 +7,5 @@ pub mod LoopSteps
 pub mod WorldSteps
 pub mod AskedSteps
 pub mod DecidedSteps
+pub mod ComingSteps
+pub mod PassingRows

@@ -94,8 +94,14 @@ routing_is w files tracked question plan from outside inside made frame destinat
           (slots_start files question from + unknowns_width (rooms_at files d ps))) destinations places;
       environment = ap₂ (environment_of files (lens_of plan))
           (ids ∙ ap (ids_from files w.variable) after)
-          (announced ∙ ap (λ ls. announced_from tracked files ls w.variable inside) frame.lens
-          ∙ ap (announced_from tracked files (lens_of plan) w.variable) after);
+          told;
+      announced = told;
     } where
+      told : map (bgp_of w) made.env.announced ≡ announced_from tracked files (lens_of plan) w.variable
+          (environment_start files tracked question plan from)
+      told =
+          announced ∙ ap (λ ls. announced_from tracked files ls w.variable inside) frame.lens
+          ∙ ap (announced_from tracked files (lens_of plan) w.variable) after
+
       places : made.frame.places ≡ places_in files plan
       places = places_are files tracked plan made.frame frame

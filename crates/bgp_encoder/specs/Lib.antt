@@ -3,3 +3,4 @@ pub mod Opened
 pub mod Slots
 pub mod Shapes
 pub mod Decided
+pub mod Announced

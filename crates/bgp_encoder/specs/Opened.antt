@@ -12,7 +12,7 @@ use Rattle.sym_policy.specs.Packets.{packet_of}
 use Rattle.sym_policy.specs.Records.{packet_end}
 use Rattle.sym_rib.specs.Into.{HasTracked, list_end}
 use Rattle.bgp_equations.specs.Environments.{FitsNet, env_end, environment_read}
-use Rattle.bgp_variables.specs.Environments.{environment_width}
+use Rattle.bgp_variables.specs.Environments.{announced_from, environment_width}
 use Rattle.world_variables.specs.Packets.{packet_from}
 use Rattle.world_variables.specs.Symbols.{open_of, opens_end}
 use Rattle.world_variables.specs.Worlds.{opens_from as unknowns_read_from}
@@ -49,3 +49,5 @@ pub record ReadsAs (files : List File) (tracked : Tracked) (question : Question)
   pub routes : map (bgp_of w) made.routes ≡ bgps_read_from files tracked question plan w.variable from
   pub environment : environment_read w files (lens_of plan) made.env
       ≡ announced_by files tracked question plan w.variable from
+  pub announced : map (bgp_of w) made.env.announced ≡ announced_from tracked files (lens_of plan) w.variable
+      (environment_start files tracked question plan from)

@@ -1,6 +1,7 @@
 //! Questions about a network with BGP as formulas over Boolean variables.
 #![tactic(auto)]
 
+mod announced;
 mod asked;
 mod copies;
 mod decided;
@@ -11,6 +12,7 @@ mod routes;
 mod slots;
 mod world;
 
+pub use announced::sym_all_announced;
 pub use asked::sym_asked;
 pub use decided::sym_all_decided;
 pub use frame::Frame;
