@@ -60,6 +60,30 @@ else
     failed=1
 fi
 
+homed="$top/examples/dual-homed"
+run verify "$homed/questions.txt" "$homed/open.cfg"
+ended "1, a provider may announce what breaks a question" 1 "broken q1"
+tail -n 1 printed >counterexample.json
+run replay counterexample.json "$homed/questions.txt" "$homed/open.cfg"
+ended "0, that counterexample with its announcements is true" 0 "yes"
+run verify "$homed/questions.txt" "$homed/filtered.cfg"
+ended "0, nothing is taken from that provider" 0 "holds q1"
+short="$top/examples/short-prefix"
+set -- "$short/questions.txt" "$short/b1.cfg" "$short/c1.cfg"
+run verify "$@"
+ended "1, a shorter prefix gets through a filter" 1 "broken q1"
+tail -n 1 printed >counterexample.json
+run replay counterexample.json "$@"
+ended "0, that counterexample is true" 0 "yes"
+
+both="$top/examples/two-way-redistribution"
+set -- "$both/questions.txt" "$both/x.cfg" "$both/y.cfg"
+run verify "$@"
+ended "1, a route that supports itself loops" 1 "broken q1"
+tail -n 1 printed >counterexample.json
+run replay counterexample.json "$@"
+ended "0, that counterexample is true" 0 "yes"
+
 office="$top/examples/office"
 run verify "$office/questions.txt" "$office/edge.cfg" "$office/core.cfg" "$office/desk.cfg" "$office/depot.cfg"
 ended "1, twelve questions about an office" 1 "holds web"
@@ -95,6 +119,10 @@ run
 ended "3, no words" 3 "usage: mw_cli verify, check, replay, simulate or gen"
 run verify questions.txt
 ended "3, no configuration" 3 "usage: mw_cli verify, check, replay, simulate or gen"
+
+cp "$network/e1.cfg" "$network/e2.cfg" .
+run verify "$network/questions.txt" e1.cfg e2.cfg
+ended "4, internal BGP" 4 "refused e1.cfg:16 3 NotBuilt"
 
 printf 'hostname N1\n!\nrouter eigrp 1\n' >other.cfg
 run verify questions.txt other.cfg n2.cfg

@@ -1,5 +1,5 @@
 -- What is made of things by place: it is found at its place, and stands in the order of the places.
-use Rattle.std.proofs.Common.{◌≡◌, ℕ, zero, suc, ◌<◌, Bool, true, false, List, [], ◌∷◌, ◌++◌, map}
+use Rattle.std.proofs.Common.{◌≡◌, ℕ, zero, suc, ◌<◌, Bool, true, false, List, [], ◌∷◌, map}
 use Rattle.std.proofs.Common.{Option, Some, None, inl, inr, refl, sym, ap, subst, arith, ◌∙◌}
 use Rattle.std.specs.Prelude.{◌==◌, ◌&&◌, All, AllPairs, option_and_then, option_map, if◌then◌else◌}
 use Rattle.std.specs.List.{find}
@@ -7,7 +7,7 @@ use Rattle.std.proofs.lemmas.Bool.{and_parts, eqb-true}
 use Rattle.std.proofs.lemmas.Bool.Decides.{nat_tests}
 use Rattle.std.proofs.lemmas.List.Elements.{All-append, All-cons, All-head, All-nil, All-tail, All-weaker}
 use Rattle.std.proofs.lemmas.List.Kept.{AllPairs-cons}
-use Rattle.net_interfaces.proofs.Pairs.{first, later}
+use Rattle.net_interfaces.proofs.Pairs.{first, later, pairs_joined}
 use Rattle.route_record.specs.declared.Plan.{Plan}
 use Rattle.route_record.specs.declared.TheConstants.{LENGTHS}
 use Rattle.plan_places.specs.declared.places.Place.{Place}
@@ -42,15 +42,6 @@ all_below p (e ∷ ends) lens all =
     (row_below p e lens (All-head (λ k. p.router < k) e ends all))
     (all_below p ends lens (All-tail (λ k. p.router < k) e ends all))
 
--- rows that are in order, the second of which is later
-pub joined : {X : Type 0} (R : X → X → Type 0) (xs ys : List X) → AllPairs R xs → AllPairs R ys →
-    All (λ x. All (R x) ys) xs → AllPairs R (xs ++ ys)
-joined R [] ys one two far = two
-joined R (x ∷ xs) ys one two far =
-    AllPairs-cons R x (xs ++ ys)
-    (All-append (R x) xs ys (first R x xs one) (All-head (λ z. All (R z) ys) x xs far))
-    (joined R xs ys (later R x xs one) two (All-tail (λ z. All (R z) ys) x xs far))
-
 row_far : (end : ℕ) (ends lens all : List ℕ) → All (λ e. end < e) ends →
     All (λ p. All (IsBefore p) (places_among ends all)) (map (place end) lens)
 row_far end ends [] all less = All-nil (λ p. All (IsBefore p) (places_among ends all))
@@ -62,7 +53,7 @@ pub places_ordered : (ends lens : List ℕ) → Ascend ends → Ascend lens → 
 unfolding places_among
 places_ordered [] lens up down = λ i j d below within. absurd (omega arith)
 places_ordered (e ∷ ends) lens up across =
-    joined IsBefore (map (place e) lens) (places_among ends lens) (row_ordered e lens across)
+    pairs_joined IsBefore (map (place e) lens) (places_among ends lens) (row_ordered e lens across)
     (places_ordered ends lens (later (λ a b. a < b) e ends up) across)
     (row_far e ends lens lens (first (λ a b. a < b) e ends up))
 
@@ -84,7 +75,7 @@ lens_up : (plan : Plan) (n : ℕ) → Ascend (lens_below plan n)
 unfolding lens_below
 lens_up plan zero = λ i j d below within. absurd (omega arith)
 lens_up plan (suc n) =
-    joined (λ a b. a < b) (lens_below plan n) (if has_slice plan n then n ∷ [] else []) (lens_up plan n)
+    pairs_joined (λ a b. a < b) (lens_below plan n) (if has_slice plan n then n ∷ [] else []) (lens_up plan n)
     (one (has_slice plan n))
     (All-weaker (λ m. m < n) (λ m. All (λ k. m < k) (if has_slice plan n then n ∷ [] else []))
     (λ m low. far m low (has_slice plan n)) (lens_below plan n) (lens_low plan n))

@@ -4,7 +4,7 @@ use Rattle.std.proofs.Common.{length, map, filter, replicate, refl, sym, ap, sub
 use Rattle.std.proofs.Common.{leb-true, append_assoc}
 use Rattle.std.specs.Prelude.{◌==◌, nat_lt, nat_le}
 use Rattle.std.specs.List.{list_all}
-use Rattle.std.proofs.lemmas.Bool.{and_parts, eqb-true, eq-eqb}
+use Rattle.std.proofs.lemmas.Bool.{and_parts, eqb-true}
 use Rattle.std.proofs.lemmas.Bool.Decides.{nat_tests}
 use Rattle.std.proofs.lemmas.List.Folds.{list_any-append}
 use Rattle.std.proofs.Math.Seq.{get_or-append_seam}
@@ -13,6 +13,7 @@ use Rattle.std.proofs.lemmas.Map.Views.{any-filter_same}
 use Rattle.ios_ast.specs.Deciding.{carries}
 use Rattle.ios_ast.specs.Paths.{last_of}
 use Rattle.net_parts.specs.World.{ascends}
+use Rattle.net_parts.proofs.Tracks.{itself}
 use Rattle.route_shapes.specs.Shapes.{PathShape}
 use Rattle.announced_shapes.specs.Paths.{IsPathShape, after_first, taken, is_end, between, rebuilt_path}
 use Rattle.announced_shapes.specs.Paths.{are_marked}
@@ -25,9 +26,6 @@ differs t u h = grind (arith, nat_tests)
 
 differs_back : (t u : ℕ) → nat_lt t u ≡ true → (u == t) ≡ false
 differs_back t u h = grind (arith, nat_tests)
-
-same_number : (t : ℕ) → (t == t) ≡ true
-same_number t = eq-eqb t t refl
 
 map_above : (t : ℕ) (w ts : List ℕ) → list_all (nat_lt t) ts ≡ true → map (carries (t ∷ w)) ts ≡ map (carries w) ts
 map_above t w [] above = refl
@@ -54,7 +52,7 @@ taken_marks (t ∷ ts) [] up long = absurd (omega (arith, long))
 taken_marks (t ∷ ts) (true ∷ bs) up long =
     let both = and_parts (list_all (nat_lt t) ts) (ascends ts) up in
     let rest = taken_marks ts bs both.1 (omega (arith, long)) in
-    let front : carries (t ∷ taken ts bs) t ≡ true = ap (λ b. b || carries (taken ts bs) t) (same_number t) in
+    let front : carries (t ∷ taken ts bs) t ≡ true = ap (λ b. b || carries (taken ts bs) t) (itself t) in
     let behind = map_above t (taken ts bs) ts both.0 in cc
 taken_marks (t ∷ ts) (false ∷ bs) up long =
     let both = and_parts (list_all (nat_lt t) ts) (ascends ts) up in

@@ -10,6 +10,7 @@ use Rattle.std.proofs.lemmas.List.Elements.{All-append, All-cons, All-contains_i
 use Rattle.std.proofs.lemmas.List.Elements.{All-nil, All-tail, All-weaker, filter_passes}
 use Rattle.std.proofs.lemmas.List.Folds.{Any-from_list_any}
 use Rattle.std.proofs.lemmas.Option.{same_Some, slice_get-map}
+use Rattle.std.proofs.Math.Bool.{or-true}
 use Rattle.mw_text.proofs.Lists.{all_found}
 use Rattle.mw_text.specs.Members.{In}
 use Rattle.net_parts.proofs.LeastWalks.{contains-in}
@@ -156,10 +157,6 @@ session_lines files =
 
 -- ---- an external end
 
-or_true : (b : Bool) → (b || true) ≡ true
-or_true true = refl
-or_true false = refl
-
 -- a member that is kept and passes a test
 any_kept : {X : Type 0} (test keep : X → Bool) (xs : List X) (x : X) → Contains xs x → keep x ≡ true → test x ≡ true →
     list_any test (filter keep xs) ≡ true
@@ -175,7 +172,7 @@ any_kept test keep xs x has kept passes = by_all test keep xs x (contains-in x x
     where
       by : (b : Bool) → list_any test (filter keep ys) ≡ true →
           list_any test (if b then y ∷ filter keep ys else filter keep ys) ≡ true
-      by true rest = ap (λ b. test y || b) rest ∙ or_true (test y)
+      by true rest = ap (λ b. test y || b) rest ∙ or-true (test y)
       by false rest = rest
 
 -- the interface from which its router speaks has the peer's address on its subnet

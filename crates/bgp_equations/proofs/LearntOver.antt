@@ -1,9 +1,10 @@
 -- The candidate that is learnt over a session, from its route and from what it has beside it.
 use Rattle.std.proofs.Common.{◌≡◌, ℕ, ◌&&◌, Bool, true, false, not, List, length, map, Option, Some, None, if◌then◌else◌}
-use Rattle.std.proofs.Common.{refl, sym, ap, ap₂, ◌∙◌, ◌||◌, zero, suc, [], ◌∷◌, slice_get}
+use Rattle.std.proofs.Common.{refl, sym, ap, ap₂, ◌∙◌, slice_get}
 use Rattle.std.specs.Prelude.{IfSome, nat_le, option_and_then, option_map}
-use Rattle.std.specs.List.{find, list_any}
+use Rattle.std.specs.List.{find}
 use Rattle.std.proofs.lemmas.Option.{same_Some}
+use Rattle.std.proofs.lemmas.Map.Keys.{any_passes_from_place}
 use Rattle.mw_text.specs.declared.address.Addr.{Addr}
 use Rattle.mw_text.specs.declared.address.Prefix.{Prefix}
 use Rattle.ios_ast.specs.declared.bgp.Neighbour.{Neighbour}
@@ -11,6 +12,7 @@ use Rattle.ios_ast.specs.declared.file.File.{File}
 use Rattle.route_record.specs.declared.Failures.{Failures}
 use Rattle.route_record.specs.declared.OspfRec.{OspfRec}
 use Rattle.route_record.specs.declared.tracked.Tracked.{Tracked}
+use Rattle.net_interfaces.proofs.Options.{chained, if_is}
 use Rattle.net_parts.specs.declared.sessions.Far.{Far}
 use Rattle.net_parts.specs.declared.sessions.Far.TheVariants.{Outside, Inside}
 use Rattle.net_parts.specs.declared.sessions.SessionEnd.{SessionEnd}
@@ -24,10 +26,11 @@ use Rattle.bgp_shapes.specs.Candidates.{shape_learnt}
 use Rattle.bgp_shapes.specs.Importing.{shape_if_short, shape_imported, shape_is_acceptable, shape_mapped_in}
 use Rattle.bgp_shapes.specs.Importing.{shape_received, shape_taken_in}
 use Rattle.bgp_shapes.specs.Messages.{seen_by_maps, with_seen}
+use Rattle.bgp_shapes.proofs.LengthLaw.{if_then}
 use Rattle.ios_ast.specs.declared.bgp.Bgp.{Bgp}
 use Rattle.net_parts.specs.Exports.{most_numbers, passes_prefixes}
 use Rattle.route_shapes.specs.Shapes.{RouteShape, shape_passes_paths, shape_through_map}
-use Rattle.rebuilt_routes.proofs.Options.{chained, if_is, if_then, if_true, mapped}
+use Rattle.rebuilt_routes.proofs.Options.{if_true, mapped}
 use Rattle.sym_policy.specs.declared.records.SymBgp.{SymBgp}
 use Rattle.sym_policy.specs.Held.{internal_route}
 use Rattle.sym_bgp.specs.Joined.{HasMarks}
@@ -251,23 +254,12 @@ inner_learnt tracked files failures ids p at end message o is =
       peer_id = (peer_identifier files ids at end).0;
     }) (resolved files failures end.router (record { 0 = s.next_hop }))) (is i) else None)
 
-or_true : (b : Bool) → (b || true) ≡ true
-or_true true = refl
-or_true false = refl
-
-any_at : {X : Type 0} (test : X → Bool) (xs : List X) (k : ℕ) (x : X) → slice_get xs k ≡ Some x → test x ≡ true →
-    list_any test xs ≡ true
-any_at test [] k x there passes = absurd cc
-any_at test (y ∷ xs) zero x there passes =
-    ap (λ b. b || list_any test xs) (ap test (same_Some y x there) ∙ passes)
-any_at test (y ∷ xs) (suc k) x there passes =
-    ap (λ b. test y || b) (any_at test xs k x there passes) ∙ or_true (test y)
-
 -- such a session joins two routers
 pub inner_there : (files : List File) (at k : ℕ) (end : SessionEnd) → slice_get (ends_of files) at ≡ Some end →
     end.far ≡ Inside k → has_inner files ≡ true
 inner_there files at k end there far =
-    any_at (λ (e : SessionEnd). not (is_outside e.far)) (ends_of files) at end there (ap (λ f. not (is_outside f)) far)
+    any_passes_from_place (λ (e : SessionEnd). not (is_outside e.far)) (ends_of files) at end there
+    (ap (λ f. not (is_outside f)) far)
 
 -- ---- both
 

@@ -67,7 +67,8 @@ own_candidates tracked files router (rec ∷ own) =
 
 -- ---- the message that arrives
 
-announced_shape : (tracked : Tracked) (peer : Addr) (a : Announcement) →
+-- the message of an announcement has the shape that the announcement's gives
+pub announced_shape : (tracked : Tracked) (peer : Addr) (a : Announcement) →
     message_shape tracked (announced_message peer a) ≡ shape_announced tracked peer (announcement_shape tracked a)
 announced_shape tracked peer a =
     ap (λ n. record (shape_announced tracked peer (announcement_shape tracked a)) { cluster_len = n }) saturated-none

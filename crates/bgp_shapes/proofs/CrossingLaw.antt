@@ -26,7 +26,7 @@ find_none p none [] = refl
 find_none p none (x ∷ xs) = let here = none x in let rest = find_none p none xs in cc
 
 -- the numbers of two addresses are equal where these are
-same_numbers : (a b : ℕ) → (2 ^ 32 + a == 2 ^ 32 + b) ≡ (a == b)
+pub same_numbers : (a b : ℕ) → (2 ^ 32 + a == 2 ^ 32 + b) ≡ (a == b)
 same_numbers a b = grind (arith, nat_tests)
 
 -- the end over which a route was learnt is found by the number that stands for it

@@ -12,6 +12,7 @@ use Rattle.std.proofs.lemmas.List.Elements.{All-append, All-cons, All-filter, Al
 use Rattle.std.proofs.lemmas.List.Elements.{All-weaker, filter_passes}
 use Rattle.std.proofs.lemmas.List.Quantifiers.{position-Some}
 use Rattle.std.proofs.lemmas.Option.{slice_get-get_or, slice_get-map}
+use Rattle.std.proofs.lemmas.Map.Keys.{any_passes_from_place}
 use Rattle.ios_ast.specs.declared.bgp.Bgp.{Bgp}
 use Rattle.ios_ast.specs.declared.bgp.Neighbour.{Neighbour}
 use Rattle.ios_ast.specs.declared.file.File.{File}
@@ -162,14 +163,6 @@ meet_alike a b met =
     same_kind a.router b.router (a.neighbour.0 == b.source.addr.0) (b.neighbour.0 == a.source.addr.0) _ a.asn b.asn
     a.remote b.remote met
 
--- an item of a list, by its place, that passes
-any_there : {X : Type 0} (p : X → Bool) (xs : List X) (k : ℕ) (x : X) → slice_get xs k ≡ Some x → p x ≡ true →
-    list_any p xs ≡ true
-any_there p [] k x there passes = cc
-any_there p (y ∷ ys) zero x there passes =
-    let same : y ≡ x = cc in or_left (p y) (list_any p ys) (ap p same ∙ passes)
-any_there p (y ∷ ys) (suc k) x there passes = or_right (p y) (list_any p ys) (any_there p ys k x there passes)
-
 -- what a filter lets pass stands in the list before it, at a place
 record IsAt {X : Type 0} (xs : List X) (x : X) : Type 0 where
   k : ℕ
@@ -221,7 +214,7 @@ met_session files a is stands inside =
     keeps : (b : Peering) → meet a b ≡ true → has_session (addressed files) (speaking files) b ≡ true
     keeps b met =
         or_right (is_external_peer (addressed files) b) (list_any (meet b) (speaking files))
-        (any_there (meet b) (speaking files) is.k a is.there (meet_back a b met))
+        (any_passes_from_place (meet b) (speaking files) is.k a is.there (meet_back a b met))
 
 -- ---- the ends
 

@@ -1,5 +1,5 @@
 -- A route is held by shapes where some survivor has its shape, and there is none where there is no candidate.
-use Rattle.std.proofs.Common.{◌≡◌, ℕ, ◌==◌, ◌&&◌, ◌||◌, Bool, true, false, List, [], ◌∷◌}
+use Rattle.std.proofs.Common.{◌≡◌, ℕ, ◌==◌, ◌&&◌, Bool, true, false, List, [], ◌∷◌}
 use Rattle.std.proofs.Common.{Option, Some, None, length, map, refl, sym, ap, ◌∙◌, arith}
 use Rattle.std.specs.Prelude.{All, Any, IfSome, option_map}
 use Rattle.std.specs.List.{list_any}
@@ -8,6 +8,7 @@ use Rattle.std.proofs.lemmas.List.Folds.{Any-from_list_any, list_any-from_Any}
 use Rattle.route_record.specs.declared.BgpRec.{BgpRec}
 use Rattle.route_record.specs.declared.tracked.Tracked.{Tracked}
 use Rattle.route_record.specs.Shape.{marked_number}
+use Rattle.net_interfaces.proofs.Members.{any_mapped}
 use Rattle.net_parts.specs.Decisions.{Candidate, IsHeld, survivors}
 use Rattle.route_shapes.specs.Bgp.{BgpShape, bgp_shape}
 use Rattle.bgp_shapes.specs.Candidates.{ShapeCandidate, candidate_shape}
@@ -94,11 +95,6 @@ shape_is tracked rec s has same =
     (length-map tracked.communities _ ∙ sym has.communities) (length-map tracked.clusters _ ∙ sym has.clusters) same
 
 -- ---- held routes
-
-any_mapped : {X Y : Type 0} (p : Y → Bool) (f : X → Y) (xs : List X) →
-    list_any p (map f xs) ≡ list_any (λ x. p (f x)) xs
-any_mapped p f [] = refl
-any_mapped p f (x ∷ xs) = ap (λ b. p (f x) || b) (any_mapped p f xs)
 
 weaker : {X : Type 0} (P Q : X → Type 0) (xs : List X) → ((x : X) → P x → Q x) → Any P xs → Any Q xs
 weaker P Q xs gives (k, x, within, is, holds) = (k, x, within, is, gives x holds)

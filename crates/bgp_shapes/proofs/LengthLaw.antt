@@ -61,7 +61,8 @@ use Rattle.bgp_shapes.proofs.PolicyLaw.{through_keeps}
 
 -- ---- what holds of all that a call gives
 
-if_then : {X Y : Type 0} (P : Y → Type 0) (f : X → Option Y) → ((x : X) → IfSome (f x) P) → (o : Option X) →
+-- what holds of all that the two calls give
+pub if_then : {X Y : Type 0} (P : Y → Type 0) (f : X → Option Y) → ((x : X) → IfSome (f x) P) → (o : Option X) →
     IfSome (option_and_then f o) P
 if_then P f each None = tt
 if_then P f each (Some x) = each x
@@ -70,7 +71,8 @@ if_true : {X : Type 0} (P : X → Type 0) (b : Bool) (o : Option X) → IfSome o
 if_true P true o holds = holds
 if_true P false o holds = tt
 
-all_kept : {X Y : Type 0} (Q : X → Type 0) (P : Y → Type 0) (h : X → Option Y) → ((x : X) → Q x → IfSome (h x) P) →
+-- all that is given of items which have Q
+pub all_kept : {X Y : Type 0} (Q : X → Type 0) (P : Y → Type 0) (h : X → Option Y) → ((x : X) → Q x → IfSome (h x) P) →
     (xs : List X) → All Q xs → All P (filter_map h xs)
 all_kept Q P h gives [] all = All-nil P
 all_kept Q P h gives (x ∷ xs) all =
@@ -85,7 +87,7 @@ all_such xs k d within = tt
 
 -- ---- what survives is a candidate
 
-steps_all : {X : Type 0} (P : X → Type 0) (key : X → Key) (always : Bool) (steps : List Step) (xs : List X) →
+pub steps_all : {X : Type 0} (P : X → Type 0) (key : X → Key) (always : Bool) (steps : List Step) (xs : List X) →
     All P xs → All P (fold (step_by key always) xs steps)
 steps_all P key always [] xs all = all
 steps_all P key always (s ∷ steps) xs all =

@@ -19,6 +19,10 @@ pub width_next : (rooms : List (Option BgpRoom)) (k : ℕ) (room : Option BgpRoo
 unfolding bgps_width
 width_next rooms k room within is = ap bgps_width (drop-read rooms k room within is)
 
+pub width_end : (rooms : List (Option BgpRoom)) (k : ℕ) → length rooms ≤ k → bgps_width (drop k rooms) ≡ 0
+unfolding bgps_width
+width_end rooms k all = ap bgps_width (drop_all k rooms all)
+
 pub routes_next : (rooms : List (Option BgpRoom)) (k : ℕ) (room : Option BgpRoom) (v : ℕ → Bool) (at : ℕ)
     (made : List (Option BgpShape)) → k < length rooms → room ≡ get_or rooms k room →
     (made ++ option_map as_told (bgp_from room v at) ∷ []) ++ told_from (drop (k + 1) rooms) v (at + bgp_width room)

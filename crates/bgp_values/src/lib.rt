@@ -13,4 +13,4 @@ pub use routes::{
     PathTold, address_of, known_at, learnt_of, lists_at, long_told_at, path_at, told_at,
     with_preferences,
 };
-pub use rows::routes_at;
+pub use rows::{routes_at, routes_end};

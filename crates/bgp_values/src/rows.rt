@@ -67,3 +67,18 @@ pub fn routes_at(
     }
     Ok(made)
 }
+
+/// Where the variables of the routes of some rooms end, where they begin at one; there are at most so many variables.
+#[tactic(auto, using(crate::proofs::RowSteps::width_next, crate::proofs::RowSteps::width_end, crate::proofs::RowSteps::room_there))]
+pub fn routes_end(tracked: &Tracked, from: usize, rooms: &[Option<BgpRoom>], most: usize) -> usize
+    requires few { AreFew tracked.now }
+    requires rooms { All (λ room. IfSome room (shapes.IsRoomOf tracked.now)) rooms.now }
+    requires within { from + shapes.bgps_width rooms.now ≤ most }
+    ensures { result ≡ from + shapes.bgps_width rooms.now }
+{
+    let mut at = from;
+    for room in rooms {
+        at += room_size(tracked, room);
+    }
+    at
+}

@@ -1,12 +1,13 @@
 -- Of the messages at all places the environment of announcements is made again, as far as routers look at it.
-use Rattle.std.proofs.Common.{◌≡◌, ℕ, zero, suc, ◌+◌, Bool, true, false, ◌&&◌, ◌||◌, List, [], ◌∷◌, ◌++◌, map, filter}
+use Rattle.std.proofs.Common.{◌≡◌, ℕ, suc, ◌+◌, Bool, true, false, ◌&&◌, ◌||◌, List, [], ◌∷◌, ◌++◌, map, filter}
 use Rattle.std.proofs.Common.{Option, Some, None, refl, sym, ap, subst, arith, ◌∙◌, slice_get}
 use Rattle.std.specs.Prelude.{◌==◌, All, option_and_then, option_map, if◌then◌else◌}
-use Rattle.std.specs.List.{enumerate_from, find, list_any}
+use Rattle.std.specs.List.{enumerate_from, find}
 use Rattle.std.proofs.lemmas.Bool.{and_from, and_parts, eq-eqb, eqb-true, or_left, or_right}
 use Rattle.std.proofs.lemmas.List.{map-append}
 use Rattle.std.proofs.lemmas.List.Folds.{list_any-append}
 use Rattle.std.proofs.lemmas.Option.{same_Some}
+use Rattle.std.proofs.lemmas.Map.Keys.{any_passes_from_place}
 use Rattle.mw_text.specs.declared.address.Addr.{Addr}
 use Rattle.mw_text.specs.declared.address.Prefix.{Prefix}
 use Rattle.ios_ast.specs.declared.bgp.Neighbour.{Neighbour}
@@ -30,13 +31,6 @@ use Rattle.bgp_variables.specs.Environments.{arrivals, arrivals_over, arrives}
 use Rattle.bgp_variables.proofs.EnvironmentReading.{found_such}
 
 -- ---- places
-
-any_there : {X : Type 0} (p : X → Bool) (xs : List X) (k : ℕ) (x : X) → slice_get xs k ≡ Some x → p x ≡ true →
-    list_any p xs ≡ true
-any_there p [] k x there passes = absurd cc
-any_there p (y ∷ ys) zero x there passes =
-    or_left (p y) (list_any p ys) (ap p (same_Some y x there) ∙ passes)
-any_there p (y ∷ ys) (suc k) x there passes = or_right (p y) (list_any p ys) (any_there p ys k x there passes)
 
 row_has : (e at len : ℕ) (lens : List ℕ) → (e == at) ≡ true → carries lens len ≡ true →
     has_place (map (place e) lens) at len ≡ true
@@ -118,7 +112,7 @@ module _ (tracked : Tracked) (files : List File) (announced : List ShapeAnnounce
       let places = places_among (external_places files) lens in
       ap (λ xs. option_and_then (λ (o : Option BgpShape). o) (item_at places xs at len)) (arrivals_is lens)
       ∙ ap (option_and_then (λ (o : Option BgpShape). o)) (item_again at_place places at len
-      (has_among (external_places files) lens at len (any_there (λ y. y == at) (external_places files) _ at
+      (has_among (external_places files) lens at len (any_passes_from_place (λ y. y == at) (external_places files) _ at
       (external_place files at end there outer) (same_number at)) has))
       ∙ ap (option_and_then (λ (e : SessionEnd). arrives tracked files announced at e len)) there
     where

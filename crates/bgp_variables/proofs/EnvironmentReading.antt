@@ -57,7 +57,7 @@ environment_read tracked files lens ids shapes v from rest long fit fits here =
 
 -- ---- what may be announced fits
 
-fit_append : (rooms more : List (Option BgpRoom)) (xs ys : List (Option BgpShape)) → FitBgpRooms rooms xs →
+pub fit_append : (rooms more : List (Option BgpRoom)) (xs ys : List (Option BgpShape)) → FitBgpRooms rooms xs →
     FitBgpRooms more ys → FitBgpRooms (rooms ++ more) (xs ++ ys)
 fit_append [] more [] ys first next = next
 fit_append [] more (x ∷ xs) ys first next = absurd first

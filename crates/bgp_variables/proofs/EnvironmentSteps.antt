@@ -14,11 +14,10 @@ use Rattle.sym_rib.specs.Into.{list_end}
 use Rattle.sym_policy.specs.declared.records.SymBgp.{SymBgp}
 use Rattle.sym_policy.specs.Held.{bgp_end, bgp_of}
 use Rattle.term_store.specs.Terms.{Reading}
-use Rattle.sym_rib.proofs.OneEach.{list_end_push}
+use Rattle.sym_rib.proofs.OneEach.{items_at, list_end_push}
 use Rattle.bgp_variables.specs.declared.rooms.BgpRoom.{BgpRoom}
 use Rattle.bgp_variables.specs.Environments.{addresses_from, end_room, end_rooms, rooms_over}
 use Rattle.bgp_variables.specs.Shapes.{bgp_from, bgp_width, bgps_from, bgps_width}
-use Rattle.bgp_variables.proofs.Steps.{items_at}
 
 -- ---- so many of one thing
 

@@ -1,6 +1,6 @@
 -- The parts of a route of new variables, put together.
 use Rattle.std.proofs.Common.{◌≡◌, ℕ, ◌+◌, ◌<◌, ◌≤◌, Bool, length, Some, None, sym, ap, arith, ◌∙◌}
-use Rattle.std.specs.Prelude.{max, if◌then◌else◌}
+use Rattle.std.specs.Prelude.{if◌then◌else◌}
 use Rattle.term_store.specs.declared.NodeId.{NodeId}
 use Rattle.term_store.specs.Terms.{Reading, at}
 use Rattle.route_record.specs.declared.tracked.Tracked.{Tracked}
@@ -12,10 +12,9 @@ use Rattle.sym_policy.specs.declared.parts.SymRoute.{SymRoute}
 use Rattle.sym_policy.specs.declared.records.SymBgp.{SymBgp}
 use Rattle.sym_policy.specs.declared.records.SymMapRec.{SymMapRec}
 use Rattle.sym_policy.specs.Held.{bgp_end, bgp_of}
-use Rattle.sym_policy.specs.MapRecs.{kept_end, map_rec_end, seen_end}
 use Rattle.sym_policy.specs.Routes.{rest_end, route_at, route_end}
 use Rattle.sym_policy.specs.SameNodes.{IsJoined}
-use Rattle.sym_policy.proofs.SameNodes.{joined_within}
+use Rattle.sym_policy.proofs.SameNodes.{bgp_within, joined_within}
 use Rattle.sym_bgp.specs.Joined.{rest_at, with_rest}
 use Rattle.sym_bgp.proofs.JoinedRoutes.{joined_of}
 use Rattle.sym_rib.specs.Into.{HasTracked}
@@ -59,37 +58,11 @@ held_is room w start seen rest_start valid route rest rec peer h there route_is 
         ∙ ap (λ p. rest_from room p w.variable rest_start) peer_is)
         ∙ shape_is room (at w valid) w.variable (start + 1) rest_start (omega (arith, rest_starts, seen_at))
 
-left : (a b n : ℕ) → max a b ≤ n → a ≤ n
-left a b n most = omega arith
-
-right : (a b n : ℕ) → max a b ≤ n → b ≤ n
-right a b n most = omega arith
-
-both : (a b n : ℕ) → a ≤ n → b ≤ n → max a b ≤ n
-both a b n first next = omega arith
-
--- a record's nodes are those of its route, and one more
-rec_within : (rec : SymMapRec) (n : ℕ) → map_rec_end rec ≤ n → bgp_end rec.bgp ≤ n
-rec_within rec n most =
-    let valid : rec.bgp.valid.0 + 1 ≤ n = left (rec.bgp.valid.0 + 1) (max (seen_end rec) (kept_end rec)) n most in
-    let others : max (seen_end rec) (kept_end rec) ≤ n =
-    right (rec.bgp.valid.0 + 1) (max (seen_end rec) (kept_end rec)) n most in
-    let seen : seen_end rec ≤ n = left (seen_end rec) (kept_end rec) n others in
-    let kept : kept_end rec ≤ n = right (seen_end rec) (kept_end rec) n others in
-    let preferences = left _ _ n seen in
-    let path = left _ _ n (right _ _ n seen) in
-    let communities = left _ _ n (right _ _ n (right _ _ n seen)) in
-    let hops = left _ _ n kept in
-    let peers = right _ _ n kept in
-    both _ _ n (both _ _ n (both _ _ n valid (left _ _ n preferences)) (right _ _ n preferences))
-    (both _ _ n path (both _ _ n (both _ _ n communities (left _ _ n hops))
-    (both _ _ n (both _ _ n (right _ _ n hops) (left _ _ n peers)) (right _ _ n peers))))
-
 pub held_within : (valid : NodeId) (route : SymRoute) (rest : SymRest) (rec : SymMapRec) (n : ℕ) →
     IsJoined valid route rest rec → valid.0 < n → route_end route ≤ n →
     rest_end rest ≤ n → bgp_end rec.bgp ≤ n
 held_within valid route rest rec n h valid_in route_in rest_in =
-    rec_within rec n (joined_within valid route rest rec n h valid_in route_in rest_in)
+    bgp_within rec n (joined_within valid route rest rec n h valid_in route_in rest_in)
 
 pub held_marks : (room : BgpRoom) (valid : NodeId) (route : SymRoute) (rest : SymRest) (rec : SymMapRec) →
     IsJoined valid route rest rec → HasSeenMarks room route →

@@ -7,7 +7,8 @@ use Rattle.route_shapes.specs.Shapes.{PathShape, Preferences}
 use Rattle.failed_links.specs.Failures.{none_of}
 use Rattle.failed_links.specs.Rows.{IsAt}
 use Rattle.failed_links.proofs.Reading.{after, one_then}
-use Rattle.world_variables.proofs.UnknownParts.{length-none, told_at}
+use Rattle.failed_links.proofs.FailureParts.{length-none}
+use Rattle.world_variables.proofs.UnknownParts.{told_at}
 use Rattle.bgp_variables.specs.declared.rooms.BgpRoom.{BgpRoom}
 use Rattle.bgp_variables.specs.declared.rooms.PathRoom.{PathRoom}
 use Rattle.bgp_variables.specs.declared.rooms.PreferencesRoom.{PreferencesRoom}

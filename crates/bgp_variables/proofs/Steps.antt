@@ -1,14 +1,10 @@
 -- Steps of the loops over marks and over routes.
-use Rattle.std.proofs.Common.{◌≡◌, ℕ, ◌+◌, ◌<◌, ◌&&◌, Bool, List, [], ◌∷◌, length, refl, drop, get_or}
+use Rattle.std.proofs.Common.{◌≡◌, ℕ, ◌+◌, ◌&&◌, Bool, List, [], ◌∷◌, refl}
 use Rattle.std.proofs.lemmas.Grind.{common_steps}
-use Rattle.std.proofs.lemmas.List.{drop_more}
 use Rattle.term_arith.proofs.NumberLemmas.{bits_push, ids_end_push}
 use Rattle.failed_links.proofs.Steps.{grows_grown}
+use Rattle.sym_rib.proofs.OneEach.{items_at}
 use Rattle.bgp_variables.specs.Marks.{mark_width, marks_from, marks_width}
-
-pub items_at : {X : Type 0} (xs : List X) (i : ℕ) (d : X) → i < length xs →
-    (get_or xs i d ≡ get_or xs i d) × (drop i xs ≡ get_or xs i d ∷ drop (i + 1) xs)
-items_at xs i d within = (refl, drop_more xs i d within)
 
 pub marks_next : (may : Bool) (mays : List Bool) (v : ℕ → Bool) (from : ℕ) →
     marks_from (may ∷ mays) v from ≡ (may && v from) ∷ marks_from mays v (from + mark_width may)

@@ -4,7 +4,7 @@ use Rattle.std.proofs.Common.{refl, sym, ap, ◌∙◌, arith}
 use Rattle.std.specs.Prelude.{All, IfSome, fold, nat_lt, option_and_then, option_map, if◌then◌else◌}
 use Rattle.std.specs.Option.{option_to_list}
 use Rattle.std.proofs.lemmas.Bool.Decides.{nat_tests}
-use Rattle.std.proofs.lemmas.List.Elements.{All-append, All-cons, All-head, All-nil, All-tail}
+use Rattle.std.proofs.lemmas.List.Elements.{All-append, All-cons, All-nil}
 use Rattle.std.proofs.lemmas.List.Sums.{fold-append}
 use Rattle.mw_text.specs.declared.address.Prefix.{Prefix}
 use Rattle.ios_ast.specs.declared.file.File.{File}
@@ -13,30 +13,19 @@ use Rattle.route_record.specs.declared.BgpRec.{BgpRec}
 use Rattle.route_record.specs.declared.Failures.{Failures}
 use Rattle.route_record.specs.declared.OspfRec.{OspfRec}
 use Rattle.route_record.specs.declared.RibEntry.{RibEntry}
-use Rattle.route_record.specs.declared.RibSource.{RibSource}
 use Rattle.route_record.specs.declared.RibSource.TheVariants.{Connected, Static, Ebgp, Ospf, Ibgp}
 use Rattle.route_record.specs.declared.Slot.{Slot}
 use Rattle.net_parts.specs.declared.sessions.SessionEnd.{SessionEnd}
 use Rattle.net_parts.specs.Entries.{bgp_entry, entry_with, ospf_entry}
 use Rattle.net_parts.specs.Exports.{learnt_over}
 use Rattle.net_parts.specs.Routing.{candidates, closer, is_direct, static_routes, up_interfaces}
-use Rattle.world_variables.specs.Slots.{entry_of_bit, has_dynamic, is_dynamic, source_with}
+use Rattle.slot_places.proofs.Brought.{of_closer}
+use Rattle.world_variables.specs.Slots.{entry_of_bit, has_dynamic, is_dynamic}
+use Rattle.world_variables.proofs.Stability.{same_bit}
 
 -- an entry whose number has the bit is closer than OSPF's
 abbrev IsCloser : RibEntry → Type 0
 IsCloser e = is_dynamic e.source ≡ true → e.distance ≤ 110
-
-pub of_closer : (P : RibEntry → Type 0) (entries : List RibEntry) (best : Option RibEntry) → IfSome best P →
-    All P entries → IfSome (fold closer best entries) P
-of_closer P [] best here all = here
-of_closer P (e ∷ entries) None here all =
-    of_closer P entries (Some e) (All-head P e entries all) (All-tail P e entries all)
-of_closer P (e ∷ entries) (Some best) here all =
-    of_closer P entries _ (by (nat_lt e.distance best.distance)) (All-tail P e entries all)
-  where
-    by : (b : Bool) → IfSome (if b then Some e else Some best) P
-    by true = All-head P e entries all
-    by false = here
 
 candidates_closer : (files : List File) (failures : Failures) (router : ℕ) (file : File) (p : Prefix) →
     All IsCloser (candidates (up_interfaces files failures router) file.statics p)
@@ -148,17 +137,6 @@ bit_decides files failures router file p slot x =
         (All-append IsCloser (candidates (up_interfaces files failures router) file.statics p)
         (option_to_list (bgp_entry files router slot)) (candidates_closer files failures router file p)
         (bgp_closer files router slot))
-
-same_source : (source : RibSource) → source_with (is_dynamic source) source ≡ source
-same_source Connected = refl
-same_source Static = refl
-same_source Ebgp = refl
-same_source Ospf = refl
-same_source Ibgp = refl
-
-same_bit : (o : Option RibEntry) → option_map (entry_of_bit (has_dynamic o)) o ≡ o
-same_bit None = refl
-same_bit (Some e) = ap (λ (s : RibSource). Some (record e { source = s })) (same_source e.source)
 
 -- the entry of a slot is made again from its bit
 pub entry_again : (files : List File) (failures : Failures) (router : ℕ) (file : File) (p : Prefix) (slot : Slot)

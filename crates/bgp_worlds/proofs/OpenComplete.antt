@@ -55,7 +55,7 @@ use Rattle.bgp_worlds.specs.Opens.{OpenSlot, empty_shape, is_bgp_wanted, is_igp_
 use Rattle.bgp_worlds.specs.Opens.{opens_hold, opens_of, place_holds, shape_entry, shape_slot_among, shape_slot_of}
 use Rattle.bgp_worlds.specs.Opens.{shape_world_of}
 use Rattle.bgp_worlds.proofs.EntryBit.{entry_again}
-use Rattle.bgp_worlds.proofs.OpenSound.{used_there}
+use Rattle.bgp_worlds.proofs.BgpSound.{used_there}
 use Rattle.bgp_worlds.proofs.SameShapes.{entries_same, held_same, learnt_shape}
 use Rattle.std.proofs.lemmas.List.FromFn.{length-range_with_len}
 use Rattle.shape_worlds.proofs.RealWorlds.{len_small, place_of}

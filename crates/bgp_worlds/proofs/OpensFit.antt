@@ -32,16 +32,15 @@ use Rattle.route_shapes.specs.Bgp.{BgpShape}
 use Rattle.plan_places.specs.declared.places.Place.{Place}
 use Rattle.plan_places.specs.Places.{item_at, place, places_of}
 use Rattle.slot_places.specs.Rooms.{HasUsed, can_be_used}
+use Rattle.slot_places.proofs.Brought.{of_closer}
 use Rattle.sym_rib.specs.Sources.{entry_from, entry_over, learnt_entry, ospf_candidate}
-use Rattle.world_variables.specs.Slots.{entry_of_bit}
 use Rattle.world_variables.specs.Worlds.{FitsDistance}
-use Rattle.world_variables.proofs.Stability.{item_all}
+use Rattle.world_variables.proofs.Stability.{bit_fits, item_all}
 use Rattle.rebuilt_routes.specs.Words.{HasWordNumbers}
 use Rattle.shape_worlds.specs.Worlds.{ShapeWorld, rebuilt_tables}
 use Rattle.shape_worlds.proofs.RealWorlds.{routes_fit}
 use Rattle.bgp_worlds.specs.Opens.{FitOpens, OpenSlot, empty_shape, open_shape, opens_hold, shape_entry, shape_slot_among}
 use Rattle.bgp_worlds.specs.Opens.{shape_slot_of, shape_world_of}
-use Rattle.bgp_worlds.proofs.EntryBit.{of_closer}
 use Rattle.bgp_worlds.proofs.OpenSound.{real, shapes_hold}
 
 -- ---- entries
@@ -85,10 +84,6 @@ entry_fits files failures router file p learnt ospf own distances =
     held None b = All-nil FitsRib
     held (Some r) true = All-nil FitsRib
     held (Some r) false = All-cons FitsRib _ [] (omega arith) (All-nil FitsRib)
-
-bit_fits : (bit : Bool) (o : Option RibEntry) → IfSome o FitsRib → IfSome (option_map (entry_of_bit bit) o) FitsRib
-bit_fits bit None fits = tt
-bit_fits bit (Some e) fits = fits
 
 -- ---- slots by shape
 

@@ -5,7 +5,7 @@ use Rattle.std.specs.Prelude.{All, AllPairs, IfSome, filter, not, slice_get}
 use Rattle.std.specs.List.{find}
 use Rattle.std.specs.Option.{option_map_or}
 use Rattle.std.proofs.lemmas.Bool.{cases_lt}
-use Rattle.std.proofs.lemmas.List.Elements.{All-append, All-cons, All-head, All-map, All-nil, All-tail}
+use Rattle.std.proofs.lemmas.List.Elements.{All-append, All-cons, All-map, All-nil}
 use Rattle.std.proofs.lemmas.List.Elements.{All-weaker}
 use Rattle.std.proofs.lemmas.List.Kept.{AllPairs-cons, AllPairs-filter}
 use Rattle.mw_text.proofs.Lists.{all_found}
@@ -19,7 +19,7 @@ use Rattle.net_parts.specs.declared.sessions.SessionEnd.{SessionEnd}
 use Rattle.net_interfaces.specs.Interfaces.{addressed}
 use Rattle.net_parts.specs.Sessions.{IsPlaced, end_of, ends_of, has_session, neighbour_of, peering, peerings}
 use Rattle.net_parts.specs.Sessions.{peerings_from, peerings_of, peerings_routers, sessions, speaking, speaks_from}
-use Rattle.net_interfaces.proofs.Pairs.{first, later}
+use Rattle.net_interfaces.proofs.Pairs.{first, later, no_pairs, pairs_joined}
 use Rattle.net_parts.proofs.EndPlaces.{ends_placed}
 use Rattle.cex_json.specs.Writable.{AreApart, AreNeighbours, IsNeighbour, end_key}
 use Rattle.cex_json.proofs.Inversion.{no_value, same_some}
@@ -27,17 +27,6 @@ use Rattle.cex_json.proofs.Places.{pair_at}
 use Rattle.cex_json.proofs.WrittenSenders.{some_item}
 
 -- ---- pairs of two lists, and of what is made of a list
-
-pairs_append : {A : Type 0} (R : A → A → Type 0) (xs ys : List A) → AllPairs R xs → AllPairs R ys →
-    All (λ x. All (R x) ys) xs → AllPairs R (xs ++ ys)
-pairs_append R [] ys one other cross = other
-pairs_append R (x ∷ xs) ys one other cross =
-    AllPairs-cons R x (xs ++ ys)
-    (All-append (R x) xs ys (first R x xs one) (All-head (λ z. All (R z) ys) x xs cross))
-    (pairs_append R xs ys (later R x xs one) other (All-tail (λ z. All (R z) ys) x xs cross))
-
-no_pairs : {A : Type 0} (R : A → A → Type 0) → AllPairs R []
-no_pairs R i j d below within = absurd (omega arith)
 
 pairs_map : {A B : Type 0} (R : B → B → Type 0) (f : A → B) (xs : List A) → AllPairs (λ x y. R (f x) (f y)) xs →
     AllPairs R (map f xs)
@@ -126,7 +115,7 @@ all_lines all router (file ∷ rest) =
     let others = all_lines all (router + 1) rest in
     let here = peerings_of all router file in
     let more = peerings_routers all (router + 1) rest in (
-      pairs_append IsSooner here more one.0 others.0
+      pairs_joined IsSooner here more one.0 others.0
           (All-weaker (IsOf router) (λ a. All (IsSooner a) more) (λ a is. all_sooner a is others.1) here one.1),
       All-append (IsLater router) here more (All-weaker (IsOf router) (IsLater router) (λ a is. from a is) here one.1)
           (All-weaker (IsLater (router + 1)) (IsLater router) (λ b behind. behind_too b behind) more others.1),

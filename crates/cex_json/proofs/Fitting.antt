@@ -8,6 +8,7 @@ use Rattle.std.proofs.lemmas.Bool.{and_from, and_parts, leb-true}
 use Rattle.std.proofs.lemmas.List.Elements.{All-append, All-cons}
 use Rattle.std.proofs.lemmas.List.Quantifiers.{position-Some}
 use Rattle.mw_text.proofs.Lists.{below_below}
+use Rattle.net_interfaces.proofs.Options.{chained}
 use Rattle.net_parts.specs.declared.links.Link.{Link}
 use Rattle.mw_text.specs.Address.{same_prefix}
 use Rattle.mw_text.specs.Digits.{prefix_of_text}
@@ -23,7 +24,7 @@ use Rattle.cex_json.specs.Entries.{slots_in}
 use Rattle.cex_json.specs.Fields.{in_order, is_above, members_in, passing, place_of, required, text_in}
 use Rattle.cex_json.specs.Reading.{asked_place, cex_in, format_in, limits, surroundings_in, walk_for}
 use Rattle.cex_json.specs.Surroundings.{announcements_in, failures_in, ids_in, link_named, link_step, packet_in}
-use Rattle.cex_json.proofs.Inversion.{bound, field, grown, kept, led, passed, same_ok, same_some}
+use Rattle.cex_json.proofs.Inversion.{bound, field, grown, kept, passed, same_ok, same_some}
 
 last-cons : (a b : ℕ) (rest : List ℕ) →
     slice_get (a ∷ b ∷ rest) (length (a ∷ b ∷ rest) - 1) ≡ slice_get (b ∷ rest) (length (b ∷ rest) - 1)
@@ -69,8 +70,8 @@ ascends_more xs n up above = ascends_below xs n up (all_below xs n up above)
 link_within : (links : List Link) (word : List ℕ) (at : ℕ) → link_named links word ≡ Some at → at < length links
 unfolding place_of
 link_within links word at same =
-    let named = led (λ p. place_of (position (λ link. same_prefix p link.prefix) links)) (prefix_of_text word) at same
-    in
+    let named =
+    chained (λ p. place_of (position (λ link. same_prefix p link.prefix) links)) (prefix_of_text word) at same in
     let here = passed (λ k. nat_le k _) (position (λ link. same_prefix named.0 link.prefix) links) at named.2 in
     let d : Link = record { prefix = named.0; ifaces = [] } in
     (position-Some (λ link. same_prefix named.0 link.prefix) links at d here.0).0
@@ -87,7 +88,7 @@ link_kept links i so_far d next before same =
     let one = grown [] (codes "failures") so_far
     (passing (is_above so_far) (option_and_then (link_named links) (text_in (Some d)))) next same in
     let above = passed (is_above so_far) (option_and_then (link_named links) (text_in (Some d))) one.0 one.1 in
-    let named = led (link_named links) (text_in (Some d)) one.0 above.0 in
+    let named = chained (link_named links) (text_in (Some d)) one.0 above.0 in
     let P : ℕ → Type 0 = λ at. at < length links in
     let grown_links : AreLinks (length links) (so_far ++ one.0 ∷ []) = record {
       ascending = ascends_more so_far one.0 before.ascending above.1;

@@ -11,6 +11,7 @@ use Rattle.mw_text.specs.Address.{covers}
 use Rattle.mw_text.specs.Digits.{addr_of, cut_at, octet_of, value_of}
 use Rattle.ios_ast.specs.declared.file.File.{File}
 use Rattle.route_record.specs.declared.Packet.{Packet}
+use Rattle.net_interfaces.proofs.Options.{chained}
 use Rattle.question_lang.specs.declared.question.PacketSet.{PacketSet}
 use Rattle.question_lang.specs.declared.question.Question.{Question}
 use Rattle.question_lang.specs.Packets.{IsInSet, IsPacket}
@@ -24,7 +25,7 @@ use Rattle.cex_json.specs.Fields.{addr_in, number_in, object_in, required, text_
 use Rattle.cex_json.specs.Reading.{asked_place, cex_in, format_in, limits, surroundings_in, walk_for}
 use Rattle.cex_json.specs.Surroundings.{addr_under, announcements_in, failures_in, has_ports, ids_in, is_port}
 use Rattle.cex_json.specs.Surroundings.{packet_at, packet_in, port_in, proto_fits, proto_in}
-use Rattle.cex_json.proofs.Inversion.{bound, field, led, no_value, passed, same_ok, same_some}
+use Rattle.cex_json.proofs.Inversion.{bound, field, no_value, passed, same_ok, same_some}
 use Rattle.cex_json.proofs.Sizes.{number_small}
 
 chosen : (b : Bool) (v n : ℕ) → cond b (Some v) None ≡ Some n → (b ≡ true) × (v ≡ n)
@@ -43,13 +44,13 @@ addr_sum a b c d p q r s = omega arith
 -- an address that is read has 32 bits
 pub addr_small : (word : List ℕ) (a : Addr) → addr_of word ≡ Some a → a.0 < 2 ^ 32
 addr_small word a same =
-    let one = led _ (cut_at 46 word) a same in
-    let two = led _ (cut_at 46 one.0.1) a one.2 in
-    let three = led _ (cut_at 46 two.0.1) a two.2 in
-    let first = led _ (octet_of one.0.0) a three.2 in
-    let second = led _ (octet_of two.0.0) a first.2 in
-    let third = led _ (octet_of three.0.0) a second.2 in
-    let fourth = led _ (octet_of three.0.1) a third.2 in
+    let one = chained _ (cut_at 46 word) a same in
+    let two = chained _ (cut_at 46 one.0.1) a one.2 in
+    let three = chained _ (cut_at 46 two.0.1) a two.2 in
+    let first = chained _ (octet_of one.0.0) a three.2 in
+    let second = chained _ (octet_of two.0.0) a first.2 in
+    let third = chained _ (octet_of three.0.0) a second.2 in
+    let fourth = chained _ (octet_of three.0.1) a third.2 in
     let P : Addr → Type 0 = λ x. x.0 < 2 ^ 32 in
     subst P (same_some _ a fourth.2)
     (addr_sum first.0 second.0 third.0 fourth.0 (octet_small one.0.0 first.0 first.1)
@@ -62,7 +63,7 @@ under : (p : Prefix) (found : Option Data) (a : Addr) → addr_under (Some p) fo
 unfolding addr_under
 under p found a same =
     let one = passed (λ x. covers p x) (addr_in found) a same in
-    let word = led addr_of (text_in found) a one.0 in
+    let word = chained addr_of (text_in found) a one.0 in
     (one.1, addr_small word.0 a word.2)
 
 -- a port of the range

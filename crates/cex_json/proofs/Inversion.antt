@@ -1,6 +1,6 @@
 -- What a reading that came out says of its steps.
 use Rattle.std.proofs.Common.{◌≡◌, ℕ, ◌+◌, List, [], ◌∷◌, ◌++◌, Bool, true, false, cond, Option, Some, None}
-use Rattle.std.proofs.Common.{option_and_then, Result, Ok, Err, refl, sym, ap, ◌∙◌, subst}
+use Rattle.std.proofs.Common.{Result, Ok, Err, refl, sym, ap, ◌∙◌, subst}
 use Rattle.serde_json.specs.Data.{Data, Items, no_items, item}
 use Rattle.cex_json.specs.declared.refused.CexRefused.{CexRefused}
 use Rattle.cex_json.specs.Fields.{◌>>=◌, in_order, passing, required, with_one}
@@ -64,12 +64,6 @@ passed test (Some y) x same = by_test (test y) refl same where
   by_test : (b : Bool) → test y ≡ b → cond b (Some y) None ≡ Some x → (Some y ≡ Some x) × (test x ≡ true)
   by_test true is same = (same, ap test (sym (same_some y x same)) ∙ is)
   by_test false is same = absurd (no_value x same)
-
--- what an option leads to
-pub led : {A B : Type 0} (f : A → Option B) (found : Option A) (y : B) → option_and_then f found ≡ Some y →
-    (x : A) × (found ≡ Some x) × (f x ≡ Some y)
-led f None y same = absurd (no_value y same)
-led f (Some x) y same = (x, refl, same)
 
 -- one value more
 pub grown : {A : Type 0} (at name : List ℕ) (so_far : List A) (found : Option A) (next : List A) →

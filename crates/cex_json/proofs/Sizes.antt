@@ -10,6 +10,7 @@ use Rattle.mw_text.specs.Text.{same_text}
 use Rattle.ios_ast.specs.declared.file.File.{File}
 use Rattle.route_record.specs.declared.Slot.{Slot}
 use Rattle.route_record.specs.declared.TheConstants.{LENGTHS}
+use Rattle.net_interfaces.proofs.Options.{chained}
 use Rattle.question_lang.specs.declared.question.Question.{Question}
 use Rattle.question_lang.specs.Asking.{router_named}
 use Rattle.serde_json.specs.Data.{Data}
@@ -19,12 +20,12 @@ use Rattle.cex_json.specs.Entries.{bgp_in, empty_slot, entry_path, filled, ospf_
 use Rattle.cex_json.specs.Entries.{slot_at, slot_place, slot_step, slots_in}
 use Rattle.cex_json.specs.Fields.{in_order, members_in, number_in, object_in, passing, place_of, required, text_in}
 use Rattle.cex_json.specs.Reading.{asked_place, cex_in, limits, question_named, surroundings_in, walk_for}
-use Rattle.cex_json.proofs.Inversion.{bound, field, kept, led, no_value, passed, same_ok}
+use Rattle.cex_json.proofs.Inversion.{bound, field, kept, no_value, passed, same_ok}
 
 router_within : (files : List File) (d : Data) (router : ℕ) → router_in files d ≡ Some router → router < length files
 unfolding router_in
 router_within files d router known =
-    let named = led (router_named files) (text_in (get (codes "router") d)) router known in
+    let named = chained (router_named files) (text_in (get (codes "router") d)) router known in
     by_files named.0 files named.2
   where
     by_files : (name : List ℕ) (all : List File) → position (λ file. same_text file.hostname name) all ≡ Some router
@@ -121,7 +122,7 @@ asked_within : (questions : List Question) (d : Data) (place : ℕ) → asked_pl
     → place < length questions
 unfolding asked_place
 asked_within questions d place asked =
-    let named = led (question_named questions) (text_in (get (codes "question") d)) place asked in
+    let named = chained (question_named questions) (text_in (get (codes "question") d)) place asked in
     place_within questions named.0 place named.2
 
 -- the question is one of the list

@@ -15,6 +15,7 @@ use Rattle.ios_ast.specs.declared.bgp.Neighbour.{Neighbour}
 use Rattle.ios_ast.specs.declared.file.File.{File}
 use Rattle.route_record.specs.declared.Announcement.{Announcement}
 use Rattle.route_record.specs.declared.Environment.{Environment}
+use Rattle.net_interfaces.proofs.Options.{chained}
 use Rattle.net_parts.specs.declared.sessions.SessionEnd.{SessionEnd}
 use Rattle.net_parts.specs.Exports.{is_towards}
 use Rattle.net_parts.specs.Sessions.{ends_of, external_ends, is_outside, neighbour_of}
@@ -37,7 +38,7 @@ use Rattle.cex_json.specs.Surroundings.{names_end}
 use Rattle.cex_json.specs.Surroundings.{packet_in, peer_at, peer_step, sent_path}
 use Rattle.cex_json.proofs.Fitting.{ascends_more}
 use Rattle.cex_json.proofs.InSet.{addr_small}
-use Rattle.cex_json.proofs.Inversion.{bound, field, grown, kept, led, no_value, passed, same_ok, same_some}
+use Rattle.cex_json.proofs.Inversion.{bound, field, grown, kept, no_value, passed, same_ok, same_some}
 use Rattle.cex_json.proofs.Sizes.{number_small}
 
 word_small : (n : ℕ) → n ≤ greatest → n < 2 ^ 32
@@ -248,7 +249,7 @@ AreIds ids = All (λ (id : Addr). id.0 < 2 ^ 32) ids
 
 address_small : (found : Option Data) (a : Addr) → addr_in found ≡ Some a → a.0 < 2 ^ 32
 address_small found a same =
-    let word = led addr_of (text_in found) a same in
+    let word = chained addr_of (text_in found) a same in
     addr_small word.0 a word.2
 
 peer_fit : (files : List File) (format : ℕ) (wanted : Option SessionEnd) (at : List ℕ) (d : Data) (id : Addr) →

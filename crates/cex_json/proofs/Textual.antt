@@ -1,11 +1,12 @@
 -- The parts of a counterexample have texts: their numbers are small, and their texts are UTF-8.
 use Rattle.std.proofs.Common.{◌≡◌, ℕ, suc, ◌+◌, ◌/◌, ◌%◌, ◌^◌, ◌<◌, ◌≤◌, Bool, true, false, cond, List, [], ◌∷◌, ◌++◌}
 use Rattle.std.proofs.Common.{map, Option, Some, None, refl, sym, subst, arith, IsUtf8}
-use Rattle.std.specs.Prelude.{IfSome, codes, decimal, slice_get}
+use Rattle.std.specs.Prelude.{codes, decimal, slice_get}
 use Rattle.std.specs.Option.{option_map_or}
 use Rattle.std.specs.Str.Lossy.{utf8_lossy}
 use Rattle.std.proofs.lemmas.Fmt.{IsAscii-decimal}
 use Rattle.std.proofs.lemmas.Str.{IsUtf8-append, IsUtf8-from_ascii, IsUtf8-nil, utf8_lossy_empty}
+use Rattle.net_interfaces.proofs.Options.{if_is}
 use Rattle.json.proofs.Printed.Utf8.{IsUtf8-are_ascii}
 use Rattle.mw_text.proofs.Lists.{all_found}
 use Rattle.mw_text.specs.declared.address.Addr.{Addr}
@@ -182,20 +183,17 @@ bgp_fits files router held n fits =
 
 -- ---- slots
 
-if_there : {A : Type 0} (P : A → Type 0) (found : Option A) (x : A) → IfSome found P → found ≡ Some x → P x
-if_there P found x fits is = subst (λ o. IfSome o P) is fits
-
 slot_fits : (files : List File) (place : ℕ) (slot : Slot) (n : ℕ) → IsWritableNet files →
     IsWritableSlot files (place / LENGTHS) slot → Fits (parts_data files place slot) (suc (suc (suc n)))
 unfolding parts_data
 slot_fits files place slot n net fits =
     let len : place % LENGTHS < 2 ^ 64 = omega arith in
     let bgp = option_fits bgp_data (suc (suc n)) slot.bgp (λ held is. bgp_fits files (place / LENGTHS) held n
-    (if_there (IsWritable files (place / LENGTHS)) slot.bgp held fits.bgp is)) in
+    (if_is (IsWritable files (place / LENGTHS)) slot.bgp held fits.bgp is)) in
     let ospf = option_fits ospf_data (suc (suc n)) slot.ospf (λ held is. ospf_fits held (suc n)
-    (if_there (λ h. (h.cost ≤ greatest) × (h.metric ≤ greatest)) slot.ospf held fits.ospf is)) in
+    (if_is (λ h. (h.cost ≤ greatest) × (h.metric ≤ greatest)) slot.ospf held fits.ospf is)) in
     let rib = option_fits rib_data (suc (suc n)) slot.rib (λ entry is. rib_fits entry (suc n)
-    (if_there (λ e. e.distance ≤ 255) slot.rib entry fits.rib is)) in
+    (if_is (λ e. e.distance ≤ 255) slot.rib entry fits.rib is)) in
     fields_fit (parts_fields files place slot) (suc (suc n)) refl
     (bgp, (len, (ospf, (rib, (router_utf8 files (place / LENGTHS) net, tt)))))
 

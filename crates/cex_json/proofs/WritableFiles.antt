@@ -29,15 +29,13 @@ use Rattle.net_parts.specs.Sessions.{end_of, ends_of, sessions}
 use Rattle.net_refusals.proofs.Few.{few_files, no_line}
 use Rattle.net_parts.proofs.FewLinks.{few_links}
 use Rattle.net_parts.proofs.Peers.{few_sessions}
+use Rattle.net_model.proofs.Unbroken.{left_none}
+use Rattle.net_model.proofs.OneSubnet.{in_front}
 use Rattle.cex_json.specs.Writable.{AreApart, AreTexts, AreWritableFiles, HasIfaceNames, IsHostName, IsWritableNet}
 use Rattle.cex_json.proofs.EndsApart.{ends_apart, neighbours_fit}
 use Rattle.cex_json.proofs.Subnets.{links_fit}
 
 -- ---- no two files of a network have one host name
-
-left_none : {A : Type 0} (a b : Option A) → option_or a b ≡ None → a ≡ None
-left_none None b none = refl
-left_none (Some x) b none = none
 
 first_none : (at : ℕ) (line : Option ℕ) (later : Option NetRefused) →
     option_map_or (λ n. Some (refused_at SameName at n)) line later ≡ None → (line ≡ None) × (later ≡ None)
@@ -72,13 +70,6 @@ unnamed files unrefused =
     let clashes = left_none (option_or (same_name files) (same_address files)) (subnet_clash files) addresses in
     left_none (same_name files) (same_address files) clashes
 
-taken : {A : Type 0} (xs : List A) (i j : ℕ) (x : A) → i < j → slice_get xs i ≡ Some x →
-    slice_get (take j xs) i ≡ Some x
-taken [] i j x less there = absurd cc
-taken (y ∷ rest) i zero x less there = absurd (omega arith)
-taken (y ∷ rest) zero (suc j) x less there = there
-taken (y ∷ rest) (suc i) (suc j) x less there = taken rest i j x (omega arith) there
-
 -- an earlier file has another host name
 other_name : (files : List File) (i j : ℕ) (x y : File) → first_refusal files ≡ None → i < j →
     slice_get files i ≡ Some x → slice_get files j ≡ Some y → x.hostname ≡ y.hostname → ⊥
@@ -88,7 +79,7 @@ other_name files i j x y unrefused less one other same =
     ∙ none_at files 0 j files y (unnamed files unrefused) other in
     let none = no_line (list_any (λ f. same_text f.hostname y.hostname) (take j files)) y.hostname_line line in
     let differs = none_passes (λ (f : File). same_text f.hostname y.hostname) (take j files) i x none
-    (taken files i j x less one) in
+    (in_front files i j x less one) in
     false≢true (sym differs ∙ (bytes_decides x.hostname y.hostname).1 same)
 
 names_apart : (files : List File) → first_refusal files ≡ None → AreApart (λ file. file.hostname) files

@@ -65,7 +65,7 @@ are_positions first past (b ∷ bs) long =
         ArePositions first past (if c then first ∷ positions (suc first) bs else positions (suc first) bs)
     by c is = is
 
-length-none : (count : ℕ) → length (none_of count) ≡ count
+pub length-none : (count : ℕ) → length (none_of count) ≡ count
 length-none zero = refl
 length-none (suc count) = ap suc (length-none count)
 

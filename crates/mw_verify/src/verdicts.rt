@@ -1,11 +1,10 @@
 //! Verdicts for the questions of a network, one after another.
 
 ghost use Rattle.std.specs.Prelude.{◌≡◌, ◌≢◌, ◌⊎◌, true, IfOk, OnErr};
-ghost use Rattle.world_variables.specs.Slots.{runs_no_bgp};
 ghost use Rattle.mw_outside.specs.Faults.{Rose};
 ghost use Rattle.run_answers.specs.Answering.{IsCutShort, IsPut, OnWriteFault, UnlessWriteFault};
 ghost use Rattle.run_answers.specs.Running.{AnswersSo};
-ghost use Rattle.run_inputs.specs.Loading.{IsBudget, IsReady, outcome_of};
+ghost use Rattle.run_inputs.specs.Loading.{IsBudget, IsReady, are_external, outcome_of};
 
 use mw_outside::Sink;
 use question_lang::Question;
@@ -25,7 +24,7 @@ fn put_verdict<O: Sink, L: Sink>(
     out: &mut O,
     log: &mut L,
 ) -> Result<Verdict, Halt>
-    requires no_bgp { runs_no_bgp loaded.now.net.files ≡ true }
+    requires external { are_external loaded.now.net.files ≡ true }
     requires budget { IsBudget loaded.now.budget }
     ensures ok { IfOk result (λ verdict. IsPut loaded.now.net.files loaded.now.questions loaded.now.budget number question.now verdict
         (O.taken out.old) (O.taken out.new) (L.taken log.old) (L.taken log.new)) }

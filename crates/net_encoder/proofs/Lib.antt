@@ -1,6 +1,1 @@
-pub mod FrameSteps
-pub mod SlotSteps
-pub mod RoutingSteps
-pub mod WorldSteps
 pub mod TrueWorlds
-pub mod BareNeeds

@@ -1,13 +1,1 @@
-pub mod Frames
-pub mod Opened
-pub mod Encoded
-pub use Rattle.failed_links.specs.Rows
-pub use Rattle.failed_links.specs.Failures
-pub use Rattle.world_variables.specs.Packets
-pub use Rattle.world_variables.specs.Unknowns
-pub use Rattle.world_variables.specs.Slots
-pub use Rattle.world_variables.specs.Worlds
-pub use Rattle.world_variables.specs.Symbols
-pub use Rattle.ospf_equations.specs.Adjacent
-pub use Rattle.ospf_equations.specs.Equations
-pub use Rattle.ospf_equations.specs.Levels
+pub use Rattle.routing_encoder.specs.Encoded

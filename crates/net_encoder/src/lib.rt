@@ -1,14 +1,8 @@
-//! Questions about a network as formulas over Boolean variables.
+//! A question about a network as a formula: its solutions are the routings that break the question, and from one of them a
+//! counterexample is made.
 #![tactic(auto)]
 
 mod decoding;
-mod encoding;
-mod frame;
-mod routing;
-mod slots;
-mod unknowns;
 
 pub use decoding::decode;
-pub use encoding::{Encoding, encode};
-pub use ospf_equations::is_meshed;
-pub use world_variables::laws;
+pub use routing_encoder::{Encoding, encode};

@@ -70,7 +70,7 @@ one_prefix p q same =
 -- ---- the rule on subnets, at one interface
 
 -- an item of a list is in its front
-in_front : {A : Type 0} (xs : List A) (i j : ℕ) (x : A) → i < j → slice_get xs i ≡ Some x →
+pub in_front : {A : Type 0} (xs : List A) (i j : ℕ) (x : A) → i < j → slice_get xs i ≡ Some x →
     slice_get (take j xs) i ≡ Some x
 in_front [] i j x less there = absurd cc
 in_front (y ∷ rest) i zero x less there = absurd (omega arith)
@@ -133,7 +133,7 @@ with_above files unrefused r i j file f g a b found there there_other own own_ot
 
 -- ---- two interfaces of one router
 
-negated : (b : Bool) → not b ≡ true → b ≡ true → ⊥
+pub negated : (b : Bool) → not b ≡ true → b ≡ true → ⊥
 negated true denied holds = cc
 negated false denied holds = cc
 

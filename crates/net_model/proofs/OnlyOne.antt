@@ -99,9 +99,6 @@ one_interface files net a x y has has_other same one other =
 
 -- ---- advertised prefixes
 
-whole : (n : ℕ) → n / 1 * 1 ≡ n
-whole n = omega arith
-
 -- a prefix covers the address of which it is a prefix
 covers_own : (d : Addr) (len : ℕ) → covers (prefix_at d len) d ≡ true
 covers_own d len = eq-eqb _ _ (sym (mul-div_cancel (d.0 / block len) (pow_pos (32 - len))))

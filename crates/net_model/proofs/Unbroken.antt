@@ -11,9 +11,10 @@ use Rattle.net_refusals.specs.Refusals.{first_refusal, least, net_limit, next_ho
 use Rattle.net_refusals.specs.Refusals.{refused_by_uses, same_address, same_name, second_area_number, subnet_clash}
 use Rattle.net_refusals.specs.Refusals.{undefined}
 use Rattle.net_refusals.proofs.Few.{none_at, or_none}
+use Rattle.net_refusals.proofs.TrackedFew.{both_none}
 
 -- where nothing is found, nothing was found before
-left_none : {A : Type 0} (a b : Option A) → option_or a b ≡ None → a ≡ None
+pub left_none : {A : Type 0} (a b : Option A) → option_or a b ≡ None → a ≡ None
 left_none None b none = refl
 left_none (Some x) b none = cc
 
@@ -49,12 +50,6 @@ unbroken_at cause files k file none found =
     ap (λ n. broken_line cause files (take n files) file) place ∙ none_at cause files 0 k files file none found
 
 -- ---- the earliest of some lines
-
-both_none : (a b : Option ℕ) → earlier a b ≡ None → (a ≡ None) × (b ≡ None)
-both_none None None none = (refl, refl)
-both_none None (Some y) none = cc
-both_none (Some x) None none = cc
-both_none (Some x) (Some y) none = cc
 
 none_each : {A : Type 0} (line : A → Option ℕ) (first : Option ℕ) (xs : List A) →
     fold (λ a x. earlier a (line x)) first xs ≡ None →

@@ -176,7 +176,7 @@ all_same router xs same i j d below within =
     let two = same j d within in
     omega (arith, one, two)
 
-of_router : (all : List Addressed) (router : ℕ) (file : File) →
+pub of_router : (all : List Addressed) (router : ℕ) (file : File) →
     All (λ a. a.router ≡ router) (peerings_of all router file)
 of_router all router file = by_process file.bgp where
   by_process : (o : Option Bgp) → All (λ a. a.router ≡ router)

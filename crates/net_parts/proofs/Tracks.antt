@@ -3,7 +3,7 @@ use Rattle.std.proofs.Common.{◌≡◌, ℕ, zero, suc, ◌+◌, ◌≤◌, Boo
 use Rattle.std.proofs.Common.{Some, refl, ap, ◌∙◌, sym, arith, map}
 use Rattle.std.specs.Prelude.{◌==◌, count_by, insert, nat_lt, slice_get}
 use Rattle.std.specs.List.{flat_map, list_any}
-use Rattle.std.proofs.lemmas.Bool.{and_from, and_parts, or_left, or_right}
+use Rattle.std.proofs.lemmas.Bool.{and_from, and_parts, eqb-true, or_left, or_right}
 use Rattle.std.proofs.lemmas.Bool.Decides.{nat_tests}
 use Rattle.mw_text.specs.declared.address.Addr.{Addr}
 use Rattle.ios_ast.specs.declared.file.File.{File}
@@ -36,7 +36,7 @@ any_old p (x ∷ xs) (suc at) n h = by (p x) (any_old p xs at n) h
     by true rest h = refl
     by false rest h = rest h
 
-itself : (n : ℕ) → (n == n) ≡ true
+pub itself : (n : ℕ) → (n == n) ≡ true
 itself n = grind (arith, nat_tests)
 
 put_new : (xs : List ℕ) (n : ℕ) → carries (put_number xs n) n ≡ true
@@ -79,9 +79,6 @@ has_through xs ys through (n ∷ values) all =
     let both = and_parts (carries xs n) (has_all xs values) all in
     and_from (carries ys n) (has_all ys values) (through n both.0) (has_through xs ys through values both.1)
 
-equal : (a b : ℕ) → (a == b) ≡ true → a ≡ b
-equal a b is = grind (arith, nat_tests)
-
 -- what has all values of another list has each of them
 pub stands_also : (xs ys : List ℕ) (n : ℕ) → has_all xs ys ≡ true → carries ys n ≡ true → carries xs n ≡ true
 stands_also xs [] n all there = absurd cc
@@ -91,7 +88,7 @@ stands_also xs (y ∷ ys) n all there =
   where
     by_first : carries xs y ≡ true → (carries ys n ≡ true → carries xs n ≡ true) → (b : Bool) → (y == n) ≡ b
         → (b || carries ys n) ≡ true → carries xs n ≡ true
-    by_first here rest true same there = ap (carries xs) (sym (equal y n same)) ∙ here
+    by_first here rest true same there = ap (carries xs) (sym (eqb-true y n same)) ∙ here
     by_first here rest false other there = rest there
 
 -- a list has what another has, of which it has all

@@ -24,7 +24,7 @@ use Rattle.net_refusals.proofs.Few.{no_line, none_at, or_none}
 
 -- ---- no line is named, so none of the parts names one
 
-both_none : (a b : Option ℕ) → earlier a b ≡ None → (a ≡ None) × (b ≡ None)
+pub both_none : (a b : Option ℕ) → earlier a b ≡ None → (a ≡ None) × (b ≡ None)
 both_none None b none = (refl, none)
 both_none (Some x) None none = cc
 both_none (Some x) (Some y) none = cc

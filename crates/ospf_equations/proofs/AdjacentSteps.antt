@@ -11,12 +11,11 @@ use Rattle.mw_text.specs.declared.address.Prefix.{Prefix}
 use Rattle.route_record.specs.declared.OspfRec.{OspfRec}
 use Rattle.route_record.specs.declared.Tables.{Tables}
 use Rattle.net_parts.specs.OspfRoutes.{offer_over}
-use Rattle.sym_rib.proofs.OneEach.{filter_map_push, list_end_push}
+use Rattle.sym_rib.proofs.OneEach.{filter_map_push, items_at, list_end_push}
 use Rattle.term_store.specs.Terms.{Reading, at}
 use Rattle.ospf_equations.specs.Adjacent.{offer_read, offers_read, ups_end}
 use Rattle.ospf_equations.specs.Levels.{has_within, is_within}
 use Rattle.ospf_equations.specs.declared.adjacent.SymAdjacency.{SymAdjacency}
-use Rattle.ospf_equations.proofs.EquationSteps.{items_at}
 
 pub ups_end_push : (over : List SymAdjacency) (s : SymAdjacency) →
     ups_end (over ++ s ∷ []) ≡ max (ups_end over) (s.up.0 + 1)

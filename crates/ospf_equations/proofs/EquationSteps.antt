@@ -1,11 +1,11 @@
 -- Routes of a router, one interface and one adjacency after another.
-use Rattle.std.proofs.Common.{◌≡◌, ℕ, ◌+◌, ◌*◌, ◌<◌, ◌≤◌, Bool, true, false, ◌||◌, not, List, [], ◌∷◌, ◌++◌, length}
-use Rattle.std.proofs.Common.{drop, filter, map, max, get_or, Option, Some, None, refl, sym, ap, ap₂, arith, ◌∙◌}
+use Rattle.std.proofs.Common.{◌≡◌, ℕ, ◌+◌, ◌*◌, ◌≤◌, Bool, true, false, ◌||◌, not, List, [], ◌∷◌, ◌++◌}
+use Rattle.std.proofs.Common.{filter, map, max, Option, Some, None, refl, sym, ap, ap₂, arith, ◌∙◌}
 use Rattle.std.specs.Prelude.{◌==◌, ◌&&◌, if◌then◌else◌, cond}
 use Rattle.std.specs.List.{filter_map, cons_option}
 use Rattle.std.specs.Option.{option_to_list}
 use Rattle.std.proofs.lemmas.Grind.{common_steps}
-use Rattle.std.proofs.lemmas.List.{drop_more, drop_all, append_assoc, append-nil}
+use Rattle.std.proofs.lemmas.List.{drop_all, append_assoc, append-nil}
 use Rattle.mw_text.specs.declared.address.Prefix.{Prefix}
 use Rattle.mw_text.specs.Address.{same_prefix}
 use Rattle.ios_ast.specs.declared.file.File.{File}
@@ -21,7 +21,7 @@ use Rattle.term_store.specs.Terms.{Reading}
 use Rattle.sym_policy.specs.declared.records.SymOspf.{SymOspf}
 use Rattle.sym_policy.specs.Held.{internal_route, ospf_of, ospf_end}
 use Rattle.sym_rib.specs.Into.{list_end}
-use Rattle.sym_rib.proofs.OneEach.{filter_map_push, list_end_push}
+use Rattle.sym_rib.proofs.OneEach.{filter_map_push, items_at, list_end_push}
 use Rattle.ospf_equations.specs.Equations.{offered_by, offers_by, origin_by, originates, origins_by}
 
 -- ---- one route more
@@ -33,10 +33,6 @@ routes_push w xs x = filter_map_push (ospf_of w) xs x
 pub routes_end_push : (xs : List SymOspf) (x : SymOspf) →
     list_end ospf_end (xs ++ x ∷ []) ≡ max (list_end ospf_end xs) (ospf_end x)
 routes_end_push xs x = list_end_push ospf_end xs x
-
-pub items_at : {A : Type 0} (xs : List A) (i : ℕ) (d : A) → i < length xs →
-    (get_or xs i d ≡ get_or xs i d) × (drop i xs ≡ get_or xs i d ∷ drop (i + 1) xs)
-items_at xs i d within = (refl, drop_more xs i d within)
 
 -- ---- origins
 

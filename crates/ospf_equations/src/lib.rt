@@ -10,6 +10,6 @@ mod limits;
 mod offers;
 mod origins;
 
-pub use dynamic::with_dynamic;
+pub use dynamic::{sym_dynamic, with_dynamic};
 pub use holding::sym_slot_holds;
 pub use limits::{is_meshed, limits_of};

@@ -1,10 +1,9 @@
 -- The end over which a route was learnt, by its place.
 use Rattle.std.proofs.Common.{◌≡◌, ℕ, ◌+◌, ◌^◌, ◌<◌, ◌≤◌, true, false, List, Option, Some, None, length}
-use Rattle.std.proofs.Common.{refl, ap, ◌∙◌, arith, if◌then◌else◌, drop, get_or}
+use Rattle.std.proofs.Common.{refl, ap, ◌∙◌, if◌then◌else◌, drop, get_or}
 use Rattle.std.specs.Prelude.{◌==◌, ◌&&◌}
 use Rattle.std.specs.List.{enumerate_from, find}
 use Rattle.std.specs.Option.{option_map_or}
-use Rattle.std.proofs.lemmas.Bool.Decides.{nat_tests}
 use Rattle.std.proofs.lemmas.List.{drop_all}
 use Rattle.mw_text.specs.declared.address.Addr.{Addr}
 use Rattle.mw_text.proofs.Lists.{drop-read}
@@ -14,9 +13,7 @@ use Rattle.net_parts.specs.declared.sessions.SessionEnd.{SessionEnd}
 use Rattle.net_parts.specs.Exports.{is_towards}
 use Rattle.net_parts.specs.Sessions.{ends_of, neighbour_of}
 use Rattle.bgp_shapes.specs.Crossings.{is_from}
-
-same_sum : (a b : ℕ) → (2 ^ 32 + a == 2 ^ 32 + b) ≡ (a == b)
-same_sum a b = grind (arith, nat_tests)
+use Rattle.bgp_shapes.proofs.CrossingLaw.{same_numbers}
 
 -- a number above 2^32 stands for the neighbour's address
 same_test : (files : List File) (router : ℕ) (a : Addr) (end : SessionEnd) →
@@ -26,7 +23,7 @@ same_test files router a end = by (neighbour_of files end) where
       ((end.router == router) && option_map_or (λ neighbour. 2 ^ 32 + neighbour.addr.0 == 2 ^ 32 + a.0) o false)
       ≡ ((end.router == router) && option_map_or (λ neighbour. neighbour.addr.0 == a.0) o false)
   by None = refl
-  by (Some neighbour) = ap (λ b. (end.router == router) && b) (same_sum neighbour.addr.0 a.0)
+  by (Some neighbour) = ap (λ b. (end.router == router) && b) (same_numbers neighbour.addr.0 a.0)
 
 -- the end from a place on
 abbrev pub numbered_from : List File → ℕ → Addr → ℕ → Option (ℕ × SessionEnd)

@@ -15,7 +15,6 @@ use Rattle.ios_ast.specs.declared.bgp.Bgp.{Bgp}
 use Rattle.ios_ast.specs.declared.bgp.Neighbour.{Neighbour}
 use Rattle.ios_ast.specs.declared.file.File.{File}
 use Rattle.ios_ast.specs.Limits.{keeps_limits}
-use Rattle.route_record.specs.declared.Announcement.{Announcement}
 use Rattle.route_record.specs.declared.BgpRec.{BgpRec}
 use Rattle.route_record.specs.declared.Environment.{Environment}
 use Rattle.route_record.specs.declared.Failures.{Failures}
@@ -23,7 +22,7 @@ use Rattle.route_record.specs.declared.Slot.{Slot}
 use Rattle.route_record.specs.declared.TheConstants.{LENGTHS}
 use Rattle.route_record.specs.declared.tracked.Tracked.{Tracked}
 use Rattle.route_record.specs.Places.{slot_at}
-use Rattle.route_record.proofs.Saturated.{saturated-none}
+use Rattle.net_interfaces.proofs.Members.{in-find}
 use Rattle.net_parts.specs.declared.sessions.Far.{Far}
 use Rattle.net_parts.specs.declared.sessions.Far.TheVariants.{Outside, Inside}
 use Rattle.net_parts.specs.declared.sessions.SessionEnd.{SessionEnd}
@@ -35,7 +34,7 @@ use Rattle.net_parts.proofs.EndPlaces.{ends_placed}
 use Rattle.net_parts.proofs.LeastWalks.{contains-in, in-contains}
 use Rattle.proto_rib.specs.Taken.{local_routes_at}
 use Rattle.route_shapes.specs.Bgp.{BgpShape, bgp_shape, learnt_number}
-use Rattle.bgp_shapes.specs.Candidates.{ShapeAnnouncement, ShapeSlot, announcement_shape, environment_shape}
+use Rattle.bgp_shapes.specs.Candidates.{ShapeAnnouncement, ShapeSlot, environment_shape}
 use Rattle.bgp_shapes.specs.Candidates.{shape_announced, shape_arriving}
 use Rattle.bgp_shapes.specs.Exporting.{shape_exported}
 use Rattle.bgp_shapes.specs.Held.{HasMarks, same_shape}
@@ -46,6 +45,7 @@ use Rattle.bgp_shapes.proofs.ExportLaw.{exported_shape}
 use Rattle.bgp_shapes.proofs.HeldLaw.{same_itself}
 use Rattle.bgp_shapes.proofs.ImportLaw.{imported_shape}
 use Rattle.bgp_shapes.proofs.TrackedLaw.{tests_tracked}
+use Rattle.bgp_shapes.proofs.CandidateLaw.{announced_shape}
 use Rattle.announced_shapes.specs.Announcements.{IsAnnouncementShape, rebuilt_announcement}
 use Rattle.announced_shapes.specs.Environments.{IsShapeEnvironment, rebuilt_environment}
 use Rattle.announced_shapes.proofs.AnnouncementLaw.{announcement_again, rebuilt_is}
@@ -55,7 +55,6 @@ use Rattle.rebuilt_routes.specs.Following.{held_at, numbered_end, own_routes, sh
 use Rattle.rebuilt_routes.proofs.EndsApart.{end_again}
 use Rattle.rebuilt_routes.proofs.Followed.{taken_shape}
 use Rattle.rebuilt_routes.proofs.Plain.{IsPlain}
-use Rattle.rebuilt_routes.proofs.RealSources.{find_in}
 use Rattle.rebuilt_routes.proofs.ShapesFollow.{one_shape, own_plain}
 use Rattle.rebuilt_routes.proofs.Supported.{has_marks}
 use Rattle.path_rebuild.specs.Follows.{AllFollow, IsLearntShape, IsLocalShape, IsOfFarSide, Known, shape_at}
@@ -89,12 +88,6 @@ unread : (files : List File) (router : ℕ) (file : File) (process : Bgp) (p : P
     ≡ local_routes files router file process p slot
 unfolding local_routes
 unread files router file process p o slot = refl
-
--- the message of an announcement has the shape that the announcement's gives
-announced_shape : (tracked : Tracked) (peer : Addr) (a : Announcement) →
-    message_shape tracked (announced_message peer a) ≡ shape_announced tracked peer (announcement_shape tracked a)
-announced_shape tracked peer a =
-    ap (λ n. record (shape_announced tracked peer (announcement_shape tracked a)) { cluster_len = n }) saturated-none
 
 module _ (tracked : Tracked) (files : List File) (failures : Failures) (known : Known) (destination : Addr)
     (net : TracksNet files tracked) (limits : list_all keeps_limits files ≡ true)
@@ -209,7 +202,7 @@ module _ (tracked : Tracked) (files : List File) (failures : Failures) (known : 
   peer_follows at end neighbour s line outside sent =
       let shape = sent.announced in
       let is = All-contains (IsAnnouncementShape files tracked) known.announced.announced shape announced.announced
-      (in-contains shape known.announced.announced (find_in _ known.announced.announced shape sent.there)) in
+      (in-contains shape known.announced.announced (in-find _ known.announced.announced shape sent.there)) in
       let made = rebuilt_announcement tracked shape in
       let again = announcement_again files tracked shape net.numbers_ascend net.communities_ascend is in
       let may = rebuilt_is files tracked shape net.numbers_ascend net.communities_ascend is in

@@ -20,6 +20,8 @@ use Rattle.route_record.specs.declared.TheConstants.{LENGTHS}
 use Rattle.route_record.specs.declared.tracked.Tracked.{Tracked}
 use Rattle.route_record.specs.Fits.{IsAddress}
 use Rattle.route_record.specs.Places.{slot_at}
+use Rattle.net_interfaces.proofs.Members.{in-find}
+use Rattle.net_interfaces.proofs.Options.{chained}
 use Rattle.net_parts.specs.declared.sessions.SessionEnd.{SessionEnd}
 use Rattle.net_parts.specs.Decisions.{arriving}
 use Rattle.net_parts.specs.Exports.{imported}
@@ -39,9 +41,9 @@ use Rattle.rebuilt_routes.specs.Following.{real_routes}
 use Rattle.rebuilt_routes.specs.Following.{slot_with}
 use Rattle.rebuilt_routes.proofs.Followed.{are_real}
 use Rattle.rebuilt_routes.proofs.Numbered.{from_end, numbered_place}
-use Rattle.rebuilt_routes.proofs.Options.{chained, find_passes}
-use Rattle.rebuilt_routes.proofs.RealSources.{find_in}
+use Rattle.rebuilt_routes.proofs.Options.{find_passes}
 use Rattle.rebuilt_routes.proofs.Sources.{arriving_in, routes_in}
+use Rattle.rebuilt_routes.proofs.RoutesDecided.{no_value}
 use Rattle.path_rebuild.specs.declared.Rebuilt.{Rebuilt}
 use Rattle.path_rebuild.specs.Follows.{AllFollow, AreAnnounced, IsImported, IsRebuilt, IsRebuiltSlot, Known, known_of}
 use Rattle.path_rebuild.specs.declared.ShapeRec.{ShapeRec}
@@ -51,10 +53,6 @@ use Rattle.path_rebuild.specs.Tables.{known_at, rebuilt_tables, slots_of}
 use Rattle.path_rebuild.proofs.Followed.{all_follow, held_is, own_is}
 use Rattle.path_rebuild.proofs.Places.{in_order}
 use Rattle.path_rebuild.proofs.RealRoutes.{have_real, size_again, slot_within}
-
-no_value : {A B : Type 0} (f : A → B) (o : Option A) → option_map f o ≡ None → o ≡ None
-no_value f None is = refl
-no_value f (Some x) is = absurd cc
 
 -- a learnt number that stands for an address is that of a peer at this address
 peer_of : (from : Learnt) (a : Addr) → learnt_number from ≡ 2 ^ 32 + a.0 → from ≡ Peer a
@@ -155,7 +153,7 @@ module _ (tracked : Tracked) (files : List File) (failures : Failures) (known : 
       there in
       inl (subst (λ (rs : List BgpRec). Contains rs r) own
       (in-contains r (own_routes files (slots len) (p len) router)
-      (find_in (λ q. same_shape (bgp_shape tracked q) s) (own_routes files (slots len) (p len) router) r found)))
+      (in-find (λ q. same_shape (bgp_shape tracked q) s) (own_routes files (slots len) (p len) router) r found)))
   source_by len below router rest there s r shape false learnt is =
       let found = sym (ap (λ b. if b
       then find (λ q. same_shape (bgp_shape tracked q) s) (own_routes files (slots len) (p len) router)

@@ -3,9 +3,9 @@ use Rattle.std.proofs.Common.{◌≡◌, ℕ, ◌+◌, ◌≤◌, Bool, true, fa
 use Rattle.std.proofs.Common.{inl, inr, refl, sym, arith, option_map, if◌then◌else◌}
 use Rattle.std.specs.Prelude.{All, AllPairs}
 use Rattle.std.specs.List.{enumerate_from, filter_map}
-use Rattle.std.proofs.lemmas.List.Elements.{All-append, All-cons, All-head, All-nil, All-tail, All-weaker}
+use Rattle.std.proofs.lemmas.List.Elements.{All-append, All-cons, All-nil, All-weaker}
 use Rattle.std.proofs.lemmas.List.Kept.{AllPairs-cons}
-use Rattle.net_interfaces.proofs.Pairs.{first, later}
+use Rattle.net_interfaces.proofs.Pairs.{pairs_joined}
 use Rattle.route_record.specs.declared.TheConstants.{LENGTHS}
 use Rattle.route_record.specs.declared.tracked.Tracked.{Tracked}
 use Rattle.net_parts.specs.declared.sessions.SessionEnd.{SessionEnd}
@@ -15,15 +15,6 @@ use Rattle.announced_shapes.specs.Environments.{IsEarlierShape}
 use Rattle.path_rebuild.specs.declared.ShapeRec.{ShapeRec}
 use Rattle.path_rebuild.specs.Environments.{of_end, of_ends}
 use Rattle.path_rebuild.specs.Shapes.{announcement_of}
-
--- two lists, of which each item of the one stands before each of the other
-pairs_joined : {X : Type 0} (P : X → X → Type 0) (xs ys : List X) → AllPairs P xs → AllPairs P ys →
-    All (λ x. All (P x) ys) xs → AllPairs P (xs ++ ys)
-pairs_joined P [] ys one two each = two
-pairs_joined P (x ∷ xs) ys one two each =
-    AllPairs-cons P x (xs ++ ys)
-    (All-append (P x) xs ys (first P x xs one) (All-head (λ z. All (P z) ys) x xs each))
-    (pairs_joined P xs ys (later P x xs one) two (All-tail (λ z. All (P z) ys) x xs each))
 
 -- the shapes of one end, from a length on
 abbrev from_len : Tracked → ℕ → ℕ → List (Option ShapeRec) → List ShapeAnnouncement

@@ -19,6 +19,7 @@ use Rattle.route_record.specs.Places.{slot_at}
 use Rattle.net_parts.specs.Tracked.{TracksNet}
 use Rattle.rebuilt_routes.specs.Deciding.{HaveRealRoutes}
 use Rattle.rebuilt_routes.specs.Following.{real_routes, slot_with}
+use Rattle.proto_rib.proofs.Places.{mul-add-div-len, mul-add-mod-len}
 use Rattle.path_rebuild.specs.declared.ShapeRec.{ShapeRec}
 use Rattle.path_rebuild.specs.Shapes.{AreFew, route_of}
 use Rattle.path_rebuild.specs.Tables.{known_at, rebuilt_slot, rebuilt_tables, routes_of, slots_of}
@@ -31,12 +32,6 @@ few_of files tracked tracks = record {
 }
 
 -- ---- places
-
-pub len_of : (router len : ℕ) → len < LENGTHS → (LENGTHS * router + len) % LENGTHS ≡ len
-len_of router len below = omega (arith, below)
-
-pub router_of : (router len : ℕ) → len < LENGTHS → (LENGTHS * router + len) / LENGTHS ≡ router
-router_of router len below = omega (arith, below)
 
 -- what is made of items with their places stands at these places
 pub made_there : {A B : Type 0} (f : ℕ × A → B) (n : ℕ) (xs : List A) (k : ℕ) →
@@ -82,8 +77,8 @@ have_real tracked files environment held rest destination len below router =
     by None = refl
     by (Some slot) =
         let place : 0 + (LENGTHS * router + len) ≡ LENGTHS * router + len = omega arith in
-        let one = ap (λ k. k % LENGTHS) place ∙ len_of router len below in
-        let other = ap (λ k. k / LENGTHS) place ∙ router_of router len below in
+        let one = ap (λ k. k % LENGTHS) place ∙ mul-add-mod-len router len below in
+        let other = ap (λ k. k / LENGTHS) place ∙ mul-add-div-len router len below in
         λ i. Some (record {
           ospf = slot.ospf;
           bgp = routes_of tracked files environment held rest destination (one i) (other i);

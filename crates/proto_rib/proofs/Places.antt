@@ -41,10 +41,10 @@ slot_by_parts a b ospf bgp rib =
     ap with_ospf ospf ∙ ap with_bgp bgp ∙ ap with_rib rib
 
 -- a place is a router and a length
-mul-add-div-len : (router len : ℕ) → len < LENGTHS → (LENGTHS * router + len) / LENGTHS ≡ router
+pub mul-add-div-len : (router len : ℕ) → len < LENGTHS → (LENGTHS * router + len) / LENGTHS ≡ router
 mul-add-div-len router len in_range = omega arith
 
-mul-add-mod-len : (router len : ℕ) → len < LENGTHS → (LENGTHS * router + len) % LENGTHS ≡ len
+pub mul-add-mod-len : (router len : ℕ) → len < LENGTHS → (LENGTHS * router + len) % LENGTHS ≡ len
 mul-add-mod-len router len in_range = omega arith
 
 -- the slot at a place, by its router and its length

@@ -20,13 +20,15 @@ use Rattle.cdcl_search.specs.Outcomes.{IsCut, IsLogged as IsLoggedBySearch, IsSe
 use Rattle.ios_ast.specs.declared.file.File.{File}
 use Rattle.route_record.specs.declared.Environment.{Environment}
 use Rattle.route_record.specs.declared.World.{World}
+use Rattle.route_record.specs.declared.tracked.Tracked.{Tracked}
 use Rattle.question_lang.specs.Breaking.{Breaks}
 use Rattle.question_lang.specs.declared.question.Question.{Question}
 use Rattle.question_lang.specs.declared.walk.Walk.{Walk}
 use Rattle.cex_json.specs.declared.counterexample.Counterexample.{Counterexample}
 use Rattle.cex_json.specs.Counterexamples.{world_of}
 use Rattle.question_lang.specs.Breaking.{IsBreakable, IsBreaking}
-use Rattle.world_variables.specs.Worlds.{no_environment, world_bits, world_from}
+use Rattle.routing_encoder.specs.Encoded.{routing_bits}
+use Rattle.routing_worlds.specs.Worlds.{environment_from, world_from}
 use Rattle.run_answers.specs.declared.verdict.Verdict.{Verdict}
 use Rattle.question_search.specs.declared.formula.Formula.{Formula}
 use Rattle.run_answers.specs.Answering.{IsLogged, IsSearchedSo, IsUnfinished, answer_of, end_text}
@@ -38,36 +40,40 @@ use Rattle.question_lang.specs.Breaking.{IsUnbroken}
 use Rattle.run_answers.specs.Verdicts.{section_text}
 
 -- the root can be true exactly where something breaks the question
-pub encodes : (files : List File) (question : Question) (formula : Formula) → IsFormula files question formula →
+pub encodes : (files : List File) (tracked : Tracked) (question : Question) (formula : Formula) → IsFormula files tracked question formula →
     CanBeTrue formula.encoding.terms.nodes (formula.encoding.root ∷ []) ↔ IsBreakable files question
-encodes files question formula is = (
+encodes files tracked question formula is = (
   λ (can : CanBeTrue formula.encoding.terms.nodes (formula.encoding.root ∷ [])).
-      let breaking = is.encoding.sound is.used can.0 (and_parts _ _ can.1).0 in
-      (world_from files question formula.encoding.world.plan (truth can.0) 0, no_environment, breaking.0, breaking.1),
+      let breaking = (is.encoding.sound is.used can.0 (and_parts _ _ can.1).0).1 in (
+        world_from files tracked question formula.encoding.world.plan (truth can.0) 0,
+        environment_from files tracked question formula.encoding.world.plan (truth can.0) 0,
+        breaking.0,
+        breaking.1,
+      ),
   λ (b : IsBreakable files question). (
-    world_bits files question formula.encoding.world.plan b.0,
+    routing_bits files tracked question formula.encoding.world.plan b.0 b.1,
     and_from _ _ (is.encoding.complete is.used b.0 b.1 b.2 b.3) refl,
   ),
 )
 
 -- nothing breaks a question whose clauses cannot be satisfied
-pub unsat_holds : (files : List File) (question : Question) (formula : Formula) → IsFormula files question formula →
+pub unsat_holds : (files : List File) (tracked : Tracked) (question : Question) (formula : Formula) → IsFormula files tracked question formula →
     IsUnsatisfiable formula.cnf.clauses → IsUnbroken files question
-unsat_holds files question formula is never world environment walk breaking =
+unsat_holds files tracked question formula is never world environment walk breaking =
     let can : CanBeTrue formula.encoding.terms.nodes (formula.encoding.root ∷ []) = (
-      world_bits files question formula.encoding.world.plan world,
+      routing_bits files tracked question formula.encoding.world.plan world environment,
       and_from _ _ (is.encoding.complete is.used world environment walk breaking) refl,
     ) in
     let some = is.equal.1 can in
     let clash : true ≡ false = sym some.1 ∙ never some.0 in absurd cc
 
 -- values that satisfy the clauses make the root true
-pub sat_true : (files : List File) (question : Question) (formula : Formula) (values row : List Bool) →
-    IsFormula files question formula → satisfies (truth values) formula.cnf.clauses ≡ true →
+pub sat_true : (files : List File) (tracked : Tracked) (question : Question) (formula : Formula) (values row : List Bool) →
+    IsFormula files tracked question formula → satisfies (truth values) formula.cnf.clauses ≡ true →
     (satisfies (truth values) (clauses_of formula.encoding.terms.nodes (formula.encoding.root ∷ [])) ≡ true →
     roots_value formula.encoding.terms.nodes (formula.encoding.root ∷ []) row ≡ true) →
     value_of formula.encoding.terms.nodes row formula.encoding.root.0 ≡ true
-sat_true files question formula values row is satisfied roots =
+sat_true files tracked question formula values row is satisfied roots =
     let S : List Clause → Type 0 = λ cs. satisfies (truth values) cs ≡ true in
     (and_parts _ _ (roots (subst S is.clauses satisfied))).0
 
@@ -79,14 +85,14 @@ few_shown budget entries (found.Sat values) shows = let few = shows.1 in omega (
 few_shown budget entries (found.Unknown added) shows = let all = shows.1 in omega (arith, all)
 
 -- the entries of a search for the clauses of a question
-searched_from : (files : List File) (question : Question) (formula : Formula) (budget : ℕ) (entries : List Entry) →
-    IsFormula files question formula → IsSearchLog formula.cnf.clauses entries → addition_count entries ≤ budget →
+searched_from : (files : List File) (tracked : Tracked) (question : Question) (formula : Formula) (budget : ℕ) (entries : List Entry) →
+    IsFormula files tracked question formula → IsSearchLog formula.cnf.clauses entries → addition_count entries ≤ budget →
     IsSearched files question budget entries
-searched_from files question formula budget entries is log within =
+searched_from files tracked question formula budget entries is log within =
     let L : List Clause → Type 0 = λ cs. IsSearchLog cs entries in record {
       nodes = formula.encoding.terms.nodes;
       root = formula.encoding.root;
-      encodes = encodes files question formula is;
+      encodes = encodes files tracked question formula is;
       log = subst L is.clauses log;
       within = within;
     }
@@ -97,14 +103,14 @@ section_is : (question : Question) (entries : List Entry) →
 section_is question entries =
     ap (λ t. opening_text question ++ t) (sym (flat_map-append line_of entries (End ∷ [])))
 
-pub section_stands : (files : List File) (question : Question) (formula : Formula) (budget : ℕ) (outcome : Outcome)
-    (before opened filled now : Option (List ℕ)) → IsFormula files question formula →
+pub section_stands : (files : List File) (tracked : Tracked) (question : Question) (formula : Formula) (budget : ℕ) (outcome : Outcome)
+    (before opened filled now : Option (List ℕ)) → IsFormula files tracked question formula →
     Takes before opened (opening_text question) → IsLoggedBySearch opened filled formula.cnf.clauses budget outcome →
     Takes filled now end_text → IsSearchedSo files budget question outcome before now
-section_stands files question formula budget outcome before opened filled now is opens fills closes =
+section_stands files tracked question formula budget outcome before opened filled now is opens fills closes =
     let T : List ℕ → Type 0 = Takes before now in (
       fills.entries,
-      searched_from files question formula budget fills.entries is fills.log
+      searched_from files tracked question formula budget fills.entries is fills.log
           (few_shown budget fills.entries outcome fills.shows),
       fills.shows,
       subst T (section_is question fills.entries)
@@ -112,30 +118,30 @@ section_stands files question formula budget outcome before opened filled now is
     )
 
 -- a section that was opened and filled in part
-pub section_filled : (files : List File) (question : Question) (formula : Formula) (budget : ℕ)
-    (before opened now : Option (List ℕ)) → IsFormula files question formula →
+pub section_filled : (files : List File) (tracked : Tracked) (question : Question) (formula : Formula) (budget : ℕ)
+    (before opened now : Option (List ℕ)) → IsFormula files tracked question formula →
     Takes before opened (opening_text question) → IsCut opened now formula.cnf.clauses budget →
     IsUnfinished files budget question before now
-section_filled files question formula budget before opened now is opens cut =
+section_filled files tracked question formula budget before opened now is opens cut =
     let T : List ℕ → Type 0 = TakesPart before now in (
       section_text question cut.entries,
-      inr (cut.entries, searched_from files question formula budget cut.entries is cut.log cut.within, refl),
+      inr (cut.entries, searched_from files tracked question formula budget cut.entries is cut.log cut.within, refl),
       subst T (section_is question cut.entries)
           (part_more before opened now _ _ opens
           (part_stops opened now (log_text cut.entries) end_text cut.text)),
     )
 
 -- one that was opened and filled, and closed in part
-pub section_closed : (files : List File) (question : Question) (formula : Formula) (budget : ℕ) (outcome : Outcome)
-    (before opened filled now : Option (List ℕ)) → IsFormula files question formula →
+pub section_closed : (files : List File) (tracked : Tracked) (question : Question) (formula : Formula) (budget : ℕ) (outcome : Outcome)
+    (before opened filled now : Option (List ℕ)) → IsFormula files tracked question formula →
     Takes before opened (opening_text question) → IsLoggedBySearch opened filled formula.cnf.clauses budget outcome →
     TakesPart filled now end_text → IsUnfinished files budget question before now
-section_closed files question formula budget outcome before opened filled now is opens fills part =
+section_closed files tracked question formula budget outcome before opened filled now is opens fills part =
     let T : List ℕ → Type 0 = TakesPart before now in (
       section_text question fills.entries,
       inr (
         fills.entries,
-        searched_from files question formula budget fills.entries is fills.log
+        searched_from files tracked question formula budget fills.entries is fills.log
             (few_shown budget fills.entries outcome fills.shows),
         refl,
       ),

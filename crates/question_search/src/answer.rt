@@ -3,7 +3,6 @@
 ghost use Rattle.std.specs.Prelude.{◌≡◌, ℕ, List as ListOf, IfOk, OnErr, length, true};
 ghost use Rattle.cdcl_search.specs.Outcomes.{OnLogFault, OnSat, OnUnknown, OnUnsat, Shows, UnlessLogFault};
 ghost use Rattle.mw_outside.specs.Faults.{Rose};
-ghost use Rattle.world_variables.specs.Slots.{runs_no_bgp};
 ghost use Rattle.question_search.specs.Formulas.{IsFormula};
 ghost use Rattle.question_search.specs.Searches.{IsFound};
 ghost use Rattle.resolution_check.specs.declared.log.Entry.{Entry};
@@ -11,7 +10,7 @@ ghost use Rattle.resolution_check.specs.Entries.{IsUnsatisfiable, satisfies};
 ghost use Rattle.run_answers.specs.Answering.{IsLogged, IsUnfinished};
 ghost use Rattle.cex_json.specs.Counterexamples.{IsTrueCounterexample};
 ghost use Rattle.run_answers.specs.Verdicts as verdicts;
-ghost use Rattle.run_inputs.specs.Loading.{IsBudget};
+ghost use Rattle.run_inputs.specs.Loading.{IsBudget, are_external};
 ghost use Rattle.term_store.specs.Terms.{truth};
 
 use crate::formula::{Formula, formula_of};
@@ -37,7 +36,7 @@ fn counterexample_of(
     formula: &Formula,
     values: &[bool],
 ) -> Result<Counterexample, AllocError>
-    requires formula { IsFormula net.now.files question.now formula.now }
+    requires formula { IsFormula net.now.files net.now.tracked question.now formula.now }
     requires values { length values.now ≡ formula.now.cnf.vars }
     requires satisfied { satisfies (truth values.now) formula.now.cnf.clauses ≡ true }
     ensures { IfOk result (IsTrueCounterexample net.now.files number question.now) }
@@ -64,7 +63,7 @@ fn verdict_of(
     formula: &Formula,
     outcome: Outcome,
 ) -> Result<Verdict, AllocError>
-    requires formula { IsFormula net.now.files question.now formula.now }
+    requires formula { IsFormula net.now.files net.now.tracked question.now formula.now }
     requires unsat { OnUnsat outcome (IsUnsatisfiable formula.now.cnf.clauses) }
     requires sat { OnSat outcome (λ values. satisfies (truth values) formula.now.cnf.clauses ≡ true) }
     requires values { OnSat outcome (λ values. length values ≡ formula.now.cnf.vars) }
@@ -98,9 +97,9 @@ fn search<L: Sink>(
     budget: u64,
     log: &mut L,
 ) -> Result<Searched, SolveFault>
-    requires no_bgp { runs_no_bgp net.now.files ≡ true }
+    requires external { are_external net.now.files ≡ true }
     requires budget { IsBudget budget }
-    ensures found { IfOk result (λ s. IsFound net.now.files budget question.now s.formula s.outcome (L.taken log.old) (L.taken log.new)) }
+    ensures found { IfOk result (λ s. IsFound net.now.files net.now.tracked budget question.now s.formula s.outcome (L.taken log.old) (L.taken log.new)) }
     ensures cut { OnErr result (IsUnfinished net.now.files budget question.now (L.taken log.old) (L.taken log.new)) }
     ensures fault { OnLogFault result (Rose (L.faults log.old) (L.faults log.new)) }
     ensures stays { UnlessLogFault result (L.faults log.new ≡ L.faults log.old) }
@@ -126,7 +125,7 @@ pub fn answer<L: Sink>(
     budget: u64,
     log: &mut L,
 ) -> Result<Verdict, SolveFault>
-    requires no_bgp { runs_no_bgp net.now.files ≡ true }
+    requires external { are_external net.now.files ≡ true }
     requires budget { IsBudget budget }
     ensures ok { IfOk result (λ verdict. IsLogged net.now.files budget number question.now verdict (L.taken log.old) (L.taken log.new)) }
     ensures cut { OnErr result (IsUnfinished net.now.files budget question.now (L.taken log.old) (L.taken log.new)) }

@@ -26,8 +26,9 @@ use Rattle.bgp_shapes.specs.Importing.{shape_if_short, shape_imported, shape_is_
 use Rattle.bgp_shapes.specs.Importing.{shape_received, shape_taken_in}
 use Rattle.bgp_shapes.specs.Messages.{seen_by_maps, shape_sets_metric, with_seen}
 use Rattle.bgp_shapes.proofs.Once.{process_of}
+use Rattle.bgp_shapes.proofs.LengthLaw.{if_then}
 use Rattle.rebuilt_routes.proofs.Marks.{long_with}
-use Rattle.rebuilt_routes.proofs.Options.{if_found, if_then, if_true, not_both}
+use Rattle.rebuilt_routes.proofs.Options.{if_found, if_true, not_both}
 use Rattle.rebuilt_routes.proofs.ShapeMaps.{HasRows, IsAtLeast, IsCounted, through_counted, through_long, through_rows}
 
 pub small : (n : ℕ) → saturated n ≤ 4294967295

@@ -25,6 +25,7 @@ use Rattle.net_parts.specs.declared.sessions.Peering.{Peering}
 use Rattle.net_parts.specs.declared.sessions.SessionEnd.{SessionEnd}
 use Rattle.net_parts.specs.Sessions.{end_of, ends_of, has_session, neighbour_of, peering, peerings, peerings_from}
 use Rattle.net_parts.specs.Sessions.{peerings_of, peerings_routers, sessions, speaking, speaks_from}
+use Rattle.net_parts.proofs.EndPlaces.{of_router}
 use Rattle.bgp_shapes.specs.Crossings.{is_from}
 use Rattle.bgp_shapes.proofs.Once.{process_of}
 use Rattle.rebuilt_routes.specs.Following.{numbered_end}
@@ -98,18 +99,6 @@ pairs_of all router file = by_process file.bgp
     by_process None = no_pairs
     by_process (Some bgp) =
         pairs_from (filter (λ (x : Addressed). x.id.router == router) all) router file bgp.asn 0 bgp.neighbours
-
-of_router : (all : List Addressed) (router : ℕ) (file : File) →
-    All (λ a. a.router ≡ router) (peerings_of all router file)
-of_router all router file = by_process file.bgp
-  where
-    by_process : (o : Option Bgp) → All (λ a. a.router ≡ router) (option_map_or (λ bgp. peerings_from
-        (filter (λ x. x.id.router == router) all) router file bgp.asn 0 bgp.neighbours) o [])
-    by_process None = All-nil (λ a. a.router ≡ router)
-    by_process (Some bgp) =
-        let own = filter (λ (x : Addressed). x.id.router == router) all in
-        All-weaker (IsFromLine router 0) (λ a. a.router ≡ router) (λ a is. is.0)
-        (peerings_from own router file bgp.asn 0 bgp.neighbours) (lines_from own router file bgp.asn 0 bgp.neighbours)
 
 -- ---- the lines of all
 

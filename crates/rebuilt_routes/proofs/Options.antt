@@ -1,15 +1,9 @@
 -- What is known of options that a call gives, and of the first item that passes.
 use Rattle.std.proofs.Common.{◌≡◌, ℕ, zero, suc, ◌+◌, not, ◌&&◌, ◌||◌, Bool, true, false, List, [], ◌∷◌}
-use Rattle.std.proofs.Common.{Option, Some, None, refl, sym, ap, subst, ◌∙◌, if◌then◌else◌, arith}
+use Rattle.std.proofs.Common.{Option, Some, None, refl, sym, ap, ◌∙◌, if◌then◌else◌, arith}
 use Rattle.std.specs.Prelude.{IfSome, option_and_then, option_map, slice_get}
 use Rattle.std.specs.List.{enumerate_from, find}
 use Rattle.std.proofs.lemmas.Option.{same_Some}
-
--- what holds of all that the two calls give
-pub if_then : {X Y : Type 0} (P : Y → Type 0) (f : X → Option Y) → ((x : X) → IfSome (f x) P) → (o : Option X) →
-    IfSome (option_and_then f o) P
-if_then P f each None = tt
-if_then P f each (Some x) = each x
 
 pub if_true : {X : Type 0} (P : X → Type 0) (b : Bool) (o : Option X) → (b ≡ true → IfSome o P) →
     IfSome (if b then o else None) P
@@ -21,16 +15,6 @@ pub if_found : {X Y : Type 0} (P : Y → Type 0) (f : X → Option Y) (o : Optio
     ((x : X) → o ≡ Some x → IfSome (f x) P) → IfSome (option_and_then f o) P
 if_found P f None each = tt
 if_found P f (Some x) each = each x refl
-
-pub if_is : {X : Type 0} (P : X → Type 0) (o : Option X) (x : X) → IfSome o P → o ≡ Some x → P x
-if_is P None x holds is = absurd cc
-if_is P (Some y) x holds is = subst P (same_Some y x is) holds
-
--- a value of two calls is one of the second, at a value of the first
-pub chained : {X Y : Type 0} (f : X → Option Y) (o : Option X) (y : Y) → option_and_then f o ≡ Some y →
-    (x : X) × (o ≡ Some x) × (f x ≡ Some y)
-chained f None y is = absurd cc
-chained f (Some x) y is = (x, refl, is)
 
 pub mapped : {X Y : Type 0} (f : X → Y) (o : Option X) (y : Y) → option_map f o ≡ Some y →
     (x : X) × (o ≡ Some x) × (f x ≡ y)

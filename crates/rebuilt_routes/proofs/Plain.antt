@@ -22,7 +22,8 @@ use Rattle.net_parts.specs.Mapping.{attributes_of, with_attributes}
 use Rattle.net_parts.specs.Origins.{by_network, entry_metric, into_bgp, is_default, local_route, local_routes}
 use Rattle.net_parts.specs.Origins.{local_through, taken_metric}
 use Rattle.bgp_shapes.proofs.PolicyLaw.{through_keeps}
-use Rattle.rebuilt_routes.proofs.Options.{if_then, if_true}
+use Rattle.bgp_shapes.proofs.LengthLaw.{if_then}
+use Rattle.rebuilt_routes.proofs.Options.{if_true}
 
 pub record IsPlain (rec : BgpRec) : Type 0 where
   pub from : rec.from ≡ Local

@@ -1,6 +1,6 @@
 -- Where the routes come from that are followed back from held shapes: each is a local route, or what its router made of
 -- what arrived over the session of one of its ends.
-use Rattle.std.proofs.Common.{◌≡◌, ℕ, ◌⊎◌, inl, inr, Bool, true, false, List, [], ◌∷◌}
+use Rattle.std.proofs.Common.{◌≡◌, ℕ, ◌⊎◌, inl, inr, Bool, true, false, List}
 use Rattle.std.proofs.Common.{Option, Some, refl, sym, ap, ◌∙◌, if◌then◌else◌}
 use Rattle.std.specs.Prelude.{All, option_and_then}
 use Rattle.std.specs.List.{enumerate_from, find}
@@ -11,6 +11,8 @@ use Rattle.ios_ast.specs.declared.file.File.{File}
 use Rattle.route_record.specs.declared.BgpRec.{BgpRec}
 use Rattle.route_record.specs.declared.Environment.{Environment}
 use Rattle.route_record.specs.declared.tracked.Tracked.{Tracked}
+use Rattle.net_interfaces.proofs.Members.{in-find}
+use Rattle.net_interfaces.proofs.Options.{chained}
 use Rattle.net_parts.specs.declared.sessions.SessionEnd.{SessionEnd}
 use Rattle.net_parts.specs.Exports.{imported}
 use Rattle.net_parts.specs.Sessions.{ends_of}
@@ -24,18 +26,10 @@ use Rattle.rebuilt_routes.specs.Following.{AllFollow, AreReal, arriving_of, foll
 use Rattle.rebuilt_routes.specs.Following.{real_routes}
 use Rattle.rebuilt_routes.proofs.Followed.{are_real}
 use Rattle.rebuilt_routes.proofs.Numbered.{from_end, numbered_place}
-use Rattle.rebuilt_routes.proofs.Options.{chained, find_passes}
+use Rattle.rebuilt_routes.proofs.Options.{find_passes}
 use Rattle.rebuilt_routes.proofs.Plain.{IsPlain}
 use Rattle.rebuilt_routes.proofs.ShapesFollow.{own_plain}
 use Rattle.rebuilt_routes.proofs.Supported.{IsHeardRoute}
-
-pub find_in : {X : Type 0} (p : X → Bool) (xs : List X) (x : X) → find p xs ≡ Some x → In x xs
-find_in p [] x is = absurd cc
-find_in {X = X} p (y ∷ ys) x is = by (p y) is (find_in p ys x)
-  where
-    by : (b : Bool) → (if b then Some y else find p ys) ≡ Some x → (find p ys ≡ Some x → In x ys) → In x (y ∷ ys)
-    by true is rest = let same : y ≡ x = cc in inl (sym same)
-    by false is rest = inr (rest is)
 
 pub all_members : {X : Type 0} (P : X → Type 0) (xs : List X) → All P xs → (x : X) → In x xs → P x
 all_members P xs all x there = All-contains P xs x all (in-contains x xs there)
@@ -56,7 +50,7 @@ module _ (tracked : Tracked) (files : List File) (environment : Environment) (sl
       then find (λ r. same_shape (bgp_shape tracked r) s) (own_routes files slots p router)
       else option_and_then (λ (e : ℕ × SessionEnd). option_and_then (imported files e.1 p)
       (arriving_of files environment routes p e.0 e.1)) (numbered_end files router s.from)) local) ∙ is in
-      inl (find_in (λ r. same_shape (bgp_shape tracked r) s) (own_routes files slots p router) rec there)
+      inl (in-find (λ r. same_shape (bgp_shape tracked r) s) (own_routes files slots p router) rec there)
   followed_source router s rec false far is =
       let there = sym (ap (λ b. if b
       then find (λ r. same_shape (bgp_shape tracked r) s) (own_routes files slots p router)

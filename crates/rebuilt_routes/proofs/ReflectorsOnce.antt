@@ -25,6 +25,7 @@ use Rattle.route_record.specs.declared.BgpMsg.{BgpMsg}
 use Rattle.route_record.specs.declared.BgpRec.{BgpRec}
 use Rattle.route_record.specs.declared.Environment.{Environment}
 use Rattle.route_record.specs.declared.tracked.Tracked.{Tracked}
+use Rattle.net_interfaces.proofs.Options.{if_is}
 use Rattle.net_parts.specs.declared.sessions.SessionEnd.{SessionEnd}
 use Rattle.net_parts.specs.Exports as exports
 use Rattle.net_parts.specs.Exports.{exported, imported, is_reflector, learnt_over, may_reflect, router_id}
@@ -34,9 +35,10 @@ use Rattle.net_parts.specs.Tracked.{TracksNet, numbers_of}
 use Rattle.bgp_shapes.specs.Tracking.{TracksTests}
 use Rattle.bgp_shapes.proofs.Once.{process_of}
 use Rattle.bgp_shapes.proofs.TrackedLaw.{tests_tracked}
+use Rattle.bgp_shapes.proofs.LengthLaw.{if_then}
 use Rattle.rebuilt_routes.specs.Clusters.{NamesReflectorsOnce, stands_once}
 use Rattle.rebuilt_routes.proofs.Crossed.{runs_there}
-use Rattle.rebuilt_routes.proofs.Options.{if_found, if_is, if_then, if_true, not_both, not_or}
+use Rattle.rebuilt_routes.proofs.Options.{if_found, if_true, not_both, not_or}
 use Rattle.rebuilt_routes.proofs.Plain.{IsPlain}
 use Rattle.rebuilt_routes.proofs.Supported.{IsAnnounced, IsHeardRoute, IsSentFrom, supported}
 

@@ -20,6 +20,8 @@ use Rattle.route_record.specs.declared.Slot.{Slot}
 use Rattle.route_record.specs.declared.Tables.{Tables}
 use Rattle.route_record.specs.declared.tracked.Tracked.{Tracked}
 use Rattle.route_record.specs.Places.{slot_at}
+use Rattle.net_interfaces.proofs.Members.{in-find}
+use Rattle.net_interfaces.proofs.Options.{if_is, not_some}
 use Rattle.net_parts.specs.declared.sessions.SessionEnd.{SessionEnd}
 use Rattle.net_parts.specs.Decisions.{Candidate, DecidedByBgp, IsHeld, Key, arriving, candidates, candidates_from}
 use Rattle.net_parts.specs.Decisions.{is_local, key_of, learnt_candidate, local_candidate, peer_address, survivors}
@@ -45,11 +47,11 @@ use Rattle.rebuilt_routes.specs.Following.{real_routes, slot_with}
 use Rattle.rebuilt_routes.proofs.EndsApart.{end_again}
 use Rattle.rebuilt_routes.proofs.Followed.{are_real}
 use Rattle.rebuilt_routes.proofs.Numbered.{has_address, IsNumbered}
-use Rattle.rebuilt_routes.proofs.Options.{if_is, mapped}
+use Rattle.rebuilt_routes.proofs.Options.{mapped}
 use Rattle.rebuilt_routes.proofs.Plain.{IsPlain, locals_plain}
 use Rattle.rebuilt_routes.proofs.ReflectorsOnce.{IsRouteTaken, IsUnlooped, all_unlooped, heard_unlooped, once_named}
 use Rattle.rebuilt_routes.proofs.ReflectorsOnce.{route_taken_parts}
-use Rattle.rebuilt_routes.proofs.RealSources.{all_members, find_in, plain_source}
+use Rattle.rebuilt_routes.proofs.RealSources.{all_members, plain_source}
 use Rattle.rebuilt_routes.proofs.SameKeys.{same_survives}
 use Rattle.rebuilt_routes.proofs.ShapesFollow.{all_follow, own_there}
 use Rattle.rebuilt_routes.proofs.Sources.{IsCandidateFrom, IsLearntRoute, arriving_in, candidates_have_sources}
@@ -113,10 +115,6 @@ key_is tracked files router r s plain same =
 pub no_value : {X Y : Type 0} (f : X → Y) (o : Option X) → option_map f o ≡ None → o ≡ None
 no_value f None is = refl
 no_value f (Some x) is = absurd cc
-
-not_some : {X : Type 0} (o : Option X) → not (is_some o) ≡ true → o ≡ None
-not_some None is = refl
-not_some (Some x) is = absurd cc
 
 -- local routes look at no BGP route of their slot
 local_unread : (files : List File) (router : ℕ) (file : File) (process : Bgp) (p : Prefix) (route : Option BgpRec)
@@ -305,7 +303,7 @@ module _ (tracked : Tracked) (files : List File) (failures : Failures) (environm
       else option_and_then (λ (e : ℕ × SessionEnd). option_and_then (imported files e.1 p)
       (arriving_of files environment routes p e.0 e.1)) (numbered_end files router s.from)) local) ∙ holds in
       let here = subst (In rec) (own_same router file process found runs)
-      (find_in (λ r. same_shape (bgp_shape tracked r) s) (own_routes files slots p router) rec gives) in
+      (in-find (λ r. same_shape (bgp_shape tracked r) s) (own_routes files slots p router) rec gives) in
       let own_plain_rec = all_members IsPlain (own router file process) (own_all_plain router file process) rec here in
       let shape_rec : bgp_shape tracked rec ≡ s =
       shape_of rec (sym (ap (option_map (bgp_shape tracked)) holds) ∙ real.shaped router ∙ shape) in

@@ -20,6 +20,8 @@ use Rattle.route_record.specs.declared.Learnt.{Learnt}
 use Rattle.route_record.specs.declared.Learnt.TheVariants.{Local, Peer}
 use Rattle.route_record.specs.declared.tracked.Tracked.{Tracked}
 use Rattle.route_record.specs.Fits.{FitsBgp, FitsLearnt, IsAddress, IsWord}
+use Rattle.net_interfaces.proofs.Members.{in-find}
+use Rattle.net_interfaces.proofs.Options.{if_is}
 use Rattle.net_parts.specs.Exports.{exported, imported}
 use Rattle.net_parts.specs.Origins.{local_routes}
 use Rattle.net_parts.specs.Tracked.{TracksNet, numbers_of}
@@ -31,8 +33,7 @@ use Rattle.bgp_shapes.proofs.TrackedLaw.{tests_tracked}
 use Rattle.rebuilt_routes.specs.Following.{AllFollow, held_at, own_routes, real_routes, slot_with}
 use Rattle.rebuilt_routes.specs.Words.{HasWordNumbers, HasWordValues}
 use Rattle.rebuilt_routes.proofs.Followed.{are_real}
-use Rattle.rebuilt_routes.proofs.Options.{if_is}
-use Rattle.rebuilt_routes.proofs.RealSources.{all_members, find_in, own_is_plain, plain_source, source}
+use Rattle.rebuilt_routes.proofs.RealSources.{all_members, own_is_plain, plain_source, source}
 use Rattle.rebuilt_routes.proofs.ReflectorsOnce.{all_unlooped}
 use Rattle.rebuilt_routes.proofs.Supported.{supported}
 use Rattle.rebuilt_routes.proofs.Words.{IsWordMessage, IsWordRoute, exported_words, imported_words, locals_words, word_of}
@@ -72,7 +73,7 @@ module _ (tracked : Tracked) (files : List File) (environment : Environment) (sl
       (All IsWord a.path) × (All IsWord a.communities)
   said_words at a says =
       let is = all_members (IsAnnouncement files) environment.announced may.announced a
-      (find_in (λ (a : Announcement). (a.end == at) && (a.len == p.len)) environment.announced a says) in
+      (in-find (λ (a : Announcement). (a.end == at) && (a.len == p.len)) environment.announced a says) in
       (All-weaker IsAsNumber IsWord (λ n number. number.1) a.path is.path.1, is.communities.1)
 
   words : (router : ℕ) (rec : BgpRec) → routes router ≡ Some rec → IsWordRoute rec

@@ -1,23 +1,12 @@
 -- Of two candidates with one key both survive or none.
-use Rattle.std.proofs.Common.{◌≡◌, ◌⊎◌, inl, inr, Bool, true, false, not, List, [], ◌∷◌, filter, fold, refl, sym, ap}
+use Rattle.std.proofs.Common.{◌≡◌, Bool, true, false, not, List, [], ◌∷◌, fold, ap}
 use Rattle.std.proofs.Common.{◌∙◌, if◌then◌else◌}
 use Rattle.std.specs.List.{list_any}
 use Rattle.mw_text.specs.Members.{In}
+use Rattle.net_interfaces.proofs.Members.{filter-in}
 use Rattle.net_parts.specs.declared.steps.Step.{Step}
 use Rattle.net_parts.specs.Decisions.{Key, after_cost, is_compared_by, removes, step_by, survivors_by, to_cost}
 use Rattle.net_parts.proofs.LeastWalks.{in-filter}
-
-pub filter-in : {X : Type 0} (p : X → Bool) (xs : List X) (x : X) → In x xs → p x ≡ true → In x (filter p xs)
-filter-in p [] x there passes = absurd there
-filter-in {X = X} p (y ∷ ys) x there passes =
-    by (p y) refl there (λ later. filter-in p ys x later passes)
-  where
-    by : (b : Bool) → p y ≡ b → (x ≡ y) ⊎ In x ys → (In x ys → In x (filter p ys)) →
-        In x (if b then y ∷ filter p ys else filter p ys)
-    by true e (inl same) rest = inl same
-    by true e (inr later) rest = inr (rest later)
-    by false e (inl same) rest = absurd (let yes = ap p (sym same) ∙ passes in let off = sym e ∙ yes in cc)
-    by false e (inr later) rest = rest later
 
 module _ {X : Type 0} (key : X → Key) (always : Bool) where
   steps_before : (steps : List Step) (left : List X) (c : X) → In c (fold (step_by key always) left steps) → In c left

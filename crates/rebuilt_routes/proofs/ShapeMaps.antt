@@ -16,8 +16,8 @@ use Rattle.route_record.specs.declared.tracked.Tracked.{Tracked}
 use Rattle.route_record.specs.Shape.{saturated}
 use Rattle.route_shapes.specs.Shapes.{RouteShape, set_shape, set_shapes, shape_made, shape_route_taken}
 use Rattle.route_shapes.specs.Shapes.{shape_through_map}
+use Rattle.bgp_shapes.proofs.LengthLaw.{if_then}
 use Rattle.rebuilt_routes.proofs.Marks.{long_with}
-use Rattle.rebuilt_routes.proofs.Options.{if_then}
 
 -- what each set line keeps, a map keeps
 module _ (tracked : Tracked) (external : Bool) (P : RouteShape → Type 0)

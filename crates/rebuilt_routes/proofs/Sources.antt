@@ -4,10 +4,10 @@ use Rattle.std.proofs.Common.{◌≡◌, ℕ, zero, suc, ◌+◌, ◌==◌, ◌�
 use Rattle.std.proofs.Common.{◌∷◌, Option, Some, None, map, filter, fold, if◌then◌else◌, refl, sym, ap, ◌∙◌}
 use Rattle.std.proofs.Common.{arith}
 use Rattle.std.specs.Prelude.{All, IfSome, option_and_then, option_map, slice_get}
-use Rattle.std.specs.List.{cons_option, enumerate_from, filter_map, list_any}
+use Rattle.std.specs.List.{enumerate_from, filter_map}
 use Rattle.std.specs.Option.{option_map_or}
 use Rattle.std.proofs.lemmas.Bool.{eqb-true}
-use Rattle.std.proofs.lemmas.List.Elements.{All-append, All-cons, All-filter, All-head, All-map, All-nil, All-tail}
+use Rattle.std.proofs.lemmas.List.Elements.{All-append, All-cons, All-filter, All-map, All-nil}
 use Rattle.std.proofs.lemmas.List.Elements.{All-weaker, filter_passes}
 use Rattle.mw_text.specs.Members.{In}
 use Rattle.mw_text.specs.declared.address.Prefix.{Prefix}
@@ -23,9 +23,8 @@ use Rattle.route_record.specs.Places.{slot_at}
 use Rattle.net_parts.specs.declared.sessions.Far.{Far}
 use Rattle.net_parts.specs.declared.sessions.Far.TheVariants.{Outside, Inside}
 use Rattle.net_parts.specs.declared.sessions.SessionEnd.{SessionEnd}
-use Rattle.net_parts.specs.declared.steps.Step.{Step}
 use Rattle.net_parts.specs.Decisions.{Candidate, Key, after_cost, arriving, candidates, candidates_from}
-use Rattle.net_parts.specs.Decisions.{is_compared_by, learnt_candidate, local_candidate, peer_identifier, removes}
+use Rattle.net_parts.specs.Decisions.{is_compared_by, learnt_candidate, local_candidate, peer_identifier}
 use Rattle.net_parts.specs.Decisions.{step_by, survivors_by, taken_candidate, to_cost}
 use Rattle.net_parts.specs.Exports.{imported}
 use Rattle.net_parts.specs.Origins.{local_routes}
@@ -35,21 +34,11 @@ use Rattle.route_shapes.specs.Bgp.{BgpShape}
 use Rattle.bgp_shapes.specs.Candidates.{ShapeCandidate, ShapeEnvironment, ShapeSlot, shape_arriving, shape_candidates}
 use Rattle.bgp_shapes.specs.Candidates.{shape_learnt, shape_local, shape_local_routes}
 use Rattle.bgp_shapes.specs.Importing.{shape_imported}
+use Rattle.bgp_shapes.proofs.LengthLaw.{all_kept, steps_all}
 use Rattle.rebuilt_routes.specs.Following.{arriving_of}
 use Rattle.rebuilt_routes.proofs.Options.{if_true}
 
 -- ---- lists
-
--- all that is given of items which have Q
-all_kept : {X Y : Type 0} (Q : X → Type 0) (P : Y → Type 0) (h : X → Option Y) → ((x : X) → Q x → IfSome (h x) P) →
-    (xs : List X) → All Q xs → All P (filter_map h xs)
-all_kept Q P h gives [] all = All-nil P
-all_kept {X = X} {Y = Y} Q P h gives (x ∷ xs) all =
-    by (h x) (gives x (All-head Q x xs all)) (all_kept Q P h gives xs (All-tail Q x xs all))
-  where
-    by : (o : Option Y) → IfSome o P → All P (filter_map h xs) → All P (cons_option o (filter_map h xs))
-    by None holds rest = rest
-    by (Some y) holds rest = All-cons P y (filter_map h xs) holds rest
 
 -- each item is a member
 pub all_in : {X : Type 0} (xs : List X) → All (λ x. In x xs) xs
@@ -91,13 +80,6 @@ own_ends files router k d within =
     }
 
 -- ---- survivors
-
-steps_all : {X : Type 0} (P : X → Type 0) (key : X → Key) (always : Bool) (steps : List Step) (xs : List X) →
-    All P xs → All P (fold (step_by key always) xs steps)
-steps_all P key always [] xs all = all
-steps_all P key always (s ∷ steps) xs all =
-    steps_all P key always steps (step_by key always xs s)
-    (All-filter (λ c. not (list_any (λ other. removes always s (key c) (key other)) xs)) P xs all)
 
 -- what survives is a candidate
 pub survivors_all : {X : Type 0} (P : X → Type 0) (key : X → Key) (always compare_id : Bool) (xs : List X) → All P xs →

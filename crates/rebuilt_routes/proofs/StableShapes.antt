@@ -21,6 +21,7 @@ use Rattle.route_record.specs.declared.Tables.{Tables}
 use Rattle.route_record.specs.declared.TheConstants.{LENGTHS}
 use Rattle.route_record.specs.declared.tracked.Tracked.{Tracked}
 use Rattle.route_record.specs.Places.{slot_at}
+use Rattle.net_interfaces.proofs.Options.{chained, if_is}
 use Rattle.net_parts.specs.Decisions.{Candidate, DecidedByBgp, candidates, key_of, survivors}
 use Rattle.net_parts.specs.Origins.{local_routes}
 use Rattle.net_parts.specs.Stable.{IsDecided, Stable}
@@ -35,7 +36,7 @@ use Rattle.bgp_shapes.proofs.HeldLaw.{held_complete}
 use Rattle.bgp_shapes.proofs.TrackedLaw.{tests_tracked}
 use Rattle.rebuilt_routes.specs.Clusters.{HasBoundedLists, IsKeptBySessions, NamesReflectorsOnce}
 use Rattle.rebuilt_routes.specs.Deciding.{AreDecidedShapes, is_decided_shape}
-use Rattle.rebuilt_routes.proofs.Options.{chained, if_is, mapped}
+use Rattle.rebuilt_routes.proofs.Options.{mapped}
 use Rattle.rebuilt_routes.proofs.Plain.{IsPlain, locals_plain}
 use Rattle.rebuilt_routes.proofs.ReflectorsOnce.{IsRouteTaken, IsUnlooped, all_unlooped, heard_unlooped, once_named}
 use Rattle.rebuilt_routes.proofs.ReflectorsOnce.{route_taken_parts}

@@ -14,6 +14,7 @@ use Rattle.route_record.specs.declared.BgpMsg.{BgpMsg}
 use Rattle.route_record.specs.declared.BgpRec.{BgpRec}
 use Rattle.route_record.specs.declared.Environment.{Environment}
 use Rattle.route_record.specs.declared.tracked.Tracked.{Tracked}
+use Rattle.net_interfaces.proofs.Options.{chained, if_is}
 use Rattle.net_parts.specs.declared.sessions.Far.{Far}
 use Rattle.net_parts.specs.declared.sessions.Far.TheVariants.{Outside, Inside}
 use Rattle.net_parts.specs.declared.sessions.SessionEnd.{SessionEnd}
@@ -36,7 +37,7 @@ use Rattle.rebuilt_routes.specs.Following.{arriving_of}
 use Rattle.rebuilt_routes.proofs.Crossed.{IsShapeSent, IsShapeTaken, shape_sent_parts, shape_taken_parts, small}
 use Rattle.rebuilt_routes.proofs.EndsApart.{end_again}
 use Rattle.rebuilt_routes.proofs.Numbered.{end_alone, has_address, numbered_is}
-use Rattle.rebuilt_routes.proofs.Options.{chained, if_is, mapped}
+use Rattle.rebuilt_routes.proofs.Options.{mapped}
 use Rattle.rebuilt_routes.proofs.Plain.{IsPlain}
 use Rattle.rebuilt_routes.specs.Ranks.{rank}
 use Rattle.rebuilt_routes.proofs.Ranks.{IsKept, falls}

@@ -40,9 +40,10 @@ use Rattle.net_parts.specs.Origins.{by_network, entry_metric, into_bgp, is_defau
 use Rattle.net_parts.specs.Origins.{local_through, taken_metric}
 use Rattle.net_parts.specs.Sessions.{neighbour_of}
 use Rattle.bgp_shapes.specs.Tracking.{TracksTests}
+use Rattle.bgp_shapes.proofs.LengthLaw.{if_then}
 use Rattle.rebuilt_routes.proofs.Plain.{all_given}
 use Rattle.rebuilt_routes.specs.Words.{HasWordSets, HasWordValues, SetsWords}
-use Rattle.rebuilt_routes.proofs.Options.{if_found, if_then, if_true}
+use Rattle.rebuilt_routes.proofs.Options.{if_found, if_true}
 
 -- ---- lists
 

@@ -1,5 +1,5 @@
 -- Identifiers and announcements are read from their bits, and make the same environment again.
-use Rattle.std.proofs.Common.{◌≡◌, ℕ, suc, ◌+◌, ◌*◌, ◌^◌, ◌<◌, ◌||◌, inl, inr, Bool, true, false}
+use Rattle.std.proofs.Common.{◌≡◌, ℕ, suc, ◌+◌, ◌<◌, ◌||◌, inl, inr, Bool, true, false}
 use Rattle.std.proofs.Common.{List, [], ◌∷◌, ◌++◌, length, map, replicate, take, Option, Some, None, refl, sym, ap, ◌∙◌}
 use Rattle.std.proofs.Common.{subst, arith, is_some}
 use Rattle.std.specs.Prelude.{All, IfSome, filter, option_and_then, option_map, slice_get, if◌then◌else◌}
@@ -7,10 +7,9 @@ use Rattle.std.specs.List.{enumerate_from, find, list_any}
 use Rattle.std.specs.Option.{option_map_or}
 use Rattle.std.proofs.lemmas.Bool.{or_left, or_right}
 use Rattle.std.proofs.lemmas.List.{map-append}
-use Rattle.std.proofs.lemmas.List.Elements.{All-contains, All-head, All-tail}
+use Rattle.std.proofs.lemmas.List.Elements.{All-contains}
 use Rattle.std.proofs.lemmas.Option.{same_Some}
 use Rattle.mw_text.specs.Members.{In}
-use Rattle.mw_text.specs.declared.address.Addr.{Addr}
 use Rattle.mw_text.specs.declared.address.Prefix.{Prefix}
 use Rattle.ios_ast.specs.declared.bgp.Bgp.{Bgp}
 use Rattle.ios_ast.specs.declared.bgp.Neighbour.{Neighbour}
@@ -18,14 +17,13 @@ use Rattle.ios_ast.specs.declared.file.File.{File}
 use Rattle.route_record.specs.declared.Plan.{Plan}
 use Rattle.route_record.specs.declared.TheConstants.{LENGTHS}
 use Rattle.route_record.specs.declared.tracked.Tracked.{Tracked}
+use Rattle.net_interfaces.proofs.Members.{in-find}
 use Rattle.net_parts.specs.declared.sessions.SessionEnd.{SessionEnd}
 use Rattle.net_parts.specs.Decisions.{external_count}
 use Rattle.net_parts.specs.Sessions.{ends_of, is_outside, neighbour_of}
 use Rattle.net_parts.proofs.LeastWalks.{in-contains, in-left, in-right}
 use Rattle.route_shapes.specs.Bgp.{BgpShape}
 use Rattle.bgp_shapes.specs.Candidates.{ShapeAnnouncement, ShapeEnvironment, shape_announced}
-use Rattle.failed_links.specs.Rows.{IsAt}
-use Rattle.failed_links.proofs.Reading.{field_at}
 use Rattle.plan_places.specs.declared.places.Place.{Place}
 use Rattle.plan_places.specs.Places.{is_at, place}
 use Rattle.plan_places.specs.Plans.{lens_of}
@@ -40,37 +38,16 @@ use Rattle.announced_places.specs.Environments.{announcement_of, external_places
 use Rattle.announced_places.proofs.ExternalPlaces.{external_ascend, external_place}
 use Rattle.announced_places.proofs.PlacedThings.{lens_ascend, places_ordered}
 use Rattle.bgp_variables.specs.declared.rooms.BgpRoom.{BgpRoom}
-use Rattle.bgp_variables.specs.Environments.{addresses_bits, addresses_from, announced_rooms, end_room, rooms_over}
+use Rattle.bgp_variables.specs.Environments.{announced_rooms, end_room, rooms_over}
 use Rattle.bgp_variables.specs.Rooms.{announcement_room}
 use Rattle.bgp_variables.specs.Shapes.{FitBgpRooms, FitsBgpRoom, FitsShape}
 use Rattle.bgp_variables.proofs.Fitting.{announced_fits}
+use Rattle.bgp_variables.proofs.EnvironmentReading.{fit_append}
 use Rattle.rebuilt_routes.proofs.Options.{find_passes}
-use Rattle.rebuilt_routes.proofs.RealSources.{find_in}
 use Rattle.routing_worlds.specs.Worlds.{announced_thing, announced_things}
 use Rattle.routing_worlds.proofs.MadeAgain.{made_again}
 
--- ---- identifiers
-
-pub addresses_read : (ids : List Addr) (v : ℕ → Bool) (from : ℕ) (rest : List Bool) → All (λ id. id.0 < 2 ^ 32) ids →
-    IsAt v from (addresses_bits ids rest) →
-    (addresses_from (length ids) v from ≡ ids) × IsAt v (from + 32 * length ids) rest
-unfolding addresses_bits addresses_from
-addresses_read [] v from rest fit here = (refl, subst (λ k. IsAt v k rest) (omega arith) here)
-addresses_read (a ∷ ids) v from rest fit here =
-    let one = field_at v from 32 a.0 (addresses_bits ids rest) (All-head (λ (id : Addr). id.0 < 2 ^ 32) a ids fit) here in
-    let others = addresses_read ids v (from + 32) rest (All-tail (λ (id : Addr). id.0 < 2 ^ 32) a ids fit) one.1 in (
-      λ i. record { 0 = one.0 i } ∷ others.0 i,
-      subst (λ k. IsAt v k rest) (omega arith) others.1,
-    )
-
 -- ---- what fits
-
-fit_both : (rooms more : List (Option BgpRoom)) (xs ys : List (Option BgpShape)) → FitBgpRooms rooms xs →
-    FitBgpRooms more ys → FitBgpRooms (rooms ++ more) (xs ++ ys)
-fit_both [] more [] ys one other = other
-fit_both [] more (x ∷ xs) ys one other = absurd one
-fit_both (r ∷ rooms) more [] ys one other = absurd one
-fit_both (r ∷ rooms) more (x ∷ xs) ys one other = (one.0, fit_both rooms more xs ys one.1 other)
 
 fit_row : (room : Option BgpRoom) (thing : Place → Option BgpShape) (end : ℕ) → ((len : ℕ) →
     FitsBgpRoom room (thing (place end len))) → (lens : List ℕ) →
@@ -91,7 +68,7 @@ module _ (tracked : Tracked) (files : List File) (announced : List ShapeAnnounce
   found_at : (p : Place) (a : ShapeAnnouncement) → find (λ a. is_at p.router p.len (stands_at a)) announced ≡ Some a →
       IsFoundAt p a
   found_at p a found = record {
-    is = known a (find_in (λ a. is_at p.router p.len (stands_at a)) announced a found);
+    is = known a (in-find (λ a. is_at p.router p.len (stands_at a)) announced a found);
     stands = at-is (stands_at a) p.router p.len
         (find_passes (λ a. is_at p.router p.len (stands_at a)) announced a found);
   }
@@ -159,7 +136,8 @@ module _ (tracked : Tracked) (files : List File) (announced : List ShapeAnnounce
           subst (FitBgpRooms (replicate (length lens) (end_room tracked files end)
           ++ rooms_over tracked files (length lens) ends))
           (sym (map-append (announced_thing tracked files announced) (map (place n) lens) (places_among others lens)))
-          (fit_both (replicate (length lens) (end_room tracked files end)) (rooms_over tracked files (length lens) ends)
+          (fit_append (replicate (length lens) (end_room tracked files end))
+          (rooms_over tracked files (length lens) ends)
           (map (announced_thing tracked files announced) (map (place n) lens))
           (map (announced_thing tracked files announced) (places_among others lens))
           (fit_row (end_room tracked files end) (announced_thing tracked files announced) n (thing_fits n end here) lens)

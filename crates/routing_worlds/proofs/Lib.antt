@@ -3,3 +3,4 @@ pub mod RoutingSound
 pub mod MadeAgain
 pub mod EnvironmentRead
 pub mod RoutingComplete
+mod WordSteps

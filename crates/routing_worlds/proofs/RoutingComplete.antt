@@ -55,9 +55,8 @@ use Rattle.world_variables.proofs.UnknownParts.{unknowns_read}
 use Rattle.announced_shapes.specs.Environments.{IsShapeEnvironment}
 use Rattle.announced_shapes.proofs.EnvironmentLaw.{environment_shapes}
 use Rattle.announced_places.specs.Environments.{environment_of as announced_environment}
-use Rattle.bgp_variables.specs.Environments.{addresses_from, announced_rooms}
 use Rattle.bgp_variables.specs.Rooms.{full_room}
-use Rattle.bgp_variables.specs.Shapes.{FitBgpRooms, FitsBgpRoom, FitsShape, bgps_from}
+use Rattle.bgp_variables.specs.Shapes.{FitBgpRooms, FitsBgpRoom, FitsShape}
 use Rattle.bgp_variables.proofs.Fitting.{held_fits as bgp_fits}
 use Rattle.bgp_variables.proofs.Reading.{bgps_read}
 use Rattle.shape_worlds.specs.Worlds.{shapes_of}
@@ -66,8 +65,9 @@ use Rattle.bgp_worlds.proofs.OpenComplete.{opens_pass, world_again}
 use Rattle.bgp_worlds.proofs.SameShapes.{learnt_shape}
 use Rattle.routing_worlds.specs.Worlds.{HasWordNetwork, IsRouting, announced_by, announced_things, bgp_at, bgp_room, bgp_rooms}
 use Rattle.routing_worlds.specs.Worlds.{bgps_read_from, dynamic_of, environment_start, failures_read_from, is_routing, open_with, opens_from}
-use Rattle.routing_worlds.specs.Worlds.{opens_with, shape_world_from, told_at, world_bits}
-use Rattle.routing_worlds.proofs.EnvironmentRead.{addresses_read, announced_again, announced_fit}
+use Rattle.routing_worlds.specs.Worlds.{opens_with, shape_world_from, told_at, world_bits, worlds_end}
+use Rattle.bgp_variables.proofs.EnvironmentReading.{environment_read}
+use Rattle.routing_worlds.proofs.EnvironmentRead.{announced_again, announced_fit}
 
 module _ (files : List File) (tracked : Tracked) (question : Question) (plan : Plan) (world : World)
     (environment : Environment) (fits : HasWordNetwork files tracked question)
@@ -242,13 +242,15 @@ module _ (files : List File) (tracked : Tracked) (question : Question) (plan : P
 
   -- ---- reading
 
-  module _ (v : ℕ → Bool) (from : ℕ) (here : IsAt v from (world_bits files tracked question plan world environment)) where
+  module _ (rest : List Bool) (v : ℕ → Bool) (from : ℕ)
+      (here : IsAt v from (world_bits files tracked question plan world environment rest)) where
     record IsRead : Type 0 where
       packet : packet_from question.packets v from ≡ world.packet
       failures : failures_read_from files question v from ≡ world.failures
       unknowns : unknowns_read_from files question plan v from ≡ map (told_at files question world.tables) (places_in files plan)
       bgps : bgps_read_from files tracked question plan v from ≡ map (bgp_at tracked world.tables) (places_in files plan)
       announced : announced_by files tracked question plan v from ≡ environment_shape tracked environment
+      behind : IsAt v (worlds_end files tracked question plan from) rest
 
     read : IsRead
     unfolding world_bits unknowns_read_from
@@ -261,26 +263,19 @@ module _ (files : List File) (tracked : Tracked) (question : Question) (plan : P
         let bgps = bgps_read (bgp_rooms tracked files (places_in files plan))
         (map (bgp_at tracked world.tables) (places_in files plan)) v _ _
         (bgps_fit (places_in files plan) (λ p there. there)) unknowns.1 in
-        let ids = addresses_read environment.ids v _ _ routing.environment_fits.fit bgps.1 in
-        let count = routing.environment_fits.ids in
-        let start = environment_start_of in
-        let said = bgps_read (announced_rooms tracked files (length (lens_of plan)))
-        (announced_things tracked files (lens_of plan) (environment_shape tracked environment).announced) v _ []
-        (announced_fit tracked files (environment_shape tracked environment).announced shape_environment.announced
-        (lens_of plan)) ids.1 in
+        let outside = environment_read tracked files (lens_of plan) environment.ids
+        (announced_things tracked files (lens_of plan) (environment_shape tracked environment).announced) v
+        (environment_start files tracked question plan from) rest routing.environment_fits.ids
+        routing.environment_fits.fit (announced_fit tracked files (environment_shape tracked environment).announced
+        shape_environment.announced (lens_of plan)) bgps.1 in
         record {
           packet = packet.0;
           failures = failures.0;
           unknowns = unknowns.0;
           bgps = bgps.0;
-          announced = (λ i. announced_environment files (lens_of plan)
-              ((ap (λ n. addresses_from n v start) (sym count) ∙ ids.0) i)
-              ((ap (λ n. bgps_from (announced_rooms tracked files (length (lens_of plan))) v (start + 32 * n)) (sym count)
-              ∙ said.0) i)) ∙ announced_same;
+          announced = (λ i. announced_environment files (lens_of plan) (outside.0 i) (outside.1 i)) ∙ announced_same;
+          behind = outside.2;
         }
-      where
-        environment_start_of : ℕ
-        environment_start_of = environment_start files tracked question plan from
 
     opens_are : opens_from files tracked question plan v from ≡ opens_of tracked world.tables (places_in files plan)
     opens_are =
@@ -306,3 +301,6 @@ module _ (files : List File) (tracked : Tracked) (question : Question) (plan : P
         ((λ i. opens_hold tracked files question.packets.dst plan (shapes_read i) (opens_are i))
         ∙ opens_pass tracked files question.packets.dst plan world environment fits.tracks fits.limits wide
         routing.packet.dst costs routing.environment_fits routing.stable))
+
+    pub rest_read : IsAt v (worlds_end files tracked question plan from) rest
+    rest_read = read.behind

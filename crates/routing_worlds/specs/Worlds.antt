@@ -34,7 +34,7 @@ use Rattle.world_variables.specs.Slots.{has_dynamic, unknown_at}
 use Rattle.world_variables.specs.Unknowns.{HasWords, rooms_at, unknowns_bits, unknowns_width}
 use Rattle.world_variables.specs.Worlds.{FitsDistance, downs_start, opens_from as unknowns_read_from, places_in, slots_start}
 use Rattle.bgp_variables.specs.declared.rooms.BgpRoom.{BgpRoom}
-use Rattle.bgp_variables.specs.Environments.{announced_from, environment_bits, ids_from}
+use Rattle.bgp_variables.specs.Environments.{announced_from, environment_bits, environment_width, ids_from}
 use Rattle.bgp_variables.specs.Rooms.{full_room}
 use Rattle.bgp_variables.specs.Shapes.{bgps_bits, bgps_from, bgps_width}
 use Rattle.announced_places.specs.Announced.{places_among}
@@ -61,6 +61,11 @@ bgps_start files question plan from =
 abbrev pub environment_start : List File → Tracked → Question → Plan → ℕ → ℕ
 environment_start files tracked question plan from =
     bgps_start files question plan from + bgps_width (bgp_rooms tracked files (places_in files plan))
+
+-- where what stands behind all of these begins
+abbrev pub worlds_end : List File → Tracked → Question → Plan → ℕ → ℕ
+worlds_end files tracked question plan from =
+    environment_start files tracked question plan from + environment_width tracked files (lens_of plan)
 
 -- ---- what is open at the places
 
@@ -177,12 +182,13 @@ abbrev pub announced_things : Tracked → List File → List ℕ → List ShapeA
 announced_things tracked files lens announced =
     map (announced_thing tracked files announced) (places_among (external_places files) lens)
 
-unfoldable pub world_bits : List File → Tracked → Question → Plan → World → Environment → List Bool
-world_bits files tracked question plan world environment =
+-- those of a world in its environment, before others
+unfoldable pub world_bits : List File → Tracked → Question → Plan → World → Environment → List Bool → List Bool
+world_bits files tracked question plan world environment rest =
     packet_bits question.packets world.packet
     (downs_bits question.failures (length (links_of files)) world.failures
     (unknowns_bits (rooms_at files question.packets.dst (places_in files plan))
     (map (told_at files question world.tables) (places_in files plan))
     (bgps_bits (bgp_rooms tracked files (places_in files plan)) (map (bgp_at tracked world.tables) (places_in files plan))
     (environment_bits tracked files (lens_of plan) environment.ids
-    (announced_things tracked files (lens_of plan) (environment_shape tracked environment).announced) []))))
+    (announced_things tracked files (lens_of plan) (environment_shape tracked environment).announced) rest))))

@@ -13,7 +13,7 @@ ghost use Rattle.slot_places.specs.Rooms.{HasUsed};
 ghost use Rattle.failed_links.specs.Rows.{IsAt};
 ghost use Rattle.shape_worlds.specs.Worlds.{shapes_of};
 ghost use Rattle.routing_worlds.specs.Worlds.{HasWordNetwork, IsRouting, environment_from, is_routing, shape_world_from};
-ghost use Rattle.routing_worlds.specs.Worlds.{world_bits, world_from};
+ghost use Rattle.routing_worlds.specs.Worlds.{world_bits, world_from, worlds_end};
 
 /// Values of variables stand for a world by shapes, whatever they are. Where they pass the test, the real world and the
 /// environment that are made of it are a routing of the question (`routing`), and have these shapes (`shapes`). The plan
@@ -32,18 +32,24 @@ pub fn sound_law()
 {}
 
 /// Where each session is external, the shapes of a routing of the question are read from its own bits (`read`), which pass
-/// the test (`passes`).
+/// the test (`passes`), and what stands behind its bits is read behind its variables (`behind`).
 pub fn complete_law()
     ensures read { (files : ListOf FileOf) (tracked : TrackedOf) (question : QuestionOf) (plan : PlanOf)
-        (world : WorldOf) (environment : EnvironmentOf) (v : ℕ → Bool) (from : ℕ) →
+        (world : WorldOf) (environment : EnvironmentOf) (rest : ListOf Bool) (v : ℕ → Bool) (from : ℕ) →
         HasWordNetwork files tracked question → list_all (λ end. not end.internal) (ends_of files) ≡ true →
         HasUsed files question.packets.dst plan → IsRouting files question world environment →
-        IsAt v from (world_bits files tracked question plan world environment) →
+        IsAt v from (world_bits files tracked question plan world environment rest) →
         shape_world_from files tracked question plan v from ≡ shapes_of tracked world environment }
     ensures passes { (files : ListOf FileOf) (tracked : TrackedOf) (question : QuestionOf) (plan : PlanOf)
-        (world : WorldOf) (environment : EnvironmentOf) (v : ℕ → Bool) (from : ℕ) →
+        (world : WorldOf) (environment : EnvironmentOf) (rest : ListOf Bool) (v : ℕ → Bool) (from : ℕ) →
         HasWordNetwork files tracked question → list_all (λ end. not end.internal) (ends_of files) ≡ true →
         HasUsed files question.packets.dst plan → IsRouting files question world environment →
-        IsAt v from (world_bits files tracked question plan world environment) →
+        IsAt v from (world_bits files tracked question plan world environment rest) →
         is_routing files tracked question plan v from ≡ true }
+    ensures behind { (files : ListOf FileOf) (tracked : TrackedOf) (question : QuestionOf) (plan : PlanOf)
+        (world : WorldOf) (environment : EnvironmentOf) (rest : ListOf Bool) (v : ℕ → Bool) (from : ℕ) →
+        HasWordNetwork files tracked question → list_all (λ end. not end.internal) (ends_of files) ≡ true →
+        HasUsed files question.packets.dst plan → IsRouting files question world environment →
+        IsAt v from (world_bits files tracked question plan world environment rest) →
+        IsAt v (worlds_end files tracked question plan from) rest }
 {}

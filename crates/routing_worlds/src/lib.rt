@@ -3,3 +3,6 @@
 #![tactic(auto)]
 
 pub mod laws;
+mod words;
+
+pub use words::{read_network, read_words};

@@ -9,6 +9,7 @@ use Rattle.std.specs.List.{list_any}
 use Rattle.std.specs.Prelude.{IfSome, codes}
 use Rattle.mw_text.specs.Text.{same_text}
 use Rattle.mw_outside.specs.Contents.{Contents}
+use Rattle.net_interfaces.proofs.Members.{any_mapped}
 use Rattle.run_inputs.specs.Due.{IsDue, Outcome, usage, unread, are_names, budget_of, due, either}
 use Rattle.run_inputs.specs.Due.{conflicts_of, count_of, files_due, is_command, is_option, is_replay, is_verify}
 use Rattle.run_inputs.specs.Due.{replay_names, replay_words_due}
@@ -27,11 +28,6 @@ long_names f count names words named enough =
     let as_long : length (map f names) ≡ length words = ap length named in
     omega (arith, long, same, as_long)
 
-any-map : {A B : Type 0} (test : B → Bool) (f : A → B) (xs : List A) → list_any test (map f xs)
-    ≡ list_any (λ x. test (f x)) xs
-any-map test f [] = refl
-any-map test f (x ∷ xs) = ap (λ b. test (f x) || b) (any-map test f xs)
-
 -- enough names
 pub names_here : {A : Type 0} (f : A → List ℕ) (count : ℕ) (names : List A) (option : Bool) → count ≤ length names →
     option ≡ list_any (λ w. is_option (f w)) names → not option ≡ are_names count (map f names)
@@ -39,7 +35,7 @@ names_here f count names option enough is =
     let same = length-map names f in
     let long : nat_le count (length (map f names)) ≡ true =
     le-leb count (length (map f names)) (omega (arith, enough, same)) in
-    ap not is ∙ ap not (sym (any-map is_option f names))
+    ap not is ∙ ap not (sym (any_mapped is_option f names))
     ∙ ap (λ b. b && not (list_any is_option (map f names))) (sym long)
 
 -- whether a limit of clauses is said

@@ -109,7 +109,13 @@ name_at texts at = option_map_or (λ text. text.name) (slice_get texts at) []
 abbrev pub net_refusal : List Text → NetRefused → List ℕ
 net_refusal texts why = refused_text (name_at texts why.file) why.line (net_cause_text why.cause)
 
--- the first line of a file for which `verify` cannot answer yet: its BGP block
+-- the file has an internal neighbour (RFC 4271, section 1.1, internal peer): its BGP process has a `neighbor` line whose
+-- `remote-as` is its own AS number
+abbrev pub has_internal : File → Bool
+has_internal file =
+    option_map_or (λ bgp. list_any (λ neighbour. bgp.asn == neighbour.asn) bgp.neighbours) file.bgp false
+
+-- the line at which `verify` refuses a file for which it cannot answer yet: its BGP block
 abbrev pub unbuilt_line : File → Option ℕ
 unbuilt_line file = option_map (λ bgp. bgp.line) file.bgp
 
@@ -117,11 +123,10 @@ unbuilt_line file = option_map (λ bgp. bgp.line) file.bgp
 abbrev pub unbuilt_line_at : List File → ℕ → ℕ
 unbuilt_line_at files at = unwrap_or (option_and_then unbuilt_line (slice_get files at)) 0
 
--- the first file whose router runs BGP is refused at that line
+-- the first file that has an internal neighbour is refused at that line
 abbrev pub unbuilt : List Text → List File → Option (List ℕ)
 unbuilt texts files =
-    option_map (λ at. not_built (name_at texts at) (unbuilt_line_at files at))
-    (position (λ file. is_some file.bgp) files)
+    option_map (λ at. not_built (name_at texts at) (unbuilt_line_at files at)) (position has_internal files)
 
 -- files that break no rule of networks, and for which `verify` can answer
 abbrev pub answered_network : List Text → List File → Result (List File) Outcome

@@ -1,8 +1,9 @@
 -- How a run ends before the answers, and what is ready to be answered.
-use Rattle.std.specs.Prelude.{◌≡◌, ⊤, ℕ, ◌*◌, ◌≤◌, List, length, slice_get, true, Some, Result, Ok, Err}
-use Rattle.world_variables.specs.Slots.{runs_no_bgp}
+use Rattle.std.specs.Prelude.{◌≡◌, ⊤, ℕ, ◌*◌, ◌≤◌, Bool, List, length, not, slice_get, true, Some, Result, Ok, Err}
+use Rattle.std.specs.List.{list_all}
 use Rattle.cex_json.specs.declared.counterexample.Counterexample.{Counterexample}
 use Rattle.ios_ast.specs.declared.file.File.{File}
+use Rattle.net_parts.specs.Sessions.{ends_of}
 use Rattle.net_parts.specs.World.{IsEnvironment, IsFailureSet}
 use Rattle.question_lang.specs.declared.question.Question.{Question}
 use Rattle.question_lang.specs.declared.reader.TheConstants.{MOST_QUESTIONS}
@@ -33,6 +34,10 @@ UnlessReadFault (Err stop.Memory) P = P
 abbrev pub AreSmall : List Text → Type 0
 AreSmall texts = (k : ℕ) (text : Text) → slice_get texts k ≡ Some text → length text.bytes ≤ MOST_BYTES
 
+-- no session of the network is internal: each has its ends in two ASes (RFC 4271, section 1.1, external peer)
+abbrev pub are_external : List File → Bool
+are_external files = list_all (λ end. not end.internal) (ends_of files)
+
 -- how many clauses a search may learn
 abbrev pub IsBudget : ℕ → Type 0
 IsBudget budget = (1 ≤ budget) × (budget ≤ MOST_CONFLICTS)
@@ -52,8 +57,8 @@ pub record IsAdmitted (files : List File) (questions : List Question) (cex : Cou
   pub failures : IsFailureSet files question.failures cex.failures
   pub slots : length cex.tables.slots ≡ LENGTHS * length files
 
--- the work can be done: no router runs BGP and the questions are few, or the counterexample is admitted
+-- the work can be done: each session is external and the questions are few, or the counterexample is admitted
 abbrev pub IsReady : Work → Type 0
 IsReady (Answer loaded) =
-    (runs_no_bgp loaded.net.files ≡ true) × (length loaded.questions ≤ MOST_QUESTIONS) × IsBudget loaded.budget
+    (are_external loaded.net.files ≡ true) × (length loaded.questions ≤ MOST_QUESTIONS) × IsBudget loaded.budget
 IsReady (Replay told) = IsAdmitted told.net.files told.questions told.cex

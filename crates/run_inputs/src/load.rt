@@ -1,20 +1,19 @@
 //! Reads and parses the files that the words name.
 
-ghost use Rattle.std.specs.Prelude.{◌≡◌, ◌≢◌, ◌≤◌, ◌++◌, ◌∷◌, [], Ok, Err, None, true, IfOk, IfErr, IfSome, is_some, length, map, position, string_bytes};
-ghost use Rattle.std.specs.List.{list_all};
+ghost use Rattle.std.specs.Prelude.{◌≡◌, ◌≢◌, ◌≤◌, ◌==◌, ◌++◌, ◌∷◌, [], Ok, Err, None, true, IfOk, IfErr, IfSome, length, map, position, string_bytes};
+ghost use Rattle.std.specs.List.{list_all, list_any};
 ghost use Rattle.ios_ast.specs.Limits.{keeps_limits};
 ghost use Rattle.mw_text.specs.Reading.{each};
 ghost use Rattle.run_inputs.specs.Texts as lines;
-ghost use Rattle.world_variables.specs.Slots.{runs_no_bgp};
 ghost use Rattle.mw_outside.specs.Faults.{Rose};
 ghost use Rattle.mw_outside.specs.Contents.{TellsOnly};
 ghost use Rattle.question_lang.specs.Known.{AreKnown};
 ghost use Rattle.run_inputs.specs.Due as due;
 ghost use Rattle.run_inputs.specs.Order.{StopsAt};
-ghost use Rattle.run_inputs.specs.Loading.{OnStop, UnlessReadFault, AreSmall};
+ghost use Rattle.run_inputs.specs.Loading.{OnStop, UnlessReadFault, AreSmall, are_external};
 
 use crate::text::{Text, net_refused, not_built, refusal, too_long};
-use ios_ast::File;
+use ios_ast::{Bgp, File};
 use ios_policy_reader::{Cause, Refused};
 use ios_reader::read_file;
 use mw_outside::{Files, ReadRefused, read_whole};
@@ -185,30 +184,44 @@ fn net_refusal(alloc: Global, texts: &[Text], why: NetRefused) -> Result<List<u8
     net_refused(alloc, name_at(texts, why.file as usize), &why)
 }
 
-// The first line of a file for which `verify` cannot answer yet.
+// The line at which a file for which `verify` cannot answer yet is refused.
 fn unbuilt_line(file: &File) -> Option<u32>
     ensures { result ≡ due.unbuilt_line file.now }
 {
     file.bgp.as_ref().map(|bgp| bgp.line)
 }
 
-fn runs_bgp(file: &File) -> bool
-    ensures { result ≡ is_some file.now.bgp }
+fn names_own_as(bgp: &Bgp) -> bool
+    ensures { result ≡ list_any (λ neighbour. bgp.now.asn == neighbour.asn) bgp.now.neighbours }
 {
-    file.bgp.is_some()
+    let asn = bgp.asn;
+    bgp.neighbours
+        .as_slice()
+        .iter()
+        .any(|neighbour| asn == neighbour.asn)
+}
+
+// Whether the router has an internal neighbour.
+fn has_internal(file: &File) -> bool
+    ensures { result ≡ due.has_internal file.now }
+{
+    match &file.bgp {
+        Some(bgp) => names_own_as(bgp),
+        None => false,
+    }
 }
 
 fn find_unbuilt(files: &[File]) -> Option<usize>
-    ensures { result ≡ position (λ file. is_some file.bgp) files.now }
+    ensures { result ≡ position due.has_internal files.now }
 {
-    files.iter().position(|file| runs_bgp(file))
+    files.iter().position(|file| has_internal(file))
 }
 
-// The number of the first file for which `verify` cannot answer yet. Where there is none, no router runs BGP.
-#[tactic(auto, using(crate::proofs::Deciding::none_runs_bgp))]
+// The number of the first file for which `verify` cannot answer yet. Where there is none, each session is external.
+#[tactic(auto, using(crate::proofs::Deciding::none_internal))]
 fn first_unbuilt(files: &[File]) -> Option<usize>
-    ensures first { result ≡ position (λ file. is_some file.bgp) files.now }
-    ensures none { result ≡ None → runs_no_bgp files.now ≡ true }
+    ensures first { result ≡ position due.has_internal files.now }
+    ensures none { result ≡ None → are_external files.now ≡ true }
 {
     let found = find_unbuilt(files);
     found
@@ -248,7 +261,7 @@ fn stop_at_network(alloc: Global, texts: &[Text], why: NetRefused) -> Stop
 // The network, where `verify` can answer for it.
 fn answered_network(alloc: Global, texts: &[Text], net: Net) -> Result<Net, Stop>
     ensures ok { IfOk result (λ answered. due.answered_network texts.now net.files ≡ Ok answered.files) }
-    ensures no_bgp { IfOk result (λ answered. runs_no_bgp answered.files ≡ true) }
+    ensures external { IfOk result (λ answered. are_external answered.files ≡ true) }
     ensures stop { IfErr result (λ stop. OnStop stop (λ line. due.answered_network texts.now net.files ≡ Err (due.refused line)) ⊥) }
 {
     match first_unbuilt(net.routers()) {
@@ -307,7 +320,7 @@ fn parse(alloc: Global, budget: u64, texts: &[Text], asked: &Text) -> Result<Loa
     requires asked { length asked.now.bytes ≤ MOST_BYTES }
     ensures ok { IfOk result (λ loaded. due.texts_due budget texts.now asked.now ≡ Ok (due.answering loaded.net.files loaded.questions budget)) }
     ensures budget { IfOk result (λ loaded. loaded.budget ≡ budget) }
-    ensures no_bgp { IfOk result (λ loaded. runs_no_bgp loaded.net.files ≡ true) }
+    ensures external { IfOk result (λ loaded. are_external loaded.net.files ≡ true) }
     ensures few { IfOk result (λ loaded. length loaded.questions ≤ MOST_QUESTIONS) }
     ensures stop { IfErr result (λ stop. OnStop stop (λ line. due.texts_due budget texts.now asked.now ≡ Err (due.refused line)) ⊥) }
 {
@@ -322,8 +335,8 @@ fn parse(alloc: Global, budget: u64, texts: &[Text], asked: &Text) -> Result<Loa
 }
 
 /// Reads the configurations of these names and then the questions file, and parses them in this order. A read fault is
-/// answered only where a read of one of these files failed in this call, and a refusal is the first in this order. The
-/// network must run no BGP.
+/// answered only where a read of one of these files failed in this call, and a refusal is the first in this order. No
+/// file may have an internal neighbour.
 pub fn load<F: Files>(
     alloc: Global,
     files: &mut F,
@@ -335,7 +348,7 @@ pub fn load<F: Files>(
     ensures ok { IfOk result (λ loaded. IfSome (F.contents files.old) (λ contents.
         due.files_due contents budget questions.now (map string_bytes names.now) ≡ Ok (due.answering loaded.net.files loaded.questions budget))) }
     ensures budget { IfOk result (λ loaded. loaded.budget ≡ budget) }
-    ensures no_bgp { IfOk result (λ loaded. runs_no_bgp loaded.net.files ≡ true) }
+    ensures external { IfOk result (λ loaded. are_external loaded.net.files ≡ true) }
     ensures few { IfOk result (λ loaded. length loaded.questions ≤ MOST_QUESTIONS) }
     ensures quiet { UnlessReadFault result (F.faults files.new ≡ F.faults files.old) }
     ensures name_stays { UnlessReadFault result (F.last_failed files.new ≡ F.last_failed files.old) }

@@ -21,6 +21,7 @@ use Rattle.route_record.specs.declared.TheConstants.{LENGTHS}
 use Rattle.route_record.specs.declared.tracked.Tracked.{Tracked}
 use Rattle.route_record.specs.declared.World.{World}
 use Rattle.route_record.specs.Places.{slot_at}
+use Rattle.net_interfaces.proofs.Options.{chained, if_is}
 use Rattle.net_parts.specs.Stable.{Stable}
 use Rattle.net_parts.specs.Tracked.{TracksNet}
 use Rattle.net_parts.specs.World.{IsEnvironment}
@@ -34,7 +35,7 @@ use Rattle.rebuilt_routes.proofs.ShapesFollow.{all_follow}
 use Rattle.route_record.specs.Fits.{FitsBgp}
 use Rattle.rebuilt_routes.specs.Deciding.{AreDecided, AreDecidedShapes, HaveRealRoutes, is_decided_shape}
 use Rattle.rebuilt_routes.specs.Following.{AllFollow, held_at, real_routes, slot_with}
-use Rattle.rebuilt_routes.proofs.Options.{chained, if_is, mapped}
+use Rattle.rebuilt_routes.proofs.Options.{mapped}
 use Rattle.rebuilt_routes.proofs.RoutesDecided.{are_decided}
 use Rattle.rebuilt_routes.proofs.StableShapes.{shapes_decided}
 use Rattle.shape_worlds.specs.Worlds.{IsRealWorld, ShapeWorld, environment_of, has_all_marks, is_decided_at}

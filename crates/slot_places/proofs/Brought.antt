@@ -28,6 +28,7 @@ use Rattle.route_record.specs.declared.RibEntry.{RibEntry}
 use Rattle.route_record.specs.declared.RibSource.{RibSource}
 use Rattle.route_record.specs.declared.RibSource.TheVariants.{Connected, Static, Ebgp, Ibgp, Ospf as OspfEntry}
 use Rattle.route_record.specs.declared.Slot.{Slot}
+use Rattle.net_interfaces.proofs.Members.{filter-in, in-find}
 use Rattle.net_parts.specs.declared.sessions.SessionEnd.{SessionEnd}
 use Rattle.net_parts.specs.Entries.{bgp_entry, entry_with, ospf_entry}
 use Rattle.net_parts.specs.Exports.{learnt_over}
@@ -36,7 +37,7 @@ use Rattle.net_parts.specs.Origins.{redistributed_route}
 use Rattle.net_parts.specs.Routing.{closer, is_direct, static_routes, up_interfaces}
 use Rattle.net_parts.proofs.LeastWalks.{filter_map-in, in-left}
 use Rattle.slot_places.specs.Origins.{external_after, metric_after, slot_from, taken_of_bgp, type1_after}
-use Rattle.slot_places.proofs.Members.{all-from-in, filter-in, in-find, map-in, ordered-in}
+use Rattle.slot_places.proofs.Members.{all-from-in, map-in, ordered-in}
 
 -- ---- what a line takes of an entry from that source
 
@@ -229,7 +230,7 @@ IsBacked files failures router file p slot OspfEntry = is_some slot.ospf ≡ tru
 IsBacked files failures router file p slot Ibgp = is_some slot.bgp ≡ true
 
 -- the first of least distance is one of the entries
-of_closer : (P : RibEntry → Type 0) (entries : List RibEntry) (best : Option RibEntry) → IfSome best P →
+pub of_closer : (P : RibEntry → Type 0) (entries : List RibEntry) (best : Option RibEntry) → IfSome best P →
     All P entries → IfSome (fold closer best entries) P
 of_closer P [] best here all = here
 of_closer P (e ∷ entries) None here all =

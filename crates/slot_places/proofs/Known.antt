@@ -38,13 +38,14 @@ use Rattle.net_parts.specs.Routing.{counts, is_direct, static_routes, up_interfa
 use Rattle.net_parts.specs.Stable.{Stable}
 use Rattle.net_parts.specs.World.{is_up}
 use Rattle.net_parts.proofs.LeastWalks.{in-cases, in-filter, in-filter_map, in-left, in-map, in-right}
+use Rattle.net_model.proofs.OneSubnet.{one_prefix}
 use Rattle.slot_places.specs.Origins.{advertised_by, by_file, by_process, default_of, default_record, is_static_at}
 use Rattle.slot_places.specs.Origins.{is_subnet_at, meets, origins_at, slot_from, taken_from, taken_of_bgp}
 use Rattle.slot_places.specs.Origins.{taken_of_bgp_lines, taken_of_static, taken_of_subnet}
 use Rattle.slot_places.specs.Supported.{AreOrigins}
 use Rattle.slot_places.proofs.Brought.{IsBacked, IsOfBgp, brought, by_entry, by_none, connected_again, entry_backed}
 use Rattle.slot_places.proofs.Brought.{of_bgp, of_ibgp, of_ospf, static_again}
-use Rattle.slot_places.proofs.Meeting.{meets-there, prefix-same}
+use Rattle.slot_places.proofs.Meeting.{meets-there}
 use Rattle.slot_places.proofs.Members.{all-from-in, flat_map-in, in-any, in-place}
 
 -- ---- connected subnets and static routes of a prefix of a destination
@@ -73,7 +74,7 @@ subnet_there files failures destinations d router len covered direct =
       own = both.0;
       fits = and_from _ _ (and_parts (not x.shutdown) _ both.1).0
           (meets-there x.subnet destinations d len found.2 covered);
-      is = prefix-same x.subnet (prefix_at d len) found.2;
+      is = one_prefix x.subnet (prefix_at d len) found.2;
     }
 
 -- a static route of the file to that prefix, whose distance is not 255
@@ -96,7 +97,7 @@ static_there files failures destinations d router len file route covered there =
       there = found.0;
       fits = and_from _ _ (and_parts (not (route.distance == 255)) _ both.1).0
           (meets-there route.prefix destinations d len both.0 covered);
-      is = prefix-same route.prefix (prefix_at d len) both.0;
+      is = one_prefix route.prefix (prefix_at d len) both.0;
     }
 
 -- ---- of a slot whose entry rests on something, and which holds a BGP route only where BGP runs

@@ -60,11 +60,3 @@ pub meets-there : (q destinations : Prefix) (d : Addr) (len : ℕ) → same_pref
     covers destinations d ≡ true → meets destinations len q ≡ true
 meets-there q destinations d len same covered =
     and_from _ _ (and_parts _ _ same).1 (shares q destinations d len same covered)
-
--- prefixes that are the same are equal
-pub prefix-same : (p q : Prefix) → same_prefix p q ≡ true → p ≡ q
-prefix-same p q same =
-    let both = and_parts _ _ same in
-    let addr = eqb-true p.addr.0 q.addr.0 both.0 in
-    let len = eqb-true p.len q.len both.1 in
-    λ i. record { addr = record { 0 = addr i }; len = len i }

@@ -1,8 +1,8 @@
 -- Members of lists, as members of what is made of them.
-use Rattle.std.proofs.Common.{◌≡◌, Bool, true, false, ◌||◌, List, [], ◌∷◌, map, filter, Some, inl, inr}
+use Rattle.std.proofs.Common.{◌≡◌, Bool, true, false, ◌||◌, List, [], ◌∷◌, map, Some, inl, inr}
 use Rattle.std.proofs.Common.{refl, sym, ap, subst, arith, ◌∙◌, length, slice_get, ℕ, zero, suc}
-use Rattle.std.specs.Prelude.{◌==◌, All, cond, if◌then◌else◌}
-use Rattle.std.specs.List.{find, flat_map, list_any}
+use Rattle.std.specs.Prelude.{◌==◌, All, if◌then◌else◌}
+use Rattle.std.specs.List.{flat_map, list_any}
 use Rattle.std.proofs.lemmas.List.Elements.{All-cons, All-nil}
 use Rattle.std.proofs.lemmas.Bool.{eqb-true}
 use Rattle.std.proofs.lemmas.Option.{same_Some}
@@ -15,17 +15,6 @@ pub map-in : {X Y : Type 0} (f : X → Y) (xs : List X) (x : X) → In x xs → 
 map-in f [] x there = absurd there
 map-in f (y ∷ ys) x (inl same) = inl (ap f same)
 map-in f (y ∷ ys) x (inr later) = inr (map-in f ys x later)
-
-pub filter-in : {X : Type 0} (p : X → Bool) (xs : List X) (x : X) → In x xs → p x ≡ true → In x (filter p xs)
-filter-in p [] x there passes = absurd there
-filter-in {X} p (y ∷ ys) x (inl same) passes = by (p y) (sym (ap p same) ∙ passes) where
-  by : (b : Bool) → b ≡ true → In x (cond b (y ∷ filter p ys) (filter p ys))
-  by true is = inl same
-  by false is = absurd cc
-filter-in {X} p (y ∷ ys) x (inr later) passes = by (p y) (filter-in p ys x later passes) where
-  by : (b : Bool) → In x (filter p ys) → In x (cond b (y ∷ filter p ys) (filter p ys))
-  by true there = inr there
-  by false there = there
 
 pub flat_map-in : {X Y : Type 0} (f : X → List Y) (xs : List X) (x : X) (y : Y) → In x xs → In y (f x) →
     In y (flat_map f xs)
@@ -64,14 +53,6 @@ pub all-from-in : {X : Type 0} (P : X → Type 0) (xs : List X) → ((x : X) →
 all-from-in P [] each = All-nil P
 all-from-in P (x ∷ xs) each =
     All-cons P x xs (each x (inl refl)) (all-from-in P xs (λ y there. each y (inr there)))
-
--- the one that is found is a member
-pub in-find : {X : Type 0} (p : X → Bool) (xs : List X) (x : X) → find p xs ≡ Some x → In x xs
-in-find p [] x found = absurd cc
-in-find {X} p (y ∷ ys) x found = by (p y) found (in-find p ys x) where
-  by : (b : Bool) → cond b (Some y) (find p ys) ≡ Some x → (find p ys ≡ Some x → In x ys) → In x (y ∷ ys)
-  by true is rest = inl (sym (same_Some y x is))
-  by false is rest = inr (rest is)
 
 -- ordering by numbers brings in no other
 put-in : {E : Type 0} (number : E → ℕ) (e : E) (xs : List E) (x : E) → In x (put_by number e xs) → In x (e ∷ xs)

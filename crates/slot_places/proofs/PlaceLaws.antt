@@ -8,6 +8,8 @@ use Rattle.std.proofs.lemmas.List.Kept.{AllPairs-cons}
 use Rattle.mw_text.proofs.Lists.{below_at}
 use Rattle.mw_text.specs.Members.{In, all_below}
 use Rattle.route_record.specs.declared.Plan.{Plan}
+use Rattle.net_interfaces.proofs.Pairs.{first as first_rest, later as behind, no_pairs}
+use Rattle.net_interfaces.proofs.Members.{filter-in}
 use Rattle.net_parts.proofs.LeastWalks.{in-cases, in-left, in-map, in-right}
 use Rattle.plan_places.specs.declared.places.Place.{Place}
 use Rattle.mw_text.specs.declared.address.Prefix.{Prefix}
@@ -16,7 +18,7 @@ use Rattle.route_record.specs.declared.TheConstants.{LENGTHS}
 use Rattle.plan_places.specs.Places.{IsBefore, has_place, is_at, place, places_below, places_of}
 use Rattle.plan_places.specs.Plans.{has_slice, lens_below, lens_of, numbers_below, single_plan}
 use Rattle.slot_places.specs.Rooms.{HasUsed, can_be_used, used_among}
-use Rattle.slot_places.proofs.Members.{all-from-in, any-in, filter-in, in-any, map-in}
+use Rattle.slot_places.proofs.Members.{all-from-in, any-in, in-any, map-in}
 use Rattle.slot_places.proofs.Supports.{all_in}
 
 -- ---- which lengths
@@ -98,21 +100,12 @@ in-places lens (suc n) p there =
 
 -- ---- in which order
 
-pub first_rest : {X : Type 0} (R : X → X → Type 0) (x : X) (xs : List X) → AllPairs R (x ∷ xs) → All (R x) xs
-first_rest R x xs pairs = λ k d within. pairs 0 (suc k) d (omega arith) (omega (arith, within))
-
-pub behind : {X : Type 0} (R : X → X → Type 0) (x : X) (xs : List X) → AllPairs R (x ∷ xs) → AllPairs R xs
-behind R x xs pairs = λ i j d earlier within. pairs (suc i) (suc j) d (omega (arith, earlier)) (omega (arith, within))
-
 pairs-append : {X : Type 0} (R : X → X → Type 0) (xs ys : List X) → AllPairs R xs → AllPairs R ys →
     ((x : X) → In x xs → All (R x) ys) → AllPairs R (xs ++ ys)
 pairs-append R [] ys front back between = back
 pairs-append R (x ∷ xs) ys front back between =
     AllPairs-cons R x (xs ++ ys) (All-append (R x) xs ys (first_rest R x xs front) (between x (inl refl)))
     (pairs-append R xs ys (behind R x xs front) back (λ y there. between y (inr there)))
-
-no_pairs : {X : Type 0} (R : X → X → Type 0) → AllPairs R []
-no_pairs R = λ i j d earlier within. absurd (omega (arith, within))
 
 one_alone : {X : Type 0} (R : X → X → Type 0) (x : X) → AllPairs R (x ∷ [])
 one_alone R x = λ i j d earlier within. absurd (omega (arith, earlier, within))

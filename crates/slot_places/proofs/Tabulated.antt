@@ -3,9 +3,9 @@
 use Rattle.std.proofs.Common.{◌≡◌, ℕ, ◌<◌, Bool, true, false, List, [], ◌∷◌}
 use Rattle.std.proofs.Common.{length, map}
 use Rattle.std.proofs.Common.{Some, None, refl, sym, ap, ap₂, subst, ◌∙◌, slice_get}
-use Rattle.std.specs.Prelude.{◌&&◌, ◌||◌, ◌==◌, All, if◌then◌else◌}
+use Rattle.std.specs.Prelude.{◌&&◌, ◌||◌, All, if◌then◌else◌}
 use Rattle.std.specs.Option.{option_map_or}
-use Rattle.std.proofs.lemmas.Bool.{and_parts, eqb-true}
+use Rattle.std.proofs.lemmas.Bool.{and_parts}
 use Rattle.std.proofs.lemmas.List.Elements.{All-head, All-tail}
 use Rattle.std.proofs.lemmas.Option.{same_Some, slice_get_within}
 use Rattle.mw_text.specs.declared.address.Addr.{Addr}
@@ -23,15 +23,9 @@ use Rattle.plan_places.specs.declared.places.Place.{Place}
 use Rattle.plan_places.specs.Places.{has_place, is_at, item_at, place}
 use Rattle.plan_places.specs.Tables.{all_hold, empty_slot, slot_among, tables_over, tabulated}
 use Rattle.plan_places.proofs.Tabulated.{tabulated-at, tabulated-length, tabulated-same}
+use Rattle.slot_places.proofs.PlaceLaws.{at-is}
 
 -- ---- what stands at a place, and off the places
-
-at_is : (p : Place) (router len : ℕ) → is_at router len p ≡ true → p ≡ place router len
-at_is p router len is =
-    let both = and_parts (p.router == router) (p.len == len) is in
-    let a = eqb-true p.router router both.0 in
-    let b = eqb-true p.len len both.1 in
-    λ i. record { router = a i; len = b i }
 
 -- something is open there that passes the test
 record IsMade {U : Type 0} (holds : Place → U → Bool) (ps : List Place) (us : List U) (router len : ℕ) : Type 0 where
@@ -54,7 +48,7 @@ made {U} holds (p ∷ ps) (u ∷ us) router len hold there =
     by true is here there' rest = record {
       open_part = u;
       is = ap (λ b. if b then Some u else item_at ps us router len) is;
-      passes = subst (λ q. holds q u ≡ true) (at_is p router len is) here;
+      passes = subst (λ q. holds q u ≡ true) (at-is p router len is) here;
     }
     by false is here there' rest = let later = rest there' in record {
       open_part = later.open_part;
@@ -141,7 +135,7 @@ item_again {U} open_at (p ∷ ps) router len there =
         (has_place ps router len ≡ true →
         item_at ps (map open_at ps) router len ≡ Some (open_at (place router len))) →
         (if b then Some (open_at p) else item_at ps (map open_at ps) router len) ≡ Some (open_at (place router len))
-    by true is there' rest = ap (λ q. Some (open_at q)) (at_is p router len is)
+    by true is there' rest = ap (λ q. Some (open_at q)) (at-is p router len is)
     by false is there' rest = rest there'
 
 pub tables_again : {U : Type 0} (slot_of : Place → U → Slot) (open_at : Place → U) (f : ℕ → ℕ → Slot)

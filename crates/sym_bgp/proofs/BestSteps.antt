@@ -5,11 +5,12 @@ use Rattle.std.proofs.Common.{◌∙◌}
 use Rattle.std.proofs.Common.{arith}
 use Rattle.std.specs.Option.{option_map_or}
 use Rattle.std.proofs.lemmas.Grind.{common_steps}
-use Rattle.std.proofs.lemmas.List.{append-nil, append_assoc, drop_all, drop_more, length-append}
+use Rattle.std.proofs.lemmas.List.{append-nil, drop_all, drop_more, length-append}
 use Rattle.term_store.specs.declared.NodeId.{NodeId}
 use Rattle.term_store.specs.Terms.{Reading, at}
 use Rattle.term_arith.specs.Bits.{bits, ids_end}
-use Rattle.term_arith.proofs.NumberLemmas.{bits_push, ids_end_push, node_steps}
+use Rattle.term_arith.proofs.NumberLemmas.{ids_end_push, node_steps}
+use Rattle.sym_policy.proofs.Rows.{with_push}
 use Rattle.net_parts.specs.declared.steps.Step.{Step}
 use Rattle.bgp_shapes.specs.Numbers.{best_of, better_of, compared_number, is_greater_better, kept_by, wins}
 use Rattle.sym_bgp.specs.declared.parts.SymKey.{SymKey}
@@ -91,11 +92,6 @@ kept_end w greater s best flags keys i past =
     ap (λ fs. kept_by greater best (bits w fs) (map (compared_number s) (keys_at w (drop i keys))))
     (drop_all i flags past)
 
--- a row with one more bit, before the rest
-pub row_push : (w : Reading) (out : List NodeId) (id : NodeId) (rest : List Bool) →
-    bits w (out ++ id ∷ []) ++ rest ≡ bits w out ++ at w id ∷ rest
-row_push w out id rest = ap (λ bs. bs ++ rest) (bits_push w out id) ∙ append_assoc (bits w out) (at w id ∷ []) rest
-
 -- a list with one more element
 pub put_rows : {X : Type 0} (out after : List X) (x : X) (i : ℕ) → after ≡ out ++ x ∷ [] → length out ≡ i →
     length after ≡ i + 1
@@ -125,7 +121,7 @@ kept_one_more w s best flags keys i d key out node in_flags in_keys here greater
     kept_by (is_greater_better s) best (bits w (drop (i + 1) flags)) (map n (keys_at w (drop (i + 1) keys))) in
     let kept : List NodeId → List SymKey → List Bool =
     λ fs ks. kept_by (is_greater_better s) best (bits w fs) (map n (keys_at w ks)) in
-    row_push w out node rest
+    with_push w out node rest
     ∙ ap (λ b. bits w out ++ b ∷ rest) node_is
     ∙ (λ k. bits w out ++ (flag && not (option_map_or (λ b. wins (greater_is k) b (value_is k)) best false)) ∷ rest)
     ∙ ap (λ k. bits w out ++ kept (get_or flags i d ∷ drop (i + 1) flags) (k ∷ drop (i + 1) keys)) here

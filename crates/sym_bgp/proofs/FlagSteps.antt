@@ -1,5 +1,5 @@
 -- Flags beside keys, one after another.
-use Rattle.std.proofs.Common.{◌≡◌, ℕ, zero, suc, ◌+◌, ◌<◌, ◌≤◌, ◌&&◌, ◌||◌, Bool, true, false, not, List, [], ◌∷◌, ◌++◌}
+use Rattle.std.proofs.Common.{◌≡◌, ℕ, zero, suc, ◌+◌, ◌<◌, ◌≤◌, ◌&&◌, ◌||◌, Bool, false, not, List, [], ◌∷◌, ◌++◌}
 use Rattle.std.proofs.Common.{length, drop, get_or, map, fold, refl, sym, ap, ◌∙◌, arith}
 use Rattle.std.proofs.lemmas.Grind.{common_steps}
 use Rattle.std.proofs.lemmas.List.{append-nil, drop_all, drop_more}
@@ -7,16 +7,17 @@ use Rattle.term_store.specs.declared.NodeId.{NodeId}
 use Rattle.term_store.specs.Terms.{Reading, at}
 use Rattle.term_arith.specs.Bits.{bits}
 use Rattle.term_arith.proofs.NumberLemmas.{node_steps}
+use Rattle.sym_policy.proofs.Rows.{with_push}
 use Rattle.net_parts.specs.declared.steps.Step.{Step}
 use Rattle.net_parts.specs.declared.steps.Step.TheVariants.{Weight, Preference, Origination, PathLength, Origin, Med}
 use Rattle.net_parts.specs.declared.steps.Step.TheVariants.{Session, Cost, Identifier, Clusters, Address}
 use Rattle.net_parts.specs.Decisions.{Key, removes}
 use Rattle.bgp_shapes.specs.Flags.{any_flagged, left, left_of}
-use Rattle.bgp_shapes.specs.Numbers.{best_of, compared_number, compares_all, is_greater_better, kept_by}
+use Rattle.bgp_shapes.specs.Numbers.{compares_all}
 use Rattle.bgp_shapes.proofs.NumberLaw.{kept_left}
 use Rattle.sym_bgp.specs.declared.parts.SymKey.{SymKey}
 use Rattle.sym_bgp.specs.Keys.{key_at, keys_at}
-use Rattle.sym_bgp.proofs.BestSteps.{keys_end_at, row_push}
+use Rattle.sym_bgp.proofs.BestSteps.{keys_end_at}
 
 -- a test of one more of what is flagged
 pub flagged_more : {X Y : Type 0} (w : Reading) (f : X → Y) (test : Y → Bool) (flags : List NodeId) (xs : List X)
@@ -70,7 +71,7 @@ pub left_end : (w : Reading) (all : List Bool) (ks : List Key) (flags : List Nod
 left_end w all ks flags keys i past =
     ap (λ fs. left_of false Med all ks (bits w fs) (keys_at w (drop i keys))) (drop_all i flags past)
 
-pub ruleset left_steps = (node_steps, keys_end_at, left_at, left_end, row_push, append-nil)
+pub ruleset left_steps = (node_steps, keys_end_at, left_at, left_end, with_push, append-nil)
 
 -- a step that does not compare all is that of the MED within one neighbouring AS
 pub med_left : (always : Bool) (s : Step) (flags : List Bool) (keys : List Key) → compares_all always s ≡ false →
@@ -87,13 +88,7 @@ med_left always Identifier flags keys differs = cc
 med_left always Clusters flags keys differs = cc
 med_left always Address flags keys differs = cc
 
-pub best_left : (always : Bool) (s : Step) (flags : List Bool) (keys : List Key) → compares_all always s ≡ true →
-    kept_by (is_greater_better s) (best_of (is_greater_better s) flags (map (compared_number s) keys)) flags
-    (map (compared_number s) keys)
-    ≡ left always keys flags s
-best_left always s flags keys all = kept_left always s flags keys all
-
-pub ruleset step_left = (med_left, best_left)
+pub ruleset step_left = (med_left, kept_left)
 
 -- one step of those that are left. The first half shows which
 pub fold_more : (always : Bool) (keys : List Key) (flags : List Bool) (steps : List Step) (i : ℕ) (d : Step) →

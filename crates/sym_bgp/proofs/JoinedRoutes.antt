@@ -9,7 +9,6 @@ use Rattle.route_record.specs.declared.tracked.Tracked.{Tracked}
 use Rattle.route_shapes.specs.Bgp.{BgpShape}
 use Rattle.route_shapes.specs.Shapes.{PathShape, Preferences, RouteShape}
 use Rattle.bgp_shapes.specs.Messages.{seen_by_maps, with_seen}
-use Rattle.sym_policy.specs.declared.parts.SymPath.{SymPath}
 use Rattle.sym_policy.specs.declared.parts.SymPreferences.{SymPreferences}
 use Rattle.sym_policy.specs.declared.parts.SymRest.{SymRest}
 use Rattle.sym_policy.specs.declared.parts.SymRoute.{SymRoute}
@@ -17,8 +16,8 @@ use Rattle.sym_policy.specs.declared.records.SymBgp.{SymBgp}
 use Rattle.sym_policy.specs.declared.records.SymMapRec.{SymMapRec}
 use Rattle.sym_policy.specs.Held.{bgp_at, bgp_of}
 use Rattle.sym_policy.specs.MapRecs.{KeepsRest, attributes_at, map_rec_at}
-use Rattle.sym_policy.specs.Routes.{path_at, preferences_at, route_at}
-use Rattle.sym_policy.specs.SameNodes.{HasPath, HasPreferences, IsJoined, IsRest}
+use Rattle.sym_policy.specs.Routes.{preferences_at, route_at}
+use Rattle.sym_policy.specs.SameNodes.{HasPreferences, IsJoined, IsRest}
 use Rattle.sym_policy.proofs.SameNodes.{joined_steps}
 use Rattle.sym_bgp.specs.Joined.{HasMarks, rest_at, with_rest}
 
@@ -77,15 +76,6 @@ preferences_read w held s h = λ i. record {
   local_pref = number w (h.local_pref i);
   med = number w (h.med i);
   origin = number w (h.origin i);
-}
-
-pub path_read : (w : Reading) (held : SymBgp) (s : SymPath) → HasPath held.len held.first held.last held.numbers s →
-    path_at w s ≡ (bgp_at w held).path
-path_read w held s h = λ i. record {
-  len = number w (h.len i);
-  first = number w (h.first i);
-  last = number w (h.last i);
-  numbers = bits w (h.numbers i);
 }
 
 pub rest_read : (w : Reading) (held : SymBgp) (seen : RouteShape) (s : SymRest) → IsRest held s →

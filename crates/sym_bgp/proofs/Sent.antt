@@ -25,9 +25,9 @@ use Rattle.term_arith.specs.Bits.{bit, number}
 use Rattle.term_arith.proofs.NumberLemmas.{node_steps}
 use Rattle.sym_policy.specs.declared.parts.SymRest.{SymRest}
 use Rattle.sym_policy.specs.Routes.{IsBare}
-use Rattle.sym_policy.proofs.SameNodes.{bgp_within, path_within}
+use Rattle.sym_policy.proofs.SameNodes.{bgp_within, path_read, path_within}
 use Rattle.sym_bgp.specs.Joined.{RestShape, rest_at, rest_sent, sent_of, shape_through, with_rest}
-use Rattle.sym_bgp.proofs.JoinedRoutes.{path_read, route_steps}
+use Rattle.sym_bgp.proofs.JoinedRoutes.{route_steps}
 
 pub ruleset path_steps = (path_within, path_read)
 

@@ -22,9 +22,9 @@ use Rattle.sym_policy.specs.declared.parts.SymRest.{SymRest}
 use Rattle.sym_policy.specs.declared.records.SymBgp.{SymBgp}
 use Rattle.sym_policy.specs.Held.{bgp_at}
 use Rattle.sym_policy.specs.SameNodes.{IsRest}
-use Rattle.sym_policy.proofs.SameNodes.{path_within, preferences_within, rest_within}
+use Rattle.sym_policy.proofs.SameNodes.{path_read, path_within, preferences_within, rest_within}
 use Rattle.sym_bgp.specs.Joined.{RestShape, rest_at, rest_of_shape, shape_through, with_rest}
-use Rattle.sym_bgp.proofs.JoinedRoutes.{path_read, preferences_read, route_steps, seen_read}
+use Rattle.sym_bgp.proofs.JoinedRoutes.{preferences_read, route_steps, seen_read}
 
 -- at most 255
 pub few_numbers : (n : ℕ) → not (nat_lt 255 n) ≡ nat_le n 255

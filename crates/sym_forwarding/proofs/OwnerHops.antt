@@ -110,15 +110,6 @@ covers_network p d len network =
     let long : len ≡ p.len = eqb-true len p.len parts.1 in
     network_same p d len network ∙ ap (λ n. eqb (d.0 / block n) (p.addr.0 / block n)) long
 
--- prefixes that are the same are one
-pub one_prefix : (p q : Prefix) → same_prefix p q ≡ true → p ≡ q
-one_prefix p q same =
-    let parts = and_parts (eqb p.addr.0 q.addr.0) (eqb p.len q.len) same in
-    let addr : p.addr.0 ≡ q.addr.0 = eqb-true p.addr.0 q.addr.0 parts.0 in
-    let len : p.len ≡ q.len = eqb-true p.len q.len parts.1 in
-    ap (λ n. record { addr = record { 0 = n }; len = p.len }) addr
-    ∙ ap (λ n. record { addr = q.addr; len = n }) len
-
 -- prefixes of two lengths are not
 pub other_length : (p : Prefix) (d : Addr) (len : ℕ) → (p.len ≡ len → ⊥) → same_prefix p (prefix_at d len) ≡ false
 other_length p d len differs =

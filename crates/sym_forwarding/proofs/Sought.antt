@@ -8,6 +8,7 @@ use Rattle.std.proofs.lemmas.Bool.{and_from, and_parts, eqb-true}
 use Rattle.std.proofs.lemmas.List.Folds.{Any-from_list_any, list_any-from_Any}
 use Rattle.ios_ast.specs.declared.file.File.{File}
 use Rattle.route_record.specs.declared.World.{World}
+use Rattle.net_model.proofs.OneSubnet.{negated as opposite}
 use Rattle.question_lang.specs.declared.question.Kind.{Kind}
 use Rattle.question_lang.specs.declared.question.Kind.TheVariants.{Reach, Isolate, Waypoint, NoLoop, NoBlackHole}
 use Rattle.question_lang.specs.declared.question.Kind.TheVariants.{Within, Alike, NoStable}
@@ -89,10 +90,6 @@ from_target files world target router here end tells (same, is) =
 negated : (b : Bool) → (b ≡ true → ⊥) → not b ≡ true
 negated true h = absurd (h refl)
 negated false h = refl
-
-opposite : (b : Bool) → not b ≡ true → b ≡ true → ⊥
-opposite true h is = cc
-opposite false h is = cc
 
 -- where the walks of a question end, as far as it asks
 abbrev pub IsHere : List File → World → Kind → ℕ → Bool → Type 0

@@ -4,8 +4,7 @@ use Rattle.std.proofs.Common.{Option, Some, None, refl, ap, sym, subst, ◌∙�
 use Rattle.std.specs.Prelude.{◌==◌, ◌&&◌, ◌⊎◌, All, nat_lt, option_map, slice_get}
 use Rattle.std.specs.List.{cons_option, filter_map}
 use Rattle.std.specs.Option.{option_map_or, option_to_list}
-use Rattle.std.proofs.lemmas.Bool.{and_parts, lt-ltb, ltb-true}
-use Rattle.std.proofs.lemmas.Bool.Decides.{nat_tests}
+use Rattle.std.proofs.lemmas.Bool.{and_parts, eqb-true, lt-ltb, ltb-true}
 use Rattle.std.proofs.lemmas.List.Elements.{All-weaker}
 use Rattle.std.proofs.lemmas.Option.{slice_get_within}
 use Rattle.mw_text.specs.declared.address.Prefix.{Prefix}
@@ -23,6 +22,7 @@ use Rattle.net_parts.proofs.LeastWalks.{contains-in, filter_map-in, in-cases, in
 use Rattle.mw_text.specs.Members.{In}
 use Rattle.net_parts.proofs.LeastWalks.{in-option, in-right, is_interior, least-is, least-some, option-in}
 use Rattle.net_parts.proofs.LeastWalks.{up_below}
+use Rattle.net_parts.proofs.Tracks.{itself}
 use Rattle.term_store.specs.Terms.{Reading}
 use Rattle.sym_policy.specs.declared.records.SymNet.{SymNet}
 use Rattle.sym_policy.specs.Held.{failures_of, internal_route}
@@ -38,9 +38,6 @@ internal_kind Internal h = refl
 internal_kind Ext1 h = cc
 internal_kind Ext2 h = cc
 
-equal_to : (a b : ℕ) → (a == b) ≡ true → a ≡ b
-equal_to a b h = grind (arith, nat_tests)
-
 same_fields : (r : OspfRec) (n : ℕ) → r.kind ≡ Internal → r.metric ≡ 0 → r.cost ≡ n → r ≡ internal_route n
 same_fields r n kind metric cost = λ i. record { kind = kind i; metric = metric i; cost = cost i }
 
@@ -52,17 +49,14 @@ distance_from (Some r) None h = cc
 distance_from (Some r) (Some n) h =
     let outer = and_parts (is_internal r.kind) ((r.metric == 0) && (r.cost == n)) h in
     let inner = and_parts (r.metric == 0) (r.cost == n) outer.1 in
-    ap Some (same_fields r n (internal_kind r.kind outer.0) (equal_to r.metric 0 inner.0) (equal_to r.cost n inner.1))
-
-self_equal : (n : ℕ) → (n == n) ≡ true
-self_equal n = grind (arith, nat_tests)
+    ap Some (same_fields r n (internal_kind r.kind outer.0) (eqb-true r.metric 0 inner.0) (eqb-true r.cost n inner.1))
 
 -- and it holds of that
 pub distance_to : (o : Option OspfRec) (d : Option ℕ) → o ≡ option_map internal_route d → is_distance o d ≡ true
 distance_to o d is = ap (λ x. is_distance x d) is ∙ holds d where
   holds : (d : Option ℕ) → is_distance (option_map internal_route d) d ≡ true
   holds None = refl
-  holds (Some n) = self_equal n
+  holds (Some n) = itself n
 
 -- the cost of an internal route is the distance
 cost_back : (d : Option ℕ) → option_map (λ r. r.cost) (option_map internal_route d) ≡ d

@@ -14,10 +14,11 @@ use Rattle.sym_policy.specs.declared.parts.SymRoute.{SymRoute}
 use Rattle.sym_policy.specs.declared.parts.SymMade.{SymMade}
 use Rattle.sym_policy.specs.declared.records.SymBgp.{SymBgp}
 use Rattle.sym_policy.specs.declared.records.SymMapRec.{SymMapRec}
-use Rattle.sym_policy.specs.Held.{bgp_end}
+use Rattle.sym_policy.specs.Held.{bgp_at, bgp_end}
 use Rattle.sym_policy.specs.SameNodes.{HasPath, HasPreferences, SameRoute, IsSeen, IsRest, IsJoined}
 use Rattle.sym_policy.specs.MapRecs.{attributes_at, map_rec_end, seen_end, kept_end, HasMarks, KeepsRest, IsMade}
 use Rattle.sym_policy.specs.Routes.{path_end, preferences_end, route_at, route_end, rest_end, made_end, HasRows, SameRows}
+use Rattle.sym_policy.specs.Routes.{path_at}
 use Rattle.sym_policy.proofs.Choices.{both_there}
 
 -- a copy is read as the route is, and ends where it does
@@ -246,3 +247,13 @@ rest_within held s n h within =
     let behind = parts _ _ n others.1 in
     let ids = parts _ _ n behind.0 in
     subst (λ (k : ℕ). k ≤ n) end (max-le (max-le hop.1 ids.0) (max-le ids.1 behind.1))
+
+-- a reading makes of the copy what it makes of the route's path
+pub path_read : (w : Reading) (held : SymBgp) (s : SymPath) → HasPath held.len held.first held.last held.numbers s →
+    path_at w s ≡ (bgp_at w held).path
+path_read w held s h = λ i. record {
+  len = number w (h.len i);
+  first = number w (h.first i);
+  last = number w (h.last i);
+  numbers = bits w (h.numbers i);
+}

@@ -1,25 +1,14 @@
 -- Copies of the path and the communities of a BGP route.
 use Rattle.std.proofs.Common.{◌≡◌, ℕ, ◌≤◌, ap, arith}
 use Rattle.sym_policy.specs.declared.records.SymBgp.{SymBgp}
-use Rattle.sym_policy.specs.declared.parts.SymPath.{SymPath}
 use Rattle.sym_policy.specs.Held.{bgp_at, bgp_end}
 use Rattle.sym_policy.specs.Routes.{path_at}
-use Rattle.sym_policy.specs.SameNodes.{HasPath}
+use Rattle.sym_policy.proofs.SameNodes.{path_read}
 use Rattle.route_shapes.specs.Shapes.{RouteShape}
 use Rattle.sym_rib.specs.declared.known_parts.HeldParts.{HeldParts}
 use Rattle.sym_rib.specs.KnownParts.{HasPartsOf, held_parts_end}
 use Rattle.term_store.specs.Terms.{Reading}
-use Rattle.term_arith.specs.Bits.{bits, number, ids_end}
-
--- a reading makes of the copy what it makes of the route's path
-pub path_read : (w : Reading) (held : SymBgp) (s : SymPath) → HasPath held.len held.first held.last held.numbers s
-    → path_at w s ≡ (bgp_at w held).path
-path_read w held s has = λ i. record {
-  len = number w (has.len i);
-  first = number w (has.first i);
-  last = number w (has.last i);
-  numbers = bits w (has.numbers i);
-}
+use Rattle.term_arith.specs.Bits.{bits, ids_end}
 
 -- the copies have no node past those of the route
 pub parts_within : (held : SymBgp) (s : HeldParts) (n : ℕ) → HasPartsOf held s → bgp_end held ≤ n

@@ -1,6 +1,6 @@
 -- A local route as the map of its line leaves it, from the terms of the record and from the route for which they stand.
-use Rattle.std.proofs.Common.{◌≡◌, ℕ, zero, suc, ◌≤◌, Bool, true, false, if◌then◌else◌, Option, Some, None}
-use Rattle.std.proofs.Common.{[], map, refl, ap, sym, ◌∙◌, arith}
+use Rattle.std.proofs.Common.{◌≡◌, ℕ, ◌≤◌, Bool, true, false, if◌then◌else◌, Option, Some, None}
+use Rattle.std.proofs.Common.{[], map, refl, ap, sym, ◌∙◌}
 use Rattle.std.specs.Prelude.{IfSome, option_and_then, option_map}
 use Rattle.mw_text.specs.declared.address.Prefix.{Prefix}
 use Rattle.ios_ast.specs.declared.file.Use.{Use}
@@ -24,17 +24,10 @@ use Rattle.term_arith.specs.Bits.{bits, number}
 use Rattle.sym_rib.specs.IntoBgp.{local_with}
 use Rattle.sym_rib.specs.Known.{IsOwn}
 use Rattle.bgp_shapes.proofs.PolicyLaw.{through_code}
-use Rattle.route_record.proofs.OriginCodes.{code_small}
+use Rattle.route_record.proofs.OriginCodes.{code_again, code_small}
 use Rattle.route_record.proofs.Saturated.{saturated-none}
 
 -- ---- the record of a local route
-
--- the code of the origin of a code
-pub origin_again : (n : ℕ) → n ≤ 2 → n ≡ origin_code (origin_of_code n)
-origin_again zero h = refl
-origin_again (suc zero) h = refl
-origin_again (suc (suc zero)) h = refl
-origin_again (suc (suc (suc n))) h = omega arith
 
 -- the shape of a local route, by what maps see of it
 abbrev pub own_shape : Tracked → RouteShape → BgpShape
@@ -77,7 +70,7 @@ shape_of tracked c small =
     let shape : ℕ → ℕ → BgpShape =
     λ origin len.
     record (own_shape tracked (route_shape tracked (record c { origin = origin }))) { cluster_len = len } in
-    ap (λ n. shape n 0) (origin_again c.origin small)
+    ap (λ n. shape n 0) (code_again c.origin small)
     ∙ ap (shape (origin_code (origin_of_code c.origin))) (sym saturated-none)
 
 shapes_of : (tracked : Tracked) (left : Option Attributes) → IfSome left (λ c. c.origin ≤ 2)

@@ -1,11 +1,11 @@
 -- Lists of records that may be there, one for each line.
 use Rattle.std.proofs.Common.{◌≡◌, ℕ, ◌+◌, ◌<◌, max, List, [], ◌∷◌, ◌++◌, take, get_or, length, map, refl, ap}
-use Rattle.std.proofs.Common.{ap₂, subst, sym}
+use Rattle.std.proofs.Common.{ap₂, drop, subst, sym}
 use Rattle.std.proofs.Common.{Option, Some, None, ◌∙◌, arith}
 use Rattle.std.specs.Prelude.{All, IfSome}
 use Rattle.std.specs.List.{filter_map}
 use Rattle.std.specs.Option.{option_and_then, option_map, option_to_list}
-use Rattle.std.proofs.lemmas.List.{append_assoc, map-append, take_more}
+use Rattle.std.proofs.lemmas.List.{append_assoc, drop_more, map-append, take_more}
 use Rattle.std.proofs.lemmas.List.Elements.{All-append, All-cons, All-nil, filter_map-append}
 use Rattle.sym_rib.specs.Into.{list_end}
 
@@ -19,6 +19,11 @@ line_step f g made rec xs i x h is same so_far =
     ∙ ap₂ (λ a b. a ++ b) so_far (ap (λ o. filter_map (λ u. u) (o ∷ [])) same)
     ∙ sym (filter_map-append g (take i xs) (x ∷ []))
     ∙ ap (filter_map g) (ap (λ y. take i xs ++ y ∷ []) is ∙ sym (take_more xs i x h))
+
+-- an item of a list, and those from it on
+pub items_at : {A : Type 0} (xs : List A) (i : ℕ) (d : A) → i < length xs →
+    (get_or xs i d ≡ get_or xs i d) × (drop i xs ≡ get_or xs i d ∷ drop (i + 1) xs)
+items_at xs i d within = (refl, drop_more xs i d within)
 
 -- the end of a list with one more record
 pub list_end_push : {A : Type 0} (end : A → ℕ) (xs : List A) (x : A)

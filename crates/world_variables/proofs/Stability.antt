@@ -43,6 +43,7 @@ use Rattle.slot_places.proofs.PlaceLaws.{has-in, lens-in, places-in}
 use Rattle.plan_places.proofs.Tabulated.{none_past, rows-all, tabulated-at, tabulated-length}
 use Rattle.slot_places.proofs.Tabulated.{all_stable}
 use Rattle.slot_places.proofs.Unused.{empty_stable}
+use Rattle.slot_places.proofs.Brought.{of_closer}
 use Rattle.world_variables.specs.declared.unknowns.Unknown.{Unknown}
 use Rattle.world_variables.specs.Slots.{are_wanted, bare, entry_of_bit, has_dynamic, is_dynamic, is_wanted}
 use Rattle.world_variables.specs.Slots.{open_slot, runs_no_bgp, same_ospf, slot_holds, slot_of, source_with, tables_of}
@@ -96,19 +97,6 @@ entry_bare files failures router file p slot own none =
   where
     no_entry : (s : Slot) → s.bgp ≡ None → bgp_entry files router s ≡ None
     no_entry s is = rw is refl
-
--- the first of least distance is one of the entries
-of_closer : (P : RibEntry → Type 0) (entries : List RibEntry) (best : Option RibEntry) → IfSome best P →
-    All P entries → IfSome (fold closer best entries) P
-of_closer P [] best here all = here
-of_closer P (e ∷ entries) None here all =
-    of_closer P entries (Some e) (All-head P e entries all) (All-tail P e entries all)
-of_closer P (e ∷ entries) (Some best) here all =
-    of_closer P entries _ (by (nat_lt e.distance best.distance)) (All-tail P e entries all)
-  where
-    by : (b : Bool) → IfSome (if b then Some e else Some best) P
-    by true = All-head P e entries all
-    by false = here
 
 -- the distances of a file's static routes fit
 abbrev HaveDistances : File → Type 0
@@ -248,7 +236,8 @@ same_source Ebgp = refl
 same_source Ospf = refl
 same_source Ibgp = refl
 
-same_bit : (o : Option RibEntry) → option_map (entry_of_bit (has_dynamic o)) o ≡ o
+-- an entry with its own bit is itself
+pub same_bit : (o : Option RibEntry) → option_map (entry_of_bit (has_dynamic o)) o ≡ o
 same_bit None = refl
 same_bit (Some e) = ap (λ (s : RibSource). Some (record e { source = s })) (same_source e.source)
 
@@ -266,7 +255,7 @@ entry_again files failures router file p ospf own bit is =
 
 -- ---- what fits
 
-bit_fits : (bit : Bool) (o : Option RibEntry) → IfSome o FitsRib → IfSome (option_map (entry_of_bit bit) o) FitsRib
+pub bit_fits : (bit : Bool) (o : Option RibEntry) → IfSome o FitsRib → IfSome (option_map (entry_of_bit bit) o) FitsRib
 bit_fits bit None fits = tt
 bit_fits bit (Some e) fits = fits
 

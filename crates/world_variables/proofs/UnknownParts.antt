@@ -1,5 +1,5 @@
 -- What is open of the slots is read from its bits.
-use Rattle.std.proofs.Common.{◌≡◌, ℕ, zero, suc, ◌+◌, Bool, true, false, List, [], ◌∷◌, ◌++◌, length}
+use Rattle.std.proofs.Common.{◌≡◌, ℕ, ◌+◌, Bool, true, false, List, [], ◌∷◌, ◌++◌}
 use Rattle.std.proofs.Common.{Option, Some, None, refl, sym, ap, subst, arith, ◌∙◌}
 use Rattle.std.specs.Prelude.{IfSome, if◌then◌else◌}
 use Rattle.route_record.specs.declared.OspfKind.{OspfKind}
@@ -19,6 +19,7 @@ use Rattle.world_variables.specs.Unknowns.{FitRooms, FitsRoom, field_digits, osp
 use Rattle.world_variables.specs.Unknowns.{route_width, unknown_bits, unknown_from, unknown_width}
 use Rattle.world_variables.specs.Unknowns.{unknowns_bits, unknowns_from, unknowns_width}
 use Rattle.failed_links.proofs.Reading.{after, field_at, one_then}
+use Rattle.failed_links.proofs.FailureParts.{length-none}
 
 kind_again : (kind : OspfKind) → kind_of_number (kind_rank kind) ≡ kind
 kind_again Internal = refl
@@ -44,10 +45,6 @@ route_at room r v from rest fits here =
       λ i. record { kind = is i; metric = metric.0 i; cost = cost.0 i },
       subst (λ k. IsAt v k rest) (omega arith) cost.1,
     )
-
-pub length-none : (n : ℕ) → length (none_of n) ≡ n
-length-none zero = refl
-length-none (suc n) = ap suc (length-none n)
 
 ospf_at : (room : Room) (ospf : Option OspfRec) (v : ℕ → Bool) (from : ℕ) (rest : List Bool) →
     IfSome ospf (FitsIn room) → IsAt v from (ospf_bits room ospf rest) →

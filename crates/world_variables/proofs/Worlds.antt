@@ -2,7 +2,7 @@
 use Rattle.std.proofs.Common.{◌≡◌, ℕ, zero, suc, ◌+◌, ◌^◌, ◌<◌, Bool, true, false, not, List, []}
 use Rattle.std.proofs.Common.{◌∷◌, length, Option, Some, None, refl, sym, ap, arith, ◌∙◌}
 use Rattle.std.specs.Prelude.{All, IfSome, is_some, filter, slice_index, if◌then◌else◌}
-use Rattle.std.proofs.lemmas.Bool.{and_parts, false≢true, leb-true}
+use Rattle.std.proofs.lemmas.Bool.{and_parts, leb-true}
 use Rattle.std.proofs.lemmas.List.Elements.{All-cons, All-head, All-nil, All-tail}
 use Rattle.std.proofs.lemmas.Nat.{pow_pos}
 use Rattle.std.proofs.lemmas.Option.{same_Some}
@@ -15,6 +15,7 @@ use Rattle.route_record.specs.declared.TheConstants.{LENGTHS}
 use Rattle.route_record.specs.Fits.{FitsOspf}
 use Rattle.net_interfaces.specs.declared.interfaces.Addressed.{Addressed}
 use Rattle.net_interfaces.specs.Interfaces.{addressed}
+use Rattle.net_interfaces.proofs.Options.{not_some}
 use Rattle.net_parts.specs.Sessions.{ends_of, is_outside, peerings, peerings_routers, sessions}
 use Rattle.net_parts.specs.World.{IsAnnouncement, IsEnvironment}
 use Rattle.plan_places.specs.declared.places.Place.{Place}
@@ -44,16 +45,12 @@ use Rattle.world_variables.proofs.Stability.{NoneWithoutRoom, stable_sound}
 
 -- ---- without BGP the environment is empty
 
-none_runs : {A : Type 0} (o : Option A) → not (is_some o) ≡ true → o ≡ None
-none_runs None is = refl
-none_runs (Some x) is = absurd (false≢true is)
-
 no_peerings : (all : List Addressed) (router : ℕ) (files : List File) → runs_no_bgp files ≡ true →
     peerings_routers all router files ≡ []
 no_peerings all router [] none = refl
 no_peerings all router (file ∷ rest) none =
     let both = and_parts (not (is_some file.bgp)) (runs_no_bgp rest) none in
-    rw (none_runs file.bgp both.0, no_peerings all (router + 1) rest both.1) refl
+    rw (not_some file.bgp both.0, no_peerings all (router + 1) rest both.1) refl
 
 no_ends : (files : List File) → runs_no_bgp files ≡ true → ends_of files ≡ []
 unfolding ends_of sessions peerings

@@ -11,8 +11,9 @@ mod rooms;
 mod tables;
 mod unknowns;
 
+pub use decoding::{packet_at, packet_size, unknown_width};
 pub use opens::SymOpen;
 pub use packets::packet_in;
 pub use rooms::read_rooms;
-pub use tables::decode;
+pub use tables::{decode, entry_with_bit, unknowns_at};
 pub use unknowns::Unknown;

@@ -38,7 +38,8 @@ fn source_with_bit(dynamic: bool, source: RibSource) -> RibSource
     }
 }
 
-fn entry_with_bit(dynamic: bool, entry: RibEntry) -> RibEntry
+/// The entry whose source's number has that bit of value 2, and else the bits of the entry's.
+pub fn entry_with_bit(dynamic: bool, entry: RibEntry) -> RibEntry
     ensures { result ≡ entry_of_bit dynamic entry }
 {
     RibEntry {
@@ -189,9 +190,9 @@ fn put_unknown(made: &mut List<Unknown>, next: Unknown) -> Result<(), AllocError
     Ok(())
 }
 
-// What is open of the slots at some places, whose variables begin at one.
+/// What is open of the slots at some places, whose variables begin at one.
 #[tactic(auto, using(crate::proofs::DecodingSteps::unknown_steps))]
-fn unknowns_at(
+pub fn unknowns_at(
     alloc: Global,
     values: &[bool],
     from: usize,

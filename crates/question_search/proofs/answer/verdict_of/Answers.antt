@@ -3,5 +3,5 @@ use Rattle.question_search.proofs.answer.verdict_of.Goals as goal
 
 pub returns-in-Unsat-clause-right : goal.returns-in-Unsat-clause-right
 returns-in-Unsat-clause-right c =
-    unsat_holds c.args.net.now.files c.args.question.now c.args.formula.now c.requires.formula
+    unsat_holds c.args.net.now.files c.args.net.now.tracked c.args.question.now c.args.formula.now c.requires.formula
     (rw c.in-Unsat.is at c.requires.unsat)

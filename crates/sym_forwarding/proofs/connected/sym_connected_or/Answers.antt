@@ -6,12 +6,12 @@ use Rattle.mw_text.specs.Address.{same_prefix}
 use Rattle.net_parts.specs.World.{is_up}
 use Rattle.sym_policy.specs.Held.{failures_of}
 use Rattle.sym_policy.specs.Records.{prefix_of}
+use Rattle.net_model.proofs.OneSubnet.{one_prefix}
 use Rattle.sym_forwarding.specs.Aims.{sought_by}
 use Rattle.sym_forwarding.specs.Owners.{delivered_hop}
 use Rattle.sym_policy.specs.Packets.{packet_of}
 use Rattle.sym_forwarding.specs.Symbolic.{forwarding_of}
 use Rattle.sym_forwarding.specs.Twins.{IsTwin}
-use Rattle.sym_forwarding.proofs.OwnerHops.{one_prefix}
 use Rattle.sym_forwarding.proofs.Twins.{chosen_where}
 use Rattle.term_store.specs.Terms.{at}
 use Rattle.sym_forwarding.proofs.connected.sym_connected_or.Goals as goal

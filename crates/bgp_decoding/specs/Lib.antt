@@ -1,0 +1,3 @@
+pub mod Placed
+pub mod Slots
+pub mod Decoded

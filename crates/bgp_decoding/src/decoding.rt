@@ -1,0 +1,144 @@
+//! The routing that values of all variables say.
+
+ghost use Rattle.std.specs.Prelude.{◌≡◌, ◌+◌, ◌≤◌, IfOk, length, true};
+ghost use Rattle.term_store.specs.Terms.{truth};
+ghost use Rattle.plan_places.specs.Plans as plans;
+ghost use Rattle.slot_places.specs.Rooms.{HasUsed};
+ghost use Rattle.bgp_variables.specs.Environments.{environment_width};
+ghost use Rattle.world_variables.specs.Packets.{packet_from};
+ghost use Rattle.world_variables.specs.Worlds.{slots_start};
+ghost use Rattle.shape_worlds.specs.Worlds as worlds;
+ghost use Rattle.path_rebuild.specs.Tables.{IsMadeOf};
+ghost use Rattle.routing_worlds.specs.Worlds.{HasWordNetwork, environment_from, environment_start, failures_read_from};
+ghost use Rattle.bgp_decoding.specs.Decoded.{IsInside, IsOutside};
+ghost use Rattle.routing_worlds.specs.Worlds.{is_routing, shape_world_from, world_from};
+
+use crate::inside::{Inside, frame_of, inside_at};
+use crate::outside::{Outside, outside_at};
+use failed_links::failures_at;
+use mw_text::Addr;
+use net_model::Net;
+use path_rebuild::{Rebuilt, rebuild};
+use question_lang::Question;
+use route_record::{Environment, Failures, Plan, World};
+use std::alloc::{AllocError, Global};
+use world_variables::{packet_at, packet_size};
+
+/// A world, and what external peers are and announce in it.
+#[derive(Drop)]
+pub struct Decoded {
+    pub world: World,
+    pub environment: Environment,
+}
+
+// The failed links.
+fn failures_read(
+    alloc: Global,
+    values: &[bool],
+    net: &Net,
+    question: &Question,
+) -> Result<Failures, AllocError>
+    requires { slots_start net.now.files question.now 0 ≤ length values.now }
+    ensures { IfOk result (λ r. r ≡ failures_read_from net.now.files question.now (truth values.now) 0) }
+{
+    let links = net.links().len() as u32;
+    let from = packet_size(question.packets);
+    failures_at(alloc, values, from, question.failures, links)
+}
+
+// The tables and the environment that are made of what is read of values that are a routing.
+fn rebuilt(
+    alloc: Global,
+    values: &[bool],
+    net: &Net,
+    question: &Question,
+    plan: &Plan,
+    failures: &Failures,
+    d: Addr,
+    inside: &Inside,
+    outside: &Outside,
+) -> Result<Rebuilt, AllocError>
+    requires destination { d ≡ (packet_from question.now.packets (truth values.now) 0).dst }
+    requires inside { IsInside (record {
+      files = net.now.files;
+      tracked = net.now.tracked;
+      question = question.now;
+      plan = plan.now;
+      values = truth values.now;
+    }) inside.now }
+    requires outside { IsOutside net.now.tracked net.now.files (plans.lens_of plan.now) (truth values.now)
+        (environment_start net.now.files net.now.tracked question.now plan.now 0) outside.now }
+    requires plan { HasUsed net.now.files question.now.packets.dst plan.now }
+    requires words { HasWordNetwork net.now.files net.now.tracked question.now }
+    requires routing { is_routing net.now.files net.now.tracked question.now plan.now (truth values.now) 0 ≡ true }
+    ensures { IfOk result (IsMadeOf net.now.tracked net.now.files
+        (shape_world_from net.now.files net.now.tracked question.now plan.now (truth values.now) 0)) }
+{
+    let ids = outside.ids.as_slice();
+    let announced = outside.announced.as_slice();
+    let held = inside.held.as_slice();
+    let made = rebuild(alloc, net, d, failures, ids, announced, held, &inside.rest)?;
+    Ok(made)
+}
+
+// The tables and the environment of values that are a routing, in which these links have failed and packets go to that
+// destination.
+fn routing_at(
+    alloc: Global,
+    values: &[bool],
+    net: &Net,
+    question: &Question,
+    plan: &Plan,
+    failures: &Failures,
+    d: Addr,
+) -> Result<Rebuilt, AllocError>
+    requires failures { failures.now ≡ failures_read_from net.now.files question.now (truth values.now) 0 }
+    requires destination { d ≡ (packet_from question.now.packets (truth values.now) 0).dst }
+    requires width { environment_start net.now.files net.now.tracked question.now plan.now 0
+        + environment_width net.now.tracked net.now.files (plans.lens_of plan.now) ≤ length values.now }
+    requires plan { HasUsed net.now.files question.now.packets.dst plan.now }
+    requires words { HasWordNetwork net.now.files net.now.tracked question.now }
+    requires routing { is_routing net.now.files net.now.tracked question.now plan.now (truth values.now) 0 ≡ true }
+    ensures { IfOk result (IsMadeOf net.now.tracked net.now.files
+        (shape_world_from net.now.files net.now.tracked question.now plan.now (truth values.now) 0)) }
+{
+    let frame = frame_of(alloc, net, question, plan)?;
+    let inside = inside_at(alloc, values, net, question, plan, &frame, failures, d)?;
+    let outside = outside_at(alloc, values, net, frame.lens.as_slice(), inside.end)?;
+    rebuilt(
+        alloc, values, net, question, plan, failures, d, &inside, &outside,
+    )
+}
+
+/// The routing that values of all variables of a question's formula say, in a network with BGP: the world with its real
+/// routes, and the environment that is made of it. The plan has a slice at each length at which something can stand, every
+/// number fits its field, and the values pass the test that they are a routing.
+pub fn decode_routing(
+    alloc: Global,
+    values: &[bool],
+    net: &Net,
+    question: &Question,
+    plan: &Plan,
+) -> Result<Decoded, AllocError>
+    requires width { environment_start net.now.files net.now.tracked question.now plan.now 0
+        + environment_width net.now.tracked net.now.files (plans.lens_of plan.now) ≤ length values.now }
+    requires plan { HasUsed net.now.files question.now.packets.dst plan.now }
+    requires words { HasWordNetwork net.now.files net.now.tracked question.now }
+    requires routing { is_routing net.now.files net.now.tracked question.now plan.now (truth values.now) 0 ≡ true }
+    ensures world { IfOk result (λ d. d.world
+        ≡ world_from net.now.files net.now.tracked question.now plan.now (truth values.now) 0) }
+    ensures environment { IfOk result (λ d. d.environment
+        ≡ environment_from net.now.files net.now.tracked question.now plan.now (truth values.now) 0) }
+{
+    let packet = packet_at(values, question.packets);
+    let failures = failures_read(alloc, values, net, question)?;
+    let made = routing_at(alloc, values, net, question, plan, &failures, packet.dst)?;
+    Ok(Decoded {
+        world: World {
+            failures,
+            packet,
+            tables: made.tables,
+        },
+        environment: made.env,
+    })
+}

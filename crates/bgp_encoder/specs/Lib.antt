@@ -1,6 +1,0 @@
-pub mod Frames
-pub mod Opened
-pub mod Slots
-pub mod Shapes
-pub mod Decided
-pub mod Announced

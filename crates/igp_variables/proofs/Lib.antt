@@ -1,0 +1,5 @@
+pub mod Steps
+pub mod Small
+pub mod Reading
+pub mod Placed
+pub mod Ends

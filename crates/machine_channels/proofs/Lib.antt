@@ -1,0 +1,3 @@
+pub mod Changing
+pub mod Planned
+pub mod Made

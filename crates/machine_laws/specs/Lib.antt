@@ -1,0 +1,7 @@
+pub mod Channels
+pub mod Sending
+pub mod Announcing
+pub mod Deciding
+pub mod Events
+pub mod Quiet
+pub mod Sound

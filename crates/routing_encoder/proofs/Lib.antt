@@ -1,0 +1,15 @@
+pub mod FrameSteps
+pub mod RouteSteps
+pub mod OutsideSteps
+pub mod OpeningSteps
+pub mod SlotSteps
+pub mod LoopSteps
+pub mod WorldSteps
+pub mod AskedSteps
+pub mod DecidedSteps
+pub mod Halves
+pub mod RoutingSteps
+pub mod RootSteps
+pub mod ComingSteps
+pub mod PassingRows
+pub mod WantedSteps

@@ -1,0 +1,2 @@
+pub mod SameRoutes
+pub mod SameSlots
