@@ -69,19 +69,17 @@ ended "0, that counterexample with its announcements is true" 0 "yes"
 run verify "$homed/questions.txt" "$homed/filtered.cfg"
 ended "0, nothing is taken from that provider" 0 "holds q1"
 short="$top/examples/short-prefix"
-set -- "$short/questions.txt" "$short/b1.cfg" "$short/c1.cfg"
-run verify "$@"
+run verify "$short/questions.txt" "$short/b1.cfg" "$short/c1.cfg"
 ended "1, a shorter prefix gets through a filter" 1 "broken q1"
 tail -n 1 printed >counterexample.json
-run replay counterexample.json "$@"
+run replay counterexample.json "$short/questions.txt" "$short/b1.cfg" "$short/c1.cfg"
 ended "0, that counterexample is true" 0 "yes"
 
 both="$top/examples/two-way-redistribution"
-set -- "$both/questions.txt" "$both/x.cfg" "$both/y.cfg"
-run verify "$@"
+run verify "$both/questions.txt" "$both/x.cfg" "$both/y.cfg"
 ended "1, a route that supports itself loops" 1 "broken q1"
 tail -n 1 printed >counterexample.json
-run replay counterexample.json "$@"
+run replay counterexample.json "$both/questions.txt" "$both/x.cfg" "$both/y.cfg"
 ended "0, that counterexample is true" 0 "yes"
 
 office="$top/examples/office"
