@@ -1,5 +1,6 @@
 -- What is made of what is open at the places of a plan.
 use Rattle.std.proofs.Common.{◌≡◌, ◌*◌, ◌≤◌, ℕ, subst, List, Option, None, length, map, sym, ap, ◌∙◌}
+use Rattle.bgp_variables.specs.Rooms.{bgp_rooms}
 use Rattle.std.specs.Prelude.{option_map, if◌then◌else◌}
 use Rattle.route_record.specs.declared.Plan.{Plan}
 use Rattle.route_record.specs.declared.TheConstants.{LENGTHS}
@@ -14,7 +15,7 @@ use Rattle.world_variables.specs.declared.unknowns.Unknown.{Unknown}
 use Rattle.world_variables.specs.Worlds.{opens_from as unknowns_read_from, places_in, slots_start}
 use Rattle.world_variables.proofs.DecodingSteps.{many_unknowns}
 use Rattle.bgp_values.specs.Told.{as_told}
-use Rattle.routing_worlds.specs.Worlds.{bgp_rooms, bgps_read_from, bgps_start}
+use Rattle.routing_worlds.specs.Worlds.{bgps_read_from, bgps_start}
 use Rattle.path_rebuild.specs.declared.ShapeRec.{ShapeRec}
 use Rattle.path_rebuild.specs.Shapes.{route_of}
 use Rattle.bgp_decoding.specs.Decoded.{Given, destination_of, failures_of, held_at, slot_at, told_at, told_of}

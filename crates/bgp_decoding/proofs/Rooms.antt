@@ -1,5 +1,5 @@
 -- Rooms of BGP routes and of announcements, one after another.
-use Rattle.std.proofs.Common.{◌≡◌, ℕ, ◌+◌, ◌*◌, ◌<◌, ◌≤◌, Bool, true, false, List, [], ◌∷◌, ◌++◌, Option, Some, None}
+use Rattle.std.proofs.Common.{◌≡◌, ℕ, ◌+◌, ◌*◌, ◌<◌, ◌≤◌, Bool, true, false, List, [], ◌∷◌, ◌++◌, Option}
 use Rattle.std.proofs.Common.{length, map, drop, get_or, refl, sym, ap, arith, ◌∙◌}
 use Rattle.std.specs.List.{list_all}
 use Rattle.std.proofs.lemmas.List.{drop_all, length-map}
@@ -7,7 +7,7 @@ use Rattle.std.proofs.lemmas.List.Sums.{count_by-le-length, length-filter}
 use Rattle.std.proofs.lemmas.Grind.{common_steps}
 use Rattle.std.proofs.lemmas.List.Elements.{All-cons, All-nil, All-push}
 use Rattle.mw_text.proofs.Lists.{drop-read}
-use Rattle.std.specs.Prelude.{All, IfSome, option_and_then, option_map, replicate, slice_get, if◌then◌else◌}
+use Rattle.std.specs.Prelude.{All, IfSome, option_map, replicate, if◌then◌else◌}
 use Rattle.ios_ast.specs.declared.bgp.Bgp.{Bgp}
 use Rattle.ios_ast.specs.declared.file.File.{File}
 use Rattle.ios_ast.specs.Limits.{keeps_limits}
@@ -18,47 +18,28 @@ use Rattle.plan_places.specs.declared.places.Place.{Place}
 use Rattle.world_variables.specs.Unknowns.{unknowns_width}
 use Rattle.route_candidates.proofs.FewEnds.{few_ends}
 use Rattle.bgp_variables.specs.Environments.{announced_rooms, end_room, end_rooms, peers_count, rooms_over}
-use Rattle.bgp_variables.specs.Rooms.{full_room}
+use Rattle.bgp_variables.specs.Rooms.{bgp_room, bgp_rooms, held_room}
 use Rattle.bgp_variables.specs.Shapes.{IsRoomOf, bgps_from}
 use Rattle.bgp_variables.specs.declared.rooms.BgpRoom.{BgpRoom}
 use Rattle.bgp_variables.proofs.EnvironmentSteps.{copies_next, copies_none, many_over}
-use Rattle.bgp_variables.proofs.RoomSteps.{full_is_room}
+use Rattle.bgp_variables.specs.Brought.{speaker_at}
+use Rattle.bgp_variables.proofs.RoomSteps.{room_held}
 use Rattle.bgp_values.specs.Told.{as_told}
 use Rattle.path_rebuild.specs.declared.ShapeRec.{ShapeRec}
 use Rattle.path_rebuild.specs.Shapes.{route_of}
-use Rattle.routing_worlds.specs.Worlds.{bgp_room, bgp_rooms}
 use Rattle.bgp_decoding.proofs.SlotSteps.{routes_many}
 
--- a router that runs BGP has a room for its routes, and no other has one
-pub room_held : (tracked : Tracked) (files : List File) (router : ℕ) (o : Option Bgp) →
-    o ≡ option_and_then (λ file. file.bgp) (slice_get files router) →
-    option_map (λ process. full_room tracked) o ≡ bgp_room tracked files router
-room_held tracked files router o is =
-    ap (option_map (λ (process : Bgp). full_room tracked)) is ∙ by (slice_get files router)
-  where
-    by : (f : Option File) → option_map (λ process. full_room tracked) (option_and_then (λ file. file.bgp) f)
-        ≡ option_and_then (λ file. option_map (λ process. full_room tracked) file.bgp) f
-    by None = refl
-    by (Some file) = refl
-
-one_fits : (tracked : Tracked) (files : List File) (router : ℕ) → IfSome (bgp_room tracked files router) (IsRoomOf tracked)
-one_fits tracked files router = by (slice_get files router)
-  where
-    held : (process : Option Bgp) → IfSome (option_map (λ p. full_room tracked) process) (IsRoomOf tracked)
-    held None = tt
-    held (Some process) = full_is_room tracked
-
-    by : (f : Option File) →
-        IfSome (option_and_then (λ file. option_map (λ process. full_room tracked) file.bgp) f) (IsRoomOf tracked)
-    by None = tt
-    by (Some file) = held file.bgp
+-- the room of a slot by its speaker
+pub room_of : (tracked : Tracked) (files : List File) (router len : ℕ) (o : Option Bgp) →
+    o ≡ speaker_at files router len → option_map (λ process. held_room tracked files) o ≡ bgp_room tracked files router len
+room_of tracked files router len o is = ap (option_map (λ (process : Bgp). held_room tracked files)) is
 
 pub rooms_fit : (tracked : Tracked) (files : List File) (ps : List Place) →
     All (λ room. IfSome room (IsRoomOf tracked)) (bgp_rooms tracked files ps)
 rooms_fit tracked files [] = All-nil (λ room. IfSome room (IsRoomOf tracked))
 rooms_fit tracked files (p ∷ ps) =
-    All-cons (λ room. IfSome room (IsRoomOf tracked)) (bgp_room tracked files p.router) (bgp_rooms tracked files ps)
-    (one_fits tracked files p.router) (rooms_fit tracked files ps)
+    All-cons (λ room. IfSome room (IsRoomOf tracked)) (bgp_room tracked files p.router p.len) (bgp_rooms tracked files ps)
+    (room_held tracked files p.router p.len) (rooms_fit tracked files ps)
 
 -- ---- of what arrives over sessions
 

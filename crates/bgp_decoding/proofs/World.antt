@@ -28,6 +28,7 @@ use Rattle.world_variables.specs.Packets.{packet_from}
 use Rattle.world_variables.specs.Worlds.{opens_from as unknowns_read_from, places_in, slots_start}
 use Rattle.world_variables.proofs.DecodingSteps.{many_unknowns, places_short}
 use Rattle.bgp_variables.specs.Environments.{ids_from}
+use Rattle.bgp_variables.specs.Rooms.{bgp_rooms}
 use Rattle.bgp_values.specs.Told.{as_told}
 use Rattle.bgp_values.proofs.RealShapes.{real_told}
 use Rattle.shape_worlds.specs.Worlds.{ShapeWorld, shapes_of}
@@ -37,7 +38,7 @@ use Rattle.path_rebuild.specs.declared.ShapeRec.{ShapeRec}
 use Rattle.path_rebuild.specs.Environments.{environment_of}
 use Rattle.path_rebuild.specs.Shapes.{route_of}
 use Rattle.path_rebuild.specs.Tables.{IsMadeOf, IsWorldOf, shape_slot}
-use Rattle.routing_worlds.specs.Worlds.{HasWordNetwork, announced_by, bgp_rooms, bgps_read_from, bgps_start, environment_from}
+use Rattle.routing_worlds.specs.Worlds.{HasWordNetwork, announced_by, bgps_read_from, bgps_start, environment_from}
 use Rattle.routing_worlds.specs.Worlds.{is_routing, open_with, opens_from, shape_world_from, world_from}
 use Rattle.routing_worlds.proofs.RoutingSound.{shapes_are}
 use Rattle.bgp_decoding.specs.declared.inside.Inside.{Inside}

@@ -5,23 +5,23 @@ ghost use Rattle.route_record.specs.declared.TheConstants as constants;
 ghost use Rattle.term_store.specs.Terms.{truth};
 ghost use Rattle.slot_places.specs.Rooms.{rooms_of as all_rooms};
 ghost use Rattle.world_variables.specs.Packets.{packet_from};
-ghost use Rattle.world_variables.specs.Unknowns.{HasWords, rooms_at, unknowns_from, unknowns_width};
-ghost use Rattle.world_variables.specs.Worlds.{opens_from as unknowns_read_from, places_in, slots_start};
+ghost use Rattle.world_variables.specs.Unknowns.{HasWords, rooms_at, unknowns_width};
+ghost use Rattle.world_variables.specs.Worlds.{opens_from as unknowns_read_from, slots_start};
 ghost use Rattle.bgp_variables.specs.Shapes.{bgps_from, bgps_width};
+ghost use Rattle.bgp_variables.specs.Rooms.{bgp_room, bgp_rooms};
 ghost use Rattle.bgp_values.specs.Told.{as_told};
 ghost use Rattle.path_rebuild.specs.Shapes.{route_of};
-ghost use Rattle.routing_worlds.specs.Worlds.{bgp_room, bgp_rooms, bgps_read_from, environment_start, failures_read_from};
+ghost use Rattle.routing_worlds.specs.Worlds.{bgps_read_from, environment_start, failures_read_from};
 ghost use Rattle.bgp_decoding.specs.Decoded.{IsFrame, IsInside};
 ghost use Rattle.bgp_decoding.specs.Placed.{full_places};
 
 use crate::slots::{held_routes, slots_at};
 use bgp_values::{routes_at, routes_end};
-use bgp_variables::{BgpRoom, full_room};
+use bgp_variables::{BgpRoom, held_room, speaker_at};
 use failed_links::downs_size;
 use ios_ast::File;
 use mw_text::{Addr, List, Prefix};
 use net_model::Net;
-use net_parts::ends::process_of;
 use path_rebuild::ShapeRec;
 use plan_places::{Place, lens_of, places_of, single_plan};
 use question_lang::Question;
@@ -47,15 +47,15 @@ struct Opened {
     end: usize,
 }
 
-// The room of the BGP route of a router's slots.
-#[tactic(auto, using(crate::proofs::Rooms::room_held))]
-fn bgp_room_at(alloc: Global, net: &Net, router: u32) -> Result<Option<BgpRoom>, AllocError>
-    ensures { IfOk result (λ room. room ≡ bgp_room net.now.tracked net.now.files router) }
+// The room of the BGP route of the slot at a place.
+#[tactic(auto, using(crate::proofs::Rooms::room_of))]
+fn bgp_room_at(alloc: Global, net: &Net, p: Place) -> Result<Option<BgpRoom>, AllocError>
+    ensures { IfOk result (λ room. room ≡ bgp_room net.now.tracked net.now.files p.router p.len) }
 {
-    match process_of(net.routers(), router) {
+    match speaker_at(net, p) {
         None => Ok(None),
         Some(_) => {
-            let room = full_room(alloc, net.tracked())?;
+            let room = held_room(alloc, net.tracked(), net.routers())?;
             Ok(Some(room))
         }
     }
@@ -71,7 +71,7 @@ fn bgp_rooms_at(
 {
     let mut made = Vec::new(alloc);
     for p in places {
-        let room = bgp_room_at(alloc, net, p.router)?;
+        let room = bgp_room_at(alloc, net, *p)?;
         made.push(room)?;
     }
     Ok(made)

@@ -148,7 +148,7 @@ meet_numbers : (r s : ℕ) (x y : Bool) (m n p q k l : ℕ) →
     (not (s == r) && (y && (x && ((n == m) || ((q == p) && (l == k)))))) ≡ true
 meet_numbers r s x y m n p q k l h = grind (arith, nat_tests)
 
-meet_back : (a b : Peering) → meet a b ≡ true → meet b a ≡ true
+pub meet_back : (a b : Peering) → meet a b ≡ true → meet b a ≡ true
 meet_back a b met =
     meet_numbers a.router b.router (names_other a b) (names_other b a) a.asn b.asn a.source.subnet.addr.0
     b.source.subnet.addr.0 a.source.subnet.len b.source.subnet.len met
@@ -164,17 +164,17 @@ meet_alike a b met =
     a.remote b.remote met
 
 -- what a filter lets pass stands in the list before it, at a place
-record IsAt {X : Type 0} (xs : List X) (x : X) : Type 0 where
+pub record IsAt {X : Type 0} (xs : List X) (x : X) : Type 0 where
   k : ℕ
   there : slice_get xs k ≡ Some x
 
-all_there : {X : Type 0} (xs : List X) → All (IsAt xs) xs
+pub all_there : {X : Type 0} (xs : List X) → All (IsAt xs) xs
 all_there [] = All-nil (IsAt [])
 all_there (x ∷ xs) =
     All-cons (IsAt (x ∷ xs)) x xs (record { k = zero; there = refl })
     (All-weaker (IsAt xs) (IsAt (x ∷ xs)) (λ y is. record { k = suc is.k; there = is.there }) xs (all_there xs))
 
-any_filtered : {X : Type 0} (p q : X → Bool) → ((x : X) → p x ≡ true → q x ≡ true) → (xs : List X) →
+pub any_filtered : {X : Type 0} (p q : X → Bool) → ((x : X) → p x ≡ true → q x ≡ true) → (xs : List X) →
     list_any p xs ≡ true → list_any p (filter q xs) ≡ true
 any_filtered p q keeps [] some = some
 any_filtered p q keeps (x ∷ xs) some =
@@ -196,7 +196,7 @@ place_below p (x ∷ xs) some = by_test (p x) refl (place_below p xs) some
     by_test true is rest some = omega arith
     by_test false is rest some = let deeper = rest some in omega (arith, deeper)
 
-position_there : {X : Type 0} (p : X → Bool) (xs : List X) → list_any p xs ≡ true →
+pub position_there : {X : Type 0} (p : X → Bool) (xs : List X) → list_any p xs ≡ true →
     position p xs ≡ Some (position_or_len p xs)
 position_there p xs some =
     ap (λ b. if b then Some (position_or_len p xs) else None)

@@ -18,6 +18,7 @@ use Rattle.term_arith.specs.Bits.{bits, number, number_of}
 use Rattle.failed_links.proofs.Reading.{number-below}
 use Rattle.announced_shapes.specs.Paths.{are_marked, has_path_ends, has_path_length, has_path_marks, is_as_number}
 use Rattle.announced_shapes.specs.Paths.{is_path_shape, taken}
+use Rattle.rebuilt_routes.proofs.Ranks.{small_bit}
 use Rattle.bgp_variables.specs.Announced.{are_fit, inner_count, is_announced, is_one_of}
 
 pub not_above : (a b : ℕ) → not (nat_lt b a) ≡ nat_le a b
@@ -120,11 +121,7 @@ pub inner_none : (is : ℕ → Bool) (tracked : List ℕ) (bs : List Bool) (i : 
     inner_count is (drop i tracked) bs ≡ 0
 inner_none is tracked bs i past = ap (λ ts. inner_count is ts bs) (drop_all tracked i past)
 
-pub one_mark : (b : Bool) → (if b then 1 else 0) ≤ 1
-one_mark true = omega arith
-one_mark false = omega arith
-
-pub ruleset mark_steps = (common_steps, ids_end_at, fit_next, inner_next, fit_none, inner_none, one_mark)
+pub ruleset mark_steps = (common_steps, ids_end_at, fit_next, inner_next, fit_none, inner_none, small_bit)
 
 -- four steps of a store
 pub mark_chain : {s t u v x : Store} → Builds s t → Builds t u → Builds u v → Builds v x → Builds s x

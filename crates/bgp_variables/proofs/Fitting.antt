@@ -1,15 +1,21 @@
 -- Held routes of a stable routing, and what external peers may announce, fit their rooms.
-use Rattle.std.proofs.Common.{◌≡◌, ℕ, ◌^◌, ◌<◌, ◌≤◌, Bool, true, false, List, [], ◌∷◌, length, map, not}
+use Rattle.std.proofs.Common.{◌≡◌, ℕ, ◌*◌, ◌+◌, ◌^◌, ◌<◌, ◌≤◌, Bool, true, false, List, [], ◌∷◌, length, map, ◌==◌}
 use Rattle.std.proofs.Common.{Option, Some, None, refl, sym, ap, subst, arith, ◌∙◌, ◌-◌}
-use Rattle.std.specs.Prelude.{IfSome, replicate}
+use Rattle.std.proofs.Common.{if◌then◌else◌}
+use Rattle.std.specs.Prelude.{IfSome, MatchOption, nat_le, option_and_then, option_map, replicate, slice_get}
 use Rattle.std.specs.List.{list_all}
 use Rattle.std.proofs.lemmas.Bool.{eqb-true, leb-true, ltb-true}
 use Rattle.std.proofs.lemmas.Bool.{and_parts}
-use Rattle.mw_text.proofs.Lists.{all_found}
+use Rattle.std.proofs.lemmas.Option.{slice_get_within}
+use Rattle.mw_text.proofs.Lists.{all_found, item_there}
+use Rattle.mw_text.specs.Address.{prefix_at}
 use Rattle.mw_text.specs.declared.address.Addr.{Addr}
+use Rattle.ios_ast.specs.declared.bgp.Bgp.{Bgp}
 use Rattle.ios_ast.specs.declared.bgp.Neighbour.{Neighbour}
 use Rattle.ios_ast.specs.declared.file.File.{File}
 use Rattle.ios_ast.specs.Deciding.{carries}
+use Rattle.ios_ast.specs.Limits.{keeps_limits}
+use Rattle.ios_ast.specs.Paths.{first_of}
 use Rattle.route_record.specs.declared.BgpRec.{BgpRec}
 use Rattle.route_record.specs.declared.Environment.{Environment}
 use Rattle.route_record.specs.declared.Failures.{Failures}
@@ -21,22 +27,34 @@ use Rattle.route_record.specs.declared.Slot.{Slot}
 use Rattle.route_record.specs.declared.Tables.{Tables}
 use Rattle.route_record.specs.declared.TheConstants.{LENGTHS}
 use Rattle.route_record.specs.declared.tracked.Tracked.{Tracked}
-use Rattle.route_record.specs.Fits.{FitsBgp, FitsLearnt, FitsSlot}
+use Rattle.route_record.specs.Fits.{FitsBgp, FitsLearnt, FitsSlot, IsAddress}
 use Rattle.route_record.specs.Origins.{origin_code}
 use Rattle.route_record.specs.Places.{slot_at}
 use Rattle.route_record.specs.Shape.{has_address, saturated}
 use Rattle.route_record.proofs.Saturated.{saturated-none, saturated-small}
-use Rattle.net_parts.specs.Sessions.{ends_of}
+use Rattle.net_parts.specs.Tracked.{TracksNet}
+use Rattle.net_parts.specs.World.{IsEnvironment}
+use Rattle.route_record.specs.declared.tracked.TheConstants.{MOST_TRACKED}
+use Rattle.net_parts.specs.Decisions.{DecidedByBgp}
 use Rattle.net_parts.specs.Stable.{Stable}
 use Rattle.route_shapes.specs.Bgp.{address_number, bgp_shape, learnt_number}
+use Rattle.held_values.specs.Rooms.{FitsHeldValues, values_room}
+use Rattle.held_values.proofs.Fields.{held_fits as values_fit}
+use Rattle.rebuilt_routes.specs.Clusters.{HasBoundedLists}
+use Rattle.rebuilt_routes.proofs.Sources.{routes_in}
+use Rattle.rebuilt_routes.proofs.StableShapes.{lists_bounded}
+use Rattle.slot_places.specs.declared.fields.Field.{Field}
+use Rattle.slot_places.specs.declared.fields.Field.TheVariants.{Among, Bits}
 use Rattle.slot_places.specs.Values.{FitsField}
 use Rattle.bgp_shapes.specs.Candidates.{ShapeAnnouncement, shape_announced}
-use Rattle.bgp_shapes.proofs.LengthLaw.{stable_plain}
-use Rattle.announced_shapes.specs.Paths.{IsPathShape, is_as_number}
+use Rattle.announced_shapes.specs.Paths.{IsPathShape, is_as_number, is_word}
 use Rattle.world_variables.proofs.Worlds.{value_small}
 use Rattle.bgp_variables.specs.Marks.{FitMarks}
-use Rattle.bgp_variables.specs.Rooms.{announcement_room, full_room, only}
-use Rattle.bgp_variables.specs.Shapes.{FitsShape}
+use Rattle.bgp_variables.specs.Rooms.{announcement_room, bgp_room, held_room, of_words, only, reflected}
+use Rattle.bgp_variables.specs.Brought.{brings_bgp}
+use Rattle.bgp_variables.specs.Shapes.{FitsBgpRoom, FitsShape}
+use Rattle.bgp_variables.specs.declared.rooms.BgpRoom.{BgpRoom}
+use Rattle.bgp_variables.proofs.NeverHeld.{never_held}
 
 -- ---- marks
 
@@ -72,46 +90,126 @@ learnt_small (Peer a) fits = omega (arith, fits)
 
 -- ---- held routes
 
--- a route that was never reflected, whose path is short, fits the room of all bits
-rec_fits : (tracked : Tracked) (rec : BgpRec) → FitsBgp rec → length rec.path ≤ 255 → rec.clusters ≡ [] →
-    rec.originator ≡ None → FitsShape (full_room tracked) (bgp_shape tracked rec)
-rec_fits tracked rec fits short clusters originator = record {
+originator_small : (o : Option Addr) → IfSome o IsAddress → address_number o < 2 ^ 33
+originator_small None fits = omega arith
+originator_small (Some a) fits = omega (arith, fits)
+
+-- a number of a route that no reflector passed on is none
+reflected_fits : (tracked : Tracked) (bits n : ℕ) → n < 2 ^ bits → (length tracked.clusters ≡ 0 → n ≡ 0) →
+    FitsField (reflected tracked bits) n
+reflected_fits tracked bits n small none = by (length tracked.clusters == 0) refl
+  where
+    by : (b : Bool) → (length tracked.clusters == 0) ≡ b → FitsField (if b then only 0 else Bits bits) n
+    by true is = only_fits 0 n (none (eqb-true (length tracked.clusters) 0 is))
+    by false is = small
+
+-- a number of 32 bits that fits a field
+words_fit : (field : Field) (n : ℕ) → FitsField field n → n < 2 ^ 32 → FitsField (of_words field) n
+words_fit (Bits width) n fits small = by (nat_le width 32)
+  where
+    by : (b : Bool) → FitsField (if b then Bits width else Bits 32) n
+    by true = fits
+    by false = small
+words_fit (Among values) n fits small = by (list_all is_word values)
+  where
+    by : (b : Bool) → FitsField (if b then Among values else Bits 32) n
+    by true = fits
+    by false = small
+
+-- a route with bounded lists, whose numbers are among the values of the files, fits its room
+rec_fits : (tracked : Tracked) (files : List File) (rec : BgpRec) → FitsBgp rec → HasBoundedLists tracked rec →
+    FitsHeldValues (values_room files) rec → length tracked.clusters ≤ MOST_TRACKED →
+    FitsShape (held_room tracked files) (bgp_shape tracked rec)
+rec_fits tracked files rec fits lists values most = record {
   from = learnt_small rec.from fits.from;
   preferences = record {
-    weight = fits.weight;
-    local_pref = fits.local_pref;
+    weight = words_fit (values_room files).weight rec.weight values.weight fits.weight;
+    local_pref = words_fit (values_room files).local_pref rec.local_pref values.local_pref fits.local_pref;
     med = fits.med;
     origin = origin_small rec.origin;
   };
   path = record {
-    len = subst (λ k. k < 2 ^ 8) (saturated-small (length rec.path) (omega (arith, short))) (omega (arith, short));
-    first = value_small rec.path 0 (2 ^ 32) (omega arith) fits.path;
+    len = let short = lists.path in
+        subst (λ k. k < 2 ^ 8) (saturated-small (length rec.path) (omega (arith, short))) (omega (arith, short));
+    first = words_fit (values_room files).first (first_of rec.path) values.first
+        (value_small rec.path 0 (2 ^ 32) (omega arith) fits.path);
     last = value_small rec.path (length rec.path - 1) (2 ^ 32) (omega arith) fits.path;
     numbers = each_fit (carries rec.path) tracked.numbers;
   };
   communities = each_fit (carries rec.communities) tracked.communities;
-  next_hop = fits.next_hop;
-  originator = only_fits 0 (address_number rec.originator) (ap address_number originator);
-  cluster_len = only_fits 0 (saturated (length rec.clusters)) (ap (λ cs. saturated (length cs)) clusters ∙ saturated-none);
-  clusters = subst (λ cs. FitMarks (replicate (length tracked.clusters) false) (map (has_address cs) tracked.clusters))
-      (sym clusters) (none_fit tracked.clusters);
+  next_hop = words_fit (values_room files).next_hop rec.next_hop.0 values.next_hop fits.next_hop;
+  originator = reflected_fits tracked 33 (address_number rec.originator)
+      (originator_small rec.originator fits.originator)
+      (λ none. ap address_number (lists.reflected (unlisted none)));
+  cluster_len = let few = lists.clusters.few in
+      let same = saturated-small (length rec.clusters) (omega (arith, few, most)) in
+      reflected_fits tracked 8 (saturated (length rec.clusters))
+      (subst (λ k. k < 2 ^ 8) same (omega (arith, few, most)))
+      (λ none. ap (λ cs. saturated (length cs)) (unlisted none) ∙ saturated-none);
+  clusters = each_fit (has_address rec.clusters) tracked.clusters;
 }
-
--- a held route of a stable routing, where each session is external
-pub held_fits : (files : List File) (destination : Addr) (failures : Failures) (environment : Environment)
-    (tables : Tables) (tracked : Tracked) → Stable files destination failures environment tables →
-    list_all (λ end. not end.internal) (ends_of files) ≡ true → (router len : ℕ) (slot : Slot) → len < LENGTHS →
-    slot_at tables router len ≡ Some slot → IfSome slot.bgp (λ rec. FitsShape (full_room tracked) (bgp_shape tracked rec))
-held_fits files destination failures environment tables tracked stable external router len slot below there =
-    by slot.bgp refl (all_found FitsSlot tables.slots _ slot stable.fits there).bgp
   where
-    by : (o : Option BgpRec) → slot.bgp ≡ o → IfSome o FitsBgp →
-        IfSome o (λ rec. FitsShape (full_room tracked) (bgp_shape tracked rec))
-    by None is fits = tt
-    by (Some rec) is fits =
-        let plain = stable_plain files destination failures environment tables stable router len slot rec below there is in
-        let never = plain.1 external in
-        rec_fits tracked rec fits plain.0 never.0 never.1
+    empty : (cs : List Addr) → length cs ≤ 0 → cs ≡ []
+    empty [] few = refl
+    empty (c ∷ cs) few = absurd (omega (arith, few))
+
+    unlisted : length tracked.clusters ≡ 0 → rec.clusters ≡ []
+    unlisted none = let few = lists.clusters.few in empty rec.clusters (omega (arith, few, none))
+
+-- what a slot of a stable routing holds fits its room
+pub held_fits : (files : List File) (destination : Addr) (failures : Failures) (environment : Environment)
+    (tables : Tables) (tracked : Tracked) → TracksNet files tracked → list_all keeps_limits files ≡ true →
+    IsEnvironment files environment → Stable files destination failures environment tables → (router len : ℕ)
+    (slot : Slot) → len < LENGTHS → slot_at tables router len ≡ Some slot →
+    FitsBgpRoom (bgp_room tracked files router len) (option_map (bgp_shape tracked) slot.bgp)
+held_fits files destination failures environment tables tracked net limits may stable router len slot below there =
+    by (brings_bgp files len) refl
+  where
+    room : Option Bgp → Option BgpRoom
+    room = option_map (λ (process : Bgp). held_room tracked files)
+
+    holds : (rec : BgpRec) → slot.bgp ≡ Some rec → routes_in tables (prefix_at destination len) router ≡ Some rec
+    holds rec is = ap (option_and_then (λ (x : Slot). x.bgp)) there ∙ is
+
+    full : (o : Option BgpRec) → slot.bgp ≡ o → IfSome o FitsBgp →
+        IfSome (option_map (bgp_shape tracked) o) (FitsShape (held_room tracked files))
+    full None is fits = tt
+    full (Some rec) is fits =
+        rec_fits tracked files rec fits
+        (lists_bounded files destination failures environment tables stable len below tracked net limits router rec
+        (holds rec is))
+        (values_fit tracked files destination failures environment tables len net limits may stable below router slot rec
+        there is) net.few_clusters
+
+    none : (o : Option BgpRec) → slot.bgp ≡ o → brings_bgp files len ≡ false → option_map (bgp_shape tracked) o ≡ None
+    none None is never = refl
+    none (Some rec) is never =
+        absurd (let no : false ≡ true = never_held files destination failures environment tables stable len below tracked
+        net limits never router rec (holds rec is) in cc)
+
+    by_process : (file : File) → slice_get files router ≡ Some file → (o : Option Bgp) → file.bgp ≡ o →
+        FitsBgpRoom (room o) (option_map (bgp_shape tracked) slot.bgp)
+    by_process file found None runs =
+        ap (option_map (bgp_shape tracked)) (subst (λ o. MatchOption o (slot.bgp ≡ None) (λ process.
+        DecidedByBgp files failures environment tables router file process (prefix_at destination len) slot.bgp)) runs
+        (stable.equations router len file slot found below there).bgp)
+    by_process file found (Some process) runs =
+        full slot.bgp refl (all_found FitsSlot tables.slots _ slot stable.fits there).bgp
+
+    inside : router < length files
+    inside =
+        let place = slice_get_within tables.slots (LENGTHS * router + len) slot there in
+        let size = stable.size in
+        omega (arith, place, size)
+
+    by : (b : Bool) → brings_bgp files len ≡ b →
+        FitsBgpRoom (room (if b then option_and_then (λ (file : File). file.bgp) (slice_get files router) else None))
+        (option_map (bgp_shape tracked) slot.bgp)
+    by true is =
+        let file = item_there files router inside in
+        subst (λ o. FitsBgpRoom (room (option_and_then (λ (file : File). file.bgp) o))
+        (option_map (bgp_shape tracked) slot.bgp)) (sym file.1) (by_process file.0 file.1 file.0.bgp refl)
+    by false is = none slot.bgp refl is
 
 -- ---- announcements
 

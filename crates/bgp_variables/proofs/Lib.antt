@@ -1,5 +1,6 @@
 pub mod RoomSteps
 pub mod Reading
+pub mod NeverHeld
 pub mod Fitting
 pub mod Joining
 pub mod Steps

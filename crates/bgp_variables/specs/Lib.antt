@@ -1,5 +1,6 @@
 pub mod Marks
 pub mod Shapes
+pub mod Brought
 pub mod Rooms
 pub mod Parts
 pub mod Environments

@@ -1,10 +1,17 @@
 -- Rooms of held routes, and of what external peers announce.
-use Rattle.std.specs.Prelude.{ℕ, Bool, true, false, List, [], ◌∷◌, length, replicate}
+use Rattle.std.specs.Prelude.{◌==◌, ℕ, Bool, true, false, List, [], ◌∷◌, length, map, replicate, if◌then◌else◌}
+use Rattle.std.specs.Prelude.{Option, nat_le, option_map}
+use Rattle.std.specs.List.{list_all}
 use Rattle.ios_ast.specs.declared.bgp.Neighbour.{Neighbour}
+use Rattle.ios_ast.specs.declared.file.File.{File}
 use Rattle.route_record.specs.declared.tracked.Tracked.{Tracked}
+use Rattle.announced_shapes.specs.Paths.{is_word}
+use Rattle.held_values.specs.Rooms.{values_room}
+use Rattle.plan_places.specs.declared.places.Place.{Place}
 use Rattle.slot_places.specs.declared.fields.Field.{Field}
 use Rattle.slot_places.specs.declared.fields.Field.TheVariants.{Bits, Among}
 use Rattle.bgp_variables.specs.declared.rooms.BgpRoom.{BgpRoom}
+use Rattle.bgp_variables.specs.Brought.{speaker_at}
 
 -- a number that is known
 abbrev pub only : ℕ → Field
@@ -17,18 +24,38 @@ all_marks tracked = replicate (length tracked) true
 abbrev pub no_marks : {X : Type 0} → List X → List Bool
 no_marks tracked = replicate (length tracked) false
 
--- a held route in all its bits, in a network without internal sessions: no route is reflected. An imported path has at most
--- 255 numbers
-abbrev pub full_room : Tracked → BgpRoom
-full_room tracked = record {
+-- a number that only a reflected route has: so many bits where some router of the network is a reflector (RFC 4456,
+-- section 8)
+abbrev pub reflected : Tracked → ℕ → Field
+reflected tracked bits = if length tracked.clusters == 0 then only 0 else Bits bits
+
+-- a field for numbers of 32 bits: where a value has more, it tells all of 32
+abbrev pub of_words : Field → Field
+of_words (Bits width) = if nat_le width 32 then Bits width else Bits 32
+of_words (Among values) = if list_all is_word values then Among values else Bits 32
+
+-- what a held route can be, by what lines of the files say of its numbers. An imported path has at most 255 numbers, and a
+-- cluster list names no reflector twice
+abbrev pub held_room : Tracked → List File → BgpRoom
+held_room tracked files = record {
   from = Bits 33;
-  preferences = record { weight = Bits 32; local_pref = Bits 32; med = Bits 32; origin = Bits 2 };
-  path = record { len = Bits 8; first = Bits 32; last = Bits 32; numbers = all_marks tracked.numbers };
+  preferences = record {
+    weight = of_words (values_room files).weight;
+    local_pref = of_words (values_room files).local_pref;
+    med = Bits 32;
+    origin = Bits 2;
+  };
+  path = record {
+    len = Bits 8;
+    first = of_words (values_room files).first;
+    last = Bits 32;
+    numbers = all_marks tracked.numbers;
+  };
   communities = all_marks tracked.communities;
-  next_hop = Bits 32;
-  originator = only 0;
-  cluster_len = only 0;
-  clusters = no_marks tracked.clusters;
+  next_hop = of_words (values_room files).next_hop;
+  originator = reflected tracked 33;
+  cluster_len = reflected tracked 8;
+  clusters = all_marks tracked.clusters;
 }
 
 -- what an external peer announces, as a message: its path begins with the peer's AS number, and the next hop is the peer
@@ -43,3 +70,11 @@ announcement_room tracked neighbour = record {
   cluster_len = only 0;
   clusters = no_marks tracked.clusters;
 }
+
+-- the room of the BGP route of a router's slot of that length, where it can hold one
+abbrev pub bgp_room : Tracked → List File → ℕ → ℕ → Option BgpRoom
+bgp_room tracked files router len = option_map (λ process. held_room tracked files) (speaker_at files router len)
+
+-- those of the slots at places
+abbrev pub bgp_rooms : Tracked → List File → List Place → List (Option BgpRoom)
+bgp_rooms tracked files places = map (λ p. bgp_room tracked files p.router p.len) places

@@ -1,12 +1,13 @@
 //! Laws about the variables of BGP. Each function only carries its law.
 
-ghost use Rattle.std.specs.Prelude.{◌≡◌, ◌+◌, ◌<◌, ℕ, All, Bool, IfSome, length, List as ListOf, Option as OptionOf, slice_get, Some, not, true};
+ghost use Rattle.std.specs.Prelude.{◌≡◌, ◌+◌, ◌<◌, ℕ, All, Bool, length, List as ListOf, Option as OptionOf, option_map, slice_get, Some, true};
 ghost use Rattle.std.specs.List.{list_all};
 ghost use Rattle.mw_text.specs.declared.address.Addr.{Addr as AddrOf};
 ghost use Rattle.mw_text.specs.declared.address.Prefix.{Prefix as PrefixOf};
 ghost use Rattle.ios_ast.specs.Deciding.{carries};
 ghost use Rattle.ios_ast.specs.declared.bgp.Neighbour.{Neighbour as NeighbourOf};
 ghost use Rattle.ios_ast.specs.declared.file.File.{File as FileOf};
+ghost use Rattle.ios_ast.specs.Limits.{keeps_limits};
 ghost use Rattle.route_record.specs.declared.Environment.{Environment as EnvironmentOf};
 ghost use Rattle.route_record.specs.declared.Failures.{Failures as FailuresOf};
 ghost use Rattle.route_record.specs.declared.Slot.{Slot as SlotOf};
@@ -18,6 +19,8 @@ ghost use Rattle.route_record.specs.Places.{slot_at};
 ghost use Rattle.net_parts.specs.declared.sessions.SessionEnd.{SessionEnd as SessionEndOf};
 ghost use Rattle.net_parts.specs.Sessions.{ends_of, is_outside, neighbour_of};
 ghost use Rattle.net_parts.specs.Stable.{Stable};
+ghost use Rattle.net_parts.specs.Tracked.{TracksNet};
+ghost use Rattle.net_parts.specs.World.{IsEnvironment};
 ghost use Rattle.route_shapes.specs.Bgp.{BgpShape, bgp_shape};
 ghost use Rattle.failed_links.specs.Rows.{IsAt};
 ghost use Rattle.bgp_shapes.specs.Candidates.{ShapeAnnouncement, ShapeEnvironment, ShapeSlot, shape_announced, shape_arriving};
@@ -28,7 +31,7 @@ ghost use Rattle.announced_shapes.specs.Paths.{is_word};
 ghost use Rattle.bgp_variables.specs.Announced.{is_announced};
 ghost use Rattle.bgp_variables.specs.declared.rooms.BgpRoom.{BgpRoom as BgpRoomOf};
 ghost use Rattle.bgp_variables.specs.Environments.{announced_from, announced_rooms, arrivals, environment_bits, environment_width, ids_from, peers_count};
-ghost use Rattle.bgp_variables.specs.Rooms.{announcement_room, full_room};
+ghost use Rattle.bgp_variables.specs.Rooms.{announcement_room, bgp_room};
 ghost use Rattle.bgp_variables.specs.Shapes.{FitBgpRooms, FitsBgpRoom, FitsShape, bgp_bits, bgp_from, bgp_width, bgps_bits, bgps_from, bgps_width, shape_from};
 
 /// A route that fits its room is read from its bits, and so are routes one after another.
@@ -41,14 +44,15 @@ pub fn reading_law()
         (bgps_from rooms v from ≡ xs) × IsAt v (from + bgps_width rooms) rest }
 {}
 
-/// In a stable routing each held route fits the room of all bits, where each session is external: its path has at most 255
-/// numbers, and it was never reflected.
+/// In a stable routing what a slot holds fits its room: no route where none can come, its weight, local preference, next
+/// hop and first AS number are among those that lines of the files say, the path has at most 255 numbers, and the cluster
+/// list names each reflector of the network at most once (RFC 4456, section 8).
 pub fn held_law()
     ensures { (files : ListOf FileOf) (destination : AddrOf) (failures : FailuresOf) (environment : EnvironmentOf)
-        (tables : TablesOf) (tracked : TrackedOf) → Stable files destination failures environment tables →
-        list_all (λ end. not end.internal) (ends_of files) ≡ true → (router len : ℕ) (slot : SlotOf) → len < LENGTHS →
-        slot_at tables router len ≡ Some slot →
-        IfSome slot.bgp (λ rec. FitsShape (full_room tracked) (bgp_shape tracked rec)) }
+        (tables : TablesOf) (tracked : TrackedOf) → TracksNet files tracked → list_all keeps_limits files ≡ true →
+        IsEnvironment files environment → Stable files destination failures environment tables → (router len : ℕ)
+        (slot : SlotOf) → len < LENGTHS → slot_at tables router len ≡ Some slot →
+        FitsBgpRoom (bgp_room tracked files router len) (option_map (bgp_shape tracked) slot.bgp) }
 {}
 
 /// What an external peer may announce fits the room of its announcements, as the message that arrives of it.

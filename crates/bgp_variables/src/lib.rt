@@ -8,8 +8,10 @@ mod marks;
 mod parts;
 mod rooms;
 mod routes;
+mod speakers;
 
 pub use announcements::sym_is_announced;
 pub use environments::{open_announced, open_ids};
-pub use rooms::{BgpRoom, PathRoom, PreferencesRoom, announcement_room, full_room};
+pub use rooms::{BgpRoom, PathRoom, PreferencesRoom, announcement_room, held_room};
 pub use routes::open_bgp;
+pub use speakers::speaker_at;

@@ -1,11 +1,15 @@
 //! What the parts of a BGP route can be.
 
-ghost use Rattle.std.specs.Prelude.{◌≡◌, ◌+◌, ◌++◌, ◌∷◌, [], Bool, IfOk, OnOk, length, map, replicate};
+ghost use Rattle.std.specs.Prelude.{◌≡◌, IfOk, length, replicate};
 ghost use Rattle.slot_places.specs.declared.fields.Field.TheVariants.{Bits};
+ghost use Rattle.std.specs.List.{list_all};
+ghost use Rattle.announced_shapes.specs.Paths as paths;
+ghost use Rattle.held_values.specs.Rooms.{values_room};
 ghost use Rattle.bgp_variables.specs.Rooms as rooms;
 ghost use Rattle.bgp_variables.specs.Shapes.{IsRoomOf};
 
-use ios_ast::Neighbour;
+use held_values::{HeldValues, held_values};
+use ios_ast::{File, Neighbour};
 use mw_text::List;
 use route_record::Tracked;
 use slot_places::Field;
@@ -60,13 +64,44 @@ fn marks(alloc: Global, may: bool, count: usize) -> Result<List<bool>, AllocErro
     })
 }
 
-// Routes that are not reflected have no originator and no clusters.
+// What the attributes of reflectors can be (RFC 4456, section 8).
 #[derive(Drop)]
 struct Reflection {
     originator: Field,
     cluster_len: Field,
     clusters: List<bool>,
 }
+
+// A number that only a reflected route has.
+fn reflected(alloc: Global, tracked: &Tracked, bits: u8) -> Result<Field, AllocError>
+    ensures { IfOk result (λ r. r ≡ rooms.reflected tracked.now bits) }
+{
+    if tracked.clusters.as_slice().len() == 0 {
+        only(alloc, 0)
+    } else {
+        Ok(Field::Bits(bits))
+    }
+}
+
+// Of a held route.
+fn attributes_of_reflectors(alloc: Global, tracked: &Tracked) -> Result<Reflection, AllocError>
+    ensures { IfOk result (λ r. r ≡ record {
+      originator = rooms.reflected tracked.now 33;
+      cluster_len = rooms.reflected tracked.now 8;
+      clusters = rooms.all_marks tracked.now.clusters;
+    }) }
+{
+    let originator = reflected(alloc, tracked, 33)?;
+    let cluster_len = reflected(alloc, tracked, 8)?;
+    let clusters = marks(alloc, true, tracked.clusters.as_slice().len())?;
+    Ok(Reflection {
+        originator,
+        cluster_len,
+        clusters,
+    })
+}
+
+// Of an announcement: it was not reflected.
 
 fn no_reflection(alloc: Global, tracked: &Tracked) -> Result<Reflection, AllocError>
     ensures { IfOk result (λ r. r ≡ record {
@@ -85,42 +120,165 @@ fn no_reflection(alloc: Global, tracked: &Tracked) -> Result<Reflection, AllocEr
     })
 }
 
-fn full_path(alloc: Global, tracked: &Tracked) -> Result<PathRoom, AllocError>
-    ensures { IfOk result (λ r. r ≡ (rooms.full_room tracked.now).path) }
+fn is_word(n: u32) -> bool
+    ensures { result ≡ paths.is_word n }
+{
+    let _n = n;
+    true
+}
+
+fn are_words(values: &[u32]) -> bool
+    ensures { result ≡ list_all paths.is_word values.now }
+{
+    values.iter().all(|n| is_word(*n))
+}
+
+// A field for numbers of 32 bits.
+fn of_words(field: Field) -> Field
+    ensures { result ≡ rooms.of_words field }
+{
+    match field {
+        Field::Bits(width) => {
+            if width <= 32 {
+                Field::Bits(width)
+            } else {
+                Field::Bits(32)
+            }
+        }
+        Field::Among(values) => {
+            if are_words(values.as_slice()) {
+                Field::Among(values)
+            } else {
+                Field::Bits(32)
+            }
+        }
+    }
+}
+
+// The numbers of a held route that lines of the files say.
+fn worded_values(alloc: Global, files: &[File]) -> Result<HeldValues, AllocError>
+    ensures { IfOk result (λ r. r ≡ record {
+      weight = rooms.of_words (values_room files.now).weight;
+      local_pref = rooms.of_words (values_room files.now).local_pref;
+      next_hop = rooms.of_words (values_room files.now).next_hop;
+      first = rooms.of_words (values_room files.now).first;
+    }) }
+{
+    let HeldValues {
+        weight,
+        local_pref,
+        next_hop,
+        first,
+    } = held_values(alloc, files)?;
+    Ok(HeldValues {
+        weight: of_words(weight),
+        local_pref: of_words(local_pref),
+        next_hop: of_words(next_hop),
+        first: of_words(first),
+    })
+}
+
+// The path of a route whose first number that field tells.
+fn path_from(alloc: Global, tracked: &Tracked, first: Field) -> Result<PathRoom, AllocError>
+    ensures { IfOk result (λ r. r ≡ record {
+      len = Bits 8;
+      first = first;
+      last = Bits 32;
+      numbers = rooms.all_marks tracked.now.numbers;
+    }) }
 {
     let numbers = marks(alloc, true, tracked.numbers.as_slice().len())?;
     Ok(PathRoom {
         len: Field::Bits(8),
-        first: Field::Bits(32),
+        first,
         last: Field::Bits(32),
         numbers,
     })
 }
 
-/// A held route in all its bits, in a network without internal sessions.
-#[tactic(auto, using(crate::proofs::RoomSteps::full_is_room))]
-pub fn full_room(alloc: Global, tracked: &Tracked) -> Result<BgpRoom, AllocError>
-    ensures value { IfOk result (λ r. r ≡ rooms.full_room tracked.now) }
-    ensures room { IfOk result (IsRoomOf tracked.now) }
+// The lists of a route.
+#[derive(Drop)]
+struct Lists {
+    communities: List<bool>,
+    reflection: Reflection,
+}
+
+fn held_lists(alloc: Global, tracked: &Tracked) -> Result<Lists, AllocError>
+    ensures { IfOk result (λ r. r ≡ record {
+      communities = rooms.all_marks tracked.now.communities;
+      reflection = record {
+        originator = rooms.reflected tracked.now 33;
+        cluster_len = rooms.reflected tracked.now 8;
+        clusters = rooms.all_marks tracked.now.clusters;
+      };
+    }) }
 {
-    let path = full_path(alloc, tracked)?;
     let communities = marks(alloc, true, tracked.communities.as_slice().len())?;
-    let reflection = no_reflection(alloc, tracked)?;
+    let reflection = attributes_of_reflectors(alloc, tracked)?;
+    Ok(Lists {
+        communities,
+        reflection,
+    })
+}
+
+// A held route, of the parts that are known.
+fn held_of(alloc: Global, tracked: &Tracked, values: HeldValues) -> Result<BgpRoom, AllocError>
+    ensures { IfOk result (λ r. r ≡ record {
+      from = Bits 33;
+      preferences = record {
+        weight = values.weight;
+        local_pref = values.local_pref;
+        med = Bits 32;
+        origin = Bits 2;
+      };
+      path = record {
+        len = Bits 8;
+        first = values.first;
+        last = Bits 32;
+        numbers = rooms.all_marks tracked.now.numbers;
+      };
+      communities = rooms.all_marks tracked.now.communities;
+      next_hop = values.next_hop;
+      originator = rooms.reflected tracked.now 33;
+      cluster_len = rooms.reflected tracked.now 8;
+      clusters = rooms.all_marks tracked.now.clusters;
+    }) }
+{
+    let HeldValues {
+        weight,
+        local_pref,
+        next_hop,
+        first,
+    } = values;
+    let path = path_from(alloc, tracked, first)?;
+    let lists = held_lists(alloc, tracked)?;
     Ok(BgpRoom {
         from: Field::Bits(33),
         preferences: PreferencesRoom {
-            weight: Field::Bits(32),
-            local_pref: Field::Bits(32),
+            weight,
+            local_pref,
             med: Field::Bits(32),
             origin: Field::Bits(2),
         },
         path,
-        communities,
-        next_hop: Field::Bits(32),
-        originator: reflection.originator,
-        cluster_len: reflection.cluster_len,
-        clusters: reflection.clusters,
+        communities: lists.communities,
+        next_hop,
+        originator: lists.reflection.originator,
+        cluster_len: lists.reflection.cluster_len,
+        clusters: lists.reflection.clusters,
     })
+}
+
+/// What a held route of a network of these files can be: its weight, local preference, next hop and first AS number are
+/// among those that lines of the files say, where these are few (RFC 4271, section 5.1).
+#[tactic(auto, using(crate::proofs::RoomSteps::held_is_room))]
+pub fn held_room(alloc: Global, tracked: &Tracked, files: &[File]) -> Result<BgpRoom, AllocError>
+    ensures value { IfOk result (λ r. r ≡ rooms.held_room tracked.now files.now) }
+    ensures room { IfOk result (IsRoomOf tracked.now) }
+{
+    let values = worded_values(alloc, files)?;
+    let room = held_of(alloc, tracked, values)?;
+    Ok(room)
 }
 
 // What an announcement tells of its peer.
@@ -167,45 +325,64 @@ fn announced_preferences(alloc: Global) -> Result<PreferencesRoom, AllocError>
     })
 }
 
-// The room of announcements, where those of all routes are known.
-fn announced(full: BgpRoom, sender: Sender, preferences: PreferencesRoom) -> BgpRoom
-    ensures { result ≡ record full {
+fn lists_of(alloc: Global, tracked: &Tracked) -> Result<Lists, AllocError>
+    ensures { IfOk result (λ r. r ≡ record {
+      communities = rooms.all_marks tracked.now.communities;
+      reflection = record {
+        originator = rooms.only 0;
+        cluster_len = rooms.only 0;
+        clusters = rooms.no_marks tracked.now.clusters;
+      };
+    }) }
+{
+    let communities = marks(alloc, true, tracked.communities.as_slice().len())?;
+    let reflection = no_reflection(alloc, tracked)?;
+    Ok(Lists {
+        communities,
+        reflection,
+    })
+}
+
+// The room of announcements of a sender.
+fn announced(
+    alloc: Global,
+    tracked: &Tracked,
+    sender: Sender,
+    preferences: PreferencesRoom,
+) -> Result<BgpRoom, AllocError>
+    ensures { IfOk result (λ r. r ≡ record {
       from = sender.from;
       preferences = preferences;
-      path = record full.path { first = sender.first };
+      path = record {
+        len = Bits 8;
+        first = sender.first;
+        last = Bits 32;
+        numbers = rooms.all_marks tracked.now.numbers;
+      };
+      communities = rooms.all_marks tracked.now.communities;
       next_hop = sender.next_hop;
-    } }
+      originator = rooms.only 0;
+      cluster_len = rooms.only 0;
+      clusters = rooms.no_marks tracked.now.clusters;
+    }) }
 {
-    let BgpRoom {
-        path,
-        communities,
-        originator,
-        cluster_len,
-        clusters,
-        ..
-    } = full;
-    let PathRoom {
-        len,
-        last,
-        numbers,
-        ..
-    } = path;
-    let path = PathRoom {
-        len,
-        first: sender.first,
-        last,
-        numbers,
-    };
-    BgpRoom {
-        from: sender.from,
+    let Sender {
+        from,
+        first,
+        next_hop,
+    } = sender;
+    let path = path_from(alloc, tracked, first)?;
+    let lists = lists_of(alloc, tracked)?;
+    Ok(BgpRoom {
+        from,
         preferences,
         path,
-        communities,
-        next_hop: sender.next_hop,
-        originator,
-        cluster_len,
-        clusters,
-    }
+        communities: lists.communities,
+        next_hop,
+        originator: lists.reflection.originator,
+        cluster_len: lists.reflection.cluster_len,
+        clusters: lists.reflection.clusters,
+    })
 }
 
 /// What an external peer announces, as the message that arrives of it.
@@ -222,6 +399,6 @@ pub fn announcement_room(
     let _addr = neighbour.addr.0;
     let sender = sender_of(alloc, neighbour)?;
     let preferences = announced_preferences(alloc)?;
-    let full = full_room(alloc, tracked)?;
-    Ok(announced(full, sender, preferences))
+    let room = announced(alloc, tracked, sender, preferences)?;
+    Ok(room)
 }

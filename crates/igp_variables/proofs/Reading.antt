@@ -15,44 +15,48 @@ use Rattle.net_parts.specs.Ospf.{advertised}
 use Rattle.sym_policy.specs.Held.{internal_route}
 use Rattle.failed_links.specs.Failures.{none_of}
 use Rattle.failed_links.specs.Rows.{IsAt, digits, number_from}
+use Rattle.failed_links.proofs.FailureParts.{length-none}
 use Rattle.failed_links.proofs.Reading.{after, field_at, one_then}
-use Rattle.igp_variables.specs.Rows.{distance_bits, distances, distances_at, route_from, routes_from, rows_bits}
+use Rattle.igp_variables.specs.Rows.{distance_bits, distance_width, distances, distances_at, route_from, routes_from, rows_bits}
 use Rattle.igp_variables.specs.Rows.{rows_count, rows_from, rows_width, runs_bgp}
-use Rattle.igp_variables.proofs.Small.{FitsWord, fit_words}
+use Rattle.igp_variables.proofs.Small.{HasBits, fit_bits}
 
 -- ---- one distance
 
-distance_read : (d : Option ℕ) (v : ℕ → Bool) (from : ℕ) (rest : List Bool) → FitsWord d →
-    IsAt v from (distance_bits d ++ rest) →
-    (route_from v from ≡ option_map internal_route d) × IsAt v (from + 33) rest
-distance_read None v from rest fits here =
-    let there = one_then v from false (none_of 32 ++ rest) here in
-    let past = after v (from + 1) (none_of 32) rest there.1 in
-    let long : length (none_of 32) ≡ 32 = refl in (
-      ap (λ b. if b then Some (internal_route (number_from v (from + 1) 32)) else None) there.0,
+distance_read : (width : ℕ) (d : Option ℕ) (v : ℕ → Bool) (from : ℕ) (rest : List Bool) → HasBits width d →
+    IsAt v from (distance_bits width d ++ rest) →
+    (route_from width v from ≡ option_map internal_route d) × IsAt v (from + suc width) rest
+distance_read width None v from rest fits here =
+    let there = one_then v from false (none_of width ++ rest) here in
+    let past = after v (from + 1) (none_of width) rest there.1 in
+    let long = length-none width in (
+      ap (λ b. if b then Some (internal_route (number_from v (from + 1) width)) else None) there.0,
       subst (λ k. IsAt v k rest) (omega (arith, long)) past.1,
     )
-distance_read (Some n) v from rest fits here =
-    let there = one_then v from true (digits 32 n ++ rest) here in
-    let cost = field_at v (from + 1) 32 n rest fits there.1 in (
-      ap (λ b. if b then Some (internal_route (number_from v (from + 1) 32)) else None) there.0
+distance_read width (Some n) v from rest fits here =
+    let there = one_then v from true (digits width n ++ rest) here in
+    let cost = field_at v (from + 1) width n rest fits there.1 in (
+      ap (λ b. if b then Some (internal_route (number_from v (from + 1) width)) else None) there.0
           ∙ ap (λ k. Some (internal_route k)) cost.0,
       subst (λ k. IsAt v k rest) (omega arith) cost.1,
     )
 
 -- ---- one after another
 
-routes_read : (ds : List (Option ℕ)) (v : ℕ → Bool) (from : ℕ) (rest : List Bool) → All FitsWord ds →
-    IsAt v from (flat_map distance_bits ds ++ rest) →
-    (routes_from (length ds) v from ≡ map (option_map internal_route) ds) × IsAt v (from + 33 * length ds) rest
+routes_read : (width : ℕ) (ds : List (Option ℕ)) (v : ℕ → Bool) (from : ℕ) (rest : List Bool) →
+    All (HasBits width) ds → IsAt v from (flat_map (distance_bits width) ds ++ rest) →
+    (routes_from width (length ds) v from ≡ map (option_map internal_route) ds)
+    × IsAt v (from + length ds * suc width) rest
 unfolding routes_from
-routes_read [] v from rest fit here = (refl, subst (λ k. IsAt v k rest) (omega arith) here)
-routes_read (d ∷ ds) v from rest fit here =
-    let apart = append_assoc (distance_bits d) (flat_map distance_bits ds) rest in
-    let one = distance_read d v from (flat_map distance_bits ds ++ rest) (All-head FitsWord d ds fit)
-    (subst (IsAt v from) apart here) in
-    let others = routes_read ds v (from + 33) rest (All-tail FitsWord d ds fit) one.1 in
-    (λ i. one.0 i ∷ others.0 i, subst (λ k. IsAt v k rest) (omega arith) others.1)
+routes_read width [] v from rest fit here =
+    let none : 0 * suc width ≡ 0 = omega arith in (refl, subst (λ k. IsAt v k rest) (omega (arith, none)) here)
+routes_read width (d ∷ ds) v from rest fit here =
+    let apart = append_assoc (distance_bits width d) (flat_map (distance_bits width) ds) rest in
+    let one = distance_read width d v from (flat_map (distance_bits width) ds ++ rest)
+    (All-head (HasBits width) d ds fit) (subst (IsAt v from) apart here) in
+    let others = routes_read width ds v (from + suc width) rest (All-tail (HasBits width) d ds fit) one.1 in
+    let more = suc-mul (length ds) (suc width) in
+    (λ i. one.0 i ∷ others.0 i, subst (λ k. IsAt v k rest) (omega (arith, more)) others.1)
 
 -- ---- how many there are
 
@@ -84,10 +88,11 @@ pub rows_then : (files : List File) (failures : Failures) (v : ℕ → Bool) (fr
     × IsAt v (from + rows_width files) rest
 unfolding rows_bits
 rows_then files failures v from rest limits few here =
-    let read = routes_read (distances files failures) v from rest (fit_words files failures limits few) here in
+    let width = distance_width files in
+    let read = routes_read width (distances files failures) v from rest (fit_bits files failures limits few) here in
     let count = distances_count files failures in (
-      ap (λ k. routes_from k v from) (sym count) ∙ read.0,
-      subst (λ k. IsAt v (from + 33 * k) rest) count read.1,
+      ap (λ k. routes_from width k v from) (sym count) ∙ read.0,
+      subst (λ k. IsAt v (from + k * suc width) rest) count read.1,
     )
 
 -- where they stand alone

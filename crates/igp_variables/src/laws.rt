@@ -14,8 +14,8 @@ ghost use Rattle.sym_ospf.specs.Rows.{HasDistances};
 ghost use Rattle.failed_links.specs.Rows.{IsAt};
 ghost use Rattle.igp_variables.specs.Rows.{distances, rows_bits, rows_from, rows_width, runs_bgp};
 
-/// In a network whose files keep their limits, of at most 64 routers, each interior distance has 32 bits: the distances are
-/// read from their bits, and what stands behind these stands behind their variables.
+/// In a network whose files keep their limits, of at most 64 routers, each interior distance has room in its bits: the
+/// distances are read from their bits, and what stands behind these stands behind their variables.
 pub fn rows_law()
     ensures { (files : ListOf FileOf) (failures : FailuresOf) (v : ℕ → Bool) (from : ℕ) (rest : ListOf Bool) →
         list_all keeps_limits files ≡ true → length files ≤ MOST_FILES →

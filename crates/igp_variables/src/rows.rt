@@ -1,22 +1,26 @@
 //! The interior distances as routes of new variables.
 
-ghost use Rattle.std.specs.Prelude.{◌≡◌, ◌+◌, ◌*◌, ◌<◌, ◌≤◌, ◌++◌, ◌∷◌, [], IfOk, OnOk, Some, None, if◌then◌else◌, is_some, length, map};
+ghost use Rattle.std.specs.Prelude.{◌≡◌, ◌+◌, ◌*◌, ◌<◌, ◌≤◌, ◌++◌, ◌∷◌, [], IfOk, OnOk, Some, None, if◌then◌else◌, fold, is_some, length, map, max, suc};
 ghost use Rattle.term_store.specs.Terms.{Reading, at, size};
 ghost use Rattle.term_store.specs.Reading.{Reads, Builds, Grows, Gives};
 ghost use Rattle.term_arith.specs.Bits.{number, ids_end};
 ghost use Rattle.net_parts.specs.Ospf as ospf;
 ghost use Rattle.sym_policy.specs.Held.{internal_route, ospf_end, ospf_of};
 ghost use Rattle.sym_ospf.specs.Routes.{routes_end};
+ghost use Rattle.slot_places.specs.Rooms.{dearest_walk};
 ghost use Rattle.igp_variables.specs.Rows as igp;
 ghost use Rattle.igp_variables.specs.Rows.{route_from, routes_from, rows_count, rows_from, rows_width};
 
 use ios_ast::File;
 use mw_text::List;
 use net_model::Net;
+use net_parts::{Adjacency, OspfInterface};
+use slot_places::width_for;
 use std::alloc::{AllocError, Global};
 use sym_policy::SymOspf;
-use term_arith::{Bits, constant, fresh_bits};
+use term_arith::{Bits, constant};
 use term_store::{NodeId, Terms};
+use world_variables::fields::padded;
 
 fn has_process(file: &File) -> bool
     ensures { result ≡ is_some file.now.bgp }
@@ -56,16 +60,56 @@ fn internal(
     })
 }
 
-// A distance of new variables.
-#[tactic(auto, using(failed_links::proofs::Steps::grows_built, failed_links::proofs::Steps::grows_grown, failed_links::proofs::Steps::number_fresh))]
-fn open_route(alloc: Global, terms: &mut Terms) -> Result<SymOspf, AllocError>
+fn dearest_interface(interfaces: &[OspfInterface]) -> u32
+    ensures { result ≡ fold (λ most x. max most x.cost) 0 interfaces.now }
+{
+    let mut most = 0u32;
+    for x in interfaces {
+        most = most.max(x.cost);
+    }
+    most
+}
+
+fn dearest_adjacency(adjacencies: &[Adjacency]) -> u32
+    ensures { result ≡ fold (λ most a. max most a.cost) 0 adjacencies.now }
+{
+    let mut most = 0u32;
+    for a in adjacencies {
+        most = most.max(a.cost);
+    }
+    most
+}
+
+// What no distance of the network exceeds.
+fn longest(net: &Net) -> u64
+    ensures { result ≡ igp.dearest_interface net.now.files + dearest_walk net.now.files }
+{
+    let interface = u64::from(dearest_interface(net.ospf_interfaces()));
+    let adjacency = u64::from(dearest_adjacency(net.adjacencies()));
+    let routers = net.routers().len() as u64;
+    interface + routers * adjacency
+}
+
+// How many bits a distance has.
+#[tactic(auto, using(crate::proofs::Small::width_few))]
+fn distance_width(net: &Net) -> u8
+    ensures value { result ≡ igp.distance_width net.now.files }
+    ensures few { result ≤ 32 }
+{
+    width_for(longest(net))
+}
+
+// A distance of new variables, of so many bits.
+#[tactic(auto, using(failed_links::proofs::Steps::grows_built, failed_links::proofs::Steps::grows_grown))]
+fn open_route(alloc: Global, terms: &mut Terms, width: u8) -> Result<SymOspf, AllocError>
+    requires { width ≤ 32 }
     ensures grows { Grows terms.old terms.new }
     ensures within { IfOk result (λ r. ospf_end r ≤ size terms.new) }
-    ensures vars { OnOk result (terms.new.vars ≡ terms.old.vars + 33) }
-    ensures value { Gives terms.new result (λ w r. ospf_of w r ≡ route_from w.variable terms.old.vars) }
+    ensures vars { OnOk result (terms.new.vars ≡ terms.old.vars + suc width) }
+    ensures value { Gives terms.new result (λ w r. ospf_of w r ≡ route_from width w.variable terms.old.vars) }
 {
     let valid = terms.fresh()?;
-    let cost = fresh_bits(alloc, terms, 32)?;
+    let cost = padded(alloc, terms, width, 32)?;
     internal(alloc, terms, valid, cost)
 }
 
@@ -84,17 +128,19 @@ fn open_row(
     terms: &mut Terms,
     made: &mut List<SymOspf>,
     count: usize,
+    width: u8,
 ) -> Result<(), AllocError>
+    requires width { width ≤ 32 }
     requires within { routes_end made.old ≤ size terms.old }
     ensures grows { Grows terms.old terms.new }
     ensures within { OnOk result (routes_end made.new ≤ size terms.new) }
     ensures count { OnOk result (length made.new ≡ length made.old + count) }
-    ensures vars { OnOk result (terms.new.vars ≡ terms.old.vars + 33 * count) }
+    ensures vars { OnOk result (terms.new.vars ≡ terms.old.vars + count * suc width) }
     ensures value { OnOk result ((w : Reading) → Reads w terms.new → map (ospf_of w) made.new
-        ≡ map (ospf_of w) made.old ++ routes_from count w.variable terms.old.vars) }
+        ≡ map (ospf_of w) made.old ++ routes_from width count w.variable terms.old.vars) }
 {
     for i in 0..count {
-        let next = open_route(alloc, terms)?;
+        let next = open_route(alloc, terms, width)?;
         put_route(made, next)?;
     }
     Ok(())
@@ -122,20 +168,23 @@ fn all_rows(alloc: Global, terms: &mut Terms, net: &Net) -> Result<List<SymOspf>
     ensures within { IfOk result (λ r. routes_end r ≤ size terms.new) }
     ensures count { IfOk result (λ r. length r ≡ length net.now.files * length (ospf.advertised net.now.files)) }
     ensures vars { OnOk result (terms.new.vars
-        ≡ terms.old.vars + 33 * (length net.now.files * length (ospf.advertised net.now.files))) }
+        ≡ terms.old.vars + length net.now.files * length (ospf.advertised net.now.files)
+        * suc (igp.distance_width net.now.files)) }
     ensures value { Gives terms.new result (λ w r. map (ospf_of w) r
-        ≡ routes_from (length net.now.files * length (ospf.advertised net.now.files)) w.variable terms.old.vars) }
+        ≡ routes_from (igp.distance_width net.now.files)
+        (length net.now.files * length (ospf.advertised net.now.files)) w.variable terms.old.vars) }
 {
     let row = prefixes_count(net);
+    let width = distance_width(net);
     let mut made = List::new(alloc);
     for router in 0..routers_count(net) {
-        open_row(alloc, terms, &mut made, row)?;
+        open_row(alloc, terms, &mut made, row, width)?;
     }
     Ok(made)
 }
 
 /// The interior distances of the routers to the advertised prefixes, as internal routes with metric 0: whether each is
-/// there and the 32 bits of its cost are new variables. They stand by router and then by prefix, at
+/// there and the bits of its cost are new variables, as many as no distance exceeds. They stand by router and then by prefix, at
 /// `router * advertised().len() + place`. Where no router runs BGP there are none.
 #[tactic(auto, using(crate::proofs::Steps::open_steps))]
 pub fn open_rows(alloc: Global, terms: &mut Terms, net: &Net) -> Result<List<SymOspf>, AllocError>

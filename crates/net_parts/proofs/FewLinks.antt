@@ -19,11 +19,11 @@ use Rattle.net_parts.specs.Sessions.{peerings}
 use Rattle.net_parts.specs.World.{comes_before, is_link, link_on, linked_subnets, links_of, put_in_order}
 use Rattle.net_parts.proofs.Peers.{filter-le}
 
-at_most_one : (f : IfAddr → Addressed) (o : Option IfAddr) → length (option_map_or (λ a. f a ∷ []) o []) ≤ 1
+pub at_most_one : (f : IfAddr → Addressed) (o : Option IfAddr) → length (option_map_or (λ a. f a ∷ []) o []) ≤ 1
 at_most_one f None = omega arith
 at_most_one f (Some a) = omega arith
 
-few_from : (router at : ℕ) (interfaces : List Iface) → length (addressed_from router at interfaces) ≤ length interfaces
+pub few_from : (router at : ℕ) (interfaces : List Iface) → length (addressed_from router at interfaces) ≤ length interfaces
 few_from router at [] = omega arith
 few_from router at (iface ∷ rest) =
     let f : IfAddr → Addressed = λ a. addressed_iface (record { router = router; at = at }) iface a in
@@ -34,7 +34,7 @@ few_from router at (iface ∷ rest) =
       few_from router (at + 1) rest,
     )
 
-few_routers : (router : ℕ) (files : List File) → list_all keeps_limits files ≡ true →
+pub few_routers : (router : ℕ) (files : List File) → list_all keeps_limits files ≡ true →
     length (addressed_routers router files) ≤ 64 * length files
 few_routers router [] few = omega arith
 few_routers router (file ∷ rest) few =

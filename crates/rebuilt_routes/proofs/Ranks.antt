@@ -39,7 +39,7 @@ pub record IsKept (tracked : Tracked) (files : List File) (router : ℕ) (t : Bg
       process_of files router ≡ Some process → is_reflector process ≡ true →
       marked (numbers_of tracked.clusters) t.clusters (router_id files router).0 ≡ false
 
-small_bit : (b : Bool) → (if b then 1 else 0) ≤ 1
+pub small_bit : (b : Bool) → (if b then 1 else 0) ≤ 1
 small_bit true = omega arith
 small_bit false = omega arith
 

@@ -3,7 +3,7 @@
 use Rattle.std.proofs.Common.{◌≡◌, ℕ, ◌≤◌, ◌==◌, ◌&&◌, ◌||◌, ◌⊎◌, inl, inr, Bool, true, false}
 use Rattle.std.proofs.Common.{not, eqb, List, [], ◌∷◌, length, Option, Some, None, refl, sym, ap, ◌∙◌, arith, subst}
 use Rattle.std.proofs.Common.{if◌then◌else◌}
-use Rattle.std.specs.Prelude.{IfSome, nat_le, option_map, slice_get}
+use Rattle.std.specs.Prelude.{IfSome, nat_le, option_map, slice_get, unwrap_or}
 use Rattle.std.specs.List.{IsDistinct, list_all, list_any}
 use Rattle.std.specs.Option.{option_map_or}
 use Rattle.std.specs.Set.{is_member}
@@ -28,7 +28,8 @@ use Rattle.route_record.specs.declared.tracked.Tracked.{Tracked}
 use Rattle.net_interfaces.proofs.Options.{if_is}
 use Rattle.net_parts.specs.declared.sessions.SessionEnd.{SessionEnd}
 use Rattle.net_parts.specs.Exports as exports
-use Rattle.net_parts.specs.Exports.{exported, imported, is_reflector, learnt_over, may_reflect, router_id}
+use Rattle.net_parts.specs.Exports.{exported, imported, is_reflector, learnt_id, learnt_over, may_reflect}
+use Rattle.net_parts.specs.Exports.{router_id}
 use Rattle.net_parts.specs.Mapping.{attributes_of, with_attributes}
 use Rattle.net_parts.specs.Sessions.{neighbour_of}
 use Rattle.net_parts.specs.Tracked.{TracksNet, numbers_of}
@@ -48,6 +49,7 @@ pub record IsRouteTaken (files : List File) (end : SessionEnd) (message : BgpMsg
   pub process : Bgp
   pub runs : process_of files end.router ≡ Some process
   pub clusters : rec.clusters ≡ message.clusters
+  pub originator : rec.originator ≡ message.originator
   pub few : length rec.path ≤ 255
   pub unlooped : is_reflector process ≡ true →
       list_any (λ id. id.0 == (router_id files end.router).0) rec.clusters ≡ false
@@ -62,6 +64,7 @@ taken_length files end message file process is runs neighbour accepted r =
       process = process;
       runs = runs_there files end.router file process is runs;
       clusters = refl;
+      originator = refl;
       few = leb-true (length r.path) exports.most_numbers short;
       unlooped = not_both (is_reflector process) _ (and_parts _ _ (and_parts _ _ accepted).1).1;
     })
@@ -98,9 +101,16 @@ pub record IsRouteReflected (files : List File) (end : SessionEnd) (held : BgpRe
       (learnt_over files end.router held.from) true ≡ true
   pub clusters : message.clusters
       ≡ exports.reflected_clusters files end.router held (learnt_over files end.router held.from)
+  pub originator : message.originator
+      ≡ exports.reflected_originator files held (learnt_over files end.router held.from)
+
+-- over an external one
+pub record IsWithoutReflection (message : BgpMsg) : Type 0 where
+  pub clusters : message.clusters ≡ []
+  pub originator : message.originator ≡ None
 
 abbrev pub IsRouteSent : List File → SessionEnd → BgpRec → BgpMsg → Type 0
-IsRouteSent files end held message = (message.clusters ≡ []) ⊎ IsRouteReflected files end held message
+IsRouteSent files end held message = IsWithoutReflection message ⊎ IsRouteReflected files end held message
 
 pub route_sent_parts : (files : List File) (end : SessionEnd) (p : Prefix) (held : BgpRec) →
     IfSome (exported files end p held) (IsRouteSent files end held)
@@ -122,8 +132,9 @@ route_sent_parts files end p held =
         (learnt_over files end.router held.from) true ≡ true →
         (b : Bool) → end.internal ≡ b → (m n : BgpMsg) →
         m.clusters ≡ exports.reflected_clusters files end.router held (learnt_over files end.router held.from) →
-        n.clusters ≡ [] → IsRouteSent files end held (if b then m else n)
-    by_kind file process is runs may true kind m n made none = inr (record {
+        m.originator ≡ exports.reflected_originator files held (learnt_over files end.router held.from) →
+        IsWithoutReflection n → IsRouteSent files end held (if b then m else n)
+    by_kind file process is runs may true kind m n made first none = inr (record {
       process = process;
       file = file;
       there = is;
@@ -131,8 +142,9 @@ route_sent_parts files end p held =
       internal = kind;
       may = may;
       clusters = made;
+      originator = first;
     })
-    by_kind file process is runs may false kind m n made none = inl none
+    by_kind file process is runs may false kind m n made first none = inl none
 
     by_map : (file : File) (process : Bgp) → slice_get files end.router ≡ Some file → file.bgp ≡ Some process →
         (neighbour : Neighbour) →
@@ -146,7 +158,7 @@ route_sent_parts files end p held =
         held r) o) (IsRouteSent files end held)
     by_map file process is runs neighbour may None = tt
     by_map file process is runs neighbour may (Some r) =
-        by_kind file process is runs may end.internal refl _ _ refl refl
+        by_kind file process is runs may end.internal refl _ _ refl refl (record { clusters = refl; originator = refl })
 
 -- ---- lists without repeats
 
@@ -194,13 +206,15 @@ no_more known xs once all = length-le_from_is_member nat_eq_equiv xs known (dist
 
 -- ---- what a router holds
 
--- no reflector twice, each tracked; and where the route was learnt a reflector does not find itself
+-- no reflector twice, each tracked; where the route was learnt a reflector does not find itself; and without a list
+-- there is no originator
 pub record IsUnlooped (tracked : Tracked) (files : List File) (router : ℕ) (rec : BgpRec) : Type 0 where
   pub once : stands_once (numbers_of rec.clusters) ≡ true
   pub all : list_all (carries (numbers_of tracked.clusters)) (numbers_of rec.clusters) ≡ true
   pub unlooped : (from : SessionEnd) (process : Bgp) → learnt_over files router rec.from ≡ Some from →
       process_of files router ≡ Some process → is_reflector process ≡ true →
       list_any (λ id. id.0 == (router_id files router).0) rec.clusters ≡ false
+  pub first : rec.clusters ≡ [] → rec.originator ≡ None
 
 module _ (files : List File) (environment : Environment) (p : Prefix) (tracked : Tracked) (net : TracksNet files tracked)
   where
@@ -210,15 +224,18 @@ module _ (files : List File) (environment : Environment) (p : Prefix) (tracked :
       all = ap (λ cs. list_all (carries (numbers_of tracked.clusters)) (numbers_of cs)) plain.clusters;
       unlooped = λ from process found runs reflect.
           ap (λ cs. list_any (λ (id : Addr). id.0 == (router_id files router).0) cs) plain.clusters;
+      first = λ none. plain.originator;
     }
 
-    -- the list of a message
-    record IsListed (cs : List Addr) : Type 0 where
+    -- the list of a message, and its originator
+    record IsListed (cs : List Addr) (o : Option Addr) : Type 0 where
       once : stands_once (numbers_of cs) ≡ true
       all : list_all (carries (numbers_of tracked.clusters)) (numbers_of cs) ≡ true
+      first : cs ≡ [] → o ≡ None
 
-    taken_unlooped : (end : SessionEnd) (message : BgpMsg) (rec : BgpRec) → IsListed message.clusters →
-        imported files end p message ≡ Some rec → IsUnlooped tracked files end.router rec
+    taken_unlooped : (end : SessionEnd) (message : BgpMsg) (rec : BgpRec) →
+        IsListed message.clusters message.originator → imported files end p message ≡ Some rec →
+        IsUnlooped tracked files end.router rec
     taken_unlooped end message rec listed is =
         let taken = if_is (IsRouteTaken files end message) (imported files end p message) rec
         (route_taken_parts files end p message) is in
@@ -229,68 +246,87 @@ module _ (files : List File) (environment : Environment) (p : Prefix) (tracked :
               let one : Some taken.process ≡ Some process = sym taken.runs ∙ runs in
               let same : taken.process ≡ process = cc in
               taken.unlooped (ap is_reflector same ∙ reflect);
+          first = λ none. taken.originator ∙ listed.first (sym taken.clusters ∙ none);
         }
 
     tests : TracksTests files tracked
     tests = tests_tracked files tracked net
 
-    none_listed : (cs : List Addr) → cs ≡ [] → IsListed cs
-    none_listed cs none = record {
-      once = ap (λ ds. stands_once (numbers_of ds)) none;
-      all = ap (λ ds. list_all (carries (numbers_of tracked.clusters)) (numbers_of ds)) none;
+    none_listed : (m : BgpMsg) → IsWithoutReflection m → IsListed m.clusters m.originator
+    none_listed m none = record {
+      once = ap (λ ds. stands_once (numbers_of ds)) none.clusters;
+      all = ap (λ ds. list_all (carries (numbers_of tracked.clusters)) (numbers_of ds)) none.clusters;
+      first = λ e. none.originator;
     }
 
-    front : (own : Addr) (cs ds : List Addr) → ds ≡ own ∷ cs → IsListed cs →
-        list_any (λ id. id.0 == own.0) cs ≡ false → carries (numbers_of tracked.clusters) own.0 ≡ true → IsListed ds
-    front own cs ds made listed new there = record {
+    said_listed : (end : SessionEnd) (at : ℕ) (m : BgpMsg) → IsAnnounced files environment p at end m →
+        IsListed m.clusters m.originator
+    said_listed end at m said = none_listed m (record {
+      clusters = sym (ap (λ (m : BgpMsg). m.clusters) said.is);
+      originator = sym (ap (λ (m : BgpMsg). m.originator) said.is);
+    })
+
+    front : (own : Addr) (cs ds : List Addr) (o q : Option Addr) → ds ≡ own ∷ cs → IsListed cs o →
+        list_any (λ id. id.0 == own.0) cs ≡ false → carries (numbers_of tracked.clusters) own.0 ≡ true → IsListed ds q
+    front own cs ds o q made listed new there = record {
       once = ap (λ es. stands_once (numbers_of es)) made
           ∙ and_from (not (carries (numbers_of cs) own.0)) (stands_once (numbers_of cs))
           (ap not (carries_number cs own.0 ∙ new)) listed.once;
       all = ap (λ es. list_all (carries (numbers_of tracked.clusters)) (numbers_of es)) made
           ∙ and_from (carries (numbers_of tracked.clusters) own.0)
           (list_all (carries (numbers_of tracked.clusters)) (numbers_of cs)) there listed.all;
+      first = λ e. absurd (not_empty (sym made ∙ e));
     }
+      where
+        not_empty : own ∷ cs ≡ [] → ⊥
+        not_empty e = cc
 
     sent_listed : (end : SessionEnd) (held : BgpRec) (message : BgpMsg) → IsUnlooped tracked files end.router held →
-        exported files end p held ≡ Some message → IsListed message.clusters
+        exported files end p held ≡ Some message → IsListed message.clusters message.originator
     sent_listed end held message unlooped is =
         by_sent (if_is (IsRouteSent files end held) (exported files end p held) message
         (route_sent_parts files end p held) is)
       where
-        before : IsListed held.clusters
-        before = record { once = unlooped.once; all = unlooped.all }
+        before : IsListed held.clusters held.originator
+        before = record { once = unlooped.once; all = unlooped.all; first = unlooped.first }
 
-        kept : (o : List Addr) → o ≡ held.clusters → IsListed o
-        kept o same = subst IsListed (sym same) before
+        kept : (cs : List Addr) (o : Option Addr) → cs ≡ held.clusters → o ≡ held.originator → IsListed cs o
+        kept cs o same first =
+            subst (λ ds. IsListed ds o) (sym same) (subst (IsListed held.clusters) (sym first) before)
 
         by_kind : (sent : IsRouteReflected files end held message) (from : SessionEnd) →
             learnt_over files end.router held.from ≡ Some from → (b : Bool) → from.internal ≡ b →
-            IsListed message.clusters
+            IsListed message.clusters message.originator
         by_kind sent from found true kind =
             let may = sym (ap (λ o. option_map_or (λ (from : SessionEnd). not (from.neighbour == end.neighbour)
             && (not (from.internal && end.internal) || may_reflect files sent.process from end)) o true) found)
             ∙ sent.may in
             let reflect = (and_parts _ _ (not_or from.internal end.internal (may_reflect files sent.process from end) kind
             sent.internal (and_parts _ _ may).1)).0 in
-            front (router_id files end.router) held.clusters message.clusters
+            front (router_id files end.router) held.clusters message.clusters held.originator message.originator
             (sent.clusters ∙ ap (exports.reflected_clusters files end.router held) found
             ∙ ap (λ b. if b then router_id files end.router ∷ held.clusters else held.clusters) kind) before
             (unlooped.unlooped from sent.process found (runs_there files end.router sent.file sent.process sent.there
             sent.runs) reflect)
             ((tests.routers end.router sent.file sent.process sent.there sent.runs).cluster reflect)
         by_kind sent from found false kind =
-            kept message.clusters
+            kept message.clusters message.originator
             (sent.clusters ∙ ap (exports.reflected_clusters files end.router held) found
             ∙ ap (λ b. if b then router_id files end.router ∷ held.clusters else held.clusters) kind)
+            (sent.originator ∙ ap (exports.reflected_originator files held) found
+            ∙ ap (λ b. if b then Some (unwrap_or held.originator
+            (unwrap_or (learnt_id files from) (record { 0 = 0 }))) else held.originator) kind)
 
         by_from : (sent : IsRouteReflected files end held message) (o : Option SessionEnd) →
-            learnt_over files end.router held.from ≡ o → IsListed message.clusters
+            learnt_over files end.router held.from ≡ o → IsListed message.clusters message.originator
         by_from sent None found =
-            kept message.clusters (sent.clusters ∙ ap (exports.reflected_clusters files end.router held) found)
+            kept message.clusters message.originator
+            (sent.clusters ∙ ap (exports.reflected_clusters files end.router held) found)
+            (sent.originator ∙ ap (exports.reflected_originator files held) found)
         by_from sent (Some from) found = by_kind sent from found from.internal refl
 
-        by_sent : IsRouteSent files end held message → IsListed message.clusters
-        by_sent (inl none) = none_listed message.clusters none
+        by_sent : IsRouteSent files end held message → IsListed message.clusters message.originator
+        by_sent (inl none) = none_listed message none
         by_sent (inr sent) = by_from sent (learnt_over files end.router held.from) refl
 
     -- so it is of all that routers hold
@@ -304,7 +340,7 @@ module _ (files : List File) (environment : Environment) (p : Prefix) (tracked :
         (λ router rec plain. plain_unlooped router rec plain)
         (λ router rec heard said. subst (λ r. IsUnlooped tracked files r rec) heard.is.own
         (taken_unlooped heard.end heard.message rec
-        (none_listed heard.message.clusters (sym (ap (λ (m : BgpMsg). m.clusters) said.is))) heard.taken))
+        (said_listed heard.end heard.at heard.message said) heard.taken))
         (λ router rec heard from behind. subst (λ r. IsUnlooped tracked files r rec) heard.is.own
         (taken_unlooped heard.end heard.message rec
         (sent_listed from.far from.held heard.message behind from.sends) heard.taken))
@@ -318,7 +354,7 @@ module _ (files : List File) (environment : Environment) (p : Prefix) (tracked :
     heard_unlooped routes each router rec heard (inl said) =
         subst (λ r. IsUnlooped tracked files r rec) heard.is.own
         (taken_unlooped heard.end heard.message rec
-        (none_listed heard.message.clusters (sym (ap (λ (m : BgpMsg). m.clusters) said.is))) heard.taken)
+        (said_listed heard.end heard.at heard.message said) heard.taken)
     heard_unlooped routes each router rec heard (inr from) =
         subst (λ r. IsUnlooped tracked files r rec) heard.is.own
         (taken_unlooped heard.end heard.message rec

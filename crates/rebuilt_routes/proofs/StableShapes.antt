@@ -184,6 +184,7 @@ module _ (files : List File) (destination : Addr) (failures : Failures) (environ
     lists_bounded router rec holds = record {
       clusters = reflectors_once router rec holds;
       path = by (plain_source router rec holds);
+      reflected = (unlooped router rec holds).first;
     }
       where
         by : IsPlain rec ⊎ IsHeardRoute files environment p routes router rec → length rec.path ≤ 255

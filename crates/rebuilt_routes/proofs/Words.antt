@@ -34,7 +34,7 @@ use Rattle.route_record.specs.declared.tracked.Tracked.{Tracked}
 use Rattle.route_record.specs.Fits.{IsWord}
 use Rattle.net_parts.specs.declared.sessions.SessionEnd.{SessionEnd}
 use Rattle.net_parts.specs.Exports as exports
-use Rattle.net_parts.specs.Exports.{announced_message, exported, imported}
+use Rattle.net_parts.specs.Exports.{exported, imported}
 use Rattle.net_parts.specs.Mapping.{attributes_of, with_attributes}
 use Rattle.net_parts.specs.Origins.{by_network, entry_metric, into_bgp, is_default, local_route, local_routes}
 use Rattle.net_parts.specs.Origins.{local_through, taken_metric}
@@ -48,7 +48,7 @@ use Rattle.rebuilt_routes.proofs.Options.{if_found, if_true}
 -- ---- lists
 
 -- an item that is put in brings in itself alone
-put_all : {X : Type 0} (P : X → Type 0) (number : X → ℕ) (e : X) (xs : List X) → P e → All P xs →
+pub put_all : {X : Type 0} (P : X → Type 0) (number : X → ℕ) (e : X) (xs : List X) → P e → All P xs →
     All P (put_by number e xs)
 put_all P number e [] here all = All-cons P e [] here all
 put_all P number e (x ∷ xs) here all =
@@ -58,12 +58,12 @@ put_all P number e (x ∷ xs) here all =
     by true rest = All-cons P e (x ∷ xs) here all
     by false rest = All-cons P x (put_by number e xs) (All-head P x xs all) rest
 
-ordered_all : {X : Type 0} (P : X → Type 0) (number : X → ℕ) (xs : List X) → All P xs → All P (in_order number xs)
+pub ordered_all : {X : Type 0} (P : X → Type 0) (number : X → ℕ) (xs : List X) → All P xs → All P (in_order number xs)
 ordered_all P number [] all = all
 ordered_all P number (x ∷ xs) all =
     put_all P number x (in_order number xs) (All-head P x xs all) (ordered_all P number xs (All-tail P x xs all))
 
-found_all : {X : Type 0} (P : X → Type 0) (p : X → Bool) (xs : List X) → All P xs → IfSome (find p xs) P
+pub found_all : {X : Type 0} (P : X → Type 0) (p : X → Bool) (xs : List X) → All P xs → IfSome (find p xs) P
 found_all P p [] all = tt
 found_all {X = X} P p (x ∷ xs) all = by (p x) (found_all P p xs (All-tail P x xs all))
   where

@@ -1,5 +1,6 @@
 -- The cluster lists of reflected routes (RFC 4456, section 7), and what sessions keep.
-use Rattle.std.specs.Prelude.{◌≡◌, ◌≤◌, ◌==◌, ◌&&◌, ℕ, Bool, true, not, List, [], ◌∷◌, length, slice_get, All, Some}
+use Rattle.std.specs.Prelude.{◌≡◌, ◌≤◌, ◌==◌, ◌&&◌, ℕ, Bool, true, not, List, [], ◌∷◌, length, slice_get, All}
+use Rattle.std.specs.Prelude.{Some, None}
 use Rattle.std.specs.List.{find, list_all}
 use Rattle.mw_text.specs.declared.address.Prefix.{Prefix}
 use Rattle.ios_ast.specs.declared.bgp.Bgp.{Bgp}
@@ -32,10 +33,12 @@ pub record NamesReflectorsOnce (tracked : Tracked) (rec : BgpRec) : Type 0 where
   pub tracked_all : list_all (carries (numbers_of tracked.clusters)) (numbers_of rec.clusters) ≡ true
   pub few : length rec.clusters ≤ length tracked.clusters
 
--- moreover its path has at most as many numbers as import takes
+-- moreover its path has at most as many numbers as import takes, and a route that no reflector passed on has no
+-- originator (RFC 4456, section 8)
 pub record HasBoundedLists (tracked : Tracked) (rec : BgpRec) : Type 0 where
   pub clusters : NamesReflectorsOnce tracked rec
   pub path : length rec.path ≤ most_numbers
+  pub reflected : rec.clusters ≡ [] → rec.originator ≡ None
 
 -- what is true of the local routes that the tables give the routers
 abbrev pub HoldsOfLocalRoutes : List File → Tables → Prefix → (ℕ → BgpRec → Bool) → Type 0

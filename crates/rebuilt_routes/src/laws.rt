@@ -99,8 +99,8 @@ pub fn supported_law()
         slot.bgp ≡ Some held → P router held ≡ true }
 {}
 
-/// In a stable routing no cluster list names a reflector twice (RFC 4456, section 8), and no path has more than 255
-/// numbers.
+/// In a stable routing no cluster list names a reflector twice, a route without one has no originator (RFC 4456,
+/// section 8), and no path has more than 255 numbers.
 pub fn lists_law()
     ensures { (tracked : TrackedOf) (files : ListOf FileOf) (destination : AddrOf) (failures : FailuresOf)
         (environment : EnvironmentOf) (tables : TablesOf) (len : ℕ) → TracksNet files tracked →

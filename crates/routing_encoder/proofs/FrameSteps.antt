@@ -13,7 +13,7 @@ use Rattle.slot_places.specs.Rooms.{rooms_of}
 use Rattle.slot_places.proofs.PlaceLaws.{lens-ascend, places-ascend}
 use Rattle.world_variables.specs.Unknowns.{HasWords}
 use Rattle.world_variables.proofs.DecodingSteps.{places_short}
-use Rattle.bgp_variables.specs.Rooms.{full_room}
+use Rattle.bgp_variables.specs.Rooms.{held_room}
 use Rattle.bgp_variables.specs.Shapes.{IsRoomOf}
 use Rattle.routing_encoder.specs.declared.frame.Frame.{Frame}
 use Rattle.routing_encoder.specs.Frames.{IsFrame}
@@ -22,7 +22,7 @@ use Rattle.routing_encoder.specs.Frames.{IsFrame}
 pub frame_is : (files : List File) (tracked : Tracked) (plan : Plan) (frame : Frame) →
     frame.lens.items ≡ lens_of plan → frame.places ≡ places_of plan (length files) →
     frame.rooms ≡ rooms_of files frame.destinations → All (λ o. IfSome o (λ room. HasWords room.metric)) frame.rooms →
-    frame.bgp ≡ full_room tracked → IsRoomOf tracked frame.bgp → IsFrame files tracked plan frame
+    frame.bgp ≡ held_room tracked files → IsRoomOf tracked frame.bgp → IsFrame files tracked plan frame
 frame_is files tracked plan frame lens places rooms metrics bgp room = record {
   lens = lens;
   few = subst (λ ls. length ls ≤ LENGTHS) (sym lens) (lens_few plan);

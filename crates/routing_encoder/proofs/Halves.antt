@@ -4,7 +4,7 @@ use Rattle.std.proofs.Common.{Option, Some, None, inl, inr, refl, sym, ap, arith
 use Rattle.std.specs.Prelude.{AllPairs, slice_get, if◌then◌else◌}
 use Rattle.std.specs.List.{list_all}
 use Rattle.std.specs.Option.{option_map_or}
-use Rattle.std.proofs.lemmas.Bool.{and_from, and_parts, eq-eqb, eqb-true}
+use Rattle.std.proofs.lemmas.Bool.{and_from, and_parts, eq-eqb}
 use Rattle.std.proofs.lemmas.Option.{same_Some}
 use Rattle.mw_text.proofs.Lists.{item_there}
 use Rattle.mw_text.specs.Members.{In}
@@ -32,6 +32,7 @@ use Rattle.shape_worlds.specs.Worlds.{ShapeWorld, has_all_marks, may_be_announce
 use Rattle.bgp_worlds.specs.Opens.{OpenSlot, is_bgp_wanted, is_igp_wanted, opens_hold, place_holds, shape_world_of}
 use Rattle.bgp_worlds.proofs.BgpSound.{AreBgpWanted, open_there, slot_here}
 use Rattle.bgp_worlds.proofs.Placed.{made, not_made}
+use Rattle.routing_worlds.proofs.MadeAgain.{not_back}
 use Rattle.bgp_equations.specs.Equations.{is_decided_at}
 use Rattle.routing_encoder.specs.Decided.{are_decided, is_decided_place}
 use Rattle.routing_encoder.specs.Wanted.{are_wanted, is_wanted_place}
@@ -81,18 +82,6 @@ thing_there {X} (p ∷ ps) (x ∷ xs) router len long there =
 pub here_at : (p : Place) → is_at p.router p.len p ≡ true
 here_at p = and_from (p.router == p.router) (p.len == p.len) (eq-eqb p.router p.router refl) (eq-eqb p.len p.len refl)
 
-pub not_at : (p q : Place) → IsBefore p q → is_at q.router q.len p ≡ false
-not_at p q before = by (is_at q.router q.len p) refl before where
-  by : (b : Bool) → is_at q.router q.len p ≡ b → IsBefore p q → is_at q.router q.len p ≡ false
-  by false is before' = is
-  by true is (inl less) =
-      let parts = and_parts (p.router == q.router) (p.len == q.len) is in
-      let same = eqb-true p.router q.router parts.0 in absurd (omega (arith, less, same))
-  by true is (inr later) =
-      let parts = and_parts (p.router == q.router) (p.len == q.len) is in
-      let same = eqb-true p.len q.len parts.1 in
-      let less = later.1 in absurd (omega (arith, less, same))
-
 -- at places in their order, what passes at the place of each thing passes at all
 all_hold_items : {U : Type 0} (f : Place → U → Bool) (ps : List Place) (us : List U) → length us ≡ length ps →
     AllPairs IsBefore ps →
@@ -106,7 +95,7 @@ all_hold_items {U} f (p ∷ ps) (u ∷ us) long order each =
     (each p u (inl refl) (ap (λ b. if b then Some u else item_at ps us p.router p.len) (here_at p)))
     (all_hold_items f ps us (omega (arith, long)) (later IsBefore p ps order) (λ q v there is.
     each q v (inr there) (ap (λ b. if b then Some u else item_at ps us q.router q.len)
-    (not_at p q (all_in (IsBefore p) ps q (first IsBefore p ps order) there)) ∙ is)))
+    (not_back p q (all_in (IsBefore p) ps q (first IsBefore p ps order) there)) ∙ is)))
 
 all_weaker : {U : Type 0} (f g : Place → U → Bool) (ps : List Place) (us : List U) →
     ((p : Place) (u : U) → f p u ≡ true → g p u ≡ true) → all_hold f ps us ≡ true → all_hold g ps us ≡ true

@@ -5,7 +5,7 @@ use Rattle.std.specs.Prelude.{All, Option, slice_get}
 use Rattle.std.proofs.lemmas.Grind.{common_steps}
 use Rattle.std.proofs.lemmas.List.{append_assoc, append-nil, drop_all, drop_more, map-append}
 use Rattle.std.proofs.lemmas.List.Elements.{All-push, All-nil}
-use Rattle.std.proofs.lemmas.Option.{same_Some, slice_get_within}
+use Rattle.std.proofs.lemmas.Option.{same_Some, slice_get-get_or, slice_get_within}
 use Rattle.mw_text.specs.declared.address.Addr.{Addr}
 use Rattle.mw_text.proofs.Lists.{all_found}
 use Rattle.ios_ast.specs.declared.file.File.{File}
@@ -55,16 +55,11 @@ tracked_push tracked xs x before here = All-push (λ s. HasTracked tracked s.bgp
 pub tracked_none : (tracked : Tracked) → HaveTracked tracked []
 tracked_none tracked = All-nil (λ s. HasTracked tracked s.bgp)
 
-get_there : {X : Type 0} (xs : List X) (i : ℕ) (d : X) → i < length xs → slice_get xs i ≡ Some (get_or xs i d)
-get_there [] i d within = absurd (omega arith)
-get_there (x ∷ xs) zero d within = refl
-get_there (x ∷ xs) (suc i) d within = get_there xs i d (omega arith)
-
 -- a place of a list, and those from it on
 pub place_drop : (ps : List Place) (i : ℕ) (p : Place) → slice_get ps i ≡ Some p → drop i ps ≡ p ∷ drop (i + 1) ps
 place_drop ps i p there =
     let within = slice_get_within ps i p there in
-    let is : get_or ps i p ≡ p = same_Some (get_or ps i p) p (sym (get_there ps i p within) ∙ there) in
+    let is : get_or ps i p ≡ p = same_Some (get_or ps i p) p (sym (slice_get-get_or ps i p within) ∙ there) in
     drop_more ps i p within ∙ ap (λ x. x ∷ drop (i + 1) ps) is
 
 pub place_short : (ps : List Place) (i : ℕ) (p : Place) → All (λ q. q.len < LENGTHS) ps → slice_get ps i ≡ Some p →

@@ -19,12 +19,13 @@ use Rattle.failed_links.specs.Failures.{failures_from}
 use Rattle.igp_variables.specs.Rows.{rows_from, rows_width}
 use Rattle.announced_places.specs.Environments.{environment_of}
 use Rattle.bgp_variables.specs.Environments.{announced_from, environment_width, ids_from}
+use Rattle.bgp_variables.specs.Rooms.{bgp_rooms}
 use Rattle.bgp_variables.specs.Shapes.{bgps_from, bgps_width}
 use Rattle.world_variables.specs.Packets.{packet_from}
 use Rattle.world_variables.specs.Symbols.{open_of}
 use Rattle.world_variables.specs.Unknowns.{rooms_at, unknowns_from, unknowns_width}
 use Rattle.world_variables.specs.Worlds.{downs_start, opens_from, places_in, slots_start}
-use Rattle.routing_worlds.specs.Worlds.{bgp_rooms, environment_start}
+use Rattle.routing_worlds.specs.Worlds.{environment_start}
 use Rattle.routing_encoder.specs.declared.frame.Frame.{Frame}
 use Rattle.routing_encoder.specs.declared.opening.OpenRouting.{OpenRouting}
 use Rattle.routing_encoder.specs.Frames.{IsFrame}

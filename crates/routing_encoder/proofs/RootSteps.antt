@@ -54,17 +54,19 @@ use Rattle.bgp_equations.specs.declared.environment.SymEnv.{SymEnv}
 use Rattle.bgp_equations.specs.Environments.{environment_read}
 use Rattle.bgp_equations.specs.Equations.{DistancesForSessions, RowsForSessions, has_inner, slot_read}
 use Rattle.bgp_variables.specs.declared.rooms.BgpRoom.{BgpRoom}
-use Rattle.bgp_variables.specs.Rooms.{full_room}
+use Rattle.bgp_variables.specs.Brought.{brings_bgp}
+use Rattle.bgp_variables.specs.Rooms.{bgp_room, bgp_rooms, held_room}
 use Rattle.bgp_variables.specs.Shapes.{bgp_from, bgp_width, bgps_from}
 use Rattle.bgp_worlds.specs.Opens.{OpenSlot, empty_shape, open_shape, shape_slot_among, shape_slot_of}
 use Rattle.bgp_worlds.proofs.BgpSound.{slot_here}
-use Rattle.routing_worlds.specs.Worlds.{announced_by, bgp_room, bgp_rooms, bgps_start, failures_read_from}
+use Rattle.routing_worlds.specs.Worlds.{announced_by, bgps_start, failures_read_from}
 use Rattle.routing_worlds.specs.Worlds.{open_with, opens_from, opens_with, shape_world_from}
+use Rattle.routing_worlds.proofs.MadeAgain.{not_back}
 use Rattle.routing_encoder.specs.declared.opening.OpenRouting.{OpenRouting}
 use Rattle.routing_encoder.specs.Opened.{ReadsAs, StandsIn}
 use Rattle.routing_encoder.specs.Shapes.{ReadAsShapes}
 use Rattle.routing_encoder.specs.Encoded.{SayDistances, StandsForWorld}
-use Rattle.routing_encoder.proofs.Halves.{here_at, not_at}
+use Rattle.routing_encoder.proofs.Halves.{here_at}
 use Rattle.routing_encoder.proofs.OpeningSteps.{places_are}
 
 -- ---- sessions and distances
@@ -101,13 +103,17 @@ no_process files router file none found = by file.bgp refl where
       let some = any_passes_from_place sessions.runs_bgp files router file found (ap is_some is) in
       absurd (let no : false ≡ true = sym none ∙ some in cc)
 
-no_room : (tracked : Tracked) (files : List File) (router : ℕ) → runs_bgp files ≡ false →
-    bgp_room tracked files router ≡ None
-no_room tracked files router none = by (slice_get files router) refl where
-  by : (o : Option File) → slice_get files router ≡ o →
-      option_and_then (λ (file : File). option_map (λ (process : Bgp). full_room tracked) file.bgp) o ≡ None
-  by None is = refl
-  by (Some file) is = ap (option_map (λ (process : Bgp). full_room tracked)) (no_process files router file none is)
+no_room : (tracked : Tracked) (files : List File) (router len : ℕ) → runs_bgp files ≡ false →
+    bgp_room tracked files router len ≡ None
+no_room tracked files router len none = by (brings_bgp files len) where
+  by_file : (o : Option File) → slice_get files router ≡ o → option_and_then (λ (file : File). file.bgp) o ≡ None
+  by_file None is = refl
+  by_file (Some file) is = no_process files router file none is
+
+  by : (b : Bool) → option_map (λ process. held_room tracked files)
+      (if b then option_and_then (λ (file : File). file.bgp) (slice_get files router) else None) ≡ None
+  by true = ap (option_map (λ process. held_room tracked files)) (by_file (slice_get files router) refl)
+  by false = refl
 
 open_none : (files : List File) (tracked : Tracked) (question : Question) (failures : Failures) (d : Addr)
     (ps : List Place) (us : List Unknown) (v : ℕ → Bool) (from router len : ℕ) (o : OpenSlot) →
@@ -119,8 +125,8 @@ open_none files tracked question failures d [] us v from router len o none there
 open_none files tracked question failures d (p ∷ ps) [] v from router len o none there = absurd cc
 open_none files tracked question failures d (p ∷ ps) (u ∷ us) v from router len o none there =
     by (is_at router len p) there (λ rest.
-    open_none files tracked question failures d ps us v (from + bgp_width (bgp_room tracked files p.router)) router len o
-    none rest)
+    open_none files tracked question failures d ps us v (from + bgp_width (bgp_room tracked files p.router p.len)) router
+    len o none rest)
   where
     held : (room : Option Room) (b : Option BgpShape) → (open_with files failures d room p u b).bgp ≡ b
     held None b = refl
@@ -128,17 +134,18 @@ open_none files tracked question failures d (p ∷ ps) (u ∷ us) v from router 
 
     here : OpenSlot
     here = open_with files failures d (room_for files question.packets.dst p.router p.len) p u
-        (bgp_from (bgp_room tracked files p.router) v from)
+        (bgp_from (bgp_room tracked files p.router p.len) v from)
 
     by : (b : Bool) → (if b then Some here else item_at ps
         (opens_with files question failures d ps us (bgps_from (bgp_rooms tracked files ps) v
-        (from + bgp_width (bgp_room tracked files p.router)))) router len) ≡ Some o →
+        (from + bgp_width (bgp_room tracked files p.router p.len)))) router len) ≡ Some o →
         (item_at ps (opens_with files question failures d ps us (bgps_from (bgp_rooms tracked files ps) v
-        (from + bgp_width (bgp_room tracked files p.router)))) router len ≡ Some o → o.bgp ≡ None) → o.bgp ≡ None
+        (from + bgp_width (bgp_room tracked files p.router p.len)))) router len ≡ Some o → o.bgp ≡ None) → o.bgp ≡ None
     by true is rest =
         ap (λ (x : OpenSlot). x.bgp) (sym (same_Some here o is))
-        ∙ held (room_for files question.packets.dst p.router p.len) (bgp_from (bgp_room tracked files p.router) v from)
-        ∙ ap (λ (room : Option BgpRoom). bgp_from room v from) (no_room tracked files p.router none)
+        ∙ held (room_for files question.packets.dst p.router p.len)
+        (bgp_from (bgp_room tracked files p.router p.len) v from)
+        ∙ ap (λ (room : Option BgpRoom). bgp_from room v from) (no_room tracked files p.router p.len none)
     by false is rest = rest is
 
 -- what is true of each thing at its place is true of all
@@ -152,7 +159,7 @@ all_items {X} P (p ∷ ps) (x ∷ xs) long order each =
     All-cons P x xs (each p x (inl refl) (ap (λ b. if b then Some x else item_at ps xs p.router p.len) (here_at p)))
     (all_items P ps xs (omega (arith, long)) (later IsBefore p ps order) (λ q y there is.
     each q y (inr there) (ap (λ b. if b then Some x else item_at ps xs q.router q.len)
-    (not_at p q (all_in (IsBefore p) ps q (first IsBefore p ps order) there)) ∙ is)))
+    (not_back p q (all_in (IsBefore p) ps q (first IsBefore p ps order) there)) ∙ is)))
 
 each_all : {X : Type 0} (P : X → Type 0) (xs : List X) → ((x : X) → P x) → All P xs
 each_all P [] each = All-nil P

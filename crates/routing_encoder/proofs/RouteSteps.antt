@@ -1,11 +1,10 @@
 -- Steps of the loop over the BGP routes of slots.
-use Rattle.std.proofs.Common.{◌≡◌, ℕ, ◌+◌, ◌<◌, List, [], ◌∷◌, ◌++◌, arith, Option, Some, None, drop, get_or, length, map, refl}
+use Rattle.std.proofs.Common.{◌≡◌, ℕ, ◌+◌, ◌<◌, List, [], ◌∷◌, ◌++◌, arith, Option, drop, get_or, length, map}
 use Rattle.std.proofs.Common.{ap, sym, ◌∙◌}
-use Rattle.std.specs.Prelude.{All, IfSome, option_and_then, option_map, slice_get}
+use Rattle.std.specs.Prelude.{All}
 use Rattle.std.proofs.lemmas.Grind.{common_steps}
 use Rattle.std.proofs.lemmas.List.{append_assoc, drop_all, drop_more, map-append}
 use Rattle.std.proofs.lemmas.List.Elements.{All-push, All-nil}
-use Rattle.ios_ast.specs.declared.bgp.Bgp.{Bgp}
 use Rattle.ios_ast.specs.declared.file.File.{File}
 use Rattle.route_record.specs.declared.tracked.Tracked.{Tracked}
 use Rattle.plan_places.specs.declared.places.Place.{Place}
@@ -16,30 +15,13 @@ use Rattle.sym_rib.specs.Into.{HasTracked}
 use Rattle.sym_rib.proofs.OneEach.{items_at, list_end_push}
 use Rattle.term_store.specs.Terms.{Reading}
 use Rattle.bgp_variables.specs.declared.rooms.BgpRoom.{BgpRoom}
-use Rattle.bgp_variables.specs.Rooms.{full_room}
-use Rattle.bgp_variables.specs.Shapes.{IsRoomOf, bgp_from, bgp_width, bgps_from, bgps_width}
+use Rattle.bgp_variables.specs.Rooms.{bgp_room, bgp_rooms}
+use Rattle.bgp_variables.specs.Shapes.{bgp_from, bgp_width, bgps_from, bgps_width}
 use Rattle.bgp_variables.proofs.EnvironmentSteps.{bgps_next, bgps_none, bgps_width_next, bgps_width_none}
-use Rattle.routing_worlds.specs.Worlds.{bgp_room, bgp_rooms}
 
 -- a room is there where a process is
-pub room_by : (room : BgpRoom) (o : Option File) →
-    option_and_then (λ file. option_map (λ process. room) file.bgp) o
-    ≡ option_map (λ process. room) (option_and_then (λ file. file.bgp) o)
-room_by room None = refl
-room_by room (Some file) = refl
-
--- where there is a room it is a full one
-pub room_fits : (tracked : Tracked) (files : List File) (router : ℕ) → IsRoomOf tracked (full_room tracked) →
-    IfSome (bgp_room tracked files router) (IsRoomOf tracked)
-room_fits tracked files router room = by (slice_get files router) where
-  held : (process : Option Bgp) → IfSome (option_map (λ p. full_room tracked) process) (IsRoomOf tracked)
-  held None = record {}
-  held (Some process) = room
-
-  by : (o : Option File) →
-      IfSome (option_and_then (λ file. option_map (λ process. full_room tracked) file.bgp) o) (IsRoomOf tracked)
-  by None = record {}
-  by (Some file) = held file.bgp
+abbrev room_at : Tracked → List File → Place → Option BgpRoom
+room_at tracked files p = bgp_room tracked files p.router p.len
 
 pub routes_push : (w : Reading) (xs : List SymBgp) (x : SymBgp) →
     map (bgp_of w) (xs ++ x ∷ []) ≡ map (bgp_of w) xs ++ bgp_of w x ∷ []
@@ -69,24 +51,24 @@ pub ruleset route_steps = (
 
 -- what is left of the row has its variables behind those of the next
 pub route_width : (tracked : Tracked) (files : List File) (places : List Place) (from to i : ℕ) (p : Place) →
-    i < length places → to ≡ from + bgp_width (bgp_room tracked files (get_or places i p).router) →
+    i < length places → to ≡ from + bgp_width (room_at tracked files (get_or places i p)) →
     to + bgps_width (bgp_rooms tracked files (drop (i + 1) places))
     ≡ from + bgps_width (bgp_rooms tracked files (drop i places))
 route_width tracked files places from to i p below is =
     let all = ap (λ ps. bgps_width (bgp_rooms tracked files ps)) (drop_more places i p below)
-    ∙ bgps_width_next (bgp_room tracked files (get_or places i p).router) (bgp_rooms tracked files (drop (i + 1) places)) in
+    ∙ bgps_width_next (room_at tracked files (get_or places i p)) (bgp_rooms tracked files (drop (i + 1) places)) in
     omega (arith, all, is)
 
 -- one more route at the end reads as the next of the row
 pub route_read : (w : Reading) (made new : List SymBgp) (next : SymBgp) (tracked : Tracked) (files : List File)
     (places : List Place) (from to i : ℕ) (p : Place) → i < length places → new ≡ made ++ next ∷ [] →
-    bgp_of w next ≡ bgp_from (bgp_room tracked files (get_or places i p).router) w.variable from →
-    to ≡ from + bgp_width (bgp_room tracked files (get_or places i p).router) →
+    bgp_of w next ≡ bgp_from (room_at tracked files (get_or places i p)) w.variable from →
+    to ≡ from + bgp_width (room_at tracked files (get_or places i p)) →
     map (bgp_of w) new ++ bgps_from (bgp_rooms tracked files (drop (i + 1) places)) w.variable to
     ≡ map (bgp_of w) made ++ bgps_from (bgp_rooms tracked files (drop i places)) w.variable from
 route_read w made new next tracked files places from to i p below is read to_is =
     let rest = bgp_rooms tracked files (drop (i + 1) places) in
-    let room = bgp_room tracked files (get_or places i p).router in
+    let room = room_at tracked files (get_or places i p) in
     let front = map (bgp_of w) made in
     ap (λ xs. map (bgp_of w) xs ++ bgps_from rest w.variable to) is
     ∙ ap (λ ys. ys ++ bgps_from rest w.variable to) (map-append (bgp_of w) made (next ∷ []))

@@ -60,13 +60,14 @@ use Rattle.bgp_worlds.proofs.Placed.{not_made}
 use Rattle.bgp_worlds.proofs.SameShapes.{learnt_shape}
 use Rattle.routing_worlds.specs.Worlds.{announced_by, bgps_read_from, dynamic_of, failures_read_from, open_with, opens_from, opens_with, shape_world_from}
 use Rattle.world_variables.specs.Packets.{packet_from}
+use Rattle.routing_worlds.proofs.MadeAgain.{not_back}
 use Rattle.routing_encoder.specs.declared.frame.Frame.{Frame}
 use Rattle.routing_encoder.specs.declared.opening.OpenRouting.{OpenRouting}
 use Rattle.routing_encoder.specs.Frames.{IsFrame}
 use Rattle.routing_encoder.specs.Opened.{ReadsAs, StandsIn}
 use Rattle.routing_encoder.specs.Shapes.{ReadAsShapes}
 use Rattle.routing_encoder.specs.Wanted.{HasShapes, IsOpenAt, TellsWanted, is_wanted_place}
-use Rattle.routing_encoder.proofs.Halves.{here_at, not_at, placed_has, thing_there}
+use Rattle.routing_encoder.proofs.Halves.{here_at, placed_has, thing_there}
 use Rattle.routing_encoder.proofs.LoopSteps.{open_below, place_short}
 use Rattle.sym_rib.proofs.OneEach.{items_at}
 use Rattle.routing_encoder.proofs.OpeningSteps.{places_are}
@@ -139,7 +140,7 @@ item_nth {X} (q ∷ ps) (y ∷ xs) zero p x there here ascend =
     ap (λ b. if b then Some y else item_at ps xs p.router p.len) is ∙ here
 item_nth {X} (q ∷ ps) (y ∷ xs) (suc i) p x there here ascend =
     ap (λ b. if b then Some y else item_at ps xs p.router p.len)
-    (not_at q p (all_found (IsBefore q) ps i p (first IsBefore q ps ascend) there))
+    (not_back q p (all_found (IsBefore q) ps i p (first IsBefore q ps ascend) there))
     ∙ item_nth ps xs i p x there here (later IsBefore q ps ascend)
 
 -- ---- the tables

@@ -8,12 +8,12 @@ use Rattle.plan_places.specs.Places.{IsBefore, places_below}
 use Rattle.plan_places.specs.Plans.{lens_of}
 use Rattle.slot_places.specs.Rooms.{rooms_of}
 use Rattle.world_variables.specs.Unknowns.{HasWords}
-use Rattle.bgp_variables.specs.Rooms.{full_room}
+use Rattle.bgp_variables.specs.Rooms.{held_room}
 use Rattle.bgp_variables.specs.Shapes.{IsRoomOf}
 use Rattle.routing_encoder.specs.declared.frame.Frame.{Frame}
 
 -- each router has a place at each length of the plan, by router and then by length; the rooms of OSPF routes are those of
--- all lengths, and the room of BGP routes is a full one
+-- all lengths, and the room of BGP routes is that of held ones
 pub record IsFrame (files : List File) (tracked : Tracked) (plan : Plan) (frame : Frame) : Type 0 where
   pub lens : frame.lens.items ≡ lens_of plan
   pub few : length frame.lens.items ≤ LENGTHS
@@ -23,5 +23,5 @@ pub record IsFrame (files : List File) (tracked : Tracked) (plan : Plan) (frame 
   pub ascend : AllPairs IsBefore frame.places
   pub rooms : frame.rooms ≡ rooms_of files frame.destinations
   pub metrics : All (λ o. IfSome o (λ room. HasWords room.metric)) frame.rooms
-  pub bgp : frame.bgp ≡ full_room tracked
+  pub bgp : frame.bgp ≡ held_room tracked files
   pub bgp_room : IsRoomOf tracked frame.bgp

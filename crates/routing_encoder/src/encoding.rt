@@ -1,8 +1,6 @@
 //! A question about a network as a formula: its solutions are the routings that break the question.
 
-ghost use Rattle.std.specs.Prelude.{◌≡◌, ℕ, ◌≤◌, ◌<◌, ◌+◌, IfOk, length, not, true};
-ghost use Rattle.std.specs.List.{list_all};
-ghost use Rattle.net_parts.specs.Sessions.{ends_of};
+ghost use Rattle.std.specs.Prelude.{◌≡◌, ℕ, ◌≤◌, ◌<◌, ◌+◌, IfOk, length, true};
 ghost use Rattle.sym_rib.specs.Worlds.{slots_end};
 ghost use Rattle.bgp_equations.specs.Equations.{HaveTracked};
 ghost use Rattle.routing_encoder.specs.Encoded.{IsEncoding, IsRoot, StandsForWorld};
@@ -147,14 +145,13 @@ fn root_over_new(
 /// A question about a network as a formula, over the places of a plan. The root is true under exactly those values of the
 /// variables whose world and environment are a stable routing that breaks the question, for each plan that has a slice at
 /// each length at which something can stand: whatever values make it true, their world in their environment breaks it; and
-/// where a routing breaks the question its own bits make it true. No session of the network is internal.
+/// where a routing breaks the question its own bits make it true.
 pub fn encode(
     alloc: Global,
     net: &Net,
     question: &Question,
     plan: &Plan,
 ) -> Result<Encoding, AllocError>
-    requires external { list_all (λ end. not end.internal) (ends_of net.now.files) ≡ true }
     ensures plan { IfOk result (λ e. e.world.plan ≡ plan.now) }
     ensures encoding { IfOk result (IsEncoding net.now.files net.now.tracked question.now) }
 {

@@ -1,10 +1,10 @@
 //! The places at which the slots of a formula stand, and what routes can be there.
 
-ghost use Rattle.std.specs.Prelude.{◌≡◌, IfOk, length};
+ghost use Rattle.std.specs.Prelude.{◌≡◌, IfOk};
 ghost use Rattle.plan_places.specs.Plans as plans;
 ghost use Rattle.routing_encoder.specs.Frames.{IsFrame};
 
-use bgp_variables::{BgpRoom, full_room};
+use bgp_variables::{BgpRoom, held_room};
 use mw_text::{List, Prefix};
 use net_model::Net;
 use plan_places::{Place, lens_of, places_of};
@@ -38,7 +38,7 @@ pub fn frame_of(
     let places = places_of(alloc, plan, net.routers().len() as u32)?;
     let rooms = rooms_of(alloc, net, destinations)?;
     read_rooms(rooms.as_slice());
-    let bgp = full_room(alloc, net.tracked())?;
+    let bgp = held_room(alloc, net.tracked(), net.routers())?;
     Ok(Frame {
         destinations: *destinations,
         lens,

@@ -5,9 +5,9 @@ ghost use Rattle.std.specs.Prelude.{◌≡◌, ◌+◌, ◌≤◌, All, IfOk, On
 ghost use Rattle.sym_policy.specs.Held.{bgp_end, bgp_of};
 ghost use Rattle.sym_rib.specs.Into.{HasTracked, list_end};
 ghost use Rattle.bgp_variables.specs.Shapes.{bgps_from, bgps_width};
+ghost use Rattle.bgp_variables.specs.Rooms.{bgp_rooms};
 ghost use Rattle.world_variables.specs.Symbols.{open_of, opens_end};
 ghost use Rattle.world_variables.specs.Unknowns.{rooms_at, unknowns_from, unknowns_width};
-ghost use Rattle.routing_worlds.specs.Worlds.{bgp_rooms};
 ghost use Rattle.routing_encoder.specs.Frames.{IsFrame};
 ghost use Rattle.routing_encoder.specs.Opened.{ReadsAs, StandsIn, routing_width};
 ghost use Rattle.term_store.specs.Reading.{Grows, Gives};

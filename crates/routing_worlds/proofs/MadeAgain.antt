@@ -30,7 +30,7 @@ apart_back a b c d (inr (same, less)) = grind (arith, nat_tests)
 not_at : (p q : Place) → IsBefore p q → is_at p.router p.len q ≡ false
 not_at p q before = apart_numbers p.router p.len q.router q.len before
 
-not_back : (p q : Place) → IsBefore p q → is_at q.router q.len p ≡ false
+pub not_back : (p q : Place) → IsBefore p q → is_at q.router q.len p ≡ false
 not_back p q before = apart_back p.router p.len q.router q.len before
 
 before_trans : (p q r : Place) → IsBefore p q → IsBefore q r → IsBefore p r

@@ -1,11 +1,10 @@
 -- What is read of variables is such as slots have room for, and fits its fields.
 use Rattle.std.proofs.Common.{◌≡◌, ℕ, ◌+◌, Bool, true, false, List, [], ◌∷◌, Option, Some, None}
 use Rattle.std.proofs.Common.{refl, sym, ap, ◌∙◌}
-use Rattle.std.specs.Prelude.{All, IfSome, slice_get, option_and_then, option_map, if◌then◌else◌}
+use Rattle.std.specs.Prelude.{All, IfSome, if◌then◌else◌}
 use Rattle.std.proofs.lemmas.List.Elements.{All-cons, All-head, All-nil, All-tail}
 use Rattle.std.proofs.lemmas.Option.{same_Some}
 use Rattle.mw_text.specs.declared.address.Addr.{Addr}
-use Rattle.ios_ast.specs.declared.bgp.Bgp.{Bgp}
 use Rattle.ios_ast.specs.declared.file.File.{File}
 use Rattle.route_record.specs.declared.Failures.{Failures}
 use Rattle.route_record.specs.declared.tracked.Tracked.{Tracked}
@@ -20,12 +19,12 @@ use Rattle.slot_places.proofs.PlaceLaws.{at-is}
 use Rattle.world_variables.specs.declared.unknowns.Unknown.{Unknown}
 use Rattle.world_variables.proofs.Worlds.{told_small}
 use Rattle.bgp_variables.specs.declared.rooms.BgpRoom.{BgpRoom}
-use Rattle.bgp_variables.specs.Rooms.{full_room}
-use Rattle.bgp_variables.specs.Shapes.{IsBgpRoom, bgp_from, bgp_width, bgps_from, preferences_from, shape_from}
-use Rattle.bgp_variables.proofs.RoomSteps.{full_is_room}
+use Rattle.bgp_variables.specs.Rooms.{bgp_room, bgp_rooms}
+use Rattle.bgp_variables.specs.Shapes.{IsBgpRoom, IsRoomOf, bgp_from, bgp_width, bgps_from, preferences_from, shape_from}
+use Rattle.bgp_variables.proofs.RoomSteps.{room_held}
 use Rattle.rebuilt_routes.specs.Words.{HasWordNumbers}
 use Rattle.bgp_worlds.specs.Opens.{HaveRooms, OpenSlot}
-use Rattle.routing_worlds.specs.Worlds.{bgp_room, bgp_rooms, open_with, opens_with}
+use Rattle.routing_worlds.specs.Worlds.{open_with, opens_with}
 
 -- where a slot has no room there is no route of OSPF
 pub rooms_kept : (files : List File) (question : Question) (failures : Failures) (d : Addr) (ps : List Place)
@@ -114,24 +113,20 @@ bgp_words (Some room) v from is = by (v from)
     by true = shape_words room v (from + 1) is
     by false = tt
 
-room_is : (tracked : Tracked) (files : List File) (router : ℕ) → IfSome (bgp_room tracked files router) IsBgpRoom
-room_is tracked files router = by_file (slice_get files router)
+room_is : (tracked : Tracked) (files : List File) (router len : ℕ) →
+    IfSome (bgp_room tracked files router len) IsBgpRoom
+room_is tracked files router len = by (bgp_room tracked files router len) (room_held tracked files router len)
   where
-    by_process : (o : Option Bgp) → IfSome (option_map (λ (process : Bgp). full_room tracked) o) IsBgpRoom
-    by_process None = tt
-    by_process (Some process) = (full_is_room tracked).0
-
-    by_file : (o : Option File) → IfSome (option_and_then (λ (file : File).
-        option_map (λ (process : Bgp). full_room tracked) file.bgp) o) IsBgpRoom
-    by_file None = tt
-    by_file (Some file) = by_process file.bgp
+    by : (o : Option BgpRoom) → IfSome o (IsRoomOf tracked) → IfSome o IsBgpRoom
+    by None is = tt
+    by (Some room) is = is.0
 
 pub bgps_words : (tracked : Tracked) (files : List File) (ps : List Place) (v : ℕ → Bool) (from : ℕ) →
     All (λ b. IfSome b HasWordNumbers) (bgps_from (bgp_rooms tracked files ps) v from)
 unfolding bgps_from
 bgps_words tracked files [] v from = All-nil (λ (b : Option BgpShape). IfSome b HasWordNumbers)
 bgps_words tracked files (p ∷ ps) v from =
-    All-cons (λ (b : Option BgpShape). IfSome b HasWordNumbers) (bgp_from (bgp_room tracked files p.router) v from)
-    (bgps_from (bgp_rooms tracked files ps) v (from + bgp_width (bgp_room tracked files p.router)))
-    (bgp_words (bgp_room tracked files p.router) v from (room_is tracked files p.router))
-    (bgps_words tracked files ps v (from + bgp_width (bgp_room tracked files p.router)))
+    All-cons (λ (b : Option BgpShape). IfSome b HasWordNumbers) (bgp_from (bgp_room tracked files p.router p.len) v from)
+    (bgps_from (bgp_rooms tracked files ps) v (from + bgp_width (bgp_room tracked files p.router p.len)))
+    (bgp_words (bgp_room tracked files p.router p.len) v from (room_is tracked files p.router p.len))
+    (bgps_words tracked files ps v (from + bgp_width (bgp_room tracked files p.router p.len)))

@@ -1,17 +1,14 @@
--- Each routing of a network whose sessions are external is read, by its shapes, from its own bits, and passes the test
--- there.
-use Rattle.std.proofs.Common.{◌≡◌, ℕ, ◌+◌, ◌*◌, ◌<◌, ◌≤◌, inl, inr, Bool, true, false, not, List, [], ◌∷◌, length, map, Option, Some}
+-- Each routing of a network is read, by its shapes, from its own bits, and passes the test there.
+use Rattle.std.proofs.Common.{◌≡◌, ℕ, ◌+◌, ◌*◌, ◌<◌, ◌≤◌, inl, inr, Bool, true, false, List, [], ◌∷◌, length, map, Option, Some}
 use Rattle.std.proofs.Common.{None, refl, sym, ap, ◌∙◌, subst, arith, is_some}
-use Rattle.std.specs.Prelude.{All, IfSome, MatchOption, nat_le, option_and_then, option_map, slice_get, unwrap_or}
+use Rattle.std.specs.Prelude.{All, IfSome, nat_le, option_and_then, option_map, slice_get, unwrap_or}
 use Rattle.std.specs.Prelude.{if◌then◌else◌}
-use Rattle.std.specs.List.{list_all}
 use Rattle.std.proofs.lemmas.Bool.{and_from, le-leb}
 use Rattle.std.proofs.lemmas.List.Elements.{All-weaker}
 use Rattle.std.proofs.lemmas.Option.{same_Some}
 use Rattle.mw_text.proofs.Lists.{all_found, item_there}
 use Rattle.mw_text.specs.Members.{In}
 use Rattle.mw_text.specs.Address.{prefix_at}
-use Rattle.ios_ast.specs.declared.bgp.Bgp.{Bgp}
 use Rattle.ios_ast.specs.declared.file.File.{File}
 use Rattle.route_record.specs.declared.BgpRec.{BgpRec}
 use Rattle.route_record.specs.declared.Environment.{Environment}
@@ -23,7 +20,6 @@ use Rattle.route_record.specs.declared.TheConstants.{LENGTHS}
 use Rattle.route_record.specs.declared.World.{World}
 use Rattle.route_record.specs.declared.tracked.Tracked.{Tracked}
 use Rattle.route_record.specs.Places.{slot_at}
-use Rattle.net_parts.specs.Decisions.{DecidedByBgp}
 use Rattle.net_parts.specs.Entries.{own_is_as_good}
 use Rattle.net_parts.specs.Ospf.{adjacencies}
 use Rattle.net_parts.specs.Sessions.{IsPlaced, ends_of}
@@ -55,15 +51,15 @@ use Rattle.world_variables.proofs.UnknownParts.{unknowns_read}
 use Rattle.announced_shapes.specs.Environments.{IsShapeEnvironment}
 use Rattle.announced_shapes.proofs.EnvironmentLaw.{environment_shapes}
 use Rattle.announced_places.specs.Environments.{environment_of as announced_environment}
-use Rattle.bgp_variables.specs.Rooms.{full_room}
-use Rattle.bgp_variables.specs.Shapes.{FitBgpRooms, FitsBgpRoom, FitsShape}
+use Rattle.bgp_variables.specs.Rooms.{bgp_room, bgp_rooms}
+use Rattle.bgp_variables.specs.Shapes.{FitBgpRooms, FitsBgpRoom}
 use Rattle.bgp_variables.proofs.Fitting.{held_fits as bgp_fits}
 use Rattle.bgp_variables.proofs.Reading.{bgps_read}
 use Rattle.shape_worlds.specs.Worlds.{shapes_of}
 use Rattle.bgp_worlds.specs.Opens.{open_at, open_of, opens_hold, opens_of, shape_world_of}
 use Rattle.bgp_worlds.proofs.OpenComplete.{opens_pass, world_again}
 use Rattle.bgp_worlds.proofs.SameShapes.{learnt_shape}
-use Rattle.routing_worlds.specs.Worlds.{HasWordNetwork, IsRouting, announced_by, announced_things, bgp_at, bgp_room, bgp_rooms}
+use Rattle.routing_worlds.specs.Worlds.{HasWordNetwork, IsRouting, announced_by, announced_things, bgp_at}
 use Rattle.routing_worlds.specs.Worlds.{bgps_read_from, dynamic_of, environment_start, failures_read_from, is_routing, open_with, opens_from}
 use Rattle.routing_worlds.specs.Worlds.{opens_with, shape_world_from, told_at, world_bits, worlds_end}
 use Rattle.bgp_variables.proofs.EnvironmentReading.{environment_read}
@@ -71,7 +67,6 @@ use Rattle.routing_worlds.proofs.EnvironmentRead.{announced_again, announced_fit
 
 module _ (files : List File) (tracked : Tracked) (question : Question) (plan : Plan) (world : World)
     (environment : Environment) (fits : HasWordNetwork files tracked question)
-    (external : list_all (λ end. not end.internal) (ends_of files) ≡ true)
     (wide : HasUsed files question.packets.dst plan) (routing : IsRouting files question world environment) where
   abbrev places : List Place
   places = places_in files plan
@@ -153,32 +148,13 @@ module _ (files : List File) (tracked : Tracked) (question : Question) (plan : P
   bgp_is : (p : Place) (is : IsThere p) → bgp_at tracked world.tables p ≡ option_map (bgp_shape tracked) is.slot.bgp
   bgp_is p is = ap (λ o. option_map (bgp_shape tracked) (unwrap_or o empty_slot).bgp) is.here
 
-  bgp_fit_one : (p : Place) → In p places → FitsBgpRoom (bgp_room tracked files p.router) (bgp_at tracked world.tables p)
-  bgp_fit_one p there = by (slot_there p there)
-    where
-      held : (is : IsThere p) (o : Option BgpRec) → is.slot.bgp ≡ o →
-          IfSome o (λ rec. FitsShape (full_room tracked) (bgp_shape tracked rec)) →
-          IfSome (option_map (bgp_shape tracked) o) (FitsShape (full_room tracked))
-      held is None holds fits' = tt
-      held is (Some rec) holds fits' = fits'
-
-      by_process : (is : IsThere p) (o : Option Bgp) → is.file.bgp ≡ o →
-          FitsBgpRoom (option_map (λ (process : Bgp). full_room tracked) o) (option_map (bgp_shape tracked) is.slot.bgp)
-      by_process is None runs =
-          ap (option_map (bgp_shape tracked)) (subst (λ o. MatchOption o (is.slot.bgp ≡ None) (λ process.
-          DecidedByBgp files world.failures environment world.tables p.router is.file process
-          (prefix_at world.packet.dst p.len) is.slot.bgp)) runs (equations p is).bgp)
-      by_process is (Some process) runs =
-          held is is.slot.bgp refl
-          (bgp_fits files world.packet.dst world.failures environment world.tables tracked routing.stable external p.router
-          p.len is.slot is.below is.here)
-
-      by : IsThere p → FitsBgpRoom (bgp_room tracked files p.router) (bgp_at tracked world.tables p)
-      by is =
-          subst (FitsBgpRoom (bgp_room tracked files p.router)) (sym (bgp_is p is))
-          (subst (λ (o : Option File). FitsBgpRoom (option_and_then (λ (file : File).
-          option_map (λ (process : Bgp). full_room tracked) file.bgp) o) (option_map (bgp_shape tracked) is.slot.bgp))
-          (sym is.found) (by_process is is.file.bgp refl))
+  bgp_fit_one : (p : Place) → In p places →
+      FitsBgpRoom (bgp_room tracked files p.router p.len) (bgp_at tracked world.tables p)
+  bgp_fit_one p there =
+      let is = slot_there p there in
+      subst (FitsBgpRoom (bgp_room tracked files p.router p.len)) (sym (bgp_is p is))
+      (bgp_fits files world.packet.dst world.failures environment world.tables tracked fits.tracks fits.limits
+      routing.environment_fits routing.stable p.router p.len is.slot is.below is.here)
 
   bgps_fit : (ps : List Place) → ((p : Place) → In p ps → In p places) →
       FitBgpRooms (bgp_rooms tracked files ps) (map (bgp_at tracked world.tables) ps)

@@ -33,9 +33,8 @@ use Rattle.world_variables.specs.Packets.{FitsSet, is_in_set, packet_bits, packe
 use Rattle.world_variables.specs.Slots.{has_dynamic, unknown_at}
 use Rattle.world_variables.specs.Unknowns.{HasWords, rooms_at, unknowns_bits, unknowns_width}
 use Rattle.world_variables.specs.Worlds.{FitsDistance, downs_start, opens_from as unknowns_read_from, places_in, slots_start}
-use Rattle.bgp_variables.specs.declared.rooms.BgpRoom.{BgpRoom}
 use Rattle.bgp_variables.specs.Environments.{announced_from, environment_bits, environment_width, ids_from}
-use Rattle.bgp_variables.specs.Rooms.{full_room}
+use Rattle.bgp_variables.specs.Rooms.{bgp_rooms}
 use Rattle.bgp_variables.specs.Shapes.{bgps_bits, bgps_from, bgps_width}
 use Rattle.announced_places.specs.Announced.{places_among}
 use Rattle.announced_places.specs.Environments.{environment_of as announced_environment, external_places, stands_at}
@@ -44,14 +43,6 @@ use Rattle.shape_worlds.specs.Worlds.{ShapeWorld, environment_of, rebuilt_world}
 use Rattle.bgp_worlds.specs.Opens.{OpenSlot, open_at, opens_hold, shape_world_of}
 
 -- ---- where variables begin: packet, links, what is open inside, BGP routes, the environment
-
--- the room of the BGP route of a slot: all its bits, where the router runs BGP
-abbrev pub bgp_room : Tracked → List File → ℕ → Option BgpRoom
-bgp_room tracked files router =
-    option_and_then (λ file. option_map (λ process. full_room tracked) file.bgp) (slice_get files router)
-
-abbrev pub bgp_rooms : Tracked → List File → List Place → List (Option BgpRoom)
-bgp_rooms tracked files places = map (λ p. bgp_room tracked files p.router) places
 
 abbrev pub bgps_start : List File → Question → Plan → ℕ → ℕ
 bgps_start files question plan from =

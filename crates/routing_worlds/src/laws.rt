@@ -1,13 +1,11 @@
 //! Laws about the worlds of values of variables. Each function only carries its law.
 
-ghost use Rattle.std.specs.Prelude.{◌≡◌, ℕ, Bool, List as ListOf, not, true};
-ghost use Rattle.std.specs.List.{list_all};
+ghost use Rattle.std.specs.Prelude.{◌≡◌, ℕ, Bool, List as ListOf, true};
 ghost use Rattle.ios_ast.specs.declared.file.File.{File as FileOf};
 ghost use Rattle.route_record.specs.declared.Environment.{Environment as EnvironmentOf};
 ghost use Rattle.route_record.specs.declared.Plan.{Plan as PlanOf};
 ghost use Rattle.route_record.specs.declared.tracked.Tracked.{Tracked as TrackedOf};
 ghost use Rattle.route_record.specs.declared.World.{World as WorldOf};
-ghost use Rattle.net_parts.specs.Sessions.{ends_of};
 ghost use Rattle.question_lang.specs.declared.question.Question.{Question as QuestionOf};
 ghost use Rattle.slot_places.specs.Rooms.{HasUsed};
 ghost use Rattle.failed_links.specs.Rows.{IsAt};
@@ -31,25 +29,25 @@ pub fn sound_law()
         (environment_from files tracked question plan v from) ≡ shape_world_from files tracked question plan v from }
 {}
 
-/// Where each session is external, the shapes of a routing of the question are read from its own bits (`read`), which pass
-/// the test (`passes`), and what stands behind its bits is read behind its variables (`behind`).
+/// The shapes of a routing of the question are read from its own bits (`read`), which pass the test (`passes`), and what
+/// stands behind its bits is read behind its variables (`behind`).
 pub fn complete_law()
     ensures read { (files : ListOf FileOf) (tracked : TrackedOf) (question : QuestionOf) (plan : PlanOf)
         (world : WorldOf) (environment : EnvironmentOf) (rest : ListOf Bool) (v : ℕ → Bool) (from : ℕ) →
-        HasWordNetwork files tracked question → list_all (λ end. not end.internal) (ends_of files) ≡ true →
-        HasUsed files question.packets.dst plan → IsRouting files question world environment →
+        HasWordNetwork files tracked question → HasUsed files question.packets.dst plan →
+        IsRouting files question world environment →
         IsAt v from (world_bits files tracked question plan world environment rest) →
         shape_world_from files tracked question plan v from ≡ shapes_of tracked world environment }
     ensures passes { (files : ListOf FileOf) (tracked : TrackedOf) (question : QuestionOf) (plan : PlanOf)
         (world : WorldOf) (environment : EnvironmentOf) (rest : ListOf Bool) (v : ℕ → Bool) (from : ℕ) →
-        HasWordNetwork files tracked question → list_all (λ end. not end.internal) (ends_of files) ≡ true →
-        HasUsed files question.packets.dst plan → IsRouting files question world environment →
+        HasWordNetwork files tracked question → HasUsed files question.packets.dst plan →
+        IsRouting files question world environment →
         IsAt v from (world_bits files tracked question plan world environment rest) →
         is_routing files tracked question plan v from ≡ true }
     ensures behind { (files : ListOf FileOf) (tracked : TrackedOf) (question : QuestionOf) (plan : PlanOf)
         (world : WorldOf) (environment : EnvironmentOf) (rest : ListOf Bool) (v : ℕ → Bool) (from : ℕ) →
-        HasWordNetwork files tracked question → list_all (λ end. not end.internal) (ends_of files) ≡ true →
-        HasUsed files question.packets.dst plan → IsRouting files question world environment →
+        HasWordNetwork files tracked question → HasUsed files question.packets.dst plan →
+        IsRouting files question world environment →
         IsAt v from (world_bits files tracked question plan world environment rest) →
         IsAt v (worlds_end files tracked question plan from) rest }
 {}

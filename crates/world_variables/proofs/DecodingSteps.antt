@@ -1,22 +1,20 @@
 -- Addresses and slots that are read from a row of values, one after another.
-use Rattle.std.proofs.Common.{◌≡◌, ℕ, zero, suc, ◌+◌, ◌-◌, ◌*◌, ◌/◌, ◌^◌, ◌<◌, ◌≤◌, Bool, true, false, List, [], ◌∷◌}
-use Rattle.std.proofs.Common.{◌++◌, length, Option, refl, sym, ap, subst, arith, append_assoc, append-nil, ◌∙◌}
+use Rattle.std.proofs.Common.{◌≡◌, ℕ, zero, suc, ◌+◌, ◌-◌, ◌*◌, ◌/◌, ◌^◌, ◌<◌, ◌≤◌, Bool, List, [], ◌∷◌}
+use Rattle.std.proofs.Common.{◌++◌, length, Option, refl, sym, ap, subst, arith, ◌∙◌}
 use Rattle.std.specs.Prelude.{All, if◌then◌else◌}
 use Rattle.std.proofs.lemmas.Grind.{common_steps}
-use Rattle.std.proofs.lemmas.List.{length-append, length-map}
+use Rattle.std.proofs.lemmas.List.{length-map}
 use Rattle.std.proofs.lemmas.Nat.{pow-add, pow_pos}
 use Rattle.std.proofs.Math.Nat.{div-lt_iff_lt-mul, mul-le-mul_right, mul_comm}
 use Rattle.mw_text.specs.declared.address.Prefix.{Prefix}
 use Rattle.mw_text.specs.Address.{block}
 use Rattle.ios_ast.specs.declared.file.File.{File}
 use Rattle.route_record.specs.declared.Plan.{Plan}
-use Rattle.route_record.specs.declared.Slot.{Slot}
 use Rattle.route_record.specs.declared.TheConstants.{LENGTHS}
 use Rattle.plan_places.specs.declared.places.Place.{Place}
 use Rattle.plan_places.specs.Places.{places_of}
-use Rattle.plan_places.specs.Plans.{has_slice, lens_below, lens_of}
-use Rattle.plan_places.specs.Tables.{row_from, rows_from}
-use Rattle.plan_places.proofs.PlaceSteps.{lens_few, places-length}
+use Rattle.plan_places.specs.Plans.{lens_of}
+use Rattle.plan_places.proofs.PlaceSteps.{places-length}
 use Rattle.slot_places.specs.declared.rooms.Room.{Room}
 use Rattle.slot_places.proofs.Members.{all-from-in}
 use Rattle.slot_places.proofs.PlaceLaws.{in-lens, in-places}
@@ -38,38 +36,6 @@ address_fits n a len small fits =
     omega (arith, below, whole, small)
 
 -- ---- slots
-
-pub row_next : (f : ℕ → Slot) (made : List Slot) (len : ℕ) → len < LENGTHS →
-    made ++ row_from f len (LENGTHS - len) ≡ (made ++ f len ∷ []) ++ row_from f (len + 1) (LENGTHS - (len + 1))
-unfolding row_from
-row_next f made len short =
-    let more : LENGTHS - len ≡ suc (LENGTHS - (len + 1)) = omega arith in
-    let next : suc len ≡ len + 1 = omega arith in
-    ap (λ k. made ++ row_from f len k) more
-    ∙ ap (λ k. made ++ f len ∷ row_from f k (LENGTHS - (len + 1))) next
-    ∙ sym (append_assoc made (f len ∷ []) (row_from f (len + 1) (LENGTHS - (len + 1))))
-
-pub row_end : (f : ℕ → Slot) (made : List Slot) (len : ℕ) → LENGTHS ≤ len → made ++ row_from f len (LENGTHS - len) ≡ made
-unfolding row_from
-row_end f made len past =
-    let none : LENGTHS - len ≡ 0 = omega arith in ap (λ k. made ++ row_from f len k) none ∙ append-nil made
-
-pub rows_next : (f : ℕ → ℕ → Slot) (made : List Slot) (router n : ℕ) → router < n →
-    made ++ rows_from f router (n - router)
-    ≡ (made ++ row_from (f router) 0 LENGTHS) ++ rows_from f (router + 1) (n - (router + 1))
-unfolding rows_from
-rows_next f made router n below =
-    let more : n - router ≡ suc (n - (router + 1)) = omega arith in
-    let next : suc router ≡ router + 1 = omega arith in
-    ap (λ k. made ++ rows_from f router k) more
-    ∙ ap (λ k. made ++ (row_from (f router) 0 LENGTHS ++ rows_from f k (n - (router + 1)))) next
-    ∙ sym (append_assoc made (row_from (f router) 0 LENGTHS) (rows_from f (router + 1) (n - (router + 1))))
-
-pub rows_end : (f : ℕ → ℕ → Slot) (made : List Slot) (router n : ℕ) → n ≤ router →
-    made ++ rows_from f router (n - router) ≡ made
-unfolding rows_from
-rows_end f made router n past =
-    let none : n - router ≡ 0 = omega arith in ap (λ k. made ++ rows_from f router k) none ∙ append-nil made
 
 pub unknowns_none : (v : ℕ → Bool) (from : ℕ) → unknowns_from [] v from ≡ []
 unfolding unknowns_from
@@ -95,10 +61,4 @@ many_unknowns files destinations plan v from =
     length-unknowns (rooms_at files destinations (places_of plan (length files))) v from
     ∙ length-map (places_of plan (length files)) _ ∙ places-length (lens_of plan) (length files)
 
-pub ruleset row_steps = (common_steps, row_next, row_end)
-
-pub ruleset rows_steps = (common_steps, rows_next, rows_end)
-
 pub ruleset unknown_steps = (common_steps, places_at, unknowns_next, widths_next, unknowns_none, narrow_there)
-
-pub ruleset table_steps = (common_steps, lens_few, places_short, many_unknowns)

@@ -4,8 +4,6 @@ pub mod UnknownParts
 pub mod FieldSteps
 pub mod RoomSteps
 pub mod Stability
-pub mod Completeness
 pub mod Worlds
-pub mod WorldBits
 pub mod Steps
 pub mod DecodingSteps

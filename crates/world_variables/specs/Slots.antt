@@ -1,17 +1,14 @@
--- The tables that follow from what is open of the slots at the places of a plan, and the test that they are a stable
--- routing, in a network without BGP.
-use Rattle.std.specs.Prelude.{ℕ, ◌&&◌, ◌||◌, Bool, true, false, not, List, length, map, slice_get, if◌then◌else◌}
-use Rattle.std.specs.Prelude.{Option, Some, None, is_some, option_and_then, option_map, unwrap_or}
+-- What is open of a slot beside BGP: its OSPF route, and one bit of the source of its table's entry; and the test that
+-- these are as some tables want them.
+use Rattle.std.specs.Prelude.{ℕ, ◌&&◌, ◌||◌, Bool, true, false, not, List, slice_get, if◌then◌else◌}
+use Rattle.std.specs.Prelude.{Option, Some, None, option_and_then, option_map, unwrap_or}
 use Rattle.std.specs.Bool.{beq}
-use Rattle.std.specs.List.{list_all}
 use Rattle.std.specs.Option.{option_map_or}
 use Rattle.mw_text.specs.declared.address.Addr.{Addr}
-use Rattle.mw_text.specs.declared.address.Prefix.{Prefix}
 use Rattle.mw_text.specs.Address.{prefix_at}
 use Rattle.ios_ast.specs.declared.file.File.{File}
 use Rattle.route_record.specs.declared.Failures.{Failures}
 use Rattle.route_record.specs.declared.OspfRec.{OspfRec}
-use Rattle.route_record.specs.declared.Plan.{Plan}
 use Rattle.route_record.specs.declared.RibEntry.{RibEntry}
 use Rattle.route_record.specs.declared.RibSource.{RibSource}
 use Rattle.route_record.specs.declared.RibSource.TheVariants.{Connected, Static, Ebgp, Ospf, Ibgp}
@@ -22,14 +19,8 @@ use Rattle.net_parts.specs.Entries.{entry_with, table_entry}
 use Rattle.net_parts.specs.Sending.{same_record}
 use Rattle.net_parts.specs.Stable.{held_ospf}
 use Rattle.plan_places.specs.declared.places.Place.{Place}
-use Rattle.plan_places.specs.Places.{places_of}
-use Rattle.plan_places.specs.Tables.{all_hold, empty_slot, tables_over}
-use Rattle.slot_places.specs.Rooms.{can_be_used}
+use Rattle.plan_places.specs.Tables.{empty_slot}
 use Rattle.world_variables.specs.declared.unknowns.Unknown.{Unknown}
-
--- no router runs BGP
-abbrev pub runs_no_bgp : List File → Bool
-runs_no_bgp files = list_all (λ file. not (is_some file.bgp)) files
 
 -- ---- the bit of value 2 in the number of a source: 0 is a connected subnet, 1 a static route, 2 external BGP, 3 OSPF and
 -- 4 internal BGP
@@ -75,16 +66,6 @@ open_slot files failures d router len u = record {
   rib = entry_of files failures d router len u;
 }
 
--- the slot at a place: an empty one where nothing can stand
-abbrev pub slot_of : List File → Prefix → Failures → Addr → Place → Unknown → Slot
-slot_of files destinations failures d p u =
-    if can_be_used files destinations p.router p.len then open_slot files failures d p.router p.len u else empty_slot
-
--- the tables of what is open at the places of a plan
-abbrev pub tables_of : List File → Prefix → Plan → Failures → Addr → List Unknown → Tables
-tables_of files destinations plan failures d us =
-    tables_over (slot_of files destinations failures d) (places_of plan (length files)) us (length files)
-
 -- ---- the test
 
 abbrev pub same_ospf : Option OspfRec → Option OspfRec → Bool
@@ -100,18 +81,6 @@ is_wanted files failures d tables router len u slot file =
     same_ospf u.ospf (held_ospf files failures tables router file (prefix_at d len))
     && beq u.dynamic (has_dynamic (table_entry files failures router file (prefix_at d len) slot))
 
--- nothing is asked where nothing can stand
-abbrev pub slot_holds : List File → Prefix → Failures → Addr → Tables → Place → Unknown → Bool
-slot_holds files destinations failures d tables p u =
-    not (can_be_used files destinations p.router p.len)
-    || option_map_or (is_wanted files failures d tables p.router p.len u
-    (open_slot files failures d p.router p.len u)) (slice_get files p.router) false
-
--- so are all at the places of a plan
-abbrev pub are_wanted : List File → Prefix → Plan → Failures → Addr → Tables → List Unknown → Bool
-are_wanted files destinations plan failures d tables us =
-    all_hold (slot_holds files destinations failures d tables) (places_of plan (length files)) us
-
 -- ---- what is open of slots that are known
 
 abbrev pub unknown_of : Slot → Unknown
@@ -119,6 +88,3 @@ unknown_of slot = record { ospf = slot.ospf; dynamic = has_dynamic slot.rib }
 
 abbrev pub unknown_at : Tables → Place → Unknown
 unknown_at tables p = unknown_of (unwrap_or (slot_at tables p.router p.len) empty_slot)
-
-abbrev pub unknowns_of : Tables → List Place → List Unknown
-unknowns_of tables places = map (unknown_at tables) places

@@ -1,5 +1,5 @@
-//! The variables of the worlds of a question over the places of a plan, in a network without BGP: those of a packet and of
-//! what is open of slots as terms, and the world that values of all variables say.
+//! The variables of the worlds of a question over the places of a plan, beside those of BGP: a packet and what is open of
+//! slots, as terms and as values say them.
 #![tactic(auto)]
 
 mod decoding;
@@ -15,5 +15,5 @@ pub use decoding::{packet_at, packet_size, unknown_width};
 pub use opens::SymOpen;
 pub use packets::packet_in;
 pub use rooms::read_rooms;
-pub use tables::{decode, entry_with_bit, unknowns_at};
+pub use tables::{entry_with_bit, unknowns_at};
 pub use unknowns::Unknown;

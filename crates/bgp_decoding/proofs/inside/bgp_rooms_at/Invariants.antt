@@ -1,5 +1,5 @@
 use Rattle.std.proofs.Common.{◌≡◌, ◌++◌, drop}
-use Rattle.routing_worlds.specs.Worlds.{bgp_rooms}
+use Rattle.bgp_variables.specs.Rooms.{bgp_rooms}
 use Rattle.bgp_decoding.proofs.inside.bgp_rooms_at.Given as goal
 
 -- the rooms that are there already, and those from here on

@@ -1,4 +1,4 @@
-use Rattle.std.proofs.Common.{◌≡◌, ◌≤◌, ◌+◌, ◌*◌, length, map}
+use Rattle.std.proofs.Common.{◌≡◌, ◌≤◌, ◌+◌, ◌*◌, length, map, suc}
 use Rattle.term_store.specs.Terms.{Reading, size}
 use Rattle.term_store.specs.Reading.{Reads, Grows}
 use Rattle.sym_policy.specs.Held.{ospf_of}
@@ -11,7 +11,7 @@ invariant-loop-router l = record {
   grows : Grows l.fn.terms l.terms;
   within : routes_end l.made ≤ size l.terms;
   length_is : length l.made ≡ l.router * l.row;
-  vars : l.terms.vars ≡ l.fn.terms.vars + 33 * (l.router * l.row);
+  vars : l.terms.vars ≡ l.fn.terms.vars + l.router * l.row * suc l.width;
   value : (w : Reading) → Reads w l.terms → map (ospf_of w) l.made
-      ≡ routes_from (l.router * l.row) w.variable l.fn.terms.vars;
+      ≡ routes_from l.width (l.router * l.row) w.variable l.fn.terms.vars;
 }

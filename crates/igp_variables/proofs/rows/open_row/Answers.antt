@@ -1,8 +1,8 @@
-use Rattle.std.proofs.Common.{◌≡◌, ◌++◌, ◌∷◌, [], ap, arith, length, ◌∙◌}
+use Rattle.std.proofs.Common.{◌≡◌, ◌++◌, ◌∷◌, [], ap, arith, length, suc, ◌∙◌}
 use Rattle.std.proofs.lemmas.List.{length-append}
 use Rattle.failed_links.proofs.Steps.{grows_grown}
 use Rattle.term_store.specs.Terms.{size}
-use Rattle.igp_variables.proofs.Steps.{next_read, routes_within}
+use Rattle.igp_variables.proofs.Steps.{next_read, routes_within, row_more}
 use Rattle.igp_variables.proofs.rows.open_row.Goals as goal
 
 pub loop-i-preserved : goal.loop-i-preserved
@@ -21,8 +21,8 @@ loop-i-preserved c =
       within = routes_within made c.put_route.new.made next (size c.loop-i.terms) (size c.open_route.new.terms) is
           before.within opened.grows.larger opened.within;
       length_is = omega (arith, long, longer);
-      vars = omega (arith, wider, vars);
-      value = λ w reads. next_read w c.args.made.now made c.put_route.new.made next c.args.terms.now.vars
+      vars = let more = row_more c.loop-i.i (suc c.args.width) in omega (arith, wider, vars, more);
+      value = λ w reads. next_read c.args.width w c.args.made.now made c.put_route.new.made next c.args.terms.now.vars
           c.loop-i.terms.vars c.loop-i.i is (before.value w (opened.grows.reads w reads)) wider
           (opened.value w reads);
     }

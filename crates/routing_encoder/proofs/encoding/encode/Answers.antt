@@ -1,4 +1,4 @@
-use Rattle.std.proofs.Common.{◌≡◌, ◌+◌, ◌++◌, ℕ, Bool, List, [], true, ap, arith, sym, subst, ◌∙◌}
+use Rattle.std.proofs.Common.{◌≡◌, ◌+◌, ℕ, Bool, List, [], ap, arith, sym, subst, ◌∙◌}
 use Rattle.std.proofs.lemmas.List.{append-nil}
 use Rattle.route_record.specs.declared.Plan.{Plan}
 use Rattle.failed_links.specs.Rows.{IsAt}
@@ -64,15 +64,15 @@ returns-clause-encoding c =
             stable = breaking.stable;
           } in
           let here = c.row_law.ensures bits in
-          let behind = c.complete_law.ensures.behind files tracked question plan world environment rows v 0 fits
-          c.requires.external used routing here in
+          let behind = c.complete_law.ensures.behind files tracked question plan world environment rows v 0 fits used
+          routing here in
           let said = (c.rows_law.ensures files world.failures v (worlds_end files tracked question plan 0) []
           c.routers-routers.ensures.limits c.routers-routers.ensures.few
           (subst (IsAt v (worlds_end files tracked question plan 0)) (sym (append-nil rows)) behind)).0 in
           (value bits).complete fits used world environment walk
-          (c.complete_law.ensures.read files tracked question plan world environment rows v 0 fits c.requires.external used
+          (c.complete_law.ensures.read files tracked question plan world environment rows v 0 fits used
           routing here)
-          (c.complete_law.ensures.passes files tracked question plan world environment rows v 0 fits c.requires.external
+          (c.complete_law.ensures.passes files tracked question plan world environment rows v 0 fits
           used routing here) said breaking.breaks;
       shapes = λ used world environment walk breaking.
           let bits = routing_bits files tracked question plan world environment in
@@ -84,5 +84,5 @@ returns-clause-encoding c =
             stable = breaking.stable;
           } in
           c.complete_law.ensures.read files tracked question plan world environment rows (truth bits) 0 fits
-          c.requires.external used routing (c.row_law.ensures bits);
+          used routing (c.row_law.ensures bits);
     }

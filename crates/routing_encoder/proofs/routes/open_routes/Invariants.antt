@@ -4,7 +4,7 @@ use Rattle.term_store.specs.Reading.{Reads, Grows}
 use Rattle.sym_policy.specs.Held.{bgp_end, bgp_of}
 use Rattle.sym_rib.specs.Into.{HasTracked, list_end}
 use Rattle.bgp_variables.specs.Shapes.{bgps_from, bgps_width}
-use Rattle.routing_worlds.specs.Worlds.{bgp_rooms}
+use Rattle.bgp_variables.specs.Rooms.{bgp_rooms}
 use Rattle.routing_encoder.proofs.routes.open_routes.Given as goal
 
 -- the routes so far, with those that are left, are all

@@ -1,0 +1,81 @@
+-- Fields for known values: each value once, and each held route has room.
+use Rattle.std.proofs.Common.{◌≡◌, ℕ, ◌^◌, ◌<◌, ◌==◌, ◌||◌, Bool, true, false, List, [], ◌∷◌, inl, inr, refl, sym}
+use Rattle.std.proofs.Common.{arith}
+use Rattle.std.specs.Prelude.{All, Some, fold}
+use Rattle.std.specs.List.{flat_map, list_all}
+use Rattle.std.proofs.lemmas.Bool.{eqb-true}
+use Rattle.std.proofs.lemmas.List.Elements.{All-head}
+use Rattle.std.proofs.lemmas.List.Sums.{fold-append}
+use Rattle.mw_text.specs.Members.{In}
+use Rattle.mw_text.specs.declared.address.Addr.{Addr}
+use Rattle.mw_text.proofs.Lists.{all_found}
+use Rattle.ios_ast.specs.declared.file.File.{File}
+use Rattle.ios_ast.specs.Deciding.{carries}
+use Rattle.ios_ast.specs.Limits.{keeps_limits}
+use Rattle.ios_ast.specs.Paths.{first_of}
+use Rattle.route_record.specs.declared.BgpRec.{BgpRec}
+use Rattle.route_record.specs.declared.Environment.{Environment}
+use Rattle.route_record.specs.declared.Failures.{Failures}
+use Rattle.route_record.specs.declared.Slot.{Slot}
+use Rattle.route_record.specs.declared.Tables.{Tables}
+use Rattle.route_record.specs.declared.TheConstants.{LENGTHS}
+use Rattle.route_record.specs.declared.tracked.Tracked.{Tracked}
+use Rattle.route_record.specs.Fits.{FitsBgp, FitsSlot, IsWord}
+use Rattle.route_record.specs.Places.{slot_at}
+use Rattle.net_interfaces.proofs.Options.{if_is}
+use Rattle.net_parts.specs.Stable.{Stable}
+use Rattle.net_parts.specs.Tracked.{TracksNet}
+use Rattle.net_parts.specs.World.{IsEnvironment}
+use Rattle.slot_places.specs.Values.{once, put_once}
+use Rattle.slot_places.proofs.Fitting.{fits_among}
+use Rattle.held_values.specs.declared.numbers.HeldNumber.{HeldNumber}
+use Rattle.held_values.specs.Rooms.{FitsHeldValues, values_room}
+use Rattle.held_values.specs.Values.{HasHeldValues, firsts_of, next_hops_of, preferences_of, said_in_file, unsaid}
+use Rattle.held_values.specs.Values.{values_of, weights_of}
+use Rattle.held_values.proofs.Held.{held_known}
+
+-- first what no line need say, and then what lines say
+pub values_once : (which : HeldNumber) (files : List File) →
+    fold put_once (fold put_once [] (unsaid which)) (flat_map (said_in_file which) files)
+    ≡ once (values_of which files)
+unfolding values_of
+values_once which files = sym (fold-append put_once [] (unsaid which) (flat_map (said_in_file which) files))
+
+-- a number that stands in a list is a member
+in-carried : (xs : List ℕ) (n : ℕ) → carries xs n ≡ true → In n xs
+in-carried [] n there = absurd cc
+in-carried (x ∷ xs) n there = by (x == n) refl there (in-carried xs n)
+  where
+    by : (b : Bool) → (x == n) ≡ b → (b || carries xs n) ≡ true → (carries xs n ≡ true → In n xs) → In n (x ∷ xs)
+    by true same there rest = inl (sym (eqb-true x n same))
+    by false same there rest = inr (rest there)
+
+first_small : (path : List ℕ) → All IsWord path → first_of path < 2 ^ 32
+first_small [] all = omega arith
+first_small (n ∷ ns) all = All-head IsWord n ns all
+
+fits_known : (files : List File) (rec : BgpRec) → HasHeldValues files rec → FitsBgp rec →
+    FitsHeldValues (values_room files) rec
+fits_known files rec known fits = record {
+  weight = fits_among (weights_of files) rec.weight (in-carried (weights_of files) rec.weight known.weight)
+      fits.weight;
+  local_pref = fits_among (preferences_of files) rec.local_pref
+      (in-carried (preferences_of files) rec.local_pref known.local_pref) fits.local_pref;
+  next_hop = fits_among (next_hops_of files) rec.next_hop.0
+      (in-carried (next_hops_of files) rec.next_hop.0 known.next_hop) fits.next_hop;
+  first = fits_among (firsts_of files) (first_of rec.path)
+      (in-carried (firsts_of files) (first_of rec.path) known.first) (first_small rec.path fits.path);
+}
+
+pub held_fits : (tracked : Tracked) (files : List File) (destination : Addr) (failures : Failures)
+    (environment : Environment) (tables : Tables) (len : ℕ) → TracksNet files tracked →
+    list_all keeps_limits files ≡ true → IsEnvironment files environment →
+    Stable files destination failures environment tables → len < LENGTHS →
+    (router : ℕ) (slot : Slot) (held : BgpRec) → slot_at tables router len ≡ Some slot →
+    slot.bgp ≡ Some held → FitsHeldValues (values_room files) held
+held_fits tracked files destination failures environment tables len net limits may stable below router slot held there
+    holds =
+    fits_known files held
+    (held_known tracked files destination failures environment tables len net limits may stable below router slot held
+    there holds)
+    (if_is FitsBgp slot.bgp held (all_found FitsSlot tables.slots _ slot stable.fits there).bgp holds)

@@ -1,0 +1,295 @@
+-- The numbers of held routes are known: over each session, and so in each stable routing.
+use Rattle.std.proofs.Common.{◌≡◌, ℕ, ◌<◌, ◌==◌, ◌&&◌, ◌⊎◌, inl, inr, not, Bool, true, false, List, ◌∷◌}
+use Rattle.std.proofs.Common.{Option, Some, None, refl, sym, ap, ◌∙◌, subst, if◌then◌else◌}
+use Rattle.std.specs.Prelude.{IfSome, option_and_then, slice_get, unwrap_or}
+use Rattle.std.specs.List.{find, list_all}
+use Rattle.std.proofs.lemmas.Bool.{and_parts, eq-eqb, eqb-true, or_left}
+use Rattle.std.proofs.lemmas.Option.{same_Some}
+use Rattle.mw_text.proofs.Lists.{all_found}
+use Rattle.mw_text.specs.declared.address.Addr.{Addr}
+use Rattle.mw_text.specs.declared.address.Prefix.{Prefix}
+use Rattle.mw_text.specs.Address.{prefix_at}
+use Rattle.ios_ast.specs.declared.bgp.Bgp.{Bgp}
+use Rattle.ios_ast.specs.declared.bgp.Neighbour.{Neighbour}
+use Rattle.ios_ast.specs.declared.file.File.{File}
+use Rattle.ios_ast.specs.Deciding.{carries}
+use Rattle.ios_ast.specs.Limits.{keeps_limits}
+use Rattle.ios_ast.specs.Paths.{first_of}
+use Rattle.route_record.specs.declared.Announcement.{Announcement}
+use Rattle.route_record.specs.declared.BgpMsg.{BgpMsg}
+use Rattle.route_record.specs.declared.BgpRec.{BgpRec}
+use Rattle.route_record.specs.declared.Environment.{Environment}
+use Rattle.route_record.specs.declared.Failures.{Failures}
+use Rattle.route_record.specs.declared.Slot.{Slot}
+use Rattle.route_record.specs.declared.Tables.{Tables}
+use Rattle.route_record.specs.declared.TheConstants.{LENGTHS}
+use Rattle.route_record.specs.declared.tracked.Tracked.{Tracked}
+use Rattle.route_record.specs.Places.{slot_at}
+use Rattle.net_interfaces.proofs.Members.{in-find}
+use Rattle.net_interfaces.proofs.Options.{if_is}
+use Rattle.net_parts.specs.declared.sessions.Far.TheVariants.{Inside}
+use Rattle.net_parts.specs.declared.sessions.SessionEnd.{SessionEnd}
+use Rattle.net_parts.specs.Exports.{announced_message, exported, imported, internal_next_hop, learnt_over}
+use Rattle.net_parts.specs.Exports.{external_message, internal_message, own_address, received}
+use Rattle.net_parts.specs.Origins.{local_routes}
+use Rattle.net_parts.specs.Sessions.{ends_of, neighbour_of}
+use Rattle.net_parts.specs.Stable.{Stable}
+use Rattle.net_parts.specs.Tracked.{TracksNet}
+use Rattle.net_parts.specs.World.{IsAnnouncement, IsEnvironment}
+use Rattle.bgp_shapes.proofs.EndLaw.{IsAlike, ends_alike}
+use Rattle.rebuilt_routes.specs.Clusters.{IsKeptBySessions}
+use Rattle.rebuilt_routes.proofs.Crossed.{runs_there}
+use Rattle.rebuilt_routes.proofs.Options.{find_passes}
+use Rattle.rebuilt_routes.proofs.RealSources.{all_members}
+use Rattle.rebuilt_routes.proofs.StableShapes.{kept_held}
+use Rattle.held_values.specs.declared.numbers.HeldNumber.{HeldNumber}
+use Rattle.held_values.specs.declared.numbers.HeldNumber.TheVariants.{Weight, LocalPref, NextHop, FirstAs}
+use Rattle.held_values.specs.Values.{HasHeldValues, number_of, said_of_neighbour, values_of}
+use Rattle.held_values.proofs.EndsMeet.{NamesOther, names_far}
+use Rattle.held_values.proofs.Lines.{IsKnown, known_lines, known_unsaid}
+use Rattle.held_values.proofs.Routes.{IsKnownReceived, IsKnownRoute, IsMadeOf, exported_made, imported_known}
+use Rattle.held_values.proofs.Routes.{locals_known}
+
+-- the line of an end is one of the process of its router
+line_there : (files : List File) (end : SessionEnd) (file : File) (process : Bgp) (neighbour : Neighbour) →
+    slice_get files end.router ≡ Some file → file.bgp ≡ Some process → neighbour_of files end ≡ Some neighbour →
+    slice_get process.neighbours end.neighbour ≡ Some neighbour
+line_there files end file process neighbour there runs named =
+    sym (ap (option_and_then (λ (b : Bgp). slice_get b.neighbours end.neighbour))
+    (runs_there files end.router file process there runs)) ∙ named
+
+-- what such a line says is known
+line_known : (which : HeldNumber) (files : List File) (end : SessionEnd) (file : File) (process : Bgp)
+    (neighbour : Neighbour) → slice_get files end.router ≡ Some file → file.bgp ≡ Some process →
+    neighbour_of files end ≡ Some neighbour → IfSome (said_of_neighbour which process neighbour) (IsKnown which files)
+line_known which files end file process neighbour there runs named =
+    all_found (λ n. IfSome (said_of_neighbour which process n) (IsKnown which files)) process.neighbours end.neighbour
+    neighbour (known_lines which files end.router file process there runs).neighbours
+    (line_there files end file process neighbour there runs named)
+
+-- the AS number of a neighbour of another AS
+other_as : (files : List File) (n : ℕ) (b : Bool) → b ≡ false →
+    IfSome (if b then None else Some n) (IsKnown FirstAs files) → IsKnown FirstAs files n
+other_as files n true other said = absurd cc
+other_as files n false other said = said
+
+module _ (files : List File) where
+  alike : (at : ℕ) (end : SessionEnd) → slice_get (ends_of files) at ≡ Some end → IsAlike files end
+  alike at end there = all_found (IsAlike files) (ends_of files) at end (ends_alike files) there
+
+  -- an end is internal where both AS numbers are one
+  internal_is : (at : ℕ) (end : SessionEnd) (file : File) (process : Bgp) (neighbour : Neighbour) →
+      slice_get (ends_of files) at ≡ Some end → slice_get files end.router ≡ Some file → file.bgp ≡ Some process →
+      neighbour_of files end ≡ Some neighbour → end.internal ≡ (process.asn == neighbour.asn)
+  internal_is at end file process neighbour stands there runs named =
+      is.internal ∙ (λ i. (same i).asn == (line i).asn)
+    where
+      is : IsAlike files end
+      is = alike at end stands
+
+      same : is.process ≡ process
+      same =
+          same_Some is.process process (sym is.runs ∙ runs_there files end.router file process there runs)
+
+      line : is.line ≡ neighbour
+      line =
+          same_Some is.line neighbour
+          (sym is.there ∙ ap (λ (b : Bgp). slice_get b.neighbours end.neighbour) same
+          ∙ line_there files end file process neighbour there runs named)
+
+  -- ---- what is received of a router
+
+  sent_received : (which : HeldNumber) (at far_at : ℕ) (end far : SessionEnd) (p : Prefix) (held : BgpRec)
+      (message : BgpMsg) → slice_get (ends_of files) at ≡ Some end → end.far ≡ Inside far_at →
+      slice_get (ends_of files) far_at ≡ Some far → exported files far p held ≡ Some message →
+      IsKnownRoute which files held → IsKnownReceived which files end message
+  sent_received which at far_at end far p held message stands reached far_stands sends h file process neighbour there
+      runs named accepted =
+      by which (if_is (IsMadeOf which files far held) (exported files far p held) message
+      (exported_made which files far p held h) sends) h
+    where
+      said : (w : HeldNumber) → IfSome (said_of_neighbour w process neighbour) (IsKnown w files)
+      said w = line_known w files end file process neighbour there runs named
+
+      same : end.internal ≡ far.internal
+      same = (alike at end stands).far far_at far reached far_stands
+
+      met : NamesOther files far neighbour
+      met = names_far files at far_at end far neighbour stands reached far_stands named
+
+      address : IsKnown NextHop files (own_address files far).0
+      address = subst (IsKnown NextHop files) (sym met.address) (said NextHop)
+
+      preference : IsMadeOf LocalPref files far held message → (b : Bool) → end.internal ≡ b →
+          IsKnown LocalPref files (if b then unwrap_or message.local_pref 0 else 100)
+      preference of false is = known_unsaid LocalPref files 100 refl
+      preference of true is = by_kind of.made
+        where
+          by_kind : ((far.internal ≡ true)
+              × (message ≡ internal_message files far.router of.neighbour (own_address files far) held of.r))
+              ⊎ ((far.internal ≡ false) × ((keeps : Bool)
+              × (message ≡ external_message of.process of.neighbour (own_address files far) keeps held of.r))) →
+              IsKnown LocalPref files (unwrap_or message.local_pref 0)
+          by_kind (inl (inside, made)) =
+              subst (λ (m : BgpMsg). IsKnown LocalPref files (unwrap_or m.local_pref 0)) (sym made) of.left
+          by_kind (inr (outside, made)) = let no : true ≡ false = sym is ∙ same ∙ outside in absurd cc
+
+      hop : IsMadeOf NextHop files far held message → IsKnownRoute NextHop files held →
+          IsKnown NextHop files message.next_hop.0
+      hop of h = by_kind of.made
+        where
+          by_self : (b : Bool) → IsKnown NextHop files (if b then own_address files far else held.next_hop).0
+          by_self true = address
+          by_self false = h
+
+          by_from : (o : Option SessionEnd) →
+              IsKnown NextHop files (internal_next_hop of.neighbour (own_address files far) held o).0
+          by_from None = address
+          by_from (Some e) = by_self (of.neighbour.next_hop_self && not e.internal)
+
+          by_kind : ((far.internal ≡ true)
+              × (message ≡ internal_message files far.router of.neighbour (own_address files far) held of.r))
+              ⊎ ((far.internal ≡ false) × ((keeps : Bool)
+              × (message ≡ external_message of.process of.neighbour (own_address files far) keeps held of.r))) →
+              IsKnown NextHop files message.next_hop.0
+          by_kind (inl (inside, made)) =
+              subst (λ (m : BgpMsg). IsKnown NextHop files m.next_hop.0) (sym made)
+              (by_from (learnt_over files far.router held.from))
+          by_kind (inr (outside, made)) =
+              subst (λ (m : BgpMsg). IsKnown NextHop files m.next_hop.0) (sym made.1) address
+
+      first : IsMadeOf FirstAs files far held message → IsKnown FirstAs files (first_of message.path)
+      first of = by_kind of.made
+        where
+          asn : of.process.asn ≡ neighbour.asn
+          asn =
+              ap (λ (b : Bgp). b.asn) (same_Some of.process met.process
+              (sym (runs_there files far.router of.file of.process of.there of.runs) ∙ met.runs)) ∙ met.asn
+
+          by_kind : ((far.internal ≡ true)
+              × (message ≡ internal_message files far.router of.neighbour (own_address files far) held of.r))
+              ⊎ ((far.internal ≡ false) × ((keeps : Bool)
+              × (message ≡ external_message of.process of.neighbour (own_address files far) keeps held of.r))) →
+              IsKnown FirstAs files (first_of message.path)
+          by_kind (inl (inside, made)) =
+              subst (λ (m : BgpMsg). IsKnown FirstAs files (first_of m.path)) (sym made) of.left
+          by_kind (inr (outside, made)) =
+              subst (λ (m : BgpMsg). IsKnown FirstAs files (first_of m.path)) (sym made.1)
+              (subst (IsKnown FirstAs files) (sym asn)
+              (other_as files neighbour.asn (process.asn == neighbour.asn)
+              (sym (internal_is at end file process neighbour stands there runs named) ∙ same ∙ outside)
+              (said FirstAs)))
+
+      by : (w : HeldNumber) → IsMadeOf w files far held message → IsKnownRoute w files held →
+          IsKnownRoute w files (received neighbour end message)
+      by Weight of h = said Weight
+      by LocalPref of h = preference of end.internal refl
+      by NextHop of h = hop of h
+      by FirstAs of h = first of
+
+  -- ---- what is received of an external peer
+
+  module _ (environment : Environment) (may : IsEnvironment files environment) where
+    announced_received : (which : HeldNumber) (at len : ℕ) (end : SessionEnd) (line : Neighbour) (a : Announcement) →
+        slice_get (ends_of files) at ≡ Some end → neighbour_of files end ≡ Some line →
+        find (λ (a : Announcement). (a.end == at) && (a.len == len)) environment.announced ≡ Some a →
+        IsKnownReceived which files end (announced_message line.addr a)
+    announced_received which at len end line a stands says_line says file process neighbour there runs named accepted =
+        by which
+      where
+        said : (w : HeldNumber) → IfSome (said_of_neighbour w process neighbour) (IsKnown w files)
+        said w = line_known w files end file process neighbour there runs named
+
+        is : IsAnnouncement files a
+        is =
+            all_members (IsAnnouncement files) environment.announced may.announced a
+            (in-find (λ (a : Announcement). (a.end == at) && (a.len == len)) environment.announced a says)
+
+        place : a.end ≡ at
+        place =
+            eqb-true a.end at (and_parts (a.end == at) (a.len == len)
+            (find_passes (λ (a : Announcement). (a.end == at) && (a.len == len)) environment.announced a says)).0
+
+        same_end : is.from.0 ≡ end
+        same_end =
+            same_Some is.from.0 end (sym is.from.1 ∙ ap (slice_get (ends_of files)) place ∙ stands)
+
+        begins : (rest : List ℕ) × (a.path ≡ neighbour.asn ∷ rest)
+        begins =
+            if_is (λ (n : Neighbour). (rest : List ℕ) × (a.path ≡ n.asn ∷ rest)) (neighbour_of files is.from.0)
+            neighbour is.from.3 (ap (neighbour_of files) same_end ∙ named)
+
+        -- a peer of the own AS has no path that is taken
+        none : (process.asn == neighbour.asn) ≡ true → ⊥
+        none same =
+            let there : carries a.path process.asn ≡ true =
+            ap (λ path. carries path process.asn) begins.1
+            ∙ or_left (neighbour.asn == process.asn) (carries begins.0 process.asn)
+            (eq-eqb neighbour.asn process.asn (sym (eqb-true process.asn neighbour.asn same))) in
+            let missing : not (carries a.path process.asn) ≡ true =
+            (and_parts _ _ (and_parts _ _ accepted).0).0 in
+            let no : false ≡ true = sym (ap not there) ∙ missing in
+            cc
+
+        other : (process.asn == neighbour.asn) ≡ false
+        other = by_test (process.asn == neighbour.asn) refl
+          where
+            by_test : (b : Bool) → (process.asn == neighbour.asn) ≡ b → (process.asn == neighbour.asn) ≡ false
+            by_test true same = absurd (none same)
+            by_test false same = same
+
+        outside : end.internal ≡ false
+        outside = internal_is at end file process neighbour stands there runs named ∙ other
+
+        preference : (b : Bool) → b ≡ false → IsKnown LocalPref files (if b then 0 else 100)
+        preference true own = absurd cc
+        preference false own = known_unsaid LocalPref files 100 refl
+
+        by : (w : HeldNumber) → IsKnownRoute w files (received neighbour end (announced_message line.addr a))
+        by Weight = said Weight
+        by LocalPref = preference end.internal outside
+        by NextHop =
+            subst (λ (n : Neighbour). IsKnown NextHop files n.addr.0)
+            (same_Some neighbour line (sym named ∙ says_line)) (said NextHop)
+        by FirstAs =
+            subst (IsKnown FirstAs files) (sym (ap first_of begins.1))
+            (other_as files neighbour.asn (process.asn == neighbour.asn) other (said FirstAs))
+
+    kept : (which : HeldNumber) (p : Prefix) →
+        IsKeptBySessions files environment p (λ router rec. carries (values_of which files) (number_of which rec))
+    kept which p = record {
+      announced = λ at end neighbour a rec stands outside named says taken.
+          if_is (IsKnownRoute which files) (imported files end p (announced_message neighbour.addr a)) rec
+          (imported_known which files end p (announced_message neighbour.addr a)
+          (announced_received which at p.len end neighbour a stands named says)) taken;
+      sent = λ at far_at end far held message rec stands reached far_stands sends taken behind.
+          if_is (IsKnownRoute which files) (imported files end p message) rec
+          (imported_known which files end p message
+          (sent_received which at far_at end far p held message stands reached far_stands sends behind)) taken;
+    }
+
+-- ---- what is held
+
+pub held_known : (tracked : Tracked) (files : List File) (destination : Addr) (failures : Failures)
+    (environment : Environment) (tables : Tables) (len : ℕ) → TracksNet files tracked →
+    list_all keeps_limits files ≡ true → IsEnvironment files environment →
+    Stable files destination failures environment tables → len < LENGTHS →
+    (router : ℕ) (slot : Slot) (held : BgpRec) → slot_at tables router len ≡ Some slot →
+    slot.bgp ≡ Some held → HasHeldValues files held
+held_known tracked files destination failures environment tables len net limits may stable below router slot held there
+    holds = record {
+      weight = known Weight;
+      local_pref = known LocalPref;
+      next_hop = known NextHop;
+      first = known FirstAs;
+    }
+  where
+    known : (which : HeldNumber) → IsKnownRoute which files held
+    known which =
+        kept_held files destination failures environment tables stable len below tracked net limits
+        (λ router rec. carries (values_of which files) (number_of which rec))
+        (λ r rec is. all_members (IsKnownRoute which files)
+        (local_routes files r is.file is.process (prefix_at destination len) is.slot)
+        (locals_known which files r is.file is.process (prefix_at destination len) is.slot is.there is.runs) rec is.is)
+        (kept files environment may which (prefix_at destination len)) router held
+        (ap (option_and_then (λ (x : Slot). x.bgp)) there ∙ holds)

@@ -1,0 +1,5 @@
+pub mod EndsMeet
+pub mod Lines
+pub mod Routes
+pub mod Held
+pub mod Fields

@@ -1,0 +1,252 @@
+-- What routers make of routes and messages has known numbers.
+use Rattle.std.proofs.Common.{◌≡◌, ℕ, ◌==◌, ◌||◌, ◌⊎◌, inl, inr, not, Bool, true, false, List, [], ◌∷◌, ◌++◌}
+use Rattle.std.proofs.Common.{length, Option, Some, None, refl, if◌then◌else◌}
+use Rattle.std.specs.Prelude.{All, IfSome, nat_le, option_and_then, option_map, slice_get, unwrap_or}
+use Rattle.std.specs.List.{filter_map}
+use Rattle.std.proofs.lemmas.Bool.{and_parts}
+use Rattle.std.proofs.lemmas.List.Elements.{All-append}
+use Rattle.mw_text.specs.declared.address.Prefix.{Prefix}
+use Rattle.mw_text.specs.Address.{same_prefix}
+use Rattle.ios_ast.specs.declared.bgp.Bgp.{Bgp}
+use Rattle.ios_ast.specs.declared.bgp.Neighbour.{Neighbour}
+use Rattle.ios_ast.specs.declared.file.File.{File}
+use Rattle.ios_ast.specs.declared.file.Use.{Use}
+use Rattle.ios_ast.specs.declared.policies.SetAct.{SetAct}
+use Rattle.ios_ast.specs.declared.policies.SetAct.TheVariants as set
+use Rattle.ios_ast.specs.Deciding.{carries}
+use Rattle.ios_ast.specs.Maps.{through_map}
+use Rattle.ios_ast.specs.Paths.{first_of}
+use Rattle.ios_ast.specs.Setting.{Attributes, set_one}
+use Rattle.route_record.specs.declared.BgpMsg.{BgpMsg}
+use Rattle.route_record.specs.declared.BgpRec.{BgpRec}
+use Rattle.route_record.specs.declared.Origin.{Origin as OriginOf}
+use Rattle.route_record.specs.declared.Origin.TheVariants.{Igp, Incomplete}
+use Rattle.route_record.specs.declared.Slot.{Slot}
+use Rattle.net_parts.specs.declared.sessions.SessionEnd.{SessionEnd}
+use Rattle.net_parts.specs.Exports as exports
+use Rattle.net_parts.specs.Exports.{exported, external_message, imported, internal_message, is_acceptable, own_address}
+use Rattle.net_parts.specs.Exports.{received}
+use Rattle.net_parts.specs.Mapping.{attributes_of, with_attributes}
+use Rattle.net_parts.specs.Origins.{by_network, entry_metric, into_bgp, is_default, local_route, local_routes}
+use Rattle.net_parts.specs.Origins.{local_through, taken_metric}
+use Rattle.net_parts.specs.Sessions.{neighbour_of}
+use Rattle.bgp_shapes.proofs.LengthLaw.{if_then}
+use Rattle.rebuilt_routes.proofs.Options.{if_found, if_true}
+use Rattle.rebuilt_routes.proofs.Plain.{all_given}
+use Rattle.held_values.specs.declared.numbers.HeldNumber.{HeldNumber}
+use Rattle.held_values.specs.declared.numbers.HeldNumber.TheVariants.{Weight, LocalPref, NextHop, FirstAs}
+use Rattle.held_values.specs.Values.{number_of, unsaid}
+use Rattle.held_values.proofs.Lines.{HasKnownLines, IsKnown, IsKnownSet, known_lines, known_unsaid, through_known}
+
+-- ---- what maps see of a route
+
+abbrev pub IsKnownIn : HeldNumber → List File → Attributes → Type 0
+IsKnownIn Weight files r = IsKnown Weight files r.weight
+IsKnownIn LocalPref files r = IsKnown LocalPref files r.local_pref
+IsKnownIn NextHop files r = Unit {0}
+IsKnownIn FirstAs files r = IsKnown FirstAs files (first_of r.path)
+
+abbrev pub IsKnownRoute : HeldNumber → List File → BgpRec → Type 0
+IsKnownRoute which files rec = IsKnown which files (number_of which rec)
+
+set_known : (which : HeldNumber) (files : List File) (external : Bool) (r : Attributes) (line : SetAct) →
+    IsKnownSet which files line → IsKnownIn which files r → IsKnownIn which files (set_one external r line)
+set_known Weight files external r (set.LocalPref n) said h = h
+set_known Weight files external r (set.Metric n) said h = h
+set_known Weight files external r (set.Weight n) said h = said
+set_known Weight files external r set.NoCommunity said h = h
+set_known Weight files external r (set.Community values additive) said h = h
+set_known Weight files external r (set.Origin igp) said h = h
+set_known Weight files external r (set.Prepend numbers) said h = h
+set_known Weight files external r (set.Type1 type1) said h = h
+set_known LocalPref files external r (set.LocalPref n) said h = said
+set_known LocalPref files external r (set.Metric n) said h = h
+set_known LocalPref files external r (set.Weight n) said h = h
+set_known LocalPref files external r set.NoCommunity said h = h
+set_known LocalPref files external r (set.Community values additive) said h = h
+set_known LocalPref files external r (set.Origin igp) said h = h
+set_known LocalPref files external r (set.Prepend numbers) said h = h
+set_known LocalPref files external r (set.Type1 type1) said h = h
+set_known NextHop files external r line said h = tt
+set_known FirstAs files external r (set.LocalPref n) said h = h
+set_known FirstAs files external r (set.Metric n) said h = h
+set_known FirstAs files external r (set.Weight n) said h = h
+set_known FirstAs files external r set.NoCommunity said h = h
+set_known FirstAs files external r (set.Community values additive) said h = h
+set_known FirstAs files external r (set.Origin igp) said h = h
+set_known FirstAs files external r (set.Prepend numbers) said h = put external numbers said
+  where
+    put : (b : Bool) (ns : List ℕ) → IfSome (slice_get ns 0) (IsKnown FirstAs files) →
+        IsKnown FirstAs files (first_of (if b then ns ++ r.path else r.path))
+    put false ns said = h
+    put true [] said = h
+    put true (n ∷ ns) said = said
+set_known FirstAs files external r (set.Type1 type1) said h = h
+
+seen : (which : HeldNumber) (files : List File) (rec : BgpRec) → IsKnownRoute which files rec →
+    IsKnownIn which files (attributes_of rec)
+seen Weight files rec h = h
+seen LocalPref files rec h = h
+seen NextHop files rec h = tt
+seen FirstAs files rec h = h
+
+left_known : (which : HeldNumber) (files : List File) (rec : BgpRec) (r : Attributes) → IsKnownRoute which files rec →
+    IsKnownIn which files r → IsKnownRoute which files (with_attributes rec r)
+left_known Weight files rec r h left = left
+left_known LocalPref files rec r h left = left
+left_known NextHop files rec r h left = h
+left_known FirstAs files rec r h left = left
+
+module _ (which : HeldNumber) (files : List File) where
+  abbrev IsRoute : BgpRec → Type 0
+  IsRoute rec = IsKnownRoute which files rec
+
+  map_known : (file : File) (process : Bgp) → HasKnownLines which files file process → (used : Option Use) (p : Prefix)
+      (external : Bool) (rec : BgpRec) → IsRoute rec →
+      IfSome (through_map file.policies used p external (attributes_of rec)) (IsKnownIn which files)
+  map_known file process lines used p external rec h =
+      through_known which files (IsKnownIn which files) external (set_known which files external) file process lines
+      used p (attributes_of rec) (seen which files rec h)
+
+  -- ---- local routes
+
+  local_known : (file : File) (process : Bgp) → HasKnownLines which files file process → (used : Option Use)
+      (p : Prefix) (origin : OriginOf) (med : ℕ) → IfSome (local_through file used p (local_route origin med)) IsRoute
+  local_known file process lines used p origin med =
+      by (through_map file.policies used p false (attributes_of (local_route origin med)))
+      (map_known file process lines used p false (local_route origin med) bare)
+    where
+      no_line : (w : HeldNumber) → carries (unsaid w) (number_of w (local_route origin med)) ≡ true
+      no_line Weight = refl
+      no_line LocalPref = refl
+      no_line NextHop = refl
+      no_line FirstAs = refl
+
+      bare : IsRoute (local_route origin med)
+      bare = known_unsaid which files (number_of which (local_route origin med)) (no_line which)
+
+      by : (o : Option Attributes) → IfSome o (IsKnownIn which files) →
+          IfSome (option_map (with_attributes (local_route origin med)) o) IsRoute
+      by None left = tt
+      by (Some r) left = left_known which files (local_route origin med) r bare left
+
+  pub locals_known : (router : ℕ) (file : File) (process : Bgp) (p : Prefix) (slot : Slot) →
+      slice_get files router ≡ Some file → file.bgp ≡ Some process →
+      All IsRoute (local_routes files router file process p slot)
+  unfolding local_routes
+  locals_known router file process p slot there runs =
+      All-append IsRoute (filter_map (by_network file p slot) process.networks)
+      (filter_map (into_bgp files router file p slot) process.redistribute)
+      (all_given IsRoute (by_network file p slot) (λ line.
+      if_then IsRoute _ (λ entry. if_then IsRoute _ (λ med.
+      if_true IsRoute (same_prefix line.prefix p) _ (λ same. local_known file process lines line.map p Igp med))
+      (entry_metric slot entry.source)) slot.rib) process.networks)
+      (all_given IsRoute (into_bgp files router file p slot) (λ line.
+      if_then IsRoute _ (λ entry. if_then IsRoute _ (λ metric.
+      by_default (is_default p) _
+      (local_known file process lines line.map p Incomplete (unwrap_or line.metric metric)))
+      (taken_metric files router p slot line entry.source)) slot.rib) process.redistribute)
+    where
+      lines : HasKnownLines which files file process
+      lines = known_lines which files router file process there runs
+
+      by_default : (b : Bool) (o : Option BgpRec) → IfSome o IsRoute → IfSome (if b then None else o) IsRoute
+      by_default true o holds = tt
+      by_default false o holds = holds
+
+  -- ---- import
+
+  -- the route as it is received is known, where the message is acceptable
+  abbrev pub IsKnownReceived : SessionEnd → BgpMsg → Type 0
+  IsKnownReceived end message =
+      (file : File) (process : Bgp) (neighbour : Neighbour) → slice_get files end.router ≡ Some file →
+      file.bgp ≡ Some process → neighbour_of files end ≡ Some neighbour →
+      is_acceptable files end.router process message ≡ true → IsRoute (received neighbour end message)
+
+  pub imported_known : (end : SessionEnd) (p : Prefix) (message : BgpMsg) → IsKnownReceived end message →
+      IfSome (imported files end p message) IsRoute
+  unfolding imported
+  imported_known end p message known =
+      if_found IsRoute _ (slice_get files end.router) (λ file there. if_found IsRoute _ file.bgp (λ process runs.
+      if_found IsRoute _ (neighbour_of files end) (λ neighbour named.
+      if_true IsRoute _ _ (λ passes. let h = known file process neighbour there runs named (and_parts _ _ passes).0 in
+      by neighbour h (through_map file.policies neighbour.map_in p (not end.internal)
+      (attributes_of (received neighbour end message)))
+      (map_known file process (known_lines which files end.router file process there runs) neighbour.map_in p
+      (not end.internal) (received neighbour end message) h)))))
+    where
+      by : (neighbour : Neighbour) → IsRoute (received neighbour end message) → (o : Option Attributes) →
+          IfSome o (IsKnownIn which files) →
+          IfSome (option_and_then (λ r. exports.if_short (with_attributes (received neighbour end message) r)) o)
+          IsRoute
+      by neighbour h None left = tt
+      by neighbour h (Some r) left =
+          if_true IsRoute (nat_le (length r.path) exports.most_numbers)
+          (Some (with_attributes (received neighbour end message) r))
+          (λ few. left_known which files (received neighbour end message) r h left)
+
+  -- ---- export
+
+  -- a message of what a map left, over an internal session or over an external one
+  pub record IsMadeOf (end : SessionEnd) (held : BgpRec) (message : BgpMsg) : Type 0 where
+    pub file : File
+    pub process : Bgp
+    pub there : slice_get files end.router ≡ Some file
+    pub runs : file.bgp ≡ Some process
+    pub neighbour : Neighbour
+    pub r : Attributes
+    pub left : IsKnownIn which files r
+    pub made : ((end.internal ≡ true) × (message ≡ internal_message files end.router neighbour (own_address files end)
+        held r))
+        ⊎ ((end.internal ≡ false) × ((keeps : Bool)
+        × (message ≡ external_message process neighbour (own_address files end) keeps held r)))
+
+  pub exported_made : (end : SessionEnd) (p : Prefix) (held : BgpRec) → IsRoute held →
+      IfSome (exported files end p held) (IsMadeOf end held)
+  unfolding exported
+  exported_made end p held h =
+      let P = IsMadeOf end held in
+      if_found P _ (slice_get files end.router) (λ file there. if_found P _ file.bgp (λ process runs.
+      if_then P _ (λ neighbour. if_true P _ _ (λ passes. by file process there runs neighbour
+      (through_map file.policies neighbour.map_out p (not end.internal) (attributes_of held))
+      (map_known file process (known_lines which files end.router file process there runs) neighbour.map_out p
+      (not end.internal) held h))) (neighbour_of files end)))
+    where
+      kind : (file : File) (process : Bgp) → slice_get files end.router ≡ Some file → file.bgp ≡ Some process →
+          (neighbour : Neighbour) (keeps : Bool) (r : Attributes) → IsKnownIn which files r → (b : Bool) →
+          end.internal ≡ b → IsMadeOf end held (if b
+          then internal_message files end.router neighbour (own_address files end) held r
+          else external_message process neighbour (own_address files end) keeps held r)
+      kind file process there runs neighbour keeps r left true is = record {
+        file = file;
+        process = process;
+        there = there;
+        runs = runs;
+        neighbour = neighbour;
+        r = r;
+        left = left;
+        made = inl (is, refl);
+      }
+      kind file process there runs neighbour keeps r left false is = record {
+        file = file;
+        process = process;
+        there = there;
+        runs = runs;
+        neighbour = neighbour;
+        r = r;
+        left = left;
+        made = inr (is, (keeps, refl));
+      }
+
+      by : (file : File) (process : Bgp) → slice_get files end.router ≡ Some file → file.bgp ≡ Some process →
+          (neighbour : Neighbour) → (o : Option Attributes) → IfSome o (IsKnownIn which files) →
+          IfSome (option_map (λ r. if end.internal
+          then internal_message files end.router neighbour (own_address files end) held r
+          else external_message process neighbour (own_address files end)
+          ((length held.path == 0) || exports.sets_metric file.policies neighbour.map_out p (attributes_of held))
+          held r) o) (IsMadeOf end held)
+      by file process there runs neighbour None left = tt
+      by file process there runs neighbour (Some r) left =
+          kind file process there runs neighbour
+          ((length held.path == 0) || exports.sets_metric file.policies neighbour.map_out p (attributes_of held)) r left
+          end.internal refl

@@ -1,0 +1,29 @@
+-- Fields for the numbers of held BGP routes.
+use Rattle.std.specs.Prelude.{ℕ, List, Option, Some, None}
+use Rattle.ios_ast.specs.declared.file.File.{File}
+use Rattle.ios_ast.specs.Paths.{first_of}
+use Rattle.route_record.specs.declared.BgpRec.{BgpRec}
+use Rattle.slot_places.specs.Values.{FitsField, field_of, once, put_once}
+use Rattle.held_values.specs.declared.values.HeldValues.{HeldValues}
+use Rattle.held_values.specs.Values.{firsts_of, next_hops_of, preferences_of, weights_of}
+
+-- a value that may be there, behind others unless it is one of them
+abbrev pub put_option : List ℕ → Option ℕ → List ℕ
+put_option held None = held
+put_option held (Some n) = put_once held n
+
+-- those for the values that lines of the files say
+abbrev pub values_room : List File → HeldValues
+values_room files = record {
+  weight = field_of (once (weights_of files));
+  local_pref = field_of (once (preferences_of files));
+  next_hop = field_of (once (next_hops_of files));
+  first = field_of (once (firsts_of files));
+}
+
+-- the fields have room for the numbers of the route
+pub record FitsHeldValues (room : HeldValues) (rec : BgpRec) : Type 0 where
+  pub weight : FitsField room.weight rec.weight
+  pub local_pref : FitsField room.local_pref rec.local_pref
+  pub next_hop : FitsField room.next_hop rec.next_hop.0
+  pub first : FitsField room.first (first_of rec.path)

@@ -1,0 +1,86 @@
+-- Which values the numbers of a held BGP route can have, whatever announcements come and whatever links fail (RFC 4271,
+-- sections 5.1.2, 5.1.3 and 5.1.5; Cisco IOS, `neighbor weight`, `set weight`, `set local-preference` and `set as-path
+-- prepend`).
+use Rattle.std.specs.Prelude.{◌≡◌, ℕ, ◌==◌, true, List, [], ◌∷◌, ◌++◌, Option, Some, None, slice_get, if◌then◌else◌}
+use Rattle.std.specs.List.{filter_map, flat_map}
+use Rattle.std.specs.Option.{option_map_or}
+use Rattle.ios_ast.specs.declared.bgp.Bgp.{Bgp}
+use Rattle.ios_ast.specs.declared.bgp.Neighbour.{Neighbour}
+use Rattle.ios_ast.specs.declared.file.File.{File}
+use Rattle.ios_ast.specs.declared.policies.MapEntry.{MapEntry}
+use Rattle.ios_ast.specs.declared.policies.RouteMap.{RouteMap}
+use Rattle.ios_ast.specs.declared.policies.SetAct.{SetAct}
+use Rattle.ios_ast.specs.declared.policies.SetAct.TheVariants as set
+use Rattle.ios_ast.specs.Deciding.{carries}
+use Rattle.ios_ast.specs.Paths.{first_of}
+use Rattle.route_record.specs.declared.BgpRec.{BgpRec}
+use Rattle.held_values.specs.declared.numbers.HeldNumber.{HeldNumber}
+use Rattle.held_values.specs.declared.numbers.HeldNumber.TheVariants.{Weight, LocalPref, NextHop, FirstAs}
+
+-- the number of a route; the first AS number of an empty path counts as 0
+abbrev pub number_of : HeldNumber → BgpRec → ℕ
+number_of Weight rec = rec.weight
+number_of LocalPref rec = rec.local_pref
+number_of NextHop rec = rec.next_hop.0
+number_of FirstAs rec = first_of rec.path
+
+-- what it can be without any line that says it: the weight of a local route or of another, the local preference of a
+-- local route or one of an external peer, and no next hop and no path
+abbrev pub unsaid : HeldNumber → List ℕ
+unsaid Weight = 0 ∷ 32768 ∷ []
+unsaid LocalPref = 100 ∷ []
+unsaid NextHop = 0 ∷ []
+unsaid FirstAs = 0 ∷ []
+
+-- what a neighbour line says: the weight of all that is learnt of the neighbour, the address that is the next hop, and
+-- the AS number that stands in front of each path of another AS
+abbrev pub said_of_neighbour : HeldNumber → Bgp → Neighbour → Option ℕ
+said_of_neighbour Weight process neighbour = Some neighbour.weight
+said_of_neighbour LocalPref process neighbour = None
+said_of_neighbour NextHop process neighbour = Some neighbour.addr.0
+said_of_neighbour FirstAs process neighbour = if process.asn == neighbour.asn then None else Some neighbour.asn
+
+-- what a set line says: of numbers that are put in front of the path the first
+abbrev pub said_of_set : HeldNumber → SetAct → Option ℕ
+said_of_set Weight (set.Weight n) = Some n
+said_of_set LocalPref (set.LocalPref n) = Some n
+said_of_set FirstAs (set.Prepend numbers) = slice_get numbers 0
+said_of_set _ _ = None
+
+abbrev pub said_in_entry : HeldNumber → MapEntry → List ℕ
+said_in_entry which entry = filter_map (said_of_set which) entry.sets
+
+abbrev pub said_in_map : HeldNumber → RouteMap → List ℕ
+said_in_map which map = flat_map (said_in_entry which) map.entries
+
+-- by the lines of a BGP process and by the route maps beside it; by a file without one nothing
+abbrev pub said_by_process : HeldNumber → File → Bgp → List ℕ
+said_by_process which file process =
+    filter_map (said_of_neighbour which process) process.neighbours ++ flat_map (said_in_map which) file.policies.maps
+
+abbrev pub said_in_file : HeldNumber → File → List ℕ
+said_in_file which file = option_map_or (said_by_process which file) file.bgp []
+
+-- all that it can be
+unfoldable pub values_of : HeldNumber → List File → List ℕ
+values_of which files = unsaid which ++ flat_map (said_in_file which) files
+
+-- the weights, local preferences and next hops of held routes, and the first AS numbers of their paths
+abbrev pub weights_of : List File → List ℕ
+weights_of files = values_of Weight files
+
+abbrev pub preferences_of : List File → List ℕ
+preferences_of files = values_of LocalPref files
+
+abbrev pub next_hops_of : List File → List ℕ
+next_hops_of files = values_of NextHop files
+
+abbrev pub firsts_of : List File → List ℕ
+firsts_of files = values_of FirstAs files
+
+-- the numbers of the route are among them
+pub record HasHeldValues (files : List File) (rec : BgpRec) : Type 0 where
+  pub weight : carries (weights_of files) rec.weight ≡ true
+  pub local_pref : carries (preferences_of files) rec.local_pref ≡ true
+  pub next_hop : carries (next_hops_of files) rec.next_hop.0 ≡ true
+  pub first : carries (firsts_of files) (first_of rec.path) ≡ true

@@ -1,0 +1,177 @@
+//! The values that the numbers of held BGP routes can have, and fields that tell them.
+
+ghost use Rattle.std.specs.Prelude.{◌≡◌, IfOk, OnOk, fold, slice_get};
+ghost use Rattle.std.specs.List.{filter_map, flat_map};
+ghost use Rattle.held_values.specs.Rooms.{put_option, values_room};
+ghost use Rattle.held_values.specs.Values as values;
+ghost use Rattle.slot_places.specs.Values as fields;
+
+use crate::numbers::HeldNumber;
+use ios_ast::{Bgp, File, MapEntry, Neighbour, RouteMap, SetAct};
+use mw_text::List;
+use slot_places::Field;
+use slot_places::fields::{field_of, put_once};
+use std::alloc::{AllocError, Global};
+
+/// The values that the weight, the local preference and the next hop of a held route can have, and the first AS number
+/// of its path.
+#[derive(Drop)]
+pub struct HeldValues {
+    pub weight: Field,
+    pub local_pref: Field,
+    pub next_hop: Field,
+    pub first: Field,
+}
+
+// ---- what one line says
+
+fn neighbour_says(which: HeldNumber, process: &Bgp, neighbour: &Neighbour) -> Option<u32>
+    ensures { result ≡ values.said_of_neighbour which process.now neighbour.now }
+{
+    match which {
+        HeldNumber::Weight => Some(neighbour.weight),
+        HeldNumber::LocalPref => None,
+        HeldNumber::NextHop => Some(neighbour.addr.0),
+        HeldNumber::FirstAs => {
+            if process.asn == neighbour.asn {
+                None
+            } else {
+                Some(neighbour.asn)
+            }
+        }
+    }
+}
+
+fn first_number(numbers: &[u32]) -> Option<u32>
+    ensures { result ≡ slice_get numbers.now 0 }
+{
+    match numbers.get(0) {
+        None => None,
+        Some(n) => Some(*n),
+    }
+}
+
+fn set_says(which: HeldNumber, line: &SetAct) -> Option<u32>
+    ensures { result ≡ values.said_of_set which line.now }
+{
+    match (which, line) {
+        (HeldNumber::Weight, SetAct::Weight(n)) => Some(*n),
+        (HeldNumber::LocalPref, SetAct::LocalPref(n)) => Some(*n),
+        (HeldNumber::FirstAs, SetAct::Prepend(numbers)) => first_number(numbers.as_slice()),
+        _ => None,
+    }
+}
+
+// ---- what lines say, each value once
+
+fn put_said(held: &mut List<u32>, said: Option<u32>) -> Result<(), AllocError>
+    ensures { OnOk result (held.new ≡ put_option held.old said) }
+{
+    match said {
+        None => Ok(()),
+        Some(n) => put_once(held, n),
+    }
+}
+
+fn put_neighbours(held: &mut List<u32>, which: HeldNumber, process: &Bgp) -> Result<(), AllocError>
+    ensures { OnOk result (held.new ≡ fold fields.put_once held.old
+        (filter_map (values.said_of_neighbour which process.now) process.now.neighbours)) }
+{
+    for neighbour in process.neighbours.as_slice() {
+        put_said(held, neighbour_says(which, process, neighbour))?;
+    }
+    Ok(())
+}
+
+fn put_entry(held: &mut List<u32>, which: HeldNumber, entry: &MapEntry) -> Result<(), AllocError>
+    ensures { OnOk result (held.new ≡ fold fields.put_once held.old (values.said_in_entry which entry.now)) }
+{
+    for line in entry.sets.as_slice() {
+        put_said(held, set_says(which, line))?;
+    }
+    Ok(())
+}
+
+fn put_map(held: &mut List<u32>, which: HeldNumber, map: &RouteMap) -> Result<(), AllocError>
+    ensures { OnOk result (held.new ≡ fold fields.put_once held.old (values.said_in_map which map.now)) }
+{
+    for entry in map.entries.as_slice() {
+        put_entry(held, which, entry)?;
+    }
+    Ok(())
+}
+
+fn put_maps(held: &mut List<u32>, which: HeldNumber, file: &File) -> Result<(), AllocError>
+    ensures { OnOk result (held.new
+        ≡ fold fields.put_once held.old (flat_map (values.said_in_map which) file.now.policies.maps)) }
+{
+    for map in file.policies.maps.as_slice() {
+        put_map(held, which, map)?;
+    }
+    Ok(())
+}
+
+fn put_file(held: &mut List<u32>, which: HeldNumber, file: &File) -> Result<(), AllocError>
+    ensures { OnOk result (held.new ≡ fold fields.put_once held.old (values.said_in_file which file.now)) }
+{
+    match &file.bgp {
+        None => Ok(()),
+        Some(process) => {
+            put_neighbours(held, which, process)?;
+            put_maps(held, which, file)
+        }
+    }
+}
+
+fn put_files(held: &mut List<u32>, which: HeldNumber, files: &[File]) -> Result<(), AllocError>
+    ensures { OnOk result (held.new
+        ≡ fold fields.put_once held.old (flat_map (values.said_in_file which) files.now)) }
+{
+    for file in files {
+        put_file(held, which, file)?;
+    }
+    Ok(())
+}
+
+fn put_unsaid(held: &mut List<u32>, which: HeldNumber) -> Result<(), AllocError>
+    ensures { OnOk result (held.new ≡ fold fields.put_once held.old (values.unsaid which)) }
+{
+    match which {
+        HeldNumber::Weight => {
+            put_once(held, 0)?;
+            put_once(held, 32768)
+        }
+        HeldNumber::LocalPref => put_once(held, 100),
+        HeldNumber::NextHop => put_once(held, 0),
+        HeldNumber::FirstAs => put_once(held, 0),
+    }
+}
+
+// ---- fields
+
+#[tactic(auto, using(crate::proofs::Fields::values_once))]
+fn field_for(alloc: Global, which: HeldNumber, files: &[File]) -> Result<Field, AllocError>
+    ensures { IfOk result (λ field. field ≡ fields.field_of (fields.once (values.values_of which files.now))) }
+{
+    let mut held = List::new(alloc);
+    put_unsaid(&mut held, which)?;
+    put_files(&mut held, which, files)?;
+    Ok(field_of(held))
+}
+
+/// Fields for the numbers of the BGP routes that routers of these files can hold in a stable routing: few values are
+/// told by their place among them, many by their bits.
+pub fn held_values(alloc: Global, files: &[File]) -> Result<HeldValues, AllocError>
+    ensures { IfOk result (λ room. room ≡ values_room files.now) }
+{
+    let weight = field_for(alloc, HeldNumber::Weight, files)?;
+    let local_pref = field_for(alloc, HeldNumber::LocalPref, files)?;
+    let next_hop = field_for(alloc, HeldNumber::NextHop, files)?;
+    let first = field_for(alloc, HeldNumber::FirstAs, files)?;
+    Ok(HeldValues {
+        weight,
+        local_pref,
+        next_hop,
+        first,
+    })
+}
