@@ -406,12 +406,12 @@ spaced_bound vars clauses es small log =
 
 -- an outcome that comes with the budget as its count comes with no more than a log can have
 pub unknown_within : {E : Type 0} (before now : Option (List ℕ)) (vars : ℕ) (cs : List Clause) (budget : ℕ)
-    (r : Result Outcome E)
-    → list_all (λ c. is_below vars c.lits) cs ≡ true → IfOk r (λ o. IsLogged before now cs budget o)
+    (tolds : List (Option (List ℕ))) (r : Result Outcome E)
+    → list_all (λ c. is_below vars c.lits) cs ≡ true → IfOk r (λ o. IsLogged before now cs budget tolds o)
     → IfOk r (λ o. OnUnknown o (λ added. added ≡ budget))
     → IfOk r (λ o. OnUnknown o (λ added. added ≤ 3 ^ vars * (3 ^ vars + 1)))
-unknown_within before now vars cs budget (Ok Unsat) small l same = tt
-unknown_within before now vars cs budget (Ok (Sat values)) small l same = tt
-unknown_within before now vars cs budget (Ok (Unknown added)) small l same =
+unknown_within before now vars cs budget tolds (Ok Unsat) small l same = tt
+unknown_within before now vars cs budget tolds (Ok (Sat values)) small l same = tt
+unknown_within before now vars cs budget tolds (Ok (Unknown added)) small l same =
     subst (λ n. n ≤ 3 ^ vars * (3 ^ vars + 1)) (l.shows.1 ∙ sym same) (spaced_bound vars cs l.entries small l.log)
-unknown_within before now vars cs budget (Err e) small l same = tt
+unknown_within before now vars cs budget tolds (Err e) small l same = tt

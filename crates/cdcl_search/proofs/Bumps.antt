@@ -5,7 +5,7 @@ use Rattle.std.proofs.Common.{add-zero, eqb-true, get_or, map, None, set, suc, t
 use Rattle.std.specs.Prelude.{IfSome}
 use Rattle.deciders.specs.Told.{TellsBump}
 use Rattle.std.proofs.lemmas.Bool.{cases_Bool, cases_lt, eq-eqb, false≢true}
-use Rattle.std.proofs.lemmas.List.{append-nil, length-set, map-append}
+use Rattle.std.proofs.lemmas.List.{append-nil, length-map, length-set, map-append}
 use Rattle.std.proofs.lemmas.Option.{same_Some, slice_get_within}
 use Rattle.resolution_check.specs.declared.log.Lit.{Lit}
 use Rattle.resolution_check.specs.declared.log.Clause.{Clause}
@@ -126,6 +126,11 @@ untold_next tolds at new before none own bumps low there = elim (cases_lt own at
       sym (slice_get-set_same tolds at new (omega arith)) ∙ ap (slice_get (set tolds at new)) (sym same) ∙ there in
       subst (λ (o : Option (List ℕ)). IfSome o (λ b. b ≡ [])) (same_Some _ _ is) none
 ]
+
+-- as many deciders tell the same
+pub tolds_long : {A : Type 0} (f : A → Option (List ℕ)) (old new : List A) → map f new ≡ map f old
+    → length new ≡ length old
+tolds_long f old new same = sym (length-map new f) ∙ ap length same ∙ length-map old f
 
 -- there is no decider at the place
 pub tells_none : (tolds : List (Option (List ℕ))) (at : ℕ) (vars : List ℕ) → (at < length tolds → ⊥)

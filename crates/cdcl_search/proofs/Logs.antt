@@ -39,8 +39,7 @@ use Rattle.watched_search.proofs.Sets.{earned_addition, sets_more}
 use Rattle.cdcl_search.specs.declared.outcome.Outcome.{Outcome}
 use Rattle.cdcl_search.specs.declared.outcome.Outcome.TheVariants.{Unsat, Sat, Unknown}
 use Rattle.cdcl_search.specs.Outcomes.{input_entries, adds_or_deletes, IsSearchLog, IsCut, IsLogged, OnUnsat}
-use Rattle.cdcl_search.specs.Going.{IsDone, IsGoing, IsRefuted}
-use Rattle.cdcl_search.specs.Told.{IsTold}
+use Rattle.cdcl_search.specs.Going.{IsGoing, IsRefuted}
 use Rattle.cdcl_search.specs.Turns.{AreUntold, IsTurn, TellBumps, TellsAt, vars_of}
 use Rattle.cdcl_search.proofs.Bumps.{bumps_more, untold_inputs}
 use Rattle.cdcl_search.proofs.Runs.{runs-push}
@@ -544,44 +543,41 @@ module _ (before middle : Option (List ℕ)) (ins : List Clause) (held : ℕ →
 
 module _ (before now : Option (List ℕ)) (ins : List Clause) (held : ℕ → Option Clause) (next added runs budget : ℕ)
     (tolds : List (Option (List ℕ))) (g : IsGoing before now ins held next added runs tolds) where
-  told_now : IsTold before now ins tolds
-  told_now = record { entries = g.entries; log = g.log; text = g.text; bumps = g.bumps }
-
-  pub done_sat : (values : List Bool) → added < budget → IsDone before now ins budget tolds (Sat values)
+  pub done_sat : (values : List Bool) → added < budget → IsLogged before now ins budget tolds (Sat values)
   done_sat values few = record {
-    logged = record {
-      entries = g.entries;
-      log = g.log;
-      shows = (g.not_empty, omega (arith, g.count));
-      text = g.text;
-    };
-    told = told_now;
+    entries = g.entries;
+    log = g.log;
+    shows = (g.not_empty, omega (arith, g.count));
+    text = g.text;
+    bumps = g.bumps;
   }
 
-  pub done_unknown : added ≡ budget → IsDone before now ins budget tolds (Unknown budget)
+  pub done_unknown : added ≡ budget → IsLogged before now ins budget tolds (Unknown budget)
   done_unknown e = record {
-    logged = record { entries = g.entries; log = g.log; shows = (g.not_empty, g.count ∙ e); text = g.text };
-    told = told_now;
+    entries = g.entries;
+    log = g.log;
+    shows = (g.not_empty, g.count ∙ e);
+    text = g.text;
+    bumps = g.bumps;
   }
 
 pub done_unsat : (before now : Option (List ℕ)) (ins : List Clause) (added budget : ℕ)
     (tolds : List (Option (List ℕ))) → added ≤ budget → IsRefuted before now ins added tolds
-    → IsDone before now ins budget tolds Unsat
+    → IsLogged before now ins budget tolds Unsat
 done_unsat before now ins added budget tolds few r = record {
-  logged = record {
-    entries = r.entries;
-    log = r.log;
-    shows = (r.empty, omega (arith, r.count));
-    text = r.text;
-  };
-  told = record { entries = r.entries; log = r.log; text = r.text; bumps = r.bumps };
+  entries = r.entries;
+  log = r.log;
+  shows = (r.empty, omega (arith, r.count));
+  text = r.text;
+  bumps = r.bumps;
 }
 
 -- where the log shows it, no assignment satisfies the clauses
-pub unsat_shown : {E : Type 0} (before now : Option (List ℕ)) (cs : List Clause) (budget : ℕ) (r : Result Outcome E)
-    → IfOk r (λ o. IsLogged before now cs budget o) → IfOk r (λ o. OnUnsat o (IsUnsatisfiable cs))
-unsat_shown before now cs budget (Ok Unsat) l =
+pub unsat_shown : {E : Type 0} (before now : Option (List ℕ)) (cs : List Clause) (budget : ℕ)
+    (tolds : List (Option (List ℕ))) (r : Result Outcome E) → IfOk r (λ o. IsLogged before now cs budget tolds o)
+    → IfOk r (λ o. OnUnsat o (IsUnsatisfiable cs))
+unsat_shown before now cs budget tolds (Ok Unsat) l =
     subst IsUnsatisfiable (inputs_of cs l.entries l.log) (unsatisfiable l.entries l.log.good l.shows.0)
-unsat_shown before now cs budget (Ok (Sat values)) l = tt
-unsat_shown before now cs budget (Ok (Unknown added)) l = tt
-unsat_shown before now cs budget (Err e) l = tt
+unsat_shown before now cs budget tolds (Ok (Sat values)) l = tt
+unsat_shown before now cs budget tolds (Ok (Unknown added)) l = tt
+unsat_shown before now cs budget tolds (Err e) l = tt

@@ -35,8 +35,8 @@ use Rattle.watched_search.proofs.Sets.{numbered_last, sets_back, sets_then, view
 use Rattle.watched_search.proofs.Starts.{below_same, held_below, input_below, only_has, only_is}
 use Rattle.cdcl_search.specs.declared.outcome.Outcome.{Outcome}
 use Rattle.cdcl_search.specs.declared.outcome.Outcome.TheVariants.{Sat, Unknown, Unsat}
-use Rattle.cdcl_search.specs.Outcomes.{IsCut, OnSat, input_entries}
-use Rattle.cdcl_search.specs.Going.{Cuts, GoesOn, IsDone, IsGoing, IsReady, Refutes}
+use Rattle.cdcl_search.specs.Outcomes.{IsCut, IsLogged, OnSat, input_entries}
+use Rattle.cdcl_search.specs.Going.{Cuts, GoesOn, IsGoing, IsReady, Refutes}
 use Rattle.cdcl_search.specs.Turns.{AreUntold, TellsAt, vars_of}
 use Rattle.cdcl_search.proofs.Logs.{addition_text, cut_more, cut_within, going_more, going_same, going_start}
 use Rattle.cdcl_search.proofs.Logs.{done_unsat, refuted_more}
@@ -310,7 +310,7 @@ module _ (vars id n : ℕ) (inputs : List Clause) (a : Store) (steps lits : List
     -- the line was written
     pub refuted_done : (more_tolds : List (Option (List ℕ))) → TellsAt tolds more_tolds 0 (vars_of lits)
         → Takes old new (line_of (Add id (record { lits = lits }) chain))
-        → IsDone before new inputs budget more_tolds Unsat
+        → IsLogged before new inputs budget more_tolds Unsat
     refuted_done more_tolds tells more =
         done_unsat before new inputs 1 budget more_tolds some
         (refuted_more before old inputs (clause_numbered (numbered_from 1 inputs)) id 0 0 tolds start lits chain

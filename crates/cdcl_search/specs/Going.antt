@@ -14,9 +14,7 @@ use Rattle.watched_search.specs.Sets.{AreSameSets}
 use Rattle.watched_search.specs.Starts.{AreBelow}
 use Rattle.watched_search.specs.Trails.{Assigned}
 use Rattle.watched_search.specs.Watches.{IsKept}
-use Rattle.cdcl_search.specs.declared.outcome.Outcome.{Outcome}
-use Rattle.cdcl_search.specs.Outcomes.{IsSearchLog, IsCut, IsLogged}
-use Rattle.cdcl_search.specs.Told.{IsTold}
+use Rattle.cdcl_search.specs.Outcomes.{IsSearchLog, IsCut}
 use Rattle.cdcl_search.specs.Turns.{IsTurn, TellBumps}
 
 -- between these two moments the log of a search for the inputs was written so far: it holds exactly these clauses, each
@@ -46,12 +44,6 @@ pub record IsRefuted (before now : Option (List ℕ)) (inputs : List Clause) (ad
   pub count : addition_count entries ≡ added
   pub empty : adds_empty entries ≡ true
   pub bumps : TellBumps tolds entries
-
--- the log was written to its end and shows the outcome, and deciders tell the bumps of its additions
-pub record IsDone (before now : Option (List ℕ)) (inputs : List Clause) (budget : ℕ)
-    (tolds : List (Option (List ℕ))) (outcome : Outcome) : Type 0 where
-  pub logged : IsLogged before now inputs budget outcome
-  pub told : IsTold before now inputs tolds
 
 -- ---- from one moment to a later one
 

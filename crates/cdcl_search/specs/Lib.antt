@@ -1,5 +1,4 @@
 pub mod Outcomes
 pub mod Turns
-pub mod Told
 pub mod Going
 pub mod Reductions

@@ -12,6 +12,7 @@ use Rattle.cdcl_search.specs.declared.outcome.Outcome.{Outcome}
 use Rattle.cdcl_search.specs.declared.outcome.Outcome.TheVariants.{Unsat, Sat, Unknown}
 use Rattle.cdcl_search.specs.declared.outcome.SolveFault.{SolveFault}
 use Rattle.cdcl_search.specs.declared.outcome.SolveFault.TheVariants.{LogFault, Memory}
+use Rattle.cdcl_search.specs.Turns.{TellBumps}
 
 -- ---- by the outcome
 
@@ -72,14 +73,15 @@ Shows budget es Unsat = (adds_empty es ≡ true) × (addition_count es ≤ budge
 Shows budget es (Sat values) = (adds_empty es ≡ false) × (addition_count es < budget)
 Shows budget es (Unknown added) = (adds_empty es ≡ false) × (addition_count es ≡ budget)
 
--- between these two moments the whole log of a search for the clauses was written, and it shows the outcome: what is
--- said of the log's entries is said of this one list
+-- between these two moments the whole log of a search for the clauses was written, it shows the outcome, and each
+-- decider that tells its bumps tells the variables of the additions of its turns: all of it is said of one list of entries
 pub record IsLogged (before now : Option (List ℕ)) (clauses : List Clause) (budget : ℕ)
-    (outcome : Outcome) : Type 0 where
+    (tolds : List (Option (List ℕ))) (outcome : Outcome) : Type 0 where
   pub entries : List Entry
   pub log : IsSearchLog clauses entries
   pub shows : Shows budget entries outcome
   pub text : Takes before now (log_text entries)
+  pub bumps : TellBumps tolds entries
 
 -- between these two moments a front of the log of a search for the clauses was written, which has at most so many
 -- additions

@@ -1,6 +1,6 @@
 //! What a false clause teaches is logged, and then held.
 
-ghost use Rattle.std.specs.Prelude.{◌≡◌, ◌+◌, ◌≤◌, ◌^◌, [], map, None, IfOk, OnOk, OnErr, IfSome};
+ghost use Rattle.std.specs.Prelude.{◌≡◌, ◌+◌, ◌≤◌, ◌^◌, [], length, map, None, IfOk, OnOk, OnErr, IfSome};
 ghost use Rattle.mw_outside.specs.Faults.{Rose};
 ghost use Rattle.mw_outside.specs.Taken.{Takes, TakesPart};
 ghost use Rattle.resolution_check.specs.declared.log.Entry.{Entry};
@@ -38,6 +38,7 @@ pub(crate) fn log_lesson<L: Sink>(
     ensures fault { OnLogFault result (Rose (L.faults log.old) (L.faults log.new)) }
     ensures stays { UnlessLogFault result (L.faults log.new ≡ L.faults log.old) }
     ensures later { L.faults log.old ≤ L.faults log.new }
+    ensures deciders { length deciders.new.items ≡ length deciders.old.items }
 {
     write_addition(alloc, log, id, work.clause(), work.chain())?;
     tell_at(deciders, turn, work.clause());
@@ -73,6 +74,7 @@ pub(crate) fn take_lesson<L: Sink>(
     ensures fault { OnLogFault result (Rose (L.faults log.old) (L.faults log.new)) }
     ensures stays { UnlessLogFault result (L.faults log.new ≡ L.faults log.old) }
     ensures later { L.faults log.old ≤ L.faults log.new }
+    ensures deciders { length deciders.new.items ≡ length deciders.old.items }
 {
     let back = learn(work, arena, assigned, conflict);
     log_lesson(alloc, log, deciders, turn, id, work)?;

@@ -2,7 +2,6 @@
 //! clauses that anybody can check.
 #![tactic(auto)]
 
-mod by_turns;
 pub mod laws;
 mod learning;
 mod logging;
@@ -12,6 +11,5 @@ mod searching;
 mod solving;
 mod turns;
 
-pub use by_turns::solve_by_turns;
 pub use outcome::{Outcome, SolveFault};
 pub use solving::solve;

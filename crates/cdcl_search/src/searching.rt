@@ -7,8 +7,8 @@ ghost use Rattle.resolution_check.specs.Entries.{clause_value};
 ghost use Rattle.resolution_check.specs.Trails.{is_value, value_of};
 ghost use Rattle.mw_outside.specs.Faults.{Rose};
 ghost use Rattle.clause_arena.specs.Held.{held_in};
-ghost use Rattle.cdcl_search.specs.Outcomes.{IsCut, OnLogFault, OnSat, OnUnknown, UnlessLogFault};
-ghost use Rattle.cdcl_search.specs.Going.{IsDone, IsGoing, IsReady};
+ghost use Rattle.cdcl_search.specs.Outcomes.{IsCut, IsLogged, OnLogFault, OnSat, OnUnknown, UnlessLogFault};
+ghost use Rattle.cdcl_search.specs.Going.{IsGoing, IsReady};
 
 use crate::learning::take_lesson;
 use crate::outcome::{Outcome, SolveFault};
@@ -56,7 +56,7 @@ pub(crate) fn search<L: Sink>(
     requires ready { IsReady arena.old assigned.old first 0 }
     ensures done { IfOk result (λ outcome. (before : Option (List ℕ)) (ins : List Clause) →
         IsGoing before (L.taken log.old) ins (held_in arena.old) first 0 0 (map (λ b. told b) deciders.old.items)
-        → IsDone before (L.taken log.new) ins budget (map (λ b. told b) deciders.new.items) outcome) }
+        → IsLogged before (L.taken log.new) ins budget (map (λ b. told b) deciders.new.items) outcome) }
     ensures sat { IfOk result (λ outcome. OnSat outcome (λ values. (id : ℕ) (c : Clause) → held_in arena.old id ≡ Some c
         → clause_value (truth values) c.lits ≡ true)) }
     ensures values { IfOk result (λ outcome. OnSat outcome (λ values. length values ≡ assigned.old.vars)) }
@@ -67,6 +67,7 @@ pub(crate) fn search<L: Sink>(
     ensures fault { OnLogFault result (Rose (L.faults log.old) (L.faults log.new)) }
     ensures stays { UnlessLogFault result (L.faults log.new ≡ L.faults log.old) }
     ensures later { L.faults log.old ≤ L.faults log.new }
+    ensures deciders { length deciders.new.items ≡ length deciders.old.items }
 {
     let mut from = 0;
     let mut runs = 0;

@@ -8,8 +8,6 @@ ghost use Rattle.cnf_blaster.specs.Proper.{IsProper};
 ghost use Rattle.mw_outside.specs.Faults.{Rose};
 ghost use Rattle.mw_outside.specs.Taken.{Takes};
 ghost use Rattle.cdcl_search.specs.Outcomes.{IsCut, IsLogged, OnLogFault, OnSat, OnUnknown, OnUnsat, UnlessLogFault, input_entries};
-ghost use Rattle.cdcl_search.specs.Going.{IsDone};
-ghost use Rattle.cdcl_search.specs.Told.{IsTold};
 ghost use Rattle.cdcl_search.specs.Turns.{AreUntold};
 
 use crate::learning::log_lesson;
@@ -40,7 +38,7 @@ fn solve_written<L: Sink>(
     requires untold { AreUntold (map (λ b. told b) deciders.old.items) }
     ensures done { IfOk result (λ outcome. (before : Option (List ℕ)) →
         Takes before (L.taken log.old) (log_text (input_entries 1 cnf.now.clauses))
-        → IsDone before (L.taken log.new) cnf.now.clauses budget (map (λ b. told b) deciders.new.items) outcome) }
+        → IsLogged before (L.taken log.new) cnf.now.clauses budget (map (λ b. told b) deciders.new.items) outcome) }
     ensures sat { IfOk result (λ outcome. OnSat outcome (λ values. satisfies (truth values) cnf.now.clauses ≡ true)) }
     ensures values { IfOk result (λ outcome. OnSat outcome (λ values. length values ≡ cnf.now.vars)) }
     ensures unknown { IfOk result (λ outcome. OnUnknown outcome (λ added. added ≡ budget)) }
@@ -50,6 +48,7 @@ fn solve_written<L: Sink>(
     ensures fault { OnLogFault result (Rose (L.faults log.old) (L.faults log.new)) }
     ensures stays { UnlessLogFault result (L.faults log.new ≡ L.faults log.old) }
     ensures later { L.faults log.old ≤ L.faults log.new }
+    ensures deciders { length deciders.new.items ≡ length deciders.old.items }
 {
     let mut work = Work::new(alloc, cnf.vars)?;
     let mut arena = Arena::new(alloc, cnf.vars)?;
@@ -98,8 +97,8 @@ pub fn solve<L: Sink>(
     ensures unknown { IfOk result (λ outcome. OnUnknown outcome (λ added. added ≡ budget)) }
     ensures bound { IfOk result (λ outcome. OnUnknown outcome (λ added. added ≤ 3 ^ cnf.now.vars * (3 ^ cnf.now.vars + 1))) }
 
-    ensures logged { IfOk result (IsLogged (L.taken log.old) (L.taken log.new) cnf.now.clauses budget) }
-    ensures told { IfOk result (λ _. IsTold (L.taken log.old) (L.taken log.new) cnf.now.clauses (map (λ b. told b) deciders.new.items)) }
+    ensures logged { IfOk result (IsLogged (L.taken log.old) (L.taken log.new) cnf.now.clauses budget (map (λ b. told b) deciders.new.items)) }
+    ensures deciders { length deciders.new.items ≡ length deciders.old.items }
     ensures cut { OnErr result (IsCut (L.taken log.old) (L.taken log.new) cnf.now.clauses budget) }
     ensures fault { OnLogFault result (Rose (L.faults log.old) (L.faults log.new)) }
     ensures stays { UnlessLogFault result (L.faults log.new ≡ L.faults log.old) }

@@ -22,7 +22,8 @@ pub(crate) fn prepare_all(
     alloc: Global,
     vars: u64,
 ) -> Result<(), AllocError>
-    ensures { OnOk result (AreUntold (map (λ b. told b) deciders.new.items)) }
+    ensures untold { OnOk result (AreUntold (map (λ b. told b) deciders.new.items)) }
+    ensures deciders { length deciders.new.items ≡ length deciders.old.items }
 {
     for at in 0..deciders.len() {
         prepare(&mut deciders[at], alloc, vars)?;
@@ -66,7 +67,8 @@ fn tell(decider: &mut Box<dyn Decider>, lits: &[Lit])
 
 /// Tells the decider whose turn it is of an addition.
 pub(crate) fn tell_at(deciders: &mut Vec<Box<dyn Decider>>, turn: usize, lits: &[Lit])
-    ensures { TellsAt (map (λ b. told b) deciders.old.items) (map (λ b. told b) deciders.new.items) turn (vars_of lits.now) }
+    ensures tells { TellsAt (map (λ b. told b) deciders.old.items) (map (λ b. told b) deciders.new.items) turn (vars_of lits.now) }
+    ensures deciders { length deciders.new.items ≡ length deciders.old.items }
 {
     if turn < deciders.len() {
         tell(&mut deciders[turn], lits);

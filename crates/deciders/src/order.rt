@@ -1,61 +1,125 @@
-//! A decider that goes by the order of the variables.
+//! A decider that goes by the order of the variables, and by scores once it was told enough.
 
-ghost use Rattle.std.specs.Prelude.{◌≡◌, ◌≢◌, ℕ, ◌<◌, ◌≤◌, None, false, length, slice_index_or};
+ghost use Rattle.std.specs.Prelude.{◌≡◌, ◌≢◌, ℕ, ◌<◌, ◌≤◌, None, IfSome, true, false, length, slice_index_or};
 
-use crate::{Choice, Decider, Value};
+use crate::{Choice, Decider, ScoreDecider, Value};
 use std::alloc::{AllocError, Global};
 
-/// Chooses the next free variable in the order of their numbers, from 0 again after each `decay`, false first. It tells no
-/// bumps.
-#[derive(Clone, Copy)]
+/// After so many clauses that it was told of, a decider by order goes by scores.
+const ORDERED: u64 = 1024;
+
+/// Chooses the next free variable in the order of their numbers, from 0 again after each `decay`, false first. After
+/// 1,024 `decay`s it goes by the scores that its bumps gave, as a `ScoreDecider` does: where so many clauses were not
+/// enough, the order does not fit them. It tells no bumps.
+#[derive(Drop)]
 pub struct OrderDecider {
     next: u64,
+    // How many clauses it was told of.
+    heard: u64,
+    // Whether it goes by order.
+    is_ordered: bool,
+    scores: Option<ScoreDecider>,
+}
+
+// What the scores choose, where they choose a free variable.
+fn scored(scores: &mut Option<ScoreDecider>, values: &[Value]) -> Option<Choice>
+    ensures { IfSome result (λ choice. choice.var < length values.now
+        → slice_index_or values.now choice.var Value.False ≡ Value.Free) }
+{
+    let choice = match scores {
+        Some(scores) => scores.pick(values),
+        None => return None,
+    };
+    if choice.var < values.len() as u64 && values[choice.var as usize] == Value::Free {
+        Some(choice)
+    } else {
+        None
+    }
+}
+
+// The first free variable from this one on, or how many there are.
+fn next_free(values: &[Value], from: u64) -> u64
+    ensures free { result < length values.now → slice_index_or values.now result Value.False ≡ Value.Free }
+    ensures passed { (v : ℕ) → from ≤ v → v < result → slice_index_or values.now v Value.Free ≢ Value.Free }
+{
+    let count = values.len() as u64;
+    let mut at = from;
+    while at < count && values[at as usize] != Value::Free {
+        at += 1;
+    }
+    at
 }
 
 impl OrderDecider {
-    ghost use Rattle.deciders.specs.Ordered.{next_of};
+    ghost use Rattle.deciders.specs.Ordered.{next_of, goes_by_order};
 
-    /// A decider that begins with variable 0.
+    /// A decider that begins with variable 0. It takes no memory.
     pub fn new() -> OrderDecider
         ensures untold { ⟦<OrderDecider as Decider>⟧.told result ≡ None }
         ensures next { next_of result ≡ 0 }
+        ensures ordered { goes_by_order result ≡ true }
     {
-        OrderDecider { next: 0 }
+        OrderDecider {
+            next: 0,
+            heard: 0,
+            is_ordered: true,
+            scores: None,
+        }
     }
 }
 
 impl Decider for OrderDecider {
-    ghost use Rattle.deciders.specs.Ordered.{next_of};
+    ghost use Rattle.deciders.specs.Ordered.{next_of, goes_by_order};
 
     ghost told = { λ _. None };
 
-    fn prepare(&mut self, _alloc: Global, _vars: u64) -> Result<(), AllocError>
-        ensures { next_of self.new ≡ 0 }
+    fn prepare(&mut self, alloc: Global, vars: u64) -> Result<(), AllocError>
+        ensures next { next_of self.new ≡ 0 }
+        ensures ordered { goes_by_order self.new ≡ true }
     {
         self.next = 0;
+        self.heard = 0;
+        self.is_ordered = true;
+        let mut scores = ScoreDecider::new(alloc);
+        scores.prepare(alloc, vars)?;
+        self.scores = Some(scores);
         Ok(())
     }
 
-    fn bump(&mut self, _var: u64)
-        ensures { self.new ≡ self.old }
-    {}
+    fn bump(&mut self, var: u64)
+        ensures next { next_of self.new ≡ next_of self.old }
+        ensures ordered { goes_by_order self.new ≡ goes_by_order self.old }
+    {
+        if let Some(scores) = &mut self.scores {
+            scores.bump(var);
+        }
+    }
 
     fn decay(&mut self)
         ensures { next_of self.new ≡ 0 }
     {
         self.next = 0;
+        self.heard = self.heard.saturating_add(1);
+        self.is_ordered = self.heard < ORDERED;
+        if let Some(scores) = &mut self.scores {
+            scores.decay();
+        }
     }
 
     fn pick(&mut self, values: &[Value]) -> Choice
         ensures free { result.var < length values.now → slice_index_or values.now result.var Value.False ≡ Value.Free }
-        ensures passed { (v : ℕ) → next_of self.old ≤ v → v < result.var → slice_index_or values.now v Value.Free ≢ Value.Free }
-        ensures negative { result.positive ≡ false }
-        ensures next { next_of self.new ≡ result.var }
+        ensures passed { goes_by_order self.old ≡ true → (v : ℕ) → next_of self.old ≤ v → v < result.var
+            → slice_index_or values.now v Value.Free ≢ Value.Free }
+        ensures negative { goes_by_order self.old ≡ true → result.positive ≡ false }
+        ensures next { goes_by_order self.old ≡ true → next_of self.new ≡ result.var }
+        ensures ordered { goes_by_order self.new ≡ goes_by_order self.old }
     {
-        let count = values.len() as u64;
-        while self.next < count && values[self.next as usize] != Value::Free {
-            self.next += 1;
+        if !self.is_ordered {
+            if let Some(choice) = scored(&mut self.scores, values) {
+                return choice;
+            }
         }
+        self.next = next_free(values, self.next);
         Choice {
             var: self.next,
             positive: false,

@@ -21,8 +21,9 @@ struct Chosen {
     positive: bool,
 }
 
-/// Chooses a free variable of highest score, with the value that it had last, false at first. It tells no bumps. No clause
-/// says which variable it chooses: that changes how long a search takes, and tests show it.
+/// Chooses a free variable of highest score, and of these the one of lowest number, with the value that it had last, false
+/// at first. It tells no bumps. No clause says which variable it chooses: that changes how long a search takes, and tests
+/// show it.
 ///
 /// Variables leave the heap as they are chosen, or met with a value. Nobody says when they are free again, but each way
 /// back of a search comes with a `decay`: at the next `pick` the first choice that does not stand any more is looked

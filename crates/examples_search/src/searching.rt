@@ -6,7 +6,7 @@ ghost use Rattle.cnf_blaster.specs.Proper.{IsProper};
 use crate::choosing::named;
 use crate::clauses::{add, none};
 use crate::printed::{first_word, number_in, show_bytes, show_numbers, show_values};
-use cdcl_search::{Outcome, SolveFault, solve, solve_by_turns};
+use cdcl_search::{Outcome, SolveFault, solve};
 use cnf_blaster::Cnf;
 use deciders::Decider;
 use mw_outside::TestSink;
@@ -50,25 +50,6 @@ fn search(
     Ok(())
 }
 
-/// Searches by the deciders of these names, or by turns where these are the words.
-fn search_by(
-    rt: &(impl Print + AllocGlobal),
-    cnf: &Cnf,
-    budget: u64,
-    names: &str,
-    sink: &mut TestSink,
-) -> io::Result<()>
-    requires proper { IsProper cnf.now }
-    requires vars { cnf.now.vars ≤ 2 ^ 63 }
-    requires budget { 1 ≤ budget }
-{
-    match names {
-        "by order" => show_answer(rt, &solve_by_turns(rt.alloc(), cnf, true, budget, sink)),
-        "by score" => show_answer(rt, &solve_by_turns(rt.alloc(), cnf, false, budget, sink)),
-        _ => search(rt, cnf, budget, names, sink),
-    }
-}
-
 /// A sink of whose writes the one of this number fails.
 fn sink_failing(alloc: Global, at: u64) -> Result<TestSink, AllocError> {
     let mut fail = List::new(alloc);
@@ -85,7 +66,7 @@ fn show_search(rt: &(impl Print + AllocGlobal), cnf: &Cnf, rest: &str) -> io::Re
     if budget == 0 || cnf.vars > MOST || !cnf.is_proper(rt.alloc())? {
         return println!(rt; "not taken");
     }
-    search_by(rt, cnf, budget, names, &mut sink)?;
+    search(rt, cnf, budget, names, &mut sink)?;
     show_bytes(rt, sink.taken())
 }
 

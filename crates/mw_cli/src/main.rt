@@ -1,9 +1,10 @@
 //! The program: it hands the words, the files of the machine, the standard output and the log to `run`.
 #![tactic(auto)]
 
+use deciders::{Decider, OrderDecider, ScoreDecider};
 use mw_outside::{DirFiles, FileSink, NoSink, OutSink, Sink};
 use mw_verify::{Status, number_of, run};
-use std::alloc::Global;
+use std::alloc::{AllocError, Global};
 use std::process::ExitCode;
 use std::rt::Env;
 use std::{env, io};
@@ -18,32 +19,38 @@ fn words_of(rt: &(impl Env + AllocGlobal)) -> Result<Vec<String>, Status> {
     }
 }
 
-fn run_with<L: Sink>(rt: HostRuntime, words: &[String], log: &mut L) -> Status {
-    run(
-        rt.alloc(),
+// Of the deciders one follows scores, and one goes by the order of the variables.
+fn run_with<L: Sink>(rt: HostRuntime, words: &[String], log: &mut L) -> Result<Status, AllocError> {
+    let alloc: Global = rt.alloc();
+    let mut deciders: Vec<Box<dyn Decider>> = Vec::new(alloc);
+    deciders.push(Box::new(alloc, ScoreDecider::new(alloc))?)?;
+    deciders.push(Box::new(alloc, OrderDecider::new())?)?;
+    Ok(run(
+        alloc,
         words,
         &mut DirFiles::new(rt),
         &mut OutSink::new(rt.stdout()),
         log,
-    )
+        &mut deciders,
+    ))
 }
 
 // Where the first two words are `--log NAME` the log is that file, which is created.
-fn run_words(rt: HostRuntime, words: &[String]) -> Status {
+fn run_words(rt: HostRuntime, words: &[String]) -> Result<Status, AllocError> {
     if words.len() < 2 || words[0].as_str() != "--log" {
         return run_with(rt, words, &mut NoSink::new());
     }
     let (_, others) = words.split_at(2);
     match FileSink::new(&rt, words[1].as_str()) {
         Ok(mut log) => run_with(rt, others, &mut log),
-        Err(_) => Status::WriteFault,
+        Err(_) => Ok(Status::WriteFault),
     }
 }
 
 fn main(rt: HostRuntime) -> ExitCode {
     let status = match words_of(&rt) {
         Err(status) => status,
-        Ok(words) => run_words(rt, words.as_slice()),
+        Ok(words) => run_words(rt, words.as_slice()).unwrap_or(Status::Memory),
     };
     ExitCode::from(number_of(status))
 }

@@ -31,7 +31,7 @@ use Rattle.routing_encoder.specs.Encoded.{routing_bits}
 use Rattle.routing_worlds.specs.Worlds.{environment_from, world_from}
 use Rattle.run_answers.specs.declared.verdict.Verdict.{Verdict}
 use Rattle.question_search.specs.declared.formula.Formula.{Formula}
-use Rattle.run_answers.specs.Answering.{IsLogged, IsSearchedSo, IsUnfinished, answer_of, end_text}
+use Rattle.run_answers.specs.Answering.{IsSearchedSo, IsToldSo, IsUnfinished, answer_of, end_text}
 use Rattle.question_search.specs.Formulas.{IsFormula}
 use Rattle.run_answers.specs.Running.{IsSectionOf}
 use Rattle.run_answers.specs.Verdicts.{IsRight, IsSearched, ShowsVerdict, opening_text}
@@ -104,10 +104,10 @@ section_is question entries =
     ap (λ t. opening_text question ++ t) (sym (flat_map-append line_of entries (End ∷ [])))
 
 pub section_stands : (files : List File) (tracked : Tracked) (question : Question) (formula : Formula) (budget : ℕ) (outcome : Outcome)
-    (before opened filled now : Option (List ℕ)) → IsFormula files tracked question formula →
-    Takes before opened (opening_text question) → IsLoggedBySearch opened filled formula.cnf.clauses budget outcome →
-    Takes filled now end_text → IsSearchedSo files budget question outcome before now
-section_stands files tracked question formula budget outcome before opened filled now is opens fills closes =
+    (before opened filled now : Option (List ℕ)) (tolds : List (Option (List ℕ))) → IsFormula files tracked question formula →
+    Takes before opened (opening_text question) → IsLoggedBySearch opened filled formula.cnf.clauses budget tolds outcome →
+    Takes filled now end_text → IsSearchedSo files budget question outcome before now tolds
+section_stands files tracked question formula budget outcome before opened filled now tolds is opens fills closes =
     let T : List ℕ → Type 0 = Takes before now in (
       fills.entries,
       searched_from files tracked question formula budget fills.entries is fills.log
@@ -115,6 +115,7 @@ section_stands files tracked question formula budget outcome before opened fille
       fills.shows,
       subst T (section_is question fills.entries)
           (takes_more before opened now _ _ opens (takes_more opened filled now _ _ fills.text closes)),
+      fills.bumps,
     )
 
 -- a section that was opened and filled in part
@@ -133,10 +134,10 @@ section_filled files tracked question formula budget before opened now is opens 
 
 -- one that was opened and filled, and closed in part
 pub section_closed : (files : List File) (tracked : Tracked) (question : Question) (formula : Formula) (budget : ℕ) (outcome : Outcome)
-    (before opened filled now : Option (List ℕ)) → IsFormula files tracked question formula →
-    Takes before opened (opening_text question) → IsLoggedBySearch opened filled formula.cnf.clauses budget outcome →
+    (before opened filled now : Option (List ℕ)) (tolds : List (Option (List ℕ))) → IsFormula files tracked question formula →
+    Takes before opened (opening_text question) → IsLoggedBySearch opened filled formula.cnf.clauses budget tolds outcome →
     TakesPart filled now end_text → IsUnfinished files budget question before now
-section_closed files tracked question formula budget outcome before opened filled now is opens fills part =
+section_closed files tracked question formula budget outcome before opened filled now tolds is opens fills part =
     let T : List ℕ → Type 0 = TakesPart before now in (
       section_text question fills.entries,
       inr (
@@ -156,18 +157,19 @@ section_opened files question budget before now part = (opening_text question, i
 
 -- a whole one, of which no verdict came
 pub section_whole : (files : List File) (question : Question) (budget : ℕ) (outcome : Outcome)
-    (before now : Option (List ℕ)) → IsSearchedSo files budget question outcome before now →
-    IsUnfinished files budget question before now
-section_whole files question budget outcome before now (entries, searched, shows, takes) =
+    (before now : Option (List ℕ)) (tolds : List (Option (List ℕ))) →
+    IsSearchedSo files budget question outcome before now tolds → IsUnfinished files budget question before now
+section_whole files question budget outcome before now tolds (entries, searched, shows, takes, bumps) =
     (section_text question entries, inr (entries, searched, refl), part_of_all before now _ takes)
 
 -- a right verdict, and the section that shows it
 pub verdict_logged : (files : List File) (budget number : ℕ) (question : Question) (outcome : Outcome) (verdict :
     Verdict)
-    (before now : Option (List ℕ)) → IsSearchedSo files budget question outcome before now →
-    OnUnknown outcome (λ added. added ≡ budget) → IsRight files number question verdict →
+    (before now : Option (List ℕ)) (tolds : List (Option (List ℕ))) →
+    IsSearchedSo files budget question outcome before now tolds → OnUnknown outcome (λ added. added ≡ budget) →
+    IsRight files number question verdict →
     ((most : ℕ) (entries : List Entry) → OnUnknown outcome (λ added. added ≡ most) → Shows most entries outcome →
-    ShowsVerdict most entries verdict) → IsLogged files budget number question verdict before now
-verdict_logged files budget number question outcome verdict before now (entries, searched, shows, takes) after right
-    shown =
-    (entries, (right, record { search = searched; shows = shown budget entries after shows }), takes)
+    ShowsVerdict most entries verdict) → IsToldSo files budget number question verdict before now tolds
+verdict_logged files budget number question outcome verdict before now tolds (entries, searched, shows, takes, bumps)
+    after right shown =
+    (entries, (right, record { search = searched; shows = shown budget entries after shows }), takes, bumps)

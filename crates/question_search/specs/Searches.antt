@@ -13,10 +13,10 @@ use Rattle.question_search.specs.Formulas.{IsFormula}
 
 -- the outcome is right of the clauses of the question, and its section stands in the log
 pub record IsFound (files : List File) (tracked : Tracked) (budget : ℕ) (question : Question) (formula : Formula) (outcome : Outcome)
-    (logged_before logged_now : Option (List ℕ)) : Type 0 where
+    (logged_before logged_now : Option (List ℕ)) (tolds : List (Option (List ℕ))) : Type 0 where
   pub formula_is : IsFormula files tracked question formula
   pub unsat : OnUnsat outcome (IsUnsatisfiable formula.cnf.clauses)
   pub sat : OnSat outcome (λ values. satisfies (truth values) formula.cnf.clauses ≡ true)
   pub values : OnSat outcome (λ values. length values ≡ formula.cnf.vars)
   pub unknown : OnUnknown outcome (λ added. added ≡ budget)
-  pub logged : IsSearchedSo files budget question outcome logged_before logged_now
+  pub logged : IsSearchedSo files budget question outcome logged_before logged_now tolds

@@ -1,26 +1,26 @@
 //! Answers one question by a search, whose log shows the answer.
 
-ghost use Rattle.std.specs.Prelude.{◌≡◌, ℕ, List as ListOf, IfOk, OnErr, length, true};
+ghost use Rattle.std.specs.Prelude.{◌≡◌, ℕ, List as ListOf, IfOk, OnErr, length, map, true};
 ghost use Rattle.cdcl_search.specs.Outcomes.{OnLogFault, OnSat, OnUnknown, OnUnsat, Shows, UnlessLogFault};
 ghost use Rattle.mw_outside.specs.Faults.{Rose};
 ghost use Rattle.question_search.specs.Formulas.{IsFormula};
 ghost use Rattle.question_search.specs.Searches.{IsFound};
 ghost use Rattle.resolution_check.specs.declared.log.Entry.{Entry};
 ghost use Rattle.resolution_check.specs.Entries.{IsUnsatisfiable, satisfies};
-ghost use Rattle.run_answers.specs.Answering.{IsLogged, IsUnfinished};
+ghost use Rattle.run_answers.specs.Answering.{IsToldSo, IsUnfinished};
 ghost use Rattle.cex_json.specs.Counterexamples.{IsTrueCounterexample};
 ghost use Rattle.run_answers.specs.Verdicts as verdicts;
-ghost use Rattle.run_inputs.specs.Loading.{IsBudget, are_external};
+ghost use Rattle.run_inputs.specs.Loading.{IsBudget};
 ghost use Rattle.term_store.specs.Terms.{truth};
 
 use crate::formula::{Formula, formula_of};
-use cdcl_search::{Outcome, SolveFault, solve_by_turns};
+use cdcl_search::{Outcome, SolveFault, solve};
 use cex_json::Counterexample;
 use cnf_blaster::decoded;
+use deciders::Decider;
 use mw_outside::Sink;
 use net_encoder::decode;
 use net_model::Net;
-use ospf_equations::is_meshed;
 use question_lang::Question;
 use run_answers::Verdict;
 use run_answers::section::{write_end, write_opening};
@@ -96,23 +96,25 @@ fn search<L: Sink>(
     question: &Question,
     budget: u64,
     log: &mut L,
+    deciders: &mut Vec<Box<dyn Decider>>,
 ) -> Result<Searched, SolveFault>
-    requires external { are_external net.now.files ≡ true }
     requires budget { IsBudget budget }
-    ensures found { IfOk result (λ s. IsFound net.now.files net.now.tracked budget question.now s.formula s.outcome (L.taken log.old) (L.taken log.new)) }
+    ensures found { IfOk result (λ s. IsFound net.now.files net.now.tracked budget question.now s.formula s.outcome (L.taken log.old) (L.taken log.new)
+        (map (λ b. told b) deciders.new.items)) }
     ensures cut { OnErr result (IsUnfinished net.now.files budget question.now (L.taken log.old) (L.taken log.new)) }
     ensures fault { OnLogFault result (Rose (L.faults log.old) (L.faults log.new)) }
     ensures stays { UnlessLogFault result (L.faults log.new ≡ L.faults log.old) }
+    ensures deciders { length deciders.new.items ≡ length deciders.old.items }
 {
     write_opening(alloc, question, log)?;
     let formula = formula_of(alloc, net, question)?;
-    let outcome = solve_by_turns(alloc, &formula.cnf, is_meshed(net), budget, log)?;
+    let outcome = solve(alloc, &formula.cnf, budget, log, deciders)?;
     write_end(log)?;
     Ok(Searched { formula, outcome })
 }
 
 /// A right verdict for the question of that number, found by learning at most so many clauses. The section that shows it
-/// stands in the log.
+/// stands in the log, and the deciders were told of its additions, each of those of its turns.
 ///
 /// # Errors
 /// `LogFault` where a write of the log failed; `Memory` where memory was refused and no write failed. A front of what was
@@ -124,15 +126,17 @@ pub fn answer<L: Sink>(
     question: &Question,
     budget: u64,
     log: &mut L,
+    deciders: &mut Vec<Box<dyn Decider>>,
 ) -> Result<Verdict, SolveFault>
-    requires external { are_external net.now.files ≡ true }
     requires budget { IsBudget budget }
-    ensures ok { IfOk result (λ verdict. IsLogged net.now.files budget number question.now verdict (L.taken log.old) (L.taken log.new)) }
+    ensures ok { IfOk result (λ verdict. IsToldSo net.now.files budget number question.now verdict (L.taken log.old) (L.taken log.new)
+        (map (λ b. told b) deciders.new.items)) }
     ensures cut { OnErr result (IsUnfinished net.now.files budget question.now (L.taken log.old) (L.taken log.new)) }
     ensures fault { OnLogFault result (Rose (L.faults log.old) (L.faults log.new)) }
     ensures stays { UnlessLogFault result (L.faults log.new ≡ L.faults log.old) }
+    ensures deciders { length deciders.new.items ≡ length deciders.old.items }
 {
-    let Searched { formula, outcome } = search(alloc, net, question, budget, log)?;
+    let Searched { formula, outcome } = search(alloc, net, question, budget, log, deciders)?;
     let verdict = verdict_of(alloc, net, number, question, &formula, outcome)?;
     Ok(verdict)
 }

@@ -1,8 +1,7 @@
 //! A question over a network as clauses.
 
-ghost use Rattle.std.specs.Prelude.{◌≡◌, ◌≤◌, ◌^◌, IfOk, true};
+ghost use Rattle.std.specs.Prelude.{◌≤◌, ◌^◌, IfOk};
 ghost use Rattle.question_search.specs.Formulas.{IsFormula};
-ghost use Rattle.run_inputs.specs.Loading.{are_external};
 
 use cnf_blaster::{Cnf, blast};
 use net_encoder::{Encoding, encode};
@@ -19,10 +18,8 @@ pub struct Formula {
     pub cnf: Cnf,
 }
 
-/// The formula of a question over a network without internal sessions of BGP, in which each prefix length is a class of
-/// its own.
+/// The formula of a question over a network, in which each prefix length is a class of its own.
 pub fn formula_of(alloc: Global, net: &Net, question: &Question) -> Result<Formula, AllocError>
-    requires external { are_external net.now.files ≡ true }
     ensures formula { IfOk result (IsFormula net.now.files net.now.tracked question.now) }
     ensures vars { IfOk result (λ formula. formula.cnf.vars ≤ 2 ^ 63) }
 {

@@ -9,10 +9,11 @@ use Rattle.watched_search.specs.Sets.{GivesSets}
 use Rattle.watched_search.proofs.Inputs.{clause_given}
 use Rattle.watched_search.proofs.Starts.{held_below}
 use Rattle.watched_search.proofs.Sets.{gives_then, view_sets}
-use Rattle.cdcl_search.specs.Outcomes.{IsCut}
+use Rattle.cdcl_search.specs.Outcomes.{IsCut, IsLogged}
 use Rattle.cdcl_search.specs.Turns.{IsTurn}
-use Rattle.cdcl_search.specs.Going.{GoesOn, IsDone, IsGoing, IsReady}
+use Rattle.cdcl_search.specs.Going.{GoesOn, IsGoing, IsReady}
 use Rattle.cdcl_search.specs.declared.outcome.Outcome.TheVariants.{Sat}
+use Rattle.cdcl_search.proofs.Bumps.{tolds_long}
 use Rattle.cdcl_search.proofs.Logs.{cut_here, cut_within, done_sat, done_unknown, done_unsat}
 use Rattle.cdcl_search.proofs.Ready.{going_view, ready_round, ready_same, values_agree}
 use Rattle.cdcl_search.proofs.searching.search.Goals as goal
@@ -29,6 +30,7 @@ loop-added-init g c =
           subst (λ k. IsGoing before (g.L.Sink.taken c.args.log.now) ins (held_in c.args.arena.now) k 0 0
           (map (λ b. (goal.Decider-dyn g (b.vtable, b.value)).told b.value) c.args.deciders.now.items)) n h;
       stays = refl;
+      deciders = refl;
     }
 
 pub returns-in_err-values-clause-cut : goal.returns-in_err-values-clause-cut
@@ -45,7 +47,7 @@ returns-in_err-values-clause-cut g c =
 
 pub returns-in_default-clause-done : goal.returns-in_default-clause-done
 returns-in_default-clause-done g c = λ before ins going.
-    subst (λ ts. IsDone before (g.L.Sink.taken c.loop-added.log) ins c.args.budget ts (Sat c.in_ok-values.values))
+    subst (λ ts. IsLogged before (g.L.Sink.taken c.loop-added.log) ins c.args.budget ts (Sat c.in_ok-values.values))
     (sym c.find_conflict.ensures.told)
     (done_sat before (g.L.Sink.taken c.loop-added.log) ins (held_in c.loop-added.arena)
     (c.args.first + c.loop-added.added) c.loop-added.added _ c.args.budget _
@@ -204,6 +206,9 @@ loop-added-preserved g c =
           (goes before ins c.loop-added.added c.loop-added.runs is_turn (going_view before old ins c.loop-added.arena a
           (c.args.first + c.loop-added.added) c.loop-added.added _ _ _ f.view f.told (i.going before ins h))));
       stays = r.stays ∙ t.stays ∙ i.stays;
+      deciders = c.take_lesson.ensures.deciders
+          ∙ tolds_long (λ b. (goal.Decider-dyn g (b.vtable, b.value)).told b.value) c.loop-added.deciders.items
+          c.find_conflict.new.deciders.items f.told ∙ i.deciders;
     }
 
 pub returns-clause-done : goal.returns-clause-done
@@ -211,3 +216,31 @@ returns-clause-done g c = λ before ins going.
     done_unknown before (g.L.Sink.taken c.loop-added.log) ins (held_in c.loop-added.arena)
     (c.args.first + c.loop-added.added) c.loop-added.added _ c.args.budget _
     (c.loop-added.invariant.going before ins going) (omega (arith, c.loop-added-test.false, c.loop-added.auto))
+
+pub returns-in_err-values-clause-deciders : goal.returns-in_err-values-clause-deciders
+returns-in_err-values-clause-deciders g c =
+    tolds_long (λ b. (goal.Decider-dyn g (b.vtable, b.value)).told b.value) c.loop-added.deciders.items
+    c.find_conflict.new.deciders.items c.find_conflict.ensures.told ∙ c.loop-added.invariant.deciders
+
+pub returns-in_default-clause-deciders : goal.returns-in_default-clause-deciders
+returns-in_default-clause-deciders g c =
+    tolds_long (λ b. (goal.Decider-dyn g (b.vtable, b.value)).told b.value) c.loop-added.deciders.items
+    c.find_conflict.new.deciders.items c.find_conflict.ensures.told ∙ c.loop-added.invariant.deciders
+
+pub returns-in_err-next-clause-deciders : goal.returns-in_err-next-clause-deciders
+returns-in_err-next-clause-deciders g c =
+    c.take_lesson.ensures.deciders ∙ tolds_long (λ b. (goal.Decider-dyn g (b.vtable, b.value)).told b.value) c.loop-added.deciders.items
+    c.find_conflict.new.deciders.items c.find_conflict.ensures.told ∙ c.loop-added.invariant.deciders
+
+pub returns-in_default-2-clause-deciders : goal.returns-in_default-2-clause-deciders
+returns-in_default-2-clause-deciders g c =
+    c.take_lesson.ensures.deciders ∙ tolds_long (λ b. (goal.Decider-dyn g (b.vtable, b.value)).told b.value) c.loop-added.deciders.items
+    c.find_conflict.new.deciders.items c.find_conflict.ensures.told ∙ c.loop-added.invariant.deciders
+
+pub returns-in_err-runs-clause-deciders : goal.returns-in_err-runs-clause-deciders
+returns-in_err-runs-clause-deciders g c =
+    c.take_lesson.ensures.deciders ∙ tolds_long (λ b. (goal.Decider-dyn g (b.vtable, b.value)).told b.value) c.loop-added.deciders.items
+    c.find_conflict.new.deciders.items c.find_conflict.ensures.told ∙ c.loop-added.invariant.deciders
+
+pub returns-clause-deciders : goal.returns-clause-deciders
+returns-clause-deciders g c = c.loop-added.invariant.deciders

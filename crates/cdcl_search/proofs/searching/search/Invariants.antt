@@ -1,4 +1,4 @@
-use Rattle.std.proofs.Common.{◌≡◌, ℕ, ◌+◌, List, Option, map}
+use Rattle.std.proofs.Common.{◌≡◌, ℕ, ◌+◌, List, Option, length, map}
 use Rattle.resolution_check.specs.declared.log.Clause.{Clause}
 use Rattle.clause_arena.specs.Held.{held_in}
 use Rattle.watched_search.specs.Sets.{GivesSets}
@@ -17,4 +17,5 @@ invariant-loop-added g l = record {
       → IsGoing before (g.L.Sink.taken l.log) ins (held_in l.arena) (l.fn.first + l.added) l.added l.runs
       (map (λ b. (goal.Decider-dyn g (b.vtable, b.value)).told b.value) l.deciders.items);
   stays : g.L.Sink.faults l.log ≡ g.L.Sink.faults l.fn.log;
+  deciders : length l.deciders.items ≡ length l.fn.deciders.items;
 }

@@ -43,22 +43,13 @@ returns-clause-logged g c =
     subst (λ (cs : List Clause). Takes (g.L.Sink.taken c.args.log.now) (g.L.Sink.taken c.write_inputs.new.log)
     (log_text (input_entries 1 cs))) c.as_slice-clauses.ensures c.in_ok-write_inputs.ensures.takes in
     ok_then c.solve_written.result c.solve_written.ensures.done
-    (λ o done. (done (g.L.Sink.taken c.args.log.now) takes).logged)
-
-pub returns-clause-told : goal.returns-clause-told
-returns-clause-told g c =
-    let takes : Takes (g.L.Sink.taken c.args.log.now) (g.L.Sink.taken c.write_inputs.new.log)
-    (log_text (input_entries 1 c.args.cnf.now.clauses)) =
-    subst (λ (cs : List Clause). Takes (g.L.Sink.taken c.args.log.now) (g.L.Sink.taken c.write_inputs.new.log)
-    (log_text (input_entries 1 cs))) c.as_slice-clauses.ensures c.in_ok-write_inputs.ensures.takes in
-    ok_then c.solve_written.result c.solve_written.ensures.done
-    (λ o done. (done (g.L.Sink.taken c.args.log.now) takes).told)
+    (λ o done. done (g.L.Sink.taken c.args.log.now) takes)
 
 pub returns-clause-unsat : goal.returns-clause-unsat
 returns-clause-unsat g c =
-    unsat_shown _ _ c.args.cnf.now.clauses c.args.budget c.solve_written.result (returns-clause-logged g c)
+    unsat_shown _ _ c.args.cnf.now.clauses c.args.budget _ c.solve_written.result (returns-clause-logged g c)
 
 pub returns-clause-bound : goal.returns-clause-bound
 returns-clause-bound g c =
-    unknown_within _ _ c.args.cnf.now.vars c.args.cnf.now.clauses c.args.budget c.solve_written.result
+    unknown_within _ _ c.args.cnf.now.vars c.args.cnf.now.clauses c.args.budget _ c.solve_written.result
     c.requires.proper.below (returns-clause-logged g c) c.solve_written.ensures.unknown

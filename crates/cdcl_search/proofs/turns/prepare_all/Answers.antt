@@ -16,8 +16,8 @@ loop-at-preserved g c = record {
       c.prepare.new.decider)) ∙ there);
 }
 
-pub returns : goal.returns
-returns g c = λ own bumps there.
+pub returns-clause-untold : goal.returns-clause-untold
+returns-clause-untold g c = λ own bumps there.
     let low : own < length (map (λ b. (goal.Decider-dyn g (b.vtable, b.value)).told b.value) c.loop-at.deciders.items) =
     slice_get_within _ own (Some bumps) there in
     let long : length (map (λ b. (goal.Decider-dyn g (b.vtable, b.value)).told b.value) c.loop-at.deciders.items)

@@ -4,8 +4,8 @@ use Rattle.cdcl_search.specs.Turns.{TellsAt, vars_of}
 use Rattle.cdcl_search.proofs.Bumps.{map_at, tells_none, tells_set}
 use Rattle.cdcl_search.proofs.turns.tell_at.Goals as goal
 
-pub returns-then-turn-len : goal.returns-then-turn-len
-returns-then-turn-len g c =
+pub returns-then-turn-len-clause-tells : goal.returns-then-turn-len-clause-tells
+returns-then-turn-len-clause-tells g c =
     let items = c.args.deciders.now.items in
     let old = c.index_mut.result.now in
     let new = c.tell.new.decider in
@@ -24,8 +24,8 @@ returns-then-turn-len g c =
     (map_at (λ b. (goal.Decider-dyn g (b.vtable, b.value)).told b.value) items c.args.turn old _ low
     c.index_mut.ensures.value) c.tell.ensures)
 
-pub returns-else-turn-len : goal.returns-else-turn-len
-returns-else-turn-len g c =
+pub returns-else-turn-len-clause-tells : goal.returns-else-turn-len-clause-tells
+returns-else-turn-len-clause-tells g c =
     let long : length (map (λ b. (goal.Decider-dyn g (b.vtable, b.value)).told b.value) c.args.deciders.now.items)
     ≡ length c.args.deciders.now.items =
     length-map c.args.deciders.now.items (λ b. (goal.Decider-dyn g (b.vtable, b.value)).told b.value) in
