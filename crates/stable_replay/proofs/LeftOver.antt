@@ -12,8 +12,8 @@ use Rattle.proto_bgp.specs.declared.decision.Candidate.{Candidate}
 use Rattle.proto_bgp.specs.Places.{candidate_at, candidates_at}
 use Rattle.proto_bgp.proofs.StepLaws.{any_found}
 use Rattle.stable_replay.specs.Parts.{bgp_slot, bgp_slots, slot_left}
-use Rattle.stable_replay.specs.Same.{same_rec}
-use Rattle.stable_replay.proofs.SameRoutes.{same_rec_decides}
+use Rattle.same_routes.specs.Same.{same_rec}
+use Rattle.same_routes.proofs.SameRoutes.{same_rec_decides}
 
 found_one : {X Y Z : Type 0} (f : Y → Z) (g : X → Option Y) (x : X) (xs : List X) (o : Option Y) → g x ≡ o →
     filter_map (λ y. option_map f (g y)) xs ≡ map f (filter_map g xs) →

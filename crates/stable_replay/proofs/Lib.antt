@@ -1,4 +1,3 @@
 pub mod AllPlaces
 pub mod LeftOver
 pub mod OspfParts
-pub mod SameRoutes

@@ -12,7 +12,7 @@ ghost use Rattle.route_record.specs.Places.{slot_at};
 ghost use Rattle.route_candidates.specs.Underlays.{IsUnderlay};
 ghost use Rattle.stable_replay.specs.Parts as parts;
 
-use crate::arriving::arriving;
+use arriving_messages::arriving;
 use ios_ast::{Bgp, File};
 use mw_text::{List, Prefix};
 use net_model::{Net, SessionEnd};

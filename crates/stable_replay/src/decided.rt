@@ -11,10 +11,9 @@ ghost use Rattle.proto_bgp.specs.Places.{candidate_at, candidates_at};
 ghost use Rattle.proto_bgp.specs.Steps.{seen};
 ghost use Rattle.route_candidates.specs.Underlays.{IsUnderlay};
 ghost use Rattle.stable_replay.specs.Parts as parts;
-ghost use Rattle.stable_replay.specs.Same.{same_rec};
+ghost use Rattle.same_routes.specs.Same.{same_rec};
 
 use crate::candidates::candidates;
-use crate::same::same_route;
 use ios_ast::{Bgp, File};
 use mw_text::{List, Prefix};
 use net_model::Net;
@@ -22,6 +21,7 @@ use policy_eval::copy_route;
 use proto_bgp::{Candidate, survivors};
 use route_candidates::Underlay;
 use route_record::{BgpRec, Environment, Failures, Slot, Tables};
+use same_routes::same_route;
 use std::alloc::{AllocError, Global};
 
 // Whether the candidate at that place has the route.

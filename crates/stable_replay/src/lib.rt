@@ -1,7 +1,6 @@
 //! Whether tables are a stable routing of a network.
 #![tactic(auto)]
 
-pub mod arriving;
 mod candidates;
 mod checking;
 mod decided;
@@ -9,9 +8,9 @@ mod differs;
 mod entry;
 mod ospf;
 mod replaying;
-mod same;
 mod slots;
 
+pub use arriving_messages::arriving;
 pub use checking::check;
 pub use differs::{Differs, Part, ReplayNo};
 pub use replaying::replay;

@@ -11,9 +11,10 @@ ghost use Rattle.route_candidates.specs.Origins.{origins_at};
 ghost use Rattle.route_candidates.specs.Underlays.{IsUnderlay};
 ghost use Rattle.stable_replay.specs.Parts as parts;
 
+use arriving_messages::far_record;
 use ios_ast::File;
 use mw_text::{List, Prefix};
-use net_model::{Adjacency, Net};
+use net_model::Net;
 use route_candidates::{Underlay, held_from, origins};
 use route_record::{Failures, OspfKind, OspfRec, Slot, Tables};
 use std::alloc::{AllocError, Global};
@@ -33,16 +34,6 @@ fn held_origins(
     match tables.slot(router, p.len) {
         None => Ok(List::new(alloc)),
         Some(slot) => origins(alloc, net, failures, router, p, slot),
-    }
-}
-
-// The record that the far router of an adjacency holds.
-fn far_record(tables: &Tables, p: &Prefix, a: &Adjacency) -> Option<OspfRec>
-    ensures { result ≡ routes.far_record tables.now p.now a.now }
-{
-    match tables.slot(a.to.router, p.len) {
-        None => None,
-        Some(slot) => slot.ospf,
     }
 }
 

@@ -1,0 +1,5 @@
+pub mod Restored
+pub mod Taken
+pub mod Ascending
+pub mod Posted
+pub mod FewAdjacencies

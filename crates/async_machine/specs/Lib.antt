@@ -1,0 +1,4 @@
+pub mod Decisions
+pub mod Taking
+pub mod Runs
+pub mod Machine

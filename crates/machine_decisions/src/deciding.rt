@@ -1,0 +1,183 @@
+//! What a router decides for one prefix.
+
+ghost use Rattle.std.specs.Prelude.{◌≡◌, false, IfOk, Some, slice_get};
+ghost use Rattle.std.specs.Option.{option_map_or};
+ghost use Rattle.machine_laws.specs.Deciding as deciding;
+ghost use Rattle.net_parts.specs.OspfRoutes as routes;
+ghost use Rattle.route_candidates.specs.Underlays.{IsUnderlay};
+
+use crate::heard::heard_records;
+use crate::kept::kept;
+use crate::learnt::candidates_heard;
+use ios_ast::{Bgp, File};
+use machine_laws::State;
+use mw_text::Prefix;
+use net_model::Net;
+use proto_bgp::survivors;
+use proto_rib::best_entry;
+use route_candidates::{Underlay, held_from, is_own, origins};
+use route_record::{BgpRec, Failures, OspfRec, Slot};
+use std::alloc::{AllocError, Global};
+
+// The OSPF part.
+#[tactic(auto, using(crate::proofs::Received::ospf_is))]
+fn decided_ospf(
+    alloc: Global,
+    net: &Net,
+    state: &State,
+    underlay: &Underlay,
+    router: u32,
+    file: &File,
+    p: &Prefix,
+    slot: &Slot,
+) -> Result<Option<OspfRec>, AllocError>
+    requires underlay { IsUnderlay net.now.files state.now.failures underlay.now }
+    requires file { slice_get net.now.files router ≡ Some file.now }
+    ensures { IfOk result (λ made. made
+        ≡ deciding.decided_ospf net.now.files state.now router file.now p.now slot.now) }
+{
+    if file.ospf.is_none() {
+        return Ok(None);
+    }
+    let own = origins(alloc, net, &state.failures, router, p, slot)?;
+    let heard = heard_records(alloc, state.adjacencies.as_slice(), p.len)?;
+    Ok(held_from(
+        net,
+        &state.failures,
+        underlay,
+        router,
+        own.as_slice(),
+        heard.as_slice(),
+    ))
+}
+
+// The BGP part, where the router runs that process.
+fn decided_by(
+    alloc: Global,
+    net: &Net,
+    state: &State,
+    underlay: &Underlay,
+    router: u32,
+    file: &File,
+    process: &Bgp,
+    p: &Prefix,
+    slot: &Slot,
+) -> Result<Option<BgpRec>, AllocError>
+    requires underlay { IsUnderlay net.now.files state.now.failures underlay.now }
+    requires file { slice_get net.now.files router ≡ Some file.now }
+    requires process { file.now.bgp ≡ Some process.now }
+    ensures { IfOk result (λ made. made
+        ≡ deciding.decided_bgp net.now.files state.now router file.now p.now slot.now) }
+{
+    let all = candidates_heard(alloc, net, state, underlay, router, file, process, p, slot)?;
+    let left = survivors(
+        alloc,
+        process.always_compare,
+        process.compare_routerid,
+        all.as_slice(),
+    )?;
+    kept(alloc, &slot.bgp, all.as_slice(), left.as_slice())
+}
+
+// The BGP part.
+fn decided_bgp(
+    alloc: Global,
+    net: &Net,
+    state: &State,
+    underlay: &Underlay,
+    router: u32,
+    file: &File,
+    p: &Prefix,
+    slot: &Slot,
+) -> Result<Option<BgpRec>, AllocError>
+    requires underlay { IsUnderlay net.now.files state.now.failures underlay.now }
+    requires file { slice_get net.now.files router ≡ Some file.now }
+    ensures { IfOk result (λ made. made
+        ≡ deciding.decided_bgp net.now.files state.now router file.now p.now slot.now) }
+{
+    match &file.bgp {
+        None => Ok(None),
+        Some(process) => decided_by(alloc, net, state, underlay, router, file, process, p, slot),
+    }
+}
+
+// Whether an own origin, by the slot as it stands, is as good as what is decided of OSPF.
+fn own_is_as_good(
+    alloc: Global,
+    net: &Net,
+    failures: &Failures,
+    router: u32,
+    file: &File,
+    p: &Prefix,
+    slot: &Slot,
+    ospf: &Option<OspfRec>,
+) -> Result<bool, AllocError>
+    requires file { slice_get net.now.files router ≡ Some file.now }
+    ensures { IfOk result (λ own. own
+        ≡ option_map_or (routes.is_own net.now.files failures.now router file.now p.now slot.now) ospf.now false) }
+{
+    match ospf {
+        None => Ok(false),
+        Some(held) => is_own(alloc, net, failures, router, file, p, slot, held),
+    }
+}
+
+// The slot of these parts, with the table entry that they give.
+fn with_entry(
+    alloc: Global,
+    net: &Net,
+    failures: &Failures,
+    router: u32,
+    file: &File,
+    p: &Prefix,
+    slot: &Slot,
+    ospf: Option<OspfRec>,
+    bgp: Option<BgpRec>,
+) -> Result<Slot, AllocError>
+    requires file { slice_get net.now.files router ≡ Some file.now }
+    ensures { IfOk result (λ new. new
+        ≡ deciding.with_entry net.now.files failures.now router file.now p.now slot.now ospf bgp) }
+{
+    let own = own_is_as_good(alloc, net, failures, router, file, p, slot, &ospf)?;
+    let mut made = Slot {
+        ospf,
+        bgp,
+        rib: slot.rib,
+    };
+    let rib = best_entry(net, failures, router, p, &made, own);
+    made.rib = rib;
+    Ok(made)
+}
+
+/// The slot that a router decides in the place of its slot for the prefix: the OSPF route that it holds by its own
+/// origins and by what it last heard; of the BGP routes that its decision process leaves the one that it holds, and else
+/// the first; and the table entry by these. Its own origins and redistributed routes are those of the slot as it stands.
+#[tactic(auto, unfolding(machine_laws::specs::Deciding::decided))]
+pub fn decided(
+    alloc: Global,
+    net: &Net,
+    state: &State,
+    underlay: &Underlay,
+    router: u32,
+    file: &File,
+    p: &Prefix,
+    slot: &Slot,
+) -> Result<Slot, AllocError>
+    requires underlay { IsUnderlay net.now.files state.now.failures underlay.now }
+    requires file { slice_get net.now.files router ≡ Some file.now }
+    ensures { IfOk result (λ new. new ≡ deciding.decided net.now.files state.now router file.now p.now slot.now) }
+{
+    let ospf = decided_ospf(alloc, net, state, underlay, router, file, p, slot)?;
+    let bgp = decided_bgp(alloc, net, state, underlay, router, file, p, slot)?;
+    with_entry(
+        alloc,
+        net,
+        &state.failures,
+        router,
+        file,
+        p,
+        slot,
+        ospf,
+        bgp,
+    )
+}

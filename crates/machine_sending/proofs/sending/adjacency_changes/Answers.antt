@@ -1,0 +1,11 @@
+use Rattle.machine_channels.specs.Changes.{IsSmallChange, sending}
+use Rattle.machine_channels.proofs.Made.{made_more}
+use Rattle.machine_laws.specs.Sending.{adjacency_up_at, offered_at, offers_from}
+use Rattle.machine_sending.proofs.sending.adjacency_changes.Goals as goal
+
+pub loop-at-preserved : goal.loop-at-preserved
+loop-at-preserved c =
+    made_more (λ x. IsSmallChange x) (sending (offers_from c.args.net.now.files c.args.router)
+    (adjacency_up_at c.args.net.now.files c.args.state.now.failures) (offered_at c.args.net.now.files c.args.d c.args.state.now.tables) c.args.len)
+    c.loop-at.at c.loop-at.made-inside.items.items _ c.in_ok-change.change c.loop-at.invariant c.in_ok-push.ensures.items
+    c.in_ok-change.ensures.value c.in_ok-change.ensures.small

@@ -1,0 +1,4 @@
+pub mod Lines
+pub mod Opening
+pub mod Turns
+pub mod Simulating
