@@ -1,5 +1,6 @@
 -- Small networks, and the routes that go over them.
-use Rattle.std.specs.Prelude.{ℕ, Bool, true, false, List, [], ◌∷◌, ◌++◌, codes, replicate, Option, Some, None}
+use Rattle.std.specs.Prelude.{ℕ, ◌+◌, Bool, true, false, List, [], ◌∷◌, ◌++◌, codes, length, replicate, Option, Some}
+use Rattle.std.specs.Prelude.{None}
 use Rattle.mw_text.specs.declared.address.Addr.{Addr}
 use Rattle.mw_text.specs.declared.address.Prefix.{Prefix}
 use Rattle.ios_ast.specs.declared.bgp.Bgp.{Bgp}
@@ -27,7 +28,9 @@ use Rattle.route_record.specs.declared.Plan.{Plan}
 use Rattle.route_record.specs.declared.RibSource.TheVariants as source
 use Rattle.route_record.specs.declared.Slot.{Slot}
 use Rattle.route_record.specs.declared.Tables.{Tables}
+use Rattle.route_record.specs.declared.TheConstants.{LENGTHS}
 use Rattle.net_parts.specs.Decisions.{Candidate}
+use Rattle.length_classes.specs.Lists.{classes_below, cuts_to, slices_below}
 use Rattle.route_shapes.specs.Shapes.{PathShape}
 
 abbrev pub address : ℕ → Addr
@@ -335,3 +338,56 @@ depot =
 -- the shape of a path of that length, with its first and its last number and the marks of the tracked numbers
 abbrev pub path_shape : ℕ → ℕ → ℕ → List Bool → PathShape
 path_shape len first last numbers = record { len = len; first = first; last = last; numbers = numbers }
+
+-- two routers with a link between them: the first has a static route to the loopback 10.2.0.1 of the second
+abbrev pub two_routers : List File
+two_routers =
+    record (router (codes "N1") (interface (codes "Ethernet0") 167772161 30 ∷ []) None None) {
+      statics = record {
+        line = 1;
+        prefix = prefix 167903233 32;
+        via = Next (address 167772162);
+        distance = 1;
+      } ∷ [];
+    }
+    ∷ router (codes "N2") (interface (codes "Ethernet0") 167772162 30 ∷ interface (codes "Loopback0") 167903233 32 ∷ [])
+    None None ∷ []
+
+-- two routers with an external session between them and links to two external peers, and a prefix list of one /16 at
+-- the first
+abbrev pub filtered : List File
+filtered =
+    record (router (codes "B1") (interface (codes "Ethernet0") 3221225985 30 ∷ interface (codes "Ethernet1") 3221225989 30
+    ∷ interface (codes "Ethernet2") 3221225993 30 ∷ []) None
+    (Some (bgp 65000 (neighbour 3221225986 65001 None ∷ neighbour 3221225990 65002 None
+    ∷ record (neighbour 3221225994 65003 None) { prefix_out = Some short } ∷ [])))) {
+      policies = record {
+        prefix_lists = record {
+          name = codes "SHORT";
+          entries = record {
+            line = 1;
+            seq = 5;
+            permit = true;
+            prefix = prefix 3405774848 16;
+            low = 16;
+            high = 16;
+          } ∷ [];
+        } ∷ [];
+        communities = [];
+        as_paths = [];
+        access = [];
+        maps = [];
+      };
+    }
+    ∷ router (codes "C1") (interface (codes "Ethernet0") 3221225994 30 ∷ []) None
+    (Some (bgp 65003 (neighbour 3221225993 65000 None ∷ []))) ∷ []
+  where
+    short : Use
+    short = record { line = 1; name = codes "SHORT" }
+
+-- its classes and slices in the coarsest plan
+abbrev pub coarsest_plan : List File → Plan
+coarsest_plan files = record {
+  class = classes_below files LENGTHS;
+  slices = slices_below (classes_below files LENGTHS) (length files) (cuts_to files 32 + 1);
+}

@@ -6,6 +6,8 @@ ghost use Rattle.net_parts.specs.Decisions.{survivors};
 ghost use Rattle.net_parts.specs.Exports.{exported, imported};
 ghost use Rattle.net_parts.specs.Resolution.{session_up};
 ghost use Rattle.net_parts.specs.Sessions.{ends_of};
+ghost use Rattle.held_values.specs.Values.{firsts_of, next_hops_of, preferences_of, weights_of};
+ghost use Rattle.slot_places.specs.Values.{once};
 ghost use Rattle.examples_definitions.specs.Networks.{address, candidate, edge, failed, learnt, message, prefix};
 
 /// E1 has an end towards the external peer, and each router has one towards the other. The session between loopbacks is up
@@ -32,6 +34,15 @@ pub fn exports_at_an_edge()
     ensures not_back { option_and_then (λ end. exported edge end (prefix 0 0) (learnt 184483841 (65009 ∷ []) 184483841 None)) (slice_get (ends_of edge) 2) ≡ None }
     ensures own_as_in_front { option_map (λ sent. sent.path) (option_and_then (λ end. exported edge end (prefix 0 0) (learnt 184483842 (65009 ∷ []) 184483842 None)) (slice_get (ends_of edge) 0)) ≡ Some (65000 ∷ 65009 ∷ []) }
     ensures path_of_256 { option_map (λ sent. length sent.path) (option_and_then (λ end. exported edge end (prefix 0 0) (learnt 184483842 (replicate 255 65009) 184483842 None)) (slice_get (ends_of edge) 0)) ≡ Some 256 }
+{}
+
+/// Held routes at the edge have the weight of a neighbour or of a local route, and next hops that are neighbours; the first
+/// AS number of a path is the external peer's, and none is said of the two internal neighbours.
+pub fn values_at_an_edge()
+    ensures weights { once (weights_of edge) ≡ 0 ∷ 32768 ∷ [] }
+    ensures preferences { once (preferences_of edge) ≡ 100 ∷ [] }
+    ensures next_hops { once (next_hops_of edge) ≡ 0 ∷ 3221225986 ∷ 184483842 ∷ 184483841 ∷ [] }
+    ensures firsts { once (firsts_of edge) ≡ 0 ∷ 65001 ∷ [] }
 {}
 
 /// Three routes of which pairs would go round: the MED removes the third, which has the first one's neighbouring AS, and

@@ -1,0 +1,4 @@
+pub mod Alike
+pub mod Emptied
+pub mod Announced
+pub mod Moved
