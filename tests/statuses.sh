@@ -39,6 +39,36 @@ ended "0, a counterexample is true" 0 "yes"
 run replay "$network/unstable.json" "$@"
 ended "1, a counterexample is not true" 1 'no differs E2 24 bgp held null wanted [{"clusters":[],"communities":[],"from":"10.255.0.1","localpref":100,"med":0,"nexthop":"10.255.0.1","origin":"igp","path":[65001],"weight":0}]'
 
+run verify "$@"
+ended "1, a provider's route goes over an internal session" 1 "broken q1"
+tail -n 1 printed >counterexample.json
+run replay counterexample.json "$@"
+ended "0, that counterexample is true" 0 "yes"
+grep -v next-hop-self "$network/e1.cfg" >e1.cfg
+run verify "$network/questions.txt" e1.cfg "$network/e2.cfg"
+ended "0, its next hop is not known inside" 0 "holds q1"
+
+core="$top/examples/internal-core"
+set -- "$core/questions.txt" "$core/west.cfg" "$core/east.cfg" "$core/rr1.cfg" "$core/rr2.cfg"
+run verify "$@"
+verdicts=$(grep -v '^{' printed | tr '\n' ' ')
+if [ "$status" -eq 1 ] && [ "$verdicts" = "broken servers holds west broken east " ]; then
+    echo "ok: a core with two reflectors has the verdicts that its README gives"
+else
+    echo "FAILED: the core's verdicts are $verdicts"
+    failed=1
+fi
+grep '^{' printed | while read -r line; do
+    printf '%s\n' "$line" >counterexample.json
+    "$program" replay counterexample.json "$@"
+done >replayed
+if [ "$(sort -u replayed)" = yes ] && [ "$(wc -l <replayed)" -eq 2 ]; then
+    echo "ok: both its counterexamples are true"
+else
+    echo "FAILED: a counterexample about the core is not true"
+    failed=1
+fi
+
 triangle="$top/examples/ospf-triangle"
 set -- "$triangle/k1.cfg" "$triangle/k2.cfg" "$triangle/k3.cfg"
 run verify "$triangle/one-failure.txt" "$@"
@@ -113,14 +143,82 @@ else
     failed=1
 fi
 
+# checked WHAT STATUS TEXT LOG: what `check` says of that log of the triangle.
+checked() {
+    run check "$4" "$triangle/one-failure.txt" "$triangle/k1.cfg" "$triangle/k2.cfg" "$triangle/k3.cfg"
+    ended "$1" "$2" "$3"
+}
+"$program" --log k.log verify "$triangle/one-failure.txt" "$@" >/dev/null
+last=$(grep -n '^a ' k.log | tail -n 1 | cut -d : -f 1)
+first=$(grep -n '^a ' k.log | head -n 1 | cut -d : -f 1)
+checked "0, the log of a question that holds" 0 yes k.log
+sed "${last}s/[0-9]* 0\$/999999999 0/" k.log >other.log
+checked "1, a number that was never given" 1 "no other.log:$last 31 UnknownId" other.log
+sed '$d' k.log >other.log
+checked "1, the last line is missing" 1 "no other.log:$(wc -l <k.log) 39 Missing" other.log
+sed "${first}s/ 0\$//" k.log >other.log
+checked "1, an addition without its end" 1 "no other.log:$first 36 BadLine" other.log
+wanted=$(sed -n '2s/^i 1 //p' k.log)
+sed '2s/^i 1 -/i 1 /;t;2s/^i 1 /i 1 -/' k.log >other.log
+checked "1, a literal of an input is negated" 1 "no other.log:2 37 InputDiffers $wanted" other.log
+sed '1s/.*/q q2/' k.log >other.log
+checked "1, the section of another question" 1 "no other.log:1 36 BadLine" other.log
+sed "${first}s/.*/e/" k.log >other.log
+checked "1, the end directly after the inputs" 1 "no other.log:$first 38 NotRefuted" other.log
+checked "5, no log" 5 "" absent.log
+"$program" --log other.log verify --conflicts 1 "$triangle/one-failure.txt" "$@" >/dev/null
+checked "1, the log of a search that gave up" 1 "no other.log:$(wc -l <other.log) 38 NotRefuted" other.log
+"$program" --log other.log verify questions.txt n1.cfg n2.cfg >/dev/null
+run check other.log "$triangle/one-failure.txt" "$@"
+if [ "$status" -eq 1 ] && grep -q '^no other.log:[0-9]* 3[67] ' printed; then
+    echo "ok: 1, the log of another network"
+else
+    echo "FAILED: the log of another network: status $status and '$(cat printed)'"
+    failed=1
+fi
+grep '^q[345] ' "$triangle/kinds.txt" | sed '1d' >two.txt
+"$program" --log two.log verify two.txt "$@" >/dev/null
+run check two.log two.txt "$@"
+ended "0, the log of two questions" 0 yes
+{ sed '1,/^e$/d' two.log && sed '/^e$/q' two.log; } >other.log
+run check other.log two.txt "$@"
+ended "1, their sections are exchanged" 1 "no other.log:1 36 BadLine"
+: >none.txt
+: >none.log
+run check none.log none.txt "$@"
+ended "0, no question and an empty log" 0 yes
+run check k.log none.txt "$@"
+ended "1, no question and a log" 1 "no k.log:1 36 BadLine"
+run check none.log "$triangle/one-failure.txt" "$@"
+ended "1, an empty log" 1 "no none.log:1 39 Missing"
+
+for count in 3 4; do
+    run gen "$count"
+    ended "0, a ring of $count" 0 "routers $count links $count"
+    if [ "$(tail -n 1 printed)" = "holds g1" ]; then
+        echo "ok: its question holds"
+    else
+        echo "FAILED: $(tail -n 1 printed)"
+        failed=1
+    fi
+done
 run
 ended "3, no words" 3 "usage: mw_cli verify, check, replay, simulate or gen"
-run verify questions.txt
-ended "3, no configuration" 3 "usage: mw_cli verify, check, replay, simulate or gen"
-
-cp "$network/e1.cfg" "$network/e2.cfg" .
-run verify "$network/questions.txt" e1.cfg e2.cfg
-ended "4, internal BGP" 4 "refused e1.cfg:16 3 NotBuilt"
+usage="usage: mw_cli verify, check, replay, simulate or gen"
+for words in "verify questions.txt" "check" "sniff" "gen 2" "gen 65" "gen" "gen 3 4" "gen --conflicts 0 3" \
+    "verify --conflicts 0 questions.txt n1.cfg n2.cfg" "verify --conflicts 1000000001 questions.txt n1.cfg n2.cfg" \
+    "verify --conflicts 5 --conflicts 5 questions.txt n1.cfg n2.cfg" "verify --help" "verify -q questions.txt n1.cfg"; do
+    # shellcheck disable=SC2086
+    run $words
+    ended "3, $words" 3 "$usage"
+done
+run verify --conflicts=5 questions.txt n1.cfg n2.cfg
+ended "0, the limit of conflicts behind a sign" 0 "holds q1"
+run verify questions.txt n1.cfg n2.cfg --conflicts 5
+ended "0, the limit of conflicts as the last words" 0 "holds q1"
+cp questions.txt ./-q.txt
+run verify -- -q.txt n1.cfg n2.cfg
+ended "0, a name that begins with a dash, after two dashes" 0 "holds q1"
 
 printf 'hostname N1\n!\nrouter eigrp 1\n' >other.cfg
 run verify questions.txt other.cfg n2.cfg

@@ -124,15 +124,23 @@ report_unknown() {
     add_case "$name" error unknown "unknown after $count" ""
 }
 
-report_replay() {
+# What `replay` or `check` says.
+report_answer() {
     take_time
     object "{\"answer\":\"$(escaped json "$1")\",\"seconds\":$seconds}"
+    case $asking in check) denied="the log does not show it" ;; *) denied="the counterexample is not true" ;; esac
     if [ "$1" = yes ]; then
-        add_case replay
+        add_case "$asking"
     else
         failures=$((failures + 1))
-        add_case replay failure no "the counterexample is not true" "$1"
+        add_case "$asking" failure no "$denied" "$1"
     fi
+}
+
+# How large the ring of `gen` is.
+report_size() {
+    count=${1%% *}
+    object "{\"routers\":$count,\"links\":$count}"
 }
 
 # The first line of what is printed for a refused file; its name may hold line feeds.
@@ -155,7 +163,8 @@ report_line() {
     'holds '*) report_holds "${1#holds }" ;;
     'broken '*) report_broken "${1#broken }" ;;
     'unknown '*) report_unknown "${1#unknown }" ;;
-    *) report_replay "$1" ;;
+    'routers '*) report_size "${1#routers }" ;;
+    *) report_answer "$1" ;;
     esac
 }
 
@@ -192,8 +201,10 @@ write_junit() {
 # report WORDS: reads what the program prints for these words, and then its status from a pipe; ends with that.
 report() {
     if [ "${1-}" = --log ] && [ $# -ge 2 ]; then shift 2; fi
-    case ${1-} in
-    replay) suite=${3-} ;;
+    asking=${1-}
+    case $asking in
+    replay | check) suite=${3-} ;;
+    gen) suite=gen ;;
     *) if [ "${2-}" = --conflicts ]; then suite=${4-}; else suite=${2-}; fi ;;
     esac
     suite=$(escaped xml "$suite")

@@ -40,6 +40,15 @@ pub fn add_line(files: &mut List<TestFile>, line: &str) -> io::Result<()> {
     Ok(())
 }
 
+/// Keeps a log as the file `k.log`.
+pub fn keep_log(alloc: Global, files: &mut List<TestFile>, log: &[u8]) -> io::Result<()> {
+    begin_file(alloc, files, "k.log")?;
+    if let Some(file) = files.items.last_mut() {
+        file.bytes.items.extend_from_slice(log)?;
+    }
+    Ok(())
+}
+
 fn raw_byte(byte: u8) -> u8 {
     match byte {
         b'|' => b'\n',

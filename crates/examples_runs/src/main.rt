@@ -3,24 +3,26 @@
 //! `%file NAME` begins a file, in the place of an earlier one of that name, and its lines follow; `%clear` forgets all files.
 //! `%raw TEXT` adds a text to the last file in which `|` is the end of a line, `~` a carriage return and `^` a byte 0;
 //! `%pad N` adds `!` up to so many bytes. `%run WORDS` runs these words; `%verdicts WORDS` leaves out the lines of
-//! counterexamples, and `%logged WORDS` prints the log as well. Before it `%read N`, `%write N` and `%log N` say that its
-//! Nth read, write of the output and write of the log fails. `% TEXT` is printed.
+//! counterexamples, `%logged WORDS` prints the log as well, and `%kept WORDS` keeps it as the file `k.log`. Before it
+//! `%read N`, `%write N` and `%log N` say that its Nth read, write of the output and write of the log fails, and
+//! `%deciders N` that it has so many deciders in the place of two. `%replayed NAMES` runs `verify` with these names, and
+//! then `replay` of each counterexample. `% TEXT` is printed.
 #![tactic(auto)]
 
 mod files;
 mod runs;
 
-use crate::files::{add_line, add_raw, begin_file, pad};
-use crate::runs::{Failing, Shown, show_run};
+use crate::files::{add_line, add_raw, begin_file, keep_log, pad};
+use crate::runs::{Setup, Shown, show_replayed, show_run};
 use mw_outside::TestFile;
 use mw_text::List;
 use std::io;
 
-/// The files so far, and what fails in the next run.
+/// The files so far, and what is otherwise in the next run.
 #[derive(Drop)]
 struct Case {
     files: List<TestFile>,
-    failing: Failing,
+    setup: Setup,
 }
 
 fn number(word: &str) -> u64 {
@@ -33,18 +35,23 @@ fn run_next(
     words: &str,
     shown: Shown,
 ) -> io::Result<()> {
-    let failing = case.failing;
-    case.failing = Failing::none();
-    show_run(rt, case.files.as_slice(), failing, words, shown)
+    let setup = case.setup;
+    case.setup = Setup::usual();
+    let log = show_run(rt, case.files.as_slice(), setup, words, shown)?;
+    match shown {
+        Shown::Kept => keep_log(rt.alloc(), &mut case.files, log.taken()),
+        _ => Ok(()),
+    }
 }
 
 // What an order that needs no memory says of the files and of the next run.
 fn set(case: &mut Case, word: &str, count: u64) {
     match word {
         "clear" => case.files.items.clear(),
-        "read" => case.failing.read = count,
-        "write" => case.failing.write = count,
-        "log" => case.failing.log = count,
+        "read" => case.setup.read = count,
+        "write" => case.setup.write = count,
+        "log" => case.setup.log = count,
+        "deciders" => case.setup.deciders = count,
         _ => {}
     }
 }
@@ -63,6 +70,8 @@ fn take_order(
         "run" => run_next(rt, case, rest, Shown::Output),
         "verdicts" => run_next(rt, case, rest, Shown::Verdicts),
         "logged" => run_next(rt, case, rest, Shown::Log),
+        "kept" => run_next(rt, case, rest, Shown::Kept),
+        "replayed" => show_replayed(rt, case.files.as_slice(), rest),
         _ => {
             set(case, word, number(rest));
             Ok(())
@@ -90,7 +99,7 @@ fn read_script(rt: &(impl Input + Print + AllocGlobal), case: &mut Case) -> io::
 fn main(rt: HostRuntime) -> io::Result<()> {
     let mut case = Case {
         files: List::new(rt.alloc()),
-        failing: Failing::none(),
+        setup: Setup::usual(),
     };
     read_script(&rt, &mut case)
 }

@@ -1,26 +1,31 @@
 //! A run over files in memory.
 
-use crate::files::copy_files;
+use crate::files::{add_line, begin_file, copy_files};
+use deciders::{Decider, OrderDecider, ScoreDecider};
 use mw_outside::{TestFile, TestFiles, TestSink};
 use mw_text::List;
 use mw_verify::{Status, number_of, run};
 use std::alloc::{AllocError, Global};
 use std::io;
 
-/// The numbers of the read, of the write of the output and of the write of the log that fail, or 0.
+/// The numbers of the read, of the write of the output and of the write of the log that fail, or 0; and how many deciders
+/// there are, of which the first follows scores and the second goes by the order of the variables.
 #[derive(Clone, Copy)]
-pub struct Failing {
+pub struct Setup {
     pub read: u64,
     pub write: u64,
     pub log: u64,
+    pub deciders: u64,
 }
 
-impl Failing {
-    pub fn none() -> Failing {
-        Failing {
+impl Setup {
+    /// Nothing fails, and there are two deciders.
+    pub fn usual() -> Setup {
+        Setup {
             read: 0,
             write: 0,
             log: 0,
+            deciders: 2,
         }
     }
 }
@@ -34,6 +39,8 @@ pub enum Shown {
     Verdicts,
     /// The output, and then the log.
     Log,
+    /// The output, and the log is kept as a file.
+    Kept,
 }
 
 fn words_of(alloc: Global, line: &str) -> Result<Vec<String>, AllocError> {
@@ -63,15 +70,24 @@ fn sink(alloc: Global, write: u64) -> Result<TestSink, AllocError> {
     TestSink::new(alloc, 10_000_000, writes)
 }
 
-/// Runs the words. What the run leaves in the files and the sinks is looked at afterwards, not said here.
+/// Runs the words with so many deciders. What the run leaves in the files and the sinks is looked at afterwards, not said
+/// here.
 fn status_of(
     alloc: Global,
     words: &[String],
     contents: &mut TestFiles,
     out: &mut TestSink,
     log: &mut TestSink,
-) -> Status {
-    run(alloc, words, contents, out, log)
+    count: u64,
+) -> Result<Status, AllocError> {
+    let mut deciders: Vec<Box<dyn Decider>> = Vec::new(alloc);
+    if count > 0 {
+        deciders.push(Box::new(alloc, ScoreDecider::new(alloc))?)?;
+    }
+    if count > 1 {
+        deciders.push(Box::new(alloc, OrderDecider::new())?)?;
+    }
+    Ok(run(alloc, words, contents, out, log, &mut deciders))
 }
 
 fn show_bytes(rt: &impl Print, bytes: &[u8]) -> io::Result<()> {
@@ -104,7 +120,7 @@ fn show_both(rt: &impl Print, out: &[u8], log: &[u8]) -> io::Result<()> {
 
 fn show_taken(rt: &impl Print, out: &[u8], log: &[u8], shown: Shown) -> io::Result<()> {
     match shown {
-        Shown::Output => show_bytes(rt, out),
+        Shown::Output | Shown::Kept => show_bytes(rt, out),
         Shown::Verdicts => show_verdicts(rt, out),
         Shown::Log => show_both(rt, out, log),
     }
@@ -125,25 +141,121 @@ fn show_result(
 fn show_sinks(
     rt: &(impl Print + AllocGlobal),
     contents: &mut TestFiles,
-    failing: Failing,
+    setup: Setup,
     line: &str,
     shown: Shown,
-) -> io::Result<()> {
+) -> io::Result<TestSink> {
     let words = words_of(rt.alloc(), line)?;
-    let mut out = sink(rt.alloc(), failing.write)?;
-    let mut log = sink(rt.alloc(), failing.log)?;
-    let status = status_of(rt.alloc(), words.as_slice(), contents, &mut out, &mut log);
-    show_result(rt, line, status, out.taken(), log.taken(), shown)
+    let mut out = sink(rt.alloc(), setup.write)?;
+    let mut log = sink(rt.alloc(), setup.log)?;
+    let (words, count) = (words.as_slice(), setup.deciders);
+    let status = status_of(rt.alloc(), words, contents, &mut out, &mut log, count)?;
+    show_result(rt, line, status, out.taken(), log.taken(), shown)?;
+    Ok(log)
 }
 
-/// Runs the words of a line, and prints the status and what is asked of the output and the log.
+// Files with a counterexample as one more of them.
+fn with_counterexample(
+    alloc: Global,
+    files: &[TestFile],
+    text: &str,
+) -> io::Result<List<TestFile>> {
+    let mut all = copy_files(alloc, files)?;
+    begin_file(alloc, &mut all, "counterexample.json")?;
+    add_line(&mut all, text)?;
+    Ok(all)
+}
+
+// The words `replay counterexample.json` with what stands behind `verify`.
+fn replay_words(alloc: Global, names: &str) -> Result<String, AllocError> {
+    let mut line = String::from_str(alloc, "replay counterexample.json ")?;
+    line.push_str(names)?;
+    Ok(line)
+}
+
+fn replay_one(
+    rt: &(impl Print + AllocGlobal),
+    files: &[TestFile],
+    names: &str,
+    text: &str,
+) -> io::Result<()> {
+    let line = replay_words(rt.alloc(), names)?;
+    let all = with_counterexample(rt.alloc(), files, text)?;
+    show_run(
+        rt,
+        all.as_slice(),
+        Setup::usual(),
+        line.as_str(),
+        Shown::Output,
+    )?;
+    Ok(())
+}
+
+fn replay_lines(
+    rt: &(impl Print + AllocGlobal),
+    files: &[TestFile],
+    names: &str,
+    text: &str,
+) -> io::Result<()> {
+    for line in text.lines() {
+        if line.starts_with('{') {
+            replay_one(rt, files, names, line)?;
+        }
+    }
+    Ok(())
+}
+
+fn show_then_replay(
+    rt: &(impl Print + AllocGlobal),
+    files: &[TestFile],
+    names: &str,
+    status: Status,
+    out: &[u8],
+) -> io::Result<()> {
+    println!(rt; "verify {names}: status {}", number_of(status))?;
+    show_verdicts(rt, out)?;
+    match std::str::from_utf8(out) {
+        Ok(text) => replay_lines(rt, files, names, text),
+        Err(_) => println!(rt; "no UTF-8"),
+    }
+}
+
+fn verify_words(alloc: Global, names: &str) -> Result<String, AllocError> {
+    let mut line = String::from_str(alloc, "verify ")?;
+    line.push_str(names)?;
+    Ok(line)
+}
+
+/// Runs `verify` with these names, prints its verdicts, and then what `replay` says of each counterexample.
+pub fn show_replayed(
+    rt: &(impl Print + AllocGlobal),
+    files: &[TestFile],
+    names: &str,
+) -> io::Result<()> {
+    let mut contents = contents_of(rt.alloc(), files, 0)?;
+    let line = verify_words(rt.alloc(), names)?;
+    let words = words_of(rt.alloc(), line.as_str())?;
+    let mut out = sink(rt.alloc(), 0)?;
+    let mut log = sink(rt.alloc(), 0)?;
+    let status = status_of(
+        rt.alloc(),
+        words.as_slice(),
+        &mut contents,
+        &mut out,
+        &mut log,
+        2,
+    )?;
+    show_then_replay(rt, files, names, status, out.taken())
+}
+
+/// Runs the words of a line, prints the status and what is asked of the output and the log, and answers the log.
 pub fn show_run(
     rt: &(impl Print + AllocGlobal),
     files: &[TestFile],
-    failing: Failing,
+    setup: Setup,
     line: &str,
     shown: Shown,
-) -> io::Result<()> {
-    let mut contents = contents_of(rt.alloc(), files, failing.read)?;
-    show_sinks(rt, &mut contents, failing, line, shown)
+) -> io::Result<TestSink> {
+    let mut contents = contents_of(rt.alloc(), files, setup.read)?;
+    show_sinks(rt, &mut contents, setup, line, shown)
 }

@@ -1,13 +1,13 @@
 -- A section that is right is not wrong.
-use Rattle.std.proofs.Common.{◌≡◌, ◌≢◌, ◌∙◌, refl, ap, sym, subst, arith, ℕ, ◌+◌, Bool, true, false, ◌||◌, List, [], ◌∷◌, ◌++◌}
-use Rattle.std.proofs.Common.{length, inl, inr, Option, Some, None, append_assoc}
-use Rattle.std.specs.List.{AllByRecursion, list_any}
+use Rattle.std.proofs.Common.{◌≡◌, ◌≢◌, ◌∙◌, refl, ap, sym, subst, arith, ℕ, ◌+◌, true, false, ◌||◌, List, [], ◌∷◌, ◌++◌}
+use Rattle.std.proofs.Common.{length, inl, inr, Some, None, append_assoc}
+use Rattle.std.specs.List.{AllByRecursion}
 use Rattle.std.proofs.lemmas.Bool.{or_parts}
 use Rattle.std.proofs.lemmas.List.{append-nil, append_cancel_left, length-append}
 use Rattle.std.proofs.lemmas.Grind.{flat_map-append}
 use Rattle.resolution_check.specs.declared.log.Clause.{Clause}
 use Rattle.resolution_check.specs.declared.log.Entry.{Entry}
-use Rattle.resolution_check.specs.declared.log.Entry.TheVariants.{Input, Add, Delete, End}
+use Rattle.resolution_check.specs.declared.log.Entry.TheVariants.{Input, End}
 use Rattle.resolution_check.specs.Entries.{EachAfter, KeepsGood, adds_empty, fault_of, has_ended, is_end}
 use Rattle.resolution_check.specs.Text.{HasText, line_of, log_text, text_of}
 use Rattle.resolution_check.proofs.Goods.{free_from_kept}
@@ -107,17 +107,21 @@ never_wrong clauses done (e ∷ more) (d ∷ others) rest tail cause good texts 
     (or_parts (is_end e) (has_ended more) on).1 (or_parts (is_end d) (has_ended others) other_on).1
     (ap adds_empty (append_assoc done (e ∷ []) more) ∙ empty) same (subst W moved wrong)
 
+-- the line of the end stands behind those of the other entries
+end_apart : (entries : List Entry) (rest : List ℕ) →
+    log_text (entries ++ End ∷ []) ++ rest ≡ log_text entries ++ (line_of End ++ rest)
+end_apart entries rest =
+    ap (λ t. t ++ rest) (flat_map-append line_of entries (End ∷ [])
+    ∙ ap (λ t. log_text entries ++ t) (append-nil (line_of End)))
+    ∙ append_assoc (log_text entries) (line_of End) rest
+
 never_within : (clauses : List Clause) (bytes rest : List ℕ) (lines others : ℕ) (cause : Cause) →
     IsEndedBefore clauses bytes lines rest → IsWrongWithin clauses bytes others cause → ⊥
 never_within clauses bytes rest lines others cause (entries, refuting, count, whole)
     (front, tail, before, lines_are, parts, wrong) =
     let front_is = refuting.front in
-    let text : log_text (entries ++ End ∷ []) ++ rest ≡ log_text entries ++ (line_of End ++ rest) =
-    ap (λ t. t ++ rest) (flat_map-append line_of entries (End ∷ [])
-    ∙ ap (λ t. log_text entries ++ t) (append-nil (line_of End)))
-    ∙ append_assoc (log_text entries) (line_of End) rest in
     never_wrong clauses [] entries front rest tail cause front_is.good front_is.texts before.texts front_is.inputs
-    front_is.goes_on before.goes_on refuting.empty (sym text ∙ sym whole ∙ parts) wrong
+    front_is.goes_on before.goes_on refuting.empty (sym (end_apart entries rest) ∙ sym whole ∙ parts) wrong
 
 -- a section that is right is not wrong
 pub never_both : (name : List ℕ) (clauses : List Clause) (bytes rest : List ℕ) (lines others : ℕ) (cause : Cause) →
@@ -138,3 +142,43 @@ never_both name clauses bytes rest lines others cause (body, within, whole, coun
     let same : body ≡ other_body = append_cancel_left (opening_text name) body other_body (sym whole ∙ other_whole) in
     let W : List ℕ → Type 0 = λ b. IsWrongWithin clauses b other_within cause in
     never_within clauses body rest within other_within cause ended (subst W (sym same) wrong)
+
+-- entries up to the end that begin the same bytes leave the same bytes
+same_ends : (es ds : List Entry) (rest other : List ℕ) → AllByRecursion HasText es → AllByRecursion HasText ds →
+    has_ended es ≡ false → has_ended ds ≡ false →
+    log_text es ++ (line_of End ++ rest) ≡ log_text ds ++ (line_of End ++ other) → rest ≡ other
+same_ends [] [] rest other texts other_texts on other_on is = append_cancel_left (line_of End) rest other is
+same_ends [] (d ∷ ds) rest other texts other_texts on other_on is =
+    let line : line_of End ++ rest ≡ line_of d ++ (log_text ds ++ (line_of End ++ other)) =
+    is ∙ append_assoc (line_of d) (log_text ds) (line_of End ++ other) in
+    let one : End ≡ d = one_first End d rest (log_text ds ++ (line_of End ++ other)) tt other_texts.0 line in
+    let goes : is_end d ≡ false = (or_parts (is_end d) (has_ended ds) other_on).0 in
+    let bad : true ≡ false = ap is_end one ∙ goes in absurd (cc)
+same_ends (e ∷ es) [] rest other texts other_texts on other_on is =
+    let line : line_of End ++ other ≡ line_of e ++ (log_text es ++ (line_of End ++ rest)) =
+    sym is ∙ append_assoc (line_of e) (log_text es) (line_of End ++ rest) in
+    let one : End ≡ e = one_first End e other (log_text es ++ (line_of End ++ rest)) tt texts.0 line in
+    let goes : is_end e ≡ false = (or_parts (is_end e) (has_ended es) on).0 in
+    let bad : true ≡ false = ap is_end one ∙ goes in absurd (cc)
+same_ends (e ∷ es) (d ∷ ds) rest other texts other_texts on other_on is =
+    let left : line_of e ++ (log_text es ++ (line_of End ++ rest))
+    ≡ line_of d ++ (log_text ds ++ (line_of End ++ other)) =
+    sym (append_assoc (line_of e) (log_text es) (line_of End ++ rest)) ∙ is
+    ∙ append_assoc (line_of d) (log_text ds) (line_of End ++ other) in
+    let one : e ≡ d = one_first e d (log_text es ++ (line_of End ++ rest)) (log_text ds ++ (line_of End ++ other)) texts.0
+    other_texts.0 left in
+    let same : log_text es ++ (line_of End ++ rest) ≡ log_text ds ++ (line_of End ++ other) =
+    append_cancel_left (line_of e) _ _
+    (left ∙ ap (λ (x : Entry). line_of x ++ (log_text ds ++ (line_of End ++ other))) (sym one)) in
+    same_ends es ds rest other texts.1 other_texts.1 (or_parts (is_end e) (has_ended es) on).1
+    (or_parts (is_end d) (has_ended ds) other_on).1 same
+
+-- and so do sections that are right
+pub one_rest : (name : List ℕ) (clauses : List Clause) (bytes rest other : List ℕ) (lines others : ℕ) →
+    IsShownBefore name clauses bytes lines rest → IsShownBefore name clauses bytes others other → rest ≡ other
+one_rest name clauses bytes rest other lines others (body, within, whole, count, (entries, refuting, many, parts))
+    (other_body, other_within, other_whole, other_count, (front, other_refuting, other_many, other_parts)) =
+    let same : body ≡ other_body = append_cancel_left (opening_text name) body other_body (sym whole ∙ other_whole) in
+    same_ends entries front rest other refuting.front.texts other_refuting.front.texts refuting.front.goes_on
+    other_refuting.front.goes_on
+    (sym (end_apart entries rest) ∙ sym parts ∙ same ∙ other_parts ∙ end_apart front other)

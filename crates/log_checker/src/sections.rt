@@ -36,7 +36,7 @@ fn check_entries(alloc: Global, clauses: &[Clause], bytes: &[u8]) -> Result<Chec
     ensures ended { IfOk result (λ c. c.wrong ≡ None → IsEndedBefore clauses.now bytes.now c.lines (drop c.used bytes.now)) }
     ensures wrong { IfOk result (λ c. IfSome c.wrong (IsWrongWithin clauses.now bytes.now c.lines)) }
     ensures used { IfOk result (λ c. c.used ≤ length bytes.now) }
-    ensures lines { IfOk result (λ c. c.lines ≤ length bytes.now) }
+    ensures lines { IfOk result (λ c. c.lines ≤ c.used) }
 {
     let mut checker = Checker::new(alloc);
     let mut rest = bytes;
@@ -111,6 +111,7 @@ pub fn check_section(
     ensures shown { IfOk result (λ c. c.wrong ≡ None → IsShownBefore name.now clauses.now bytes.now c.lines (drop c.used bytes.now)) }
     ensures wrong { IfOk result (λ c. IfSome c.wrong (IsWrongAfter name.now clauses.now bytes.now c.lines)) }
     ensures used { IfOk result (λ c. c.used ≤ length bytes.now) }
+    ensures lines { IfOk result (λ c. c.lines ≤ c.used) }
 {
     let opening = opening(alloc, name)?;
     let Some(body) = after_text(bytes, opening.as_slice()) else {

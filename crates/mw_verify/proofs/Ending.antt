@@ -1,10 +1,14 @@
 -- How runs end.
-use Rattle.std.proofs.Common.{◌≡◌, ℕ, List, [], Option, true, refl, inl}
+use Rattle.std.proofs.Common.{◌≡◌, ℕ, false, List, [], Option, refl, inl, inr}
 use Rattle.mw_outside.specs.Contents.{Contents}
-use Rattle.mw_outside.specs.Taken.{part_of_all, part_of_none}
-use Rattle.run_inputs.specs.Due.{IsDue, Outcome, usage, unread, refused, answering, replaying, is_command}
+use Rattle.mw_outside.specs.Taken.{Takes, TakesPart, part_of_all, part_of_none}
+use Rattle.ios_ast.specs.declared.file.File.{File}
+use Rattle.question_lang.specs.declared.question.Question.{Question}
+use Rattle.run_inputs.specs.Due.{IsDue, Outcome, is_command, usage, unread, refused, answering, replaying, checking}
+use Rattle.run_inputs.specs.Due.{generating}
 use Rattle.run_inputs.specs.Texts.{usage_text}
-use Rattle.run_inputs.proofs.Words.{some_due}
+use Rattle.run_inputs.proofs.Commands.{due_usage, some_due}
+use Rattle.run_answers.specs.Lines.{size_text}
 use Rattle.run_answers.specs.declared.status.Status.{Status}
 use Rattle.run_answers.specs.declared.status.Status.TheVariants.{Good, Bad, Unknown, Usage, Refused, ReadFault}
 use Rattle.run_answers.specs.declared.status.Status.TheVariants.{WriteFault, Memory}
@@ -17,8 +21,11 @@ nothing_stands usage taken logged = (part_of_none taken usage_text, refl)
 nothing_stands unread taken logged = (refl, refl)
 nothing_stands (refused line) taken logged = (part_of_none taken line, refl)
 nothing_stands (replaying files questions cex) taken logged = (([], inl refl, part_of_none taken []), refl)
+nothing_stands (checking files questions log) taken logged = (([], inl refl, part_of_none taken []), refl)
+nothing_stands (generating routers files questions budget) taken logged =
+    inl (part_of_none taken (size_text routers), refl)
 nothing_stands (answering files questions budget) taken logged =
-    let none = put-none files questions budget taken logged in record {
+    let none = put-none files questions budget taken logged [] in record {
       count = 0;
       answers = none.answers;
       right = none.right;
@@ -31,48 +38,80 @@ nothing_stands (answering files questions budget) taken logged =
     }
 
 pub cut_nothing : (told : Option Contents) (words : List (List ℕ)) (taken logged : Option (List ℕ)) →
-    is_command words ≡ true → (outcome : Outcome) × IsDue told words outcome × Stands outcome taken taken logged logged
-cut_nothing told words taken logged is_command =
-    let some = some_due told words is_command in (some.0, some.1, nothing_stands some.0 taken logged)
+    (outcome : Outcome) × IsDue told words outcome × Stands outcome taken taken logged logged
+cut_nothing told words taken logged =
+    let some = some_due told words in (some.0, some.1, nothing_stands some.0 taken logged)
+
+-- a front of the line stands that says how the program is used
+pub cut_usage : (told : Option Contents) (words : List (List ℕ)) (before now logged : Option (List ℕ)) →
+    is_command words ≡ false → TakesPart before now usage_text →
+    (outcome : Outcome) × IsDue told words outcome × Stands outcome before now logged logged
+cut_usage told words before now logged none part = (usage, due_usage told words none, (part, refl))
 
 -- how a run of answers ends is how it is due
 pub answered_from : (outcome : Outcome) (status : Status) (told : Option Contents) (words : List (List ℕ))
-    (before now logged_before logged_now : Option (List ℕ)) (rose : Type 0) → IsDue told words outcome →
-    AnswersSo outcome status before now logged_before logged_now rose →
-    OnAnswered status ((o : Outcome) × IsDue told words o × IsAnswered o status before now logged_before logged_now)
-answered_from outcome status told words before now logged_before logged_now rose is_due so = by_status status so where
-  by_status : (s : Status) → AnswersSo outcome s before now logged_before logged_now rose →
-      OnAnswered s ((o : Outcome) × IsDue told words o × IsAnswered o s before now logged_before logged_now)
-  by_status Good all = (outcome, is_due, all)
-  by_status Bad all = (outcome, is_due, all)
-  by_status Unknown all = (outcome, is_due, all)
-  by_status Usage none = tt
-  by_status Refused none = tt
-  by_status ReadFault none = tt
-  by_status WriteFault part = tt
-  by_status Memory part = tt
+    (before now logged_before logged_now : Option (List ℕ)) (tolds : List (Option (List ℕ))) (rose : Type 0) →
+    IsDue told words outcome → AnswersSo outcome status before now logged_before logged_now tolds rose →
+    OnAnswered status ((o : Outcome) × IsDue told words o
+    × IsAnswered o status before now logged_before logged_now tolds)
+answered_from outcome status told words before now logged_before logged_now tolds rose is_due so = by_status status so
+  where
+    by_status : (s : Status) → AnswersSo outcome s before now logged_before logged_now tolds rose →
+        OnAnswered s ((o : Outcome) × IsDue told words o × IsAnswered o s before now logged_before logged_now tolds)
+    by_status Good all = (outcome, is_due, all)
+    by_status Bad all = (outcome, is_due, all)
+    by_status Unknown all = (outcome, is_due, all)
+    by_status Usage none = tt
+    by_status Refused none = tt
+    by_status ReadFault none = tt
+    by_status WriteFault part = tt
+    by_status Memory part = tt
 
 pub cut_from : (outcome : Outcome) (status : Status) (told : Option Contents) (words : List (List ℕ))
-    (before now logged_before logged_now : Option (List ℕ)) (rose : Type 0) → IsDue told words outcome →
-    AnswersSo outcome status before now logged_before logged_now rose →
+    (before now logged_before logged_now : Option (List ℕ)) (tolds : List (Option (List ℕ))) (rose : Type 0) →
+    IsDue told words outcome → AnswersSo outcome status before now logged_before logged_now tolds rose →
     OnCut status ((o : Outcome) × IsDue told words o × Stands o before now logged_before logged_now)
-cut_from outcome Good told words before now logged_before logged_now rose is_due so = tt
-cut_from outcome Bad told words before now logged_before logged_now rose is_due so = tt
-cut_from outcome Unknown told words before now logged_before logged_now rose is_due so = tt
-cut_from outcome Usage told words before now logged_before logged_now rose is_due so = tt
-cut_from outcome Refused told words before now logged_before logged_now rose is_due so = tt
-cut_from outcome ReadFault told words before now logged_before logged_now rose is_due so = tt
-cut_from outcome WriteFault told words before now logged_before logged_now rose is_due so = (outcome, is_due, so.0)
-cut_from outcome Memory told words before now logged_before logged_now rose is_due so = (outcome, is_due, so)
+cut_from outcome Good told words before now logged_before logged_now tolds rose is_due so = tt
+cut_from outcome Bad told words before now logged_before logged_now tolds rose is_due so = tt
+cut_from outcome Unknown told words before now logged_before logged_now tolds rose is_due so = tt
+cut_from outcome Usage told words before now logged_before logged_now tolds rose is_due so = tt
+cut_from outcome Refused told words before now logged_before logged_now tolds rose is_due so = tt
+cut_from outcome ReadFault told words before now logged_before logged_now tolds rose is_due so = tt
+cut_from outcome WriteFault told words before now logged_before logged_now tolds rose is_due so = (outcome, is_due, so.0)
+cut_from outcome Memory told words before now logged_before logged_now tolds rose is_due so = (outcome, is_due, so)
 
 -- a run of answers ends in one of five ways
 pub not_unanswered : (outcome : Outcome) (status : Status) (before now logged_before logged_now : Option (List ℕ))
-    (rose P : Type 0) → AnswersSo outcome status before now logged_before logged_now rose → OnUnanswered status P
-not_unanswered outcome Good before now logged_before logged_now rose P so = tt
-not_unanswered outcome Bad before now logged_before logged_now rose P so = tt
-not_unanswered outcome Unknown before now logged_before logged_now rose P so = tt
-not_unanswered outcome Usage before now logged_before logged_now rose P so = absurd so
-not_unanswered outcome Refused before now logged_before logged_now rose P so = absurd so
-not_unanswered outcome ReadFault before now logged_before logged_now rose P so = absurd so
-not_unanswered outcome WriteFault before now logged_before logged_now rose P so = tt
-not_unanswered outcome Memory before now logged_before logged_now rose P so = tt
+    (tolds : List (Option (List ℕ))) (rose P : Type 0) →
+    AnswersSo outcome status before now logged_before logged_now tolds rose → OnUnanswered status P
+not_unanswered outcome Good before now logged_before logged_now tolds rose P so = tt
+not_unanswered outcome Bad before now logged_before logged_now tolds rose P so = tt
+not_unanswered outcome Unknown before now logged_before logged_now tolds rose P so = tt
+not_unanswered outcome Usage before now logged_before logged_now tolds rose P so = absurd so
+not_unanswered outcome Refused before now logged_before logged_now tolds rose P so = absurd so
+not_unanswered outcome ReadFault before now logged_before logged_now tolds rose P so = absurd so
+not_unanswered outcome WriteFault before now logged_before logged_now tolds rose P so = tt
+not_unanswered outcome Memory before now logged_before logged_now tolds rose P so = tt
+
+-- answers after the line of the size
+pub answers_sized : (routers : ℕ) (files : List File) (questions : List Question) (budget : ℕ) (status : Status)
+    (before sized now logged_before logged_now : Option (List ℕ)) (tolds : List (Option (List ℕ))) (rose more : Type 0) →
+    Takes before sized (size_text routers) → (rose → more) →
+    AnswersSo (answering files questions budget) status sized now logged_before logged_now tolds rose →
+    AnswersSo (generating routers files questions budget) status before now logged_before logged_now tolds more
+answers_sized routers files questions budget Good before sized now logged_before logged_now tolds rose more takes from
+    so = record { sized = sized; size = takes; answered = so }
+answers_sized routers files questions budget Bad before sized now logged_before logged_now tolds rose more takes from
+    so = record { sized = sized; size = takes; answered = so }
+answers_sized routers files questions budget Unknown before sized now logged_before logged_now tolds rose more takes from
+    so = record { sized = sized; size = takes; answered = so }
+answers_sized routers files questions budget Usage before sized now logged_before logged_now tolds rose more takes from
+    so = absurd so
+answers_sized routers files questions budget Refused before sized now logged_before logged_now tolds rose more takes from
+    so = absurd so
+answers_sized routers files questions budget ReadFault before sized now logged_before logged_now tolds rose more takes
+    from so = absurd so
+answers_sized routers files questions budget WriteFault before sized now logged_before logged_now tolds rose more takes
+    from so = (inr (sized, takes, so.0), from so.1)
+answers_sized routers files questions budget Memory before sized now logged_before logged_now tolds rose more takes from
+    so = inr (sized, takes, so)

@@ -2,6 +2,7 @@
 //! counterexample. It prints the answers.
 #![tactic(auto)]
 
+pub mod generated;
 pub mod running;
 pub mod verdicts;
 

@@ -1,11 +1,12 @@
 //! Verdicts for the questions of a network, one after another.
 
-ghost use Rattle.std.specs.Prelude.{◌≡◌, ◌≢◌, ◌⊎◌, true, IfOk, OnErr};
+ghost use Rattle.std.specs.Prelude.{◌≡◌, ◌≢◌, ◌⊎◌, IfOk, OnErr, length, map};
 ghost use Rattle.mw_outside.specs.Faults.{Rose};
 ghost use Rattle.run_answers.specs.Answering.{IsCutShort, IsPut, OnWriteFault, UnlessWriteFault};
 ghost use Rattle.run_answers.specs.Running.{AnswersSo};
-ghost use Rattle.run_inputs.specs.Loading.{IsBudget, IsReady, are_external, outcome_of};
+ghost use Rattle.run_inputs.specs.Loading.{IsBudget, IsReady, outcome_of};
 
+use deciders::Decider;
 use mw_outside::Sink;
 use question_lang::Question;
 use question_search::answer::answer;
@@ -23,17 +24,19 @@ fn put_verdict<O: Sink, L: Sink>(
     question: &Question,
     out: &mut O,
     log: &mut L,
+    deciders: &mut Vec<Box<dyn Decider>>,
 ) -> Result<Verdict, Halt>
-    requires external { are_external loaded.now.net.files ≡ true }
     requires budget { IsBudget loaded.now.budget }
     ensures ok { IfOk result (λ verdict. IsPut loaded.now.net.files loaded.now.questions loaded.now.budget number question.now verdict
-        (O.taken out.old) (O.taken out.new) (L.taken log.old) (L.taken log.new)) }
+        (O.taken out.old) (O.taken out.new) (L.taken log.old) (L.taken log.new) (map (λ b. told b) deciders.new.items)) }
     ensures cut { OnErr result (IsCutShort loaded.now.net.files loaded.now.questions loaded.now.budget number question.now
         (O.taken out.old) (O.taken out.new) (L.taken log.old) (L.taken log.new)) }
     ensures fault { OnWriteFault result (Rose (O.faults out.old) (O.faults out.new) ⊎ Rose (L.faults log.old) (L.faults log.new)) }
     ensures writes { UnlessWriteFault result ((O.faults out.new ≡ O.faults out.old) × (L.faults log.new ≡ L.faults log.old)) }
+    ensures deciders { length deciders.new.items ≡ length deciders.old.items }
 {
-    let verdict = answer(alloc, &loaded.net, number, question, loaded.budget, log)?;
+    let budget = loaded.budget;
+    let verdict = answer(alloc, &loaded.net, number, question, budget, log, deciders)?;
     put_lines(alloc, loaded, question, &verdict, out)?;
     Ok(verdict)
 }
@@ -44,19 +47,21 @@ pub fn put_verdicts<O: Sink, L: Sink>(
     loaded: &Loaded,
     out: &mut O,
     log: &mut L,
+    deciders: &mut Vec<Box<dyn Decider>>,
 ) -> Status
     requires { IsReady (Work.Answer loaded.now) }
     ensures answers { AnswersSo (outcome_of (Work.Answer loaded.now)) result
-        (O.taken out.old) (O.taken out.new) (L.taken log.old) (L.taken log.new)
+        (O.taken out.old) (O.taken out.new) (L.taken log.old) (L.taken log.new) (map (λ b. told b) deciders.new.items)
         (Rose (O.faults out.old) (O.faults out.new) ⊎ Rose (L.faults log.old) (L.faults log.new)) }
     ensures writes { result ≢ Status.WriteFault → (O.faults out.new ≡ O.faults out.old) × (L.faults log.new ≡ L.faults log.old) }
+    ensures deciders { length deciders.new.items ≡ length deciders.old.items }
 {
     let mut seen = Seen {
         broken: false,
         unknown: false,
     };
     for (at, question) in loaded.questions.as_slice().iter().enumerate() {
-        match put_verdict(alloc, loaded, at as u32, question, out, log) {
+        match put_verdict(alloc, loaded, at as u32, question, out, log, deciders) {
             Ok(verdict) => seen = seen.with(&verdict),
             Err(Halt::WriteFault) => return Status::WriteFault,
             Err(Halt::Memory) => return Status::Memory,

@@ -5,6 +5,7 @@ use Rattle.resolution_check.specs.declared.log.Entry.{Entry}
 use Rattle.resolution_check.specs.declared.log.Entry.TheVariants.{End}
 use Rattle.resolution_check.specs.Text.{line_of}
 use Rattle.cdcl_search.specs.Outcomes.{Shows}
+use Rattle.cdcl_search.specs.Turns.{TellBumps}
 use Rattle.cdcl_search.specs.declared.outcome.Outcome.{Outcome}
 use Rattle.cdcl_search.specs.declared.outcome.SolveFault.{SolveFault}
 use Rattle.cdcl_search.specs.declared.outcome.SolveFault.TheVariants as solve
@@ -29,11 +30,19 @@ IsLogged files budget number question verdict logged_before logged_now =
     (section : List Entry) × IsAnswer files budget number question (answer_of verdict section)
     × Takes logged_before logged_now (section_text question section)
 
--- a search found this outcome, and its section stands in the log
-abbrev pub IsSearchedSo : List File → ℕ → Question → Outcome → Option (List ℕ) → Option (List ℕ) → Type 0
-IsSearchedSo files budget question outcome logged_before logged_now =
+-- the same, and each decider that tells its bumps tells those of that section
+abbrev pub IsToldSo : List File → ℕ → ℕ → Question → Verdict → Option (List ℕ) → Option (List ℕ)
+    → List (Option (List ℕ)) → Type 0
+IsToldSo files budget number question verdict logged_before logged_now tolds =
+    (section : List Entry) × IsAnswer files budget number question (answer_of verdict section)
+    × Takes logged_before logged_now (section_text question section) × TellBumps tolds section
+
+-- a search found this outcome, its section stands in the log, and deciders tell its bumps
+abbrev pub IsSearchedSo : List File → ℕ → Question → Outcome → Option (List ℕ) → Option (List ℕ)
+    → List (Option (List ℕ)) → Type 0
+IsSearchedSo files budget question outcome logged_before logged_now tolds =
     (entries : List Entry) × IsSearched files question budget entries × Shows budget entries outcome
-    × Takes logged_before logged_now (section_text question entries)
+    × Takes logged_before logged_now (section_text question entries) × TellBumps tolds entries
 
 -- the line that closes a section
 abbrev pub end_text : List ℕ
@@ -46,9 +55,9 @@ IsUnfinished files budget question logged_before logged_now =
 
 -- and the lines of the verdict are printed
 abbrev pub IsPut : List File → List Question → ℕ → ℕ → Question → Verdict → Option (List ℕ) → Option (List ℕ)
-    → Option (List ℕ) → Option (List ℕ) → Type 0
-IsPut files questions budget number question verdict before now logged_before logged_now =
-    IsLogged files budget number question verdict logged_before logged_now
+    → Option (List ℕ) → Option (List ℕ) → List (Option (List ℕ)) → Type 0
+IsPut files questions budget number question verdict before now logged_before logged_now tolds =
+    IsToldSo files budget number question verdict logged_before logged_now tolds
     × Takes before now (verdict_text files questions question verdict)
 
 -- the answer was cut short: in its search, where nothing is printed, or while its lines were printed

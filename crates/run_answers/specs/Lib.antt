@@ -2,5 +2,6 @@ pub mod Lines
 pub mod Numbers
 pub mod Verdicts
 pub mod Replays
+pub mod Checks
 pub mod Running
 pub mod Answering

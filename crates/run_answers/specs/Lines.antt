@@ -1,4 +1,4 @@
--- The lines of verdicts.
+-- The lines of verdicts, and of the size of a network.
 use Rattle.std.specs.Prelude.{ℕ, ◌++◌, List, codes}
 use Rattle.std.specs.Fmt.{decimal}
 use Rattle.question_lang.specs.declared.question.Question.{Question}
@@ -12,3 +12,7 @@ holds_text question = codes "holds " ++ question.name ++ newline
 abbrev pub unknown_text : Question → ℕ → List ℕ
 unknown_text question after = codes "unknown " ++ question.name ++ codes " after " ++ decimal after
     ++ codes " conflicts" ++ newline
+
+-- routers N links N: a ring has as many links as routers
+abbrev pub size_text : ℕ → List ℕ
+size_text routers = codes "routers " ++ decimal routers ++ codes " links " ++ decimal routers ++ newline

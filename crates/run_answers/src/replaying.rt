@@ -154,9 +154,10 @@ fn replay_line(alloc: Global, told: &Told) -> Result<ReplayLine, AllocError>
 /// Prints whether the counterexample is true.
 pub fn put_replay<O: Sink>(alloc: Global, told: &Told, out: &mut O) -> Status
     requires { IsAdmitted told.now.net.files told.now.questions told.now.cex }
-    // Nothing of it is logged.
-    ensures answers { (logged : OptionOf (ListOf ℕ)) → AnswersSo (due.replaying told.now.net.files told.now.questions told.now.cex) result
-        (O.taken out.old) (O.taken out.new) logged logged (Rose (O.faults out.old) (O.faults out.new)) }
+    // Nothing of it is logged, and no decider is asked.
+    ensures answers { (logged : OptionOf (ListOf ℕ)) (tolds : ListOf (OptionOf (ListOf ℕ))) →
+        AnswersSo (due.replaying told.now.net.files told.now.questions told.now.cex) result
+        (O.taken out.old) (O.taken out.new) logged logged tolds (Rose (O.faults out.old) (O.faults out.new)) }
     ensures writes { result ≢ Status.WriteFault → O.faults out.new ≡ O.faults out.old }
 {
     let line = match replay_line(alloc, told) {

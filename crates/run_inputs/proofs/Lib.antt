@@ -1,4 +1,3 @@
 pub mod Loading
-pub mod Deciding
-pub mod Words
+pub mod Commands
 pub mod Admitting

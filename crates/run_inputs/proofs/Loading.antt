@@ -1,6 +1,6 @@
 -- Reading and parsing one after another.
 use Rattle.std.proofs.Common.{◌≡◌, ℕ, zero, suc, ◌+◌, ◌<◌, ◌≤◌, true, false, List, [], ◌∷◌, ◌++◌, length, take, drop}
-use Rattle.std.proofs.Common.{take-append-drop, get_or, Option, Some, None, Result, Ok, Err, refl, ap, sym, arith, ◌∙◌}
+use Rattle.std.proofs.Common.{get_or, Option, Some, None, Result, Ok, Err, refl, ap, sym, arith, ◌∙◌}
 use Rattle.std.proofs.Common.{cond, append_assoc, nat_le, map, subst}
 use Rattle.std.specs.Prelude.{IfSome, IsSomeAnd}
 use Rattle.std.proofs.Math.Seq.{get_or-append_seam, take-append_seam}
@@ -13,8 +13,7 @@ use Rattle.run_inputs.specs.Loading.{OnStop}
 use Rattle.run_inputs.specs.declared.text.Text.{Text}
 use Rattle.mw_text.proofs.Reading.{EachTo, each-one, read-done, split-read}
 use Rattle.mw_text.specs.Reading.{each, following, in_turn, with_value}
-use Rattle.run_inputs.specs.declared.load.TheConstants.{MOST_CEX_BYTES}
-use Rattle.run_inputs.specs.Due.{Outcome, unread, refused, replay_due, replayed_due, text_of, text_within}
+use Rattle.run_inputs.specs.Due.{Outcome, unread, refused, text_of, text_within}
 use Rattle.run_inputs.specs.Order.{StopsAt}
 use Rattle.run_inputs.specs.Texts.{too_long}
 
@@ -83,11 +82,11 @@ if_told_one None P R p one = tt
 if_told_one (Some x) P R p one = one x p
 
 -- an item of a list of images
-pub read-map : {A B : Type 0} (f : A → B) (xs : List A) (i : ℕ) (x : A) → i < length xs → x ≡ get_or xs i x → f x
-    ≡ get_or (map f xs) i (f x)
-read-map f [] i x within is = absurd (omega arith)
-read-map f (y ∷ ys) zero x within is = ap f is
-read-map f (y ∷ ys) (suc i) x within is = read-map f ys i x (omega arith) is
+pub read-at : {A B : Type 0} (f : A → B) (xs : List A) (i : ℕ) (d : A) → i < length xs →
+    f (get_or xs i d) ≡ get_or (map f xs) i (f (get_or xs i d))
+read-at f [] i d within = absurd (omega arith)
+read-at f (y ∷ ys) zero d within = refl
+read-at f (y ∷ ys) (suc i) d within = read-at f ys i d (omega arith)
 
 -- a read of one of the files failed, after those before it were read
 pub stops-here : (told : Option Contents) (names : List (List ℕ)) (i : ℕ) (name : List ℕ) (texts : List Text)
@@ -148,17 +147,34 @@ stops-third told names asked told_name texts question (Some other) read one only
     )
 
 -- and was refused
-pub third_refused : (told : Option Contents) (names : List (List ℕ)) (cex asked : List ℕ) (texts : List Text)
-    (question : Text) (line : List ℕ) → IfSome told (λ contents. each (text_of contents) names ≡ Ok texts) →
+pub third_refused : (told : Option Contents) (names : List (List ℕ)) (own asked : List ℕ) (texts : List Text)
+    (question : Text) (line : List ℕ) (most : ℕ) (become : List Text → Text → Text → Result Outcome Outcome) →
+    IfSome told (λ contents. each (text_of contents) names ≡ Ok texts) →
     IfSome told (λ contents. text_of contents asked ≡ Ok question) →
-    IfSome told (λ contents. text_within MOST_CEX_BYTES contents cex ≡ Err (refused line)) →
-    IfSome told (λ contents. replayed_due contents cex asked names ≡ Err (refused line))
-third_refused None names cex asked texts question line read one stopped = tt
-third_refused (Some contents) names cex asked texts question line read one stopped =
-    ap (following (λ ts. following (λ q. following (replay_due ts q) (text_within MOST_CEX_BYTES contents cex))
+    IfSome told (λ contents. text_within most contents own ≡ Err (refused line)) →
+    IfSome told (λ contents. following (λ ts. following (λ q. following (become ts q) (text_within most contents own))
+    (text_of contents asked)) (each (text_of contents) names) ≡ Err (refused line))
+third_refused None names own asked texts question line most become read one stopped = tt
+third_refused (Some contents) names own asked texts question line most become read one stopped =
+    ap (following (λ ts. following (λ q. following (become ts q) (text_within most contents own))
     (text_of contents asked))) read
-    ∙ ap (following (λ q. following (replay_due texts q) (text_within MOST_CEX_BYTES contents cex))) one
-    ∙ ap (following (replay_due texts question)) stopped
+    ∙ ap (following (λ q. following (become texts q) (text_within most contents own))) one
+    ∙ ap (following (become texts question)) stopped
+
+-- the texts of all three were read, and this comes of them
+pub third_read : (told : Option Contents) (names : List (List ℕ)) (own asked : List ℕ) (texts : List Text)
+    (question text : Text) (most : ℕ) (become : List Text → Text → Text → Result Outcome Outcome)
+    (wanted : Result Outcome Outcome) → IfSome told (λ contents. each (text_of contents) names ≡ Ok texts) →
+    IfSome told (λ contents. text_of contents asked ≡ Ok question) →
+    IfSome told (λ contents. text_within most contents own ≡ Ok text) → become texts question text ≡ wanted →
+    IfSome told (λ contents. following (λ ts. following (λ q. following (become ts q) (text_within most contents own))
+    (text_of contents asked)) (each (text_of contents) names) ≡ wanted)
+third_read None names own asked texts question text most become wanted read one two is = tt
+third_read (Some contents) names own asked texts question text most become wanted read one two is =
+    ap (following (λ ts. following (λ q. following (become ts q) (text_within most contents own))
+    (text_of contents asked))) read
+    ∙ ap (following (λ q. following (become texts q) (text_within most contents own))) one
+    ∙ ap (following (become texts question)) two ∙ is
 
 pub all_told : {A : Type 0} (told : Option A) (P : A → Type 0) → ((x : A) → P x) → IfSome told P
 all_told None P each = tt

@@ -1,12 +1,13 @@
 -- What is due for words over the contents of files: usage, a refusal, or answers to questions over a network.
-use Rattle.std.specs.Prelude.{◌≡◌, IfSome, ℕ, ◌==◌, ◌&&◌, ◌||◌, Bool, false, not, List, [], ◌∷◌, length, nat_lt, nat_le, codes}
-use Rattle.std.specs.Prelude.{slice_index, slice_get, is_none, position, Option, Some, None, drop}
-use Rattle.std.specs.Prelude.{option_and_then, option_map, is_some, unwrap_or, Result, Ok, Err, if◌then◌else◌}
-use Rattle.std.specs.List.{list_all, list_any}
+use Rattle.std.specs.Prelude.{◌≡◌, IfSome, ℕ, zero, suc, ◌+◌, ◌==◌, Bool, false, List, [], ◌∷◌, ◌++◌, length, nat_lt, nat_le, codes}
+use Rattle.std.specs.Prelude.{slice_get, Option, Some, None, option_map, option_and_then, is_some, Result, Ok, Err}
+use Rattle.std.specs.Prelude.{if◌then◌else◌}
 use Rattle.std.specs.Option.{option_map_or}
 use Rattle.mw_text.specs.Reading.{each, following}
-use Rattle.mw_text.specs.Text.{same_text}
 use Rattle.mw_outside.specs.Contents.{Contents, get}
+use Rattle.mw_gen.specs.declared.TheConstants.{LEAST_ROUTERS, MOST_ROUTERS}
+use Rattle.mw_gen.specs.Ring.{question_text, router_name, router_text}
+use Rattle.mw_words.specs.Asked.{Asked, asked_of, verify, check, replay, gen}
 use Rattle.ios_ast.specs.declared.file.File.{File}
 use Rattle.ios_policy_reader.specs.declared.cause.Refused.{Refused}
 use Rattle.net_refusals.specs.declared.refusals.NetRefused.{NetRefused}
@@ -19,8 +20,9 @@ use Rattle.question_lang.specs.declared.question.Question.{Question}
 use Rattle.question_lang.specs.Asking.{asking}
 use Rattle.mw_text.specs.Digits.{number_of}
 use Rattle.run_inputs.specs.declared.load.TheConstants.{DEFAULT_CONFLICTS, MOST_BYTES, MOST_CEX_BYTES, MOST_CONFLICTS}
+use Rattle.run_inputs.specs.declared.load.TheConstants.{MOST_LOG_BYTES}
 use Rattle.run_inputs.specs.declared.text.Text.{Text}
-use Rattle.run_inputs.specs.Texts.{cex_refusal, net_cause_text, not_built, refusal, refused_text, too_long}
+use Rattle.run_inputs.specs.Texts.{cex_refusal, net_cause_text, refusal, refused_text, too_long}
 
 -- what the contents of files come to
 pub data Outcome : Type 0 where
@@ -34,52 +36,55 @@ pub data Outcome : Type 0 where
   answering : List File → List Question → ℕ → Outcome
   -- a counterexample to one of the questions over the network of these files is tested
   replaying : List File → List Question → Counterexample → Outcome
+  -- a log is held against the questions over the network of these files
+  checking : List File → List Question → Text → Outcome
+  -- the size of a ring of so many routers is said, and the questions over it are answered, as above
+  generating : ℕ → List File → List Question → ℕ → Outcome
 
--- the word begins with '-'
-abbrev pub is_option : List ℕ → Bool
-is_option word = nat_lt 0 (length word) && slice_index word 0 == 45
-
--- that command
-abbrev pub begins : List ℕ → List (List ℕ) → Bool
-begins command [] = false
-begins command (word ∷ others) = same_text word command
-
--- at least so many names, none of which is an option
-abbrev pub are_names : ℕ → List (List ℕ) → Bool
-are_names count names = nat_le count (length names) && not (list_any is_option names)
+-- ---- what the words ask for
 
 -- a number from 1 to 1,000,000,000
 abbrev pub count_of : List ℕ → Option ℕ
 count_of word = option_and_then (λ count. if count == 0 then None else Some count) (number_of MOST_CONFLICTS word)
 
--- N, where `--conflicts N` stands directly after the command
-abbrev pub conflicts_of : List (List ℕ) → Option ℕ
-conflicts_of (command ∷ option ∷ count ∷ names) = if same_text option (codes "--conflicts") then count_of count else
-    None
-conflicts_of _ = None
+-- how many clauses a search may learn for a question: N of `--conflicts N`, where it stands
+abbrev pub budget_of : Option (List ℕ) → Option ℕ
+budget_of None = Some DEFAULT_CONFLICTS
+budget_of (Some word) = count_of word
 
--- how many clauses a search may learn for a question
-abbrev pub budget_of : List (List ℕ) → ℕ
-budget_of words = unwrap_or (conflicts_of words) DEFAULT_CONFLICTS
+-- how many routers a ring has
+abbrev pub routers_of : List ℕ → Option ℕ
+routers_of word =
+    option_and_then (λ count. if nat_lt count LEAST_ROUTERS then None else Some count) (number_of MOST_ROUTERS word)
 
--- what stands after `verify` and its option
-abbrev pub verify_names : List (List ℕ) → List (List ℕ)
-verify_names words = if is_some (conflicts_of words) then drop 3 words else drop 1 words
+-- a command whose numbers were read
+pub data Command : Type 0 where
+  -- how many clauses a search may learn, the questions and the configurations
+  to_verify : ℕ → List ℕ → List (List ℕ) → Command
+  -- the log, the questions and the configurations
+  to_check : List ℕ → List ℕ → List (List ℕ) → Command
+  -- the counterexample, the questions and the configurations
+  to_replay : List ℕ → List ℕ → List (List ℕ) → Command
+  -- how many clauses a search may learn, and how many routers
+  to_gen : ℕ → ℕ → Command
 
--- verify [--conflicts N] QUESTIONS CONFIG...
-abbrev pub is_verify : List (List ℕ) → Bool
-is_verify words = begins (codes "verify") words && are_names 2 (verify_names words)
+-- the command that is asked for, where its numbers are in their ranges
+abbrev pub command_by : Asked → Option Command
+command_by (verify conflicts questions names) =
+    option_map (λ budget. to_verify budget questions names) (budget_of conflicts)
+command_by (check log questions names) = Some (to_check log questions names)
+command_by (replay cex questions names) = Some (to_replay cex questions names)
+command_by (gen conflicts count) =
+    option_and_then (λ budget. option_map (to_gen budget) (routers_of count)) (budget_of conflicts)
 
--- what stands after `replay`
-abbrev pub replay_names : List (List ℕ) → List (List ℕ)
-replay_names words = drop 1 words
-
--- replay CEX QUESTIONS CONFIG...
-abbrev pub is_replay : List (List ℕ) → Bool
-is_replay words = begins (codes "replay") words && are_names 3 (replay_names words)
+-- that of the words
+abbrev pub command_of : List (List ℕ) → Option Command
+command_of words = option_and_then command_by (asked_of words)
 
 abbrev pub is_command : List (List ℕ) → Bool
-is_command words = is_verify words || is_replay words
+is_command words = is_some (command_of words)
+
+-- ---- what the files come to
 
 -- a value, or the refusal of that file
 abbrev pub read_as : {A : Type 0} → List ℕ → Result A Refused → Result A Outcome
@@ -109,29 +114,6 @@ name_at texts at = option_map_or (λ text. text.name) (slice_get texts at) []
 abbrev pub net_refusal : List Text → NetRefused → List ℕ
 net_refusal texts why = refused_text (name_at texts why.file) why.line (net_cause_text why.cause)
 
--- the file has an internal neighbour (RFC 4271, section 1.1, internal peer): its BGP process has a `neighbor` line whose
--- `remote-as` is its own AS number
-abbrev pub has_internal : File → Bool
-has_internal file =
-    option_map_or (λ bgp. list_any (λ neighbour. bgp.asn == neighbour.asn) bgp.neighbours) file.bgp false
-
--- the line at which `verify` refuses a file for which it cannot answer yet: its BGP block
-abbrev pub unbuilt_line : File → Option ℕ
-unbuilt_line file = option_map (λ bgp. bgp.line) file.bgp
-
--- such a line of the file of that number
-abbrev pub unbuilt_line_at : List File → ℕ → ℕ
-unbuilt_line_at files at = unwrap_or (option_and_then unbuilt_line (slice_get files at)) 0
-
--- the first file that has an internal neighbour is refused at that line
-abbrev pub unbuilt : List Text → List File → Option (List ℕ)
-unbuilt texts files =
-    option_map (λ at. not_built (name_at texts at) (unbuilt_line_at files at)) (position has_internal files)
-
--- files that break no rule of networks, and for which `verify` can answer
-abbrev pub answered_network : List Text → List File → Result (List File) Outcome
-answered_network texts files = option_map_or (λ line. Err (refused line)) (unbuilt texts files) (Ok files)
-
 -- the files of some texts, where they are a network
 abbrev pub network_of : List Text → List File → Result (List File) Outcome
 network_of texts files =
@@ -142,17 +124,19 @@ abbrev pub network_due : List Text → Result (List File) Outcome
 network_due texts = following (network_of texts) (each file_of texts)
 
 -- the questions of a text over a network
-abbrev pub asked_of : Text → List File → Result (List Question) Outcome
-asked_of text files = read_as text.name (asking files text.bytes)
+abbrev pub questions_of : Text → List File → Result (List Question) Outcome
+questions_of text files = read_as text.name (asking files text.bytes)
 
--- the questions of a text are to be answered
-abbrev pub asked_due : ℕ → Text → List File → Result Outcome Outcome
-asked_due budget asked files = following (λ questions. Ok (answering files questions budget)) (asked_of asked files)
+-- the network of some texts, and the questions of another about it: each configuration is parsed, then the network,
+-- then the questions
+abbrev pub parsed_of : List Text → Text → Result (List File × List Question) Outcome
+parsed_of texts asked =
+    following (λ files. following (λ questions. Ok (files, questions)) (questions_of asked files)) (network_due texts)
 
--- what the texts of `verify` come to: each configuration is parsed, then the network, then the questions
+-- what the texts of `verify` come to
 abbrev pub texts_due : ℕ → List Text → Text → Result Outcome Outcome
 texts_due budget texts asked =
-    following (asked_due budget asked) (following (answered_network texts) (network_due texts))
+    following (λ parsed. Ok (answering parsed.0 parsed.1 budget)) (parsed_of texts asked)
 
 -- what the files of `verify` come to: all are read, the configurations first, and then their texts are parsed
 abbrev pub files_due : Contents → ℕ → List ℕ → List (List ℕ) → Result Outcome Outcome
@@ -170,7 +154,7 @@ cex_of text files questions = told_as text files questions (reading_cex files qu
 -- what the texts of `replay` come to: the configurations, the network, the questions, and then the counterexample
 abbrev pub replay_due : List Text → Text → Text → Result Outcome Outcome
 replay_due texts asked told =
-    following (λ files. following (cex_of told files) (asked_of asked files)) (network_due texts)
+    following (λ files. following (cex_of told files) (questions_of asked files)) (network_due texts)
 
 -- what the files of `replay` come to, read in the same order
 abbrev pub replayed_due : Contents → List ℕ → List ℕ → List (List ℕ) → Result Outcome Outcome
@@ -179,27 +163,69 @@ replayed_due contents cex questions names =
     cex))
     (text_of contents questions)) (each (text_of contents) names)
 
+-- what the texts of `check` come to: the log is held against the questions, and no more is asked of it before
+abbrev pub check_due : List Text → Text → Text → Result Outcome Outcome
+check_due texts asked log = following (λ parsed. Ok (checking parsed.0 parsed.1 log)) (parsed_of texts asked)
+
+-- what the files of `check` come to: the log is read last
+abbrev pub checked_due : Contents → List ℕ → List ℕ → List (List ℕ) → Result Outcome Outcome
+checked_due contents log questions names =
+    following (λ texts. following (λ asked. following (check_due texts asked) (text_within MOST_LOG_BYTES contents log))
+    (text_of contents questions)) (each (text_of contents) names)
+
+-- the text of a router of a ring of n, under the router's name
+abbrev pub ring_text : (n i : ℕ) → Text
+ring_text n i = record { name = router_name i; bytes = router_text n i }
+
+-- those of its first routers
+unfoldable pub ring_texts : (n count : ℕ) → List Text
+ring_texts n zero = []
+ring_texts n (suc c) = ring_texts n c ++ ring_text n (c + 1) ∷ []
+
+-- the text of the question about it
+abbrev pub ring_asked : ℕ → Text
+ring_asked n = record { name = codes "questions"; bytes = question_text n }
+
+-- what texts of a ring of so many routers come to
+abbrev pub sized_due : (budget routers : ℕ) → List Text → Text → Result Outcome Outcome
+sized_due budget routers texts asked =
+    following (λ parsed. Ok (generating routers parsed.0 parsed.1 budget)) (parsed_of texts asked)
+
+-- what those of the ring do
+abbrev pub ring_due : (budget routers : ℕ) → Result Outcome Outcome
+ring_due budget routers = sized_due budget routers (ring_texts routers routers) (ring_asked routers)
+
 abbrev pub either : Result Outcome Outcome → Outcome
 either (Ok outcome) = outcome
 either (Err outcome) = outcome
 
--- what the names of a command come to
-abbrev pub verify_due : Contents → ℕ → List (List ℕ) → Outcome
-verify_due contents budget (questions ∷ names) = either (files_due contents budget questions names)
-verify_due contents budget [] = usage
+-- what a command comes to
+abbrev pub outcome_by : Contents → Command → Outcome
+outcome_by contents (to_verify budget questions names) = either (files_due contents budget questions names)
+outcome_by contents (to_check log questions names) = either (checked_due contents log questions names)
+outcome_by contents (to_replay cex questions names) = either (replayed_due contents cex questions names)
+outcome_by contents (to_gen budget routers) = either (ring_due budget routers)
 
-abbrev pub replay_words_due : Contents → List (List ℕ) → Outcome
-replay_words_due contents (cex ∷ questions ∷ names) = either (replayed_due contents cex questions names)
-replay_words_due contents _ = usage
+-- and usage comes of no command
+abbrev pub due_by : Contents → Option Command → Outcome
+due_by contents None = usage
+due_by contents (Some command) = outcome_by contents command
 
--- what is due
-abbrev pub due : Contents → List (List ℕ) → Outcome
-due contents words =
-    if is_verify words then verify_due contents (budget_of words) (verify_names words)
-    else (if is_replay words then replay_words_due contents (replay_names words) else usage)
+-- what `gen` comes to, for which no file is read
+abbrev pub IsMadeDue : Option Command → Outcome → Type 0
+IsMadeDue (Some (to_gen budget routers)) outcome = either (ring_due budget routers) ≡ outcome
+IsMadeDue (Some (to_verify budget questions names)) outcome = Unit {0}
+IsMadeDue (Some (to_check log questions names)) outcome = Unit {0}
+IsMadeDue (Some (to_replay cex questions names)) outcome = Unit {0}
+IsMadeDue None outcome = Unit {0}
 
--- what is due for the words: usage where they are no command, whatever the files hold; and what the contents come to,
--- where these are told
-pub record IsDue (contents : Option Contents) (words : List (List ℕ)) (outcome : Outcome) : Type 0 where
-  pub no_command : is_command words ≡ false → outcome ≡ usage
-  pub told : IfSome contents (λ files. due files words ≡ outcome)
+-- what is due for a command: usage where it is none, whatever the files hold; what the contents come to, where these are
+-- told; and for `gen` what the ring comes to, told or not
+pub record IsDueBy (contents : Option Contents) (command : Option Command) (outcome : Outcome) : Type 0 where
+  pub no_command : is_some command ≡ false → outcome ≡ usage
+  pub told : IfSome contents (λ files. due_by files command ≡ outcome)
+  pub made : IsMadeDue command outcome
+
+-- what is due for the words
+abbrev pub IsDue : Option Contents → List (List ℕ) → Outcome → Type 0
+IsDue contents words outcome = IsDueBy contents (command_of words) outcome

@@ -1,9 +1,9 @@
 -- How a run ends before the answers, and what is ready to be answered.
-use Rattle.std.specs.Prelude.{◌≡◌, ⊤, ℕ, ◌*◌, ◌≤◌, Bool, List, length, not, slice_get, true, Some, Result, Ok, Err}
-use Rattle.std.specs.List.{list_all}
+use Rattle.std.specs.Prelude.{◌≡◌, ⊤, ℕ, ◌*◌, ◌≤◌, true, false, is_some, List, length, slice_get, Option, Some, None, Result, Ok, Err}
 use Rattle.cex_json.specs.declared.counterexample.Counterexample.{Counterexample}
 use Rattle.ios_ast.specs.declared.file.File.{File}
-use Rattle.net_parts.specs.Sessions.{ends_of}
+use Rattle.mw_outside.specs.Contents.{Contents}
+use Rattle.mw_outside.specs.Faults.{Rose}
 use Rattle.net_parts.specs.World.{IsEnvironment, IsFailureSet}
 use Rattle.question_lang.specs.declared.question.Question.{Question}
 use Rattle.question_lang.specs.declared.reader.TheConstants.{MOST_QUESTIONS}
@@ -11,11 +11,12 @@ use Rattle.question_lang.specs.Packets.{IsInSet}
 use Rattle.route_record.specs.declared.TheConstants.{LENGTHS}
 use Rattle.run_inputs.specs.declared.load.Stop.{Stop}
 use Rattle.run_inputs.specs.declared.load.Stop.TheVariants as stop
-use Rattle.run_inputs.specs.declared.load.TheConstants.{MOST_BYTES, MOST_CONFLICTS}
+use Rattle.run_inputs.specs.declared.load.TheConstants.{MOST_BYTES, MOST_CONFLICTS, MOST_LOG_BYTES}
 use Rattle.run_inputs.specs.declared.text.Text.{Text}
 use Rattle.run_inputs.specs.declared.work.Work.{Work}
-use Rattle.run_inputs.specs.declared.work.Work.TheVariants.{Answer, Replay}
-use Rattle.run_inputs.specs.Due.{Outcome, answering, replaying}
+use Rattle.run_inputs.specs.declared.work.Work.TheVariants.{Answer, Replay, Check, Gen}
+use Rattle.run_inputs.specs.Due.{Command, IsDueBy, Outcome, answering, checking, generating, refused, replaying}
+use Rattle.run_inputs.specs.Order.{StopsIn, order_by}
 
 -- P of the line of a refusal, Q at a fault of reading
 abbrev pub OnStop : Stop → (List ℕ → Type 0) → Type 0 → Type 0
@@ -34,10 +35,6 @@ UnlessReadFault (Err stop.Memory) P = P
 abbrev pub AreSmall : List Text → Type 0
 AreSmall texts = (k : ℕ) (text : Text) → slice_get texts k ≡ Some text → length text.bytes ≤ MOST_BYTES
 
--- no session of the network is internal: each has its ends in two ASes (RFC 4271, section 1.1, external peer)
-abbrev pub are_external : List File → Bool
-are_external files = list_all (λ end. not end.internal) (ends_of files)
-
 -- how many clauses a search may learn
 abbrev pub IsBudget : ℕ → Type 0
 IsBudget budget = (1 ≤ budget) × (budget ≤ MOST_CONFLICTS)
@@ -46,6 +43,8 @@ IsBudget budget = (1 ≤ budget) × (budget ≤ MOST_CONFLICTS)
 abbrev pub outcome_of : Work → Outcome
 outcome_of (Answer loaded) = answering loaded.net.files loaded.questions loaded.budget
 outcome_of (Replay told) = replaying told.net.files told.questions told.cex
+outcome_of (Check logged) = checking logged.net.files logged.questions logged.log
+outcome_of (Gen ring) = generating ring.routers ring.loaded.net.files ring.loaded.questions ring.loaded.budget
 
 -- a counterexample as the reader leaves it: of one of the questions, with its packet in the set, its failures among
 -- those that are allowed, an environment of the network, and a slot for each router and length
@@ -57,8 +56,24 @@ pub record IsAdmitted (files : List File) (questions : List Question) (cex : Cou
   pub failures : IsFailureSet files question.failures cex.failures
   pub slots : length cex.tables.slots ≡ LENGTHS * length files
 
--- the work can be done: each session is external and the questions are few, or the counterexample is admitted
+-- the work can be done: the questions are few, and so are the bytes of a log, or the counterexample is admitted
 abbrev pub IsReady : Work → Type 0
-IsReady (Answer loaded) =
-    (are_external loaded.net.files ≡ true) × (length loaded.questions ≤ MOST_QUESTIONS) × IsBudget loaded.budget
+IsReady (Answer loaded) = (length loaded.questions ≤ MOST_QUESTIONS) × IsBudget loaded.budget
 IsReady (Replay told) = IsAdmitted told.net.files told.questions told.cex
+IsReady (Check logged) = (length logged.questions ≤ MOST_QUESTIONS) × (length logged.log.bytes ≤ MOST_LOG_BYTES)
+IsReady (Gen ring) = (length ring.loaded.questions ≤ MOST_QUESTIONS) × IsBudget ring.loaded.budget
+
+-- what comes of the words, where this is their command: nothing where it is none; its work, which is due and ready; or
+-- where that stops, and only there a read failed
+abbrev pub WorksSo : Option Contents → Option Command → ℕ → ℕ → Option (List ℕ) → Option (List ℕ)
+    → Result (Option Work) Stop → Type 0
+WorksSo told command faults faults_now last last_now (Ok None) =
+    (is_some command ≡ false) × (faults_now ≡ faults) × (last_now ≡ last)
+WorksSo told command faults faults_now last last_now (Ok (Some work)) =
+    (is_some command ≡ true) × (faults_now ≡ faults) × (last_now ≡ last)
+    × IsDueBy told command (outcome_of work) × IsReady work
+WorksSo told command faults faults_now last last_now (Err (stop.Refused line)) =
+    (is_some command ≡ true) × (faults_now ≡ faults) × (last_now ≡ last) × IsDueBy told command (refused line)
+WorksSo told command faults faults_now last last_now (Err stop.ReadFault) =
+    (is_some command ≡ true) × Rose faults faults_now × StopsIn told (order_by command) last_now
+WorksSo told command faults faults_now last last_now (Err stop.Memory) = (faults_now ≡ faults) × (last_now ≡ last)

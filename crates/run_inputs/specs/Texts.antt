@@ -67,10 +67,6 @@ cex_refusal name why = refused_text name 1 (cex_cause_text why)
 abbrev pub too_long : List ℕ → List ℕ
 too_long name = refused_text name 0 (codes "25 TooLong")
 
--- a file is refused at a line for which `verify` cannot answer yet
-abbrev pub not_built : List ℕ → ℕ → List ℕ
-not_built name line = refused_text name line (codes "3 NotBuilt")
-
 -- words that are no command
 abbrev pub usage_text : List ℕ
 usage_text = codes "usage: mw_cli verify, check, replay, simulate or gen" ++ newline

@@ -3,6 +3,7 @@
 #![tactic(auto)]
 
 pub mod load;
+pub mod ring;
 pub mod text;
 pub mod told;
 pub mod work;

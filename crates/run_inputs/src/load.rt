@@ -1,7 +1,7 @@
 //! Reads and parses the files that the words name.
 
-ghost use Rattle.std.specs.Prelude.{◌≡◌, ◌≢◌, ◌≤◌, ◌==◌, ◌++◌, ◌∷◌, [], Ok, Err, None, true, IfOk, IfErr, IfSome, length, map, position, string_bytes};
-ghost use Rattle.std.specs.List.{list_all, list_any};
+ghost use Rattle.std.specs.Prelude.{◌≡◌, ◌≢◌, ◌≤◌, ◌++◌, ◌∷◌, [], Ok, Err, true, IfOk, IfErr, IfSome, length, map};
+ghost use Rattle.std.specs.List.{list_all};
 ghost use Rattle.ios_ast.specs.Limits.{keeps_limits};
 ghost use Rattle.mw_text.specs.Reading.{each};
 ghost use Rattle.run_inputs.specs.Texts as lines;
@@ -10,10 +10,10 @@ ghost use Rattle.mw_outside.specs.Contents.{TellsOnly};
 ghost use Rattle.question_lang.specs.Known.{AreKnown};
 ghost use Rattle.run_inputs.specs.Due as due;
 ghost use Rattle.run_inputs.specs.Order.{StopsAt};
-ghost use Rattle.run_inputs.specs.Loading.{OnStop, UnlessReadFault, AreSmall, are_external};
+ghost use Rattle.run_inputs.specs.Loading.{OnStop, UnlessReadFault, AreSmall};
 
-use crate::text::{Text, net_refused, not_built, refusal, too_long};
-use ios_ast::{Bgp, File};
+use crate::text::{Text, net_refused, refusal, too_long};
+use ios_ast::File;
 use ios_policy_reader::{Cause, Refused};
 use ios_reader::read_file;
 use mw_outside::{Files, ReadRefused, read_whole};
@@ -27,6 +27,9 @@ pub const MOST_BYTES: u64 = 1_048_576;
 
 /// How many bytes a counterexample has at most.
 pub const MOST_CEX_BYTES: u64 = 16_777_216;
+
+/// How many bytes a log has at most.
+pub const MOST_LOG_BYTES: u64 = 268_435_456;
 
 /// How many clauses a search may learn for a question, where the words do not say it.
 pub const DEFAULT_CONFLICTS: u64 = 1_000_000;
@@ -120,21 +123,21 @@ pub fn read_text<F: Files>(
 pub fn read_texts<F: Files>(
     alloc: Global,
     files: &mut F,
-    names: &[String],
+    names: &[&str],
 ) -> Result<List<Text>, Stop>
     ensures kept { F.contents files.new ≡ F.contents files.old }
     ensures ok { IfOk result (λ texts. IfSome (F.contents files.old) (λ contents.
-        each (due.text_of contents) (map string_bytes names.now) ≡ Ok texts)) }
+        each (due.text_of contents) (map (λ s. s.now) names.now) ≡ Ok texts)) }
     ensures small { IfOk result AreSmall }
     ensures quiet { UnlessReadFault result (F.faults files.new ≡ F.faults files.old) }
     ensures name_stays { UnlessReadFault result (F.last_failed files.new ≡ F.last_failed files.old) }
     ensures stop { IfErr result (λ stop. OnStop stop
-        (λ line. IfSome (F.contents files.old) (λ contents. each (due.text_of contents) (map string_bytes names.now) ≡ Err (due.refused line)))
-        (Rose (F.faults files.old) (F.faults files.new) × StopsAt (F.contents files.old) (map string_bytes names.now) (F.last_failed files.new))) }
+        (λ line. IfSome (F.contents files.old) (λ contents. each (due.text_of contents) (map (λ s. s.now) names.now) ≡ Err (due.refused line)))
+        (Rose (F.faults files.old) (F.faults files.new) × StopsAt (F.contents files.old) (map (λ s. s.now) names.now) (F.last_failed files.new))) }
 {
     let mut texts = List::new(alloc);
     for name in names {
-        let text = read_text(alloc, files, name.as_str(), MOST_BYTES)?;
+        let text = read_text(alloc, files, name, MOST_BYTES)?;
         texts.items.push(text)?;
     }
     Ok(texts)
@@ -184,70 +187,6 @@ fn net_refusal(alloc: Global, texts: &[Text], why: NetRefused) -> Result<List<u8
     net_refused(alloc, name_at(texts, why.file as usize), &why)
 }
 
-// The line at which a file for which `verify` cannot answer yet is refused.
-fn unbuilt_line(file: &File) -> Option<u32>
-    ensures { result ≡ due.unbuilt_line file.now }
-{
-    file.bgp.as_ref().map(|bgp| bgp.line)
-}
-
-fn names_own_as(bgp: &Bgp) -> bool
-    ensures { result ≡ list_any (λ neighbour. bgp.now.asn == neighbour.asn) bgp.now.neighbours }
-{
-    let asn = bgp.asn;
-    bgp.neighbours
-        .as_slice()
-        .iter()
-        .any(|neighbour| asn == neighbour.asn)
-}
-
-// Whether the router has an internal neighbour.
-fn has_internal(file: &File) -> bool
-    ensures { result ≡ due.has_internal file.now }
-{
-    match &file.bgp {
-        Some(bgp) => names_own_as(bgp),
-        None => false,
-    }
-}
-
-fn find_unbuilt(files: &[File]) -> Option<usize>
-    ensures { result ≡ position due.has_internal files.now }
-{
-    files.iter().position(|file| has_internal(file))
-}
-
-// The number of the first file for which `verify` cannot answer yet. Where there is none, each session is external.
-#[tactic(auto, using(crate::proofs::Deciding::none_internal))]
-fn first_unbuilt(files: &[File]) -> Option<usize>
-    ensures first { result ≡ position due.has_internal files.now }
-    ensures none { result ≡ None → are_external files.now ≡ true }
-{
-    let found = find_unbuilt(files);
-    found
-}
-
-fn unbuilt_line_at(files: &[File], at: usize) -> u32
-    ensures { result ≡ due.unbuilt_line_at files.now at }
-{
-    match files.get(at) {
-        Some(file) => unbuilt_line(file).unwrap_or(0),
-        None => 0,
-    }
-}
-
-// The line of the refusal of the file of that number.
-fn unbuilt_refusal(
-    alloc: Global,
-    texts: &[Text],
-    files: &[File],
-    at: usize,
-) -> Result<List<u8>, AllocError>
-    ensures { IfOk result (λ line. line ≡ lines.not_built (due.name_at texts.now at) (due.unbuilt_line_at files.now at)) }
-{
-    not_built(alloc, name_at(texts, at), unbuilt_line_at(files, at))
-}
-
 // A run that ends at the refusal of files that form no network.
 fn stop_at_network(alloc: Global, texts: &[Text], why: NetRefused) -> Stop
     ensures { OnStop result (λ line. (why.cause ≢ NetCause.Memory) × (line ≡ due.net_refusal texts.now why)) ⊥ }
@@ -255,18 +194,6 @@ fn stop_at_network(alloc: Global, texts: &[Text], why: NetRefused) -> Stop
     match why.cause {
         NetCause::Memory => Stop::Memory,
         _ => stop_with(net_refusal(alloc, texts, why)),
-    }
-}
-
-// The network, where `verify` can answer for it.
-fn answered_network(alloc: Global, texts: &[Text], net: Net) -> Result<Net, Stop>
-    ensures ok { IfOk result (λ answered. due.answered_network texts.now net.files ≡ Ok answered.files) }
-    ensures external { IfOk result (λ answered. are_external answered.files ≡ true) }
-    ensures stop { IfErr result (λ stop. OnStop stop (λ line. due.answered_network texts.now net.files ≡ Err (due.refused line)) ⊥) }
-{
-    match first_unbuilt(net.routers()) {
-        None => Ok(net),
-        Some(at) => Err(stop_with(unbuilt_refusal(alloc, texts, net.routers(), at))),
     }
 }
 
@@ -295,15 +222,35 @@ pub fn parse_network(alloc: Global, texts: &[Text]) -> Result<Net, Stop>
 /// The questions of the text over the network.
 pub fn read_asked(alloc: Global, asked: &Text, net: &Net) -> Result<List<Question>, Stop>
     requires { length asked.now.bytes ≤ MOST_BYTES }
-    ensures ok { IfOk result (λ questions. due.asked_of asked.now net.now.files ≡ Ok questions) }
+    ensures ok { IfOk result (λ questions. due.questions_of asked.now net.now.files ≡ Ok questions) }
     ensures known { IfOk result (AreKnown net.now.files) }
     ensures few { IfOk result (λ questions. length questions ≤ MOST_QUESTIONS) }
-    ensures stop { IfErr result (λ stop. OnStop stop (λ line. due.asked_of asked.now net.now.files ≡ Err (due.refused line)) ⊥) }
+    ensures stop { IfErr result (λ stop. OnStop stop (λ line. due.questions_of asked.now net.now.files ≡ Err (due.refused line)) ⊥) }
 {
     match read_questions(alloc, asked.bytes.as_slice(), net) {
         Ok(questions) => Ok(questions),
         Err(refused) => Err(stop_at(alloc, asked.name.as_slice(), &refused)),
     }
+}
+
+/// A network, and questions about it.
+#[derive(Drop)]
+pub struct Parsed {
+    pub net: Net,
+    pub questions: List<Question>,
+}
+
+/// The network and the questions of the texts.
+pub fn parse(alloc: Global, texts: &[Text], asked: &Text) -> Result<Parsed, Stop>
+    requires texts { AreSmall texts.now }
+    requires asked { length asked.now.bytes ≤ MOST_BYTES }
+    ensures ok { IfOk result (λ parsed. due.parsed_of texts.now asked.now ≡ Ok (parsed.net.files, parsed.questions)) }
+    ensures few { IfOk result (λ parsed. length parsed.questions ≤ MOST_QUESTIONS) }
+    ensures stop { IfErr result (λ stop. OnStop stop (λ line. due.parsed_of texts.now asked.now ≡ Err (due.refused line)) ⊥) }
+{
+    let net = parse_network(alloc, texts)?;
+    let questions = read_asked(alloc, asked, &net)?;
+    Ok(Parsed { net, questions })
 }
 
 /// A network, the questions about it, and how many clauses a search may learn for each.
@@ -314,19 +261,16 @@ pub struct Loaded {
     pub budget: u64,
 }
 
-// The network and the questions of the texts.
-fn parse(alloc: Global, budget: u64, texts: &[Text], asked: &Text) -> Result<Loaded, Stop>
+// The network and the questions of the texts, each question with so many clauses.
+fn parse_loaded(alloc: Global, budget: u64, texts: &[Text], asked: &Text) -> Result<Loaded, Stop>
     requires texts { AreSmall texts.now }
     requires asked { length asked.now.bytes ≤ MOST_BYTES }
-    ensures ok { IfOk result (λ loaded. due.texts_due budget texts.now asked.now ≡ Ok (due.answering loaded.net.files loaded.questions budget)) }
+    ensures ok { IfOk result (λ loaded. due.texts_due budget texts.now asked.now ≡ Ok (due.answering loaded.net.files loaded.questions loaded.budget)) }
     ensures budget { IfOk result (λ loaded. loaded.budget ≡ budget) }
-    ensures external { IfOk result (λ loaded. are_external loaded.net.files ≡ true) }
     ensures few { IfOk result (λ loaded. length loaded.questions ≤ MOST_QUESTIONS) }
     ensures stop { IfErr result (λ stop. OnStop stop (λ line. due.texts_due budget texts.now asked.now ≡ Err (due.refused line)) ⊥) }
 {
-    let net = parse_network(alloc, texts)?;
-    let net = answered_network(alloc, texts, net)?;
-    let questions = read_asked(alloc, asked, &net)?;
+    let Parsed { net, questions } = parse(alloc, texts, asked)?;
     Ok(Loaded {
         net,
         questions,
@@ -335,30 +279,28 @@ fn parse(alloc: Global, budget: u64, texts: &[Text], asked: &Text) -> Result<Loa
 }
 
 /// Reads the configurations of these names and then the questions file, and parses them in this order. A read fault is
-/// answered only where a read of one of these files failed in this call, and a refusal is the first in this order. No
-/// file may have an internal neighbour.
+/// answered only where a read of one of these files failed in this call, and a refusal is the first in this order.
 pub fn load<F: Files>(
     alloc: Global,
     files: &mut F,
     budget: u64,
     questions: &str,
-    names: &[String],
+    names: &[&str],
 ) -> Result<Loaded, Stop>
     ensures kept { F.contents files.new ≡ F.contents files.old }
     ensures ok { IfOk result (λ loaded. IfSome (F.contents files.old) (λ contents.
-        due.files_due contents budget questions.now (map string_bytes names.now) ≡ Ok (due.answering loaded.net.files loaded.questions budget))) }
+        due.files_due contents budget questions.now (map (λ s. s.now) names.now) ≡ Ok (due.answering loaded.net.files loaded.questions budget))) }
     ensures budget { IfOk result (λ loaded. loaded.budget ≡ budget) }
-    ensures external { IfOk result (λ loaded. are_external loaded.net.files ≡ true) }
     ensures few { IfOk result (λ loaded. length loaded.questions ≤ MOST_QUESTIONS) }
     ensures quiet { UnlessReadFault result (F.faults files.new ≡ F.faults files.old) }
     ensures name_stays { UnlessReadFault result (F.last_failed files.new ≡ F.last_failed files.old) }
     ensures stop { IfErr result (λ stop. OnStop stop
         (λ line. IfSome (F.contents files.old) (λ contents.
-        due.files_due contents budget questions.now (map string_bytes names.now) ≡ Err (due.refused line)))
+        due.files_due contents budget questions.now (map (λ s. s.now) names.now) ≡ Err (due.refused line)))
         (Rose (F.faults files.old) (F.faults files.new)
-        × StopsAt (F.contents files.old) (map string_bytes names.now ++ questions.now ∷ []) (F.last_failed files.new))) }
+        × StopsAt (F.contents files.old) (map (λ s. s.now) names.now ++ questions.now ∷ []) (F.last_failed files.new))) }
 {
     let texts = read_texts(alloc, files, names)?;
     let asked = read_text(alloc, files, questions, MOST_BYTES)?;
-    parse(alloc, budget, texts.as_slice(), &asked)
+    parse_loaded(alloc, budget, texts.as_slice(), &asked)
 }

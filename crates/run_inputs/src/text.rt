@@ -124,10 +124,3 @@ pub fn too_long(alloc: Global, name: &[u8]) -> Result<List<u8>, AllocError>
 {
     refused_text(alloc, name, 0, b"25 TooLong")
 }
-
-/// The line of a file that is refused at a line for which `verify` cannot answer yet.
-pub fn not_built(alloc: Global, name: &[u8], line: u32) -> Result<List<u8>, AllocError>
-    ensures { IfOk result (λ text. text ≡ texts.not_built name.now line) }
-{
-    refused_text(alloc, name, line, b"3 NotBuilt")
-}

@@ -1,18 +1,21 @@
 //! The work that a command asks for.
 
-ghost use Rattle.std.specs.Prelude.{◌≡◌, true, false, IfOk, IfErr, IfSome, None, drop, map, string_bytes, codes};
-ghost use Rattle.std.specs.List.{list_any};
-ghost use Rattle.mw_text.specs.Text.{same_text};
+ghost use Rattle.std.specs.Prelude.{◌≡◌, ℕ, List as ListOf, Option as OptionOf, true, false, IfOk, IfErr, IfSome, None, Some, map, option_map, string_bytes};
+ghost use Rattle.mw_outside.specs.Contents.{Contents};
 ghost use Rattle.mw_outside.specs.Faults.{Rose};
+ghost use Rattle.mw_words.specs.Asked as asked;
 ghost use Rattle.run_inputs.specs.Due as due;
 ghost use Rattle.run_inputs.specs.Due.{IsDue};
-ghost use Rattle.run_inputs.specs.Loading.{IsBudget, IsReady, OnStop, UnlessReadFault, outcome_of};
-ghost use Rattle.run_inputs.specs.Order.{StopsAt, in_order};
+ghost use Rattle.run_inputs.specs.Loading.{IsBudget, IsReady, OnStop, UnlessReadFault, WorksSo, outcome_of};
+ghost use Rattle.run_inputs.specs.Order.{StopsIn, in_order};
 
 use crate::load::{DEFAULT_CONFLICTS, Loaded, MOST_CONFLICTS, Stop, load};
-use crate::told::{Told, load_replay};
+use crate::ring::{Ring, make_ring};
+use crate::told::{Logged, Told, load_check, load_replay};
+use mw_gen::{LEAST_ROUTERS, MOST_ROUTERS};
 use mw_outside::Files;
 use mw_text::read_number;
+use mw_words::{Request, read_words};
 use std::alloc::Global;
 
 /// What a command asks for, read and parsed.
@@ -22,46 +25,15 @@ pub enum Work {
     Answer(Loaded),
     /// A counterexample to test.
     Replay(Told),
-}
-
-fn is_option(word: &String) -> bool
-    ensures { result ≡ due.is_option (string_bytes word.now) }
-{
-    word.as_bytes().first() == Some(&b'-')
-}
-
-fn has_option(words: &[String]) -> bool
-    ensures { result ≡ list_any (λ word. due.is_option (string_bytes word)) words.now }
-{
-    words.iter().any(|word| is_option(word))
-}
-
-fn is_word(word: &String, wanted: &str) -> bool
-    ensures { result ≡ same_text (string_bytes word.now) wanted.now }
-{
-    word.as_str() == wanted
-}
-
-// Whether the words begin with that command.
-fn begins(words: &[String], command: &str) -> bool
-    ensures { result ≡ due.begins command.now (map string_bytes words.now) }
-{
-    match words {
-        [] => false,
-        [word, ..] => is_word(word, command),
-    }
-}
-
-// Whether these are so many names or more, none of them an option.
-fn are_names(names: &[String], count: usize) -> bool
-    ensures { result ≡ due.are_names count (map string_bytes names.now) }
-{
-    names.len() >= count && !has_option(names)
+    /// A log to hold against questions.
+    Check(Logged),
+    /// The question about a ring to answer.
+    Gen(Ring),
 }
 
 // A number of clauses from 1 to 1,000,000,000.
-fn count_of(word: &String) -> Option<u64>
-    ensures value { result ≡ due.count_of (string_bytes word.now) }
+fn count_of(word: &str) -> Option<u64>
+    ensures value { result ≡ due.count_of word.now }
     ensures budget { IfSome result IsBudget }
 {
     match read_number(word.as_bytes(), MOST_CONFLICTS) {
@@ -70,101 +42,178 @@ fn count_of(word: &String) -> Option<u64>
     }
 }
 
-// How many clauses a search may learn, where `--conflicts` stands directly after the command.
-#[tactic(auto, using(crate::proofs::Words::conflicts_short, crate::proofs::Words::conflicts_other, crate::proofs::Words::conflicts_said))]
-fn conflicts_of(words: &[String]) -> Option<u64>
-    ensures value { result ≡ due.conflicts_of (map string_bytes words.now) }
+// How many clauses a search may learn; none where the number is out of its range.
+fn budget_of(conflicts: Option<&str>) -> Option<u64>
+    ensures value { result ≡ due.budget_of (option_map (λ s. s.now) conflicts.entry) }
     ensures budget { IfSome result IsBudget }
 {
-    if words.len() < 3 {
-        return None;
-    }
-    if is_word(&words[1], "--conflicts") {
-        count_of(&words[2])
-    } else {
-        None
+    match conflicts {
+        None => Some(DEFAULT_CONFLICTS),
+        Some(word) => count_of(word),
     }
 }
 
-fn budget_of(words: &[String]) -> u64
-    ensures value { result ≡ due.budget_of (map string_bytes words.now) }
-    ensures budget { IsBudget result }
+// How many routers a ring has; none where the number is out of its range.
+fn routers_of(word: &str) -> Option<u64>
+    ensures { result ≡ due.routers_of word.now }
 {
-    match conflicts_of(words) {
-        Some(count) => count,
-        None => DEFAULT_CONFLICTS,
+    match read_number(word.as_bytes(), MOST_ROUTERS) {
+        Some(count) if count < LEAST_ROUTERS => None,
+        count => count,
     }
 }
 
-// The words after the first ones.
-fn after(words: &[String], count: usize) -> &[String]
-    ensures { map string_bytes result.now ≡ drop count (map string_bytes words.now) }
-{
-    if words.len() < count {
-        return &[];
-    }
-    words.split_at(count).1
-}
-
-// The words after `verify` and its option.
-fn verify_names(words: &[String]) -> &[String]
-    ensures { map string_bytes result.now ≡ due.verify_names (map string_bytes words.now) }
-{
-    match conflicts_of(words) {
-        Some(_) => after(words, 3),
-        None => after(words, 1),
-    }
-}
-
-// Whether the words are `verify [--conflicts N] QUESTIONS CONFIG...`.
-fn is_verify(words: &[String]) -> bool
-    ensures { result ≡ due.is_verify (map string_bytes words.now) }
-{
-    begins(words, "verify") && are_names(verify_names(words), 2)
-}
-
-// Whether the words are `replay CEX QUESTIONS CONFIG...`.
-fn is_replay(words: &[String]) -> bool
-    ensures { result ≡ due.is_replay (map string_bytes words.now) }
-{
-    begins(words, "replay") && are_names(after(words, 1), 3)
-}
-
-fn verify_work<F: Files>(alloc: Global, files: &mut F, words: &[String]) -> Result<Work, Stop>
-    requires command { due.is_verify (map string_bytes words.now) ≡ true }
+// The work of `verify` with that number.
+fn verify_within<F: Files>(
+    alloc: Global,
+    files: &mut F,
+    budget: u64,
+    questions: &str,
+    configs: &[&str],
+) -> Result<Option<Work>, Stop>
+    requires budget { IsBudget budget }
     ensures kept { F.contents files.new ≡ F.contents files.old }
-    ensures due { IfOk result (λ work. IsDue (F.contents files.old) (map string_bytes words.now) (outcome_of work)) }
-    ensures ready { IfOk result IsReady }
-    ensures quiet { UnlessReadFault result (F.faults files.new ≡ F.faults files.old) }
-    ensures name_stays { UnlessReadFault result (F.last_failed files.new ≡ F.last_failed files.old) }
-    ensures stop { IfErr result (λ stop. OnStop stop
-        (λ line. IsDue (F.contents files.old) (map string_bytes words.now) (due.refused line))
-        (Rose (F.faults files.old) (F.faults files.new)
-        × StopsAt (F.contents files.old) (in_order (map string_bytes words.now)) (F.last_failed files.new))) }
+    ensures so { WorksSo (F.contents files.old) (Some (due.to_verify budget questions.now (map (λ s. s.now) configs.now)))
+        (F.faults files.old) (F.faults files.new) (F.last_failed files.old) (F.last_failed files.new) result }
 {
-    let names = verify_names(words);
-    let (_, configs) = names.split_at(1);
-    let loaded = load(alloc, files, budget_of(words), names[0].as_str(), configs)?;
-    Ok(Work::Answer(loaded))
+    match load(alloc, files, budget, questions, configs) {
+        Ok(loaded) => Ok(Some(Work::Answer(loaded))),
+        Err(stop) => Err(stop),
+    }
 }
 
-fn replay_work<F: Files>(alloc: Global, files: &mut F, words: &[String]) -> Result<Work, Stop>
-    requires other { due.is_verify (map string_bytes words.now) ≡ false }
-    requires command { due.is_replay (map string_bytes words.now) ≡ true }
+fn verify_work<F: Files>(
+    alloc: Global,
+    files: &mut F,
+    conflicts: Option<&str>,
+    questions: &str,
+    configs: &[&str],
+) -> Result<Option<Work>, Stop>
     ensures kept { F.contents files.new ≡ F.contents files.old }
-    ensures due { IfOk result (λ work. IsDue (F.contents files.old) (map string_bytes words.now) (outcome_of work)) }
-    ensures ready { IfOk result IsReady }
-    ensures quiet { UnlessReadFault result (F.faults files.new ≡ F.faults files.old) }
-    ensures name_stays { UnlessReadFault result (F.last_failed files.new ≡ F.last_failed files.old) }
-    ensures stop { IfErr result (λ stop. OnStop stop
-        (λ line. IsDue (F.contents files.old) (map string_bytes words.now) (due.refused line))
-        (Rose (F.faults files.old) (F.faults files.new)
-        × StopsAt (F.contents files.old) (in_order (map string_bytes words.now)) (F.last_failed files.new))) }
+    ensures so { WorksSo (F.contents files.old)
+        (due.command_by (asked.verify (option_map (λ s. s.now) conflicts.entry) questions.now (map (λ s. s.now) configs.now)))
+        (F.faults files.old) (F.faults files.new) (F.last_failed files.old) (F.last_failed files.new) result }
 {
-    let names = after(words, 1);
-    let (_, configs) = names.split_at(2);
-    let told = load_replay(alloc, files, names[0].as_str(), names[1].as_str(), configs)?;
-    Ok(Work::Replay(told))
+    match budget_of(conflicts) {
+        Some(budget) => verify_within(alloc, files, budget, questions, configs),
+        None => Ok(None),
+    }
+}
+
+fn check_work<F: Files>(
+    alloc: Global,
+    files: &mut F,
+    log: &str,
+    questions: &str,
+    configs: &[&str],
+) -> Result<Option<Work>, Stop>
+    ensures kept { F.contents files.new ≡ F.contents files.old }
+    ensures so { WorksSo (F.contents files.old)
+        (due.command_by (asked.check log.now questions.now (map (λ s. s.now) configs.now)))
+        (F.faults files.old) (F.faults files.new) (F.last_failed files.old) (F.last_failed files.new) result }
+{
+    match load_check(alloc, files, log, questions, configs) {
+        Ok(logged) => Ok(Some(Work::Check(logged))),
+        Err(stop) => Err(stop),
+    }
+}
+
+fn replay_work<F: Files>(
+    alloc: Global,
+    files: &mut F,
+    cex: &str,
+    questions: &str,
+    configs: &[&str],
+) -> Result<Option<Work>, Stop>
+    ensures kept { F.contents files.new ≡ F.contents files.old }
+    ensures so { WorksSo (F.contents files.old)
+        (due.command_by (asked.replay cex.now questions.now (map (λ s. s.now) configs.now)))
+        (F.faults files.old) (F.faults files.new) (F.last_failed files.old) (F.last_failed files.new) result }
+{
+    match load_replay(alloc, files, cex, questions, configs) {
+        Ok(told) => Ok(Some(Work::Replay(told))),
+        Err(stop) => Err(stop),
+    }
+}
+
+// The work of `gen` with its numbers, for which no file is read.
+fn gen_within(alloc: Global, budget: u64, routers: u64) -> Result<Option<Work>, Stop>
+    requires { IsBudget budget }
+    ensures { (told : OptionOf Contents) (faults : ℕ) (last : OptionOf (ListOf ℕ)) →
+        WorksSo told (Some (due.to_gen budget routers)) faults faults last last result }
+{
+    match make_ring(alloc, budget, routers) {
+        Ok(ring) => Ok(Some(Work::Gen(ring))),
+        Err(stop) => Err(stop),
+    }
+}
+
+fn gen_counted(alloc: Global, budget: u64, count: &str) -> Result<Option<Work>, Stop>
+    requires { IsBudget budget }
+    ensures { (told : OptionOf Contents) (faults : ℕ) (last : OptionOf (ListOf ℕ)) →
+        WorksSo told (option_map (due.to_gen budget) (due.routers_of count.now)) faults faults last last result }
+{
+    match routers_of(count) {
+        Some(routers) => gen_within(alloc, budget, routers),
+        None => Ok(None),
+    }
+}
+
+fn gen_work(alloc: Global, conflicts: Option<&str>, count: &str) -> Result<Option<Work>, Stop>
+    ensures { (told : OptionOf Contents) (faults : ℕ) (last : OptionOf (ListOf ℕ)) → WorksSo told
+        (due.command_by (asked.gen (option_map (λ s. s.now) conflicts.entry) count.now)) faults faults last last result }
+{
+    match budget_of(conflicts) {
+        Some(budget) => gen_counted(alloc, budget, count),
+        None => Ok(None),
+    }
+}
+
+// The work of a request.
+fn request_work<F: Files>(
+    alloc: Global,
+    files: &mut F,
+    request: &Request,
+) -> Result<Option<Work>, Stop>
+    ensures kept { F.contents files.new ≡ F.contents files.old }
+    ensures so { WorksSo (F.contents files.old) (due.command_by (asked.asks request.now))
+        (F.faults files.old) (F.faults files.new) (F.last_failed files.old) (F.last_failed files.new) result }
+{
+    match request {
+        Request::Verify {
+            conflicts,
+            questions,
+            configs,
+        } => verify_work(alloc, files, *conflicts, questions, configs.as_slice()),
+        Request::Check {
+            log,
+            questions,
+            configs,
+        } => check_work(alloc, files, log, questions, configs.as_slice()),
+        Request::Replay {
+            cex,
+            questions,
+            configs,
+        } => replay_work(alloc, files, cex, questions, configs.as_slice()),
+        Request::Gen { conflicts, count } => gen_work(alloc, *conflicts, count),
+    }
+}
+
+// The work of the words.
+fn words_work<F: Files>(
+    alloc: Global,
+    files: &mut F,
+    words: &[String],
+) -> Result<Option<Work>, Stop>
+    ensures kept { F.contents files.new ≡ F.contents files.old }
+    ensures so { WorksSo (F.contents files.old) (due.command_of (map string_bytes words.now))
+        (F.faults files.old) (F.faults files.new) (F.last_failed files.old) (F.last_failed files.new) result }
+{
+    match read_words(alloc, words) {
+        Ok(Some(request)) => request_work(alloc, files, &request),
+        Ok(None) => Ok(None),
+        Err(_) => Err(Stop::Memory),
+    }
 }
 
 /// The work that the words ask for, read and parsed, or where that stops. None where they are no command.
@@ -175,7 +224,8 @@ pub fn work_of<F: Files>(
 ) -> Result<Option<Work>, Stop>
     ensures none { IfOk result (λ work. work ≡ None → due.is_command (map string_bytes words.now) ≡ false) }
     ensures command { IfOk result (λ work. IfSome work (λ _. due.is_command (map string_bytes words.now) ≡ true)) }
-    ensures stopped { IfErr result (λ _. due.is_command (map string_bytes words.now) ≡ true) }
+    ensures stopped { IfErr result (λ stop. OnStop stop
+        (λ _. due.is_command (map string_bytes words.now) ≡ true) (due.is_command (map string_bytes words.now) ≡ true)) }
     ensures kept { F.contents files.new ≡ F.contents files.old }
     ensures due { IfOk result (λ work. IfSome work (λ w. IsDue (F.contents files.old) (map string_bytes words.now) (outcome_of w))) }
     ensures ready { IfOk result (λ work. IfSome work IsReady) }
@@ -184,13 +234,7 @@ pub fn work_of<F: Files>(
     ensures stop { IfErr result (λ stop. OnStop stop
         (λ line. IsDue (F.contents files.old) (map string_bytes words.now) (due.refused line))
         (Rose (F.faults files.old) (F.faults files.new)
-        × StopsAt (F.contents files.old) (in_order (map string_bytes words.now)) (F.last_failed files.new))) }
+        × StopsIn (F.contents files.old) (in_order (map string_bytes words.now)) (F.last_failed files.new))) }
 {
-    if is_verify(words) {
-        return Ok(Some(verify_work(alloc, files, words)?));
-    }
-    if is_replay(words) {
-        return Ok(Some(replay_work(alloc, files, words)?));
-    }
-    Ok(None)
+    words_work(alloc, files, words)
 }

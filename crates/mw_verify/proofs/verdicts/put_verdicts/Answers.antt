@@ -1,7 +1,7 @@
 use Rattle.std.proofs.Common.{◌≡◌, ◌<◌, ◌∙◌, ℕ, ap, arith, get_or, length, subst}
 use Rattle.std.specs.Prelude.{◌⊎◌}
 use Rattle.mw_outside.specs.Faults.{Rose}
-use Rattle.mw_verify.proofs.Answering.{put-cut, put-more}
+use Rattle.mw_verify.proofs.Answering.{put-all, put-cut, put-more}
 use Rattle.mw_verify.proofs.verdicts.put_verdicts.Goals as goal
 
 pub returns-in-Err-WriteFault-clause-answers : goal.returns-in-Err-WriteFault-clause-answers
@@ -20,7 +20,7 @@ returns-in-Err-WriteFault-clause-answers g c =
       put-cut c.args.loaded.now.net.files questions c.args.loaded.now.budget c.loop-at.at c.question-item.result
           c.loop-at.seen.broken c.loop-at.seen.unknown (g.O.Sink.taken c.args.out.now) (g.O.Sink.taken c.loop-at.out)
           (g.O.Sink.taken c.put_verdict.new.out) (g.L.Sink.taken c.args.log.now) (g.L.Sink.taken c.loop-at.log)
-          (g.L.Sink.taken c.put_verdict.new.log) c.loop-at.invariant.put within is c.in-Err-WriteFault.ensures.cut,
+          (g.L.Sink.taken c.put_verdict.new.log) _ c.loop-at.invariant.put within is c.in-Err-WriteFault.ensures.cut,
       subst S c.loop-at.invariant.logs (subst R c.loop-at.invariant.prints
           (rw c.in-Err-WriteFault.field-0-is at c.in-Err-WriteFault.ensures.fault)),
     )
@@ -37,7 +37,7 @@ returns-in-Err-Memory-clause-answers g c =
     put-cut c.args.loaded.now.net.files questions c.args.loaded.now.budget c.loop-at.at c.question-item.result
     c.loop-at.seen.broken c.loop-at.seen.unknown (g.O.Sink.taken c.args.out.now) (g.O.Sink.taken c.loop-at.out)
     (g.O.Sink.taken c.put_verdict.new.out) (g.L.Sink.taken c.args.log.now) (g.L.Sink.taken c.loop-at.log)
-    (g.L.Sink.taken c.put_verdict.new.log) c.loop-at.invariant.put within is c.in-Err-Memory.ensures.cut
+    (g.L.Sink.taken c.put_verdict.new.log) _ c.loop-at.invariant.put within is c.in-Err-Memory.ensures.cut
 
 pub loop-at-preserved : goal.loop-at-preserved
 loop-at-preserved g c =
@@ -52,8 +52,20 @@ loop-at-preserved g c =
           c.in-Ok.verdict c.loop-at.seen.broken c.loop-at.seen.unknown c.with-seen.result.broken
           c.with-seen.result.unknown (g.O.Sink.taken c.args.out.now) (g.O.Sink.taken c.loop-at.out)
           (g.O.Sink.taken c.put_verdict.new.out) (g.L.Sink.taken c.args.log.now) (g.L.Sink.taken c.loop-at.log)
-          (g.L.Sink.taken c.put_verdict.new.log) c.loop-at.invariant.put within is c.in-Ok.ensures.ok
+          (g.L.Sink.taken c.put_verdict.new.log) _ _ c.loop-at.invariant.put within is c.in-Ok.ensures.ok
           c.with-seen.ensures.broken c.with-seen.ensures.unknown;
       prints = c.in-Ok.ensures.writes.0 ∙ c.loop-at.invariant.prints;
       logs = c.in-Ok.ensures.writes.1 ∙ c.loop-at.invariant.logs;
+      deciders = c.put_verdict.ensures.deciders ∙ c.loop-at.invariant.deciders;
     }
+
+pub returns-clause-answers : goal.returns-clause-answers
+returns-clause-answers g c =
+    let questions = c.args.loaded.now.questions in
+    let items = c.as_slice-question-items.ensures in
+    let test = c.loop-at-test.false in
+    let long = ap length items in
+    put-all c.args.loaded.now.net.files questions c.args.loaded.now.budget c.loop-at.at c.loop-at.seen.broken
+    c.loop-at.seen.unknown c.status.result (g.O.Sink.taken c.args.out.now) (g.O.Sink.taken c.loop-at.out)
+    (g.L.Sink.taken c.args.log.now) (g.L.Sink.taken c.loop-at.log) _ _ c.loop-at.invariant.put
+    (omega (arith, test, long)) c.status.ensures

@@ -1,5 +1,5 @@
 use Rattle.std.proofs.Common.{◌≡◌, map}
-use Rattle.std.specs.Prelude.{IfSome, string_bytes}
+use Rattle.std.specs.Prelude.{IfSome}
 use Rattle.run_inputs.specs.Due.{text_of}
 use Rattle.run_inputs.specs.Loading.{AreSmall}
 use Rattle.mw_text.proofs.Reading.{EachTo}
@@ -12,5 +12,5 @@ invariant-loop-name g l =
     (g.F.Files.faults l.files ≡ g.F.Files.faults l.initial.files) ×
     (g.F.Files.last_failed l.files ≡ g.F.Files.last_failed l.initial.files) ×
     IfSome (g.F.Files.contents l.initial.files) (λ contents.
-    EachTo (text_of contents) (map string_bytes l.names) l.name-index l.texts-inside.items.items) ×
+    EachTo (text_of contents) (map (λ s. s.now) l.names) l.name-index l.texts-inside.items.items) ×
     AreSmall l.texts-inside.items.items

@@ -1,17 +1,17 @@
-use Rattle.std.proofs.Common.{◌≡◌, ◌∙◌, ℕ, List, Ok, Err, Option, map, subst, sym}
-use Rattle.std.specs.Prelude.{IfSome, string_bytes}
+use Rattle.std.proofs.Common.{◌≡◌, ◌∙◌, ℕ, List, Ok, Err, Option, map, subst}
+use Rattle.std.specs.Prelude.{IfSome}
 use Rattle.std.proofs.lemmas.Result.{err_from_is_err_and}
 use Rattle.mw_outside.specs.Contents.{Contents}
 use Rattle.mw_outside.specs.Faults.{Rose}
 use Rattle.run_inputs.specs.declared.load.TheConstants.{MOST_CEX_BYTES}
-use Rattle.run_inputs.specs.Due.{refused, text_of, text_within}
+use Rattle.run_inputs.specs.Due.{refused, replay_due, text_of, text_within}
 use Rattle.run_inputs.proofs.Loading.{on_stop-map, stops-third, third_refused}
 use Rattle.run_inputs.proofs.told.load_replay.Goals as goal
 
 pub returns-in_err-told-clause-stop : goal.returns-in_err-told-clause-stop
 returns-in_err-told-clause-stop g c =
     let p = err_from_is_err_and c.from_residual-in_err-told.result c.from_residual-in_err-told.ensures.1 in
-    let names : List (List ℕ) = map string_bytes c.args.names.now in
+    let names : List (List ℕ) = map (λ s. s.now) c.args.names.now in
     let told : Option Contents = g.F.Files.contents c.args.files.now in
     let A : Option Contents → Type 0 = λ o.
     IfSome o (λ contents. text_of contents c.args.questions.now ≡ Ok c.in_ok-asked.asked) in
@@ -22,6 +22,7 @@ returns-in_err-told-clause-stop g c =
     let T : Option Contents → Type 0 = λ o.
     IfSome o (λ contents. text_within MOST_CEX_BYTES contents c.args.cex.now ≡ Err (refused line)) in
     third_refused told names c.args.cex.now c.args.questions.now c.in_ok-texts.texts c.in_ok-asked.asked line
+    MOST_CEX_BYTES replay_due
     c.in_ok-texts.ensures.ok asked (subst T (c.in_ok-asked.ensures.kept ∙ c.in_ok-texts.ensures.kept) said))
     (λ said.
     let R : ℕ → Type 0 = λ before. Rose before (g.F.Files.faults c.read_text-2.new.files) in (
