@@ -192,8 +192,8 @@ ended "1, no question and a log" 1 "no k.log:1 36 BadLine"
 run check none.log "$triangle/one-failure.txt" "$@"
 ended "1, an empty log" 1 "no none.log:1 39 Missing"
 
-for count in 3 4; do
-    run gen "$count"
+for count in 3 4 64; do
+    run --log made.log gen "$count"
     ended "0, a ring of $count" 0 "routers $count links $count"
     if [ "$(tail -n 1 printed)" = "holds g1" ]; then
         echo "ok: its question holds"
@@ -201,6 +201,16 @@ for count in 3 4; do
         echo "FAILED: $(tail -n 1 printed)"
         failed=1
     fi
+    "$top/tools/ring_files.sh" "$count" ring
+    run --log read.log verify ring/questions.txt ring/g*.cfg
+    ended "0, the files of a ring of $count" 0 "holds g1"
+    if cmp -s made.log read.log; then
+        echo "ok: its log is that of the ring made in memory"
+    else
+        echo "FAILED: the files of a ring of $count have another log"
+        failed=1
+    fi
+    rm -rf ring
 done
 run
 ended "3, no words" 3 "usage: mw_cli verify, check, replay, simulate or gen"
