@@ -7,3 +7,4 @@ pub mod NetworkBits
 pub mod Decided
 pub mod SameNodes
 pub mod MapsApplied
+pub mod AnyAddress

@@ -11,7 +11,7 @@ ghost use Rattle.sym_policy.specs.Records.{header_of, packet_end};
 use crate::records::SymPacket;
 use ios_ast::{AccessEntry, AccessList, Ports, Wild};
 use std::alloc::{AllocError, Global};
-use term_arith::gates::{both, constant_node, negate, select};
+use term_arith::gates::{both, constant_node, is_never, negate, select};
 use term_arith::{Bits, constant, equal_masked, equal_number, less};
 use term_store::{NodeId, Terms};
 
@@ -28,13 +28,18 @@ fn sym_proto(terms: &mut Terms, proto: Option<u8>, field: &Bits) -> Result<NodeI
     }
 }
 
-/// Whether an address agrees with the pattern's in each bit that the wildcard mask has 0.
+/// Whether an address agrees with the pattern's in each bit that the wildcard mask has 0. `any` wants no look at it.
+#[tactic(auto, using(crate::proofs::AnyAddress::any_matches))]
 fn sym_address(terms: &mut Terms, pattern: Wild, address: &Bits) -> Result<NodeId, AllocError>
-    requires { ids_end address.now.nodes.items ≤ size terms.old }
+    requires wide { length address.now.nodes.items ≡ 32 }
+    requires nodes { ids_end address.now.nodes.items ≤ size terms.old }
     ensures builds { Builds terms.old terms.new }
     ensures within { IfOk result (λ r. r.0 < size terms.new) }
     ensures value { Gives terms.new result (λ w r. at w r ≡ address_matches pattern (number w address.now.nodes.items)) }
 {
+    if pattern.wild == u32::MAX {
+        return constant_node(terms, true);
+    }
     equal_masked(
         terms,
         address.nodes.as_slice(),
@@ -43,7 +48,7 @@ fn sym_address(terms: &mut Terms, pattern: Wild, address: &Bits) -> Result<NodeI
     )
 }
 
-/// Whether a port is in a range, by two comparisons with constants.
+/// Whether a port is one, or in a range, by two comparisons with constants.
 fn sym_range(
     alloc: Global,
     terms: &mut Terms,
@@ -57,6 +62,9 @@ fn sym_range(
     ensures within { IfOk result (λ r. r.0 < size terms.new) }
     ensures value { Gives terms.new result (λ w r. at w r ≡ (nat_le low (number w port.now.nodes.items) && nat_le (number w port.now.nodes.items) high)) }
 {
+    if low == high {
+        return equal_number(terms, port.nodes.as_slice(), u64::from(low));
+    }
     let least = constant(alloc, terms, u64::from(low), 16)?;
     let below = less(terms, port, &least)?;
     let greatest = constant(alloc, terms, u64::from(high), 16)?;
@@ -90,7 +98,33 @@ fn sym_port(
     }
 }
 
-/// Whether each test of the entry holds.
+/// Whether an address and a port are as an entry asks.
+fn sym_side(
+    alloc: Global,
+    terms: &mut Terms,
+    pattern: Wild,
+    address: &Bits,
+    ports: Ports,
+    port: &Bits,
+) -> Result<NodeId, AllocError>
+    requires wide { length address.now.nodes.items ≡ 32 }
+    requires port_wide { length port.now.nodes.items ≡ 16 }
+    requires nodes { ids_end address.now.nodes.items ≤ size terms.old }
+    requires port_nodes { ids_end port.now.nodes.items ≤ size terms.old }
+    ensures builds { Builds terms.old terms.new }
+    ensures within { IfOk result (λ r. r.0 < size terms.new) }
+    ensures value { Gives terms.new result (λ w r. at w r ≡ (address_matches pattern (number w address.now.nodes.items)
+        && port_matches ports (number w port.now.nodes.items))) }
+{
+    let there = sym_address(terms, pattern, address)?;
+    if is_never(terms, there) {
+        return Ok(there);
+    }
+    let open = sym_port(alloc, terms, ports, port)?;
+    both(terms, there, open)
+}
+
+/// Whether each test of the entry holds. Where the packet is of another protocol, no other test is looked at.
 fn sym_entry(
     alloc: Global,
     terms: &mut Terms,
@@ -103,12 +137,25 @@ fn sym_entry(
     ensures value { Gives terms.new result (λ w r. at w r ≡ packet_taken entry.now (header_of w packet.now)) }
 {
     let proto = sym_proto(terms, entry.proto, &packet.proto)?;
-    let src = sym_address(terms, entry.src, &packet.src)?;
-    let sport = sym_port(alloc, terms, entry.sport, &packet.sport)?;
-    let dst = sym_address(terms, entry.dst, &packet.dst)?;
-    let dport = sym_port(alloc, terms, entry.dport, &packet.dport)?;
-    let from = both(terms, src, sport)?;
-    let to = both(terms, dst, dport)?;
+    if is_never(terms, proto) {
+        return Ok(proto);
+    }
+    let from = sym_side(
+        alloc,
+        terms,
+        entry.src,
+        &packet.src,
+        entry.sport,
+        &packet.sport,
+    )?;
+    let to = sym_side(
+        alloc,
+        terms,
+        entry.dst,
+        &packet.dst,
+        entry.dport,
+        &packet.dport,
+    )?;
     let ends = both(terms, from, to)?;
     both(terms, proto, ends)
 }
