@@ -49,6 +49,15 @@ pub filter_map_none : {A B : Type 0} (f : A → Option B) (xs : List A) → ((x 
 filter_map_none f [] none = refl
 filter_map_none f (x ∷ xs) none = λ i. cons_option (none x i) (filter_map_none f xs none i)
 
+-- an empty slot gives BGP nothing
+pub none_local : (files : List File) (p : Prefix) (router : ℕ) (file : File) (process : Bgp) →
+    local_routes files router file process p empty_slot ≡ []
+unfolding local_routes
+none_local files p router file process =
+    let networks = filter_map_none (by_network file p empty_slot) process.networks (λ line. refl) in
+    let lines = filter_map_none (into_bgp files router file p empty_slot) process.redistribute (λ line. refl) in
+    λ i. networks i ++ lines i
+
 module _ (files : List File) (failures : Failures) (environment : Environment) (tables : Tables) (p : Prefix)
     (bare : IsBare files p) (empty : IsEmptyAt environment tables p.len) where
   no_part : {A : Type 0} (part : Slot → Option A) → part empty_slot ≡ None → (router : ℕ) →
@@ -87,13 +96,6 @@ module _ (files : List File) (failures : Failures) (environment : Environment) (
       none_offered over = λ i. option_and_then (extended over.1.cost)
           (no_part (λ slot. slot.ospf) refl over.1.to.router i)
 
-  none_local : (router : ℕ) (file : File) (process : Bgp) → local_routes files router file process p empty_slot ≡ []
-  unfolding local_routes
-  none_local router file process =
-      let networks = filter_map_none (by_network file p empty_slot) process.networks (λ line. refl) in
-      let lines = filter_map_none (into_bgp files router file p empty_slot) process.redistribute (λ line. refl) in
-      λ i. networks i ++ lines i
-
   none_arrives : (at : ℕ) (end : SessionEnd) → arriving files environment tables p at end ≡ None
   unfolding arriving
   none_arrives at end = by_far end.far where
@@ -118,7 +120,7 @@ module _ (files : List File) (failures : Failures) (environment : Environment) (
   unfolding candidates candidates_from
   none_candidate router file process =
       λ i. map (local_candidate files router)
-      (none_own (local_routes files router file process p) (none_local router file process) router i)
+      (none_own (local_routes files router file process p) (none_local files p router file process) router i)
       ++ filter_map_none (λ e. learnt_candidate files failures environment.ids p e.0 e.1
       (arriving files environment tables p e.0 e.1))
       (filter (λ e. e.1.router == router) (enumerate_from 0 (ends_of files))) (λ e. none_learnt e.0 e.1) i

@@ -22,7 +22,7 @@ use Rattle.plan_places.specs.declared.places.Place.{Place}
 use Rattle.plan_places.specs.Places.{item_at, place}
 use Rattle.plan_places.specs.Plans.{lens_of, single_plan}
 use Rattle.plan_places.proofs.PlaceSteps.{places-length}
-use Rattle.slot_places.specs.Rooms.{HasUsed, can_be_used, room_for}
+use Rattle.slot_places.specs.Rooms.{can_be_used, room_for}
 use Rattle.world_variables.specs.declared.unknowns.Unknown.{Unknown}
 use Rattle.world_variables.specs.Packets.{packet_from}
 use Rattle.world_variables.specs.Worlds.{opens_from as unknowns_read_from, places_in, slots_start}
@@ -113,7 +113,7 @@ real_slots tracked (slot ∷ slots) =
 
 -- ---- the world
 
-module _ (g : Given) (fits : HasWordNetwork g.files g.tracked g.question) (wide : HasUsed g.files g.question.packets.dst g.plan)
+module _ (g : Given) (fits : HasWordNetwork g.files g.tracked g.question)
     (holds : is_routing g.files g.tracked g.question g.plan g.values 0 ≡ true) (inside : Inside) (outside : Outside)
     (in_is : IsInside g inside) (out_is : IsOutside g.tracked g.files (lens_of g.plan) g.values (start_of g) outside)
   where
@@ -130,7 +130,7 @@ module _ (g : Given) (fits : HasWordNetwork g.files g.tracked g.question) (wide 
 
     same : s ≡ shapes_of g.tracked world environment
     unfolding shape_world_from
-    same = sym (shapes_are g.files g.tracked g.question g.plan g.values 0 fits wide holds)
+    same = sym (shapes_are g.files g.tracked g.question g.plan g.values 0 fits holds)
 
     abbrev places : List Place
     places = places_in g.files g.plan

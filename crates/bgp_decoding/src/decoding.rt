@@ -3,7 +3,6 @@
 ghost use Rattle.std.specs.Prelude.{◌≡◌, ◌+◌, ◌≤◌, IfOk, length, true};
 ghost use Rattle.term_store.specs.Terms.{truth};
 ghost use Rattle.plan_places.specs.Plans as plans;
-ghost use Rattle.slot_places.specs.Rooms.{HasUsed};
 ghost use Rattle.bgp_variables.specs.Environments.{environment_width};
 ghost use Rattle.world_variables.specs.Packets.{packet_from};
 ghost use Rattle.world_variables.specs.Worlds.{slots_start};
@@ -68,7 +67,6 @@ fn rebuilt(
     }) inside.now }
     requires outside { IsOutside net.now.tracked net.now.files (plans.lens_of plan.now) (truth values.now)
         (environment_start net.now.files net.now.tracked question.now plan.now 0) outside.now }
-    requires plan { HasUsed net.now.files question.now.packets.dst plan.now }
     requires words { HasWordNetwork net.now.files net.now.tracked question.now }
     requires routing { is_routing net.now.files net.now.tracked question.now plan.now (truth values.now) 0 ≡ true }
     ensures { IfOk result (IsMadeOf net.now.tracked net.now.files
@@ -96,7 +94,6 @@ fn routing_at(
     requires destination { d ≡ (packet_from question.now.packets (truth values.now) 0).dst }
     requires width { environment_start net.now.files net.now.tracked question.now plan.now 0
         + environment_width net.now.tracked net.now.files (plans.lens_of plan.now) ≤ length values.now }
-    requires plan { HasUsed net.now.files question.now.packets.dst plan.now }
     requires words { HasWordNetwork net.now.files net.now.tracked question.now }
     requires routing { is_routing net.now.files net.now.tracked question.now plan.now (truth values.now) 0 ≡ true }
     ensures { IfOk result (IsMadeOf net.now.tracked net.now.files
@@ -111,8 +108,8 @@ fn routing_at(
 }
 
 /// The routing that values of all variables of a question's formula say, in a network with BGP: the world with its real
-/// routes, and the environment that is made of it. The plan has a slice at each length at which something can stand, every
-/// number fits its field, and the values pass the test that they are a routing.
+/// routes, and the environment that is made of it. Every number fits its field, and the values pass the test that they are
+/// a routing. Nothing stands off the slices of the plan.
 pub fn decode_routing(
     alloc: Global,
     values: &[bool],
@@ -122,7 +119,6 @@ pub fn decode_routing(
 ) -> Result<Decoded, AllocError>
     requires width { environment_start net.now.files net.now.tracked question.now plan.now 0
         + environment_width net.now.tracked net.now.files (plans.lens_of plan.now) ≤ length values.now }
-    requires plan { HasUsed net.now.files question.now.packets.dst plan.now }
     requires words { HasWordNetwork net.now.files net.now.tracked question.now }
     requires routing { is_routing net.now.files net.now.tracked question.now plan.now (truth values.now) 0 ≡ true }
     ensures world { IfOk result (λ d. d.world

@@ -25,17 +25,17 @@ use Rattle.route_shapes.specs.Bgp.{BgpShape}
 use Rattle.bgp_shapes.specs.Candidates.{ShapeEnvironment, ShapeSlot, shape_candidates}
 use Rattle.bgp_shapes.specs.Held.{held_shape}
 use Rattle.plan_places.specs.Places.{has_place, item_at, place, places_of}
-use Rattle.plan_places.specs.Plans.{lens_of}
-use Rattle.slot_places.specs.Rooms.{HasUsed, can_be_used, has_sources, has_subnet, room_among, rooms_of}
-use Rattle.slot_places.proofs.PlaceLaws.{has-in, lens-in, places-in}
+use Rattle.plan_places.specs.Plans.{has_slice}
+use Rattle.slot_places.specs.Rooms.{can_be_used, has_sources, has_subnet, room_among, rooms_of}
 use Rattle.rebuilt_routes.specs.Deciding.{is_decided_shape}
 use Rattle.shape_worlds.specs.Worlds.{IsRealWorld, ShapeWorld, environment_of, has_all_marks, is_decided_at}
 use Rattle.shape_worlds.specs.Worlds.{may_be_announced, rebuilt_world, shape_holds, slot_holds, slots_for}
 use Rattle.shape_worlds.proofs.RealWorlds.{is_real, len_at, len_small, router_at}
 use Rattle.shape_worlds.proofs.Tested.{from_places}
-use Rattle.bgp_worlds.specs.Opens.{OpenSlot, empty_shape, is_bgp_wanted, open_shape, shape_slot_among, shape_slot_of}
-use Rattle.bgp_worlds.specs.Opens.{shape_world_of}
-use Rattle.bgp_worlds.proofs.Placed.{place_small, range-at, router_small}
+use Rattle.bgp_worlds.specs.Opens.{AnnounceAtSlices, OpenSlot, empty_shape, is_bgp_wanted, open_shape, shape_slot_among}
+use Rattle.bgp_worlds.specs.Opens.{shape_slot_of, shape_world_of}
+use Rattle.bgp_worlds.proofs.OffSlices.{no_place, nothing_decided, slice_there}
+use Rattle.bgp_worlds.proofs.Placed.{not_made, place_small, range-at, router_small}
 
 -- a router runs no BGP where nothing can stand in its slot
 pub no_process : (files : List File) (destinations : Prefix) (router len : ℕ) (file : File) →
@@ -48,15 +48,6 @@ no_process files destinations router len file unused found =
     (option_map_or (has_sources destinations len) (slice_get files router) false) front).1 in
     none_here file.bgp ((or_parts _ (is_some file.bgp)
     (sym (ap (λ o. option_map_or (has_sources destinations len) o false) found) ∙ sources)).1)
-
--- so it stands at a place of a plan that has all lengths at which something can stand
-pub used_there : (files : List File) (destinations : Prefix) (plan : Plan) → HasUsed files destinations plan →
-    (router len : ℕ) → router < length files → len < LENGTHS → can_be_used files destinations router len ≡ true →
-    has_place (places_of plan (length files)) router len ≡ true
-used_there files destinations plan wide router len below short used =
-    has-in (places_of plan (length files)) router len
-    (places-in (lens_of plan) (length files) router len below
-    (lens-in plan LENGTHS len short (wide router len below short used)))
 
 -- ---- the slots of a world by shapes
 
@@ -99,6 +90,30 @@ module _ (files : List File) (destinations : Prefix) (plan : Plan) (packet : Pac
       by None = refl
       by (Some o) = ap (λ b. if b then open_shape files failures packet.dst router len o else empty_shape) unused
 
+  -- and nothing off the slices
+  pub empty_off : (router len : ℕ) → has_slice plan len ≡ false →
+      shape_slot_among files destinations failures packet.dst (places_of plan (length files)) opens router len
+      ≡ empty_shape
+  empty_off router len off =
+      ap (λ x. option_map_or (shape_slot_of files destinations failures packet.dst (place router len)) x empty_shape)
+      (not_made (places_of plan (length files)) opens router len (no_place files plan router len off))
+
+  -- so no slot there holds anything
+  pub none_off : (len : ℕ) → len < LENGTHS → has_slice plan len ≡ false → (router : ℕ) (slot : ShapeSlot) →
+      slots_for (shape_world_of files destinations plan packet failures opens announced) len router ≡ Some slot →
+      slot ≡ empty_shape
+  none_off len short off router slot there =
+      same_Some slot empty_shape (sym there
+      ∙ slot_here router len within short ∙ ap Some (empty_off router len off))
+    where
+      within : router < length files
+      within =
+          let inside = slice_get_within world.slots (LENGTHS * router + len) slot there in
+          let long = length-map (range_with_len 0 (LENGTHS * length files))
+          (λ (k : ℕ). slot_among (k / LENGTHS) (k % LENGTHS)) in
+          let count = length-range_with_len 0 (LENGTHS * length files) in
+          omega (arith, inside, long, count)
+
   -- what is open where something can
   pub open_there : (router len : ℕ) (o : OpenSlot) → can_be_used files destinations router len ≡ true →
       item_at (places_of plan (length files)) opens router len ≡ Some o →
@@ -124,7 +139,7 @@ pub record AreBgpWanted (tracked : Tracked) (files : List File) (destinations : 
 
 module _ (tracked : Tracked) (files : List File) (destinations : Prefix) (plan : Plan) (packet : Packet)
     (failures : Failures) (opens : List OpenSlot) (announced : ShapeEnvironment) (net : TracksNet files tracked)
-    (limits : list_all keeps_limits files ≡ true) (wide : HasUsed files destinations plan)
+    (limits : list_all keeps_limits files ≡ true) (silent : AnnounceAtSlices plan announced)
     (are : AreBgpWanted tracked files destinations plan
     (shape_world_of files destinations plan packet failures opens announced) opens) where
   abbrev s : ShapeWorld
@@ -136,7 +151,8 @@ module _ (tracked : Tracked) (files : List File) (destinations : Prefix) (plan :
 
   slot_passes : (k : ℕ) (slot : ShapeSlot) → slice_get s.slots k ≡ Some slot →
       slot_holds tracked files s (k, slot) ≡ true
-  slot_passes k slot there = by (can_be_used files destinations router len) refl
+  slot_passes k slot there =
+      by (has_slice plan len) refl (can_be_used files destinations router len) refl
     where
       router : ℕ
       router = k / LENGTHS
@@ -175,19 +191,18 @@ module _ (tracked : Tracked) (files : List File) (destinations : Prefix) (plan :
           and_from (option_map_or (has_all_marks tracked) slot.bgp true) (is_decided_at tracked files s (k, slot))
           (ap (λ o. option_map_or (has_all_marks tracked) o true) same ∙ marks) (decides held f found same decided)
 
-      by : (b : Bool) → can_be_used files destinations (k / LENGTHS) (k % LENGTHS) ≡ b →
-          slot_holds tracked files s (k, slot) ≡ true
-      by true used =
+      by : (b : Bool) → has_slice plan (k % LENGTHS) ≡ b → (c : Bool) →
+          can_be_used files destinations (k / LENGTHS) (k % LENGTHS) ≡ c → slot_holds tracked files s (k, slot) ≡ true
+      by true on true used =
           let there' = are.stands (k / LENGTHS) (k % LENGTHS)
-          (used_there files destinations plan wide (k / LENGTHS) (k % LENGTHS) (router_small k (length files) small)
-          (len_small k) used) in
+          (slice_there files plan (k / LENGTHS) (k % LENGTHS) (router_small k (length files) small) (len_small k) on) in
           let parts = and_parts (option_map_or (has_all_marks tracked) there'.0.bgp true) _
           (are.wanted (k / LENGTHS) (k % LENGTHS) file.0 there'.0 file.1 (len_small k) used there'.1) in
           passes there'.0.bgp file.0 file.1
           (ap (λ (x : ShapeSlot). x.bgp)
           (is ∙ open_there files destinations plan packet failures opens announced (k / LENGTHS) (k % LENGTHS) there'.0
           used there'.1)) parts.0 parts.1
-      by false unused =
+      by true on false unused =
           let lacks = no_process files destinations (k / LENGTHS) (k % LENGTHS) file.0 unused file.1 in
           passes None file.0 file.1
           (ap (λ (x : ShapeSlot). x.bgp)
@@ -195,6 +210,14 @@ module _ (tracked : Tracked) (files : List File) (destinations : Prefix) (plan :
           (ap (λ o. option_map_or (λ (b : Bgp). held_shape b.always_compare b.compare_routerid
           (shape_candidates tracked files failures announced (slots_for s (k % LENGTHS)) (k / LENGTHS) file.0 b
           (prefix_at packet.dst (k % LENGTHS))) None) o true) lacks)
+      by false off c may =
+          passes None file.0 file.1
+          (ap (λ (x : ShapeSlot). x.bgp)
+          (is ∙ empty_off files destinations plan packet failures opens announced (k / LENGTHS) (k % LENGTHS) off)) refl
+          (nothing_decided tracked files failures announced (slots_for s (k % LENGTHS))
+          (prefix_at packet.dst (k % LENGTHS))
+          (none_off files destinations plan packet failures opens announced (k % LENGTHS) (len_small k) off)
+          (λ end. silent end (k % LENGTHS) (len_small k) off) (k / LENGTHS) file.0)
 
   pub shapes_hold : shape_holds tracked files s ≡ true
   unfolding shape_holds

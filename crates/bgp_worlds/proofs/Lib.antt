@@ -1,5 +1,6 @@
 pub mod EntryBit
 pub mod Placed
+pub mod OffSlices
 pub mod BgpSound
 pub mod OpenSound
 pub mod SameShapes

@@ -35,13 +35,14 @@ use Rattle.bgp_shapes.specs.Candidates.{ShapeSlot, environment_shape, slot_shape
 use Rattle.bgp_shapes.proofs.TrackedLaw.{tests_tracked}
 use Rattle.plan_places.specs.declared.places.Place.{Place}
 use Rattle.plan_places.specs.Places.{item_at, place, places_of}
-use Rattle.plan_places.specs.Plans.{lens_of}
 use Rattle.plan_places.specs.Tables.{empty_slot}
-use Rattle.slot_places.specs.Rooms.{HasUsed, can_be_used}
+use Rattle.plan_places.specs.Plans.{has_slice, lens_of}
+use Rattle.slot_places.specs.Rooms.{can_be_used}
 use Rattle.slot_places.proofs.Fitting.{unused_empty}
 use Rattle.slot_places.proofs.Members.{all-from-in}
 use Rattle.slot_places.proofs.PlaceLaws.{in-lens, in-places}
 use Rattle.slot_places.proofs.Tabulated.{all_hold_again}
+use Rattle.sliced_routings.specs.Slicing.{IsSliced}
 use Rattle.sym_rib.specs.Sources.{entry_from}
 use Rattle.sym_rib.proofs.TableEntries.{entry_same}
 use Rattle.world_variables.specs.Slots.{entry_of_bit, has_dynamic, same_ospf, unknown_of}
@@ -55,15 +56,15 @@ use Rattle.bgp_worlds.specs.Opens.{OpenSlot, empty_shape, is_bgp_wanted, is_igp_
 use Rattle.bgp_worlds.specs.Opens.{opens_hold, opens_of, place_holds, shape_entry, shape_slot_among, shape_slot_of}
 use Rattle.bgp_worlds.specs.Opens.{shape_world_of}
 use Rattle.bgp_worlds.proofs.EntryBit.{entry_again}
-use Rattle.bgp_worlds.proofs.BgpSound.{used_there}
+use Rattle.bgp_worlds.proofs.OffSlices.{no_place, slice_there}
 use Rattle.bgp_worlds.proofs.SameShapes.{entries_same, held_same, learnt_shape}
 use Rattle.std.proofs.lemmas.List.FromFn.{length-range_with_len}
 use Rattle.shape_worlds.proofs.RealWorlds.{len_small, place_of}
-use Rattle.bgp_worlds.proofs.Placed.{item_again, range-at, router_small}
+use Rattle.bgp_worlds.proofs.Placed.{item_again, not_made, range-at, router_small}
 
 module _ (tracked : Tracked) (files : List File) (destinations : Prefix) (plan : Plan) (world : World)
     (environment : Environment) (net : TracksNet files tracked) (limits : list_all keeps_limits files ≡ true)
-    (wide : HasUsed files destinations plan) (covered : covers destinations world.packet.dst ≡ true)
+    (sliced : IsSliced plan world environment) (covered : covers destinations world.packet.dst ≡ true)
     (costs : All (λ a. 0 < a.cost) (adjacencies files)) (may : IsEnvironment files environment)
     (stable : Stable files world.packet.dst world.failures environment world.tables) where
   abbrev s : ShapeWorld
@@ -132,8 +133,13 @@ module _ (tracked : Tracked) (files : List File) (destinations : Prefix) (plan :
 
   among_is : (router len : ℕ) → router < length files → len < LENGTHS → (is : IsSlot router len) →
       among router len ≡ slot_shape tracked is.slot
-  among_is router len within below is = by (can_be_used files destinations router len) refl
+  among_is router len within below is =
+      by (has_slice plan len) refl (can_be_used files destinations router len) refl
     where
+      stands : Option OpenSlot → ShapeSlot
+      stands o = option_map_or (shape_slot_of files destinations world.failures world.packet.dst (place router len)) o
+          empty_shape
+
       empty : (o : Option OpenSlot) → can_be_used files destinations router len ≡ false →
           option_map_or (shape_slot_of files destinations world.failures world.packet.dst (place router len)) o
           empty_shape ≡ empty_shape
@@ -141,19 +147,22 @@ module _ (tracked : Tracked) (files : List File) (destinations : Prefix) (plan :
       empty (Some o) unused =
           ap (λ b. if b then open_shape files world.failures world.packet.dst router len o else empty_shape) unused
 
-      by : (b : Bool) → can_be_used files destinations router len ≡ b → among router len ≡ slot_shape tracked is.slot
-      by true used =
-          ap (λ o. option_map_or (shape_slot_of files destinations world.failures world.packet.dst (place router len)) o
-          empty_shape) (item_again (open_at tracked world.tables) places router len
-          (used_there files destinations plan wide router len within below used))
+      by : (b : Bool) → has_slice plan len ≡ b → (c : Bool) → can_be_used files destinations router len ≡ c →
+          among router len ≡ slot_shape tracked is.slot
+      by true on true used =
+          ap stands (item_again (open_at tracked world.tables) places router len
+          (slice_there files plan router len within below on))
           ∙ ap (λ b. if b then open_shape files world.failures world.packet.dst router len
           (open_at tracked world.tables (place router len)) else empty_shape) used
           ∙ ap (open_shape files world.failures world.packet.dst router len) (open_is router len is)
           ∙ slot_again router len below is
-      by false unused =
+      by true on false unused =
           let nothing = unused_empty files destinations world.packet.dst world.failures environment world.tables stable
           covered costs len below router is.slot is.here unused in
           empty (item_at places opens router len) unused ∙ sym (ap (slot_shape tracked) nothing)
+      by false off c may =
+          ap stands (not_made places opens router len (no_place files plan router len off))
+          ∙ sym (ap (slot_shape tracked) ((sliced len below off).slots router is.slot is.here))
 
   -- the world by shapes of what is open is that of the routing
   pub world_again : shape_world_of files destinations plan world.packet world.failures opens

@@ -1,7 +1,7 @@
 -- What is open of slots and passes the test makes a stable routing.
 use Rattle.std.proofs.Common.{◌≡◌, ℕ, ◌+◌, ◌*◌, ◌<◌, ◌&&◌, ◌||◌, not, Bool, true, false}
 use Rattle.std.proofs.Common.{List, length, Option, Some, None, refl, sym, ap, ◌∙◌, subst, arith}
-use Rattle.std.specs.Prelude.{All, option_and_then, option_map, slice_get, if◌then◌else◌}
+use Rattle.std.specs.Prelude.{◌==◌, All, option_and_then, option_map, slice_get, if◌then◌else◌}
 use Rattle.std.specs.Bool.{beq}
 use Rattle.std.specs.List.{list_all}
 use Rattle.std.specs.Option.{option_map_or}
@@ -27,28 +27,35 @@ use Rattle.net_parts.specs.Entries.{entry_with, own_is_as_good, table_entry}
 use Rattle.net_parts.specs.Stable.{IsStableSlot, Stable, held_ospf}
 use Rattle.net_parts.specs.Tracked.{TracksNet}
 use Rattle.route_shapes.specs.Bgp.{BgpShape, bgp_shape, learnt_number}
+use Rattle.announced_shapes.specs.Announcements.{rebuilt_announcement}
 use Rattle.bgp_shapes.specs.Candidates.{ShapeEnvironment, ShapeSlot, slot_shape}
 use Rattle.plan_places.specs.declared.places.Place.{Place}
 use Rattle.plan_places.specs.Places.{item_at, place, places_of}
 use Rattle.plan_places.specs.Tables.{all_hold, empty_slot}
-use Rattle.slot_places.specs.Rooms.{HasUsed, can_be_used, room_at}
-use Rattle.slot_places.specs.Rooms.{runs_ospf}
-use Rattle.slot_places.proofs.Unused.{empty_stable}
+use Rattle.plan_places.specs.Plans.{has_slice}
+use Rattle.slot_places.specs.Rooms.{can_be_used, room_at, runs_ospf}
+use Rattle.slot_places.proofs.Unused.{empty_stable as unused_stable}
+use Rattle.alike_prefixes.proofs.Emptied.{empty_stable}
+use Rattle.sliced_routings.specs.Plans.{IsFittingPlan}
+use Rattle.sliced_routings.specs.Slicing.{IsSliced}
+use Rattle.sliced_routings.proofs.Bare.{bare_off}
 use Rattle.sym_rib.specs.Sources.{entry_from}
 use Rattle.sym_rib.proofs.TableEntries.{entry_same}
 use Rattle.world_variables.specs.Slots.{entry_of_bit, has_dynamic, same_ospf}
 use Rattle.world_variables.proofs.Stability.{same_ospf-is}
 use Rattle.shape_worlds.specs.Worlds.{IsRealWorld, ShapeWorld, environment_of, rebuilt_tables}
 use Rattle.shape_worlds.specs.Worlds.{rebuilt_world, may_be_announced, shape_holds}
-use Rattle.bgp_worlds.specs.Opens.{HaveRooms, OpenSlot, empty_shape, is_bgp_wanted, is_igp_wanted, open_shape, opens_hold}
-use Rattle.bgp_worlds.specs.Opens.{place_holds, shape_slot_among, shape_slot_of, shape_world_of}
-use Rattle.bgp_worlds.proofs.BgpSound.{AreBgpWanted, empty_here, real as real_by_bgp, shapes_hold as shapes_held, slot_here, used_there}
+use Rattle.bgp_worlds.specs.Opens.{AnnounceAtSlices, HaveRooms, OpenSlot, empty_shape, is_bgp_wanted, is_igp_wanted}
+use Rattle.bgp_worlds.specs.Opens.{open_shape, opens_hold, place_holds, shape_slot_among, shape_slot_of, shape_world_of}
+use Rattle.bgp_worlds.proofs.BgpSound.{AreBgpWanted, empty_here, empty_off, real as real_by_bgp, shapes_hold as shapes_held}
+use Rattle.bgp_worlds.proofs.BgpSound.{slot_here}
 use Rattle.bgp_worlds.proofs.EntryBit.{entry_again}
+use Rattle.bgp_worlds.proofs.OffSlices.{none_made, on_slice, slice_there}
 use Rattle.bgp_worlds.proofs.Placed.{made}
 
 module _ (tracked : Tracked) (files : List File) (destinations : Prefix) (plan : Plan) (packet : Packet)
     (failures : Failures) (opens : List OpenSlot) (announced : ShapeEnvironment) (net : TracksNet files tracked)
-    (limits : list_all keeps_limits files ≡ true) (wide : HasUsed files destinations plan)
+    (limits : list_all keeps_limits files ≡ true) (silent : AnnounceAtSlices plan announced)
     (holds : opens_hold tracked files destinations plan
     (shape_world_of files destinations plan packet failures opens announced) opens ≡ true) where
   abbrev s : ShapeWorld
@@ -78,10 +85,11 @@ module _ (tracked : Tracked) (files : List File) (destinations : Prefix) (plan :
   both = and_parts (may_be_announced files tracked announced) _ holds
 
   open_here : (router len : ℕ) (file : File) → slice_get files router ≡ Some file → router < length files →
-      len < LENGTHS → can_be_used files destinations router len ≡ true → IsOpen router len file
-  open_here router len file found within below used =
+      len < LENGTHS → has_slice plan len ≡ true → can_be_used files destinations router len ≡ true →
+      IsOpen router len file
+  open_here router len file found within below on used =
       let there = made (place_holds tracked files destinations s tables) places opens router len both.1
-      (used_there files destinations plan wide router len within below used) in
+      (slice_there files plan router len within below on) in
       let asked : option_map_or (λ (f : File). is_bgp_wanted tracked files s (place router len) there.item.bgp f
       && option_map_or (is_igp_wanted files s tables (place router len) there.item.unknown f)
       (slot_at tables router len) false) (slice_get files router) false ≡ true =
@@ -115,7 +123,8 @@ module _ (tracked : Tracked) (files : List File) (destinations : Prefix) (plan :
         let is = made (place_holds tracked files destinations s tables) places opens router len both.1 there in
         (is.item, is.is);
     wanted = λ router len file o found below used is.
-        let here = open_here router len file found (slice_get_within files router file found) below used in
+        let here = open_here router len file found (slice_get_within files router file found) below
+        (on_slice files plan opens router len o is) used in
         subst (λ x. is_bgp_wanted tracked files s (place router len) x.bgp file ≡ true)
         (same_Some here.item o (sym here.stands ∙ is)) here.bgp;
   }
@@ -123,12 +132,12 @@ module _ (tracked : Tracked) (files : List File) (destinations : Prefix) (plan :
   pub shapes_hold : shape_holds tracked files
       (shape_world_of files destinations plan packet failures opens announced) ≡ true
   shapes_hold =
-      shapes_held tracked files destinations plan packet failures opens announced net limits wide bgp_wanted
+      shapes_held tracked files destinations plan packet failures opens announced net limits silent bgp_wanted
 
   pub real : IsRealWorld tracked files (shape_world_of files destinations plan packet failures opens announced)
       (rebuilt_world tracked files (shape_world_of files destinations plan packet failures opens announced))
       (environment_of tracked (shape_world_of files destinations plan packet failures opens announced))
-  real = real_by_bgp tracked files destinations plan packet failures opens announced net limits wide bgp_wanted
+  real = real_by_bgp tracked files destinations plan packet failures opens announced net limits silent bgp_wanted
 
   -- ---- the equations of a slot
 
@@ -141,10 +150,41 @@ module _ (tracked : Tracked) (files : List File) (destinations : Prefix) (plan :
       ∙ ap (λ (w : ShapeWorld). slice_get w.slots (LENGTHS * router + len)) real.shapes
       ∙ slot_here files destinations plan packet failures opens announced router len within below)
 
+  -- ---- off the slices
+
+  no_route : (o : Option BgpRec) → option_map (bgp_shape tracked) o ≡ None → o ≡ None
+  no_route None is = refl
+  no_route (Some h) is = absurd cc
+
+  -- a slot of an empty shape is empty
+  empty_by : (slot : Slot) → slot_shape tracked slot ≡ empty_shape → slot ≡ empty_slot
+  empty_by slot is =
+      let ospf = ap (λ (x : ShapeSlot). x.ospf) is in
+      let bgp = no_route slot.bgp (ap (λ (x : ShapeSlot). x.bgp) is) in
+      let rib = ap (λ (x : ShapeSlot). x.rib) is in
+      λ i. record { ospf = ospf i; bgp = bgp i; rib = rib i }
+
+  pub sliced : IsSliced plan
+      (rebuilt_world tracked files (shape_world_of files destinations plan packet failures opens announced))
+      (environment_of tracked (shape_world_of files destinations plan packet failures opens announced))
+  sliced len below off = record {
+    slots = λ router slot there. empty_by slot (same_slots router len slot (within router slot there) below there
+        ∙ empty_off files destinations plan packet failures opens announced router len off);
+    announced = λ end. none_made (rebuilt_announcement tracked) (λ a. (a.end == end) && (a.len == len))
+        announced.announced (silent end len below off);
+  }
+    where
+      within : (router : ℕ) (slot : Slot) → slot_at tables router len ≡ Some slot → router < length files
+      within router slot there =
+          let place = slice_get_within tables.slots (LENGTHS * router + len) slot there in
+          let size = real.size in
+          omega (arith, place, size)
+
   environment : Environment
   environment = environment_of tracked s
 
-  module _ (covered : covers destinations packet.dst ≡ true) (rooms : HaveRooms files destinations places opens) where
+  module _ (fitting : IsFittingPlan files plan) (covered : covers destinations packet.dst ≡ true)
+      (rooms : HaveRooms files destinations places opens) where
     -- a slot by its shape
     used_stable : (router len : ℕ) (file : File) (slot : Slot) → slice_get files router ≡ Some file → len < LENGTHS →
         slot_at tables router len ≡ Some slot → IsOpen router len file →
@@ -239,32 +279,37 @@ module _ (tracked : Tracked) (files : List File) (destinations : Prefix) (plan :
     slot_stable : (router len : ℕ) (file : File) (slot : Slot) → slice_get files router ≡ Some file → len < LENGTHS →
         slot_at tables router len ≡ Some slot →
         IsStableSlot files failures (environment_of tracked s) tables router file (prefix_at packet.dst len) slot
-    slot_stable router len file slot found below there = by (can_be_used files destinations router len) refl
+    slot_stable router len file slot found below there =
+        by (has_slice plan len) refl (can_be_used files destinations router len) refl
       where
         within : router < length files
         within = slice_get_within files router file found
 
+        some : 0 < length files
+        some = omega (arith, within)
+
         same : slot_shape tracked slot ≡ among router len
         same = same_slots router len slot within below there
 
-        nothing : (o : Option BgpRec) → option_map (bgp_shape tracked) o ≡ None → o ≡ None
-        nothing None is = refl
-        nothing (Some h) is = absurd cc
+        Holds : Slot → Type 0
+        Holds = IsStableSlot files failures (environment_of tracked s) tables router file (prefix_at packet.dst len)
 
-        by : (b : Bool) → can_be_used files destinations router len ≡ b →
+        by : (b : Bool) → has_slice plan len ≡ b → (c : Bool) → can_be_used files destinations router len ≡ c →
             IsStableSlot files failures (environment_of tracked s) tables router file (prefix_at packet.dst len) slot
-        by true used =
-            used_stable router len file slot found below there (open_here router len file found within below used) same
-        by false unused =
-            let empty = same ∙ empty_here files destinations plan packet failures opens announced router len unused in
-            let ospf = ap (λ (x : ShapeSlot). x.ospf) empty in
-            let bgp = nothing slot.bgp (ap (λ (x : ShapeSlot). x.bgp) empty) in
-            let rib = ap (λ (x : ShapeSlot). x.rib) empty in
-            let is : slot ≡ empty_slot = λ i. record { ospf = ospf i; bgp = bgp i; rib = rib i } in
-            subst (IsStableSlot files failures (environment_of tracked s) tables router file (prefix_at packet.dst len))
-            (sym is)
-            (empty_stable files destinations packet.dst failures (environment_of tracked s) tables covered router len file
-            found below unused (there ∙ ap Some is) (held_nowhere len below))
+        by true on true used =
+            used_stable router len file slot found below there (open_here router len file found within below on used) same
+        by true on false unused =
+            let is = empty_by slot
+            (same ∙ empty_here files destinations plan packet failures opens announced router len unused) in
+            subst Holds (sym is)
+            (unused_stable files destinations packet.dst failures (environment_of tracked s) tables covered router len
+            file found below unused (there ∙ ap Some is) (held_nowhere len below))
+        by false off c may =
+            let is = empty_by slot
+            (same ∙ empty_off files destinations plan packet failures opens announced router len off) in
+            subst Holds (sym is)
+            (empty_stable files failures (environment_of tracked s) tables (prefix_at packet.dst len)
+            (bare_off files plan fitting some packet.dst len below off) (sliced len below off) router file found)
 
     pub stable : All FitsSlot tables.slots → Stable files packet.dst failures (environment_of tracked s) tables
     stable fits = record {

@@ -31,7 +31,7 @@ use Rattle.bgp_shapes.specs.Crossings.{end_numbered}
 use Rattle.route_shapes.specs.Bgp.{BgpShape}
 use Rattle.plan_places.specs.declared.places.Place.{Place}
 use Rattle.plan_places.specs.Places.{item_at, place, places_of}
-use Rattle.slot_places.specs.Rooms.{HasUsed, can_be_used}
+use Rattle.slot_places.specs.Rooms.{can_be_used}
 use Rattle.slot_places.proofs.Brought.{of_closer}
 use Rattle.sym_rib.specs.Sources.{entry_from, entry_over, learnt_entry, ospf_candidate}
 use Rattle.world_variables.specs.Worlds.{FitsDistance}
@@ -39,7 +39,7 @@ use Rattle.world_variables.proofs.Stability.{bit_fits, item_all}
 use Rattle.rebuilt_routes.specs.Words.{HasWordNumbers}
 use Rattle.shape_worlds.specs.Worlds.{ShapeWorld, rebuilt_tables}
 use Rattle.shape_worlds.proofs.RealWorlds.{routes_fit}
-use Rattle.bgp_worlds.specs.Opens.{FitOpens, OpenSlot, empty_shape, open_shape, opens_hold, shape_entry, shape_slot_among}
+use Rattle.bgp_worlds.specs.Opens.{AnnounceAtSlices, FitOpens, OpenSlot, empty_shape, open_shape, opens_hold, shape_entry, shape_slot_among}
 use Rattle.bgp_worlds.specs.Opens.{shape_slot_of, shape_world_of}
 use Rattle.bgp_worlds.proofs.OpenSound.{real, shapes_hold}
 
@@ -139,7 +139,7 @@ module _ (tracked : Tracked) (files : List File) (destinations : Prefix) (plan :
       (λ k d within. among_fits _ _)
 
   module _ (net : TracksNet files tracked) (limits : list_all keeps_limits files ≡ true)
-      (wide : HasUsed files destinations plan)
+      (silent : AnnounceAtSlices plan announced)
       (holds : opens_hold tracked files destinations plan
       (shape_world_of files destinations plan packet failures opens announced) opens ≡ true) where
     abbrev tables : Tables
@@ -148,7 +148,7 @@ module _ (tracked : Tracked) (files : List File) (destinations : Prefix) (plan :
     routes : All (λ (slot : Slot). IfSome slot.bgp FitsBgp) tables.slots
     routes =
         routes_fit tracked files s net limits
-        (shapes_hold tracked files destinations plan packet failures opens announced net limits wide holds) fit.values
+        (shapes_hold tracked files destinations plan packet failures opens announced net limits silent holds) fit.values
         (λ k d within. (all_fit k d within).bgp)
 
     pub slots_fit : All FitsSlot tables.slots
@@ -160,7 +160,7 @@ module _ (tracked : Tracked) (files : List File) (destinations : Prefix) (plan :
         by slot there =
             let shape : slice_get s.slots k ≡ Some (slot_shape tracked slot) =
             sym (ap (λ (w : ShapeWorld). slice_get w.slots k)
-            (real tracked files destinations plan packet failures opens announced net limits wide holds).shapes)
+            (real tracked files destinations plan packet failures opens announced net limits silent holds).shapes)
             ∙ slice_get-map (slot_shape tracked) tables.slots k ∙ ap (option_map (slot_shape tracked)) there in
             let fits = all_found FitsShapeSlot s.slots k (slot_shape tracked slot) all_fit shape in
             record {

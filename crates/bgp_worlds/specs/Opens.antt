@@ -1,8 +1,9 @@
 -- What is open of the slots at the places of a plan, in a network with BGP: of each its OSPF route, one bit of the source
 -- of its entry, and the shape of its BGP route. And the worlds that follow.
-use Rattle.std.specs.Prelude.{◌≡◌, All, IfSome, ℕ, ◌*◌, ◌/◌, ◌%◌, ◌&&◌, ◌||◌, Bool, true, false, not, List, length, map, slice_get}
+use Rattle.std.specs.Prelude.{◌≡◌, ◌<◌, ◌==◌, All, IfSome, ℕ, ◌*◌, ◌/◌, ◌%◌, ◌&&◌, ◌||◌, Bool, true, false, not, List, length, map}
+use Rattle.std.specs.Prelude.{slice_get}
 use Rattle.std.specs.Prelude.{Option, Some, None, option_and_then, option_map, unwrap_or, if◌then◌else◌}
-use Rattle.std.specs.List.{range_with_len}
+use Rattle.std.specs.List.{find, range_with_len}
 use Rattle.std.specs.Option.{option_map_or}
 use Rattle.mw_text.specs.declared.address.Addr.{Addr}
 use Rattle.mw_text.specs.declared.address.Prefix.{Prefix}
@@ -22,6 +23,7 @@ use Rattle.route_shapes.specs.Bgp.{BgpShape, bgp_shape}
 use Rattle.bgp_shapes.specs.Candidates.{ShapeEnvironment, ShapeSlot}
 use Rattle.plan_places.specs.declared.places.Place.{Place}
 use Rattle.plan_places.specs.Places.{item_at, place, places_of}
+use Rattle.plan_places.specs.Plans.{has_slice}
 use Rattle.plan_places.specs.Tables.{all_hold, empty_slot}
 use Rattle.slot_places.specs.Rooms.{can_be_used, room_for}
 use Rattle.sym_rib.specs.Sources.{entry_from}
@@ -78,6 +80,12 @@ shape_world_of files destinations plan packet failures opens environment = recor
       (k / LENGTHS) (k % LENGTHS)) (range_with_len 0 (LENGTHS * length files));
   environment = environment;
 }
+
+-- external peers announce nothing off the slices of the plan
+abbrev pub AnnounceAtSlices : Plan → ShapeEnvironment → Type 0
+AnnounceAtSlices plan environment =
+    (end len : ℕ) → len < LENGTHS → has_slice plan len ≡ false →
+    find (λ a. (a.end == end) && (a.len == len)) environment.announced ≡ None
 
 -- ---- the test
 

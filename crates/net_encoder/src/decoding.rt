@@ -5,7 +5,7 @@ ghost use Rattle.cex_json.specs.Counterexamples.{IsTrueCounterexample};
 ghost use Rattle.routing_encoder.specs.Encoded.{IsEncoding};
 ghost use Rattle.question_lang.specs.Breaking.{IsBreaking};
 ghost use Rattle.question_lang.specs.declared.walk.Walk.{Walk as WalkOf};
-ghost use Rattle.slot_places.specs.Rooms.{HasUsed};
+ghost use Rattle.sliced_routings.specs.Plans.{IsFittingPlan};
 ghost use Rattle.term_store.specs.Terms.{value_of};
 
 use bgp_decoding::{Decoded, decode_routing};
@@ -43,8 +43,9 @@ fn broken_routing(
     })
 }
 
-/// A true counterexample to a question, from values of all variables of its formula that make the root true: the routing
-/// that the values say, with real announcements and routes, and what breaks the question there.
+/// A true counterexample to a question, from values of all variables of its formula that make the root true, over a plan
+/// that fits the network: the routing that the values say, with real announcements and routes, and what breaks the question
+/// there. Err is want of memory.
 pub fn decode(
     alloc: Global,
     net: &Net,
@@ -54,7 +55,7 @@ pub fn decode(
     values: &[bool],
 ) -> Result<Counterexample, AllocError>
     requires encoding { IsEncoding net.now.files net.now.tracked question.now encoding.now }
-    requires plan { HasUsed net.now.files question.now.packets.dst encoding.now.world.plan }
+    requires plan { IsFittingPlan net.now.files encoding.now.world.plan }
     requires width { length values.now ≡ encoding.now.terms.vars }
     requires root { value_of encoding.now.terms.nodes values.now encoding.now.root.0 ≡ true }
     ensures { IfOk result (IsTrueCounterexample net.now.files number question.now) }

@@ -27,6 +27,7 @@ use Rattle.question_lang.specs.declared.walk.Walk.{Walk}
 use Rattle.cex_json.specs.declared.counterexample.Counterexample.{Counterexample}
 use Rattle.cex_json.specs.Counterexamples.{world_of}
 use Rattle.question_lang.specs.Breaking.{IsBreakable, IsBreaking}
+use Rattle.sliced_routings.proofs.Sliced.{has_sliced}
 use Rattle.routing_encoder.specs.Encoded.{routing_bits}
 use Rattle.routing_worlds.specs.Worlds.{environment_from, world_from}
 use Rattle.run_answers.specs.declared.verdict.Verdict.{Verdict}
@@ -39,32 +40,37 @@ use Rattle.cex_json.specs.Counterexamples.{IsTrueCounterexample}
 use Rattle.question_lang.specs.Breaking.{IsUnbroken}
 use Rattle.run_answers.specs.Verdicts.{section_text}
 
+-- a routing that breaks the question has a sliced one, whose bits make the root true
+breakable_can : (files : List File) (tracked : Tracked) (question : Question) (formula : Formula) →
+    IsFormula files tracked question formula → (world : World) (environment : Environment) (walk : Option Walk) →
+    IsBreaking files question world environment walk →
+    CanBeTrue formula.encoding.terms.nodes (formula.encoding.root ∷ [])
+breakable_can files tracked question formula is world environment walk breaking =
+    let plan = formula.encoding.world.plan in
+    let sliced = has_sliced files question plan is.coarsest.fits world environment walk breaking in (
+      routing_bits files tracked question plan sliced.0 sliced.1,
+      and_from _ _ (is.encoding.complete sliced.0 sliced.1 walk sliced.2) refl,
+    )
+
 -- the root can be true exactly where something breaks the question
 pub encodes : (files : List File) (tracked : Tracked) (question : Question) (formula : Formula) → IsFormula files tracked question formula →
     CanBeTrue formula.encoding.terms.nodes (formula.encoding.root ∷ []) ↔ IsBreakable files question
 encodes files tracked question formula is = (
   λ (can : CanBeTrue formula.encoding.terms.nodes (formula.encoding.root ∷ [])).
-      let breaking = (is.encoding.sound is.used can.0 (and_parts _ _ can.1).0).1 in (
+      let breaking = (is.encoding.sound is.coarsest.fits can.0 (and_parts _ _ can.1).0).1 in (
         world_from files tracked question formula.encoding.world.plan (truth can.0) 0,
         environment_from files tracked question formula.encoding.world.plan (truth can.0) 0,
         breaking.0,
-        breaking.1,
+        breaking.1.breaking,
       ),
-  λ (b : IsBreakable files question). (
-    routing_bits files tracked question formula.encoding.world.plan b.0 b.1,
-    and_from _ _ (is.encoding.complete is.used b.0 b.1 b.2 b.3) refl,
-  ),
+  λ (b : IsBreakable files question). breakable_can files tracked question formula is b.0 b.1 b.2 b.3,
 )
 
 -- nothing breaks a question whose clauses cannot be satisfied
 pub unsat_holds : (files : List File) (tracked : Tracked) (question : Question) (formula : Formula) → IsFormula files tracked question formula →
     IsUnsatisfiable formula.cnf.clauses → IsUnbroken files question
 unsat_holds files tracked question formula is never world environment walk breaking =
-    let can : CanBeTrue formula.encoding.terms.nodes (formula.encoding.root ∷ []) = (
-      routing_bits files tracked question formula.encoding.world.plan world environment,
-      and_from _ _ (is.encoding.complete is.used world environment walk breaking) refl,
-    ) in
-    let some = is.equal.1 can in
+    let some = is.equal.1 (breakable_can files tracked question formula is world environment walk breaking) in
     let clash : true ≡ false = sym some.1 ∙ never some.0 in absurd cc
 
 -- values that satisfy the clauses make the root true

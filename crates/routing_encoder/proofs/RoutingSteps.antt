@@ -12,8 +12,9 @@ use Rattle.route_record.specs.declared.TheConstants.{LENGTHS}
 use Rattle.route_record.specs.declared.tracked.Tracked.{Tracked}
 use Rattle.bgp_shapes.specs.Candidates.{ShapeSlot}
 use Rattle.plan_places.specs.Places.{IsBefore, has_place, item_at, places_of}
+use Rattle.plan_places.specs.Plans.{lens_of}
 use Rattle.question_lang.specs.declared.question.Question.{Question}
-use Rattle.slot_places.specs.Rooms.{HasUsed, can_be_used}
+use Rattle.slot_places.specs.Rooms.{can_be_used}
 use Rattle.net_interfaces.proofs.Options.{if_is}
 use Rattle.term_store.specs.Terms.{Reading, Store, at}
 use Rattle.sym_policy.specs.declared.records.SymBgp.{SymBgp}
@@ -24,11 +25,13 @@ use Rattle.world_variables.specs.Packets.{is_in_set, packet_from}
 use Rattle.world_variables.specs.Worlds.{places_in}
 use Rattle.world_variables.proofs.Stability.{item_all}
 use Rattle.bgp_equations.specs.Equations.{HaveTracked, slot_read}
+use Rattle.bgp_variables.specs.Environments.{announced_from, ids_from}
 use Rattle.shape_worlds.specs.Worlds.{ShapeWorld, has_all_marks, may_be_announced, rebuilt_tables}
 use Rattle.bgp_worlds.specs.Opens.{OpenSlot, open_shape, shape_world_of}
 use Rattle.bgp_worlds.proofs.BgpSound.{AreBgpWanted, open_there, real, slot_here}
-use Rattle.routing_worlds.specs.Worlds.{HasWordNetwork, announced_by, failures_read_from, is_routing}
+use Rattle.routing_worlds.specs.Worlds.{HasWordNetwork, announced_by, environment_start, failures_read_from, is_routing}
 use Rattle.routing_worlds.specs.Worlds.{opens_from, shape_world_from}
+use Rattle.routing_worlds.proofs.EnvironmentRead.{announced_at_slices}
 use Rattle.routing_worlds.proofs.RoutingSound.{shapes_are}
 use Rattle.routing_encoder.specs.declared.opening.OpenRouting.{OpenRouting}
 use Rattle.routing_encoder.specs.Decided.{are_decided}
@@ -102,7 +105,7 @@ module _ (w : Reading) (files : List File) (tracked : Tracked) (question : Quest
           (failures_read_from files question w.variable from) (opens_from files tracked question plan w.variable from)
           (announced_by files tracked question plan w.variable from) router len o used is)
 
-  module _ (fits : HasWordNetwork files tracked question) (wide : HasUsed files question.packets.dst plan) where
+  module _ (fits : HasWordNetwork files tracked question) where
     bgp_half : may_be_announced files tracked (announced_by files tracked question plan w.variable from) ≡ true →
         are_decided tracked files question.packets.dst
         (shape_world_from files tracked question plan w.variable from) made.frame.places ≡ true →
@@ -130,7 +133,9 @@ module _ (w : Reading) (files : List File) (tracked : Tracked) (question : Quest
         ap (λ (s : ShapeWorld). s.slots)
         (real tracked files question.packets.dst plan (packet_from question.packets w.variable from)
         (failures_read_from files question w.variable from) (opens_from files tracked question plan w.variable from)
-        (announced_by files tracked question plan w.variable from) fits.tracks fits.limits wide
+        (announced_by files tracked question plan w.variable from) fits.tracks fits.limits
+        (announced_at_slices files plan (ids_from files w.variable (environment_start files tracked question plan from))
+        (announced_from tracked files (lens_of plan) w.variable (environment_start files tracked question plan from)))
         (bgp_half may decided)).shapes
 
     -- both halves, a packet of the set and few failed links are a routing
@@ -188,7 +193,7 @@ module _ (w : Reading) (files : List File) (tracked : Tracked) (question : Quest
               (opens_from files tracked question plan w.variable from)
               (announced_by files tracked question plan w.variable from) as_many order hold);
           shaped = ap (λ (s : ShapeWorld). s.slots)
-              (shapes_are files tracked question plan w.variable from fits wide routing);
+              (shapes_are files tracked question plan w.variable from fits routing);
           wanted = subst (λ ps. are_wanted files question.packets.dst
               (shape_world_from files tracked question plan w.variable from)
               (rebuilt_tables tracked files (shape_world_from files tracked question plan w.variable from)) ps

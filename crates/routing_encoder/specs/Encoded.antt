@@ -7,8 +7,9 @@ use Rattle.route_record.specs.declared.tracked.Tracked.{Tracked}
 use Rattle.route_record.specs.declared.World.{World}
 use Rattle.question_lang.specs.declared.question.Question.{Question}
 use Rattle.question_lang.specs.declared.walk.Walk.{Walk}
-use Rattle.question_lang.specs.Breaking.{Breaks, IsBreaking}
-use Rattle.slot_places.specs.Rooms.{HasUsed}
+use Rattle.question_lang.specs.Breaking.{Breaks}
+use Rattle.sliced_routings.specs.Plans.{IsFittingPlan}
+use Rattle.sliced_routings.specs.Slicing.{IsSlicedBreak}
 use Rattle.plan_places.specs.Plans.{lens_of}
 use Rattle.term_store.specs.declared.NodeId.{NodeId}
 use Rattle.term_store.specs.Reading.{Reads}
@@ -44,11 +45,11 @@ SayDistances files tracked question plan world v from =
 -- the root is true exactly where the variables from one on are a routing that breaks the question
 pub record IsRoot (files : List File) (tracked : Tracked) (question : Question) (plan : Plan) (from : ℕ) (w : Reading)
     (root : NodeId) : Type 0 where
-  pub sound : HasWordNetwork files tracked question → HasUsed files question.packets.dst plan → at w root ≡ true →
+  pub sound : HasWordNetwork files tracked question → at w root ≡ true →
       (is_routing files tracked question plan w.variable from ≡ true)
       × ((walk : Option Walk) × Breaks files (world_from files tracked question plan w.variable from) question.kind walk)
-  pub complete : HasWordNetwork files tracked question → HasUsed files question.packets.dst plan → (world : World)
-      (environment : Environment) (walk : Option Walk) →
+  pub complete : HasWordNetwork files tracked question → (world : World) (environment : Environment)
+      (walk : Option Walk) →
       shape_world_from files tracked question plan w.variable from ≡ shapes_of tracked world environment →
       is_routing files tracked question plan w.variable from ≡ true →
       SayDistances files tracked question plan world w.variable from → Breaks files world question.kind walk →
@@ -59,24 +60,24 @@ abbrev pub routing_bits : List File → Tracked → Question → Plan → World 
 routing_bits files tracked question plan world environment =
     world_bits files tracked question plan world environment (rows_bits files world.failures)
 
--- the root stands in the terms; the world and the environment of terms stand for what the variables say; and where the
--- plan has a slice at each length at which something can stand, the world and the environment of whatever values make the
--- root true break the question, and the bits of each routing that breaks it make the root true, and say its shapes
+-- the root stands in the terms; the world and the environment of terms stand for what the variables say; where the plan
+-- fits the files, the world and the environment of whatever values make the root true break the question and stand at the
+-- slices of the plan alone; and the bits of each such routing make the root true, and say its shapes
 pub record IsEncoding (files : List File) (tracked : Tracked) (question : Question) (e : Encoding) : Type 0 where
   pub root : e.root.0 < size e.terms
   pub vars : e.terms.vars ≡ routing_width files tracked question e.world.plan
   pub world : (w : Reading) → Reads w e.terms →
       StandsForWorld files tracked question e.world.plan 0 w e.world e.env
-  pub sound : HasUsed files question.packets.dst e.world.plan → (valuation : List Bool) →
+  pub sound : IsFittingPlan files e.world.plan → (valuation : List Bool) →
       value_of e.terms.nodes valuation e.root.0 ≡ true →
       (is_routing files tracked question e.world.plan (truth valuation) 0 ≡ true) × ((walk : Option Walk)
-      × IsBreaking files question (world_from files tracked question e.world.plan (truth valuation) 0)
+      × IsSlicedBreak files question e.world.plan (world_from files tracked question e.world.plan (truth valuation) 0)
       (environment_from files tracked question e.world.plan (truth valuation) 0) walk)
-  pub complete : HasUsed files question.packets.dst e.world.plan → (world : World) (environment : Environment)
-      (walk : Option Walk) → IsBreaking files question world environment walk →
+  pub complete : (world : World) (environment : Environment) (walk : Option Walk) →
+      IsSlicedBreak files question e.world.plan world environment walk →
       value_of e.terms.nodes (routing_bits files tracked question e.world.plan world environment) e.root.0 ≡ true
-  pub shapes : HasUsed files question.packets.dst e.world.plan → (world : World) (environment : Environment)
-      (walk : Option Walk) → IsBreaking files question world environment walk →
+  pub shapes : (world : World) (environment : Environment) (walk : Option Walk) →
+      IsSlicedBreak files question e.world.plan world environment walk →
       shape_world_from files tracked question e.world.plan
       (truth (routing_bits files tracked question e.world.plan world environment)) 0
       ≡ shapes_of tracked world environment

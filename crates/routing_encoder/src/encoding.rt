@@ -142,10 +142,10 @@ fn root_over_new(
     root_of(alloc, terms, net, question, plan, made)
 }
 
-/// A question about a network as a formula, over the places of a plan. The root is true under exactly those values of the
-/// variables whose world and environment are a stable routing that breaks the question, for each plan that has a slice at
-/// each length at which something can stand: whatever values make it true, their world in their environment breaks it; and
-/// where a routing breaks the question its own bits make it true.
+/// A question about a network as a formula, over the places of a plan. For every plan that fits the network the root is
+/// true under exactly those values of the variables whose world and environment are a stable routing that breaks the
+/// question and stands at the slices of the plan alone: whatever values make it true, their world in their environment is
+/// one; and where such a routing breaks the question its own bits make it true. Err is want of memory.
 pub fn encode(
     alloc: Global,
     net: &Net,

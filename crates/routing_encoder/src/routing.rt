@@ -2,7 +2,6 @@
 
 ghost use Rattle.std.specs.Prelude.{◌≡◌, ℕ, ◌≤◌, ◌<◌, ◌&&◌, nat_le, IfOk, length, true};
 ghost use Rattle.route_record.specs.declared.Tables.{Tables as TablesOf};
-ghost use Rattle.slot_places.specs.Rooms.{HasUsed};
 ghost use Rattle.sym_rib.specs.Worlds.{slots_end};
 ghost use Rattle.sym_ospf.specs.Rows.{HasDistances};
 ghost use Rattle.bgp_equations.specs.Equations.{DistancesForSessions, HaveTracked};
@@ -117,14 +116,12 @@ pub fn sym_routing(
     ensures sound { Gives terms.new result (λ w r. (from : ℕ) →
         ReadsAs net.now.files net.now.tracked question.now plan.now from w made.now.routing →
         ReadAsShapes net.now.files net.now.tracked question.now plan.now from w made.now.slots →
-        HasWordNetwork net.now.files net.now.tracked question.now →
-        HasUsed net.now.files question.now.packets.dst plan.now → at w r ≡ true →
+        HasWordNetwork net.now.files net.now.tracked question.now → at w r ≡ true →
         is_routing net.now.files net.now.tracked question.now plan.now w.variable from ≡ true) }
     ensures complete { Gives terms.new result (λ w r. (from : ℕ) →
         ReadsAs net.now.files net.now.tracked question.now plan.now from w made.now.routing →
         ReadAsShapes net.now.files net.now.tracked question.now plan.now from w made.now.slots →
         HasWordNetwork net.now.files net.now.tracked question.now →
-        HasUsed net.now.files question.now.packets.dst plan.now →
         is_routing net.now.files net.now.tracked question.now plan.now w.variable from ≡ true →
         (runs_bgp net.now.files ≡ true → HasDistances w net.now.files made.now.routing.net) → at w r ≡ true) }
 {

@@ -1,17 +1,15 @@
 -- Identifiers and announcements are read from their bits, and make the same environment again.
-use Rattle.std.proofs.Common.{◌≡◌, ℕ, suc, ◌+◌, ◌<◌, ◌||◌, inl, inr, Bool, true, false}
+use Rattle.std.proofs.Common.{◌≡◌, ℕ, suc, ◌+◌, ◌<◌, ◌==◌, ◌&&◌, ◌⊎◌, inl, inr, Bool, true, false}
 use Rattle.std.proofs.Common.{List, [], ◌∷◌, ◌++◌, length, map, replicate, take, Option, Some, None, refl, sym, ap, ◌∙◌}
-use Rattle.std.proofs.Common.{subst, arith, is_some}
+use Rattle.std.proofs.Common.{subst, arith}
 use Rattle.std.specs.Prelude.{All, IfSome, filter, option_and_then, option_map, slice_get, if◌then◌else◌}
-use Rattle.std.specs.List.{enumerate_from, find, list_any}
-use Rattle.std.specs.Option.{option_map_or}
-use Rattle.std.proofs.lemmas.Bool.{or_left, or_right}
+use Rattle.std.specs.List.{enumerate_from, find}
+use Rattle.std.proofs.lemmas.Bool.{and_from, eq-eqb}
 use Rattle.std.proofs.lemmas.List.{map-append}
 use Rattle.std.proofs.lemmas.List.Elements.{All-contains}
 use Rattle.std.proofs.lemmas.Option.{same_Some}
 use Rattle.mw_text.specs.Members.{In}
-use Rattle.mw_text.specs.declared.address.Prefix.{Prefix}
-use Rattle.ios_ast.specs.declared.bgp.Bgp.{Bgp}
+use Rattle.mw_text.specs.declared.address.Addr.{Addr}
 use Rattle.ios_ast.specs.declared.bgp.Neighbour.{Neighbour}
 use Rattle.ios_ast.specs.declared.file.File.{File}
 use Rattle.route_record.specs.declared.Plan.{Plan}
@@ -21,21 +19,19 @@ use Rattle.net_interfaces.proofs.Members.{in-find}
 use Rattle.net_parts.specs.declared.sessions.SessionEnd.{SessionEnd}
 use Rattle.net_parts.specs.Decisions.{external_count}
 use Rattle.net_parts.specs.Sessions.{ends_of, is_outside, neighbour_of}
-use Rattle.net_parts.proofs.LeastWalks.{in-contains, in-left, in-right}
+use Rattle.net_parts.proofs.LeastWalks.{in-cases, in-contains, in-left, in-map, in-right}
 use Rattle.route_shapes.specs.Bgp.{BgpShape}
 use Rattle.bgp_shapes.specs.Candidates.{ShapeAnnouncement, ShapeEnvironment, shape_announced}
 use Rattle.plan_places.specs.declared.places.Place.{Place}
-use Rattle.plan_places.specs.Places.{is_at, place}
-use Rattle.plan_places.specs.Plans.{lens_of}
-use Rattle.slot_places.specs.Rooms.{HasUsed, can_be_used, has_sources, has_subnet, room_among, rooms_of}
-use Rattle.slot_places.specs.Origins.{is_static_at}
+use Rattle.plan_places.specs.Places.{has_place, is_at, place}
+use Rattle.plan_places.specs.Plans.{has_slice, lens_of}
 use Rattle.slot_places.proofs.Members.{in-place, map-in}
-use Rattle.slot_places.proofs.PlaceLaws.{at-is, lens-in}
+use Rattle.slot_places.proofs.PlaceLaws.{at-is, in-has, in-lens, lens-in}
 use Rattle.announced_shapes.specs.Announcements.{IsAnnouncementShape}
 use Rattle.announced_shapes.specs.Environments.{IsShapeEnvironment}
 use Rattle.announced_places.specs.Announced.{made_over, places_among}
-use Rattle.announced_places.specs.Environments.{announcement_of, external_places, is_outer, stands_at}
-use Rattle.announced_places.proofs.ExternalPlaces.{external_ascend, external_place}
+use Rattle.announced_places.specs.Environments.{announcement_of, environment_of, external_places, is_outer, stands_at}
+use Rattle.announced_places.proofs.ExternalPlaces.{environment_found, external_ascend, external_place}
 use Rattle.announced_places.proofs.PlacedThings.{lens_ascend, places_ordered}
 use Rattle.bgp_variables.specs.declared.rooms.BgpRoom.{BgpRoom}
 use Rattle.bgp_variables.specs.Environments.{announced_rooms, end_room, rooms_over}
@@ -44,6 +40,8 @@ use Rattle.bgp_variables.specs.Shapes.{FitBgpRooms, FitsBgpRoom, FitsShape}
 use Rattle.bgp_variables.proofs.Fitting.{announced_fits}
 use Rattle.bgp_variables.proofs.EnvironmentReading.{fit_append}
 use Rattle.rebuilt_routes.proofs.Options.{find_passes}
+use Rattle.bgp_worlds.specs.Opens.{AnnounceAtSlices}
+use Rattle.bgp_worlds.proofs.Placed.{not_made}
 use Rattle.routing_worlds.specs.Worlds.{announced_thing, announced_things}
 use Rattle.routing_worlds.proofs.MadeAgain.{made_again}
 
@@ -202,37 +200,65 @@ in_among (e ∷ ends) lens end len (inl same) at =
 in_among (e ∷ ends) lens end len (inr later) at =
     in-right (place end len) (map (place e) lens) (places_among ends lens) (in_among ends lens end len later at)
 
--- a router with a neighbour line runs BGP, so that something can stand in its slots
-pub bgp_used : (files : List File) (destinations : Prefix) (end : SessionEnd) (neighbour : Neighbour) →
-    neighbour_of files end ≡ Some neighbour → (len : ℕ) → can_be_used files destinations end.router len ≡ true
-bgp_used files destinations end neighbour line len = by (slice_get files end.router) refl line
+-- what is found nowhere passes nowhere
+not_found : {X : Type 0} (test : X → Bool) (xs : List X) (x : X) → In x xs → find test xs ≡ None → test x ≡ false
+not_found test [] x there none = absurd there
+not_found {X} test (y ∷ ys) x there none = by (test y) refl there none (not_found test ys x) where
+  by : (b : Bool) → test y ≡ b → In x (y ∷ ys) → (if b then Some y else find test ys) ≡ None →
+      (In x ys → find test ys ≡ None → test x ≡ false) → test x ≡ false
+  by true is here none' rest = absurd cc
+  by false is (inl same) none' rest = ap test same ∙ is
+  by false is (inr later) none' rest = rest later none'
+
+-- what stands at places among these stands at one of the lengths
+among_in : (ends lens : List ℕ) (p : Place) → In p (places_among ends lens) → In p.len lens
+unfolding places_among
+among_in [] lens p there = absurd there
+among_in (e ∷ ends) lens p there =
+    by (in-cases p (map (place e) lens) (places_among ends lens) there) (among_in ends lens p)
   where
-    by_process : (file : File) → slice_get files end.router ≡ Some file → (o : Option Bgp) → file.bgp ≡ o →
-        option_and_then (λ (bgp : Bgp). slice_get bgp.neighbours end.neighbour) o ≡ Some neighbour →
-        can_be_used files destinations end.router len ≡ true
-    by_process file found None runs line = absurd cc
-    by_process file found (Some process) runs line =
-        or_left (has_subnet files destinations end.router len
-        || option_map_or (has_sources destinations len) (slice_get files end.router) false)
-        (is_some (room_among files (rooms_of files destinations) end.router len))
-        (or_right (has_subnet files destinations end.router len)
-        (option_map_or (has_sources destinations len) (slice_get files end.router) false)
-        (ap (λ o. option_map_or (has_sources destinations len) o false) found
-        ∙ or_right (list_any (is_static_at destinations len) file.statics) (is_some file.bgp) (ap is_some runs)))
+    by : In p (map (place e) lens) ⊎ In p (places_among ends lens) → (In p (places_among ends lens) → In p.len lens) →
+        In p.len lens
+    by (inl here) rest =
+        let found = in-map (place e) lens p here in
+        subst (λ (q : Place). In q.len lens) (sym found.2) found.1
+    by (inr later) rest = rest later
 
-    by : (o : Option File) → slice_get files end.router ≡ o →
-        option_and_then (λ (bgp : Bgp). slice_get bgp.neighbours end.neighbour)
-        (option_and_then (λ (file : File). file.bgp) o) ≡ Some neighbour →
-        can_be_used files destinations end.router len ≡ true
-    by None found line = absurd cc
-    by (Some file) found line = by_process file found file.bgp refl line
+-- what variables say is announced at the slices of a plan alone
+pub announced_at_slices : (files : List File) (plan : Plan) (ids : List Addr) (things : List (Option BgpShape)) →
+    AnnounceAtSlices plan (environment_of files (lens_of plan) ids things)
+announced_at_slices files plan ids things end len short off =
+    environment_found files (lens_of plan) ids things end len (lens_ascend plan)
+    ∙ ap (λ o. option_map (announcement_of end len) (option_and_then (λ (t : Option BgpShape). t) o))
+    (not_made (places_among (external_places files) (lens_of plan)) things end len
+    (none (has_place (places_among (external_places files) (lens_of plan)) end len) refl))
+  where
+    none : (b : Bool) → has_place (places_among (external_places files) (lens_of plan)) end len ≡ b →
+        has_place (places_among (external_places files) (lens_of plan)) end len ≡ false
+    none false is = is
+    none true is =
+        let there = among_in (external_places files) (lens_of plan) (place end len)
+        (in-has (places_among (external_places files) (lens_of plan)) end len is) in
+        let on = (in-lens plan LENGTHS len there).1 in
+        absurd cc
 
-pub announced_again : (tracked : Tracked) (files : List File) (destinations : Prefix) (plan : Plan) (s : ShapeEnvironment) →
-    HasUsed files destinations plan → IsShapeEnvironment files tracked s →
-    ((end : ℕ) (e : SessionEnd) → slice_get (ends_of files) end ≡ Some e → e.router < length files) →
+-- where nobody announces anything off the slices, what is announced stands at one
+at_slice : (plan : Plan) (s : ShapeEnvironment) → AnnounceAtSlices plan s → (a : ShapeAnnouncement) →
+    In a s.announced → a.len < LENGTHS → has_slice plan a.len ≡ true
+at_slice plan s silent a there short = by (has_slice plan a.len) refl where
+  by : (b : Bool) → has_slice plan a.len ≡ b → b ≡ true
+  by true on = refl
+  by false off =
+      let nothing = not_found (λ x. (x.end == a.end) && (x.len == a.len)) s.announced a there
+      (silent a.end a.len short off) in
+      let itself = and_from (a.end == a.end) (a.len == a.len) (eq-eqb a.end a.end refl) (eq-eqb a.len a.len refl) in
+      absurd cc
+
+pub announced_again : (tracked : Tracked) (files : List File) (plan : Plan) (s : ShapeEnvironment) →
+    AnnounceAtSlices plan s → IsShapeEnvironment files tracked s →
     made_over announcement_of (places_among (external_places files) (lens_of plan))
     (announced_things tracked files (lens_of plan) s.announced) ≡ s.announced
-announced_again tracked files destinations plan s wide is placed =
+announced_again tracked files plan s silent is =
     made_again announcement_of stands_at (announced_thing tracked files s.announced)
     (places_among (external_places files) (lens_of plan)) s.announced
     (places_ordered (external_places files) (lens_of plan) (external_ascend files) (lens_ascend plan)) is.once stand
@@ -246,5 +272,4 @@ announced_again tracked files destinations plan s wide is placed =
         let outer = external_place files a.end peer.end peer.there peer.outside in
         in_among (external_places files) (lens_of plan) a.end a.len
         (in-place (external_places files) (external_count (take a.end (ends_of files))) a.end outer)
-        (lens-in plan LENGTHS a.len shape.len (wide peer.end.router a.len (placed a.end peer.end peer.there) shape.len
-        (bgp_used files destinations peer.end peer.neighbour peer.line a.len)))
+        (lens-in plan LENGTHS a.len shape.len (at_slice plan s silent a there shape.len))

@@ -2,11 +2,11 @@
 use Rattle.std.proofs.Common.{◌≡◌, ℕ, ◌+◌, ◌*◌, ◌<◌, ◌≤◌, inl, inr, Bool, true, false, List, [], ◌∷◌, length, map, Option, Some}
 use Rattle.std.proofs.Common.{None, refl, sym, ap, ◌∙◌, subst, arith, is_some}
 use Rattle.std.specs.Prelude.{All, IfSome, nat_le, option_and_then, option_map, slice_get, unwrap_or}
-use Rattle.std.specs.Prelude.{if◌then◌else◌}
+use Rattle.std.specs.Prelude.{◌==◌, ◌&&◌, if◌then◌else◌}
 use Rattle.std.proofs.lemmas.Bool.{and_from, le-leb}
 use Rattle.std.proofs.lemmas.List.Elements.{All-weaker}
 use Rattle.std.proofs.lemmas.Option.{same_Some}
-use Rattle.mw_text.proofs.Lists.{all_found, item_there}
+use Rattle.mw_text.proofs.Lists.{item_there}
 use Rattle.mw_text.specs.Members.{In}
 use Rattle.mw_text.specs.Address.{prefix_at}
 use Rattle.ios_ast.specs.declared.file.File.{File}
@@ -22,22 +22,21 @@ use Rattle.route_record.specs.declared.tracked.Tracked.{Tracked}
 use Rattle.route_record.specs.Places.{slot_at}
 use Rattle.net_parts.specs.Entries.{own_is_as_good}
 use Rattle.net_parts.specs.Ospf.{adjacencies}
-use Rattle.net_parts.specs.Sessions.{IsPlaced, ends_of}
 use Rattle.net_parts.specs.Stable.{IsStableSlot}
 use Rattle.net_parts.proofs.Costs.{adjacency_costs}
-use Rattle.net_parts.proofs.EndPlaces.{ends_placed}
 use Rattle.question_lang.specs.declared.question.Question.{Question}
 use Rattle.route_shapes.specs.Bgp.{BgpShape, bgp_shape, learnt_number}
-use Rattle.bgp_shapes.specs.Candidates.{environment_shape}
+use Rattle.bgp_shapes.specs.Candidates.{ShapeAnnouncement, announcement_shape, environment_shape}
 use Rattle.failed_links.specs.Rows.{IsAt}
 use Rattle.failed_links.proofs.FailureParts.{failures_at}
 use Rattle.plan_places.specs.declared.places.Place.{Place}
 use Rattle.plan_places.specs.Plans.{lens_of}
 use Rattle.plan_places.specs.Tables.{empty_slot}
 use Rattle.slot_places.specs.declared.rooms.Room.{Room}
-use Rattle.slot_places.specs.Rooms.{FitsIn, HasUsed, room_for}
+use Rattle.slot_places.specs.Rooms.{FitsIn, room_for}
 use Rattle.slot_places.proofs.Fitting.{held_fits}
 use Rattle.slot_places.proofs.PlaceLaws.{in-lens, in-places}
+use Rattle.sliced_routings.specs.Slicing.{IsSliced}
 use Rattle.sym_rib.specs.Sources.{entry_from}
 use Rattle.sym_rib.proofs.TableEntries.{entry_same}
 use Rattle.world_variables.specs.declared.unknowns.Unknown.{Unknown}
@@ -58,6 +57,7 @@ use Rattle.bgp_variables.proofs.Reading.{bgps_read}
 use Rattle.shape_worlds.specs.Worlds.{shapes_of}
 use Rattle.bgp_worlds.specs.Opens.{open_at, open_of, opens_hold, opens_of, shape_world_of}
 use Rattle.bgp_worlds.proofs.OpenComplete.{opens_pass, world_again}
+use Rattle.bgp_worlds.proofs.OffSlices.{none_made}
 use Rattle.bgp_worlds.proofs.SameShapes.{learnt_shape}
 use Rattle.routing_worlds.specs.Worlds.{HasWordNetwork, IsRouting, announced_by, announced_things, bgp_at}
 use Rattle.routing_worlds.specs.Worlds.{bgps_read_from, dynamic_of, environment_start, failures_read_from, is_routing, open_with, opens_from}
@@ -67,7 +67,7 @@ use Rattle.routing_worlds.proofs.EnvironmentRead.{announced_again, announced_fit
 
 module _ (files : List File) (tracked : Tracked) (question : Question) (plan : Plan) (world : World)
     (environment : Environment) (fits : HasWordNetwork files tracked question)
-    (wide : HasUsed files question.packets.dst plan) (routing : IsRouting files question world environment) where
+    (sliced : IsSliced plan world environment) (routing : IsRouting files question world environment) where
   abbrev places : List Place
   places = places_in files plan
 
@@ -212,8 +212,10 @@ module _ (files : List File) (tracked : Tracked) (question : Question) (plan : P
       (announced_things tracked files (lens_of plan) (environment_shape tracked environment).announced)
       ≡ environment_shape tracked environment
   announced_same =
-      let again = announced_again tracked files question.packets.dst plan (environment_shape tracked environment) wide
-      shape_environment (λ k end there. (all_found (IsPlaced files) (ends_of files) k end (ends_placed files) there).router) in
+      let again = announced_again tracked files plan (environment_shape tracked environment)
+      (λ end len short off. none_made (announcement_shape tracked) (λ (a : ShapeAnnouncement).
+      (a.end == end) && (a.len == len)) environment.announced ((sliced len short off).announced end))
+      shape_environment in
       λ i. record { ids = environment.ids; announced = again i }
 
   -- ---- reading
@@ -264,7 +266,7 @@ module _ (files : List File) (tracked : Tracked) (question : Question) (plan : P
     shapes_read =
         (λ i. shape_world_of files question.packets.dst plan (read.packet i) (read.failures i) (opens_are i)
         (read.announced i))
-        ∙ world_again tracked files question.packets.dst plan world environment fits.tracks fits.limits wide
+        ∙ world_again tracked files question.packets.dst plan world environment fits.tracks fits.limits sliced
         routing.packet.dst costs routing.environment_fits routing.stable
 
     pub routing_complete : is_routing files tracked question plan v from ≡ true
@@ -275,7 +277,7 @@ module _ (files : List File) (tracked : Tracked) (question : Question) (plan : P
         (and_from _ _ (ap (λ (f : Failures). nat_le (length f.links) question.failures) read.failures
         ∙ le-leb _ _ routing.failures.at_most)
         ((λ i. opens_hold tracked files question.packets.dst plan (shapes_read i) (opens_are i))
-        ∙ opens_pass tracked files question.packets.dst plan world environment fits.tracks fits.limits wide
+        ∙ opens_pass tracked files question.packets.dst plan world environment fits.tracks fits.limits sliced
         routing.packet.dst costs routing.environment_fits routing.stable))
 
     pub rest_read : IsAt v (worlds_end files tracked question plan from) rest

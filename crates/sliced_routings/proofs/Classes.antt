@@ -212,7 +212,8 @@ module _ (cut : ℕ → Bool) where
 
 module _ (files : List File) (cut : ℕ → Bool) (fits : (k : ℕ) → cut k ≡ false → is_cut files k ≡ false) (d : Addr)
     (us : List ℕ) (some : 0 < length files) where
-  both_of : (m l : ℕ) → m < l → start cut l ≡ start cut m → ArePlain files d l m
+  -- two lengths of a class
+  pub both_of : (m l : ℕ) → m < l → start cut l ≡ start cut m → ArePlain files d l m
   both_of m l before same = same_class files d m l before (λ k more less. clear files k (fits k (none_between cut l m k
       (let h = place_before cut (λ j. false) m in omega (arith, same, h)) more less)))
 

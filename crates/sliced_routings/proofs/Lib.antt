@@ -5,3 +5,4 @@ pub mod Ranks
 pub mod Classes
 pub mod Fitting
 pub mod Sliced
+pub mod Bare

@@ -30,7 +30,7 @@ returns c =
       values = truth c.args.values.now;
     } in
     c.in_ok-made.ensures.world (shape_world_from g.files g.tracked g.question g.plan g.values 0)
-    (world_of g c.requires.words c.requires.plan c.requires.routing c.args.inside.now c.args.outside.now c.requires.inside
+    (world_of g c.requires.words c.requires.routing c.args.inside.now c.args.outside.now c.requires.inside
     c.requires.outside c.args.d c.as_slice-ids.result.now c.as_slice-announced.result.now c.as_slice-held.result.now
     c.requires.destination c.as_slice-ids.ensures.value c.as_slice-announced.ensures.value
     c.as_slice-held.ensures.value)

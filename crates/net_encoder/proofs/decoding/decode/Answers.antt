@@ -31,6 +31,6 @@ broken_routing-requires c =
         subst (λ (world : World). IsBreaking files question world c.in_ok-decoded.decoded.environment found.0)
             (sym made.world)
             (subst (λ (e : Environment). IsBreaking files question (world_from files tracked question plan v 0) e found.0)
-            (sym made.environment) found.1),
+            (sym made.environment) found.1.breaking),
       );
     }

@@ -1,6 +1,12 @@
-use Rattle.std.proofs.Common.{◌≡◌, ◌+◌, ℕ, Bool, List, [], ap, arith, sym, subst, ◌∙◌}
+use Rattle.std.proofs.Common.{◌≡◌, ◌+◌, ℕ, Bool, List, [], Option, ap, arith, sym, subst, ◌∙◌}
 use Rattle.std.proofs.lemmas.List.{append-nil}
+use Rattle.ios_ast.specs.declared.file.File.{File}
+use Rattle.question_lang.specs.declared.question.Question.{Question}
+use Rattle.question_lang.specs.declared.walk.Walk.{Walk}
+use Rattle.route_record.specs.declared.Environment.{Environment}
 use Rattle.route_record.specs.declared.Plan.{Plan}
+use Rattle.route_record.specs.declared.World.{World}
+use Rattle.sliced_routings.specs.Slicing.{IsSlicedBreak}
 use Rattle.failed_links.specs.Rows.{IsAt}
 use Rattle.term_store.specs.Terms.{reading_of, truth}
 use Rattle.igp_variables.specs.Rows.{rows_bits}
@@ -11,6 +17,16 @@ use Rattle.routing_encoder.proofs.encoding.encode.Goals as goal
 
 none_before : (n : ℕ) → 0 + n ≡ n
 none_before n = omega arith
+
+routing_of : (files : List File) (question : Question) (plan : Plan) (world : World) (environment : Environment)
+    (walk : Option Walk) → IsSlicedBreak files question plan world environment walk →
+    IsRouting files question world environment
+routing_of files question plan world environment walk broken = record {
+  packet = broken.breaking.packet;
+  environment_fits = broken.breaking.environment_fits;
+  failures = broken.breaking.failures;
+  stable = broken.breaking.stable;
+}
 
 pub returns-clause-encoding : goal.returns-clause-encoding
 returns-clause-encoding c =
@@ -38,51 +54,44 @@ returns-clause-encoding c =
           same
           (subst (λ n. StandsForWorld files tracked question c.in_ok-lengths.lengths n w c.in_ok-made.made.world
           c.in_ok-made.made.env) none (c.in_ok-made.ensures.world w reads));
-      sound = λ used valuation holds.
-          let found = (value valuation).sound fits used holds in
-          let routing = c.sound_law.ensures.routing files tracked question plan (truth valuation) 0 fits used found.0 in (
+      sound = λ fitting valuation holds.
+          let found = (value valuation).sound fits holds in
+          let routing = c.sound_law.ensures.routing files tracked question plan (truth valuation) 0 fits fitting found.0
+          in (
             found.0,
             (
               found.1.0,
               record {
-                packet = routing.packet;
-                environment_fits = routing.environment_fits;
-                failures = routing.failures;
-                stable = routing.stable;
-                breaks = found.1.1;
+                breaking = record {
+                  packet = routing.packet;
+                  environment_fits = routing.environment_fits;
+                  failures = routing.failures;
+                  stable = routing.stable;
+                  breaks = found.1.1;
+                };
+                sliced = c.sound_law.ensures.sliced files tracked question plan (truth valuation) 0 fits found.0;
               },
             ),
           );
-      complete = λ used world environment walk breaking.
+      complete = λ world environment walk broken.
           let bits = routing_bits files tracked question plan world environment in
           let v = truth bits in
           let rows = rows_bits files world.failures in
-          let routing : IsRouting files question world environment = record {
-            packet = breaking.packet;
-            environment_fits = breaking.environment_fits;
-            failures = breaking.failures;
-            stable = breaking.stable;
-          } in
+          let routing = routing_of files question plan world environment walk broken in
           let here = c.row_law.ensures bits in
-          let behind = c.complete_law.ensures.behind files tracked question plan world environment rows v 0 fits used
-          routing here in
+          let behind = c.complete_law.ensures.behind files tracked question plan world environment rows v 0 fits
+          broken.sliced routing here in
           let said = (c.rows_law.ensures files world.failures v (worlds_end files tracked question plan 0) []
           c.routers-routers.ensures.limits c.routers-routers.ensures.few
           (subst (IsAt v (worlds_end files tracked question plan 0)) (sym (append-nil rows)) behind)).0 in
-          (value bits).complete fits used world environment walk
-          (c.complete_law.ensures.read files tracked question plan world environment rows v 0 fits used
+          (value bits).complete fits world environment walk
+          (c.complete_law.ensures.read files tracked question plan world environment rows v 0 fits broken.sliced
           routing here)
           (c.complete_law.ensures.passes files tracked question plan world environment rows v 0 fits
-          used routing here) said breaking.breaks;
-      shapes = λ used world environment walk breaking.
+          broken.sliced routing here) said broken.breaking.breaks;
+      shapes = λ world environment walk broken.
           let bits = routing_bits files tracked question plan world environment in
-          let rows = rows_bits files world.failures in
-          let routing : IsRouting files question world environment = record {
-            packet = breaking.packet;
-            environment_fits = breaking.environment_fits;
-            failures = breaking.failures;
-            stable = breaking.stable;
-          } in
-          c.complete_law.ensures.read files tracked question plan world environment rows (truth bits) 0 fits
-          used routing (c.row_law.ensures bits);
+          c.complete_law.ensures.read files tracked question plan world environment (rows_bits files world.failures)
+          (truth bits) 0 fits broken.sliced (routing_of files question plan world environment walk broken)
+          (c.row_law.ensures bits);
     }

@@ -51,15 +51,15 @@ returns-clause-value c = λ w reads from read shapes.
     let whole = whole_is w files tracked question plan from t made slots c.requires.stands read c.requires.long shapes world
     in
     record {
-      sound = λ fits wide holds.
+      sound = λ fits holds.
           let parts = and_parts (at w c.in_ok-routing.routing) (at w c.in_ok-broken.broken) (sym root ∙ holds) in
-          let routing = c.in_ok-routing.ensures.sound w r1 from read shapes fits wide parts.0 in
+          let routing = c.in_ok-routing.ensures.sound w r1 from read shapes fits parts.0 in
           let given = c.in_ok-routing.ensures.distances w r1 parts.0 in
           let found = c.in_ok-broken.ensures.sound w r2
           (needed (distances_needed w files tracked question plan from t made slots c.requires.stands read
           c.requires.long shapes given)) parts.1 in
           let real = world_from files tracked question plan w.variable from in
-          let same = shapes_are files tracked question plan w.variable from fits wide routing in
+          let same = shapes_are files tracked question plan w.variable from fits routing in
           let stand = stand_read w files tracked question plan from real.tables
           (ap (λ (s : ShapeWorld). s.slots) same) slots shapes long in
           let seen = whole real c.settled-opened.ensures.packet c.settled-opened.ensures.net c.settled-opened.ensures.slots
@@ -73,7 +73,7 @@ returns-clause-value c = λ w reads from read shapes.
                   question.kind found.0 (subst P seen found.1),
             ),
           );
-      complete = λ fits wide other environment walk same routing say breaks.
+      complete = λ fits other environment walk same routing say breaks.
           let to_failures = sym (ap (λ (s : ShapeWorld). s.failures) same) in
           let given = distances_said w files tracked question plan from t made slots c.requires.stands read
           c.requires.long shapes other say to_failures in
@@ -83,7 +83,7 @@ returns-clause-value c = λ w reads from read shapes.
           c.settled-opened.ensures.plan (sym (ap (λ (s : ShapeWorld). s.packet) same)) to_failures in
           let P : World → Type 0 = λ x. Breaks files x question.kind walk in
           root ∙ and_from (at w c.in_ok-routing.routing) (at w c.in_ok-broken.broken)
-          (c.in_ok-routing.ensures.complete w r1 from read shapes fits wide routing given)
+          (c.in_ok-routing.ensures.complete w r1 from read shapes fits routing given)
           (c.in_ok-broken.ensures.complete w r2
           (needed (distances_needed w files tracked question plan from t made slots c.requires.stands read
           c.requires.long shapes given)) walk

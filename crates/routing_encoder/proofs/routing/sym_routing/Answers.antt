@@ -18,7 +18,7 @@ returns-clause-distances c = λ w reads holds runs.
     c.in_ok-distances.ensures.sound w r1 all.0 runs
 
 pub returns-clause-sound : goal.returns-clause-sound
-returns-clause-sound c = λ w reads from read shapes fits wide holds.
+returns-clause-sound c = λ w reads from read shapes fits holds.
     let files = c.args.net.now.files in
     let tracked = c.args.net.now.tracked in
     let question = c.args.question.now in
@@ -37,14 +37,14 @@ returns-clause-sound c = λ w reads from read shapes fits wide holds.
     let needed = distances_for w files made.net (λ runs. c.in_ok-distances.ensures.sound w r1 all.0 runs) in
     let bgp = and_parts _ _ (sym (c.in_ok-bgp.ensures.value w r2 from read shapes needed) ∙ halves.0) in
     let shaped = tables_shaped w files tracked question plan from t made slots c.requires.stands read c.requires.long
-    c.requires.rows shapes fits wide bgp.0 bgp.1 in
+    c.requires.rows shapes fits bgp.0 bgp.1 in
     let tables = rebuilt_tables tracked files (shape_world_from files tracked question plan w.variable from) in
     let igp = and_parts _ _ (sym (c.in_ok-igp.ensures.value w r3 from tables read shapes shaped) ∙ halves.1) in
     routing_by_parts w files tracked question plan from t made slots c.requires.stands read c.requires.long
-    c.requires.rows shapes fits wide igp.0 bgp.0 bgp.1 igp.1
+    c.requires.rows shapes fits igp.0 bgp.0 bgp.1 igp.1
 
 pub returns-clause-complete : goal.returns-clause-complete
-returns-clause-complete c = λ w reads from read shapes fits wide routing given.
+returns-clause-complete c = λ w reads from read shapes fits routing given.
     let files = c.args.net.now.files in
     let tracked = c.args.net.now.tracked in
     let question = c.args.question.now in
@@ -57,7 +57,7 @@ returns-clause-complete c = λ w reads from read shapes fits wide routing given.
     let r2 = c.sym_igp_half.ensures.builds.reads w r3 in
     let r1 = c.sym_bgp_half.ensures.builds.reads w r2 in
     let parts = parts_of_routing w files tracked question plan from t made slots c.requires.stands read c.requires.long
-    c.requires.rows shapes fits wide routing in
+    c.requires.rows shapes fits routing in
     let tables = rebuilt_tables tracked files (shape_world_from files tracked question plan w.variable from) in
     let bgp = c.in_ok-bgp.ensures.value w r2 from read shapes (distances_for w files made.net given)
     ∙ and_from _ _ parts.announced parts.decided in
