@@ -4,6 +4,7 @@
 #   policies   access lists, prefix lists and route maps as terms, against the plain answers
 #   files      configurations written as text and read back
 #   twins      interior distances, resolution, sessions and entries of tables as terms, against the plain calls
+#   events     quiet states of machines after random lists of events, against the test of stable routings
 #   worlds     originated and redistributed routes, walks and loops as terms, against the plain calls
 #   run.sh [NAME...]
 # These programs are tested, not proved: each is built without proof, over copies of the crates that it stands on, in a
@@ -21,6 +22,7 @@ named_by() {
     files) echo 'ios_reader ios_ast mw_text' ;;
     twins) echo "$networks" ;;
     worlds) echo "$networks walk_finder sym_walk walk_def question_lang" ;;
+    events) echo "$networks async_machine stable_replay net_parts mw_text" ;;
     esac
 }
 
@@ -43,6 +45,7 @@ lines_of() {
     policies) printf 'access 1 900\nprefix 2 200\nmap 3 900\n' ;;
     files) echo 400 ;;
     twins) printf 'triangle\nigp 7 100\nresolve 7 100\nsession 7 100\nentry 7 100\n' ;;
+    events) printf 'events 7 20\nevents 8 20\n' ;;
     worlds) printf 'originate 7 100\nredistribute 7 100\nbreaks 7 20\nloops 7 20\n' ;;
     esac
 }
@@ -70,7 +73,7 @@ run() {
         grep "^$crate:" "$top/crates.txt" >>"$work/crates.txt"
     done
     case $1 in
-    twins | worlds)
+    twins | worlds | events)
         lay networks random_networks $known
         lay "$1" "random_$1" random_networks $known
         ;;
@@ -84,4 +87,4 @@ run() {
         $(i - 1) != $(i + 1) && !/broken in/) failed = 1 } END { exit failed }' "$work/said"
 }
 
-for name in ${*:-policies files twins worlds}; do run "$name"; done
+for name in ${*:-policies files twins worlds events}; do run "$name"; done

@@ -1,11 +1,11 @@
 -- How runs end.
-use Rattle.std.proofs.Common.{◌≡◌, ℕ, false, List, [], Option, refl, inl, inr}
+use Rattle.std.proofs.Common.{◌≡◌, ℕ, false, List, [], Option, refl, sym, subst, inl, inr}
 use Rattle.mw_outside.specs.Contents.{Contents}
 use Rattle.mw_outside.specs.Taken.{Takes, TakesPart, part_of_all, part_of_none}
 use Rattle.ios_ast.specs.declared.file.File.{File}
 use Rattle.question_lang.specs.declared.question.Question.{Question}
 use Rattle.run_inputs.specs.Due.{IsDue, Outcome, is_command, usage, unread, refused, answering, replaying, checking}
-use Rattle.run_inputs.specs.Due.{generating}
+use Rattle.run_inputs.specs.Due.{generating, simulating}
 use Rattle.run_inputs.specs.Texts.{usage_text}
 use Rattle.run_inputs.proofs.Commands.{due_usage, some_due}
 use Rattle.run_answers.specs.Lines.{size_text}
@@ -22,6 +22,7 @@ nothing_stands unread taken logged = (refl, refl)
 nothing_stands (refused line) taken logged = (part_of_none taken line, refl)
 nothing_stands (replaying files questions cex) taken logged = (([], inl refl, part_of_none taken []), refl)
 nothing_stands (checking files questions log) taken logged = (([], inl refl, part_of_none taken []), refl)
+nothing_stands (simulating files last) taken logged = (([], inl refl, part_of_none taken []), refl)
 nothing_stands (generating routers files questions budget) taken logged =
     inl (part_of_none taken (size_text routers), refl)
 nothing_stands (answering files questions budget) taken logged =
@@ -92,6 +93,29 @@ not_unanswered outcome Refused before now logged_before logged_now tolds rose P 
 not_unanswered outcome ReadFault before now logged_before logged_now tolds rose P so = absurd so
 not_unanswered outcome WriteFault before now logged_before logged_now tolds rose P so = tt
 not_unanswered outcome Memory before now logged_before logged_now tolds rose P so = tt
+
+-- where a fault of one writer is one of both
+answers_wider : (outcome : Outcome) (status : Status) (before now logged_before logged_now : Option (List ℕ))
+    (tolds : List (Option (List ℕ))) (rose more : Type 0) → (rose → more) →
+    AnswersSo outcome status before now logged_before logged_now tolds rose →
+    AnswersSo outcome status before now logged_before logged_now tolds more
+answers_wider outcome Good before now logged_before logged_now tolds rose more from so = so
+answers_wider outcome Bad before now logged_before logged_now tolds rose more from so = so
+answers_wider outcome Unknown before now logged_before logged_now tolds rose more from so = so
+answers_wider outcome Usage before now logged_before logged_now tolds rose more from so = so
+answers_wider outcome Refused before now logged_before logged_now tolds rose more from so = so
+answers_wider outcome ReadFault before now logged_before logged_now tolds rose more from so = so
+answers_wider outcome WriteFault before now logged_before logged_now tolds rose more from so = (so.0, from so.1)
+answers_wider outcome Memory before now logged_before logged_now tolds rose more from so = so
+
+-- and what was answered is what is due
+pub answers_as : (outcome of : Outcome) (status : Status) (before now logged_before logged_now : Option (List ℕ))
+    (tolds : List (Option (List ℕ))) (rose more : Type 0) → outcome ≡ of → (rose → more) →
+    AnswersSo of status before now logged_before logged_now tolds rose →
+    AnswersSo outcome status before now logged_before logged_now tolds more
+answers_as outcome of status before now logged_before logged_now tolds rose more is from so =
+    let A : Outcome → Type 0 = λ o. AnswersSo o status before now logged_before logged_now tolds more in
+    subst A (sym is) (answers_wider of status before now logged_before logged_now tolds rose more from so)
 
 -- answers after the line of the size
 pub answers_sized : (routers : ℕ) (files : List File) (questions : List Question) (budget : ℕ) (status : Status)

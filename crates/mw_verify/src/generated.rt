@@ -3,7 +3,8 @@
 ghost use Rattle.std.specs.Prelude.{◌≡◌, ◌≢◌, ◌⊎◌, length, map};
 ghost use Rattle.mw_outside.specs.Faults.{Rose};
 ghost use Rattle.run_answers.specs.Running.{AnswersSo};
-ghost use Rattle.run_inputs.specs.Loading.{IsReady, outcome_of};
+ghost use Rattle.run_inputs.specs.Due as due;
+ghost use Rattle.run_inputs.specs.Loading.{IsReady};
 
 use crate::verdicts::put_verdicts;
 use deciders::Decider;
@@ -22,7 +23,8 @@ pub fn put_ring<O: Sink, L: Sink>(
     deciders: &mut Vec<Box<dyn Decider>>,
 ) -> Status
     requires { IsReady (Work.Gen ring.now) }
-    ensures answers { AnswersSo (outcome_of (Work.Gen ring.now)) result
+    ensures answers { AnswersSo (due.generating ring.now.routers ring.now.loaded.net.files
+        ring.now.loaded.questions ring.now.loaded.budget) result
         (O.taken out.old) (O.taken out.new) (L.taken log.old) (L.taken log.new) (map (λ b. told b) deciders.new.items)
         (Rose (O.faults out.old) (O.faults out.new) ⊎ Rose (L.faults log.old) (L.faults log.new)) }
     ensures writes { result ≢ Status.WriteFault → (O.faults out.new ≡ O.faults out.old) × (L.faults log.new ≡ L.faults log.old) }

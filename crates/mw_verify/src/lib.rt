@@ -1,5 +1,5 @@
 //! Verifies questions about a network: reads the files that the words name, and answers each question; or tests a
-//! counterexample. It prints the answers.
+//! counterexample or a log; or lets events happen to the machine of messages. It prints the answers.
 #![tactic(auto)]
 
 pub mod generated;

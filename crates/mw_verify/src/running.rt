@@ -6,7 +6,7 @@ ghost use Rattle.mw_outside.specs.Taken.{Takes};
 ghost use Rattle.run_answers.specs.Running.{AnswersSo, IsAnswered, OnAnswered, OnCut, OnUnanswered, Stands};
 ghost use Rattle.run_inputs.specs.Due as due;
 ghost use Rattle.run_inputs.specs.Due.{IsDue, Outcome};
-ghost use Rattle.run_inputs.specs.Loading.{IsReady, outcome_of};
+ghost use Rattle.run_inputs.specs.Loading.{ComesTo, IsReady};
 ghost use Rattle.run_inputs.specs.Order.{StopsIn, in_order};
 ghost use Rattle.run_inputs.specs.Texts.{usage_text};
 
@@ -15,7 +15,7 @@ use crate::verdicts::put_verdicts;
 use deciders::Decider;
 use log_questions::put_check;
 use mw_outside::{Files, Sink};
-use run_answers::{Status, put_replay};
+use run_answers::{Status, put_replay, put_simulated};
 use run_inputs::{Stop, Work, work_of};
 use std::alloc::Global;
 
@@ -30,7 +30,7 @@ fn put_answers<O: Sink, L: Sink>(
     deciders: &mut Vec<Box<dyn Decider>>,
 ) -> Status
     requires { IsReady work.now }
-    ensures answers { AnswersSo (outcome_of work.now) result
+    ensures answers { (outcome : Outcome) → ComesTo work.now outcome → AnswersSo outcome result
         (O.taken out.old) (O.taken out.new) (L.taken log.old) (L.taken log.new) (map (λ b. told b) deciders.new.items)
         (Rose (O.faults out.old) (O.faults out.new) ⊎ Rose (L.faults log.old) (L.faults log.new)) }
     ensures writes { result ≢ Status.WriteFault → (O.faults out.new ≡ O.faults out.old) × (L.faults log.new ≡ L.faults log.old) }
@@ -40,18 +40,20 @@ fn put_answers<O: Sink, L: Sink>(
         Work::Answer(loaded) => put_verdicts(alloc, loaded, out, log, deciders),
         Work::Replay(told) => put_replay(alloc, told, out),
         Work::Check(logged) => put_check(alloc, logged, out),
+        Work::Simulate(answer) => put_simulated(answer, out),
         Work::Gen(ring) => put_ring(alloc, ring, out, log, deciders),
     }
 }
 
-/// The whole run: reads the words and the files that they name, and prints the answers. For
-/// `verify [--conflicts N] QUESTIONS CONFIG...` they are a verdict for each question, found by learning at most N clauses,
-/// 1,000,000 where the words do not say it; for `gen [--conflicts N] COUNT` the size of a ring of so many routers, whose
-/// texts are made here and read as those of files, and then the same of its question; for `replay CEX QUESTIONS CONFIG...`
-/// whether the counterexample is true of the network, and else why not; for `check LOG QUESTIONS CONFIG...` whether the log
-/// shows that nothing breaks any question, and else where it does not. Which words are a command, and what each argument
-/// is, is as `clap` reads them. The log takes what shows each verdict. The deciders choose by turns what a search decides, and
-/// the answers are right whichever they are, and without any.
+/// The whole run: reads the words and the files that they name, and prints the answers. For `verify [--conflicts N]
+/// QUESTIONS CONFIG...` they are a verdict for each question, found by learning at most N clauses, 1,000,000 where the
+/// words do not say it; for `gen [--conflicts N] COUNT` the size of a ring of so many routers, whose texts are made
+/// here and read as those of files, and then the same of its question; for `replay CEX QUESTIONS CONFIG...` whether the
+/// counterexample is true of the network, and else why not; for `check LOG QUESTIONS CONFIG...` whether the log shows
+/// that nothing breaks any question, and else where it does not; for `simulate EVENTS CONFIG...` whether the state to
+/// which the events lead is quiet, and its tables. Which words are a command, and what each argument is, is as `clap`
+/// reads them. The log takes what shows each verdict. The deciders choose by turns what a search decides, and the
+/// answers are right whichever they are, and without any.
 pub fn run<F: Files, O: Sink, L: Sink>(
     alloc: Global,
     words: &[String],
@@ -62,7 +64,8 @@ pub fn run<F: Files, O: Sink, L: Sink>(
 ) -> Status
     // With 0, 1 or 2 what is due is answered: each question has a right verdict in its order, the status is theirs, and the
     // whole text and each section of the log stand, and each decider that tells its bumps tells those of its turns in the
-    // last section; or the counterexample is true or not as printed.
+    // last section; or the counterexample is true or not as printed; or of the state to which the events lead it stands
+    // whether it is quiet, which comes with a stable routing alone, and its tables.
     ensures answered { OnAnswered result ((outcome : Outcome) × IsDue (F.contents files.old) (map string_bytes words.now) outcome
         × IsAnswered outcome result (O.taken out.old) (O.taken out.new) (L.taken log.old) (L.taken log.new)
         (map (λ b. told b) deciders.new.items)) }

@@ -4,7 +4,8 @@ ghost use Rattle.std.specs.Prelude.{◌≡◌, ◌≢◌, ◌⊎◌, IfOk, OnErr
 ghost use Rattle.mw_outside.specs.Faults.{Rose};
 ghost use Rattle.run_answers.specs.Answering.{IsCutShort, IsPut, OnWriteFault, UnlessWriteFault};
 ghost use Rattle.run_answers.specs.Running.{AnswersSo};
-ghost use Rattle.run_inputs.specs.Loading.{IsBudget, IsReady, outcome_of};
+ghost use Rattle.run_inputs.specs.Due as due;
+ghost use Rattle.run_inputs.specs.Loading.{IsBudget, IsReady};
 
 use deciders::Decider;
 use mw_outside::Sink;
@@ -50,7 +51,7 @@ pub fn put_verdicts<O: Sink, L: Sink>(
     deciders: &mut Vec<Box<dyn Decider>>,
 ) -> Status
     requires { IsReady (Work.Answer loaded.now) }
-    ensures answers { AnswersSo (outcome_of (Work.Answer loaded.now)) result
+    ensures answers { AnswersSo (due.answering loaded.now.net.files loaded.now.questions loaded.now.budget) result
         (O.taken out.old) (O.taken out.new) (L.taken log.old) (L.taken log.new) (map (λ b. told b) deciders.new.items)
         (Rose (O.faults out.old) (O.faults out.new) ⊎ Rose (L.faults log.old) (L.faults log.new)) }
     ensures writes { result ≢ Status.WriteFault → (O.faults out.new ≡ O.faults out.old) × (L.faults log.new ≡ L.faults log.old) }

@@ -1,7 +1,7 @@
 -- The forms of the commands are simple, so that clap refuses words exactly as its contracts say.
 use Rattle.std.proofs.Common.{◌≡◌, true, codes, refl}
 use Rattle.clap.specs.Words.{is_simple_and_free}
-use Rattle.mw_words.specs.Forms.{gen_app, telling_app, verify_app}
+use Rattle.mw_words.specs.Forms.{gen_app, simulate_app, telling_app, verify_app}
 
 pub verify_simple : is_simple_and_free verify_app ≡ true
 verify_simple = refl
@@ -11,6 +11,9 @@ check_simple = refl
 
 pub replay_simple : is_simple_and_free (telling_app (codes "replay")) ≡ true
 replay_simple = refl
+
+pub simulate_simple : is_simple_and_free simulate_app ≡ true
+simulate_simple = refl
 
 pub gen_simple : is_simple_and_free gen_app ≡ true
 gen_simple = refl

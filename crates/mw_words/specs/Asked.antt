@@ -3,8 +3,8 @@ use Rattle.std.specs.Prelude.{ℕ, List, [], ◌∷◌, Option, Some, None, code
 use Rattle.mw_text.specs.Text.{same_text}
 use Rattle.clap.specs.Words.{Row, Text, all_of, first_of}
 use Rattle.mw_words.specs.declared.request.Request.{Request}
-use Rattle.mw_words.specs.declared.request.Request.TheVariants.{Verify, Check, Replay, Gen}
-use Rattle.mw_words.specs.Forms.{gen_app, rows_due, telling_app, verify_app}
+use Rattle.mw_words.specs.declared.request.Request.TheVariants.{Verify, Check, Replay, Simulate, Gen}
+use Rattle.mw_words.specs.Forms.{gen_app, rows_due, simulate_app, telling_app, verify_app}
 
 -- a command with the values of its arguments
 pub data Asked : Type 0 where
@@ -14,6 +14,8 @@ pub data Asked : Type 0 where
   check : Text → Text → List Text → Asked
   -- the counterexample, the questions and the configurations
   replay : Text → Text → List Text → Asked
+  -- the events and the configurations
+  simulate : Text → List Text → Asked
   -- the limit of conflicts, where it is said, and how many routers
   gen : Option Text → Text → Asked
 
@@ -38,6 +40,9 @@ abbrev pub replay_by : List Row → Asked
 replay_by rows =
     replay (value_of (codes "own") rows) (value_of (codes "questions") rows) (values_of (codes "config") rows)
 
+abbrev pub simulate_by : List Row → Asked
+simulate_by rows = simulate (value_of (codes "events") rows) (values_of (codes "config") rows)
+
 abbrev pub gen_by : List Row → Asked
 gen_by rows = gen (first_of (codes "conflicts") rows) (value_of (codes "count") rows)
 
@@ -52,6 +57,9 @@ check_of words = option_map check_by (rows_due (telling_app (codes "check")) wor
 abbrev pub replay_of : List Text → Option Asked
 replay_of words = option_map replay_by (rows_due (telling_app (codes "replay")) words)
 
+abbrev pub simulate_of : List Text → Option Asked
+simulate_of words = option_map simulate_by (rows_due simulate_app words)
+
 abbrev pub gen_of : List Text → Option Asked
 gen_of words = option_map gen_by (rows_due gen_app words)
 
@@ -61,7 +69,8 @@ asked_by command words =
     if same_text command (codes "verify") then verify_of words
     else (if same_text command (codes "check") then check_of words
     else (if same_text command (codes "replay") then replay_of words
-    else (if same_text command (codes "gen") then gen_of words else None)))
+    else (if same_text command (codes "simulate") then simulate_of words
+    else (if same_text command (codes "gen") then gen_of words else None))))
 
 unfoldable pub asked_of : List Text → Option Asked
 asked_of [] = None
@@ -73,4 +82,5 @@ asks (Verify conflicts questions configs) =
     verify (option_map (λ s. s.now) conflicts) questions.now (map (λ s. s.now) configs.items)
 asks (Check log questions configs) = check log.now questions.now (map (λ s. s.now) configs.items)
 asks (Replay cex questions configs) = replay cex.now questions.now (map (λ s. s.now) configs.items)
+asks (Simulate events configs) = simulate events.now (map (λ s. s.now) configs.items)
 asks (Gen conflicts count) = gen (option_map (λ s. s.now) conflicts) count.now

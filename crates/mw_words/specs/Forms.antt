@@ -36,6 +36,11 @@ telling_app name =
     with_rule (with_rule (with_rule (bare_app name) (single_rule (codes "own"))) (single_rule (codes "questions")))
     (many_rule (codes "config"))
 
+-- simulate EVENTS CONFIG...
+abbrev pub simulate_app : App
+simulate_app =
+    with_rule (with_rule (bare_app (codes "simulate")) (single_rule (codes "events"))) (many_rule (codes "config"))
+
 -- gen [--conflicts N] COUNT
 abbrev pub gen_app : App
 gen_app = with_rule (with_rule (bare_app (codes "gen")) conflicts_rule) (single_rule (codes "count"))

@@ -60,6 +60,15 @@ pub fn telling_form<'a>(alloc: Global, name: &'a str) -> Result<Command<'a>, All
         .arg(many_arg(alloc, "config"))
 }
 
+/// `simulate EVENTS CONFIG...`
+pub fn simulate_form<'a>(alloc: Global) -> Result<Command<'a>, AllocError>
+    ensures { IfOk result (λ form. app_of form ≡ forms.simulate_app) }
+{
+    bare(alloc, "simulate")
+        .arg(single_arg(alloc, "events"))?
+        .arg(many_arg(alloc, "config"))
+}
+
 /// `gen [--conflicts N] COUNT`
 pub fn gen_form<'a>(alloc: Global) -> Result<Command<'a>, AllocError>
     ensures { IfOk result (λ form. app_of form ≡ forms.gen_app) }

@@ -4,7 +4,7 @@ ghost use Rattle.std.specs.Prelude.{◌≡◌, IfOk, map, option_map, string_byt
 ghost use Rattle.mw_text.specs.Text.{same_text};
 ghost use Rattle.mw_words.specs.Asked as asked;
 
-use crate::forms::{gen_form, telling_form, verify_form};
+use crate::forms::{gen_form, simulate_form, telling_form, verify_form};
 use crate::values::{all_values, first_value, matches_of, text_value};
 use std::alloc::{AllocError, Global};
 
@@ -27,6 +27,11 @@ pub enum Request<'a> {
     Replay {
         cex: &'a str,
         questions: &'a str,
+        configs: Vec<&'a str>,
+    },
+    /// Events are to happen to the routers.
+    Simulate {
+        events: &'a str,
         configs: Vec<&'a str>,
     },
     /// The question about a generated network is to be answered.
@@ -81,6 +86,23 @@ fn replay_request<'a>(alloc: Global, words: &'a [String]) -> Result<Option<Reque
     }))
 }
 
+fn simulate_request<'a>(
+    alloc: Global,
+    words: &'a [String],
+) -> Result<Option<Request<'a>>, AllocError>
+    ensures { IfOk result (λ r. option_map asked.asks r ≡ asked.simulate_of (map string_bytes words.entry.now)) }
+{
+    let form = simulate_form(alloc)?;
+    let Some(matches) = matches_of(form, words)? else {
+        return Ok(None);
+    };
+    let configs = all_values(alloc, &matches, "config")?;
+    Ok(Some(Request::Simulate {
+        events: text_value(&matches, "events"),
+        configs,
+    }))
+}
+
 fn gen_request<'a>(alloc: Global, words: &'a [String]) -> Result<Option<Request<'a>>, AllocError>
     ensures { IfOk result (λ r. option_map asked.asks r ≡ asked.gen_of (map string_bytes words.entry.now)) }
 {
@@ -116,6 +138,9 @@ fn request_by<'a>(
     }
     if is_word(command, "replay") {
         return replay_request(alloc, words);
+    }
+    if is_word(command, "simulate") {
+        return simulate_request(alloc, words);
     }
     if is_word(command, "gen") {
         return gen_request(alloc, words);

@@ -1,1 +1,2 @@
 pub mod ReplayAnswers
+pub mod SimulationAnswers

@@ -8,7 +8,7 @@ use Rattle.cex_json.specs.declared.counterexample.Counterexample.{Counterexample
 use Rattle.resolution_check.specs.declared.log.Entry.{Entry}
 use Rattle.cdcl_search.specs.Turns.{TellBumps}
 use Rattle.stable_replay.specs.declared.differs.ReplayNo.{ReplayNo}
-use Rattle.run_inputs.specs.Due.{Outcome, usage, unread, refused, answering, replaying, checking, generating}
+use Rattle.run_inputs.specs.Due.{Outcome, usage, unread, refused, answering, replaying, checking, simulating, generating}
 use Rattle.run_inputs.specs.Texts.{usage_text}
 use Rattle.run_answers.specs.declared.status.Status.{Status}
 use Rattle.run_answers.specs.declared.status.Status.TheVariants.{Good, Bad, Unknown, Usage, Refused, ReadFault}
@@ -16,6 +16,7 @@ use Rattle.run_answers.specs.declared.status.Status.TheVariants.{WriteFault, Mem
 use Rattle.run_answers.specs.Checks.{IsCheckBegun, IsCheckedSo}
 use Rattle.run_answers.specs.Lines.{size_text}
 use Rattle.run_answers.specs.Replays.{AnswersReplay, IsReplayedSo, replay_text}
+use Rattle.run_answers.specs.Simulations.{IsSimulatedSo, IsSimulationBegun}
 use Rattle.run_answers.specs.Verdicts.{Answer, AreRight, IsSearched, answers_text, opening_text, section_text}
 use Rattle.run_answers.specs.Verdicts.{sections_text, status_of}
 
@@ -41,7 +42,7 @@ pub record AreSized (routers : ℕ) (files : List File) (questions : List Questi
   pub size : Takes before sized (size_text routers)
   pub answered : AreAnswered files questions budget status sized now logged_before logged_now tolds
 
--- what is due is answered: all questions, or the replay or the check of a log, of which nothing is logged
+-- what is due is answered: all questions, or the replay, the check of a log or the simulation, of which nothing is logged
 abbrev pub IsAnswered : Outcome → Status → Option (List ℕ) → Option (List ℕ) → Option (List ℕ) → Option (List ℕ) →
     List (Option (List ℕ)) → Type 0
 IsAnswered (answering files questions budget) status before now logged_before logged_now tolds =
@@ -52,6 +53,8 @@ IsAnswered (generating routers files questions budget) status before now logged_
     AreSized routers files questions budget status before now logged_before logged_now tolds
 IsAnswered (checking files questions log) status before now logged_before logged_now tolds =
     IsCheckedSo files questions log.name log.bytes status before now × (logged_now ≡ logged_before)
+IsAnswered (simulating files last) status before now logged_before logged_now tolds =
+    IsSimulatedSo files last status before now × (logged_now ≡ logged_before)
 IsAnswered usage status before now logged_before logged_now tolds = ⊥
 IsAnswered unread status before now logged_before logged_now tolds = ⊥
 IsAnswered (refused line) status before now logged_before logged_now tolds = ⊥
@@ -100,7 +103,7 @@ IsSizeBegun routers files questions budget before now logged_before logged_now =
     × AreBegun files questions budget sized now logged_before logged_now)
 
 -- what stands when a run ends early: a front of the line that is due, or of right answers to the first questions with
--- their sections, or of the answer of a replay or about a log
+-- their sections, or of the answer of a replay, about a log or of a simulation
 abbrev pub Stands : Outcome → Option (List ℕ) → Option (List ℕ) → Option (List ℕ) → Option (List ℕ) → Type 0
 Stands usage before now logged_before logged_now = TakesPart before now usage_text × (logged_now ≡ logged_before)
 Stands unread before now logged_before logged_now = (now ≡ before) × (logged_now ≡ logged_before)
@@ -111,6 +114,8 @@ Stands (replaying files questions cex) before now logged_before logged_now =
     IsReplayBegun files questions cex before now × (logged_now ≡ logged_before)
 Stands (checking files questions log) before now logged_before logged_now =
     IsCheckBegun files questions log.name log.bytes before now × (logged_now ≡ logged_before)
+Stands (simulating files last) before now logged_before logged_now =
+    IsSimulationBegun files last before now × (logged_now ≡ logged_before)
 Stands (generating routers files questions budget) before now logged_before logged_now =
     IsSizeBegun routers files questions budget before now logged_before logged_now
 

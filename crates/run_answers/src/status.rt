@@ -6,9 +6,9 @@ ghost use Rattle.run_answers.specs.Numbers.{status_number};
 /// How a run ends.
 #[derive(Clone, Copy)]
 pub enum Status {
-    /// Every verdict is `holds`.
+    /// Every verdict is `holds`, or the answer is `yes` or `quiet`.
     Good,
-    /// Some verdict is `broken`.
+    /// Some verdict is `broken`, or the answer is `no` or `busy`.
     Bad,
     /// Some verdict is `unknown`, and none is `broken`.
     Unknown,

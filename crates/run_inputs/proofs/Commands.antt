@@ -11,9 +11,10 @@ use Rattle.run_inputs.specs.declared.work.Work.{Work}
 use Rattle.run_inputs.specs.Due.{Command, IsDue, IsDueBy, IsMadeDue, Outcome, budget_of, checked_due, command_by}
 use Rattle.run_inputs.specs.Due.{command_of, either, files_due, is_command, outcome_by, refused, replayed_due}
 use Rattle.run_inputs.specs.Due.{ring_asked, ring_due, ring_text, ring_texts, routers_of, sized_due, to_check, to_gen}
-use Rattle.run_inputs.specs.Due.{to_replay, to_verify, unread, usage}
+use Rattle.run_inputs.specs.Due.{simulated_due, to_replay, to_simulate, to_verify, unread, usage}
 use Rattle.run_inputs.specs.declared.text.Text.{Text}
-use Rattle.run_inputs.specs.Loading.{IsReady, OnStop, UnlessReadFault, WorksSo, outcome_of}
+use Rattle.simulation.specs.declared.simulating.Simulated.{Simulated}
+use Rattle.run_inputs.specs.Loading.{ComesTo, IsReady, IsSaidOf, OnStop, UnlessReadFault, WorksSo}
 use Rattle.run_inputs.specs.Order.{StopsAt, StopsIn, order_by}
 use Rattle.run_inputs.proofs.Loading.{if_told_one, on_stop-map}
 
@@ -29,13 +30,13 @@ due_said told command outcome said made = record {
 }
 
 -- its work was read and parsed
-pub works_ok : (told : Option Contents) (o : Option Command) (command : Command) (work : Work) (faults faults_now : ℕ)
-    (last last_now : Option (List ℕ)) → o ≡ Some command → IsDueBy told (Some command) (outcome_of work) →
-    IsReady work → faults_now ≡ faults → last_now ≡ last →
-    WorksSo told o faults faults_now last last_now (Ok (Some work))
-works_ok told o command work faults faults_now last last_now is is_due ready quiet stays =
+pub works_ok : (told : Option Contents) (o : Option Command) (command : Command) (work : Work) (outcome : Outcome)
+    (faults faults_now : ℕ) (last last_now : Option (List ℕ)) → o ≡ Some command →
+    IsDueBy told (Some command) outcome → ComesTo work outcome → IsReady work → faults_now ≡ faults →
+    last_now ≡ last → WorksSo told o faults faults_now last last_now (Ok (Some work))
+works_ok told o command work outcome faults faults_now last last_now is is_due comes ready quiet stays =
     let W : Option Command → Type 0 = λ c. WorksSo told c faults faults_now last last_now (Ok (Some work)) in
-    subst W (sym is) (refl, quiet, stays, is_due, ready)
+    subst W (sym is) (refl, quiet, stays, (outcome, is_due, comes), ready)
 
 -- or that stopped
 pub works_stop : (A : Type 0) (told : Option Contents) (o : Option Command) (command : Command) (stop : Stop)
@@ -175,6 +176,32 @@ replay_stopped told cex asked names stop faults faults_now last so =
     (λ contents is. ap either is)) tt)
     (λ said. (said.0, (some_name names asked (cex ∷ []), said.1)))
 
+-- of a state to which events lead
+pub simulate_due_by : (told : Option Contents) (events : List ℕ) (names : List (List ℕ)) (answer : Simulated) →
+    (outcome : Outcome) × IfSome told (λ contents. simulated_due contents events names ≡ Ok outcome)
+    × IsSaidOf outcome answer →
+    (outcome : Outcome) × IsDueBy told (Some (to_simulate events names)) outcome × IsSaidOf outcome answer
+simulate_due_by told events names answer (outcome, due, said) = (
+  outcome,
+  due_said told (to_simulate events names) outcome
+      (if_told_one told (λ contents. simulated_due contents events names ≡ Ok outcome) _ due (λ contents so. ap either so))
+      tt,
+  said,
+)
+
+pub simulate_stopped : (told : Option Contents) (events : List ℕ) (names : List (List ℕ)) (stop : Stop)
+    (faults faults_now : ℕ) (last : Option (List ℕ)) →
+    OnStop stop (λ line. IfSome told (λ contents. simulated_due contents events names ≡ Err (refused line)))
+    (Rose faults faults_now × StopsAt told (names ++ events ∷ []) last) →
+    OnStop stop (λ line. IsDueBy told (Some (to_simulate events names)) (refused line))
+    (Rose faults faults_now × StopsIn told (names ++ events ∷ []) last)
+simulate_stopped told events names stop faults faults_now last so =
+    on_stop-map stop _ _ _ _ so
+    (λ line said. due_said told (to_simulate events names) (refused line)
+    (if_told_one told (λ contents. simulated_due contents events names ≡ Err (refused line)) _ said
+    (λ contents is. ap either is)) tt)
+    (λ said. (said.0, (some_name names events [], said.1)))
+
 all_due : (told : Option Contents) (budget routers : ℕ) (outcome : Outcome) → either (ring_due budget routers) ≡ outcome →
     IfSome told (λ contents. outcome_by contents (to_gen budget routers) ≡ outcome)
 all_due None budget routers outcome is = tt
@@ -243,7 +270,7 @@ so_stopped told o faults faults_now last last_now (Err Memory) so = tt
 
 pub so_due : (told : Option Contents) (o : Option Command) (faults faults_now : ℕ) (last last_now : Option (List ℕ))
     (result : Result (Option Work) Stop) → WorksSo told o faults faults_now last last_now result →
-    IfOk result (λ work. IfSome work (λ w. IsDueBy told o (outcome_of w)))
+    IfOk result (λ work. IfSome work (λ w. (outcome : Outcome) × IsDueBy told o outcome × ComesTo w outcome))
 so_due told o faults faults_now last last_now (Ok None) so = tt
 so_due told o faults faults_now last last_now (Ok (Some work)) so = so.3
 so_due told o faults faults_now last last_now (Err stop) so = tt
@@ -300,12 +327,14 @@ due_made : (contents : Contents) (command : Command) → IsMadeDue (Some command
 due_made contents (to_verify budget asked names) = tt
 due_made contents (to_check log asked names) = tt
 due_made contents (to_replay cex asked names) = tt
+due_made contents (to_simulate events names) = tt
 due_made contents (to_gen budget routers) = refl
 
 due_untold : (command : Command) → (outcome : Outcome) × IsDueBy None (Some command) outcome
 due_untold (to_verify budget asked names) = (unread, due_said None (to_verify budget asked names) unread tt tt)
 due_untold (to_check log asked names) = (unread, due_said None (to_check log asked names) unread tt tt)
 due_untold (to_replay cex asked names) = (unread, due_said None (to_replay cex asked names) unread tt tt)
+due_untold (to_simulate events names) = (unread, due_said None (to_simulate events names) unread tt tt)
 due_untold (to_gen budget routers) =
     (either (ring_due budget routers), due_said None (to_gen budget routers) (either (ring_due budget routers)) tt refl)
 

@@ -1,3 +1,4 @@
 pub mod Loading
 pub mod Commands
 pub mod Admitting
+pub mod Simulating

@@ -7,7 +7,7 @@ use Rattle.mw_text.specs.Reading.{each, following}
 use Rattle.mw_outside.specs.Contents.{Contents, get}
 use Rattle.mw_gen.specs.declared.TheConstants.{LEAST_ROUTERS, MOST_ROUTERS}
 use Rattle.mw_gen.specs.Ring.{question_text, router_name, router_text}
-use Rattle.mw_words.specs.Asked.{Asked, asked_of, verify, check, replay, gen}
+use Rattle.mw_words.specs.Asked.{Asked, asked_of, verify, check, replay, simulate, gen}
 use Rattle.ios_ast.specs.declared.file.File.{File}
 use Rattle.ios_policy_reader.specs.declared.cause.Refused.{Refused}
 use Rattle.net_refusals.specs.declared.refusals.NetRefused.{NetRefused}
@@ -19,10 +19,12 @@ use Rattle.cex_json.specs.Reading.{reading as reading_cex}
 use Rattle.question_lang.specs.declared.question.Question.{Question}
 use Rattle.question_lang.specs.Asking.{asking}
 use Rattle.mw_text.specs.Digits.{number_of}
+use Rattle.simulation.specs.declared.causes.SimulationRefused.{SimulationRefused}
+use Rattle.simulation.specs.Simulating.{Last, simulation_of}
 use Rattle.run_inputs.specs.declared.load.TheConstants.{DEFAULT_CONFLICTS, MOST_BYTES, MOST_CEX_BYTES, MOST_CONFLICTS}
 use Rattle.run_inputs.specs.declared.load.TheConstants.{MOST_LOG_BYTES}
 use Rattle.run_inputs.specs.declared.text.Text.{Text}
-use Rattle.run_inputs.specs.Texts.{cex_refusal, net_cause_text, refusal, refused_text, too_long}
+use Rattle.run_inputs.specs.Texts.{cex_refusal, net_cause_text, refusal, refused_text, simulation_refusal, too_long}
 
 -- what the contents of files come to
 pub data Outcome : Type 0 where
@@ -38,6 +40,8 @@ pub data Outcome : Type 0 where
   replaying : List File → List Question → Counterexample → Outcome
   -- a log is held against the questions over the network of these files
   checking : List File → List Question → Text → Outcome
+  -- it is said whether this state of a machine of the network of these files is quiet, and what its tables are
+  simulating : List File → Last → Outcome
   -- the size of a ring of so many routers is said, and the questions over it are answered, as above
   generating : ℕ → List File → List Question → ℕ → Outcome
 
@@ -65,6 +69,8 @@ pub data Command : Type 0 where
   to_check : List ℕ → List ℕ → List (List ℕ) → Command
   -- the counterexample, the questions and the configurations
   to_replay : List ℕ → List ℕ → List (List ℕ) → Command
+  -- the events and the configurations
+  to_simulate : List ℕ → List (List ℕ) → Command
   -- how many clauses a search may learn, and how many routers
   to_gen : ℕ → ℕ → Command
 
@@ -74,6 +80,7 @@ command_by (verify conflicts questions names) =
     option_map (λ budget. to_verify budget questions names) (budget_of conflicts)
 command_by (check log questions names) = Some (to_check log questions names)
 command_by (replay cex questions names) = Some (to_replay cex questions names)
+command_by (simulate events names) = Some (to_simulate events names)
 command_by (gen conflicts count) =
     option_and_then (λ budget. option_map (to_gen budget) (routers_of count)) (budget_of conflicts)
 
@@ -173,6 +180,23 @@ checked_due contents log questions names =
     following (λ texts. following (λ asked. following (check_due texts asked) (text_within MOST_LOG_BYTES contents log))
     (text_of contents questions)) (each (text_of contents) names)
 
+-- the state that a text leads to as events, or its refusal
+abbrev pub led_as : Text → List File → Result Last SimulationRefused → Result Outcome Outcome
+led_as text files (Ok last) = Ok (simulating files last)
+led_as text files (Err why) = Err (refused (simulation_refusal text.name why))
+
+abbrev pub events_of : Text → List File → Result Outcome Outcome
+events_of text files = led_as text files (simulation_of files text.bytes)
+
+-- what the texts of `simulate` come to: the configurations, the network, and then the events
+abbrev pub simulation_due : List Text → Text → Result Outcome Outcome
+simulation_due texts events = following (events_of events) (network_due texts)
+
+-- what the files of `simulate` come to, read in the same order
+abbrev pub simulated_due : Contents → List ℕ → List (List ℕ) → Result Outcome Outcome
+simulated_due contents events names =
+    following (λ texts. following (simulation_due texts) (text_of contents events)) (each (text_of contents) names)
+
 -- the text of a router of a ring of n, under the router's name
 abbrev pub ring_text : (n i : ℕ) → Text
 ring_text n i = record { name = router_name i; bytes = router_text n i }
@@ -204,6 +228,7 @@ abbrev pub outcome_by : Contents → Command → Outcome
 outcome_by contents (to_verify budget questions names) = either (files_due contents budget questions names)
 outcome_by contents (to_check log questions names) = either (checked_due contents log questions names)
 outcome_by contents (to_replay cex questions names) = either (replayed_due contents cex questions names)
+outcome_by contents (to_simulate events names) = either (simulated_due contents events names)
 outcome_by contents (to_gen budget routers) = either (ring_due budget routers)
 
 -- and usage comes of no command
@@ -217,6 +242,7 @@ IsMadeDue (Some (to_gen budget routers)) outcome = either (ring_due budget route
 IsMadeDue (Some (to_verify budget questions names)) outcome = Unit {0}
 IsMadeDue (Some (to_check log questions names)) outcome = Unit {0}
 IsMadeDue (Some (to_replay cex questions names)) outcome = Unit {0}
+IsMadeDue (Some (to_simulate events names)) outcome = Unit {0}
 IsMadeDue None outcome = Unit {0}
 
 -- what is due for a command: usage where it is none, whatever the files hold; what the contents come to, where these are

@@ -9,13 +9,16 @@ use Rattle.question_lang.specs.declared.question.Question.{Question}
 use Rattle.question_lang.specs.declared.reader.TheConstants.{MOST_QUESTIONS}
 use Rattle.question_lang.specs.Packets.{IsInSet}
 use Rattle.route_record.specs.declared.TheConstants.{LENGTHS}
+use Rattle.simulation.specs.declared.simulating.Simulated.{Simulated}
+use Rattle.simulation.specs.Simulating.{IsTold, Last}
 use Rattle.run_inputs.specs.declared.load.Stop.{Stop}
 use Rattle.run_inputs.specs.declared.load.Stop.TheVariants as stop
 use Rattle.run_inputs.specs.declared.load.TheConstants.{MOST_BYTES, MOST_CONFLICTS, MOST_LOG_BYTES}
 use Rattle.run_inputs.specs.declared.text.Text.{Text}
 use Rattle.run_inputs.specs.declared.work.Work.{Work}
-use Rattle.run_inputs.specs.declared.work.Work.TheVariants.{Answer, Replay, Check, Gen}
+use Rattle.run_inputs.specs.declared.work.Work.TheVariants.{Answer, Replay, Check, Simulate, Gen}
 use Rattle.run_inputs.specs.Due.{Command, IsDueBy, Outcome, answering, checking, generating, refused, replaying}
+use Rattle.run_inputs.specs.Due.{simulating}
 use Rattle.run_inputs.specs.Order.{StopsIn, order_by}
 
 -- P of the line of a refusal, Q at a fault of reading
@@ -39,12 +42,19 @@ AreSmall texts = (k : ℕ) (text : Text) → slice_get texts k ≡ Some text →
 abbrev pub IsBudget : ℕ → Type 0
 IsBudget budget = (1 ≤ budget) × (budget ≤ MOST_CONFLICTS)
 
+-- the answer is said of the state to which events lead
+abbrev pub IsSaidOf : Outcome → Simulated → Type 0
+IsSaidOf outcome answer =
+    (files : List File) × (last : Last) × (outcome ≡ simulating files last) × IsTold files last answer
+
 -- what the work of a command comes to
-abbrev pub outcome_of : Work → Outcome
-outcome_of (Answer loaded) = answering loaded.net.files loaded.questions loaded.budget
-outcome_of (Replay told) = replaying told.net.files told.questions told.cex
-outcome_of (Check logged) = checking logged.net.files logged.questions logged.log
-outcome_of (Gen ring) = generating ring.routers ring.loaded.net.files ring.loaded.questions ring.loaded.budget
+abbrev pub ComesTo : Work → Outcome → Type 0
+ComesTo (Answer loaded) outcome = outcome ≡ answering loaded.net.files loaded.questions loaded.budget
+ComesTo (Replay told) outcome = outcome ≡ replaying told.net.files told.questions told.cex
+ComesTo (Check logged) outcome = outcome ≡ checking logged.net.files logged.questions logged.log
+ComesTo (Simulate answer) outcome = IsSaidOf outcome answer
+ComesTo (Gen ring) outcome =
+    outcome ≡ generating ring.routers ring.loaded.net.files ring.loaded.questions ring.loaded.budget
 
 -- a counterexample as the reader leaves it: of one of the questions, with its packet in the set, its failures among
 -- those that are allowed, an environment of the network, and a slot for each router and length
@@ -61,6 +71,7 @@ abbrev pub IsReady : Work → Type 0
 IsReady (Answer loaded) = (length loaded.questions ≤ MOST_QUESTIONS) × IsBudget loaded.budget
 IsReady (Replay told) = IsAdmitted told.net.files told.questions told.cex
 IsReady (Check logged) = (length logged.questions ≤ MOST_QUESTIONS) × (length logged.log.bytes ≤ MOST_LOG_BYTES)
+IsReady (Simulate answer) = Unit {0}
 IsReady (Gen ring) = (length ring.loaded.questions ≤ MOST_QUESTIONS) × IsBudget ring.loaded.budget
 
 -- what comes of the words, where this is their command: nothing where it is none; its work, which is due and ready; or
@@ -71,7 +82,7 @@ WorksSo told command faults faults_now last last_now (Ok None) =
     (is_some command ≡ false) × (faults_now ≡ faults) × (last_now ≡ last)
 WorksSo told command faults faults_now last last_now (Ok (Some work)) =
     (is_some command ≡ true) × (faults_now ≡ faults) × (last_now ≡ last)
-    × IsDueBy told command (outcome_of work) × IsReady work
+    × ((outcome : Outcome) × IsDueBy told command outcome × ComesTo work outcome) × IsReady work
 WorksSo told command faults faults_now last last_now (Err (stop.Refused line)) =
     (is_some command ≡ true) × (faults_now ≡ faults) × (last_now ≡ last) × IsDueBy told command (refused line)
 WorksSo told command faults faults_now last last_now (Err stop.ReadFault) =

@@ -3,14 +3,15 @@ use Rattle.std.specs.Prelude.{◌≡◌, ◌<◌, ℕ, List, [], ◌∷◌, ◌+
 use Rattle.mw_text.specs.Reading.{each}
 use Rattle.mw_outside.specs.Contents.{Contents}
 use Rattle.run_inputs.specs.declared.text.Text.{Text}
-use Rattle.run_inputs.specs.Due.{Command, command_of, text_of, to_verify, to_check, to_replay, to_gen}
+use Rattle.run_inputs.specs.Due.{Command, command_of, text_of, to_verify, to_check, to_replay, to_simulate, to_gen}
 
 -- the names of the files in the order in which they are read: the configurations, then the questions, and then the
--- command's own file; `gen` reads none
+-- command's own file; `simulate` has no questions, and `gen` reads none
 abbrev pub order_by : Option Command → List (List ℕ)
 order_by (Some (to_verify budget questions names)) = names ++ questions ∷ []
 order_by (Some (to_check log questions names)) = names ++ questions ∷ log ∷ []
 order_by (Some (to_replay cex questions names)) = names ++ questions ∷ cex ∷ []
+order_by (Some (to_simulate events names)) = names ++ events ∷ []
 order_by (Some (to_gen budget routers)) = []
 order_by None = []
 

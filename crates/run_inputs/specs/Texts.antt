@@ -14,6 +14,13 @@ use Rattle.net_refusals.specs.declared.refusals.NetCause.TheVariants.{SecondArea
 use Rattle.cex_json.specs.declared.refused.CexRefused.{CexRefused}
 use Rattle.cex_json.specs.declared.refused.CexRefused.TheVariants as cex
 use Rattle.cex_json.specs.declared.refused.CexRefused.TheVariants.{NotJson, Field}
+use Rattle.machine_laws.specs.declared.state.EventRefused.{EventRefused}
+use Rattle.machine_laws.specs.declared.state.EventRefused.TheVariants as event
+use Rattle.machine_laws.specs.declared.state.EventRefused.TheVariants.{NothingToDeliver, UnknownName, AlreadySo}
+use Rattle.simulation.specs.declared.causes.SimulationCause.{SimulationCause}
+use Rattle.simulation.specs.declared.causes.SimulationCause.TheVariants as simulation
+use Rattle.simulation.specs.declared.causes.SimulationCause.TheVariants.{Line, Event}
+use Rattle.simulation.specs.declared.causes.SimulationRefused.{SimulationRefused}
 
 -- the line feed
 abbrev pub newline : List ℕ
@@ -62,6 +69,23 @@ cex_cause_text cex.Memory = []
 -- a counterexample is refused at its first line
 abbrev pub cex_refusal : List ℕ → CexRefused → List ℕ
 cex_refusal name why = refused_text name 1 (cex_cause_text why)
+
+-- why an event is refused, by its number and its name
+abbrev pub event_cause_text : EventRefused → List ℕ
+event_cause_text NothingToDeliver = codes "21 NothingToDeliver"
+event_cause_text UnknownName = codes "22 UnknownName"
+event_cause_text AlreadySo = codes "23 AlreadySo"
+event_cause_text event.Memory = []
+
+-- why a line of an events file is
+abbrev pub simulation_cause_text : SimulationCause → List ℕ
+simulation_cause_text (Line cause) = cause_text cause
+simulation_cause_text (Event why) = event_cause_text why
+simulation_cause_text simulation.Memory = []
+
+-- an events file is refused at a line
+abbrev pub simulation_refusal : List ℕ → SimulationRefused → List ℕ
+simulation_refusal name refused = refused_text name refused.line (simulation_cause_text refused.cause)
 
 -- a file with more bytes than its limit
 abbrev pub too_long : List ℕ → List ℕ

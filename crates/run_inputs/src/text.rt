@@ -6,8 +6,10 @@ ghost use Rattle.run_inputs.specs.Texts as texts;
 
 use cex_json::CexRefused;
 use ios_policy_reader::{Cause, Refused};
+use machine_laws::EventRefused;
 use mw_text::{List, list_of};
 use net_model::{NetCause, NetRefused};
+use simulation::{SimulationCause, SimulationRefused};
 use std::alloc::{AllocError, Global};
 
 /// The bytes of a file with its name.
@@ -116,6 +118,39 @@ pub fn cex_refusal(alloc: Global, name: &[u8], why: &CexRefused) -> Result<List<
 {
     let cause = cex_cause(alloc, why)?;
     refused_text(alloc, name, 1, cause.as_slice())
+}
+
+fn event_cause_text(why: EventRefused) -> &'static [u8]
+    ensures { result.now ≡ texts.event_cause_text why }
+{
+    match why {
+        EventRefused::NothingToDeliver => b"21 NothingToDeliver",
+        EventRefused::UnknownName => b"22 UnknownName",
+        EventRefused::AlreadySo => b"23 AlreadySo",
+        EventRefused::Memory => b"",
+    }
+}
+
+fn simulation_cause(alloc: Global, why: SimulationCause) -> Result<List<u8>, AllocError>
+    ensures { IfOk result (λ text. text ≡ texts.simulation_cause_text why) }
+{
+    match why {
+        SimulationCause::Line(cause) => cause_text(alloc, cause),
+        SimulationCause::Event(why) => list_of(alloc, event_cause_text(why)),
+        SimulationCause::Memory => Ok(List::new(alloc)),
+    }
+}
+
+/// The line of an events file that is refused.
+pub fn simulation_refusal(
+    alloc: Global,
+    name: &[u8],
+    refused: SimulationRefused,
+) -> Result<List<u8>, AllocError>
+    ensures { IfOk result (λ text. text ≡ texts.simulation_refusal name.now refused) }
+{
+    let cause = simulation_cause(alloc, refused.cause)?;
+    refused_text(alloc, name, refused.line, cause.as_slice())
 }
 
 /// The line of a file with more bytes than its limit.

@@ -5,10 +5,11 @@ ghost use Rattle.mw_outside.specs.Contents.{Contents};
 ghost use Rattle.mw_outside.specs.Faults.{Rose};
 ghost use Rattle.mw_words.specs.Asked as asked;
 ghost use Rattle.run_inputs.specs.Due as due;
-ghost use Rattle.run_inputs.specs.Due.{IsDue};
-ghost use Rattle.run_inputs.specs.Loading.{IsBudget, IsReady, OnStop, UnlessReadFault, WorksSo, outcome_of};
+ghost use Rattle.run_inputs.specs.Due.{IsDue, Outcome};
+ghost use Rattle.run_inputs.specs.Loading.{ComesTo, IsBudget, IsReady, OnStop, UnlessReadFault, WorksSo};
 ghost use Rattle.run_inputs.specs.Order.{StopsIn, in_order};
 
+use crate::events::load_simulation;
 use crate::load::{DEFAULT_CONFLICTS, Loaded, MOST_CONFLICTS, Stop, load};
 use crate::ring::{Ring, make_ring};
 use crate::told::{Logged, Told, load_check, load_replay};
@@ -16,6 +17,7 @@ use mw_gen::{LEAST_ROUTERS, MOST_ROUTERS};
 use mw_outside::Files;
 use mw_text::read_number;
 use mw_words::{Request, read_words};
+use simulation::Simulated;
 use std::alloc::Global;
 
 /// What a command asks for, read and parsed.
@@ -27,6 +29,8 @@ pub enum Work {
     Replay(Told),
     /// A log to hold against questions.
     Check(Logged),
+    /// What is said of the state to which events led.
+    Simulate(Simulated),
     /// The question about a ring to answer.
     Gen(Ring),
 }
@@ -136,6 +140,23 @@ fn replay_work<F: Files>(
     }
 }
 
+fn simulate_work<F: Files>(
+    alloc: Global,
+    files: &mut F,
+    events: &str,
+    configs: &[&str],
+) -> Result<Option<Work>, Stop>
+    ensures kept { F.contents files.new ≡ F.contents files.old }
+    ensures so { WorksSo (F.contents files.old)
+        (due.command_by (asked.simulate events.now (map (λ s. s.now) configs.now)))
+        (F.faults files.old) (F.faults files.new) (F.last_failed files.old) (F.last_failed files.new) result }
+{
+    match load_simulation(alloc, files, events, configs) {
+        Ok(answer) => Ok(Some(Work::Simulate(answer))),
+        Err(stop) => Err(stop),
+    }
+}
+
 // The work of `gen` with its numbers, for which no file is read.
 fn gen_within(alloc: Global, budget: u64, routers: u64) -> Result<Option<Work>, Stop>
     requires { IsBudget budget }
@@ -195,6 +216,12 @@ fn request_work<F: Files>(
             questions,
             configs,
         } => replay_work(alloc, files, cex, questions, configs.as_slice()),
+        Request::Simulate { events, configs } => simulate_work(
+            alloc,
+            files,
+            events,
+            configs.as_slice(),
+        ),
         Request::Gen { conflicts, count } => gen_work(alloc, *conflicts, count),
     }
 }
@@ -227,7 +254,8 @@ pub fn work_of<F: Files>(
     ensures stopped { IfErr result (λ stop. OnStop stop
         (λ _. due.is_command (map string_bytes words.now) ≡ true) (due.is_command (map string_bytes words.now) ≡ true)) }
     ensures kept { F.contents files.new ≡ F.contents files.old }
-    ensures due { IfOk result (λ work. IfSome work (λ w. IsDue (F.contents files.old) (map string_bytes words.now) (outcome_of w))) }
+    ensures due { IfOk result (λ work. IfSome work (λ w. (outcome : Outcome)
+        × IsDue (F.contents files.old) (map string_bytes words.now) outcome × ComesTo w outcome)) }
     ensures ready { IfOk result (λ work. IfSome work IsReady) }
     ensures quiet { UnlessReadFault result (F.faults files.new ≡ F.faults files.old) }
     ensures name_stays { UnlessReadFault result (F.last_failed files.new ≡ F.last_failed files.old) }

@@ -1,4 +1,4 @@
-use Rattle.std.proofs.Common.{◌≡◌, ℕ, List, Option, Some, map, refl, subst, sym}
+use Rattle.std.proofs.Common.{ℕ, List, Option, Some, map, refl, subst, sym}
 use Rattle.mw_outside.specs.Contents.{Contents}
 use Rattle.run_inputs.specs.declared.load.Loaded.{Loaded}
 use Rattle.run_inputs.specs.declared.work.Work.TheVariants.{Answer}
@@ -17,9 +17,9 @@ returns-in-Ok-clause-so g c =
     let questions = c.in-Ok.loaded.questions in
     let D : ℕ → Type 0 = λ b. IsDueBy told (Some (to_verify budget asked names)) (answering files questions b) in
     let B : ℕ → Type 0 = λ b. IsBudget b in
-    works_ok told _ (to_verify budget asked names) (Answer c.in-Ok.loaded) _ _ _ _ refl
+    works_ok told _ (to_verify budget asked names) (Answer c.in-Ok.loaded) _ _ _ _ _ refl
     (subst D (sym c.in-Ok.ensures.budget)
-    (verify_due told budget asked names (answering files questions budget) c.in-Ok.ensures.ok))
+    (verify_due told budget asked names (answering files questions budget) c.in-Ok.ensures.ok)) refl
     (c.in-Ok.ensures.few, subst B (sym c.in-Ok.ensures.budget) c.requires.budget) c.in-Ok.ensures.quiet
     c.in-Ok.ensures.name_stays
 
