@@ -192,6 +192,74 @@ ended "1, no question and a log" 1 "no k.log:1 36 BadLine"
 run check none.log "$triangle/one-failure.txt" "$@"
 ended "1, an empty log" 1 "no none.log:1 39 Missing"
 
+orders="$top/examples/two-orders"
+set -- "$orders/o.cfg" "$orders/a1.cfg" "$orders/a2.cfg"
+# routes FROM...: from whom each router of the last simulation has its route.
+routes() {
+    found=$(tail -n 1 printed | grep -o '"from":"[^"]*"' | tr '\n' ' ')
+    wanted=$(for from in "$@"; do printf '"from":"%s" ' "$from"; done)
+    if [ "$found" = "$wanted" ]; then
+        echo "ok: its tables"
+    else
+        echo "FAILED: its routes are from $found, not from $wanted"
+        failed=1
+    fi
+}
+run simulate "$orders/a1-first.txt" "$@"
+ended "0, an order of messages" 0 quiet
+routes local 10.1.0.1 10.12.0.1
+run simulate "$orders/a2-first.txt" "$@"
+ended "0, another order" 0 quiet
+routes local 10.12.0.2 10.2.0.1
+run simulate "$orders/link-cut.txt" "$@"
+ended "0, the first order, and a link that failed for a while" 0 quiet
+routes local 10.12.0.2 10.2.0.1
+grep -v '^!' "$orders/a1-first.txt" >e.txt
+sed '/^run/d' e.txt >busy.txt
+run simulate busy.txt "$@"
+ended "1, messages are on their way" 1 busy
+routes local 10.1.0.1 10.12.0.1
+sed '4p' e.txt >twice.txt
+run simulate twice.txt "$@"
+ended "4, no message is on its way" 4 "refused twice.txt:5 21 NothingToDeliver"
+sed '2i decide O 33' e.txt >other.txt
+run simulate other.txt "$@"
+ended "4, no such length" 4 "refused other.txt:2 2 BadWord 3"
+sed '2i cut 10.77.0.0/30' e.txt >other.txt
+run simulate other.txt "$@"
+ended "4, no such link" 4 "refused other.txt:2 22 UnknownName"
+printf 'dst 10.9.9.7\nmend 10.1.0.0/30\n' >other.txt
+run simulate other.txt "$@"
+ended "4, a link that works" 4 "refused other.txt:2 23 AlreadySo"
+: >other.txt
+run simulate other.txt "$@"
+ended "4, no destination" 4 "refused other.txt:1 5 OutOfPlace"
+run simulate absent.txt "$@"
+ended "5, no events" 5 ""
+
+# The formula of the two routers with a filter has 237,256 clauses where each prefix length has a slot of its own, and that
+# of the router with two providers, which holds, 85,859.
+set -- "$short/questions.txt" "$short/b1.cfg" "$short/c1.cfg"
+run --log short.log verify "$@"
+ended "1, a shorter prefix gets through a filter, with a log" 1 "broken q1"
+if [ "$(grep -c '^i ' short.log)" -lt 237256 ]; then
+    echo "ok: its log has fewer clauses than one with a slot at each length"
+else
+    echo "FAILED: its log has $(grep -c '^i ' short.log) clauses"
+    failed=1
+fi
+set -- "$homed/questions.txt" "$homed/filtered.cfg"
+run --log homed.log verify "$@"
+ended "0, nothing is taken from that provider, with a log" 0 "holds q1"
+if [ "$(grep -c '^i ' homed.log)" -lt 85859 ]; then
+    echo "ok: its log has fewer clauses than one with a slot at each length"
+else
+    echo "FAILED: its log has $(grep -c '^i ' homed.log) clauses"
+    failed=1
+fi
+run check homed.log "$@"
+ended "0, that log of length classes" 0 yes
+
 for count in 3 4 64; do
     run --log made.log gen "$count"
     ended "0, a ring of $count" 0 "routers $count links $count"
@@ -217,7 +285,8 @@ ended "3, no words" 3 "usage: mw_cli verify, check, replay, simulate or gen"
 usage="usage: mw_cli verify, check, replay, simulate or gen"
 for words in "verify questions.txt" "check" "sniff" "gen 2" "gen 65" "gen" "gen 3 4" "gen --conflicts 0 3" \
     "verify --conflicts 0 questions.txt n1.cfg n2.cfg" "verify --conflicts 1000000001 questions.txt n1.cfg n2.cfg" \
-    "verify --conflicts 5 --conflicts 5 questions.txt n1.cfg n2.cfg" "verify --help" "verify -q questions.txt n1.cfg"; do
+    "verify --conflicts 5 --conflicts 5 questions.txt n1.cfg n2.cfg" "verify --help" "verify -q questions.txt n1.cfg" \
+    "simulate" "simulate e.txt" "simulate --conflicts 5 e.txt n1.cfg"; do
     # shellcheck disable=SC2086
     run $words
     ended "3, $words" 3 "$usage"
@@ -247,7 +316,9 @@ ended "5, a file that is not there" 5 ""
 run verify . n1.cfg n2.cfg
 ended "5, a folder for a file" 5 ""
 
-for words in "verify questions.txt n1.cfg n2.cfg" "verify questions.txt n1-broken.cfg n2.cfg" "verify"; do
+printf 'dst 10.0.0.1\n' >other.txt
+for words in "verify questions.txt n1.cfg n2.cfg" "verify questions.txt n1-broken.cfg n2.cfg" "simulate other.txt n1.cfg n2.cfg" \
+    "verify"; do
     : >printed
     # shellcheck disable=SC2086
     "$program" $words >/dev/full

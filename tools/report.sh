@@ -137,6 +137,20 @@ report_answer() {
     fi
 }
 
+# What `simulate` says: the tables are the next line, and are JSON as they stand.
+report_state() {
+    take_time
+    IFS= read -r text || text=
+    plain "$text"
+    object "{\"answer\":\"$1\",\"seconds\":$seconds${text:+,\"tables\":$text}}"
+    if [ "$1" = quiet ]; then
+        add_case "$asking"
+    else
+        failures=$((failures + 1))
+        add_case "$asking" failure busy "a message is on its way, or a decision is due" "$text"
+    fi
+}
+
 # How large the ring of `gen` is.
 report_size() {
     count=${1%% *}
@@ -164,6 +178,7 @@ report_line() {
     'broken '*) report_broken "${1#broken }" ;;
     'unknown '*) report_unknown "${1#unknown }" ;;
     'routers '*) report_size "${1#routers }" ;;
+    quiet | busy) report_state "$1" ;;
     *) report_answer "$1" ;;
     esac
 }

@@ -6,14 +6,21 @@
 //! counterexamples, `%logged WORDS` prints the log as well, and `%kept WORDS` keeps it as the file `k.log`. Before it
 //! `%read N`, `%write N` and `%log N` say that its Nth read, write of the output and write of the log fails, and
 //! `%deciders N` that it has so many deciders in the place of two. `%replayed NAMES` runs `verify` with these names, and
-//! then `replay` of each counterexample. `% TEXT` is printed.
+//! then `replay` of each counterexample. `%slowly WORDS` runs these words over files that give one byte a read.
+//! `%reads WORDS`, `%writes WORDS` and `%logs WORDS` run them again and again, of which the first read, write of the output
+//! or write of the log fails, then the second, and so on until a run meets no fault, and print each that left what it
+//! should not. `% TEXT` is printed.
 #![tactic(auto)]
 
+mod failing;
 mod files;
 mod runs;
+mod slow;
 
+use crate::failing::{Failing, show_faults};
 use crate::files::{add_line, add_raw, begin_file, keep_log, pad};
 use crate::runs::{Setup, Shown, show_replayed, show_run};
+use crate::slow::show_slowly;
 use mw_outside::TestFile;
 use mw_text::List;
 use std::io;
@@ -56,6 +63,26 @@ fn set(case: &mut Case, word: &str, count: u64) {
     }
 }
 
+// An order for more runs than one, or for one over other files.
+fn take_more(
+    rt: &(impl Print + AllocGlobal),
+    case: &mut Case,
+    word: &str,
+    rest: &str,
+) -> io::Result<()> {
+    match word {
+        "replayed" => show_replayed(rt, case.files.as_slice(), rest),
+        "slowly" => show_slowly(rt, case.files.as_slice(), rest),
+        "reads" => show_faults(rt, case.files.as_slice(), Failing::Read, rest),
+        "writes" => show_faults(rt, case.files.as_slice(), Failing::Write, rest),
+        "logs" => show_faults(rt, case.files.as_slice(), Failing::Log, rest),
+        _ => {
+            set(case, word, number(rest));
+            Ok(())
+        }
+    }
+}
+
 fn take_order(
     rt: &(impl Print + AllocGlobal),
     case: &mut Case,
@@ -71,11 +98,7 @@ fn take_order(
         "verdicts" => run_next(rt, case, rest, Shown::Verdicts),
         "logged" => run_next(rt, case, rest, Shown::Log),
         "kept" => run_next(rt, case, rest, Shown::Kept),
-        "replayed" => show_replayed(rt, case.files.as_slice(), rest),
-        _ => {
-            set(case, word, number(rest));
-            Ok(())
-        }
+        _ => take_more(rt, case, word, rest),
     }
 }
 

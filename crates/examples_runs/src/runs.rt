@@ -2,7 +2,7 @@
 
 use crate::files::{add_line, begin_file, copy_files};
 use deciders::{Decider, OrderDecider, ScoreDecider};
-use mw_outside::{TestFile, TestFiles, TestSink};
+use mw_outside::{Files, TestFile, TestFiles, TestSink};
 use mw_text::List;
 use mw_verify::{Status, number_of, run};
 use std::alloc::{AllocError, Global};
@@ -43,7 +43,8 @@ pub enum Shown {
     Kept,
 }
 
-fn words_of(alloc: Global, line: &str) -> Result<Vec<String>, AllocError> {
+/// The words of a line.
+pub fn words_of(alloc: Global, line: &str) -> Result<Vec<String>, AllocError> {
     let mut all = Vec::new(alloc);
     for word in line.split_whitespace() {
         all.push(String::from_str(alloc, word)?)?;
@@ -58,24 +59,24 @@ fn lone(alloc: Global, number: u64) -> Result<List<u64>, AllocError> {
 }
 
 /// Files of which that read fails.
-fn contents_of(alloc: Global, files: &[TestFile], read: u64) -> io::Result<TestFiles> {
+pub fn contents_of(alloc: Global, files: &[TestFile], read: u64) -> io::Result<TestFiles> {
     let reads = lone(alloc, read)?;
     let files = copy_files(alloc, files)?;
     Ok(TestFiles::new(alloc, files, reads))
 }
 
 /// A sink of which that write fails.
-fn sink(alloc: Global, write: u64) -> Result<TestSink, AllocError> {
+pub fn sink(alloc: Global, write: u64) -> Result<TestSink, AllocError> {
     let writes = lone(alloc, write)?;
     TestSink::new(alloc, 10_000_000, writes)
 }
 
 /// Runs the words with so many deciders. What the run leaves in the files and the sinks is looked at afterwards, not said
 /// here.
-fn status_of(
+pub fn status_of<F: Files>(
     alloc: Global,
     words: &[String],
-    contents: &mut TestFiles,
+    contents: &mut F,
     out: &mut TestSink,
     log: &mut TestSink,
     count: u64,
@@ -126,7 +127,8 @@ fn show_taken(rt: &impl Print, out: &[u8], log: &[u8], shown: Shown) -> io::Resu
     }
 }
 
-fn show_result(
+/// Prints a line, the status of its run and what is asked of the sinks.
+pub fn show_result(
     rt: &impl Print,
     line: &str,
     status: Status,
