@@ -239,3 +239,34 @@ report() {
     fi
     return "$status"
 }
+
+# A refused line that `lint` prints, as an object: its file, line and cause, and the kind of its group, where it is in one.
+report_refused() {
+    parse_refusal "$1" || return
+    if [ "$file" != "$last_file" ]; then
+        last_file=$file
+        in_json=$(escaped json "$file")
+    fi
+    object "{\"file\":\"$in_json\",\"line\":$at,\"cause\":\"$cause\"$kind}"
+}
+
+# report_lines WORDS: reads what `lint` prints for these words, and then its status from a pipe; ends with that.
+report_lines() {
+    last_file='' in_json='' kind='' gone='' refusal=''
+    while [ -z "$gone" ] && IFS= read -r line; do
+        case $line in
+        'refused lines: '*) ;;
+        'refused '*) report_refused "$line" ;;
+        [0-9]*' of '*) kind=",\"kind\":\"$(escaped json "${line#* of }")\"" ;;
+        esac
+    done
+    exec </dev/null
+    read -r status <"$work/status"
+    if [ -n "$gone" ]; then status=6; fi
+    case $status in 0 | 4) return "$status" ;; esac
+    total=0 cases=0 errors=0 suite=''
+    read_clock
+    before=$now
+    report_end "$status"
+    return "$status"
+}

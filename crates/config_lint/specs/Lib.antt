@@ -1,0 +1,5 @@
+pub mod Asides
+pub mod Listed
+pub mod Labels
+pub mod Linted
+pub mod Runs
