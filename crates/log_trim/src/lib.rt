@@ -1,0 +1,10 @@
+//! The command `trim`: writes the trimmed form of a log.
+#![tactic(auto)]
+
+pub mod causes;
+pub mod running;
+pub mod words;
+pub mod work;
+
+pub use running::run_trim;
+pub use trimmed_logs::trim;

@@ -1,0 +1,4 @@
+pub mod Ended
+pub mod Causes
+pub mod Refused
+pub mod Loading

@@ -1,0 +1,11 @@
+pub mod Keeping
+pub mod Naming
+pub mod Chains
+pub mod Sound
+pub mod Shapes
+pub mod Whole
+pub mod Orders
+pub mod Stepping
+pub mod Within
+pub mod Written
+pub mod Logged
