@@ -1,5 +1,5 @@
 -- How runs end.
-use Rattle.std.proofs.Common.{◌≡◌, ℕ, false, List, [], Option, refl, sym, subst, inl, inr}
+use Rattle.std.proofs.Common.{◌≡◌, ℕ, false, List, [], Option, refl, inl, inr}
 use Rattle.mw_outside.specs.Contents.{Contents}
 use Rattle.mw_outside.specs.Taken.{Takes, TakesPart, part_of_all, part_of_none}
 use Rattle.ios_ast.specs.declared.file.File.{File}
@@ -12,7 +12,7 @@ use Rattle.run_answers.specs.Lines.{size_text}
 use Rattle.run_answers.specs.declared.status.Status.{Status}
 use Rattle.run_answers.specs.declared.status.Status.TheVariants.{Good, Bad, Unknown, Usage, Refused, ReadFault}
 use Rattle.run_answers.specs.declared.status.Status.TheVariants.{WriteFault, Memory}
-use Rattle.run_answers.specs.Running.{AnswersSo, IsAnswered, OnAnswered, OnCut, OnUnanswered, Stands}
+use Rattle.run_answers.specs.Running.{AnswersSo, Stands}
 use Rattle.mw_verify.proofs.Answering.{put-none}
 
 -- nothing stands, which is a front of what may
@@ -48,74 +48,6 @@ pub cut_usage : (told : Option Contents) (words : List (List ℕ)) (before now l
     is_command words ≡ false → TakesPart before now usage_text →
     (outcome : Outcome) × IsDue told words outcome × Stands outcome before now logged logged
 cut_usage told words before now logged none part = (usage, due_usage told words none, (part, refl))
-
--- how a run of answers ends is how it is due
-pub answered_from : (outcome : Outcome) (status : Status) (told : Option Contents) (words : List (List ℕ))
-    (before now logged_before logged_now : Option (List ℕ)) (tolds : List (Option (List ℕ))) (rose : Type 0) →
-    IsDue told words outcome → AnswersSo outcome status before now logged_before logged_now tolds rose →
-    OnAnswered status ((o : Outcome) × IsDue told words o
-    × IsAnswered o status before now logged_before logged_now tolds)
-answered_from outcome status told words before now logged_before logged_now tolds rose is_due so = by_status status so
-  where
-    by_status : (s : Status) → AnswersSo outcome s before now logged_before logged_now tolds rose →
-        OnAnswered s ((o : Outcome) × IsDue told words o × IsAnswered o s before now logged_before logged_now tolds)
-    by_status Good all = (outcome, is_due, all)
-    by_status Bad all = (outcome, is_due, all)
-    by_status Unknown all = (outcome, is_due, all)
-    by_status Usage none = tt
-    by_status Refused none = tt
-    by_status ReadFault none = tt
-    by_status WriteFault part = tt
-    by_status Memory part = tt
-
-pub cut_from : (outcome : Outcome) (status : Status) (told : Option Contents) (words : List (List ℕ))
-    (before now logged_before logged_now : Option (List ℕ)) (tolds : List (Option (List ℕ))) (rose : Type 0) →
-    IsDue told words outcome → AnswersSo outcome status before now logged_before logged_now tolds rose →
-    OnCut status ((o : Outcome) × IsDue told words o × Stands o before now logged_before logged_now)
-cut_from outcome Good told words before now logged_before logged_now tolds rose is_due so = tt
-cut_from outcome Bad told words before now logged_before logged_now tolds rose is_due so = tt
-cut_from outcome Unknown told words before now logged_before logged_now tolds rose is_due so = tt
-cut_from outcome Usage told words before now logged_before logged_now tolds rose is_due so = tt
-cut_from outcome Refused told words before now logged_before logged_now tolds rose is_due so = tt
-cut_from outcome ReadFault told words before now logged_before logged_now tolds rose is_due so = tt
-cut_from outcome WriteFault told words before now logged_before logged_now tolds rose is_due so = (outcome, is_due, so.0)
-cut_from outcome Memory told words before now logged_before logged_now tolds rose is_due so = (outcome, is_due, so)
-
--- a run of answers ends in one of five ways
-pub not_unanswered : (outcome : Outcome) (status : Status) (before now logged_before logged_now : Option (List ℕ))
-    (tolds : List (Option (List ℕ))) (rose P : Type 0) →
-    AnswersSo outcome status before now logged_before logged_now tolds rose → OnUnanswered status P
-not_unanswered outcome Good before now logged_before logged_now tolds rose P so = tt
-not_unanswered outcome Bad before now logged_before logged_now tolds rose P so = tt
-not_unanswered outcome Unknown before now logged_before logged_now tolds rose P so = tt
-not_unanswered outcome Usage before now logged_before logged_now tolds rose P so = absurd so
-not_unanswered outcome Refused before now logged_before logged_now tolds rose P so = absurd so
-not_unanswered outcome ReadFault before now logged_before logged_now tolds rose P so = absurd so
-not_unanswered outcome WriteFault before now logged_before logged_now tolds rose P so = tt
-not_unanswered outcome Memory before now logged_before logged_now tolds rose P so = tt
-
--- where a fault of one writer is one of both
-answers_wider : (outcome : Outcome) (status : Status) (before now logged_before logged_now : Option (List ℕ))
-    (tolds : List (Option (List ℕ))) (rose more : Type 0) → (rose → more) →
-    AnswersSo outcome status before now logged_before logged_now tolds rose →
-    AnswersSo outcome status before now logged_before logged_now tolds more
-answers_wider outcome Good before now logged_before logged_now tolds rose more from so = so
-answers_wider outcome Bad before now logged_before logged_now tolds rose more from so = so
-answers_wider outcome Unknown before now logged_before logged_now tolds rose more from so = so
-answers_wider outcome Usage before now logged_before logged_now tolds rose more from so = so
-answers_wider outcome Refused before now logged_before logged_now tolds rose more from so = so
-answers_wider outcome ReadFault before now logged_before logged_now tolds rose more from so = so
-answers_wider outcome WriteFault before now logged_before logged_now tolds rose more from so = (so.0, from so.1)
-answers_wider outcome Memory before now logged_before logged_now tolds rose more from so = so
-
--- and what was answered is what is due
-pub answers_as : (outcome of : Outcome) (status : Status) (before now logged_before logged_now : Option (List ℕ))
-    (tolds : List (Option (List ℕ))) (rose more : Type 0) → outcome ≡ of → (rose → more) →
-    AnswersSo of status before now logged_before logged_now tolds rose →
-    AnswersSo outcome status before now logged_before logged_now tolds more
-answers_as outcome of status before now logged_before logged_now tolds rose more is from so =
-    let A : Outcome → Type 0 = λ o. AnswersSo o status before now logged_before logged_now tolds more in
-    subst A (sym is) (answers_wider of status before now logged_before logged_now tolds rose more from so)
 
 -- answers after the line of the size
 pub answers_sized : (routers : ℕ) (files : List File) (questions : List Question) (budget : ℕ) (status : Status)

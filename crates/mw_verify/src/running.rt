@@ -9,6 +9,7 @@ ghost use Rattle.run_inputs.specs.Due.{IsDue, Outcome};
 ghost use Rattle.run_inputs.specs.Loading.{ComesTo, IsReady};
 ghost use Rattle.run_inputs.specs.Order.{StopsIn, in_order};
 ghost use Rattle.run_inputs.specs.Texts.{usage_text};
+ghost use Rattle.mw_verify.specs.Runs.{EndsSo, PrintsSo};
 
 use crate::generated::put_ring;
 use crate::verdicts::put_verdicts;
@@ -42,6 +43,75 @@ fn put_answers<O: Sink, L: Sink>(
         Work::Check(logged) => put_check(alloc, logged, out),
         Work::Simulate(answer) => put_simulated(answer, out),
         Work::Gen(ring) => put_ring(alloc, ring, out, log, deciders),
+    }
+}
+
+// The same, after which the work goes.
+fn end_work<O: Sink, L: Sink>(
+    alloc: Global,
+    work: Work,
+    out: &mut O,
+    log: &mut L,
+    deciders: &mut Vec<Box<dyn Decider>>,
+) -> Status
+    requires { IsReady work }
+    ensures answers { (outcome : Outcome) → ComesTo work outcome → AnswersSo outcome result
+        (O.taken out.old) (O.taken out.new) (L.taken log.old) (L.taken log.new) (map (λ b. told b) deciders.new.items)
+        (Rose (O.faults out.old) (O.faults out.new) ⊎ Rose (L.faults log.old) (L.faults log.new)) }
+    ensures writes { result ≢ Status.WriteFault → (O.faults out.new ≡ O.faults out.old) × (L.faults log.new ≡ L.faults log.old) }
+    ensures deciders { length deciders.new.items ≡ length deciders.old.items }
+{
+    let status = put_answers(alloc, &work, out, log, deciders);
+    drop(work);
+    status
+}
+
+// Prints a line, with which a run ends with that status.
+fn put_line<O: Sink>(line: &[u8], status: Status, out: &mut O) -> Status
+    ensures { PrintsSo line.now status result (O.taken out.old) (O.taken out.new) (O.faults out.old) (O.faults out.new) }
+{
+    match out.write(line) {
+        Ok(()) => status,
+        Err(_) => Status::WriteFault,
+    }
+}
+
+// Reads what the words ask for, does it, and prints its answers.
+fn do_work<F: Files, O: Sink, L: Sink>(
+    alloc: Global,
+    words: &[String],
+    files: &mut F,
+    out: &mut O,
+    log: &mut L,
+    deciders: &mut Vec<Box<dyn Decider>>,
+) -> Status
+    ensures so { EndsSo (record {
+      told = F.contents files.old;
+      words = map string_bytes words.now;
+      before = O.taken out.old;
+      now = O.taken out.new;
+      logged_before = L.taken log.old;
+      logged_now = L.taken log.new;
+      tolds = map (λ b. told b) deciders.new.items;
+      reads = F.faults files.old;
+      reads_now = F.faults files.new;
+      last = F.last_failed files.old;
+      last_now = F.last_failed files.new;
+      writes = O.faults out.old;
+      writes_now = O.faults out.new;
+      logs = L.faults log.old;
+      logs_now = L.faults log.new;
+    })
+        (log.new ≡ log.old) result }
+    ensures kept { F.contents files.new ≡ F.contents files.old }
+    ensures deciders { length deciders.new.items ≡ length deciders.old.items }
+{
+    match work_of(alloc, files, words) {
+        Ok(Some(work)) => end_work(alloc, work, out, log, deciders),
+        Ok(None) => put_line(USAGE, Status::Usage, out),
+        Err(Stop::Refused(line)) => put_line(line.as_slice(), Status::Refused, out),
+        Err(Stop::ReadFault) => Status::ReadFault,
+        Err(Stop::Memory) => Status::Memory,
     }
 }
 
@@ -101,17 +171,5 @@ pub fn run<F: Files, O: Sink, L: Sink>(
     ensures kept { F.contents files.new ≡ F.contents files.old }
     ensures deciders { length deciders.new.items ≡ length deciders.old.items }
 {
-    match work_of(alloc, files, words) {
-        Ok(Some(work)) => put_answers(alloc, &work, out, log, deciders),
-        Ok(None) => match out.write(USAGE) {
-            Ok(()) => Status::Usage,
-            Err(_) => Status::WriteFault,
-        },
-        Err(Stop::Refused(line)) => match out.write(line.as_slice()) {
-            Ok(()) => Status::Refused,
-            Err(_) => Status::WriteFault,
-        },
-        Err(Stop::ReadFault) => Status::ReadFault,
-        Err(Stop::Memory) => Status::Memory,
-    }
+    do_work(alloc, words, files, out, log, deciders)
 }
