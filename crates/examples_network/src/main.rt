@@ -4,8 +4,9 @@
 //! A line without `%` is a line of the text; `%raw TEXT` adds a text in which `|` is the end of a line and `~` a carriage
 //! return, and `%repeat FROM TO LINE` a line for each number. `%router` reads the text as a router's, `%routers FROM TO
 //! LINE` a router of one line for each number, and `%network` makes the network of the routers so far. `%failed LINKS`
-//! says which links have failed, `%track COMMUNITIES/NUMBERS/CLUSTERS` what the network tracks too, `%candidate ROUTE MED IDENTIFIER` adds a candidate, and `%clear` forgets the text, the
-//! routers that are in no network, and the candidates. `% TEXT` is a remark.
+//! says which links have failed, `%track COMMUNITIES/NUMBERS/CLUSTERS` what the network tracks too, `%candidate ROUTE
+//! IDENTIFIER OTHERS` adds a candidate, and `%clear` forgets the text, the routers that are in no network, and the
+//! candidates. `% TEXT` is a remark.
 //!
 //! Each other order asks: `%WORD NAME: WORDS = ANSWER`. What its words are stands where it is answered. Where the answer
 //! is as it says, the program prints `ok NAME`, and else what it got; without an answer it prints what it got.

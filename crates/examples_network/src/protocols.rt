@@ -3,7 +3,8 @@
 
 use crate::page::Page;
 use crate::routes::{
-    held, held_with, message, ospf_record, show_entry, show_ospf_record, show_route, show_sent,
+    held, held_with, message, ospf_record, others_in, show_entry, show_ospf_record, show_route,
+    show_sent, with_others,
 };
 use crate::setup::Setup;
 use crate::words::{address, cut, number, prefix};
@@ -83,16 +84,16 @@ pub fn show_offer(out: &mut Page, order: &str) {
     }
 }
 
-/// `ROUTE MED IDENTIFIER`: an external candidate of cost 0.
+/// `LENGTH AS PEER IDENTIFIER OTHERS`: a candidate, external and of cost 0 unless these say otherwise.
 pub fn candidate(out: &mut Page, order: &str) -> Candidate {
-    let (mut rec, rest) = held(out, order);
-    let (med, peer_id) = cut(rest);
-    rec.med = number(med);
+    let (rec, rest) = held(out, order);
+    let (peer_id, rest) = cut(rest);
+    let more = others_in(out, rest);
     Candidate {
-        rec,
-        external: true,
-        cost: 0,
+        external: more.external,
+        cost: more.cost,
         peer_id: address(peer_id),
+        rec: with_others(rec, more),
     }
 }
 

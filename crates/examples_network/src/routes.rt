@@ -62,13 +62,21 @@ pub fn held<'a>(out: &mut Page, text: &'a str) -> (BgpRec, &'a str) {
     (plain(out, learnt, address(from), path), rest)
 }
 
-/// What may follow a route or a message: `communities=N,N`, `clusters=A,A`, `originator=A` and `med=N`.
+/// What may follow a route, a message or a candidate, in words `KEY=WORD`: `weight`, `preference`, `origin`, `med`,
+/// `cost` and `session` with a number or a name, `path` and `communities` with numbers, `clusters` and `originator` with
+/// addresses.
 #[derive(Drop)]
 pub struct Others {
+    weight: u32,
+    preference: Option<u32>,
+    origin: Origin,
+    med: Option<u32>,
+    pub cost: u32,
+    pub external: bool,
+    path: List<u32>,
     communities: List<u32>,
     clusters: List<Addr>,
     originator: Option<Addr>,
-    med: Option<u32>,
 }
 
 /// Addresses with commas between them.
@@ -80,21 +88,47 @@ fn addresses(out: &mut Page, text: &str) -> List<Addr> {
     all
 }
 
-fn put_other(out: &mut Page, made: &mut Others, key: &str, word: &str) {
+fn origin_named(word: &str) -> Origin {
+    match word {
+        "egp" => Origin::Egp,
+        "incomplete" => Origin::Incomplete,
+        _ => Origin::Igp,
+    }
+}
+
+fn put_word(made: &mut Others, key: &str, word: &str) {
     match key {
-        "communities" => made.communities = numbers(out, word),
-        "clusters" => made.clusters = addresses(out, word),
+        "weight" => made.weight = number(word),
+        "preference" => made.preference = Some(number(word)),
+        "origin" => made.origin = origin_named(word),
+        "cost" => made.cost = number(word),
+        "session" => made.external = word == "external",
         "originator" => made.originator = Some(address(word)),
         _ => made.med = Some(number(word)),
     }
 }
 
-fn others_in(out: &mut Page, text: &str) -> Others {
+fn put_other(out: &mut Page, made: &mut Others, key: &str, word: &str) {
+    match key {
+        "path" => made.path = numbers(out, word),
+        "communities" => made.communities = numbers(out, word),
+        "clusters" => made.clusters = addresses(out, word),
+        _ => put_word(made, key, word),
+    }
+}
+
+pub fn others_in(out: &mut Page, text: &str) -> Others {
     let mut made = Others {
+        weight: 0,
+        preference: None,
+        origin: Origin::Igp,
+        med: None,
+        cost: 0,
+        external: true,
+        path: out.none(),
         communities: out.none(),
         clusters: out.none(),
         originator: None,
-        med: None,
     };
     for pair in text.split(' ') {
         if let Some((key, word)) = pair.split_once('=') {
@@ -104,15 +138,36 @@ fn others_in(out: &mut Page, text: &str) -> Others {
     made
 }
 
-/// `LENGTH AS PEER OTHERS`: a route with these communities, clusters, originator and MED.
+/// Its path, or where that has no number the other.
+fn path_or(path: List<u32>, other: List<u32>) -> List<u32> {
+    if path.as_slice().is_empty() {
+        other
+    } else {
+        path
+    }
+}
+
+/// The route with what follows it.
+pub fn with_others(rec: BgpRec, more: Others) -> BgpRec {
+    BgpRec {
+        from: rec.from,
+        weight: more.weight,
+        local_pref: more.preference.unwrap_or(rec.local_pref),
+        path: path_or(more.path, rec.path),
+        origin: more.origin,
+        med: more.med.unwrap_or(0),
+        communities: more.communities,
+        next_hop: rec.next_hop,
+        originator: more.originator,
+        clusters: more.clusters,
+    }
+}
+
+/// `LENGTH AS PEER OTHERS`: a route.
 pub fn held_with(out: &mut Page, text: &str) -> BgpRec {
-    let (mut rec, rest) = held(out, text);
+    let (rec, rest) = held(out, text);
     let more = others_in(out, rest);
-    rec.communities = more.communities;
-    rec.clusters = more.clusters;
-    rec.originator = more.originator;
-    rec.med = more.med.unwrap_or(0);
-    rec
+    with_others(rec, more)
 }
 
 /// `LENGTH AS NEXT-HOP ORIGINATOR OTHERS`. An originator that is no address is none.
@@ -124,9 +179,9 @@ pub fn message(out: &mut Page, text: &str) -> BgpMsg {
     let path = path_of(out, number(len), number(asn));
     let more = others_in(out, rest);
     BgpMsg {
-        local_pref: None,
-        path,
-        origin: Origin::Igp,
+        local_pref: more.preference,
+        path: path_or(more.path, path),
+        origin: more.origin,
         med: more.med,
         communities: more.communities,
         next_hop: address(next_hop),
@@ -227,6 +282,8 @@ pub fn show_route(out: &mut Page, rec: &BgpRec) {
 
 /// What is sent of a route.
 pub fn show_sent(out: &mut Page, sent: &BgpMsg) {
+    out.number_if(" preference ", sent.local_pref);
+    out.put(origin_name(sent.origin));
     show_path(out, sent.path.as_slice());
     out.address(" next hop ", sent.next_hop);
     out.number_if(" med ", sent.med);
