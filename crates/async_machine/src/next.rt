@@ -1,6 +1,7 @@
 //! The event that comes next by itself.
 
 ghost use Rattle.std.specs.Prelude.{◌≡◌, ◌*◌, ◌<◌, IfOk, IfSome, length, position};
+ghost use Rattle.machine_decisions.specs.Touched.{AreKnown};
 ghost use Rattle.machine_laws.specs.Quiet as quiet;
 ghost use Rattle.machine_sending.specs.Plans.{HasChannels};
 ghost use Rattle.route_candidates.specs.Underlays.{IsUnderlay};
@@ -48,8 +49,10 @@ pub fn next_event(
     d: Addr,
     state: &State,
     underlay: &Underlay,
+    known: &[Option<bool>],
 ) -> Result<Option<Event>, AllocError>
     requires underlay { IsUnderlay net.now.files state.now.failures underlay.now }
+    requires known { AreKnown net.now.files d state.now known.now }
     requires channels { HasChannels net.now.files state.now }
     requires size { length state.now.tables.slots ≡ LENGTHS * length net.now.files }
     ensures { IfOk result (λ next. next ≡ quiet.next_event net.now.files d state.now) }
@@ -63,7 +66,7 @@ pub fn next_event(
             adjacency: at as u32,
         }));
     }
-    match first_unsettled(alloc, net, d, state, underlay)? {
+    match first_unsettled(alloc, net, d, state, underlay, known)? {
         None => Ok(None),
         Some(place) => Ok(Some(decide_at(net, place))),
     }

@@ -9,7 +9,7 @@ ghost use Rattle.net_parts.specs.Sessions.{external_ends};
 ghost use Rattle.net_parts.specs.Stable.{Stable};
 
 use crate::next::next_event;
-use crate::starting::{read_addresses, start};
+use crate::starting::{first_look, read_addresses, start};
 use crate::taking::take;
 use machine_laws::{Event, EventRefused, State};
 use mw_text::{Addr, List};
@@ -28,6 +28,7 @@ pub struct Machine {
     destination: Addr,
     state: State,
     underlay: Underlay,
+    known: List<Option<bool>>,
 }
 
 impl Model for Machine {
@@ -64,12 +65,14 @@ impl Machine {
         read_addresses(ids.as_slice());
         let state = start(alloc, &net, ids)?;
         let underlay = underlay_of(alloc, &net, &state.failures)?;
+        let known = first_look(alloc, &net, d, &state, &underlay)?;
         Ok(Machine {
             alloc,
             net,
             destination: d,
             state,
             underlay,
+            known,
         })
     }
 
@@ -91,6 +94,7 @@ impl Machine {
             self.destination,
             &mut self.state,
             &mut self.underlay,
+            &mut self.known,
             event,
         )
     }
@@ -110,6 +114,7 @@ impl Machine {
             self.destination,
             &self.state,
             &self.underlay,
+            self.known.as_slice(),
         )
     }
 
@@ -127,6 +132,7 @@ impl Machine {
             self.destination,
             &self.state,
             &self.underlay,
+            self.known.as_slice(),
         )?;
         Ok(told_quiet(&self.net, self.destination, &self.state, &next))
     }

@@ -1,14 +1,18 @@
 //! The state in which a machine starts.
 
-ghost use Rattle.std.specs.Prelude.{◌≡◌, ◌*◌, ◌<◌, ◌^◌, All, IfOk, length, replicate};
+ghost use Rattle.std.specs.Prelude.{◌≡◌, ◌*◌, ◌<◌, ◌^◌, All, IfOk, None, length, replicate};
+ghost use Rattle.machine_decisions.specs.Touched.{AreKnown};
 ghost use Rattle.machine_laws.specs.Channels as channels;
 ghost use Rattle.machine_laws.specs.Events as events;
+ghost use Rattle.route_candidates.specs.Underlays.{IsUnderlay};
 ghost use Rattle.route_record.specs.Fits.{IsAddress};
 
 use machine_channels::silent;
+use machine_decisions::look_at_all;
 use machine_laws::{Channel, State};
 use mw_text::{Addr, List};
 use net_model::Net;
+use route_candidates::Underlay;
 use route_record::{Environment, Failures, LENGTHS, Slot, Tables};
 use std::alloc::{AllocError, Global};
 
@@ -80,4 +84,32 @@ pub fn start(alloc: Global, net: &Net, ids: List<Addr>) -> Result<State, AllocEr
             announced: List::new(alloc),
         },
     })
+}
+
+// That nothing is known of so many places.
+#[tactic(auto, using(machine_channels::proofs::Made::replicate_more))]
+fn nothing_known(alloc: Global, count: usize) -> Result<List<Option<bool>>, AllocError>
+    ensures { IfOk result (λ made. made ≡ replicate count None) }
+{
+    let mut made = List::new(alloc);
+    for at in 0..count {
+        made.items.push(None)?;
+    }
+    Ok(made)
+}
+
+/// What is known of the decisions at all places of the tables once each was looked at.
+pub fn first_look(
+    alloc: Global,
+    net: &Net,
+    d: Addr,
+    state: &State,
+    underlay: &Underlay,
+) -> Result<List<Option<bool>>, AllocError>
+    requires underlay { IsUnderlay net.now.files state.now.failures underlay.now }
+    ensures { IfOk result (AreKnown net.now.files d state.now) }
+{
+    let mut known = nothing_known(alloc, state.tables.slots.as_slice().len())?;
+    look_at_all(alloc, net, d, state, underlay, &mut known);
+    Ok(known)
 }

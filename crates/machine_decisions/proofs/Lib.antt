@@ -1,3 +1,5 @@
 pub mod Received
 pub mod Places
 pub mod Left
+pub mod Untouched
+pub mod KnownLaws

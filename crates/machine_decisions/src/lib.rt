@@ -5,8 +5,12 @@
 mod deciding;
 mod heard;
 mod kept;
+mod known;
 mod learnt;
 mod settled;
+mod touched;
 
 pub use deciding::decided;
+pub use known::{look_again, look_at_all};
 pub use settled::{first_unsettled, is_unsettled};
+pub use touched::{Touched, touched_by};

@@ -2,6 +2,7 @@
 
 ghost use Rattle.std.specs.Prelude.{◌≡◌, ◌<◌, ◌*◌, IfOk, IfSome, Some, length, not, position, slice_get};
 ghost use Rattle.std.specs.List.{range_with_len};
+ghost use Rattle.machine_decisions.specs.Touched.{AreKnown};
 ghost use Rattle.machine_laws.specs.Deciding as deciding;
 ghost use Rattle.machine_laws.specs.Quiet as quiet;
 ghost use Rattle.mw_text.specs.Address.{prefix_at};
@@ -71,8 +72,8 @@ pub fn is_unsettled(
     would_change(alloc, net, d, state, underlay, router, file, len, slot)
 }
 
-// The same at a place of the tables.
-fn is_unsettled_at(
+/// The same at a place of the tables.
+pub fn is_unsettled_at(
     alloc: Global,
     net: &Net,
     d: Addr,
@@ -97,8 +98,29 @@ fn is_unsettled_at(
     )
 }
 
+// The same, by what is known of the place, if something is.
+fn would_at(
+    alloc: Global,
+    net: &Net,
+    d: Addr,
+    state: &State,
+    underlay: &Underlay,
+    known: &[Option<bool>],
+    place: usize,
+) -> Result<bool, AllocError>
+    requires underlay { IsUnderlay net.now.files state.now.failures underlay.now }
+    requires known { AreKnown net.now.files d state.now known.now }
+    requires within { place < LENGTHS * length net.now.files }
+    ensures { IfOk result (λ would. would ≡ quiet.is_unsettled_at net.now.files d state.now place) }
+{
+    if let Some(Some(would)) = known.get(place) {
+        return Ok(*would);
+    }
+    is_unsettled_at(alloc, net, d, state, underlay, place)
+}
+
 /// The first place of the tables, by router and then by length, at which a decision would change the slot. None exactly
-/// where no decision would change one.
+/// where no decision would change one. A decision is made where nothing is known of it.
 #[tactic(auto, using(crate::proofs::Places::passes_on, crate::proofs::Places::is_first, crate::proofs::Places::is_none))]
 pub fn first_unsettled(
     alloc: Global,
@@ -106,15 +128,17 @@ pub fn first_unsettled(
     d: Addr,
     state: &State,
     underlay: &Underlay,
+    known: &[Option<bool>],
 ) -> Result<Option<usize>, AllocError>
     requires underlay { IsUnderlay net.now.files state.now.failures underlay.now }
+    requires known { AreKnown net.now.files d state.now known.now }
     requires size { length state.now.tables.slots ≡ LENGTHS * length net.now.files }
     ensures value { IfOk result (λ at. at ≡ position (quiet.is_unsettled_at net.now.files d state.now)
         (range_with_len 0 (length state.now.tables.slots))) }
     ensures within { IfOk result (λ at. IfSome at (λ place. place < length state.now.tables.slots)) }
 {
     for place in 0..state.tables.slots.as_slice().len() {
-        if is_unsettled_at(alloc, net, d, state, underlay, place)? {
+        if would_at(alloc, net, d, state, underlay, known, place)? {
             return Ok(Some(place));
         }
     }

@@ -9,4 +9,5 @@ invariant_of-result c = record {
       (reached_start c.args.net.files c.args.d c.args.ids
       (c.requires, rw c.as_slice.ensures at c.read_addresses.ensures));
   underlay = c.in_ok-underlay.ensures;
+  known = c.in_ok-known.ensures;
 }

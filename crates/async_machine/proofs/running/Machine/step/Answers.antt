@@ -14,4 +14,5 @@ invariant_of-self c =
       reached = reached_either m.net.files m.destination m.state c.take.new.state c.args.event c.take.result
           c.self.invariant.reached c.take.ensures.takes.ok c.take.ensures.takes.unchanged;
       underlay = c.take.ensures.underlay;
+      known = c.take.ensures.known;
     }
