@@ -1,3 +1,4 @@
 pub mod Answering
+pub mod Completeness
 pub mod Ending
 pub mod Runs

@@ -9,6 +9,7 @@ ghost use Rattle.run_inputs.specs.Due.{IsDue, Outcome};
 ghost use Rattle.run_inputs.specs.Loading.{ComesTo, IsReady};
 ghost use Rattle.run_inputs.specs.Order.{StopsIn, in_order};
 ghost use Rattle.run_inputs.specs.Texts.{usage_text};
+ghost use Rattle.mw_verify.specs.Completeness.{IsComplete};
 ghost use Rattle.mw_verify.specs.Runs.{EndsSo, PrintsSo};
 
 use crate::generated::put_ring;
@@ -139,6 +140,29 @@ pub fn run<F: Files, O: Sink, L: Sink>(
     ensures answered { OnAnswered result ((outcome : Outcome) × IsDue (F.contents files.old) (map string_bytes words.now) outcome
         × IsAnswered outcome result (O.taken out.old) (O.taken out.new) (L.taken log.old) (L.taken log.new)
         (map (λ b. told b) deciders.new.items)) }
+
+    // Completeness: where no count of faults rose and the contents of the files are told (`gen` reads none), what is due comes
+    // whole, or memory was wanting. Of words that are a command, over files in the profile and its limits, `verify` and `gen`
+    // print a verdict for each question with 0, 1 or 2; `check`, `replay` and `simulate`, whose own file is read without a
+    // refusal, print their answer with 0 or 1. Other words get the usage line with 3, another file its refusal with 4.
+    ensures complete { IsComplete (record {
+      told = F.contents files.old;
+      words = map string_bytes words.now;
+      before = O.taken out.old;
+      now = O.taken out.new;
+      logged_before = L.taken log.old;
+      logged_now = L.taken log.new;
+      tolds = map (λ b. told b) deciders.new.items;
+      reads = F.faults files.old;
+      reads_now = F.faults files.new;
+      last = F.last_failed files.old;
+      last_now = F.last_failed files.new;
+      writes = O.faults out.old;
+      writes_now = O.faults out.new;
+      logs = L.faults log.old;
+      logs_now = L.faults log.new;
+    })
+        result }
 
     // With 3 the words are no command, and exactly the usage line stands. Where they are none, only a fault of writing and
     // want of memory come in its place.
