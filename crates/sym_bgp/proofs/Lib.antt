@@ -1,5 +1,7 @@
 pub mod Marks
 pub mod Addresses
+pub mod BesideLaw
+pub mod BesideSteps
 pub mod BestSteps
 pub mod FlagSteps
 pub mod HeldSteps

@@ -8,6 +8,7 @@ ghost use Rattle.term_arith.specs.Bits.{bits, number, ids_end};
 ghost use Rattle.sym_policy.specs.Held.{bgp_at, bgp_of, bgp_end};
 ghost use Rattle.bgp_shapes.specs.Candidates.{address_or as address_number_or, shape_key};
 ghost use Rattle.bgp_shapes.specs.Messages.{lacks_address};
+ghost use Rattle.sym_bgp.specs.Beside.{key_beside};
 ghost use Rattle.sym_bgp.specs.Candidates.{candidate_at, candidate_end, candidates_end};
 ghost use Rattle.sym_bgp.specs.Keys.{key_at, key_end, keys_at, keys_end, mark_end, rank_at, rank_end, reach_at};
 ghost use Rattle.sym_bgp.specs.Keys.{reach_end, tie_at, tie_end};
@@ -16,7 +17,7 @@ use crate::parts::{SymAddress, SymCand, SymKey, SymMark, SymRank, SymReach, SymT
 use mw_text::List;
 use std::alloc::{AllocError, Global};
 use sym_policy::SymBgp;
-use term_arith::gates::negate;
+use term_arith::gates::{constant_node, negate};
 use term_arith::{Bits, choose, constant, copy};
 use term_store::{NodeId, Terms};
 
@@ -126,19 +127,19 @@ fn rank(alloc: Global, terms: &mut Terms, rec: &SymBgp) -> Result<SymRank, Alloc
 }
 
 /// What the next steps compare.
-fn reach(alloc: Global, cand: &SymCand) -> Result<SymReach, AllocError>
-    ensures within { IfOk result (λ r. (n : ℕ) → candidate_end cand.now ≤ n → reach_end r ≤ n) }
+fn reach(alloc: Global, rec: &SymBgp, external: NodeId) -> Result<SymReach, AllocError>
+    ensures within { IfOk result (λ r. (n : ℕ) → bgp_end rec.now ≤ n → external.0 < n → reach_end r ≤ n) }
     ensures value { IfOk result (λ r. (w : Reading) → reach_at w r ≡ record {
-      origin = number w cand.now.rec.origin.nodes.items;
-      first = number w cand.now.rec.first.nodes.items;
-      med = number w cand.now.rec.med.nodes.items;
-      external = at w cand.now.external;
+      origin = number w rec.now.origin.nodes.items;
+      first = number w rec.now.first.nodes.items;
+      med = number w rec.now.med.nodes.items;
+      external = at w external;
     }) }
 {
-    let external = mark(alloc, cand.external)?;
-    let origin = copy(alloc, &cand.rec.origin)?;
-    let first = copy(alloc, &cand.rec.first)?;
-    let med = copy(alloc, &cand.rec.med)?;
+    let external = mark(alloc, external)?;
+    let origin = copy(alloc, &rec.origin)?;
+    let first = copy(alloc, &rec.first)?;
+    let med = copy(alloc, &rec.med)?;
     Ok(SymReach {
         origin,
         first,
@@ -162,27 +163,67 @@ fn peer_address(alloc: Global, terms: &mut Terms, from: &Bits) -> Result<Bits, A
 }
 
 /// What the last steps compare.
-fn tie(alloc: Global, terms: &mut Terms, cand: &SymCand) -> Result<SymTie, AllocError>
-    requires { candidate_end cand.now ≤ size terms.old }
+fn tie(
+    alloc: Global,
+    terms: &mut Terms,
+    rec: &SymBgp,
+    cost: &Bits,
+    peer_id: &Bits,
+) -> Result<SymTie, AllocError>
+    requires cost_wide { length cost.now.nodes.items ≡ 32 }
+    requires peer_id_wide { length peer_id.now.nodes.items ≡ 32 }
+    requires rec { bgp_end rec.now ≤ size terms.old }
+    requires cost { ids_end cost.now.nodes.items ≤ size terms.old }
+    requires peer_id { ids_end peer_id.now.nodes.items ≤ size terms.old }
     ensures builds { Builds terms.old terms.new }
     ensures within { IfOk result (λ r. tie_end r ≤ size terms.new) }
     ensures value { Gives terms.new result (λ w r. tie_at w r ≡ record {
-      cost = number w cand.now.cost.nodes.items;
-      id = address_number_or (number w cand.now.rec.originator.nodes.items) (number w cand.now.peer_id.nodes.items);
-      clusters = number w cand.now.rec.cluster_len.nodes.items;
-      address = address_number_or (number w cand.now.rec.from.nodes.items) 0;
+      cost = number w cost.now.nodes.items;
+      id = address_number_or (number w rec.now.originator.nodes.items) (number w peer_id.now.nodes.items);
+      clusters = number w rec.now.cluster_len.nodes.items;
+      address = address_number_or (number w rec.now.from.nodes.items) 0;
     }) }
 {
-    let id = address_or(alloc, terms, &cand.rec.originator, &cand.peer_id)?;
-    let address = peer_address(alloc, terms, &cand.rec.from)?;
-    let cost = copy(alloc, &cand.cost)?;
-    let clusters = copy(alloc, &cand.rec.cluster_len)?;
+    let id = address_or(alloc, terms, &rec.originator, peer_id)?;
+    let address = peer_address(alloc, terms, &rec.from)?;
+    let cost = copy(alloc, cost)?;
+    let clusters = copy(alloc, &rec.cluster_len)?;
     Ok(SymTie {
         cost,
         id,
         clusters,
         address,
     })
+}
+
+/// What the steps compare of a route with these marks.
+fn key_from(
+    alloc: Global,
+    terms: &mut Terms,
+    rec: &SymBgp,
+    external: NodeId,
+    cost: &Bits,
+    peer_id: &Bits,
+) -> Result<SymKey, AllocError>
+    requires cost_wide { length cost.now.nodes.items ≡ 32 }
+    requires peer_id_wide { length peer_id.now.nodes.items ≡ 32 }
+    requires rec { bgp_end rec.now ≤ size terms.old }
+    requires external { external.0 < size terms.old }
+    requires cost { ids_end cost.now.nodes.items ≤ size terms.old }
+    requires peer_id { ids_end peer_id.now.nodes.items ≤ size terms.old }
+    ensures builds { Builds terms.old terms.new }
+    ensures within { IfOk result (λ r. key_end r ≤ size terms.new) }
+    ensures value { Gives terms.new result (λ w r. key_at w r ≡ shape_key record {
+      rec = bgp_at w rec.now;
+      external = at w external;
+      cost = number w cost.now.nodes.items;
+      peer_id = number w peer_id.now.nodes.items;
+    }) }
+{
+    let rank = rank(alloc, terms, rec)?;
+    let tie = tie(alloc, terms, rec, cost, peer_id)?;
+    let reach = reach(alloc, rec, external)?;
+    Ok(SymKey { rank, reach, tie })
 }
 
 /// What the steps compare of a candidate.
@@ -192,10 +233,30 @@ fn sym_key(alloc: Global, terms: &mut Terms, cand: &SymCand) -> Result<SymKey, A
     ensures within { IfOk result (λ r. key_end r ≤ size terms.new) }
     ensures value { Gives terms.new result (λ w r. key_at w r ≡ shape_key (candidate_at w cand.now)) }
 {
-    let rank = rank(alloc, terms, &cand.rec)?;
-    let reach = reach(alloc, cand)?;
-    let tie = tie(alloc, terms, cand)?;
-    Ok(SymKey { rank, reach, tie })
+    key_from(
+        alloc,
+        terms,
+        &cand.rec,
+        cand.external,
+        &cand.cost,
+        &cand.peer_id,
+    )
+}
+
+/// What the steps up to that of the origin compare of a route, in a key whose other numbers are 0.
+pub(crate) fn held_key(
+    alloc: Global,
+    terms: &mut Terms,
+    held: &SymBgp,
+) -> Result<SymKey, AllocError>
+    requires { bgp_end held.now ≤ size terms.old }
+    ensures builds { Builds terms.old terms.new }
+    ensures within { IfOk result (λ r. key_end r ≤ size terms.new) }
+    ensures value { Gives terms.new result (λ w r. key_at w r ≡ key_beside (bgp_at w held.now)) }
+{
+    let external = constant_node(terms, false)?;
+    let zero = constant(alloc, terms, 0, 32)?;
+    key_from(alloc, terms, held, external, &zero, &zero)
 }
 
 /// Puts a key at the end.

@@ -5,6 +5,7 @@
 //! as the function on shapes of its name (`bgp_shapes`), whose laws say what it stands for.
 #![tactic(auto)]
 
+mod beside;
 mod candidates;
 mod exporting;
 mod importing;

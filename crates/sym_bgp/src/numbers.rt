@@ -9,6 +9,7 @@ ghost use Rattle.term_arith.specs.Bits.{bits, number, ids_end};
 ghost use Rattle.bgp_shapes.specs.Numbers.{best_of, better_of, compared_number, is_greater_better, kept_by};
 ghost use Rattle.bgp_shapes.specs.Numbers.{wins as first_wins};
 ghost use Rattle.sym_bgp.specs.Best.{best_at, best_end};
+ghost use Rattle.sym_bgp.specs.Beside.{is_better, levels};
 ghost use Rattle.sym_bgp.specs.Keys.{IsCompared, compared_width, key_at, key_end, keys_at, keys_end};
 
 use crate::parts::{SymBest, SymKey};
@@ -17,7 +18,7 @@ use net_parts::Step;
 use std::alloc::{AllocError, Global};
 use term_arith::gates::{both, constant_node, either, negate};
 use term_arith::lists::put;
-use term_arith::{Bits, choose, constant, less};
+use term_arith::{Bits, choose, constant, equal, less};
 use term_store::{NodeId, Terms};
 
 /// The number that a step compares of a key.
@@ -77,6 +78,43 @@ fn wins(terms: &mut Terms, greater: bool, a: &Bits, b: &Bits) -> Result<NodeId, 
     } else {
         less(terms, a, b)
     }
+}
+
+/// Whether the first of two keys wins in a step.
+pub(crate) fn beats(
+    terms: &mut Terms,
+    step: Step,
+    a: &SymKey,
+    b: &SymKey,
+) -> Result<NodeId, AllocError>
+    requires first { key_end a.now ≤ size terms.old }
+    requires second { key_end b.now ≤ size terms.old }
+    ensures builds { Builds terms.old terms.new }
+    ensures within { IfOk result (λ r. r.0 < size terms.new) }
+    ensures value { Gives terms.new result (λ w r. at w r ≡ is_better step (key_at w b.now) (key_at w a.now)) }
+{
+    wins(
+        terms,
+        greater_wins(step),
+        compared(step, a),
+        compared(step, b),
+    )
+}
+
+/// Whether two keys are as good as each other in a step.
+pub(crate) fn is_level(
+    terms: &mut Terms,
+    step: Step,
+    a: &SymKey,
+    b: &SymKey,
+) -> Result<NodeId, AllocError>
+    requires first { key_end a.now ≤ size terms.old }
+    requires second { key_end b.now ≤ size terms.old }
+    ensures builds { Builds terms.old terms.new }
+    ensures within { IfOk result (λ r. r.0 < size terms.new) }
+    ensures value { Gives terms.new result (λ w r. at w r ≡ levels step (key_at w b.now) (key_at w a.now)) }
+{
+    equal(terms, compared(step, a), compared(step, b))
 }
 
 /// Whether no best is there that wins against a number.

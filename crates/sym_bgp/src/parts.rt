@@ -86,6 +86,13 @@ pub(crate) struct SymBest {
     pub number: Bits,
 }
 
+/// What is left beside a held route: whether nothing was better than it so far, and the flags of what is as good.
+#[derive(Drop)]
+pub(crate) struct SymBeside {
+    pub unbeaten: NodeId,
+    pub flags: Bits,
+}
+
 /// How a route goes on that was learnt over an end that is known: whether it may go, whether it gets the own address as
 /// next hop over an internal session, whether it is reflected, and the identifier of the peer from which it came.
 #[derive(Clone, Copy)]

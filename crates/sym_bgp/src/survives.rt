@@ -12,16 +12,20 @@ ghost use Rattle.bgp_shapes.specs.Flags.{any_flagged, surviving};
 ghost use Rattle.bgp_shapes.specs.Held.{held_shape, same_shape};
 ghost use Rattle.sym_bgp.specs.Candidates.{candidate_at, candidate_end, candidate_of, candidates_end, HaveMarksOf};
 ghost use Rattle.sym_bgp.specs.Candidates.{SameMarks};
+ghost use Rattle.sym_bgp.specs.Beside.{all_beside, beside_at, beside_end, key_beside};
+ghost use Rattle.sym_bgp.specs.Keys.{keys_at, keys_end};
 
-use crate::candidates::sym_keys;
-use crate::parts::SymCand;
+use crate::beside::sym_beside;
+use crate::candidates::{held_key, sym_keys};
+use crate::parts::{SymBeside, SymCand, SymKey};
 use crate::same::sym_same;
 use crate::steps::sym_surviving;
 use mw_text::List;
+use net_parts::Step;
 use std::alloc::{AllocError, Global};
 use sym_policy::SymBgp;
 use term_arith::Bits;
-use term_arith::gates::{both, constant_node, either, negate, select};
+use term_arith::gates::{both, constant_node, either, is_never, negate, select};
 use term_arith::lists::{any_of, put};
 use term_store::{NodeId, Terms};
 
@@ -86,6 +90,64 @@ fn any_held(
     Ok(any)
 }
 
+/// Whether the route of a candidate may be a reflected one.
+#[tactic(auto, using(crate::proofs::Addresses::address_steps))]
+fn may_be_reflected(terms: &Terms, cand: &SymCand) -> bool
+    requires { candidate_end cand.now ≤ size terms.now }
+{
+    let there = cand.rec.originator.nodes.as_slice()[32];
+    !is_never(terms, there)
+}
+
+/// Whether all identifiers are those of the peers, which are the same at all lengths.
+#[tactic(auto, using(crate::proofs::HeldSteps::key_steps))]
+fn are_fixed(terms: &Terms, cands: &[SymCand]) -> bool
+    requires { candidates_end cands.now ≤ size terms.now }
+{
+    for cand in cands {
+        if may_be_reflected(terms, cand) {
+            return false;
+        }
+    }
+    true
+}
+
+/// The steps whose numbers a route says itself.
+const RANKED: [Step; 5] = [
+    Step::Weight,
+    Step::Preference,
+    Step::Origination,
+    Step::PathLength,
+    Step::Origin,
+];
+
+/// What is left of the candidates that are there beside a route, after the steps up to that of the origin.
+fn first_left(
+    alloc: Global,
+    terms: &mut Terms,
+    there: Bits,
+    keys: &[SymKey],
+    held: &SymBgp,
+) -> Result<SymBeside, AllocError>
+    requires rows { length there.nodes.items ≡ length keys.now }
+    requires there { ids_end there.nodes.items ≤ size terms.old }
+    requires keys { keys_end keys.now ≤ size terms.old }
+    requires held { bgp_end held.now ≤ size terms.old }
+    ensures builds { Builds terms.old terms.new }
+    ensures within { IfOk result (λ r. beside_end r ≤ size terms.new) }
+    ensures rows { IfOk result (λ r. length r.flags.nodes.items ≡ length keys.now) }
+    ensures value { Gives terms.new result (λ w r. beside_at w r
+        ≡ all_beside (key_beside (bgp_at w held.now)) (keys_at w keys.now) (bits w there.nodes.items)) }
+{
+    let key = held_key(alloc, terms, held)?;
+    let unbeaten = constant_node(terms, true)?;
+    let before = SymBeside {
+        unbeaten,
+        flags: there,
+    };
+    sym_beside(alloc, terms, &RANKED, &key, before, keys)
+}
+
 /// Whether some candidate that survives has the shape of a route.
 fn survivor_held(
     alloc: Global,
@@ -109,15 +171,13 @@ fn survivor_held(
         (map shape_key (map (candidate_at w) cands.now))) (map (candidate_at w) cands.now)) }
 {
     let keys = sym_keys(alloc, terms, cands)?;
-    let left = sym_surviving(
-        alloc,
-        terms,
-        always_compare,
-        compare_id,
-        there,
-        keys.as_slice(),
-    )?;
-    any_held(terms, left.nodes.as_slice(), cands, held)
+    let keys = keys.as_slice();
+    let fixed = are_fixed(terms, cands);
+    let first = first_left(alloc, terms, there, keys, held)?;
+    let SymBeside { unbeaten, flags } = first;
+    let left = sym_surviving(alloc, terms, always_compare, compare_id, fixed, flags, keys)?;
+    let here = any_held(terms, left.nodes.as_slice(), cands, held)?;
+    both(terms, unbeaten, here)
 }
 
 /// Whether no node is true.
