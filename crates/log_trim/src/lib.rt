@@ -6,5 +6,5 @@ pub mod running;
 pub mod words;
 pub mod work;
 
-pub use running::run_trim;
+pub use running::{put_usage, run_trim, trim_words};
 pub use trimmed_logs::trim;

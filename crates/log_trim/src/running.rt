@@ -50,6 +50,32 @@ fn put_work<O: Sink>(work: Work, out: &mut O) -> Ended
     }
 }
 
+/// The command `trim LOG` over files and an output alone.
+pub fn trim_words<F: Files, O: Sink>(
+    alloc: Global,
+    words: &[String],
+    files: &mut F,
+    out: &mut O,
+) -> Ended
+    // By how it ends: what was read, and what stands.
+    ensures so { EndsSo (F.contents files.old) (map string_bytes words.now)
+        (record {
+          faults = F.faults files.old;
+          faults_now = F.faults files.new;
+          last = F.last_failed files.old;
+          last_now = F.last_failed files.new;
+        })
+        (record {
+          taken = O.taken out.old;
+          taken_now = O.taken out.new;
+          faults = O.faults out.old;
+          faults_now = O.faults out.new;
+        }) result }
+    ensures kept { F.contents files.new ≡ F.contents files.old }
+{
+    put_work(work_of(alloc, files, words), out)
+}
+
 /// The command `trim LOG`: reads the log, of at most 268,435,456 bytes, and prints its trimmed form, section by section.
 /// The whole log is tested before anything is printed; a log that is not one is refused at its first line that is wrong.
 /// Which words are the command is as `clap` reads them. Nothing is logged.
@@ -79,5 +105,5 @@ pub fn run_trim<F: Files, O: Sink, L: Sink>(
     ensures not_logged { log.new ≡ log.old }
     ensures deciders { length deciders.new.items ≡ length deciders.old.items }
 {
-    put_work(work_of(alloc, files, words), out)
+    trim_words(alloc, words, files, out)
 }

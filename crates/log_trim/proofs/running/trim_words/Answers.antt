@@ -1,5 +1,5 @@
 use Rattle.std.proofs.Common.{map, string_bytes}
-use Rattle.log_trim.proofs.running.run_trim.Goals as goal
+use Rattle.log_trim.proofs.running.trim_words.Goals as goal
 
 pub returns-clause-so : goal.returns-clause-so
 returns-clause-so g c =

@@ -1,0 +1,32 @@
+//! The command that the words begin with.
+
+ghost use Rattle.std.specs.Prelude.{◌≡◌, codes, map, string_bytes};
+ghost use Rattle.mw_text.specs.Text.{same_text};
+ghost use Rattle.extra_commands.specs.Commands as commands;
+
+/// The commands of the second program.
+#[derive(Clone, Copy)]
+pub enum Command {
+    /// `trim`: the trimmed form of a log.
+    Trim,
+    /// None that is built.
+    Unknown,
+}
+
+fn is_trim(word: &String) -> bool
+    ensures { result ≡ same_text (string_bytes word.now) (codes "trim") }
+{
+    word.as_str() == "trim"
+}
+
+/// The command that the words begin with.
+#[tactic(auto, unfolding(crate::specs::Commands::command_of))]
+pub fn command_of(words: &[String]) -> Command
+    ensures { result ≡ commands.command_of (map string_bytes words.now) }
+{
+    match words {
+        [] => Command::Unknown,
+        [name, ..] if is_trim(name) => Command::Trim,
+        _ => Command::Unknown,
+    }
+}

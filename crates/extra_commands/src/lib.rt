@@ -1,0 +1,8 @@
+//! The commands of the second program, by the first word.
+#![tactic(auto)]
+
+pub mod commands;
+pub mod running;
+
+pub use mw_load::{Ended, number_of};
+pub use running::run_extra;
