@@ -2,7 +2,6 @@
 
 use crate::runs::{Setup, contents_of, sink, status_of, words_of};
 use mw_outside::{TestFile, TestSink};
-use mw_verify::{Status, number_of};
 use std::alloc::Global;
 use std::io;
 
@@ -23,7 +22,7 @@ const MOST_CALLS: u64 = 100_000;
 /// What a run left: its status, and what its sinks took.
 #[derive(Drop)]
 struct Left {
-    status: Status,
+    status: u8,
     out: TestSink,
     log: TestSink,
 }
@@ -53,9 +52,9 @@ fn left_by(alloc: Global, files: &[TestFile], setup: Setup, line: &str) -> io::R
 fn is_as_due(failing: Failing, left: &Left, whole: &Left) -> bool {
     let (out, log) = (left.out.taken(), left.log.taken());
     match failing {
-        Failing::Read => number_of(left.status) == 5 && out.is_empty() && log.is_empty(),
+        Failing::Read => left.status == 5 && out.is_empty() && log.is_empty(),
         _ => {
-            number_of(left.status) == 6
+            left.status == 6
                 && whole.out.taken().starts_with(out)
                 && whole.log.taken().starts_with(log)
         }
@@ -81,7 +80,7 @@ pub fn show_faults(
     let whole = left_by(rt.alloc(), files, Setup::usual(), line)?;
     for call in 1..MOST_CALLS {
         let left = left_by(rt.alloc(), files, setup_for(failing, call), line)?;
-        if number_of(left.status) == number_of(whole.status) {
+        if left.status == whole.status {
             return match call {
                 1 => println!(rt; "{line}: no {}", name_of(failing)),
                 _ => println!(rt; "{line}: each of the {} failed once", name_of(failing)),

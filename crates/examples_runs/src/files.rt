@@ -40,11 +40,16 @@ pub fn add_line(files: &mut List<TestFile>, line: &str) -> io::Result<()> {
     Ok(())
 }
 
-/// Keeps a log as the file `k.log`.
-pub fn keep_log(alloc: Global, files: &mut List<TestFile>, log: &[u8]) -> io::Result<()> {
-    begin_file(alloc, files, "k.log")?;
+/// Keeps these bytes as the file of that name.
+pub fn keep_bytes(
+    alloc: Global,
+    files: &mut List<TestFile>,
+    name: &str,
+    bytes: &[u8],
+) -> io::Result<()> {
+    begin_file(alloc, files, name)?;
     if let Some(file) = files.items.last_mut() {
-        file.bytes.items.extend_from_slice(log)?;
+        file.bytes.items.extend_from_slice(bytes)?;
     }
     Ok(())
 }

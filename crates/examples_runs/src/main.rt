@@ -3,8 +3,9 @@
 //! `%file NAME` begins a file, in the place of an earlier one of that name, and its lines follow; `%clear` forgets all files.
 //! `%raw TEXT` adds a text to the last file in which `|` is the end of a line, `~` a carriage return and `^` a byte 0;
 //! `%pad N` adds `!` up to so many bytes. `%run WORDS` runs these words; `%verdicts WORDS` leaves out the lines of
-//! counterexamples, `%logged WORDS` prints the log as well, and `%kept WORDS` keeps it as the file `k.log`. Before it
-//! `%read N`, `%write N` and `%log N` say that its Nth read, write of the output and write of the log fails, and
+//! counterexamples, `%logged WORDS` prints the log as well, `%kept WORDS` keeps it as the file `k.log`, and `%saved WORDS`
+//! keeps the output as the file `t.log` in place of printing it. Words behind `mw_extra` are the second program's. Before
+//! it `%read N`, `%write N` and `%log N` say that its Nth read, write of the output and write of the log fails, and
 //! `%deciders N` that it has so many deciders in the place of two. `%replayed NAMES` runs `verify` with these names, and
 //! then `replay` of each counterexample. `%slowly WORDS` runs these words over files that give one byte a read.
 //! `%reads WORDS`, `%writes WORDS` and `%logs WORDS` run them again and again, of which the first read, write of the output
@@ -18,7 +19,7 @@ mod runs;
 mod slow;
 
 use crate::failing::{Failing, show_faults};
-use crate::files::{add_line, add_raw, begin_file, keep_log, pad};
+use crate::files::{add_line, add_raw, begin_file, keep_bytes, pad};
 use crate::runs::{Setup, Shown, show_replayed, show_run};
 use crate::slow::show_slowly;
 use mw_outside::TestFile;
@@ -44,9 +45,10 @@ fn run_next(
 ) -> io::Result<()> {
     let setup = case.setup;
     case.setup = Setup::usual();
-    let log = show_run(rt, case.files.as_slice(), setup, words, shown)?;
+    let left = show_run(rt, case.files.as_slice(), setup, words, shown)?;
     match shown {
-        Shown::Kept => keep_log(rt.alloc(), &mut case.files, log.taken()),
+        Shown::Kept => keep_bytes(rt.alloc(), &mut case.files, "k.log", left.taken()),
+        Shown::Saved => keep_bytes(rt.alloc(), &mut case.files, "t.log", left.taken()),
         _ => Ok(()),
     }
 }
@@ -98,6 +100,7 @@ fn take_order(
         "verdicts" => run_next(rt, case, rest, Shown::Verdicts),
         "logged" => run_next(rt, case, rest, Shown::Log),
         "kept" => run_next(rt, case, rest, Shown::Kept),
+        "saved" => run_next(rt, case, rest, Shown::Saved),
         _ => take_more(rt, case, word, rest),
     }
 }

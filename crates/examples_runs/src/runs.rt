@@ -2,9 +2,10 @@
 
 use crate::files::{add_line, begin_file, copy_files};
 use deciders::{Decider, OrderDecider, ScoreDecider};
+use extra_commands::run_extra;
 use mw_outside::{Files, TestFile, TestFiles, TestSink};
 use mw_text::List;
-use mw_verify::{Status, number_of, run};
+use mw_verify::run;
 use std::alloc::{AllocError, Global};
 use std::io;
 
@@ -41,6 +42,8 @@ pub enum Shown {
     Log,
     /// The output, and the log is kept as a file.
     Kept,
+    /// Nothing, and the output is kept as a file.
+    Saved,
 }
 
 /// The words of a line.
@@ -71,8 +74,9 @@ pub fn sink(alloc: Global, write: u64) -> Result<TestSink, AllocError> {
     TestSink::new(alloc, 10_000_000, writes)
 }
 
-/// Runs the words with so many deciders. What the run leaves in the files and the sinks is looked at afterwards, not said
-/// here.
+/// Runs the words with so many deciders, and answers the status: where the first is `mw_extra` the second program takes
+/// those behind it, and else the first program takes all. What the run leaves in the files and the sinks is looked at
+/// afterwards, not said here.
 pub fn status_of<F: Files>(
     alloc: Global,
     words: &[String],
@@ -80,7 +84,7 @@ pub fn status_of<F: Files>(
     out: &mut TestSink,
     log: &mut TestSink,
     count: u64,
-) -> Result<Status, AllocError> {
+) -> Result<u8, AllocError> {
     let mut deciders: Vec<Box<dyn Decider>> = Vec::new(alloc);
     if count > 0 {
         deciders.push(Box::new(alloc, ScoreDecider::new(alloc))?)?;
@@ -88,7 +92,13 @@ pub fn status_of<F: Files>(
     if count > 1 {
         deciders.push(Box::new(alloc, OrderDecider::new())?)?;
     }
-    Ok(run(alloc, words, contents, out, log, &mut deciders))
+    if words.is_empty() || words[0].as_str() != "mw_extra" {
+        let status = run(alloc, words, contents, out, log, &mut deciders);
+        return Ok(mw_verify::number_of(status));
+    }
+    let (_, others) = words.split_at(1);
+    let ended = run_extra(alloc, others, contents, out, log, &mut deciders);
+    Ok(extra_commands::number_of(ended))
 }
 
 fn show_bytes(rt: &impl Print, bytes: &[u8]) -> io::Result<()> {
@@ -124,6 +134,7 @@ fn show_taken(rt: &impl Print, out: &[u8], log: &[u8], shown: Shown) -> io::Resu
         Shown::Output | Shown::Kept => show_bytes(rt, out),
         Shown::Verdicts => show_verdicts(rt, out),
         Shown::Log => show_both(rt, out, log),
+        Shown::Saved => Ok(()),
     }
 }
 
@@ -131,12 +142,12 @@ fn show_taken(rt: &impl Print, out: &[u8], log: &[u8], shown: Shown) -> io::Resu
 pub fn show_result(
     rt: &impl Print,
     line: &str,
-    status: Status,
+    status: u8,
     out: &[u8],
     log: &[u8],
     shown: Shown,
 ) -> io::Result<()> {
-    println!(rt; "{line}: status {}", number_of(status))?;
+    println!(rt; "{line}: status {status}")?;
     show_taken(rt, out, log, shown)
 }
 
@@ -153,7 +164,10 @@ fn show_sinks(
     let (words, count) = (words.as_slice(), setup.deciders);
     let status = status_of(rt.alloc(), words, contents, &mut out, &mut log, count)?;
     show_result(rt, line, status, out.taken(), log.taken(), shown)?;
-    Ok(log)
+    match shown {
+        Shown::Saved => Ok(out),
+        _ => Ok(log),
+    }
 }
 
 // Files with a counterexample as one more of them.
@@ -211,10 +225,10 @@ fn show_then_replay(
     rt: &(impl Print + AllocGlobal),
     files: &[TestFile],
     names: &str,
-    status: Status,
+    status: u8,
     out: &[u8],
 ) -> io::Result<()> {
-    println!(rt; "verify {names}: status {}", number_of(status))?;
+    println!(rt; "verify {names}: status {status}")?;
     show_verdicts(rt, out)?;
     match std::str::from_utf8(out) {
         Ok(text) => replay_lines(rt, files, names, text),
@@ -250,7 +264,8 @@ pub fn show_replayed(
     show_then_replay(rt, files, names, status, out.taken())
 }
 
-/// Runs the words of a line, prints the status and what is asked of the output and the log, and answers the log.
+/// Runs the words of a line, prints the status and what is asked of the output and the log, and answers what can be kept:
+/// the output where it is saved, and else the log.
 pub fn show_run(
     rt: &(impl Print + AllocGlobal),
     files: &[TestFile],
