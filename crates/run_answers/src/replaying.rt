@@ -134,20 +134,26 @@ fn replay_text(alloc: Global, net: &Net, answer: &Option<ReplayNo>) -> Result<Li
     }
 }
 
-// A right answer with its line.
+/// A right answer, by whether it is `yes`, with its line.
 #[derive(Drop)]
-struct ReplayLine {
-    yes: bool,
-    text: List<u8>,
+pub struct ReplayLine {
+    pub yes: bool,
+    pub text: List<u8>,
 }
 
-fn replay_line(alloc: Global, told: &Told) -> Result<ReplayLine, AllocError>
-    requires { IsAdmitted told.now.net.files told.now.questions told.now.cex }
-    ensures { IfOk result (λ line. replays.IsReplayLine told.now.net.files told.now.questions told.now.cex line.yes line.text) }
+/// Whether a counterexample to one of the questions is true, with the line that says it. The one error is want of memory.
+pub fn replay_line(
+    alloc: Global,
+    net: &Net,
+    questions: &[Question],
+    cex: &Counterexample,
+) -> Result<ReplayLine, AllocError>
+    requires { IsAdmitted net.now.files questions.now cex.now }
+    ensures { IfOk result (λ line. replays.IsReplayLine net.now.files questions.now cex.now line.yes line.text) }
 {
-    let answer = replay_answer(alloc, &told.net, told.questions.as_slice(), &told.cex)?;
+    let answer = replay_answer(alloc, net, questions, cex)?;
     let yes = answer.is_none();
-    let text = replay_text(alloc, &told.net, &answer)?;
+    let text = replay_text(alloc, net, &answer)?;
     Ok(ReplayLine { yes, text })
 }
 
@@ -160,7 +166,7 @@ pub fn put_replay<O: Sink>(alloc: Global, told: &Told, out: &mut O) -> Status
         (O.taken out.old) (O.taken out.new) logged logged tolds (Rose (O.faults out.old) (O.faults out.new)) }
     ensures writes { result ≢ Status.WriteFault → O.faults out.new ≡ O.faults out.old }
 {
-    let line = match replay_line(alloc, told) {
+    let line = match replay_line(alloc, &told.net, told.questions.as_slice(), &told.cex) {
         Ok(line) => line,
         Err(_) => return Status::Memory,
     };
