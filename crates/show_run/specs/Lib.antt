@@ -1,0 +1,4 @@
+pub mod Pieces
+pub mod Due
+pub mod Said
+pub mod Runs
