@@ -56,4 +56,5 @@ suggested backup-link 21 backup-link/prepend.cfg backup-link/main.cfg backup-lin
 suggested two-way-redistribution 6 two-way-redistribution/*.cfg
 suggested two-orders 21 two-orders/*.cfg
 suggested short-prefix 10 short-prefix/*.cfg
+suggested no-stable-routing 40 no-stable-routing/*.cfg
 exit "$failed"

@@ -6,7 +6,7 @@
 //! LINE` a router of one line for each number, and `%network` makes the network of the routers so far. `%failed LINKS`
 //! says which links have failed, `%track COMMUNITIES/NUMBERS/CLUSTERS` what the network tracks too, `%candidate ROUTE
 //! IDENTIFIER OTHERS` adds a candidate, and `%clear` forgets the text, the routers that are in no network, and the
-//! candidates. `% TEXT` is a remark.
+//! candidates. `%grammar` prints the table by which questions are read. `% TEXT` is a remark.
 //!
 //! Each other order asks: `%WORD NAME: WORDS = ANSWER`. What its words are stands where it is answered. Where the answer
 //! is as it says, the program prints `ok NAME`, and else what it got; without an answer it prints what it got.
@@ -15,6 +15,7 @@
 mod asked;
 mod cex;
 mod each_word;
+mod grammar;
 mod lists;
 mod page;
 mod protocols;
@@ -64,6 +65,7 @@ fn take_order(out: &mut Page, setup: &mut Setup, order: &str) {
         "track" => track(out, setup, rest),
         "candidate" => take_candidate(out, setup, rest),
         "clear" => forget(out.alloc(), setup),
+        "grammar" => grammar::put_questions(out),
         _ => ask(out, setup, word, rest),
     }
 }
