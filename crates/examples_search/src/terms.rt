@@ -7,6 +7,7 @@ ghost use Rattle.term_arith.specs.Bits.{ids_end};
 use crate::clauses::show;
 use crate::printed::{first_word, number_in, numbers_in, show_values};
 use cnf_blaster::{blast, decoded};
+use grafted_terms::graft;
 use std::alloc::{AllocError, Global};
 use std::io;
 use term_arith::gates::{
@@ -211,7 +212,21 @@ fn take_node(
     println!(rt; "node {}", node.0)
 }
 
-/// `new` begins with an empty store, `at VALUES` prints the values of what was made last where the variables have these,
+/// Copies the nodes into a store that has one variable before them. The copies are what was made last.
+fn graft_behind(
+    alloc: Global,
+    terms: &mut Terms,
+    marked: &mut Vec<NodeId>,
+) -> Result<(), AllocError> {
+    let mut into = Terms::new(alloc);
+    into.fresh()?;
+    let copies = graft(alloc, &mut into, terms)?;
+    *terms = into;
+    *marked = copies.items;
+    Ok(())
+}
+
+/// `new` begins with an empty store, `graft` copies the store behind a variable, `at VALUES` prints the values of what was made last where the variables have these,
 /// `clauses ROOT VALUES` prints the clauses of a root and decodes values of their variables, `never NODE` prints whether a
 /// node is the constant false, `size` how many nodes and variables there are, and any other order makes a node.
 pub fn take(
@@ -230,6 +245,7 @@ pub fn take(
             *terms = Terms::new(rt.alloc());
             Ok(())
         }
+        "graft" => Ok(graft_behind(rt.alloc(), terms, marked)?),
         _ => take_node(rt, terms, marked, order),
     }
 }

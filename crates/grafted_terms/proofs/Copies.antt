@@ -10,7 +10,7 @@ use Rattle.term_store.specs.declared.Node.{Node}
 use Rattle.term_store.specs.Reading.{Stands}
 use Rattle.term_store.specs.Terms.{Store, Reading, at, gate, reading_by, values_of}
 use Rattle.term_store.proofs.Values.{values_after-append}
-use Rattle.term_arith.specs.Bits.{bits, ids_end}
+use Rattle.term_arith.specs.Bits.{bits}
 use Rattle.term_arith.proofs.NumberLemmas.{ids_end_at, ids_end_push, bits_push, bits_at}
 
 -- the copy of a number has its value

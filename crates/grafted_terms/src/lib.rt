@@ -87,11 +87,7 @@ fn copy_nodes(
 /// Copies all nodes of a store into another and answers their new numbers, in their order. The variables of the copies
 /// are new, in their order: under each reading of the larger store the copies have the values that their originals have
 /// under the values of the new variables.
-pub fn graft(
-    alloc: Global,
-    into: &mut Terms,
-    from: &Terms,
-) -> Result<List<NodeId>, AllocError>
+pub fn graft(alloc: Global, into: &mut Terms, from: &Terms) -> Result<List<NodeId>, AllocError>
     ensures grows { Grows into.old into.new }
     ensures vars { OnOk result (into.new.vars ≡ into.old.vars + from.now.vars) }
     ensures within { IfOk result (λ r. ids_end r ≤ size into.new) }
