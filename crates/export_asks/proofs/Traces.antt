@@ -8,13 +8,13 @@ use Rattle.export_asks.specs.declared.tracing.Next.{Next}
 use Rattle.export_asks.specs.Exported.{held_at, source_of, traced}
 use Rattle.export_asks.specs.Steps.{after}
 
-traced-suc : (files : List File) (tables : Tables) (len steps router : ℕ) → traced files tables len (suc steps) router
+pub traced-suc : (files : List File) (tables : Tables) (len steps router : ℕ) → traced files tables len (suc steps) router
     ≡ option_and_then (λ held. source_of files (traced files tables len steps) router held.from)
     (held_at tables router len)
 unfolding traced
 traced-suc files tables len steps router = refl
 
-traced-zero : (files : List File) (tables : Tables) (len router : ℕ) → traced files tables len zero router ≡ None
+pub traced-zero : (files : List File) (tables : Tables) (len router : ℕ) → traced files tables len zero router ≡ None
 unfolding traced
 traced-zero files tables len router = refl
 

@@ -42,7 +42,7 @@ fn place_to(files: &[File], ends: &[SessionEnd], peer: &AskPeer) -> Option<usize
 
 /// The place of the end towards an external peer among the ends. None where there is no such session.
 #[tactic(auto, using(route_candidates::proofs::FewEnds::few_ends))]
-fn end_to(net: &Net, peer: &AskPeer) -> Option<u32>
+pub fn end_to(net: &Net, peer: &AskPeer) -> Option<u32>
     ensures place { result ≡ exports.end_to net.now.files peer.now }
     ensures within { IfSome result (λ at. at < length (ends_of net.now.files)) }
 {
