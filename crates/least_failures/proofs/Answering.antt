@@ -289,11 +289,6 @@ seen_answers files questions budget w seen how is written all =
     by_kinds false true broken unknown = (written, whole false true broken unknown)
     by_kinds false false broken unknown = (written, whole false false broken unknown)
 
-pub cut_fault : (files : List File) (questions : List Question) (budget : ℕ) (w : Writes) → SomeWriteFailed w →
-    AreBegun files questions budget w.taken w.taken_now w.logged w.logged_now →
-    AnswersSo files questions budget w ended.WriteFault
-cut_fault files questions budget w rose begun = (rose, begun)
-
 -- a fault of what came after no fault is one since the beginning
 pub rose_since : (a b c d e f : ℕ) → b ≡ a → e ≡ d → Rose b c ⊎ Rose e f → Rose a c ⊎ Rose d f
 rose_since a b c d e f same too (inl rose) = let R : ℕ → Type 0 = λ n. Rose n c in inl (subst R same rose)

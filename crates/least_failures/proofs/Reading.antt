@@ -91,10 +91,10 @@ text_refused told name files line stopped =
     (λ contents there. ap (following (λ t. questions_of t files)) there)
 
 -- a stop at which no read failed
-pub quiet_stop : {A P : Type 0} (why : Stop) → P → UnlessReadFault {A = A} (Err why) P
-quiet_stop (stop.Refused line) p = p
-quiet_stop stop.ReadFault p = tt
-quiet_stop stop.Memory p = p
+pub quiet_stop : (A : Type 0) {P : Type 0} (why : Stop) → P → UnlessReadFault {A = A} (Err why) P
+quiet_stop A (stop.Refused line) p = p
+quiet_stop A stop.ReadFault p = tt
+quiet_stop A stop.Memory p = p
 
 -- ---- where reading stops
 

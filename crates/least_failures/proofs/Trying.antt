@@ -1,7 +1,7 @@
 -- Trials one after another.
 use Rattle.std.proofs.Common.{◌≡◌, ◌∙◌, ℕ, suc, ◌+◌, ◌<◌, ◌≤◌, true, false, cond, nat_eq, List, [], ◌∷◌, ◌++◌, length}
-use Rattle.std.proofs.Common.{Option, Some, None, refl, sym, ap, subst, arith, append_assoc, inl, inr}
-use Rattle.std.specs.Prelude.{◌⊎◌, ◌==◌, IfSome, slice_get, if◌then◌else◌}
+use Rattle.std.proofs.Common.{Option, Some, None, Result, refl, sym, ap, subst, arith, append_assoc, inl, inr}
+use Rattle.std.specs.Prelude.{◌⊎◌, ◌==◌, IfOk, IfSome, slice_get, if◌then◌else◌}
 use Rattle.std.specs.List.{last_or}
 use Rattle.std.proofs.lemmas.Bool.{cases_order}
 use Rattle.std.proofs.lemmas.List.{append-nil, length-append}
@@ -42,6 +42,15 @@ pub record Tried (files : List File) (question : Question) (budget k : ℕ) (log
 pub takes_none : (taken : Option (List ℕ)) → Takes taken taken []
 takes_none None = tt
 takes_none (Some bytes) = ap Some (sym (append-nil bytes))
+
+-- a search for what the trial asks is one for the trial
+pub told_of : {E : Type 0} (files : List File) (budget number : ℕ) (asked wanted : Question) (result : Result Verdict E)
+    (before now : Option (List ℕ)) (tolds : List (Option (List ℕ))) → asked ≡ wanted →
+    IfOk result (λ v. IsToldSo files budget number asked v before now tolds) →
+    IfOk result (λ v. IsToldSo files budget number wanted v before now tolds)
+told_of files budget number asked wanted result before now tolds is so =
+    let P : Question → Type 0 = λ q. IfOk result (λ v. IsToldSo files budget number q v before now tolds) in
+    subst P is so
 
 -- before the first
 pub tried_none : (files : List File) (question : Question) (budget : ℕ) (logged : Option (List ℕ))

@@ -19,12 +19,10 @@ abbrev pub none_text : Question → ℕ → List ℕ
 none_text question k = codes "none " ++ question.name ++ codes " up to " ++ decimal k ++ newline
 
 -- unknown NAME at k after N conflicts
-abbrev pub unknown_front_text : Question → ℕ → List ℕ
-unknown_front_text question k = codes "unknown " ++ question.name ++ codes " at " ++ decimal k
-
 abbrev pub unknown_text : Question → ℕ → ℕ → List ℕ
 unknown_text question k after =
-    unknown_front_text question k ++ codes " after " ++ decimal after ++ codes " conflicts" ++ newline
+    codes "unknown " ++ question.name ++ codes " at " ++ decimal k ++ codes " after " ++ decimal after
+    ++ codes " conflicts" ++ newline
 
 -- the lines of what is found of a question, for which so many clauses may be learnt
 abbrev pub least_text : List File → List Question → Question → ℕ → Least → List ℕ

@@ -1,7 +1,7 @@
 //! The lines of what is found.
 
 ghost use Rattle.std.specs.Prelude.{◌≡◌, IfOk, OnOk};
-ghost use Rattle.least_failures.specs.Lines.{at_text, least_text, none_text, unknown_front_text, unknown_text};
+ghost use Rattle.least_failures.specs.Lines.{at_text, least_text, none_text, unknown_text};
 ghost use Rattle.mw_outside.specs.Faults.{Rose};
 ghost use Rattle.mw_outside.specs.Taken.{Takes, TakesPart};
 ghost use Rattle.run_answers.specs.Answering.{OnWriteFault, UnlessWriteFault};
@@ -54,20 +54,6 @@ fn none_line(alloc: Global, question: &Question, k: u32) -> Result<List<u8>, All
     joined(alloc, &pieces)
 }
 
-// `unknown NAME at k`
-fn unknown_front(alloc: Global, question: &Question, k: u32) -> Result<List<u8>, AllocError>
-    ensures { IfOk result (λ text. text ≡ unknown_front_text question.now k) }
-{
-    let count = k.to_string(alloc)?;
-    let pieces: [&[u8]; 4] = [
-        b"unknown ",
-        question.name.as_slice(),
-        b" at ",
-        count.as_bytes(),
-    ];
-    joined(alloc, &pieces)
-}
-
 fn unknown_line(
     alloc: Global,
     question: &Question,
@@ -76,13 +62,17 @@ fn unknown_line(
 ) -> Result<List<u8>, AllocError>
     ensures { IfOk result (λ text. text ≡ unknown_text question.now k after) }
 {
-    let front = unknown_front(alloc, question, k)?;
+    let count = k.to_string(alloc)?;
     let learnt = after.to_string(alloc)?;
-    let pieces: [&[u8]; 4] = [
-        front.as_slice(),
+    let pieces: [&[u8]; 8] = [
+        b"unknown ",
+        question.name.as_slice(),
+        b" at ",
+        count.as_bytes(),
         b" after ",
         learnt.as_bytes(),
-        b" conflicts\n",
+        b" conflicts",
+        b"\n",
     ];
     joined(alloc, &pieces)
 }

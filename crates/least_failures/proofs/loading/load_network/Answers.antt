@@ -1,5 +1,6 @@
 use Rattle.std.proofs.Common.{map}
 use Rattle.std.specs.Prelude.{string_bytes}
+use Rattle.net_model.specs.Kept.{Network}
 use Rattle.run_inputs.proofs.Loading.{on_stop-map}
 use Rattle.least_failures.proofs.Reading.{network_read, network_refused, quiet_stop}
 use Rattle.least_failures.proofs.loading.load_network.Goals as goal
@@ -17,8 +18,8 @@ returns-in-Err-Refused-clause-stop g c =
 
 pub returns-in-Err-Refused-clause-quiet : goal.returns-in-Err-Refused-clause-quiet
 returns-in-Err-Refused-clause-quiet g c =
-    quiet_stop c.stop_at.result (rw c.in-Err-Refused.field-0-is at c.in-Err-Refused.ensures.quiet)
+    quiet_stop Network c.stop_at.result (rw c.in-Err-Refused.field-0-is at c.in-Err-Refused.ensures.quiet)
 
 pub returns-in-Err-Refused-clause-name_stays : goal.returns-in-Err-Refused-clause-name_stays
 returns-in-Err-Refused-clause-name_stays g c =
-    quiet_stop c.stop_at.result (rw c.in-Err-Refused.field-0-is at c.in-Err-Refused.ensures.name_stays)
+    quiet_stop Network c.stop_at.result (rw c.in-Err-Refused.field-0-is at c.in-Err-Refused.ensures.name_stays)

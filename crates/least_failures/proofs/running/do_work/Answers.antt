@@ -19,7 +19,7 @@ pub returns-in-Err-Refused-clause-so : goal.returns-in-Err-Refused-clause-so
 returns-in-Err-Refused-clause-so g c =
     let so = rw c.in-Err-Refused.field-0-is at c.in-Err-Refused.ensures.so in
     ends_refused (g.F.Files.contents c.args.files.now) (map string_bytes c.args.words.now) _ _ _ _ c.put_refusal.result
-    so.0 so.1 refl refl refl c.put_refusal.ensures
+    so.0 so.1 refl refl refl (rw c.in-Err-Refused.field-0-is at c.put_refusal.ensures)
 
 pub returns-in-Err-ReadFault-clause-so : goal.returns-in-Err-ReadFault-clause-so
 returns-in-Err-ReadFault-clause-so g c =
