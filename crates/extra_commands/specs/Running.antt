@@ -3,19 +3,25 @@ use Rattle.std.specs.Prelude.{ℕ, List, Option}
 use Rattle.mw_outside.specs.Contents.{Contents}
 use Rattle.mw_load.specs.declared.ended.Ended.{Ended}
 use Rattle.mw_load.specs.declared.ended.Ended.TheVariants as ended
+use Rattle.least_failures.specs.Answering.{Writes}
+use Rattle.least_failures.specs.Running as least
 use Rattle.log_trim.specs.Printing.{PrintsSo}
 use Rattle.log_trim.specs.Running as trim
 use Rattle.log_trim.specs.Texts.{usage_text}
 use Rattle.extra_commands.specs.declared.commands.Command.{Command}
-use Rattle.extra_commands.specs.declared.commands.Command.TheVariants.{Trim, Unknown}
+use Rattle.extra_commands.specs.declared.commands.Command.TheVariants.{Least, Trim, Unknown}
 
--- what a run begins with, and what it leaves: the contents of the files and the words, what reads have done, and what
--- writes of the output have
+-- what a run begins with, and what it leaves: the contents of the files and the words, what reads have done, what writes of
+-- the output and of the log have, and what the deciders tell
 pub record Course : Type 0 where
   pub told : Option Contents
   pub words : List (List ℕ)
   pub reads : trim.Reads
-  pub writes : trim.Writes
+  pub writes : Writes
+
+-- what writes of the output have done
+abbrev pub printed : Writes → trim.Writes
+printed w = record { taken = w.taken; taken_now = w.taken_now; faults = w.faults; faults_now = w.faults_now }
 
 -- the usage line is printed, and nothing is read
 abbrev pub EndsUsage : Course → Ended → Type 0
@@ -25,5 +31,13 @@ EndsUsage c result =
 
 -- Each command ends as its own call does, where `Unlogged` says that nothing is logged.
 abbrev pub EndsSo : Command → Course → Type 0 → Ended → Type 0
-EndsSo Trim c Unlogged result = trim.EndsSo c.told c.words c.reads c.writes result × Unlogged
+EndsSo Least c Unlogged result = least.EndsSo c.told c.words c.reads c.writes Unlogged result
+EndsSo Trim c Unlogged result = trim.EndsSo c.told c.words c.reads (printed c.writes) result × Unlogged
 EndsSo Unknown c Unlogged result = EndsUsage c result × Unlogged
+
+-- Where the words of `least` and the files are accepted, and no fault came, every question is answered, or memory was
+-- refused.
+abbrev pub CompletesSo : Command → Course → Ended → Type 0
+CompletesSo Least c result = least.IsAccepted c.told c.words → least.NoFault c.reads c.writes → least.IsComplete result
+CompletesSo Trim c result = Unit {0}
+CompletesSo Unknown c result = Unit {0}

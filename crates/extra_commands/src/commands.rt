@@ -7,10 +7,18 @@ ghost use Rattle.extra_commands.specs.Commands as commands;
 /// The commands of the second program.
 #[derive(Clone, Copy)]
 pub enum Command {
+    /// `least`: with how few failed links something breaks a question.
+    Least,
     /// `trim`: the trimmed form of a log.
     Trim,
     /// None that is built.
     Unknown,
+}
+
+fn is_least(word: &String) -> bool
+    ensures { result ≡ same_text (string_bytes word.now) (codes "least") }
+{
+    word.as_str() == "least"
 }
 
 fn is_trim(word: &String) -> bool
@@ -26,6 +34,7 @@ pub fn command_of(words: &[String]) -> Command
 {
     match words {
         [] => Command::Unknown,
+        [name, ..] if is_least(name) => Command::Least,
         [name, ..] if is_trim(name) => Command::Trim,
         _ => Command::Unknown,
     }

@@ -2,17 +2,18 @@
 
 ghost use Rattle.std.specs.Prelude.{◌≡◌, length, map, string_bytes};
 ghost use Rattle.extra_commands.specs.Commands as commands;
-ghost use Rattle.extra_commands.specs.Running.{EndsSo};
+ghost use Rattle.extra_commands.specs.Running.{CompletesSo, EndsSo};
 
 use crate::commands::{Command, command_of};
 use deciders::Decider;
+use least_failures::run_least;
 use log_trim::{put_usage, trim_words};
 use mw_load::Ended;
 use mw_outside::{Files, Sink};
 use std::alloc::Global;
 
-/// The whole run of the second program: hands the words to the call of their first word, `trim LOG`. Where that is none,
-/// the line of usage is printed, and nothing is read or logged.
+/// The whole run of the second program: hands the words to the call of their first word, `least QUESTIONS CONFIG...` or
+/// `trim LOG`. Where that is none, the line of usage is printed, and nothing is read or logged.
 pub fn run_extra<F: Files, O: Sink, L: Sink>(
     alloc: Global,
     words: &[String],
@@ -36,13 +37,41 @@ pub fn run_extra<F: Files, O: Sink, L: Sink>(
             taken_now = O.taken out.new;
             faults = O.faults out.old;
             faults_now = O.faults out.new;
+            logged = L.taken log.old;
+            logged_now = L.taken log.new;
+            log_faults = L.faults log.old;
+            log_faults_now = L.faults log.new;
+            tolds = map (λ b. told b) deciders.new.items;
           };
         })
         (log.new ≡ log.old) result }
+    ensures complete { CompletesSo (commands.command_of (map string_bytes words.now))
+        (record {
+          told = F.contents files.old;
+          words = map string_bytes words.now;
+          reads = record {
+            faults = F.faults files.old;
+            faults_now = F.faults files.new;
+            last = F.last_failed files.old;
+            last_now = F.last_failed files.new;
+          };
+          writes = record {
+            taken = O.taken out.old;
+            taken_now = O.taken out.new;
+            faults = O.faults out.old;
+            faults_now = O.faults out.new;
+            logged = L.taken log.old;
+            logged_now = L.taken log.new;
+            log_faults = L.faults log.old;
+            log_faults_now = L.faults log.new;
+            tolds = map (λ b. told b) deciders.new.items;
+          };
+        }) result }
     ensures kept { F.contents files.new ≡ F.contents files.old }
     ensures deciders { length deciders.new.items ≡ length deciders.old.items }
 {
     match command_of(words) {
+        Command::Least => run_least(alloc, words, files, out, log, deciders),
         Command::Trim => trim_words(alloc, words, files, out),
         Command::Unknown => put_usage(out),
     }

@@ -1,0 +1,4 @@
+pub mod Trying
+pub mod Answering
+pub mod Reading
+pub mod Ending

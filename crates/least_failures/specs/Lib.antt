@@ -1,0 +1,9 @@
+pub mod Trials
+pub mod Leasts
+pub mod Finding
+pub mod Lines
+pub mod Words
+pub mod Due
+pub mod Loading
+pub mod Answering
+pub mod Running
