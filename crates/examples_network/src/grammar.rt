@@ -39,8 +39,12 @@ fn put_edge(out: &mut Page, edge: Edge) {
     out.put(" |\n")
 }
 
-pub fn put_questions(out: &mut Page) {
-    for edge in QUESTION {
-        put_edge(out, edge);
+fn put_edges(out: &mut Page, table: &[Edge]) {
+    for edge in table {
+        put_edge(out, *edge);
     }
+}
+
+pub fn put_questions(out: &mut Page) {
+    put_edges(out, &QUESTION)
 }
