@@ -1,5 +1,5 @@
 -- What is said of a question as a formula.
-use Rattle.std.specs.Prelude.{◌≡◌, ℕ, ◌<◌, Bool, true, List, Option, map, option_map}
+use Rattle.std.specs.Prelude.{◌≡◌, ℕ, ◌<◌, ◌≤◌, Bool, true, List, Option, map, option_map}
 use Rattle.ios_ast.specs.declared.file.File.{File}
 use Rattle.route_record.specs.declared.Environment.{Environment}
 use Rattle.route_record.specs.declared.Plan.{Plan}
@@ -13,12 +13,14 @@ use Rattle.sliced_routings.specs.Slicing.{IsSlicedBreak}
 use Rattle.plan_places.specs.Plans.{lens_of}
 use Rattle.term_store.specs.declared.NodeId.{NodeId}
 use Rattle.term_store.specs.Reading.{Reads}
-use Rattle.term_store.specs.Terms.{Reading, at, size, truth, value_of}
+use Rattle.term_store.specs.Terms.{Reading, Store, at, size, truth, value_of}
 use Rattle.sym_policy.specs.Held.{failures_of, internal_route}
 use Rattle.sym_policy.specs.Packets.{packet_of}
 use Rattle.sym_walk.specs.declared.breaks.SymWorld.{SymWorld}
+use Rattle.sym_walk.specs.Whole.{HasSlots, whole_end}
 use Rattle.bgp_equations.specs.declared.environment.SymEnv.{SymEnv}
 use Rattle.bgp_equations.specs.Environments.{environment_read}
+use Rattle.bgp_equations.specs.Equations.{HaveTracked}
 use Rattle.igp_variables.specs.Rows.{distances, rows_bits, rows_from}
 use Rattle.shape_worlds.specs.Worlds.{ShapeWorld, shapes_of}
 use Rattle.routing_worlds.specs.Worlds.{HasWordNetwork, announced_by, environment_from, is_routing, shape_world_from}
@@ -26,6 +28,13 @@ use Rattle.routing_worlds.specs.Worlds.{world_bits, world_from, worlds_end}
 use Rattle.routing_encoder.specs.declared.encoding.Encoding.{Encoding}
 use Rattle.routing_encoder.specs.Opened.{routing_width}
 use Rattle.routing_encoder.specs.Shapes.{ReadAsShapes}
+
+-- the nodes of a world of terms stand in the store; each router has a slot at each slice of the plan, and its BGP route a
+-- node for each value that is tracked
+pub record HasWorld (files : List File) (tracked : Tracked) (t : Store) (world : SymWorld) : Type 0 where
+  pub slots : HasSlots files world
+  pub nodes : whole_end world ≤ size t
+  pub rows : HaveTracked tracked world.slots
 
 -- a symbolic world and environment read as the world by shapes that the variables from one on stand for
 pub record StandsForWorld (files : List File) (tracked : Tracked) (question : Question) (plan : Plan) (from : ℕ)

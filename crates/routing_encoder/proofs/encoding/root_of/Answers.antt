@@ -1,4 +1,4 @@
-use Rattle.std.proofs.Common.{ap, length, subst, sym, ◌∙◌}
+use Rattle.std.proofs.Common.{ap, arith, length, subst, sym, ◌∙◌}
 use Rattle.std.proofs.lemmas.Bool.{and_from, and_parts}
 use Rattle.route_record.specs.declared.World.{World}
 use Rattle.plan_places.specs.Plans.{lens_of}
@@ -7,6 +7,7 @@ use Rattle.term_store.specs.Terms.{at}
 use Rattle.shape_worlds.specs.Worlds.{ShapeWorld}
 use Rattle.routing_worlds.specs.Worlds.{shape_world_from, world_from}
 use Rattle.routing_worlds.proofs.RoutingSound.{shapes_are}
+use Rattle.bgp_equations.specs.Equations.{HaveTracked}
 use Rattle.routing_encoder.proofs.OpeningSteps.{places_are}
 use Rattle.routing_encoder.proofs.RootSteps.{distances_needed, distances_said, needed_by, stands_world, whole_is, world_nodes, world_slots}
 use Rattle.routing_encoder.proofs.WantedSteps.{stand_read}
@@ -24,6 +25,21 @@ sym_breaks-requires-clause-nodes c =
     c.sym_routing.new.terms c.args.made.routing c.args.made.slots c.settled-opened.result.world c.requires.stands
     c.requires.within c.sym_routing.ensures.builds.larger c.settled-opened.ensures.packet c.settled-opened.ensures.net
     c.settled-opened.ensures.slots
+
+pub returns-clause-stands : goal.returns-clause-stands
+returns-clause-stands c =
+    let a = c.sym_routing.ensures.builds.larger in
+    let b = c.sym_breaks.ensures.builds.larger in
+    let d = c.both.ensures.builds.larger in record {
+      slots = world_slots c.args.net.now.files c.args.net.now.tracked c.args.question.now c.args.plan c.args.terms.now
+          c.args.made.routing c.args.made.slots c.settled-opened.result.world c.requires.stands c.requires.long
+          c.settled-opened.ensures.slots c.settled-opened.ensures.plan;
+      nodes = world_nodes c.args.net.now.files c.args.net.now.tracked c.args.question.now c.args.plan c.args.terms.now
+          c.both.new.terms c.args.made.routing c.args.made.slots c.settled-opened.result.world c.requires.stands
+          c.requires.within (omega (arith, a, b, d)) c.settled-opened.ensures.packet c.settled-opened.ensures.net
+          c.settled-opened.ensures.slots;
+      rows = subst (HaveTracked c.args.net.now.tracked) (sym c.settled-opened.ensures.slots) c.requires.rows;
+    }
 
 pub returns-clause-world : goal.returns-clause-world
 returns-clause-world c = λ w reads from read shapes.
