@@ -18,11 +18,14 @@ at_text files questions question k cex =
 abbrev pub none_text : Question → ℕ → List ℕ
 none_text question k = codes "none " ++ question.name ++ codes " up to " ++ decimal k ++ newline
 
--- unknown NAME at k after N conflicts
-abbrev pub unknown_text : Question → ℕ → ℕ → List ℕ
-unknown_text question k after =
-    codes "unknown " ++ question.name ++ codes " at " ++ decimal k ++ codes " after " ++ decimal after
+-- unknown NAME at k after N conflicts, where N is written so
+abbrev pub unknown_with : Question → ℕ → List ℕ → List ℕ
+unknown_with question k learnt =
+    codes "unknown " ++ question.name ++ codes " at " ++ decimal k ++ codes " after " ++ learnt
     ++ codes " conflicts" ++ newline
+
+abbrev pub unknown_text : Question → ℕ → ℕ → List ℕ
+unknown_text question k after = unknown_with question k (decimal after)
 
 -- the lines of what is found of a question, for which so many clauses may be learnt
 abbrev pub least_text : List File → List Question → Question → ℕ → Least → List ℕ

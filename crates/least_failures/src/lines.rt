@@ -1,7 +1,7 @@
 //! The lines of what is found.
 
 ghost use Rattle.std.specs.Prelude.{◌≡◌, IfOk, OnOk};
-ghost use Rattle.least_failures.specs.Lines.{at_text, least_text, none_text, unknown_text};
+ghost use Rattle.least_failures.specs.Lines.{at_text, least_text, none_text, unknown_text, unknown_with};
 ghost use Rattle.mw_outside.specs.Faults.{Rose};
 ghost use Rattle.mw_outside.specs.Taken.{Takes, TakesPart};
 ghost use Rattle.run_answers.specs.Answering.{OnWriteFault, UnlessWriteFault};
@@ -54,6 +54,29 @@ fn none_line(alloc: Global, question: &Question, k: u32) -> Result<List<u8>, All
     joined(alloc, &pieces)
 }
 
+// The number of clauses is written out.
+fn unknown_joined(
+    alloc: Global,
+    question: &Question,
+    k: u32,
+    learnt: &[u8],
+) -> Result<List<u8>, AllocError>
+    ensures { IfOk result (λ text. text ≡ unknown_with question.now k learnt.now) }
+{
+    let count = k.to_string(alloc)?;
+    let pieces: [&[u8]; 8] = [
+        b"unknown ",
+        question.name.as_slice(),
+        b" at ",
+        count.as_bytes(),
+        b" after ",
+        learnt,
+        b" conflicts",
+        b"\n",
+    ];
+    joined(alloc, &pieces)
+}
+
 fn unknown_line(
     alloc: Global,
     question: &Question,
@@ -62,19 +85,8 @@ fn unknown_line(
 ) -> Result<List<u8>, AllocError>
     ensures { IfOk result (λ text. text ≡ unknown_text question.now k after) }
 {
-    let count = k.to_string(alloc)?;
     let learnt = after.to_string(alloc)?;
-    let pieces: [&[u8]; 8] = [
-        b"unknown ",
-        question.name.as_slice(),
-        b" at ",
-        count.as_bytes(),
-        b" after ",
-        learnt.as_bytes(),
-        b" conflicts",
-        b"\n",
-    ];
-    joined(alloc, &pieces)
+    unknown_joined(alloc, question, k, learnt.as_bytes())
 }
 
 /// The lines of what is found of a question, for which so many clauses may be learnt.
