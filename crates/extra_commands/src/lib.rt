@@ -2,6 +2,7 @@
 #![tactic(auto)]
 
 pub mod commands;
+mod least;
 pub mod running;
 
 pub use mw_load::{Ended, number_of};

@@ -5,8 +5,8 @@ ghost use Rattle.extra_commands.specs.Commands as commands;
 ghost use Rattle.extra_commands.specs.Running.{CompletesSo, EndsSo};
 
 use crate::commands::{Command, command_of};
+use crate::least::least_words;
 use deciders::Decider;
-use least_failures::run_least;
 use log_trim::{put_usage, trim_words};
 use mw_load::Ended;
 use mw_outside::{Files, Sink};
@@ -71,7 +71,7 @@ pub fn run_extra<F: Files, O: Sink, L: Sink>(
     ensures deciders { length deciders.new.items ≡ length deciders.old.items }
 {
     match command_of(words) {
-        Command::Least => run_least(alloc, words, files, out, log, deciders),
+        Command::Least => least_words(alloc, words, files, out, log, deciders),
         Command::Trim => trim_words(alloc, words, files, out),
         Command::Unknown => put_usage(out),
     }
