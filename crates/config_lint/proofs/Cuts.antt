@@ -1,5 +1,5 @@
 -- Texts of lines of which some are empty.
-use Rattle.std.proofs.Common.{◌≡◌, ◌≢◌, ℕ, zero, suc, ◌+◌, ◌<◌, ◌≤◌, Bool, true, false, List, [], ◌∷◌, ◌++◌, length, map}
+use Rattle.std.proofs.Common.{◌≡◌, ℕ, ◌+◌, ◌<◌, ◌≤◌, Bool, true, false, List, [], ◌∷◌, ◌++◌, length, map}
 use Rattle.std.proofs.Common.{drop, get_or, refl, ap, sym, subst, ◌∙◌, arith, append_assoc, append-nil, slice_index}
 use Rattle.std.proofs.lemmas.List.{drop_all, length-map, get_or-map, length-append}
 use Rattle.std.specs.Borrow.{Bor}
@@ -8,12 +8,8 @@ use Rattle.bstr.specs.Text.{lines_of as pieces_in}
 use Rattle.bstr.proofs.lemmas.RestLemmas.{concat-lines_of}
 use Rattle.mw_text.proofs.Lists.{drop-read}
 use Rattle.config_prepare.proofs.LineTexts.{IsLine, Ends, AreLines, are_lines_of, lines_of-made}
+use Rattle.config_prepare.proofs.Steps.{get_or-any}
 use Rattle.config_lint.specs.Asides.{cut_line, cut_lines}
-
-pub get_or-any : {X : Type 0} (xs : List X) (i : ℕ) (d e : X) → i < length xs → get_or xs i d ≡ get_or xs i e
-get_or-any [] i d e within = absurd (omega arith)
-get_or-any (x ∷ xs) zero d e within = refl
-get_or-any (x ∷ xs) (suc i) d e within = get_or-any xs i d e (omega arith)
 
 cuts_step : (pieces : List (List ℕ)) (flags : List Bool) (i : ℕ) (piece : List ℕ) (flag : Bool) (text : List ℕ) →
     i < length pieces → i < length flags → piece ≡ get_or pieces i piece → flag ≡ get_or flags i flag →

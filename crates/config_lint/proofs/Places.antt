@@ -10,7 +10,6 @@ use Rattle.run_inputs.specs.declared.text.Text.{Text}
 use Rattle.config_lint.specs.declared.labels.Entry.{Entry}
 use Rattle.config_lint.specs.Labels.{places_from}
 use Rattle.config_lint.specs.Linted.{AreEntries, group_of, groups_from, IsLinted}
-use Rattle.config_lint.proofs.Cuts.{get_or-any}
 
 -- the place of one line more
 pub places_step : (place : Place) (lines : List Line) (i : ℕ) (line : Line) (places : List Place) → i < length lines →

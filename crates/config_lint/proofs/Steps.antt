@@ -3,7 +3,9 @@ use Rattle.std.proofs.Common.{◌≡◌, ◌≢◌, ℕ, zero, suc, ◌+◌, ◌
 use Rattle.std.proofs.Common.{◌++◌, length, map, get_or, Option, Some, Ok, Err, refl, ap, sym, subst, ◌∙◌, arith}
 use Rattle.std.proofs.Common.{append_assoc, append-nil, eq-eqb, drop, nat_lt, nat_le, None}
 use Rattle.std.specs.Prelude.{IsOk, MatchOption}
+use Rattle.std.proofs.lemmas.Bool.{false_from_ne_true}
 use Rattle.std.proofs.lemmas.List.{length-map}
+use Rattle.std.proofs.lemmas.Option.{get_or_from_slice_get}
 use Rattle.std.specs.Borrow.{Bor}
 use Rattle.std.specs.List.{slice_get, zip}
 use Rattle.bstr.specs.Text.{lines_of as pieces_in, without_terminator}
@@ -37,10 +39,6 @@ pub record Unset (flags : List Bool) (number : ℕ) : Type 0 where
   pub named : number ≡ 1 + at
   pub found : slice_get flags at ≡ Some false
 
-by_sign : (flag : Bool) → (flag ≡ true → ⊥) → flag ≡ false
-by_sign true not = absurd (not refl)
-by_sign false not = refl
-
 says_unset : (bytes : List ℕ) (flags : List Bool) (number : ℕ) → length flags ≡ length (pieces_in bytes) →
     Says (text_lines (cut_lines (pieces_in bytes) flags)) number → Unset flags number
 says_unset bytes flags number fit it =
@@ -60,7 +58,7 @@ says_unset bytes flags number fit it =
     record {
       at = it.at;
       named = sym it.named ∙ ap (λ (l : Line). l.number) line.2;
-      found = zip_at (pieces_in bytes) flags it.at pair.0 pair.1 ∙ ap Some (by_sign pair.0.1 not_set);
+      found = zip_at (pieces_in bytes) flags it.at pair.0 pair.1 ∙ ap Some (false_from_ne_true pair.0.1 not_set);
     }
 
 fits : (bytes : List ℕ) (told : List Refused) →
@@ -79,11 +77,6 @@ found_within : {X : Type 0} (xs : List X) (k : ℕ) (x : X) → slice_get xs k �
 found_within [] k x found = absurd cc
 found_within (y ∷ rest) zero x found = omega arith
 found_within (y ∷ rest) (suc k) x found = omega (arith, found_within rest k x found)
-
-read_found : {X : Type 0} (xs : List X) (k : ℕ) (x d : X) → slice_get xs k ≡ Some x → get_or xs k d ≡ x
-read_found [] k x d found = absurd cc
-read_found (y ∷ rest) zero x d found = cc
-read_found (y ∷ rest) (suc k) x d found = read_found rest k x d found
 
 -- its number is one of a line
 pub unset_within : (lines : List Line) (told : List Refused) (number : ℕ) → Unset (asides lines told) number →
@@ -120,7 +113,7 @@ unset_falls lines told number old new is fit each it =
     let within = found_within (asides lines told) it.at false it.found in
     let inside : it.at < length lines = omega (arith, within, length-asides lines told) in
     let was : get_or old it.at false ≡ false =
-    ap (λ l. get_or l it.at false) is ∙ read_found (asides lines told) it.at false false it.found in
+    ap (λ l. get_or l it.at false) is ∙ get_or_from_slice_get (asides lines told) it.at false false it.found in
     let goes : goes_with lines number (it.at + 1) ≡ true =
     ap (λ n. goes_with lines n (it.at + 1)) it.named ∙ goes_itself lines it.at inside (line_at 0 []) in
     unset_less old new it.at fit

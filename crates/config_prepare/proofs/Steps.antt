@@ -24,7 +24,7 @@ shifted : {X : Type 0} (front : List X) (x : X) (rest : List X) → front ++ x �
 shifted front x rest = sym (append_assoc front (x ∷ []) rest)
 
 -- what stands at a place of a list does not hang on what stands past its end
-get_or-any : {X : Type 0} (xs : List X) (i : ℕ) (d e : X) → i < length xs → get_or xs i d ≡ get_or xs i e
+pub get_or-any : {X : Type 0} (xs : List X) (i : ℕ) (d e : X) → i < length xs → get_or xs i d ≡ get_or xs i e
 get_or-any [] i d e within = absurd (omega arith)
 get_or-any (x ∷ xs) zero d e within = refl
 get_or-any (x ∷ xs) (suc i) d e within = get_or-any xs i d e (omega arith)

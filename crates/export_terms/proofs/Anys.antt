@@ -1,6 +1,6 @@
 -- What is so of some number below a bound.
 use Rattle.std.proofs.Common.{◌≡◌, ◌⊎◌, ℕ, zero, suc, ◌<◌, ◌≤◌, ◌||◌, Bool, true, false, inl, inr, refl, sym, subst, arith, ◌∙◌}
-use Rattle.std.proofs.lemmas.Bool.{cases_lt, true≢false}
+use Rattle.std.proofs.lemmas.Bool.{cases_lt, or_left, or_right, true≢false}
 use Rattle.export_terms.specs.Shapes.{any_below}
 
 pub any_none : (is : ℕ → Bool) → any_below zero is ≡ false
@@ -14,14 +14,6 @@ any_more n is = refl
 either_true : (a b : Bool) → (a || b) ≡ true → (a ≡ true) ⊎ (b ≡ true)
 either_true true b h = inl refl
 either_true false b h = inr h
-
-or_right : (a b : Bool) → b ≡ true → (a || b) ≡ true
-or_right true b h = refl
-or_right false b h = h
-
-or_left : (a b : Bool) → a ≡ true → (a || b) ≡ true
-or_left true b h = refl
-or_left false b h = absurd (true≢false (sym h))
 
 pub any_some : (n : ℕ) (is : ℕ → Bool) → any_below n is ≡ true → (k : ℕ) × (k < n) × (is k ≡ true)
 any_some zero is any = absurd (true≢false (sym any ∙ any_none is))

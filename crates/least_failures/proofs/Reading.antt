@@ -1,7 +1,7 @@
 -- What comes of the words and of the files.
-use Rattle.std.proofs.Common.{◌≡◌, ◌∙◌, ℕ, ◌+◌, ◌<◌, ◌≤◌, List, [], ◌∷◌, ◌++◌, length, map, take, get_or, refl, ap, sym, subst, arith, append_assoc}
+use Rattle.std.proofs.Common.{◌≡◌, ◌∙◌, ℕ, ◌+◌, ◌<◌, ◌≤◌, List, [], ◌∷◌, ◌++◌, length, map, take, get_or, refl, ap, sym, subst, arith}
 use Rattle.std.proofs.Common.{Option, Some, None, Result, Ok, Err}
-use Rattle.std.specs.Prelude.{IfSome, option_map}
+use Rattle.std.specs.Prelude.{IfSome}
 use Rattle.std.proofs.lemmas.List.{length-append, length-map, map-append, take_all}
 use Rattle.ios_ast.specs.declared.file.File.{File}
 use Rattle.log_trim.specs.Running.{NoReadFailed, Reads}
@@ -90,20 +90,7 @@ text_refused told name files line stopped =
     if_told_one told (λ contents. text_of contents name ≡ Err (refused line)) _ stopped
     (λ contents there. ap (following (λ t. questions_of t files)) there)
 
--- a stop at which no read failed
-pub quiet_stop : (A : Type 0) {P : Type 0} (why : Stop) → P → UnlessReadFault {A = A} (Err why) P
-quiet_stop A (stop.Refused line) p = p
-quiet_stop A stop.ReadFault p = tt
-quiet_stop A stop.Memory p = p
-
 -- ---- where reading stops
-
--- a read of one of the files failed, where another comes after all of them
-pub stops_before : (told : Option Contents) (names : List (List ℕ)) (later : List ℕ) (last : Option (List ℕ)) →
-    StopsAt told names last → StopsAt told (names ++ later ∷ []) last
-stops_before told names later None stops = tt
-stops_before told names later (Some other) (front, rest, is, there) =
-    (front, rest ++ later ∷ [], ap (λ xs. xs ++ later ∷ []) is ∙ append_assoc front (other ∷ rest) (later ∷ []), there)
 
 -- that of the last failed, after all before it were read
 pub stops_last : (told : Option Contents) (names : List (List ℕ)) (name : List ℕ) (files : List File)

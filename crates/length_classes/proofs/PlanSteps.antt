@@ -13,16 +13,12 @@ use Rattle.ios_ast.specs.declared.file.File.{File}
 use Rattle.route_record.specs.declared.Plan.{Plan}
 use Rattle.route_record.specs.declared.TheConstants.{LENGTHS}
 use Rattle.plan_places.specs.Plans.{numbers_below}
+use Rattle.plan_places.proofs.Tabulated.{at_back}
 use Rattle.sliced_routings.specs.Cuts.{is_cut}
 use Rattle.length_classes.specs.Lists.{classes_below, cuts_to, slices_below, slices_in}
 use Rattle.sliced_routings.specs.Plans.{EndsClass, IsCoarsestPlan, class_at, size_of}
 
 -- ---- numbers
-
-at_back : {X : Type 0} (xs ys : List X) (j k : ℕ) → j ≡ length xs + k → slice_get (xs ++ ys) j ≡ slice_get ys k
-at_back [] ys j k same = let e : j ≡ k = omega (arith, same) in ap (slice_get ys) e
-at_back (x ∷ xs) ys zero k same = absurd (omega (arith, same))
-at_back (x ∷ xs) ys (suc j) k same = at_back xs ys j k (omega (arith, same))
 
 mapped_more : (f : ℕ → ℕ) (n : ℕ) → map f (numbers_below n) ++ f n ∷ [] ≡ map f (numbers_below (n + 1))
 unfolding numbers_below

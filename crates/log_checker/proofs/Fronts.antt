@@ -104,7 +104,7 @@ front_start clauses known bytes read = record {
   room = omega arith;
 }
 
-all-push : {X : Type 0} (P : X → Type 0) (xs : List X) (x : X) → AllByRecursion P xs → P x →
+pub all-push : {X : Type 0} (P : X → Type 0) (xs : List X) (x : X) → AllByRecursion P xs → P x →
     AllByRecursion P (xs ++ x ∷ [])
 all-push P [] x all one = (one, tt)
 all-push P (y ∷ ys) x all one = (all.0, all-push P ys x all.1 one)

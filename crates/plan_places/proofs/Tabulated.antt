@@ -32,7 +32,7 @@ at_front [] ys k below = absurd (omega (arith, below))
 at_front (x ∷ xs) ys zero below = refl
 at_front (x ∷ xs) ys (suc k) below = at_front xs ys k (omega (arith, below))
 
-at_back : {X : Type 0} (xs ys : List X) (j k : ℕ) → j ≡ length xs + k → slice_get (xs ++ ys) j ≡ slice_get ys k
+pub at_back : {X : Type 0} (xs ys : List X) (j k : ℕ) → j ≡ length xs + k → slice_get (xs ++ ys) j ≡ slice_get ys k
 at_back [] ys j k same = let e : j ≡ k = omega (arith, same) in ap (slice_get ys) e
 at_back (x ∷ xs) ys zero k same = absurd (omega (arith, same))
 at_back (x ∷ xs) ys (suc j) k same = at_back xs ys j k (omega (arith, same))

@@ -127,7 +127,7 @@ any-push p es e = list_any-append p es (e ∷ []) ∙ ap (λ b. list_any p es ||
 abbrev Deletes : List Entry → Type 0
 Deletes es = (id : ℕ) → is_deleted es id ≡ true → is_given es id ≡ true
 
-given-kept : (es : List Entry) (e : Entry) (id : ℕ) → is_given es id ≡ true → is_given (es ++ e ∷ []) id ≡ true
+pub given-kept : (es : List Entry) (e : Entry) (id : ℕ) → is_given es id ≡ true → is_given (es ++ e ∷ []) id ≡ true
 given-kept es e id h = ap is_some (clause_given-push es e id) ∙ some_or (clause_given es id) (clause_by id e) h
   where
     some_or : (a b : Option Clause) → is_some a ≡ true → is_some (option_or a b) ≡ true

@@ -5,6 +5,7 @@ use Rattle.std.specs.Prelude.{is_none, All}
 use Rattle.std.proofs.lemmas.Bool.{false≢true}
 use Rattle.std.proofs.lemmas.List.{drop_all}
 use Rattle.std.proofs.lemmas.List.Elements.{All-append, All-cons, All-get_or, All-nil}
+use Rattle.std.proofs.Math.Bool.{and-true}
 use Rattle.mw_text.proofs.Lists.{drop-read}
 use Rattle.ios_ast.specs.declared.file.File.{File}
 use Rattle.question_lang.specs.declared.question.Question.{Question}
@@ -69,10 +70,6 @@ and_assoc : (a b c : Bool) → ((a && b) && c) ≡ (a && (b && c))
 and_assoc true b c = refl
 and_assoc false b c = refl
 
-and_true : (a : Bool) → (a && true) ≡ a
-and_true true = refl
-and_true false = refl
-
 pub goes_none : (drawn : Bool) (files : List File) (questions : List Question) (cexes : List Counterexample) →
     Goes drawn files questions cexes 0 [] true
 goes_none drawn files questions cexes later all said = said
@@ -97,7 +94,7 @@ pub goes_all : (drawn : Bool) (files : List File) (questions : List Question) (c
 unfolding AreSaid
 goes_all drawn files questions cexes i text good done so_far =
     subst (λ t. AreSaid drawn files questions cexes t good) (append-nil text)
-    (subst (AreSaid drawn files questions cexes (text ++ [])) (and_true good)
+    (subst (AreSaid drawn files questions cexes (text ++ [])) (and-true good)
     (so_far [] true (subst (λ l. AreSaid drawn files questions l [] true) (sym (drop_all i cexes done)) (refl, refl))))
 
 -- one more was said

@@ -1,7 +1,7 @@
 -- The order of entries, one entry more.
 use Rattle.std.proofs.Common.{◌≡◌, ◌∙◌, refl, ap, ap₂, sym, subst, arith, ℕ, ◌+◌, ◌≤◌, ◌==◌, Bool, true, false, not, ◌||◌, cond}
 use Rattle.std.proofs.Common.{List, [], ◌∷◌, ◌++◌, length, length-append, Some, None, max, append_assoc, option_map}
-use Rattle.std.specs.List.{AllByRecursion, list_any}
+use Rattle.std.specs.List.{list_any}
 use Rattle.std.proofs.lemmas.Bool.{and_parts, eqb-true, true≢false, not-true}
 use Rattle.std.proofs.lemmas.List.{append-nil}
 use Rattle.std.proofs.lemmas.List.Elements.{filter-append}
@@ -14,6 +14,7 @@ use Rattle.resolution_check.specs.Known.{HasRead, Known}
 use Rattle.resolution_check.specs.Text.{HasText}
 use Rattle.resolution_check.proofs.Goods.{any-push, each_last, free_from_kept}
 use Rattle.log_checker.specs.declared.cause.Cause.TheVariants.{BadLine, Refused}
+use Rattle.log_checker.proofs.Fronts.{all-push}
 use Rattle.trimmed_logs.specs.declared.holding.Order.{Order}
 use Rattle.trimmed_logs.specs.Held.{AreInputs, IsHeld, IsOrder}
 use Rattle.trimmed_logs.specs.Logs.{entry_cause, is_orderly, is_step, number_given, top}
@@ -50,11 +51,6 @@ pub out_of_order : (es : List Entry) (e : Entry) → is_orderly es e ≡ false �
 out_of_order es e h = ap (λ b. cond b (option_map Refused (fault_of es e)) (Some BadLine)) h
 
 -- ---- inputs stand first
-
-all-push : {X : Type 0} (P : X → Type 0) (xs : List X) (x : X) → AllByRecursion P xs → P x →
-    AllByRecursion P (xs ++ x ∷ [])
-all-push P [] x all one = (one, tt)
-all-push P (y ∷ ys) x all one = (all.0, all-push P ys x all.1 one)
 
 filter_short : (es : List Entry) → length (input_entries es) ≤ length es
 filter_short [] = omega arith

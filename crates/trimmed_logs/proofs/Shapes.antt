@@ -4,13 +4,13 @@ use Rattle.std.proofs.Common.{List, [], ◌∷◌, ◌++◌, map, length, Option
 use Rattle.std.specs.Prelude.{⊤}
 use Rattle.std.specs.Option.{option_or}
 use Rattle.std.specs.List.{list_any, list_all}
-use Rattle.std.proofs.lemmas.Bool.{cases_Bool, false_from_ne_true, or_cases, or_parts, eqb-true, true≢false, false≢true}
+use Rattle.std.proofs.lemmas.Bool.{cases_Bool, false_from_ne_true, or_cases, or_parts, or_right, eqb-true, true≢false, false≢true}
 use Rattle.resolution_check.specs.declared.log.Clause.{Clause}
 use Rattle.resolution_check.specs.declared.log.Entry.{Entry}
 use Rattle.resolution_check.specs.declared.log.Entry.TheVariants.{Input, Add, Delete, End}
 use Rattle.resolution_check.specs.Entries.{EachAfter, IsSound, KeepsGood, adds_empty, clause_by, clause_given}
 use Rattle.resolution_check.specs.Entries.{is_given, is_refutation}
-use Rattle.resolution_check.proofs.Goods.{clause_given-push, given_from_held}
+use Rattle.resolution_check.proofs.Goods.{clause_given-push, given-kept, given_from_held}
 use Rattle.trimmed_logs.specs.Trimmed.{AreUsed, IsNumberedFrom, IsSublist, none, with_first, without_first}
 use Rattle.trimmed_logs.specs.Trimmed.{addition_entries, is_addition, is_input, is_used_by, renamed, uses}
 use Rattle.trimmed_logs.specs.Kept.{kept, numbered, with_name}
@@ -108,10 +108,6 @@ any_uses name id (e ∷ es) last h = elim (or_cases _ _ h) [
       (uses_renamed name id e here)
   | inr rest ↦ or_right (uses (name id) (renamed name e)) _ (any_uses name id es last rest)
 ]
-  where
-    or_right : (a b : Bool) → b ≡ true → (a || b) ≡ true
-    or_right true b k = refl
-    or_right false b k = k
 
 used_renamed : (name : ℕ → ℕ) (e : Entry) (es : List Entry) (last : Entry) → is_used_by (es ++ last ∷ []) e ≡ true →
     is_used_by (map (renamed name) es ++ renamed name last ∷ []) (renamed name e) ≡ true
@@ -208,13 +204,6 @@ named_once (End ∷ es) next names fresh = absurd fresh
 
 -- ---- the numbers of a good list are new
 
-given_push : (done : List Entry) (e : Entry) (id : ℕ) → is_given done id ≡ true → is_given (done ++ e ∷ []) id ≡ true
-given_push done e id h = ap is_some (clause_given-push done e id) ∙ some_or (clause_given done id) h
-  where
-    some_or : (o : Option Clause) → is_some o ≡ true → is_some (option_or o (clause_by id e)) ≡ true
-    some_or (Some c) k = refl
-    some_or None k = absurd (false≢true k)
-
 given_own : (done : List Entry) (id : ℕ) (clause : Clause) (chain : List ℕ) →
     is_given (done ++ Add id clause chain ∷ []) id ≡ true
 given_own done id clause chain =
@@ -266,7 +255,7 @@ module _ (last : Entry) (adds : is_addition last ≡ true) where
       ap (λ ks. is_given (ks ++ last ∷ []) n) (kept-none last) ∙ last_new done last adds good.0.1 n given
   later_new (e ∷ es) done good n given =
       let rest : is_given (kept last es ++ last ∷ []) n ≡ false =
-      later_new es (done ++ e ∷ []) good.1 n (given_push done e n given) in
+      later_new es (done ++ e ∷ []) good.1 n (given-kept done e n given) in
       kept_step (λ all ks. is_given (ks ++ last ∷ []) n ≡ false) last e es
       (λ used. first_new done es e used good.0.1 n given rest) rest
 
@@ -291,7 +280,7 @@ module _ (last : Entry) (adds : is_addition last ≡ true) where
         let given : is_given done n ≡ true =
         given_from_held done n (resolved_held _ chain sound.1 sound.2 n among) in
         not_first done (kept last es ++ last ∷ []) id clause chain n sound.0 given
-        (later_new es (done ++ Add id clause chain ∷ []) good n (given_push done (Add id clause chain) n given))),
+        (later_new es (done ++ Add id clause chain ∷ []) good n (given-kept done (Add id clause chain) n given))),
     fresh,
   )
   first_fresh done es (Delete id) used sound good fresh = absurd (false≢true used)

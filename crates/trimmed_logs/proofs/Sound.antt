@@ -3,7 +3,7 @@ use Rattle.std.proofs.Common.{◌≡◌, ◌∙◌, ◌⊎◌, refl, ap, ap₂, 
 use Rattle.std.proofs.Common.{List, [], ◌∷◌, ◌++◌, map, Option, Some, None, is_some, inl, inr, append_assoc}
 use Rattle.std.specs.Option.{option_or}
 use Rattle.std.specs.List.{list_any}
-use Rattle.std.proofs.lemmas.Bool.{cases_Bool, false_from_ne_true, eqb-true, true≢false, false≢true}
+use Rattle.std.proofs.lemmas.Bool.{cases_Bool, false_from_ne_true, eqb-true, or_left, or_right, true≢false, false≢true}
 use Rattle.std.proofs.lemmas.List.{append-nil}
 use Rattle.resolution_check.specs.declared.log.Clause.{Clause}
 use Rattle.resolution_check.specs.declared.log.Entry.{Entry}
@@ -98,13 +98,6 @@ pub next_new : (next : ℕ) (out : List Entry) → ((id : ℕ) → is_given out 
     is_given out next ≡ false
 next_new next out below =
     false_from_ne_true (is_given out next) (λ h. let k : next < next = below next h in absurd (omega (arith, k)))
-
-or_left : (a b : Bool) → a ≡ true → (a || b) ≡ true
-or_left a b h = ap (λ x. x || b) h
-
-or_right : (a b : Bool) → b ≡ true → (a || b) ≡ true
-or_right true b h = refl
-or_right false b h = h
 
 -- an addition under the next number, with the names of its chain, keeps out good
 pub add_sound : (next : ℕ) (names : ℕ → ℕ) (done out : List Entry) (id : ℕ) (clause : Clause) (chain : List ℕ) →

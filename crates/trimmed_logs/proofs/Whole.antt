@@ -4,7 +4,7 @@ use Rattle.std.proofs.Common.{List, [], ◌∷◌, ◌++◌, length, length-appe
 use Rattle.std.specs.Prelude.{position}
 use Rattle.std.specs.List.{list_any, list_all, position_or_len}
 use Rattle.std.specs.Option.{option_or}
-use Rattle.std.proofs.lemmas.Bool.{or_parts, lt-ltb, eqb-true, false≢true}
+use Rattle.std.proofs.lemmas.Bool.{or_parts, or_right, lt-ltb, eqb-true, false≢true}
 use Rattle.std.proofs.lemmas.List.Folds.{list_any-append}
 use Rattle.resolution_check.specs.declared.log.Entry.{Entry}
 use Rattle.resolution_check.specs.declared.log.Entry.TheVariants.{Input, Add, Delete, End}
@@ -146,10 +146,6 @@ numbered_empty [] End next names h = absurd (false≢true h)
 numbered_empty (Input id clause ∷ es) last next names h = numbered_empty es last next names h
 numbered_empty (Add id clause chain ∷ es) last next names h =
     or_right (is_refutation (Add id clause chain)) _ (numbered_empty es last (next + 1) (with_name names id next) h)
-  where
-    or_right : (a b : Bool) → b ≡ true → (a || b) ≡ true
-    or_right true b k = refl
-    or_right false b k = k
 numbered_empty (Delete id ∷ es) last next names h = numbered_empty es last next names h
 numbered_empty (End ∷ es) last next names h = numbered_empty es last next names h
 

@@ -1,8 +1,9 @@
 use Rattle.std.proofs.Common.{map}
 use Rattle.std.specs.Prelude.{string_bytes}
 use Rattle.net_model.specs.Kept.{Network}
+use Rattle.run_inputs.proofs.Commands.{quiet_stop}
 use Rattle.run_inputs.proofs.Loading.{on_stop-map}
-use Rattle.least_failures.proofs.Reading.{network_read, network_refused, quiet_stop}
+use Rattle.least_failures.proofs.Reading.{network_read, network_refused}
 use Rattle.least_failures.proofs.loading.load_network.Goals as goal
 
 pub returns-in-Ok-clause-ok : goal.returns-in-Ok-clause-ok
