@@ -1,5 +1,5 @@
 -- What arrives over a session, from what stands in the symbolic environment and tables.
-use Rattle.std.proofs.Common.{◌≡◌, ℕ, ◌==◌, ◌&&◌, ◌*◌, Bool, true, false, List, length, map, take, Option, Some, None}
+use Rattle.std.proofs.Common.{◌≡◌, ℕ, ◌==◌, ◌&&◌, true, false, List, length, map, take, Option, Some, None}
 use Rattle.std.proofs.Common.{refl, sym, ap, subst, ◌∙◌, slice_get}
 use Rattle.std.specs.Prelude.{IfSome, option_and_then, option_copied, option_map}
 use Rattle.std.specs.Borrow.{Bor}
@@ -17,9 +17,9 @@ use Rattle.net_parts.specs.Sessions.{ends_of, external_ends, is_outside, neighbo
 use Rattle.plan_places.specs.Places.{item_at, places_below}
 use Rattle.route_shapes.specs.Bgp.{BgpShape}
 use Rattle.route_shapes.specs.Shapes.{RouteShape}
-use Rattle.bgp_shapes.specs.Candidates.{ShapeAnnouncement, ShapeSlot, shape_announced, shape_arriving}
-use Rattle.announced_places.specs.Announced.{Ascend, thing_at, thing_over}
-use Rattle.announced_places.specs.Environments.{announcement_of, external_places}
+use Rattle.bgp_shapes.specs.Candidates.{ShapeSlot, shape_announced, shape_arriving}
+use Rattle.announced_places.specs.Announced.{Ascend}
+use Rattle.announced_places.specs.Environments.{announcement_of}
 use Rattle.announced_places.proofs.ExternalPlaces.{environment_found, external_row}
 use Rattle.term_store.specs.Terms.{Reading}
 use Rattle.sym_policy.specs.declared.parts.SymRest.{SymRest}

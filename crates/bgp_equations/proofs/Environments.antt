@@ -1,5 +1,5 @@
 -- Identifiers and announcements by the number of an external end.
-use Rattle.std.proofs.Common.{◌≡◌, ℕ, zero, suc, ◌+◌, ◌≤◌, ◌<◌, Bool, true, false, List, [], ◌∷◌, length, map, max, take, filter, Option, Some, None}
+use Rattle.std.proofs.Common.{◌≡◌, ℕ, zero, suc, ◌≤◌, Bool, true, false, List, [], ◌∷◌, length, map, take, Option, Some, None}
 use Rattle.std.proofs.Common.{refl, sym, ap, ◌∙◌, arith, slice_get, if◌then◌else◌}
 use Rattle.std.specs.Prelude.{All, IfSome, option_copied, option_map, unwrap_or}
 use Rattle.std.specs.Borrow.{Bor}

@@ -4,3 +4,4 @@ pub mod Arriving
 pub mod LearntOver
 pub mod CandidateSteps
 pub mod LocalSteps
+pub mod HeardOnly

@@ -1,14 +1,13 @@
 -- Candidates of local routes, and copies of routes.
 use Rattle.std.proofs.Common.{◌≡◌, ℕ, zero, suc, ◌+◌, ◌<◌, Bool, true, false, not, max, List, [], ◌∷◌, ◌++◌, map, drop, length, get_or}
 use Rattle.std.proofs.Common.{◌≤◌, Option, Some, None, refl, sym, ap, ◌∙◌, if◌then◌else◌, append-nil}
-use Rattle.std.specs.Prelude.{All, is_some, option_map, slice_get}
+use Rattle.std.specs.Prelude.{is_some, option_map}
 use Rattle.std.specs.List.{cons_option, filter_map}
 use Rattle.std.specs.Option.{option_to_list}
 use Rattle.std.proofs.lemmas.List.{append_assoc, drop_all, drop_more}
 use Rattle.route_record.specs.declared.tracked.Tracked.{Tracked}
 use Rattle.route_shapes.specs.Bgp.{BgpShape}
 use Rattle.bgp_shapes.specs.Candidates.{ShapeCandidate}
-use Rattle.term_store.specs.declared.NodeId.{NodeId}
 use Rattle.term_store.specs.Terms.{Reading, at}
 use Rattle.term_arith.specs.declared.Bits.{Bits}
 use Rattle.term_arith.specs.Bits.{bits, ids_end, number}
@@ -16,9 +15,8 @@ use Rattle.sym_policy.specs.declared.parts.SymRest.{SymRest}
 use Rattle.sym_policy.specs.declared.parts.SymRoute.{SymRoute}
 use Rattle.sym_policy.specs.declared.records.SymBgp.{SymBgp}
 use Rattle.sym_policy.specs.declared.records.SymMapRec.{SymMapRec}
-use Rattle.sym_policy.specs.Held.{bgp_at, bgp_end, bgp_of}
+use Rattle.sym_policy.specs.Held.{bgp_end, bgp_of}
 use Rattle.sym_policy.specs.SameNodes.{IsJoined, IsRest, IsSeen}
-use Rattle.sym_bgp.specs.declared.parts.SymCand.{SymCand}
 use Rattle.sym_bgp.specs.Joined.{HasMarks}
 use Rattle.sym_rib.specs.Into.{HasTracked, list_end}
 use Rattle.sym_rib.proofs.OneEach.{filter_map_push}
@@ -37,7 +35,8 @@ use Rattle.sym_rib.specs.declared.slots.SymTables.{SymTables}
 use Rattle.sym_rib.specs.Worlds.{slot_placed}
 use Rattle.bgp_equations.specs.declared.environment.SymEnv.{SymEnv}
 use Rattle.bgp_equations.specs.Environments.{environment_read}
-use Rattle.bgp_equations.specs.Equations.{learnt_read, slot_read, slots_read}
+use Rattle.silent_routers.proofs.Heard.{own_same}
+use Rattle.bgp_equations.specs.Equations.{learnt_read, sending_read, slot_read, slots_read}
 
 -- ---- a copy of a route
 
@@ -205,10 +204,13 @@ pub whole : (w : Reading) (tracked : Tracked) (files : List File) (sym : SymNet)
     ++ filter_map (learnt_read w tracked files sym env tables dst len)
     (filter (λ e. e.1.router == router) (enumerate_from 0 (ends_of files)))
     ≡ shape_candidates tracked files (failures_of w sym) (environment_read w files tables.lens.now env)
-    (slots_read w tables len) router file process (prefix_of w dst len)
+    (sending_read w files tables len) router file process (prefix_of w dst len)
 unfolding shape_candidates
 whole w tracked files s env tables dst len router file process slot there =
     ap (λ o. map (shape_local files router) (option_map_or
     (shape_local_routes tracked files router file process (prefix_of w dst len)) (option_map (slot_read w) o) [])
     ++ filter_map (learnt_read w tracked files s env tables dst len)
     (filter (λ e. e.1.router == router) (enumerate_from 0 (ends_of files)))) (sym there)
+    ∙ ap (λ own. map (shape_local files router) own ++ filter_map (learnt_read w tracked files s env tables dst len)
+    (filter (λ e. e.1.router == router) (enumerate_from 0 (ends_of files))))
+    (sym (own_same tracked files (slots_read w tables len) router file process (prefix_of w dst len)))

@@ -1,5 +1,5 @@
 -- A candidate from its route and from what it has beside it.
-use Rattle.std.specs.Prelude.{◌≡◌, ◌+◌, ℕ, All, List, max, if◌then◌else◌, Option, Some, None}
+use Rattle.std.specs.Prelude.{◌+◌, ℕ, All, List, max, if◌then◌else◌, Option, Some, None}
 use Rattle.route_record.specs.declared.tracked.Tracked.{Tracked}
 use Rattle.bgp_shapes.specs.Candidates.{ShapeCandidate}
 use Rattle.term_store.specs.Terms.{Reading, at}

@@ -13,6 +13,7 @@ use Rattle.net_parts.specs.declared.sessions.SessionEnd.{SessionEnd}
 use Rattle.route_shapes.specs.Bgp.{BgpShape}
 use Rattle.bgp_shapes.specs.Candidates.{ShapeCandidate, ShapeEnvironment, ShapeSlot, shape_arriving, shape_learnt}
 use Rattle.rebuilt_routes.specs.Deciding.{is_decided_shape}
+use Rattle.silent_routers.specs.Silent.{sending}
 use Rattle.term_store.specs.Terms.{Reading}
 use Rattle.sym_policy.specs.declared.records.SymNet.{SymNet}
 use Rattle.term_arith.specs.declared.Bits.{Bits}
@@ -36,6 +37,10 @@ slot_read w s = record { ospf = ospf_of w s.ospf; bgp = bgp_of w s.bgp; rib = ri
 abbrev pub slots_read : Reading → SymTables → ℕ → ℕ → Option ShapeSlot
 slots_read w tables len router = option_map (slot_read w) (slot_placed tables router len)
 
+-- the same where silent routers hold no BGP route, of which they send nothing
+abbrev pub sending_read : Reading → List File → SymTables → ℕ → ℕ → Option ShapeSlot
+sending_read w files tables len = sending files (slots_read w tables len)
+
 -- the BGP routes of the slots have one node for each tracked value
 abbrev pub HaveTracked : Tracked → List SymSlot → Type 0
 HaveTracked tracked slots = All (λ s. HasTracked tracked s.bgp) slots
@@ -45,7 +50,7 @@ abbrev pub learnt_read : Reading → Tracked → List File → SymNet → SymEnv
     Option ShapeCandidate
 learnt_read w tracked files sym env tables dst len e =
     shape_learnt tracked files (failures_of w sym) (map (address_of w) env.ids) (prefix_of w dst len) e.0 e.1
-    (shape_arriving tracked files (environment_read w files tables.lens.now env) (slots_read w tables len)
+    (shape_arriving tracked files (environment_read w files tables.lens.now env) (sending_read w files tables len)
     (prefix_of w dst len) e.0 e.1)
 
 -- the same where the end is one of the router
@@ -71,9 +76,20 @@ DistancesForSessions w files sym = has_inner files ≡ true → HasDistances w f
 
 -- ---- the equation
 
--- the router of the files of that number has a slot, and holds in it what the decision process leaves
-abbrev pub is_decided_at : Tracked → List File → Failures → ShapeEnvironment → (ℕ → Option ShapeSlot) → ℕ → Prefix → Bool
-is_decided_at tracked files failures environment slots router p =
+-- the router of the files of that number has a slot, and holds in it what the decision process leaves where the others
+-- have such slots
+abbrev pub is_decided_among : Tracked → List File → Failures → ShapeEnvironment → (ℕ → Option ShapeSlot) →
+    (ℕ → Option ShapeSlot) → ℕ → Prefix → Bool
+is_decided_among tracked files failures environment others slots router p =
     option_map_or (λ file. option_map_or (λ slot.
-    is_decided_shape tracked files failures environment slots router file p slot.bgp) (slots router) false)
+    is_decided_shape tracked files failures environment others router file p slot.bgp) (slots router) false)
     (slice_get files router) false
+
+abbrev pub is_decided_at : Tracked → List File → Failures → ShapeEnvironment → (ℕ → Option ShapeSlot) → ℕ → Prefix → Bool
+is_decided_at tracked files failures environment slots = is_decided_among tracked files failures environment slots slots
+
+-- the same where nothing is looked at that a silent router holds
+abbrev pub is_decided_heard : Tracked → List File → Failures → ShapeEnvironment → (ℕ → Option ShapeSlot) → ℕ → Prefix →
+    Bool
+is_decided_heard tracked files failures environment slots =
+    is_decided_among tracked files failures environment (sending files slots) slots

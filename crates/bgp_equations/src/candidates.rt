@@ -24,7 +24,7 @@ ghost use Rattle.sym_rib.specs.Slots.{slot_end};
 ghost use Rattle.sym_rib.specs.Worlds.{slot_placed, slots_end};
 ghost use Rattle.bgp_equations.specs.Beside.{HaveAllMarks};
 ghost use Rattle.bgp_equations.specs.Environments.{FitsNet, env_end, environment_read};
-ghost use Rattle.bgp_equations.specs.Equations.{DistancesForSessions, HaveTracked, RowsForSessions, local_with, slot_read, slots_read};
+ghost use Rattle.bgp_equations.specs.Equations.{DistancesForSessions, HaveTracked, RowsForSessions, local_with, sending_read, slot_read};
 
 use crate::environment::SymEnv;
 use crate::learnt::{put_cand, with_learnt};
@@ -147,7 +147,7 @@ fn own_cands(
     local_cands(alloc, terms, net.tracked(), id, own.as_slice())
 }
 
-/// All candidates of a router that runs BGP, whose slot stands there.
+/// All candidates of a router that runs BGP, whose slot stands there. Nothing is asked of what silent routers hold.
 pub(crate) fn sym_candidates(
     alloc: Global,
     terms: &mut Terms,
@@ -179,8 +179,8 @@ pub(crate) fn sym_candidates(
         DistancesForSessions w net.now.files sym.now →
         slice_get net.now.files router ≡ Some file → file.bgp ≡ Some process →
         filter_map (candidate_of w) r ≡ shape_candidates net.now.tracked net.now.files (failures_of w sym.now)
-        (environment_read w net.now.files tables.now.lens.now env.now) (slots_read w tables.now len) router file
-        process (prefix_of w dst.now len)) }
+        (environment_read w net.now.files tables.now.lens.now env.now)
+        (sending_read w net.now.files tables.now len) router file process (prefix_of w dst.now len)) }
 {
     let own = own_cands(alloc, terms, net, router, dst, len, slot)?;
     let all = with_learnt(alloc, terms, net, sym, env, tables, router, dst, len, own)?;

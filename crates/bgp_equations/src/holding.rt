@@ -18,8 +18,8 @@ ghost use Rattle.sym_rib.specs.Into.{HasTracked};
 ghost use Rattle.sym_rib.specs.Slots.{slot_end};
 ghost use Rattle.sym_rib.specs.Worlds.{slot_placed, slots_end};
 ghost use Rattle.bgp_equations.specs.Environments.{FitsNet, env_end, environment_read};
-ghost use Rattle.bgp_equations.specs.Equations.{DistancesForSessions, HaveTracked, RowsForSessions, is_decided_at};
-ghost use Rattle.bgp_equations.specs.Equations.{slots_read};
+ghost use Rattle.bgp_equations.specs.Equations.{DistancesForSessions, HaveTracked, RowsForSessions, is_decided_heard};
+ghost use Rattle.bgp_equations.specs.Equations.{sending_read, slots_read};
 
 use crate::candidates::sym_candidates;
 use crate::environment::SymEnv;
@@ -68,8 +68,9 @@ fn process_holds(
         slice_get net.now.files router ≡ Some file → file.bgp ≡ Some process.now →
         node_at w r ≡ held_shape process.now.always_compare process.now.compare_routerid
         (shape_candidates net.now.tracked net.now.files (failures_of w sym.now)
-        (environment_read w net.now.files tables.now.lens.now env.now) (slots_read w tables.now len) router file
-        process.now (prefix_of w dst.now len)) (bgp_of w slot.now.bgp)) }
+        (environment_read w net.now.files tables.now.lens.now env.now)
+        (sending_read w net.now.files tables.now len) router file process.now (prefix_of w dst.now len))
+        (bgp_of w slot.now.bgp)) }
 {
     let cands = sym_candidates(alloc, terms, net, sym, env, tables, router, dst, len, slot)?;
     sym_survives(
@@ -125,8 +126,9 @@ fn file_holds(
     ensures within { IfOk result (λ r. r.0 < size terms.new) }
     ensures value { Gives terms.new result (λ w r. DistancesForSessions w net.now.files sym.now →
         node_at w r ≡ is_decided_shape net.now.tracked net.now.files (failures_of w sym.now)
-        (environment_read w net.now.files tables.now.lens.now env.now) (slots_read w tables.now len) router file.now
-        (prefix_of w dst.now len) (bgp_of w slot.now.bgp)) }
+        (environment_read w net.now.files tables.now.lens.now env.now)
+        (sending_read w net.now.files tables.now len) router file.now (prefix_of w dst.now len)
+        (bgp_of w slot.now.bgp)) }
 {
     match &file.bgp {
         None => missing(terms, slot),
@@ -138,7 +140,8 @@ fn file_holds(
 
 /// Whether a router holds in its slot for the prefix of that length of a destination the BGP route that the decision
 /// process leaves of its local routes and of what arrives over its sessions, and none where it runs no BGP or has no
-/// candidate (RFC 4271, section 9.1). False where there is no such router or no such slot. This holds under each reading
+/// candidate (RFC 4271, section 9.1). What silent routers hold is not looked at: where each router holds what it is left
+/// they send nothing of it. False where there is no such router or no such slot. This holds under each reading
 /// in which the rows of `sym` are the interior distances; where no session joins two routers of the files none are
 /// looked at, and `sym` need have none.
 pub fn sym_bgp_holds(
@@ -165,7 +168,7 @@ pub fn sym_bgp_holds(
     ensures builds { Builds terms.old terms.new }
     ensures within { IfOk result (λ r. r.0 < size terms.new) }
     ensures value { Gives terms.new result (λ w r. DistancesForSessions w net.now.files sym.now →
-        node_at w r ≡ is_decided_at net.now.tracked net.now.files (failures_of w sym.now)
+        node_at w r ≡ is_decided_heard net.now.tracked net.now.files (failures_of w sym.now)
         (environment_read w net.now.files tables.now.lens.now env.now) (slots_read w tables.now len) router
         (prefix_of w dst.now len)) }
 {

@@ -1,7 +1,7 @@
 //! The candidates that a router learns over its sessions, as terms.
 
 ghost use Rattle.std.specs.Prelude.{◌≡◌, ◌<◌, ◌≤◌, ◌*◌, ◌+◌, ◌++◌, [], ◌∷◌, ◌==◌, ℕ, All, IfOk, OnOk, length, map, max, None, Some, slice_get};
-ghost use Rattle.std.specs.Prelude.{drop, filter, if◌then◌else◌, true};
+ghost use Rattle.std.specs.Prelude.{◌&&◌, drop, filter, if◌then◌else◌, not, true};
 ghost use Rattle.std.specs.List.{enumerate_from, filter_map};
 ghost use Rattle.std.specs.Option.{option_and_then, option_map, option_to_list};
 ghost use Rattle.term_store.specs.Terms.{Reading, size, at as node_at};
@@ -13,6 +13,7 @@ ghost use Rattle.announced_places.specs.Announced.{Ascend};
 ghost use Rattle.sym_policy.specs.Held.{bgp_at, bgp_end, bgp_of, failures_of};
 ghost use Rattle.sym_policy.specs.Records.{address_of, prefix_of};
 ghost use Rattle.sym_bgp.specs.Candidates.{candidate_of, candidate_end, candidates_end};
+ghost use Rattle.silent_routers.specs.Silent as silent;
 ghost use Rattle.sym_bgp.specs.Joined.{HasMarks};
 ghost use Rattle.sym_ospf.specs.Rows.{net_end};
 ghost use Rattle.sym_rib.specs.Worlds.{slots_end};
@@ -27,6 +28,7 @@ use crate::messages::arrived;
 use crate::parts::SymBeside;
 use mw_text::List;
 use net_model::{Net, SessionEnd};
+use silent_routers::is_behind_silent;
 use std::alloc::{AllocError, Global};
 use sym_bgp::SymCand;
 use sym_policy::{SymBgp, SymNet};
@@ -97,7 +99,15 @@ pub(crate) fn put_cand(cands: &mut List<SymCand>, cand: SymCand) -> Result<(), A
     Ok(())
 }
 
-/// Puts the candidate that a router learns over the session of the end at that place behind some, if it is its own.
+// Whether the end is one of the router, and what lies at its far side may send something.
+fn hears(net: &Net, router: u32, end: &SessionEnd) -> bool
+    ensures { result ≡ ((end.now.router == router) && not (silent.is_behind_silent net.now.files end.now)) }
+{
+    end.router == router && !is_behind_silent(net.routers(), net.ends(), end)
+}
+
+/// Puts the candidate that a router learns over the session of the end at that place behind some, if it is its own and no
+/// silent router lies at its far side.
 fn put_learnt(
     alloc: Global,
     terms: &mut Terms,
@@ -132,7 +142,7 @@ fn put_learnt(
         filter_map (candidate_of w) cands.new ≡ filter_map (candidate_of w) cands.old ++ option_to_list (learnt_by
         (learnt_read w net.now.tracked net.now.files sym.now env.now tables.now dst.now len) router at end.now)) }
 {
-    if end.router != router {
+    if !hears(net, router, end) {
         return Ok(());
     }
     let cand = learnt(alloc, terms, net, sym, env, tables, at, end, dst, len)?;

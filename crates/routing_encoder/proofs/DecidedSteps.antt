@@ -33,7 +33,7 @@ use Rattle.sym_rib.specs.declared.slots.SymTables.{SymTables}
 use Rattle.sym_rib.proofs.OneEach.{items_at}
 use Rattle.world_variables.specs.Worlds.{places_in}
 use Rattle.bgp_equations.specs.Environments.{environment_read}
-use Rattle.bgp_equations.specs.Equations.{is_decided_at, slot_read, slots_read}
+use Rattle.bgp_equations.specs.Equations.{is_decided_heard, slot_read, slots_read}
 use Rattle.shape_worlds.specs.Worlds.{slots_for}
 use Rattle.bgp_worlds.proofs.Placed.{not_made}
 use Rattle.routing_worlds.specs.Worlds.{shape_world_from}
@@ -62,7 +62,7 @@ off_none lens n slots router len past = by (has_place (places_below lens n) rout
   by false none = not_made (places_below lens n) slots router len none
 
 -- a length of one router of a plan is one of each
-each_has : (lens : List ℕ) (n router len other : ℕ) → has_place (places_below lens n) router len ≡ true → other < n →
+pub each_has : (lens : List ℕ) (n router len other : ℕ) → has_place (places_below lens n) router len ≡ true → other < n →
     has_place (places_below lens n) other len ≡ true
 each_has lens n router len other there below =
     let here = (in-places lens n (place router len) (in-has (places_below lens n) router len there)).1 in
@@ -92,15 +92,15 @@ pub decided_is : (w : Reading) (files : List File) (tracked : Tracked) (question
     ReadAsShapes files tracked question plan from w slots → tables.lens.now ≡ made.frame.lens.items →
     tables.routers ≡ length files → tables.slots.now ≡ slots → p.len < LENGTHS →
     has_place (places_in files plan) p.router p.len ≡ true →
-    is_decided_at tracked files (failures_of w made.net) (environment_read w files tables.lens.now made.env)
+    is_decided_heard tracked files (failures_of w made.net) (environment_read w files tables.lens.now made.env)
     (slots_read w tables p.len) p.router (prefix_of w made.packet.dst p.len)
-    ≡ is_decided_at tracked files (shape_world_from files tracked question plan w.variable from).failures
+    ≡ is_decided_heard tracked files (shape_world_from files tracked question plan w.variable from).failures
     (shape_world_from files tracked question plan w.variable from).environment
     (slots_for (shape_world_from files tracked question plan w.variable from) p.len) p.router
     (prefix_at (shape_world_from files tracked question plan w.variable from).packet.dst p.len)
 unfolding shape_world_from
 decided_is w files tracked question plan from t made tables slots p stands read shapes lens routers same short there =
-    (λ i. is_decided_at tracked files (read.failures i) (environment i) (λ router. each router i) p.router
+    (λ i. is_decided_heard tracked files (read.failures i) (environment i) (λ router. each router i) p.router
     (prefix_at (read.packet i).dst p.len))
   where
     all_lens : tables.lens.now ≡ lens_of plan

@@ -39,7 +39,7 @@ use Rattle.routing_encoder.specs.Wanted.{are_wanted, is_wanted_place}
 
 -- ---- tests at places
 
-all_placed : (test : Place → Bool) (ps : List Place) (router len : ℕ) → list_all test ps ≡ true →
+pub all_placed : (test : Place → Bool) (ps : List Place) (router len : ℕ) → list_all test ps ≡ true →
     has_place ps router len ≡ true → test (place router len) ≡ true
 all_placed test [] router len all there = absurd cc
 all_placed test (p ∷ ps) router len all there =
@@ -51,7 +51,7 @@ all_placed test (p ∷ ps) router len all there =
     by true is there' rest = ap test (sym (at-is p router len is)) ∙ (and_parts (test p) (list_all test ps) all).0
     by false is there' rest = rest there'
 
-all_by : (test : Place → Bool) (ps : List Place) → ((p : Place) → In p ps → test p ≡ true) → list_all test ps ≡ true
+pub all_by : (test : Place → Bool) (ps : List Place) → ((p : Place) → In p ps → test p ≡ true) → list_all test ps ≡ true
 all_by test [] each = refl
 all_by test (p ∷ ps) each =
     and_from (test p) (list_all test ps) (each p (inl refl)) (all_by test ps (λ q there. each q (inr there)))

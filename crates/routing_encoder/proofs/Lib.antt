@@ -8,6 +8,7 @@ pub mod WorldSteps
 pub mod AskedSteps
 pub mod DecidedSteps
 pub mod Halves
+pub mod HeardSteps
 pub mod RoutingSteps
 pub mod RootSteps
 pub mod ComingSteps

@@ -7,7 +7,7 @@ ghost use Rattle.sym_rib.specs.Worlds.{slots_end};
 ghost use Rattle.world_variables.specs.Worlds.{places_in};
 ghost use Rattle.bgp_equations.specs.Equations.{DistancesForSessions, HaveTracked, RowsForSessions};
 ghost use Rattle.routing_worlds.specs.Worlds.{shape_world_from};
-ghost use Rattle.routing_encoder.specs.Decided.{are_decided, is_decided_place};
+ghost use Rattle.routing_encoder.specs.Decided.{are_decided, is_heard_place};
 ghost use Rattle.routing_encoder.specs.Opened.{ReadsAs, StandsIn};
 ghost use Rattle.routing_encoder.specs.Shapes.{ReadAsShapes};
 ghost use Rattle.term_store.specs.Terms.{at, size};
@@ -26,8 +26,8 @@ use term_arith::gates::{both, constant_node};
 use term_store::{NodeId, Terms};
 
 /// Whether the slot at a place of the plan holds the BGP route that the decision process leaves its router, and true
-/// where nothing can stand. Where a session joins two routers of the files, the rows of the routing are taken to be the
-/// interior distances.
+/// where nothing can stand. What silent routers hold is not looked at. Where a session joins two routers of the files, the
+/// rows of the routing are taken to be the interior distances.
 #[tactic(auto, using(crate::proofs::WorldSteps::stands_ready))]
 pub fn sym_decided(
     alloc: Global,
@@ -54,7 +54,7 @@ pub fn sym_decided(
         ReadsAs net.now.files net.now.tracked question.now plan.now from w made.now.routing →
         ReadAsShapes net.now.files net.now.tracked question.now plan.now from w made.now.slots →
         DistancesForSessions w net.now.files made.now.routing.net →
-        at w r ≡ is_decided_place net.now.tracked net.now.files question.now.packets.dst
+        at w r ≡ is_heard_place net.now.tracked net.now.files question.now.packets.dst
         (shape_world_from net.now.files net.now.tracked question.now plan.now w.variable from) p) }
 {
     let routing = &made.routing;

@@ -1,9 +1,7 @@
-use Rattle.std.proofs.Common.{◌≡◌, ◌≤◌, ◌++◌, drop, false, map}
+use Rattle.std.proofs.Common.{◌≡◌, ◌≤◌, ◌++◌, drop, map}
 use Rattle.std.specs.List.{filter_map}
 use Rattle.term_store.specs.Terms.{Reading, size}
 use Rattle.term_store.specs.Reading.{Reads, Builds}
-use Rattle.route_shapes.specs.Bgp.{BgpShape}
-use Rattle.bgp_shapes.specs.Candidates.{ShapeCandidate}
 use Rattle.sym_policy.specs.Held.{bgp_of}
 use Rattle.sym_bgp.specs.Candidates.{candidate_of, candidates_end}
 use Rattle.bgp_equations.specs.Beside.{HaveAllMarks}

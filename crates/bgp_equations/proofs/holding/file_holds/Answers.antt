@@ -7,7 +7,7 @@ use Rattle.bgp_shapes.specs.Held.{held_shape}
 use Rattle.sym_policy.specs.Held.{bgp_of, failures_of}
 use Rattle.sym_policy.specs.Records.{prefix_of}
 use Rattle.bgp_equations.specs.Environments.{environment_read}
-use Rattle.bgp_equations.specs.Equations.{slots_read}
+use Rattle.bgp_equations.specs.Equations.{sending_read}
 use Rattle.bgp_equations.proofs.holding.file_holds.Goals as goal
 
 pub returns-in-Some-clause-value : goal.returns-in-Some-clause-value
@@ -17,6 +17,6 @@ returns-in-Some-clause-value c =
     ∙ ap (λ o. option_map_or (λ (process : Bgp). held_shape process.always_compare process.compare_routerid
     (shape_candidates c.args.net.now.tracked c.args.net.now.files (failures_of w c.args.sym.now)
     (environment_read w c.args.net.now.files c.args.tables.now.lens.now c.args.env.now)
-    (slots_read w c.args.tables.now c.args.len) c.args.router c.args.file.now process
+    (sending_read w c.args.net.now.files c.args.tables.now c.args.len) c.args.router c.args.file.now process
     (prefix_of w c.args.dst.now c.args.len)) (bgp_of w c.args.slot.now.bgp)) o
     (not (is_some (bgp_of w c.args.slot.now.bgp)))) (sym c.in-Some.is))

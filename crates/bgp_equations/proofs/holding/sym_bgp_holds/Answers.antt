@@ -9,7 +9,7 @@ use Rattle.sym_policy.specs.Records.{prefix_of}
 use Rattle.sym_rib.specs.Into.{HasTracked}
 use Rattle.sym_rib.proofs.SlotPlaces.{placed_all}
 use Rattle.bgp_equations.specs.Environments.{environment_read}
-use Rattle.bgp_equations.specs.Equations.{slot_read, slots_read}
+use Rattle.bgp_equations.specs.Equations.{sending_read, slot_read, slots_read}
 use Rattle.bgp_equations.proofs.holding.sym_bgp_holds.Goals as goal
 
 pub file_holds-requires-clause-row : goal.file_holds-requires-clause-row
@@ -23,8 +23,9 @@ returns-in-Some-slot_for-clause-value c =
     ok_then c.file_holds.result c.file_holds.ensures.value (λ r is w reads has.
     let files = c.args.net.now.files in
     let slots = slots_read w c.args.tables.now c.args.len in
+    let others = sending_read w files c.args.tables.now c.args.len in
     let decided : File → ShapeSlot → Bool = λ f slot. is_decided_shape c.args.net.now.tracked files
-    (failures_of w c.args.sym.now) (environment_read w files c.args.tables.now.lens.now c.args.env.now) slots
+    (failures_of w c.args.sym.now) (environment_read w files c.args.tables.now.lens.now c.args.env.now) others
     c.args.router f (prefix_of w c.args.dst.now c.args.len) slot.bgp in
     let placed = sym c.slot_for.ensures.place ∙ ap option_copied c.in-Some-slot_for.is in
     is w reads has

@@ -1,9 +1,12 @@
-use Rattle.std.proofs.Common.{arith, ap, true, ◌≡◌, ◌==◌, ◌∙◌}
-use Rattle.std.proofs.lemmas.Bool.Decides.{nat_tests}
+use Rattle.std.proofs.Common.{arith, ap, sym, ◌==◌, ◌∙◌, ◌++◌}
+use Rattle.std.specs.List.{filter_map}
+use Rattle.std.specs.Option.{option_to_list}
 use Rattle.std.proofs.lemmas.Result.{on_ok_weaker}
+use Rattle.silent_routers.specs.Silent.{is_behind_silent}
 use Rattle.sym_bgp.specs.Candidates.{candidate_of, candidates_end}
 use Rattle.bgp_equations.specs.Equations.{learnt_read}
-use Rattle.bgp_equations.proofs.CandidateSteps.{cands_end_push, if_on, marks_push, one_put}
+use Rattle.bgp_equations.proofs.CandidateSteps.{cands_end_push, if_on, marks_push, nothing_put, one_put}
+use Rattle.bgp_equations.proofs.HeardOnly.{heard_parts, learnt_heard, unheard}
 use Rattle.bgp_equations.proofs.learnt.put_learnt.Goals as goal
 
 pub returns-clause-within : goal.returns-clause-within
@@ -21,12 +24,22 @@ returns-clause-marks c =
     marks_push c.args.net.now.tracked c.args.cands.now c.put_cand.new.cands c.in_ok-cand.cand is c.requires.marks
     c.in_ok-cand.ensures.marks) c.put_cand.ensures
 
+pub returns-then-not-hears-clause-value : goal.returns-then-not-hears-clause-value
+returns-then-not-hears-clause-value c = λ w reads has.
+    let before = filter_map (candidate_of w) c.args.cands.now in
+    nothing_put before
+    ∙ ap (λ o. before ++ option_to_list o) (sym (unheard w c.args.net.now.tracked c.args.net.now.files c.args.sym.now
+    c.args.env.now c.args.tables.now c.args.dst.now c.args.len c.args.at c.args.end.now c.args.router
+    (sym c.hears.ensures ∙ c.if-not-hears.true)))
+
 pub returns-clause-value : goal.returns-clause-value
 returns-clause-value c =
-    let is_own = c.if-end-router.false in
-    let own : (c.args.end.now.router == c.args.router) ≡ true = grind (arith, nat_tests) in
+    let heard = heard_parts (c.args.end.now.router == c.args.router) (is_behind_silent c.args.net.now.files c.args.end.now)
+    (sym c.hears.ensures ∙ c.if-not-hears.false) in
     if_on c.put_cand.result c.put_cand.ensures (λ u is w reads has.
     one_put (candidate_of w) c.args.cands.now c.put_cand.new.cands c.in_ok-cand.cand
     (c.args.end.now.router == c.args.router)
     (learnt_read w c.args.net.now.tracked c.args.net.now.files c.args.sym.now c.args.env.now c.args.tables.now
-    c.args.dst.now c.args.len (c.args.at, c.args.end.now)) is own (c.in_ok-cand.ensures.value w reads has))
+    c.args.dst.now c.args.len (c.args.at, c.args.end.now)) is heard.0 (c.in_ok-cand.ensures.value w reads has
+    ∙ sym (learnt_heard w c.args.net.now.tracked c.args.net.now.files c.args.sym.now c.args.env.now c.args.tables.now
+    c.args.dst.now c.args.len c.args.at c.args.end.now heard.1)))

@@ -1,4 +1,4 @@
-use Rattle.std.proofs.Common.{◌≡◌, None, Some, ap, sym, ◌∙◌, option_copied, slice_get}
+use Rattle.std.proofs.Common.{ap, sym, ◌∙◌, option_copied}
 use Rattle.std.specs.Option.{option_and_then, option_map}
 use Rattle.mw_text.proofs.Results.{ok_then}
 use Rattle.bgp_shapes.specs.Candidates.{ShapeSlot}
@@ -6,7 +6,6 @@ use Rattle.bgp_shapes.specs.Exporting.{shape_exported}
 use Rattle.sym_policy.specs.Held.{bgp_of}
 use Rattle.sym_policy.specs.Records.{prefix_of}
 use Rattle.sym_rib.specs.Into.{HasTracked}
-use Rattle.sym_rib.specs.Worlds.{slot_placed}
 use Rattle.sym_rib.proofs.SlotPlaces.{placed_all}
 use Rattle.bgp_equations.specs.Equations.{slot_read}
 use Rattle.bgp_equations.proofs.Arriving.{marks_of}

@@ -6,8 +6,10 @@ use Rattle.plan_places.specs.Places.{has_place}
 use Rattle.world_variables.specs.Worlds.{places_in}
 use Rattle.routing_worlds.specs.Worlds.{shape_world_from}
 use Rattle.term_store.specs.Terms.{at as value_at}
-use Rattle.routing_encoder.specs.Decided.{is_decided_place}
+use Rattle.routing_encoder.specs.Decided.{is_heard_place}
 use Rattle.routing_encoder.proofs.DecidedSteps.{decided_next, decided_none, place_has}
+use Rattle.routing_encoder.proofs.HeardSteps.{heard_frame}
+use Rattle.routing_encoder.proofs.OpeningSteps.{places_are}
 use Rattle.routing_encoder.proofs.WorldSteps.{stands_grown}
 use Rattle.routing_encoder.proofs.decided.sym_all_decided.Goals as goal
 
@@ -41,7 +43,7 @@ loop-at-preserved c = record {
       let plan = c.args.plan.now in
       let at = c.loop-at.at in
       let past = at + 1 in
-      let test : Place → Bool = is_decided_place tracked files question.packets.dst
+      let test : Place → Bool = is_heard_place tracked files question.packets.dst
       (shape_world_from files tracked question plan w.variable from) in
       let is = c.as_slice-places.ensures in
       let places = c.as_slice-places.result.now in
@@ -58,7 +60,7 @@ loop-at-preserved c = record {
 
 pub returns-clause-value : goal.returns-clause-value
 returns-clause-value c = λ w reads from read shapes distances.
-    let test : Place → Bool = is_decided_place c.args.net.now.tracked c.args.net.now.files c.args.question.now.packets.dst
+    let test : Place → Bool = is_heard_place c.args.net.now.tracked c.args.net.now.files c.args.question.now.packets.dst
     (shape_world_from c.args.net.now.files c.args.net.now.tracked c.args.question.now c.args.plan.now w.variable from) in
     let long = ap length c.as_slice-places.ensures in
     let end = c.loop-at-test.false in
@@ -66,3 +68,6 @@ returns-clause-value c = λ w reads from read shapes distances.
     ∙ ap (λ b. value_at w c.loop-at.all && b) (sym (decided_none test c.args.made.now.routing.frame.places c.loop-at.at
     (omega (arith, end, long))))
     ∙ c.loop-at.invariant.value w reads from read shapes distances
+    ∙ heard_frame c.args.net.now.tracked c.args.net.now.files c.args.question.now c.args.plan.now w.variable from
+    c.args.made.now.routing.frame.places (places_are c.args.net.now.files c.args.net.now.tracked c.args.plan.now
+    c.args.made.now.routing.frame c.requires.stands.frame)

@@ -4,7 +4,7 @@ use Rattle.mw_text.specs.Address.{prefix_at}
 use Rattle.announced_places.specs.Announced.{Ascend}
 use Rattle.announced_places.proofs.PlacedThings.{lens_ascend}
 use Rattle.slot_places.specs.Rooms.{can_be_used}
-use Rattle.bgp_equations.specs.Equations.{is_decided_at}
+use Rattle.bgp_equations.specs.Equations.{is_decided_heard}
 use Rattle.shape_worlds.specs.Worlds.{slots_for}
 use Rattle.routing_worlds.specs.Worlds.{shape_world_from}
 use Rattle.routing_encoder.proofs.DecidedSteps.{decided_is}
@@ -23,7 +23,7 @@ returns-clause-value c = λ w reads from read shapes distances.
     let made = c.args.made.now in
     let p = c.args.p in
     let s = shape_world_from files tracked question plan w.variable from in
-    let decided = is_decided_at tracked files s.failures s.environment (slots_for s p.len) p.router
+    let decided = is_decided_heard tracked files s.failures s.environment (slots_for s p.len) p.router
     (prefix_at s.packet.dst p.len) in
     let used : can_be_used files question.packets.dst p.router p.len ≡ true =
     ap (λ (d : Prefix). can_be_used files d p.router p.len) (sym c.requires.stands.destinations)

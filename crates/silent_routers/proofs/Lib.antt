@@ -1,0 +1,2 @@
+pub mod Unsent
+pub mod Heard
