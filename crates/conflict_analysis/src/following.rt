@@ -10,7 +10,7 @@ ghost use Rattle.conflict_analysis.specs.Lessons.{marked, IsOnWay, IsSecond};
 ghost use Rattle.conflict_analysis.specs.Steps.{IsTrail};
 
 use crate::marks::{mark_clause, set_mark};
-use crate::staying::stays;
+use crate::staying::{is_marked, stays};
 use crate::trail::{Trail, level_at, literal_at, reason_at};
 use clause_arena::{Arena, ClauseRef};
 use resolution_check::Lit;
@@ -106,7 +106,7 @@ fn level_back(clause: &[Lit], before: usize, trail: &Trail, at: usize, back: u64
     level_at(trail, at)
 }
 
-/// Follows all steps back, from the last one. Answers the level of the second literal that is kept, 0 where there is
+/// Follows all steps back that are marked, from the last one; most are not, and are passed at once. Answers the level of the second literal that is kept, 0 where there is
 /// none.
 pub(crate) fn follow_all(
     marks: &mut [bool],
@@ -130,6 +130,9 @@ pub(crate) fn follow_all(
 {
     let mut back = 0;
     for at in (0..trail.lits.len()).rev() {
+        if !is_marked(marks, trail, at) {
+            continue;
+        }
         let before = clause.len();
         follow_step(marks, clause, chain, arena, trail, at, top);
         back = level_back(clause, before, trail, at, back);

@@ -13,7 +13,7 @@ use crate::trail::{Trail, level_at, literal_at, reason_at};
 use clause_arena::Arena;
 
 /// Whether the variable of the step at this place is marked.
-fn is_marked(marks: &[bool], trail: &Trail, at: usize) -> bool
+pub(crate) fn is_marked(marks: &[bool], trail: &Trail, at: usize) -> bool
     requires at { at < length trail.now.lits.items }
     requires below { is_below (length marks.now) trail.now.lits.items ≡ true }
     ensures { (l : Lit) → slice_get trail.now.lits.items at ≡ Some l → marked marks.now l.var ≡ result }
