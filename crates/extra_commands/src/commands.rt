@@ -7,12 +7,20 @@ ghost use Rattle.extra_commands.specs.Commands as commands;
 /// The commands of the second program.
 #[derive(Clone, Copy)]
 pub enum Command {
+    /// `advert`: whether routes go out to external peers.
+    Advert,
     /// `least`: with how few failed links something breaks a question.
     Least,
     /// `trim`: the trimmed form of a log.
     Trim,
     /// None that is built.
     Unknown,
+}
+
+fn is_advert(word: &String) -> bool
+    ensures { result ≡ same_text (string_bytes word.now) (codes "advert") }
+{
+    word.as_str() == "advert"
 }
 
 fn is_least(word: &String) -> bool
@@ -34,6 +42,7 @@ pub fn command_of(words: &[String]) -> Command
 {
     match words {
         [] => Command::Unknown,
+        [name, ..] if is_advert(name) => Command::Advert,
         [name, ..] if is_least(name) => Command::Least,
         [name, ..] if is_trim(name) => Command::Trim,
         _ => Command::Unknown,

@@ -3,68 +3,19 @@
 //! The call `run_least` is these two in a row. Here they stand one after the other once more, since a call that reads words
 //! makes boxed values of its own, and one that takes the deciders must call none such in another crate.
 
-ghost use Rattle.std.specs.Prelude.{◌≡◌, ℕ, List as ListOf, length, map, string_bytes};
-ghost use Rattle.least_failures.specs.Answering.{AnswersSo};
-ghost use Rattle.least_failures.specs.Loading.{IsReady};
-ghost use Rattle.least_failures.specs.Running.{EndsSo, IsAccepted, IsComplete, NoFault};
-ghost use Rattle.log_trim.specs.Printing.{PrintsSo};
+ghost use Rattle.std.specs.Prelude.{◌≡◌, length, map, string_bytes};
+ghost use Rattle.asked_files.specs.Ending.{IsComplete, NoFault};
+ghost use Rattle.least_failures.specs.Running.{EndsSo, IsAccepted};
 
+use asked_files::put_refusal;
 use deciders::Decider;
-use least_failures::answers::put_answers;
 use least_failures::loading::work_of;
+use least_failures::running::end_work;
 use log_trim::put_usage;
 use mw_load::Ended;
 use mw_outside::{Files, Sink};
-use mw_text::List;
 use run_inputs::Stop;
-use run_inputs::load::Loaded;
 use std::alloc::Global;
-
-// Prints the line of a refusal.
-fn put_refusal<O: Sink>(line: &List<u8>, out: &mut O) -> Ended
-    ensures { PrintsSo (O.taken out.old) (O.taken out.new) (O.faults out.old) (O.faults out.new) line.now Ended.Refused result }
-{
-    match out.write(line.as_slice()) {
-        Ok(()) => Ended::Refused,
-        Err(_) => Ended::WriteFault,
-    }
-}
-
-// Answers the questions, after which what was loaded goes.
-fn end_work<O: Sink, L: Sink>(
-    alloc: Global,
-    loaded: Loaded,
-    out: &mut O,
-    log: &mut L,
-    deciders: &mut Vec<Box<dyn Decider>>,
-) -> Ended
-    requires ready { IsReady loaded }
-    ensures so { AnswersSo loaded.net.files loaded.questions loaded.budget (record {
-      taken = O.taken out.old;
-      taken_now = O.taken out.new;
-      faults = O.faults out.old;
-      faults_now = O.faults out.new;
-      logged = L.taken log.old;
-      logged_now = L.taken log.new;
-      log_faults = L.faults log.old;
-      log_faults_now = L.faults log.new;
-      tolds = map (λ b. told b) deciders.new.items;
-    }) result }
-    ensures deciders { length deciders.new.items ≡ length deciders.old.items }
-{
-    let questions = loaded.questions.as_slice();
-    let ended = put_answers(
-        alloc,
-        &loaded.net,
-        questions,
-        loaded.budget,
-        out,
-        log,
-        deciders,
-    );
-    drop(loaded);
-    ended
-}
 
 // Reads what the words ask for, answers it, and prints the answers.
 fn do_least<F: Files, O: Sink, L: Sink>(

@@ -1,6 +1,7 @@
 //! The commands of the second program, by the first word.
 #![tactic(auto)]
 
+mod advert;
 pub mod commands;
 mod least;
 pub mod running;

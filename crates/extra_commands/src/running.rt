@@ -4,6 +4,7 @@ ghost use Rattle.std.specs.Prelude.{◌≡◌, length, map, string_bytes};
 ghost use Rattle.extra_commands.specs.Commands as commands;
 ghost use Rattle.extra_commands.specs.Running.{CompletesSo, EndsSo};
 
+use crate::advert::advert_words;
 use crate::commands::{Command, command_of};
 use crate::least::least_words;
 use deciders::Decider;
@@ -12,8 +13,9 @@ use mw_load::Ended;
 use mw_outside::{Files, Sink};
 use std::alloc::Global;
 
-/// The whole run of the second program: hands the words to the call of their first word, `least QUESTIONS CONFIG...` or
-/// `trim LOG`. Where that is none, the line of usage is printed, and nothing is read or logged.
+/// The whole run of the second program: hands the words to the call of their first word, `advert ASKS CONFIG...`,
+/// `least QUESTIONS CONFIG...` or `trim LOG`. Where that is none, the line of usage is printed, and nothing is read or
+/// logged.
 pub fn run_extra<F: Files, O: Sink, L: Sink>(
     alloc: Global,
     words: &[String],
@@ -71,6 +73,7 @@ pub fn run_extra<F: Files, O: Sink, L: Sink>(
     ensures deciders { length deciders.new.items ≡ length deciders.old.items }
 {
     match command_of(words) {
+        Command::Advert => advert_words(alloc, words, files, out, log, deciders),
         Command::Least => least_words(alloc, words, files, out, log, deciders),
         Command::Trim => trim_words(alloc, words, files, out),
         Command::Unknown => put_usage(out),

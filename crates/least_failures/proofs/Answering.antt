@@ -1,24 +1,22 @@
 -- Answers one after another.
-use Rattle.std.proofs.Common.{◌≡◌, ◌∙◌, ℕ, ◌+◌, ◌<◌, ◌≤◌, Bool, true, false, ◌||◌, List, [], ◌∷◌, ◌++◌, length, take, get_or}
+use Rattle.std.proofs.Common.{◌≡◌, ◌∙◌, ℕ, ◌+◌, ◌≤◌, Bool, true, false, ◌||◌, List, [], ◌∷◌, ◌++◌, length, take}
 use Rattle.std.proofs.Common.{Option, Some, None, refl, ap, sym, subst, arith, append_assoc, inl, inr}
-use Rattle.std.specs.Prelude.{◌⊎◌, IfSome, slice_get}
-use Rattle.std.specs.List.{last_or, list_any}
+use Rattle.std.specs.Prelude.{IfSome, slice_get}
+use Rattle.std.specs.List.{list_any}
 use Rattle.std.proofs.Math.Bool.{or-false}
 use Rattle.std.proofs.lemmas.List.{append-nil, length-take-le, take_all}
 use Rattle.std.proofs.lemmas.List.Folds.{list_any-append}
 use Rattle.std.proofs.lemmas.Option.{get_or_from_slice_get, slice_get_within}
 use Rattle.ios_ast.specs.declared.file.File.{File}
 use Rattle.mw_load.specs.declared.ended.Ended.{Ended}
-use Rattle.mw_load.specs.declared.ended.Ended.TheVariants as ended
-use Rattle.mw_outside.specs.Faults.{Rose}
-use Rattle.mw_outside.specs.Taken.{Takes, TakesPart, part_more, part_of_all, part_of_none, takes_more}
+use Rattle.mw_outside.specs.Taken.{Takes, TakesPart, part_more, part_of_all, takes_more}
 use Rattle.mw_text.proofs.Reading.{take-read}
 use Rattle.question_lang.specs.declared.question.Question.{Question}
-use Rattle.resolution_check.specs.declared.log.Entry.{Entry}
 use Rattle.run_answers.specs.declared.seen.Seen.{Seen}
-use Rattle.least_failures.proofs.Trying.{last_more, takes_none}
-use Rattle.least_failures.specs.Answering.{AnswersSo, AreAnswered, AreBegun, AreRight, IsCutShort, IsPut, NoWriteFailed, SomeWriteFailed}
-use Rattle.least_failures.specs.Answering.{TellLastOf, Writes, answers_text, ended_by, is_broken, is_unknown, sections_text}
+use Rattle.asked_files.proofs.Endings.{last_more, takes_none}
+use Rattle.asked_files.specs.Ending.{NoWriteFailed, Writes, ended_by}
+use Rattle.least_failures.specs.Answering.{AnswersSo, AreAnswered, AreBegun, AreRight, IsCutShort, IsPut, TellLastOf}
+use Rattle.least_failures.specs.Answering.{answers_text, is_broken, is_unknown, sections_text}
 use Rattle.least_failures.specs.declared.outcome.Least.{Least}
 use Rattle.least_failures.specs.Finding.{IsFound, IsUnfound, OfQuestion, TellLast}
 use Rattle.least_failures.specs.Leasts.{Answer, IsAnswer, trials_text}
@@ -288,8 +286,3 @@ seen_answers files questions budget w seen how is written all =
     by_kinds true u broken unknown = (written, whole true u broken unknown)
     by_kinds false true broken unknown = (written, whole false true broken unknown)
     by_kinds false false broken unknown = (written, whole false false broken unknown)
-
--- a fault of what came after no fault is one since the beginning
-pub rose_since : (a b c d e f : ℕ) → b ≡ a → e ≡ d → Rose b c ⊎ Rose e f → Rose a c ⊎ Rose d f
-rose_since a b c d e f same too (inl rose) = let R : ℕ → Type 0 = λ n. Rose n c in inl (subst R same rose)
-rose_since a b c d e f same too (inr rose) = let R : ℕ → Type 0 = λ n. Rose n f in inr (subst R too rose)

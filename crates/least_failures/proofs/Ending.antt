@@ -1,6 +1,5 @@
 -- How the command ends, and what follows of it.
-use Rattle.std.proofs.Common.{◌≡◌, ◌∙◌, ℕ, List, Option, Some, None, refl, ap, sym, subst, inl, inr}
-use Rattle.std.specs.Prelude.{◌⊎◌, IfSome}
+use Rattle.std.proofs.Common.{◌≡◌, ◌∙◌, ℕ, List, Option, Some, None, sym, subst, inl, inr}
 use Rattle.ios_ast.specs.declared.file.File.{File}
 use Rattle.log_trim.specs.Printing.{PrintsSo}
 use Rattle.log_trim.specs.Running.{NoReadFailed, Reads}
@@ -9,11 +8,13 @@ use Rattle.mw_load.specs.declared.ended.Ended.{Ended}
 use Rattle.mw_load.specs.declared.ended.Ended.TheVariants.{Good, Bad, Unknown, Usage, Refused, ReadFault, WriteFault, Memory}
 use Rattle.mw_outside.specs.Contents.{Contents}
 use Rattle.question_lang.specs.declared.question.Question.{Question}
-use Rattle.run_inputs.specs.Due.{Outcome, answering, refused, usage}
-use Rattle.least_failures.specs.Answering.{AnswersSo, Writes}
+use Rattle.run_inputs.specs.Due.{answering, refused}
+use Rattle.asked_files.specs.Ending.{IsComplete, NoFault, Writes}
+use Rattle.asked_files.specs.Words.{Asking}
+use Rattle.least_failures.specs.Answering.{AnswersSo}
 use Rattle.least_failures.specs.Due.{IsDue, due_by}
-use Rattle.least_failures.specs.Running.{EndsSo, IsAccepted, IsComplete, NoFault}
-use Rattle.least_failures.specs.Words.{Asking, asked_of}
+use Rattle.least_failures.specs.Running.{EndsSo, IsAccepted}
+use Rattle.least_failures.specs.Words.{asked_of}
 
 -- with answers
 pub ends_answers : (told : Option Contents) (words : List (List ℕ)) (r : Reads) (w : Writes) (Unlogged : Type 0)

@@ -1,18 +1,16 @@
 -- Trials one after another.
 use Rattle.std.proofs.Common.{◌≡◌, ◌∙◌, ℕ, suc, ◌+◌, ◌<◌, ◌≤◌, true, false, cond, nat_eq, List, [], ◌∷◌, ◌++◌, length}
 use Rattle.std.proofs.Common.{Option, Some, None, Result, refl, sym, ap, subst, arith, append_assoc, inl, inr}
-use Rattle.std.specs.Prelude.{◌⊎◌, ◌==◌, IfOk, IfSome, slice_get, if◌then◌else◌}
-use Rattle.std.specs.List.{last_or}
+use Rattle.std.specs.Prelude.{◌⊎◌, IfOk, IfSome, slice_get}
 use Rattle.std.proofs.lemmas.Bool.{cases_order}
 use Rattle.std.proofs.lemmas.List.{append-nil, length-append}
 use Rattle.std.proofs.lemmas.Option.{slice_get_within}
 use Rattle.cdcl_search.specs.Turns.{TellBumps}
 use Rattle.cex_json.specs.declared.counterexample.Counterexample.{Counterexample}
-use Rattle.cex_json.specs.Counterexamples.{IsTrueCounterexample, world_of}
+use Rattle.cex_json.specs.Counterexamples.{world_of}
 use Rattle.ios_ast.specs.declared.file.File.{File}
 use Rattle.mw_outside.specs.Taken.{Takes, takes_more}
 use Rattle.mw_text.proofs.Lists.{each_place-push}
-use Rattle.net_parts.specs.World.{IsFailureSet}
 use Rattle.question_lang.specs.Breaking.{IsBreaking}
 use Rattle.question_lang.specs.declared.question.Question.{Question}
 use Rattle.resolution_check.specs.declared.log.Entry.{Entry}
@@ -23,10 +21,11 @@ use Rattle.run_answers.specs.Answering.{IsToldSo, IsUnfinished}
 use Rattle.run_answers.specs.declared.verdict.Verdict.{Verdict}
 use Rattle.run_answers.specs.declared.verdict.Verdict.TheVariants as verdict
 use Rattle.run_answers.specs.Verdicts.{IsSection, section_text}
+use Rattle.asked_files.proofs.Endings.{last_more, takes_none}
 use Rattle.least_failures.specs.declared.outcome.Least.{Least}
 use Rattle.least_failures.specs.declared.outcome.Least.TheVariants.{At, NoneUpTo, Unknown}
 use Rattle.least_failures.specs.Finding.{AreExcluded, IsFound, IsUnfound, TellLast}
-use Rattle.least_failures.specs.Leasts.{AreTrials, trials_text, verdict_at}
+use Rattle.least_failures.specs.Leasts.{trials_text, verdict_at}
 use Rattle.least_failures.specs.Trials.{Survives, SurvivesFewer, trial}
 
 -- the trials with fewer than k failed links showed that nothing breaks the question
@@ -38,10 +37,6 @@ pub record Tried (files : List File) (question : Question) (budget k : ℕ) (log
   pub survives : SurvivesFewer files question k
   pub logged : Takes logged_before logged_now (trials_text question 0 sections)
   pub bumps : TellLast tolds sections
-
-pub takes_none : (taken : Option (List ℕ)) → Takes taken taken []
-takes_none None = tt
-takes_none (Some bytes) = ap Some (sym (append-nil bytes))
 
 -- a search for what the trial asks is one for the trial
 pub told_of : {E : Type 0} (files : List File) (budget number : ℕ) (asked wanted : Question) (result : Result Verdict E)
@@ -90,10 +85,6 @@ logs_more question k sections entries before middle now count first second =
     let place : k ≡ 0 + length sections = omega (arith, count) in
     subst T (trials_more question 0 sections entries)
     (takes_more before middle now _ _ first (subst S place second))
-
-pub last_more : {A : Type 0} (o : Option A) (xs : List A) (x : A) → last_or o (xs ++ x ∷ []) ≡ Some x
-last_more o [] x = refl
-last_more o (y ∷ ys) x = last_more (Some y) ys x
 
 told_more : (tolds : List (Option (List ℕ))) (sections : List (List Entry)) (entries : List Entry) →
     TellBumps tolds entries → TellLast tolds (sections ++ entries ∷ [])

@@ -1,16 +1,15 @@
 -- Answers to questions one after another.
-use Rattle.std.specs.Prelude.{◌≡◌, ◌⊎◌, ℕ, ◌+◌, Bool, true, false, ◌||◌, List, [], ◌∷◌, ◌++◌, take, slice_get, IfSome}
-use Rattle.std.specs.Prelude.{Option, Some, None, if◌then◌else◌}
+use Rattle.std.specs.Prelude.{◌≡◌, ◌⊎◌, ℕ, ◌+◌, Bool, true, false, List, [], ◌∷◌, ◌++◌, take, slice_get, IfSome}
+use Rattle.std.specs.Prelude.{Option, Some, None}
 use Rattle.std.specs.List.{last_or, list_any}
 use Rattle.ios_ast.specs.declared.file.File.{File}
 use Rattle.mw_load.specs.declared.ended.Ended.{Ended}
 use Rattle.mw_load.specs.declared.ended.Ended.TheVariants as ended
-use Rattle.mw_outside.specs.Faults.{Rose}
 use Rattle.mw_outside.specs.Taken.{Takes, TakesPart}
 use Rattle.question_lang.specs.declared.question.Question.{Question}
-use Rattle.resolution_check.specs.declared.log.Entry.{Entry}
 use Rattle.run_answers.specs.declared.halt.Halt.{Halt}
 use Rattle.run_answers.specs.declared.halt.Halt.TheVariants as halt
+use Rattle.asked_files.specs.Ending.{NoWriteFailed, SomeWriteFailed, Writes, ended_by}
 use Rattle.least_failures.specs.declared.outcome.Least.{Least}
 use Rattle.least_failures.specs.declared.outcome.Least.TheVariants as least
 use Rattle.least_failures.specs.declared.outcome.LeastFault.{LeastFault}
@@ -54,9 +53,6 @@ is_unknown (least.NoneUpTo k) = false
 is_unknown (least.Unknown k) = true
 
 -- how the command ends where some question has a least number, or some is not known
-abbrev pub ended_by : Bool → Bool → Ended
-ended_by broken unknown = if broken then ended.Bad else (if unknown then ended.Unknown else ended.Good)
-
 abbrev pub ended_of : List Answer → Ended
 ended_of answers = ended_by (list_any (λ a. is_broken a.found) answers) (list_any (λ a. is_unknown a.found) answers)
 
@@ -109,26 +105,6 @@ pub record AreBegun (files : List File) (questions : List Question) (budget : �
       × IsUnfound files budget question middle logged_now)
 
 -- ---- how they end
-
--- what the output and the log took before and now, how many writes of each failed, and what the deciders tell
-pub record Writes : Type 0 where
-  pub taken : Option (List ℕ)
-  pub taken_now : Option (List ℕ)
-  pub faults : ℕ
-  pub faults_now : ℕ
-  pub logged : Option (List ℕ)
-  pub logged_now : Option (List ℕ)
-  pub log_faults : ℕ
-  pub log_faults_now : ℕ
-  pub tolds : List (Option (List ℕ))
-
--- no write failed
-abbrev pub NoWriteFailed : Writes → Type 0
-NoWriteFailed w = (w.faults_now ≡ w.faults) × (w.log_faults_now ≡ w.log_faults)
-
--- some write did
-abbrev pub SomeWriteFailed : Writes → Type 0
-SomeWriteFailed w = Rose w.faults w.faults_now ⊎ Rose w.log_faults w.log_faults_now
 
 -- every question is answered
 abbrev pub IsDone : List File → List Question → ℕ → Writes → Ended → Type 0

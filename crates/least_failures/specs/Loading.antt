@@ -10,8 +10,8 @@ use Rattle.run_inputs.specs.declared.load.Stop.{Stop}
 use Rattle.run_inputs.specs.declared.load.Stop.TheVariants as stop
 use Rattle.run_inputs.specs.Due.{answering, refused}
 use Rattle.run_inputs.specs.Loading.{IsBudget}
+use Rattle.asked_files.specs.Words.{Asking}
 use Rattle.least_failures.specs.Due.{IsDueBy, order_by}
-use Rattle.least_failures.specs.Words.{Asking}
 
 -- a read of one of the files of these names failed; where the last failed name is told it is one of them, and where
 -- contents are told those before it are there and small enough

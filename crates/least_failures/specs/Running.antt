@@ -6,11 +6,11 @@ use Rattle.log_trim.specs.Texts.{usage_text}
 use Rattle.mw_load.specs.declared.ended.Ended.{Ended}
 use Rattle.mw_load.specs.declared.ended.Ended.TheVariants.{Good, Bad, Unknown, Usage, Refused, ReadFault, WriteFault, Memory}
 use Rattle.mw_outside.specs.Contents.{Contents}
-use Rattle.mw_outside.specs.Faults.{Rose}
-use Rattle.mw_outside.specs.Taken.{Takes, TakesPart}
+use Rattle.mw_outside.specs.Taken.{Takes}
 use Rattle.question_lang.specs.declared.question.Question.{Question}
 use Rattle.run_inputs.specs.Due.{answering, refused}
-use Rattle.least_failures.specs.Answering.{IsBegun, IsDone, NoWriteFailed, SomeWriteFailed, Writes}
+use Rattle.asked_files.specs.Ending.{IsLineBegun, NoWriteFailed, SomeWriteFailed, Writes}
+use Rattle.least_failures.specs.Answering.{IsBegun, IsDone}
 use Rattle.least_failures.specs.Due.{IsDue, due_by, in_order}
 use Rattle.least_failures.specs.Loading.{IsUnread}
 use Rattle.least_failures.specs.Words.{asked_of}
@@ -21,12 +21,9 @@ EndsAnswered told words w how =
     (files : List File) × (questions : List Question) × (budget : ℕ)
     × IsDue told words (answering files questions budget) × IsDone files questions budget w how
 
--- the line stands alone, or a front of it
+-- the line stands alone
 abbrev pub IsLine : Writes → List ℕ → Type 0
 IsLine w line = Takes w.taken w.taken_now line
-
-abbrev pub IsLineBegun : Writes → List ℕ → Type 0
-IsLineBegun w line = TakesPart w.taken w.taken_now line × (w.logged_now ≡ w.logged)
 
 -- a front of what is due stands: nothing; of the line of usage or of a refusal; or of right answers to the first
 -- questions, with their sections
@@ -61,18 +58,3 @@ abbrev pub IsAccepted : Option Contents → List (List ℕ) → Type 0
 IsAccepted told words =
     IsSomeAnd told (λ contents. (files : List File) × (questions : List Question) × (budget : ℕ)
     × (due_by contents (asked_of words) ≡ answering files questions budget))
-
--- no count of faults rose
-abbrev pub NoFault : Reads → Writes → Type 0
-NoFault r w = (Rose r.faults r.faults_now → ⊥) × (SomeWriteFailed w → ⊥)
-
--- every question is answered, or memory was refused
-abbrev pub IsComplete : Ended → Type 0
-IsComplete Good = Unit {0}
-IsComplete Bad = Unit {0}
-IsComplete Unknown = Unit {0}
-IsComplete Usage = ⊥
-IsComplete Refused = ⊥
-IsComplete ReadFault = ⊥
-IsComplete WriteFault = ⊥
-IsComplete Memory = Unit {0}

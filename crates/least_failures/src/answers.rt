@@ -2,7 +2,7 @@
 
 ghost use Rattle.std.specs.Prelude.{◌≡◌, ◌⊎◌, ◌<◌, ◌≤◌, ◌||◌, IfOk, OnErr, length, map};
 ghost use Rattle.least_failures.specs.Answering.{AnswersSo, IsCutShort, IsPut};
-ghost use Rattle.least_failures.specs.Answering.{ended_by, is_broken, is_unknown};
+ghost use Rattle.least_failures.specs.Answering.{is_broken, is_unknown};
 ghost use Rattle.least_failures.specs.Finding.{OfQuestion};
 ghost use Rattle.mw_outside.specs.Faults.{Rose};
 ghost use Rattle.run_answers.specs.Answering.{OnWriteFault, UnlessWriteFault};
@@ -11,6 +11,7 @@ ghost use Rattle.run_inputs.specs.Loading.{IsBudget};
 use crate::finding::{least, question_at};
 use crate::lines::put_lines;
 use crate::outcome::{Least, LeastFault};
+use asked_files::ended_by;
 use deciders::Decider;
 use mw_load::Ended;
 use mw_outside::Sink;
@@ -47,19 +48,6 @@ fn with_found(seen: Seen, found: &Least) -> Seen
             broken: seen.broken,
             unknown: true,
         },
-    }
-}
-
-// How the command ends.
-fn ended(seen: Seen) -> Ended
-    ensures { result ≡ ended_by seen.broken seen.unknown }
-{
-    if seen.broken {
-        Ended::Bad
-    } else if seen.unknown {
-        Ended::Unknown
-    } else {
-        Ended::Good
     }
 }
 
@@ -128,5 +116,5 @@ pub fn put_answers<O: Sink, L: Sink>(
             Err(Halt::Memory) => return Ended::Memory,
         }
     }
-    ended(seen)
+    ended_by(seen)
 }

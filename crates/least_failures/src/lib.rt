@@ -8,7 +8,6 @@ pub mod loading;
 pub mod outcome;
 pub mod running;
 pub mod trial;
-pub mod words;
 
 pub use finding::least;
 pub use outcome::{Least, LeastFault};

@@ -1,77 +1,24 @@
 //! Reads and parses what the words ask for.
 
 ghost use Rattle.std.specs.Prelude.{◌≡◌, ◌≤◌, Ok, Err, Some, IfOk, IfErr, IfSome, length, map, string_bytes};
+ghost use Rattle.asked_files.specs.Words.{asking};
 ghost use Rattle.least_failures.specs.Due as due;
 ghost use Rattle.least_failures.specs.Loading.{WorksBy};
-ghost use Rattle.least_failures.specs.Words.{asked_of, asks};
+ghost use Rattle.least_failures.specs.Words.{asked_of};
 ghost use Rattle.mw_load.specs.Loading.{StopsAt};
 ghost use Rattle.mw_outside.specs.Contents.{TellsOnly};
 ghost use Rattle.mw_outside.specs.Faults.{Rose};
 ghost use Rattle.run_inputs.specs.Due.{answering, refused};
 ghost use Rattle.run_inputs.specs.Loading.{IsBudget, OnStop, UnlessReadFault};
 
-use crate::words::{Asked, read_asked_words};
-use mw_load::{LoadRefused, load, refusal_text};
+use asked_files::{Asked, load_network, read_asked_words};
 use mw_outside::Files;
 use mw_text::List;
 use net_model::Net;
 use question_lang::{MOST_QUESTIONS, Question};
 use run_inputs::Stop;
-use run_inputs::load::{Loaded, MOST_BYTES, read_asked, read_text, stop_with};
+use run_inputs::load::{Loaded, MOST_BYTES, read_asked, read_text};
 use std::alloc::Global;
-
-fn name_at(names: &[String], at: u64) -> &str
-    ensures { result.now ≡ due.name_at (map string_bytes names.entry.now) at }
-{
-    match names.get(at as usize) {
-        Some(name) => name.as_str(),
-        None => "",
-    }
-}
-
-// One of the files of these names is refused.
-fn stop_at(
-    alloc: Global,
-    names: &[String],
-    name: u64,
-    line: u32,
-    number: u32,
-    cause: &List<u8>,
-) -> Stop
-    ensures { OnStop result (λ printed. printed ≡ due.refusal_line (map string_bytes names.now)
-        (record { name = name; line = line; number = number; cause = cause.now })) ⊥ }
-{
-    let name = name_at(names, name);
-    stop_with(refusal_text(alloc, name, line, number, cause.as_slice()))
-}
-
-// The network of the configurations of these names.
-fn load_network<F: Files>(alloc: Global, files: &mut F, names: &[String]) -> Result<Net, Stop>
-    ensures kept { F.contents files.new ≡ F.contents files.old }
-    ensures ok { IfOk result (λ net. IfSome (F.contents files.old) (λ contents.
-        due.network_of contents (map string_bytes names.now) ≡ Ok net.files)) }
-    ensures quiet { UnlessReadFault result (F.faults files.new ≡ F.faults files.old) }
-    ensures name_stays { UnlessReadFault result (F.last_failed files.new ≡ F.last_failed files.old) }
-    ensures stop { IfErr result (λ stop. OnStop stop
-        (λ line. IfSome (F.contents files.old) (λ contents.
-        due.network_of contents (map string_bytes names.now) ≡ Err (refused line)))
-        (Rose (F.faults files.old) (F.faults files.new)
-        × StopsAt (F.contents files.old) (map string_bytes names.now) (F.last_failed files.new))) }
-{
-    match load(alloc, files, names) {
-        Ok(net) => Ok(net),
-        Err(LoadRefused::Fault) => Err(Stop::ReadFault),
-        Err(
-            LoadRefused::Refused {
-                name,
-                line,
-                number,
-                cause,
-            },
-        ) => Err(stop_at(alloc, names, name, line, number, &cause)),
-        Err(LoadRefused::Memory) => Err(Stop::Memory),
-    }
-}
 
 // The questions of the file of that name about the network.
 fn load_questions<F: Files>(
@@ -99,18 +46,18 @@ fn load_questions<F: Files>(
 fn load_asked<F: Files>(alloc: Global, files: &mut F, asked: &Asked) -> Result<Loaded, Stop>
     ensures kept { F.contents files.new ≡ F.contents files.old }
     ensures ok { IfOk result (λ loaded. IfSome (F.contents files.old) (λ contents.
-        due.files_due contents (asks asked.now) ≡ Ok (answering loaded.net.files loaded.questions loaded.budget))) }
+        due.files_due contents (asking asked.now) ≡ Ok (answering loaded.net.files loaded.questions loaded.budget))) }
     ensures budget { IfOk result (λ loaded. loaded.budget ≡ asked.now.budget) }
     ensures few { IfOk result (λ loaded. length loaded.questions ≤ MOST_QUESTIONS) }
     ensures quiet { UnlessReadFault result (F.faults files.new ≡ F.faults files.old) }
     ensures name_stays { UnlessReadFault result (F.last_failed files.new ≡ F.last_failed files.old) }
     ensures stop { IfErr result (λ stop. OnStop stop
-        (λ line. IfSome (F.contents files.old) (λ contents. due.files_due contents (asks asked.now) ≡ Err (refused line)))
+        (λ line. IfSome (F.contents files.old) (λ contents. due.files_due contents (asking asked.now) ≡ Err (refused line)))
         (Rose (F.faults files.old) (F.faults files.new)
-        × StopsAt (F.contents files.old) (due.order_by (Some (asks asked.now))) (F.last_failed files.new))) }
+        × StopsAt (F.contents files.old) (due.order_by (Some (asking asked.now))) (F.last_failed files.new))) }
 {
     let net = load_network(alloc, files, asked.configs.as_slice())?;
-    let questions = load_questions(alloc, files, asked.questions.as_str(), &net)?;
+    let questions = load_questions(alloc, files, asked.own.as_str(), &net)?;
     Ok(Loaded {
         net,
         questions,
@@ -122,7 +69,7 @@ fn load_asked<F: Files>(alloc: Global, files: &mut F, asked: &Asked) -> Result<L
 fn asked_work<F: Files>(alloc: Global, files: &mut F, asked: &Asked) -> Result<Option<Loaded>, Stop>
     requires { IsBudget asked.now.budget }
     ensures kept { F.contents files.new ≡ F.contents files.old }
-    ensures so { WorksBy (F.contents files.old) (Some (asks asked.now)) (record {
+    ensures so { WorksBy (F.contents files.old) (Some (asking asked.now)) (record {
       faults = F.faults files.old;
       faults_now = F.faults files.new;
       last = F.last_failed files.old;
@@ -150,7 +97,7 @@ pub fn work_of<F: Files>(
       last_now = F.last_failed files.new;
     }) result }
 {
-    match read_asked_words(alloc, words) {
+    match read_asked_words(alloc, "least", words) {
         Ok(Some(asked)) => asked_work(alloc, files, &asked),
         Ok(None) => Ok(None),
         Err(_) => Err(Stop::Memory),

@@ -1,34 +1,24 @@
 //! The whole command.
 
-ghost use Rattle.std.specs.Prelude.{◌≡◌, ℕ, List as ListOf, length, map, string_bytes};
+ghost use Rattle.std.specs.Prelude.{◌≡◌, length, map, string_bytes};
+ghost use Rattle.asked_files.specs.Ending.{IsComplete, NoFault};
 ghost use Rattle.least_failures.specs.Answering.{AnswersSo};
 ghost use Rattle.least_failures.specs.Loading.{IsReady};
-ghost use Rattle.least_failures.specs.Running.{EndsSo, IsAccepted, IsComplete, NoFault};
-ghost use Rattle.log_trim.specs.Printing.{PrintsSo};
+ghost use Rattle.least_failures.specs.Running.{EndsSo, IsAccepted};
 
 use crate::answers::put_answers;
 use crate::loading::work_of;
+use asked_files::put_refusal;
 use deciders::Decider;
 use log_trim::running::put_usage;
 use mw_load::Ended;
 use mw_outside::{Files, Sink};
-use mw_text::List;
 use run_inputs::Stop;
 use run_inputs::load::Loaded;
 use std::alloc::Global;
 
-// Prints the line of a refusal.
-fn put_refusal<O: Sink>(line: &List<u8>, out: &mut O) -> Ended
-    ensures { PrintsSo (O.taken out.old) (O.taken out.new) (O.faults out.old) (O.faults out.new) line.now Ended.Refused result }
-{
-    match out.write(line.as_slice()) {
-        Ok(()) => Ended::Refused,
-        Err(_) => Ended::WriteFault,
-    }
-}
-
-// Answers the questions, after which what was loaded goes.
-fn end_work<O: Sink, L: Sink>(
+/// Answers the questions that were loaded, in their order, after which these and the network go.
+pub fn end_work<O: Sink, L: Sink>(
     alloc: Global,
     loaded: Loaded,
     out: &mut O,

@@ -1,5 +1,6 @@
-use Rattle.std.proofs.Common.{◌≡◌, ◌∙◌, arith, refl}
-use Rattle.least_failures.proofs.Answering.{rose_since, seen_all, seen_answers, seen_cut, seen_more, seen_none}
+use Rattle.std.proofs.Common.{◌∙◌, arith, refl}
+use Rattle.asked_files.proofs.Endings.{rose_since}
+use Rattle.least_failures.proofs.Answering.{seen_all, seen_answers, seen_cut, seen_more, seen_none}
 use Rattle.least_failures.proofs.answers.put_answers.Goals as goal
 
 pub loop-at-init : goal.loop-at-init
@@ -48,7 +49,7 @@ loop-at-preserved g c = record {
 pub returns-clause-so : goal.returns-clause-so
 returns-clause-so g c =
     let test = c.loop-at-test.false in
-    seen_answers c.args.net.now.files c.args.questions.now c.args.budget _ c.loop-at.seen c.ended.result c.ended.ensures
+    seen_answers c.args.net.now.files c.args.questions.now c.args.budget _ c.loop-at.seen c.ended_by.result c.ended_by.ensures
     (c.loop-at.invariant.prints, c.loop-at.invariant.logs)
     (seen_all c.args.net.now.files c.args.questions.now c.args.budget c.loop-at.at c.loop-at.seen
     (g.O.Sink.taken c.args.out.now) (g.O.Sink.taken c.loop-at.out) (g.L.Sink.taken c.args.log.now)

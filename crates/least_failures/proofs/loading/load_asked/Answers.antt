@@ -5,16 +5,18 @@ use Rattle.mw_outside.specs.Contents.{Contents, TellsOnly}
 use Rattle.mw_outside.specs.Faults.{Rose}
 use Rattle.run_inputs.proofs.Loading.{on_stop-map}
 use Rattle.run_inputs.specs.Due.{refused}
-use Rattle.least_failures.specs.Due.{network_of, questions_in}
-use Rattle.least_failures.specs.Words.{Asking, asks}
-use Rattle.least_failures.proofs.Reading.{questions_stopped, stops_last}
+use Rattle.asked_files.specs.Network.{network_of}
+use Rattle.asked_files.specs.Words.{Asking, asking}
+use Rattle.asked_files.proofs.Networks.{stops_last}
+use Rattle.least_failures.specs.Due.{questions_in}
+use Rattle.least_failures.proofs.Reading.{questions_stopped}
 use Rattle.least_failures.proofs.loading.load_asked.Goals as goal
 
 pub returns-in_err-questions-clause-stop : goal.returns-in_err-questions-clause-stop
 returns-in_err-questions-clause-stop g c =
     let p = err_from_is_err_and c.from_residual-in_err-questions.result c.from_residual-in_err-questions.ensures.1 in
     let told : Option Contents = g.F.Files.contents c.args.files.now in
-    let asking : Asking = asks c.args.asked.now in
+    let all : Asking = asking c.args.asked.now in
     let files = c.in_ok-net.net.files in
     let last = g.F.Files.last_failed c.load_questions.new.files in
     let N : List (List ℕ) → Type 0 = λ names. IfSome told (λ contents. network_of contents names ≡ Ok files) in
@@ -25,11 +27,11 @@ returns-in_err-questions-clause-stop g c =
     let T : Option Contents → Type 0 = λ o.
     IfSome o (λ contents. questions_in contents c.as_str.result.now files ≡ Err (refused line)) in
     let Q : List ℕ → Type 0 = λ name. IfSome told (λ contents. questions_in contents name files ≡ Err (refused line)) in
-    questions_stopped told asking files line network
+    questions_stopped told all files line network
     (subst Q c.as_str.ensures.value (subst T c.in_ok-net.ensures.kept said)))
     (λ said.
     let R : ℕ → Type 0 = λ before. Rose before (g.F.Files.faults c.load_questions.new.files) in
     let L : List ℕ → Type 0 = λ name. TellsOnly name last in (
       subst R c.in_ok-net.ensures.quiet said.0,
-      stops_last told asking.configs asking.questions files last network (subst L c.as_str.ensures.value said.1),
+      stops_last told all.configs all.own files last network (subst L c.as_str.ensures.value said.1),
     )))

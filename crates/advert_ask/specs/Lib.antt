@@ -1,0 +1,5 @@
+pub mod Words
+pub mod Due
+pub mod Loading
+pub mod Answering
+pub mod Running

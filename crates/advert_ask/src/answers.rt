@@ -1,0 +1,131 @@
+//! Answers to asks one after another.
+
+ghost use Rattle.std.specs.Prelude.{◌≡◌, ◌⊎◌, ◌<◌, ◌||◌, Some, IfOk, OnErr, OnOk, length, map, slice_get};
+ghost use Rattle.advert_ask.specs.Answering.{AnswersSo, IsCutShort, IsPut, is_broken, is_unknown};
+ghost use Rattle.ask_search.specs.Verdicts.{verdict_text};
+ghost use Rattle.mw_outside.specs.Faults.{Rose};
+ghost use Rattle.mw_outside.specs.Taken.{Takes, TakesPart};
+ghost use Rattle.run_answers.specs.Answering.{OnWriteFault, UnlessWriteFault};
+ghost use Rattle.run_inputs.specs.Loading.{IsBudget};
+
+use ask_search::answer::answer;
+use ask_search::verdict::{AskVerdict, verdict_lines};
+use asked_files::ended_by;
+use deciders::Decider;
+use export_asks::Ask;
+use mw_load::Ended;
+use mw_outside::Sink;
+use net_model::Net;
+use run_answers::{Halt, Seen};
+use std::alloc::Global;
+
+// With one verdict more.
+fn with_verdict(seen: Seen, verdict: &AskVerdict) -> Seen
+    ensures broken { result.broken ≡ (seen.broken || is_broken verdict.now) }
+    ensures unknown { result.unknown ≡ (seen.unknown || is_unknown verdict.now) }
+{
+    match verdict {
+        AskVerdict::Holds => seen,
+        AskVerdict::Broken { .. } => Seen {
+            broken: true,
+            unknown: seen.unknown,
+        },
+        AskVerdict::Unknown(_) => Seen {
+            broken: seen.broken,
+            unknown: true,
+        },
+    }
+}
+
+// Prints the lines of a verdict.
+fn put_lines<O: Sink>(
+    alloc: Global,
+    net: &Net,
+    ask: &Ask,
+    verdict: &AskVerdict,
+    out: &mut O,
+) -> Result<(), Halt>
+    ensures takes { OnOk result (Takes (O.taken out.old) (O.taken out.new) (verdict_text net.now.files ask.now verdict.now)) }
+    ensures part { TakesPart (O.taken out.old) (O.taken out.new) (verdict_text net.now.files ask.now verdict.now) }
+    ensures fault { OnWriteFault result (Rose (O.faults out.old) (O.faults out.new)) }
+    ensures writes { UnlessWriteFault result (O.faults out.new ≡ O.faults out.old) }
+{
+    let text = match verdict_lines(alloc, net, ask, verdict) {
+        Ok(text) => text,
+        Err(_) => return Err(Halt::Memory),
+    };
+    match out.write(text.as_slice()) {
+        Ok(()) => Ok(()),
+        Err(_) => Err(Halt::WriteFault),
+    }
+}
+
+// Answers an ask: its section goes into the log, and then its lines are printed.
+fn put_answer<O: Sink, L: Sink>(
+    alloc: Global,
+    net: &Net,
+    ask: &Ask,
+    budget: u64,
+    out: &mut O,
+    log: &mut L,
+    deciders: &mut Vec<Box<dyn Decider>>,
+) -> Result<AskVerdict, Halt>
+    requires budget { IsBudget budget }
+    ensures ok { IfOk result (IsPut net.now.files budget ask.now (O.taken out.old) (O.taken out.new)
+        (L.taken log.old) (L.taken log.new) (map (λ b. told b) deciders.new.items)) }
+    ensures cut { OnErr result (IsCutShort net.now.files budget ask.now (O.taken out.old) (O.taken out.new)
+        (L.taken log.old) (L.taken log.new)) }
+    ensures fault { OnWriteFault result (Rose (O.faults out.old) (O.faults out.new) ⊎ Rose (L.faults log.old) (L.faults log.new)) }
+    ensures writes { UnlessWriteFault result ((O.faults out.new ≡ O.faults out.old) × (L.faults log.new ≡ L.faults log.old)) }
+    ensures deciders { length deciders.new.items ≡ length deciders.old.items }
+{
+    let verdict = answer(alloc, net, ask, budget, log, deciders)?;
+    put_lines(alloc, net, ask, &verdict, out)?;
+    Ok(verdict)
+}
+
+fn ask_at(asks: &[Ask], at: usize) -> &Ask
+    requires { at < length asks.now }
+    ensures { slice_get asks.entry.now at ≡ Some result.now }
+{
+    &asks[at]
+}
+
+/// Answers each ask in turn.
+pub fn put_answers<O: Sink, L: Sink>(
+    alloc: Global,
+    net: &Net,
+    asks: &[Ask],
+    budget: u64,
+    out: &mut O,
+    log: &mut L,
+    deciders: &mut Vec<Box<dyn Decider>>,
+) -> Ended
+    requires budget { IsBudget budget }
+    ensures so { AnswersSo net.now.files asks.now budget (record {
+      taken = O.taken out.old;
+      taken_now = O.taken out.new;
+      faults = O.faults out.old;
+      faults_now = O.faults out.new;
+      logged = L.taken log.old;
+      logged_now = L.taken log.new;
+      log_faults = L.faults log.old;
+      log_faults_now = L.faults log.new;
+      tolds = map (λ b. told b) deciders.new.items;
+    }) result }
+    ensures deciders { length deciders.new.items ≡ length deciders.old.items }
+{
+    let mut seen = Seen {
+        broken: false,
+        unknown: false,
+    };
+    for at in 0..asks.len() {
+        let ask = ask_at(asks, at);
+        match put_answer(alloc, net, ask, budget, out, log, deciders) {
+            Ok(verdict) => seen = with_verdict(seen, &verdict),
+            Err(Halt::WriteFault) => return Ended::WriteFault,
+            Err(Halt::Memory) => return Ended::Memory,
+        }
+    }
+    ended_by(seen)
+}

@@ -1,0 +1,147 @@
+//! The whole command.
+
+ghost use Rattle.std.specs.Prelude.{◌≡◌, length, map, string_bytes};
+ghost use Rattle.advert_ask.specs.Answering.{AnswersSo};
+ghost use Rattle.advert_ask.specs.Loading.{IsReady};
+ghost use Rattle.advert_ask.specs.Running.{EndsSo, IsAccepted};
+ghost use Rattle.asked_files.specs.Ending.{IsComplete, NoFault};
+
+use crate::answers::put_answers;
+use crate::loading::{Loaded, work_of};
+use asked_files::put_refusal;
+use deciders::Decider;
+use log_trim::running::put_usage;
+use mw_load::Ended;
+use mw_outside::{Files, Sink};
+use run_inputs::Stop;
+use std::alloc::Global;
+
+/// Answers the asks that were loaded, in their order, after which these and the network go.
+pub fn end_work<O: Sink, L: Sink>(
+    alloc: Global,
+    loaded: Loaded,
+    out: &mut O,
+    log: &mut L,
+    deciders: &mut Vec<Box<dyn Decider>>,
+) -> Ended
+    requires ready { IsReady loaded }
+    ensures so { AnswersSo loaded.net.files loaded.asks loaded.budget (record {
+      taken = O.taken out.old;
+      taken_now = O.taken out.new;
+      faults = O.faults out.old;
+      faults_now = O.faults out.new;
+      logged = L.taken log.old;
+      logged_now = L.taken log.new;
+      log_faults = L.faults log.old;
+      log_faults_now = L.faults log.new;
+      tolds = map (λ b. told b) deciders.new.items;
+    }) result }
+    ensures deciders { length deciders.new.items ≡ length deciders.old.items }
+{
+    let asks = loaded.asks.as_slice();
+    let ended = put_answers(alloc, &loaded.net, asks, loaded.budget, out, log, deciders);
+    drop(loaded);
+    ended
+}
+
+// Reads what the words ask for, answers it, and prints the answers.
+fn do_work<F: Files, O: Sink, L: Sink>(
+    alloc: Global,
+    words: &[String],
+    files: &mut F,
+    out: &mut O,
+    log: &mut L,
+    deciders: &mut Vec<Box<dyn Decider>>,
+) -> Ended
+    ensures so { EndsSo (F.contents files.old) (map string_bytes words.now)
+        (record {
+          faults = F.faults files.old;
+          faults_now = F.faults files.new;
+          last = F.last_failed files.old;
+          last_now = F.last_failed files.new;
+        })
+        (record {
+          taken = O.taken out.old;
+          taken_now = O.taken out.new;
+          faults = O.faults out.old;
+          faults_now = O.faults out.new;
+          logged = L.taken log.old;
+          logged_now = L.taken log.new;
+          log_faults = L.faults log.old;
+          log_faults_now = L.faults log.new;
+          tolds = map (λ b. told b) deciders.new.items;
+        })
+        (log.new ≡ log.old) result }
+    ensures kept { F.contents files.new ≡ F.contents files.old }
+    ensures deciders { length deciders.new.items ≡ length deciders.old.items }
+{
+    match work_of(alloc, files, words) {
+        Ok(Some(loaded)) => end_work(alloc, loaded, out, log, deciders),
+        Ok(None) => put_usage(out),
+        Err(Stop::Refused(line)) => put_refusal(&line, out),
+        Err(Stop::ReadFault) => Ended::ReadFault,
+        Err(Stop::Memory) => Ended::Memory,
+    }
+}
+
+/// The command `advert [--conflicts N] ASKS CONFIG...`: prints for each ask of the file whether in some stable routing of
+/// the network a route of the ask goes out to its external peer, whatever the destination and what external peers
+/// announce, with as many failed links as the ask allows. Each is searched for by learning at most N clauses, 1,000,000
+/// where the words do not say it. `holds NAME` comes where there is no such routing; `broken NAME LEN` with one as a
+/// counterexample on a line of its own, in which a route goes out for the destination's prefix of that length, and for none
+/// that is shorter; `unknown NAME after N conflicts` where N clauses were learnt without finding out. The log takes a
+/// section of each ask, which shows what the search came to. Which words are the command is as `clap` reads them. The
+/// deciders choose by turns what a search decides, and the answers are right whichever they are, and without any.
+pub fn run_advert<F: Files, O: Sink, L: Sink>(
+    alloc: Global,
+    words: &[String],
+    files: &mut F,
+    out: &mut O,
+    log: &mut L,
+    deciders: &mut Vec<Box<dyn Decider>>,
+) -> Ended
+    // By how it ends: what was read, and what stands.
+    ensures so { EndsSo (F.contents files.old) (map string_bytes words.now)
+        (record {
+          faults = F.faults files.old;
+          faults_now = F.faults files.new;
+          last = F.last_failed files.old;
+          last_now = F.last_failed files.new;
+        })
+        (record {
+          taken = O.taken out.old;
+          taken_now = O.taken out.new;
+          faults = O.faults out.old;
+          faults_now = O.faults out.new;
+          logged = L.taken log.old;
+          logged_now = L.taken log.new;
+          log_faults = L.faults log.old;
+          log_faults_now = L.faults log.new;
+          tolds = map (λ b. told b) deciders.new.items;
+        })
+        (log.new ≡ log.old) result }
+
+    // Accepted words and files and no fault: every ask is answered, but for want of memory.
+    ensures complete { IsAccepted (F.contents files.old) (map string_bytes words.now) → NoFault
+        (record {
+          faults = F.faults files.old;
+          faults_now = F.faults files.new;
+          last = F.last_failed files.old;
+          last_now = F.last_failed files.new;
+        })
+        (record {
+          taken = O.taken out.old;
+          taken_now = O.taken out.new;
+          faults = O.faults out.old;
+          faults_now = O.faults out.new;
+          logged = L.taken log.old;
+          logged_now = L.taken log.new;
+          log_faults = L.faults log.old;
+          log_faults_now = L.faults log.new;
+          tolds = map (λ b. told b) deciders.new.items;
+        }) → IsComplete result }
+    ensures kept { F.contents files.new ≡ F.contents files.old }
+    ensures deciders { length deciders.new.items ≡ length deciders.old.items }
+{
+    do_work(alloc, words, files, out, log, deciders)
+}

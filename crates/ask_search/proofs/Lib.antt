@@ -1,0 +1,4 @@
+pub mod Plan
+pub mod Encodings
+pub mod Formulas
+pub mod Decodings

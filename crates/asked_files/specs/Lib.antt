@@ -1,0 +1,3 @@
+pub mod Words
+pub mod Network
+pub mod Ending
