@@ -1,0 +1,8 @@
+//! Which fates the packet of a world has that begins at a router, as terms over Boolean variables.
+#![tactic(auto)]
+
+pub mod ending;
+pub mod terms;
+
+pub use ending::Ending;
+pub use terms::sym_ending;
