@@ -1,5 +1,5 @@
 -- How the command ends, and what follows of it.
-use Rattle.std.proofs.Common.{◌≡◌, ◌∙◌, ℕ, List, Option, Some, None, Ok, Err, ap, sym, subst, inl, inr}
+use Rattle.std.proofs.Common.{◌≡◌, ◌∙◌, ℕ, List, Option, Some, None, Result, Ok, Err, ap, sym, subst, inl, inr}
 use Rattle.std.proofs.lemmas.Option.{same_Some}
 use Rattle.ios_ast.specs.declared.file.File.{File}
 use Rattle.log_trim.specs.Printing.{PrintsSo}
@@ -70,13 +70,16 @@ ends_refused told words r w Unlogged asked line how quiet asks due kept still un
 
 -- ---- completeness
 
+both_ends : {A E : Type 0} (r : Result A E) (x : A) (why : E) → r ≡ Ok x → r ≡ Err why → ⊥
+both_ends (Ok y) x why good bad = absurd cc
+both_ends (Err e) x why good bad = absurd cc
+
 no_refusal : (contents : Contents) (words : List (List ℕ)) (asked other : Asking) (line : List ℕ) (files : List File)
     (asks : List Ask) → asked_of words ≡ Some asked → files_due contents asked ≡ Ok (files, asks) →
     asked_of words ≡ Some other → files_due contents other ≡ Err (refused line) → ⊥
 no_refusal contents words asked other line files asks is accepted too refusal =
     let same : other ≡ asked = same_Some other asked (sym too ∙ is) in
-    let clash : Err (refused line) ≡ Ok (files, asks) =
-    sym refusal ∙ ap (files_due contents) same ∙ accepted in absurd cc
+    both_ends (files_due contents other) (files, asks) (refused line) (ap (files_due contents) same ∙ accepted) refusal
 
 pub so_complete : (told : Option Contents) (words : List (List ℕ)) (r : Reads) (w : Writes) (Unlogged : Type 0)
     (how : Ended) → EndsSo told words r w Unlogged how → IsAccepted told words → NoFault r w → IsComplete how

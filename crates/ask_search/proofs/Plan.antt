@@ -1,5 +1,5 @@
 -- The plan with a slice at each prefix length fits the files.
-use Rattle.std.proofs.Common.{◌≡◌, ℕ, suc, ◌<◌, ◌==◌, Bool, true, false, List, Some, length, refl, sym, ap, ◌∙◌, arith, inr}
+use Rattle.std.proofs.Common.{◌≡◌, ℕ, suc, ◌<◌, ◌==◌, Bool, true, List, Some, length, refl, sym, ap, ◌∙◌, arith, inr}
 use Rattle.std.specs.Prelude.{min, slice_get}
 use Rattle.std.specs.Option.{option_map_or}
 use Rattle.std.proofs.lemmas.Bool.{eqb-true, true≢false}

@@ -1,5 +1,5 @@
 -- What comes of the configurations that are named.
-use Rattle.std.proofs.Common.{◌≡◌, ◌∙◌, ℕ, List, [], ◌∷◌, ◌++◌, Option, Some, None, Result, Ok, Err, refl, ap, sym, subst, append_assoc}
+use Rattle.std.proofs.Common.{◌≡◌, ◌∙◌, ℕ, List, [], ◌∷◌, ◌++◌, Option, Some, None, Result, Ok, Err, refl, ap, sym, subst}
 use Rattle.std.specs.Prelude.{IfSome}
 use Rattle.ios_ast.specs.declared.file.File.{File}
 use Rattle.mw_load.specs.declared.loading.Placed.{Placed}
@@ -48,10 +48,3 @@ stops_last told names name files (Some other) read only =
       if_told_one told (λ contents. network_of contents names ≡ Ok files) _ read
           (λ contents is. read_of names _ files is),
     )
-
--- a read of one of the files failed, where another comes after all of them
-pub stops_before : (told : Option Contents) (names : List (List ℕ)) (later : List ℕ) (last : Option (List ℕ)) →
-    StopsAt told names last → StopsAt told (names ++ later ∷ []) last
-stops_before told names later None stops = tt
-stops_before told names later (Some other) (front, rest, is, there) =
-    (front, rest ++ later ∷ [], ap (λ xs. xs ++ later ∷ []) is ∙ append_assoc front (other ∷ rest) (later ∷ []), there)

@@ -1,5 +1,5 @@
 -- The least number of failed links with which something breaks a question, and what shows it.
-use Rattle.std.specs.Prelude.{◌≡◌, ℕ, ◌+◌, ◌==◌, ◌≤◌, List, [], ◌∷◌, ◌++◌, length, slice_get, Option, Some, if◌then◌else◌}
+use Rattle.std.specs.Prelude.{◌≡◌, ℕ, ◌+◌, ◌==◌, ◌≤◌, List, [], ◌∷◌, ◌++◌, length, slice_get, Some, if◌then◌else◌}
 use Rattle.cex_json.specs.Counterexamples.{IsTrueCounterexample}
 use Rattle.ios_ast.specs.declared.file.File.{File}
 use Rattle.question_lang.specs.Breaking.{IsUnbroken}
