@@ -3,11 +3,15 @@
 # reflectors, and two of them with an external peer. The question is whether a router's packets to an address outside can
 # leave to the first peer; and, with internal routes alone, whether they reach the subnet of the first router. A line for
 # each question: beside.sh says what stands in it. SIZES (4 8 16) and FAILURES (0 1) may be set, and PROGRAM and
-# LIMIT as there.
+# LIMIT as there. With FILES the networks are written into that empty folder and nothing is timed.
 set -eu
 here=$(cd -P -- "$(dirname -- "$0")" && pwd -P)
-dir=$(mktemp -d)
-trap 'rm -rf "$dir"' EXIT
+if [ -n "${FILES-}" ]; then
+    dir=$FILES
+else
+    dir=$(mktemp -d)
+    trap 'rm -rf "$dir"' EXIT
+fi
 python3 - "$dir" ${SIZES:-4 8 16} <<'END'
 import os
 import sys
@@ -54,6 +58,7 @@ for count in map(int, sys.argv[2:]):
                 with open(os.path.join(top, name, f"q{k}"), "w") as file:
                     file.write(ask + "\n")
 END
+[ -z "${FILES-}" ] || exit 0
 for net in "$dir"/*; do
     for k in ${FAILURES:-0 1}; do
         "$here/beside.sh" "$(basename "$net"), failures $k" "$net/q$k" "$net"/*.cfg

@@ -62,6 +62,20 @@ explained "the entry of a route map" map "$stored/map.questions" internal-core/w
 explained "a loop of redistribution" redistribution two-way-redistribution/questions.txt two-way-redistribution/x.cfg \
     two-way-redistribution/y.cfg
 
+# asked WHAT NAME ASKS CONFIG..: of what `advert` printed, with the ways of the routes that go out.
+asked() {
+    what=$1
+    name=$2
+    shift 2
+    {
+        "$top/tools/asked.sh" "$show" "$stored/$name.printed" "$@"
+        echo "status $?"
+    } >"$work/$name"
+    same "$what" "$stored/$name.expected" "$work/$name"
+}
+asked "a route of one provider that goes out to the other" advert route-leak/asks.txt route-leak/west.cfg \
+    route-leak/east.cfg
+
 # drawn WHAT NAME QUESTIONS CONFIG..: the same as a graph.
 drawn() {
     what=$1
