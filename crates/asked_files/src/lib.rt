@@ -7,4 +7,4 @@ pub mod words;
 
 pub use ending::{ended_by, put_refusal};
 pub use network::load_network;
-pub use words::{Asked, read_asked_words};
+pub use words::{Asked, owned, read_asked_words};

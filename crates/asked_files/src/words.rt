@@ -90,8 +90,8 @@ fn budget_of(conflicts: Option<&str>) -> Option<u64>
     }
 }
 
-// The names as texts of their own.
-fn owned(alloc: Global, names: &[&str]) -> Result<Vec<String>, AllocError>
+/// The names as texts of their own. The one error is want of memory.
+pub fn owned(alloc: Global, names: &[&str]) -> Result<Vec<String>, AllocError>
     ensures { IfOk result (λ all. map string_bytes all.items ≡ map (λ s. s.now) names.now) }
 {
     let mut all = Vec::new(alloc);

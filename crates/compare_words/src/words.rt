@@ -9,6 +9,7 @@ ghost use Rattle.mw_words.specs.Forms as forms;
 ghost use Rattle.run_inputs.specs.Due as due;
 ghost use Rattle.run_inputs.specs.Loading.{IsBudget};
 
+use asked_files::owned;
 use clap::{Arg, ArgMatches, Command};
 use mw_text::read_number;
 use mw_words::values::{all_values, first_value, matches_of, text_value};
@@ -125,18 +126,6 @@ fn count_of(word: &str, configs: usize) -> Option<usize>
             }
         }
     }
-}
-
-// The names as texts of their own.
-fn owned(alloc: Global, names: &[&str]) -> Result<Vec<String>, AllocError>
-    ensures { IfOk result (λ all. map string_bytes all.items ≡ map (λ s. s.now) names.now) }
-{
-    let mut all = Vec::new(alloc);
-    for name in names {
-        let copy = String::from_str(alloc, name)?;
-        all.push(copy)?;
-    }
-    Ok(all)
 }
 
 // The first so many names, and the others.

@@ -1,0 +1,78 @@
+-- Stable routings of two networks, one of each, and what is said of both as terms.
+use Rattle.std.specs.Prelude.{◌≡◌, ◌+◌, ◌<◌, ℕ, Bool, true, List, ◌++◌, drop, take}
+use Rattle.ios_ast.specs.declared.file.File.{File}
+use Rattle.route_record.specs.declared.Environment.{Environment}
+use Rattle.route_record.specs.declared.World.{World}
+use Rattle.net_model.specs.Kept.{Network}
+use Rattle.net_parts.specs.Stable.{Stable}
+use Rattle.net_parts.specs.World.{IsEnvironment, IsFailureSet}
+use Rattle.question_lang.specs.declared.question.Kind.TheVariants.{NoStable}
+use Rattle.question_lang.specs.declared.question.Question.{Question}
+use Rattle.question_lang.specs.Packets.{IsInSet}
+use Rattle.plan_places.specs.Plans.{single_plan}
+use Rattle.routing_encoder.specs.Encoded.{routing_bits}
+use Rattle.routing_encoder.specs.Opened.{routing_width}
+use Rattle.routing_worlds.specs.Worlds.{environment_from, world_from}
+use Rattle.same_asks.specs.declared.same.Same.{Same}
+use Rattle.term_store.specs.Terms.{size, truth, value_of}
+use Rattle.terms_beside.specs.Beside.{exactly}
+use Rattle.routings_beside.specs.declared.encoding.PairTerms.{PairTerms}
+
+-- the question whether there is no stable routing at all, of the ask's packets
+abbrev pub question_of : Same → Question
+question_of ask = record {
+  name = ask.name;
+  kind = NoStable;
+  packets = ask.packets;
+  failures = ask.failures;
+}
+
+-- a stable routing of one network: for a packet of the ask, in an environment that its peers may make, with at most so
+-- many failed links as the ask allows
+pub record IsSide (files : List File) (ask : Same) (world : World) (environment : Environment) : Type 0 where
+  pub packet : IsInSet ask.packets world.packet
+  pub environment_fits : IsEnvironment files environment
+  pub failures : IsFailureSet files ask.failures world.failures
+  pub stable : Stable files world.packet.dst world.failures environment world.tables
+
+-- ---- values of the variables of one network
+
+-- how many there are
+abbrev pub width : Network → Same → ℕ
+width net ask = routing_width net.files net.tracked (question_of ask) single_plan
+
+-- the routing and the environment that they say
+abbrev pub world_by : Network → Same → List Bool → World
+world_by net ask valuation = world_from net.files net.tracked (question_of ask) single_plan (truth valuation) 0
+
+abbrev pub environment_by : Network → Same → List Bool → Environment
+environment_by net ask valuation =
+    environment_from net.files net.tracked (question_of ask) single_plan (truth valuation) 0
+
+-- those of a routing in its environment
+abbrev pub side_bits : Network → Same → World → Environment → List Bool
+side_bits net ask world environment =
+    exactly (width net ask)
+    (routing_bits net.files net.tracked (question_of ask) single_plan world environment)
+
+-- ---- of both, those of the left one first
+
+abbrev pub left_values : Network → Same → List Bool → List Bool
+left_values left ask valuation = take (width left ask) valuation
+
+abbrev pub right_values : Network → Network → Same → List Bool → List Bool
+right_values left right ask valuation = take (width right ask) (drop (width left ask) valuation)
+
+-- the root stands in the terms; whatever values make it true say two stable routings; and the values of two such
+-- routings make it true
+pub record IsPairEncoding (left right : Network) (ask : Same) (e : PairTerms) : Type 0 where
+  pub root : e.root.0 < size e.terms
+  pub vars : e.terms.vars ≡ width left ask + width right ask
+  pub sound : (valuation : List Bool) → value_of e.terms.nodes valuation e.root.0 ≡ true →
+      IsSide left.files ask (world_by left ask (left_values left ask valuation))
+      (environment_by left ask (left_values left ask valuation))
+      × IsSide right.files ask (world_by right ask (right_values left right ask valuation))
+      (environment_by right ask (right_values left right ask valuation))
+  pub complete : (one other : World) (around about : Environment) →
+      IsSide left.files ask one around → IsSide right.files ask other about →
+      value_of e.terms.nodes (side_bits left ask one around ++ side_bits right ask other about) e.root.0 ≡ true
