@@ -7,7 +7,7 @@ here=$(cd "$(dirname "$0")" && pwd)
 work=$(mktemp -d)
 trap 'rm -rf "$work"' EXIT
 mkdir -p "$work/crates/time_distances/src"
-for crate in mw_text ios_ast route_record ios_policy_reader ios_reader net_model proto_ospf; do
+for crate in $("$here/../below.sh" proto_ospf ios_reader); do
     cp -r "$here/../../crates/$crate" "$work/crates/$crate"
     grep "^$crate:" "$here/../../crates.txt" >> "$work/crates.txt"
 done

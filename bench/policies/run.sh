@@ -11,8 +11,7 @@ if [ -z "${PROGRAM:-}" ]; then
     trap 'rm -rf "$work"' EXIT
     nodes=$work/crates/policy_nodes
     mkdir -p "$nodes/src"
-    for crate in mw_text ios_ast route_record term_store term_arith resolution_check cnf_blaster ios_policy_reader \
-        ios_reader policy_eval sym_policy; do
+    for crate in $("$top/bench/below.sh" sym_policy policy_eval ios_reader cnf_blaster); do
         cp -r "$top/crates/$crate" "$work/crates/$crate"
         rm -rf "$work/crates/$crate/out"
         grep "^$crate:" "$top/crates.txt" >> "$work/crates.txt"

@@ -26,20 +26,6 @@ named_by() {
     esac
 }
 
-# These crates and all that they stand on.
-with_below() {
-    awk -F: -v names="$*" '/^[a-z]/ { below[$1] = $2 }
-        END {
-            count = split(names, queue, " ")
-            for (i = 1; i <= count; i++) {
-                if (queue[i] in seen || !(queue[i] in below)) continue
-                seen[queue[i]] = 1
-                print queue[i]
-                more = split(below[queue[i]], next_names, " ")
-                for (j = 1; j <= more; j++) queue[++count] = next_names[j]
-            }
-        }' "$top/crates.txt"
-}
 lines_of() {
     case $1 in
     policies) printf 'access 1 900\nprefix 2 200\nmap 3 900\n' ;;
@@ -64,7 +50,7 @@ lay() {
 run() {
     named=$(named_by "$1")
     [ -n "$named" ] || { echo "no such program: $1" >&2; exit 64; }
-    known=$(with_below $named)
+    known=$("$top/bench/below.sh" $named)
     rm -rf "$work/crates" "$work/crates.txt"
     mkdir "$work/crates"
     for crate in $known; do

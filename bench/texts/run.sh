@@ -7,8 +7,7 @@ here=$(cd "$(dirname "$0")" && pwd)
 work=$(mktemp -d)
 trap 'rm -rf "$work"' EXIT
 mkdir -p "$work/crates/time_texts/src"
-for crate in mw_text ios_ast route_record ios_policy_reader ios_reader net_model policy_eval proto_ospf question_lang \
-    walk_def cex_json; do
+for crate in $("$here/../below.sh" walk_def cex_json ios_reader); do
     cp -r "$here/../../crates/$crate" "$work/crates/$crate"
     grep "^$crate:" "$here/../../crates.txt" >> "$work/crates.txt"
 done

@@ -15,17 +15,7 @@ if [ -z "${PROGRAM:-}" ]; then
     walks=$work/crates/walk_nodes
     mkdir -p "$walks/src" "$work/crates/random_networks/src"
     # The crates that the program and its networks name, and all that they stand on.
-    for crate in $(awk -F: -v names='sym_walk question_lang sym_rib ios_reader' '/^[a-z]/ { below[$1] = $2 }
-        END {
-            count = split(names, queue, " ")
-            for (i = 1; i <= count; i++) {
-                if (queue[i] in seen || !(queue[i] in below)) continue
-                seen[queue[i]] = 1
-                print queue[i]
-                more = split(below[queue[i]], next_names, " ")
-                for (j = 1; j <= more; j++) queue[++count] = next_names[j]
-            }
-        }' "$top/crates.txt"); do
+    for crate in $("$top/bench/below.sh" sym_walk question_lang sym_rib sym_policy ios_reader); do
         cp -r "$top/crates/$crate" "$work/crates/$crate"
         rm -rf "$work/crates/$crate/out"
         grep "^$crate:" "$top/crates.txt" >> "$work/crates.txt"
