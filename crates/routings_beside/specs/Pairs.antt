@@ -1,5 +1,5 @@
 -- Stable routings of two networks, one of each, and what is said of both as terms.
-use Rattle.std.specs.Prelude.{◌≡◌, ◌+◌, ◌<◌, ℕ, Bool, true, List, ◌++◌, drop, take}
+use Rattle.std.specs.Prelude.{◌≡◌, ◌+◌, ◌<◌, ◌≤◌, ℕ, Bool, true, List, ◌++◌, drop, length, take}
 use Rattle.ios_ast.specs.declared.file.File.{File}
 use Rattle.route_record.specs.declared.Environment.{Environment}
 use Rattle.route_record.specs.declared.World.{World}
@@ -10,12 +10,17 @@ use Rattle.question_lang.specs.declared.question.Kind.TheVariants.{NoStable}
 use Rattle.question_lang.specs.declared.question.Question.{Question}
 use Rattle.question_lang.specs.Packets.{IsInSet}
 use Rattle.plan_places.specs.Plans.{single_plan}
-use Rattle.routing_encoder.specs.Encoded.{routing_bits}
+use Rattle.routing_encoder.specs.Encoded.{StandsForWorld, routing_bits}
 use Rattle.routing_encoder.specs.Opened.{routing_width}
-use Rattle.routing_worlds.specs.Worlds.{environment_from, world_from}
+use Rattle.routing_worlds.specs.Worlds.{environment_from, shape_world_from, world_from}
 use Rattle.same_asks.specs.declared.same.Same.{Same}
-use Rattle.term_store.specs.Terms.{size, truth, value_of}
-use Rattle.terms_beside.specs.Beside.{exactly}
+use Rattle.shape_worlds.specs.Worlds.{shapes_of}
+use Rattle.sym_walk.specs.Whole.{whole_end}
+use Rattle.term_arith.specs.Bits.{ids_end}
+use Rattle.term_store.specs.declared.NodeId.{NodeId}
+use Rattle.term_store.specs.Reading.{Reads}
+use Rattle.term_store.specs.Terms.{Agrees, Reading, at, size, truth, value_of}
+use Rattle.terms_beside.specs.Beside.{exactly, place_of}
 use Rattle.routings_beside.specs.declared.encoding.PairTerms.{PairTerms}
 
 -- the question whether there is no stable routing at all, of the ask's packets
@@ -50,10 +55,18 @@ environment_by net ask valuation =
     environment_from net.files net.tracked (question_of ask) single_plan (truth valuation) 0
 
 -- those of a routing in its environment
+abbrev pub own_bits : Network → Same → World → Environment → List Bool
+own_bits net ask world environment = routing_bits net.files net.tracked (question_of ask) single_plan world environment
+
 abbrev pub side_bits : Network → Same → World → Environment → List Bool
-side_bits net ask world environment =
-    exactly (width net ask)
-    (routing_bits net.files net.tracked (question_of ask) single_plan world environment)
+side_bits net ask world environment = exactly (width net ask) (own_bits net ask world environment)
+
+-- those of a stable routing say its shapes
+abbrev pub SayShapes : Network → Same → Type 0
+SayShapes net ask =
+    (world : World) (environment : Environment) → IsSide net.files ask world environment →
+    shape_world_from net.files net.tracked (question_of ask) single_plan (truth (own_bits net ask world environment)) 0
+    ≡ shapes_of net.tracked world environment
 
 -- ---- of both, those of the left one first
 
@@ -63,8 +76,28 @@ left_values left ask valuation = take (width left ask) valuation
 abbrev pub right_values : Network → Network → Same → List Bool → List Bool
 right_values left right ask valuation = take (width right ask) (drop (width left ask) valuation)
 
+-- ---- what stands in the terms
+
+-- what a reading of the terms reads of the left network's nodes, and of the right one's at their places, each with
+-- values of its own variables
+abbrev pub left_reading : List Bool → Reading → Reading
+left_reading xs w = record { variable = truth xs; node = w.node }
+
+abbrev pub right_reading : List NodeId → List Bool → Reading → Reading
+right_reading places ys w = record { variable = truth ys; node = λ i. at w (place_of places i) }
+
+-- the world and the environment of each network read as these values of its variables say
+pub record StandBeside (left right : Network) (ask : Same) (e : PairTerms) (xs ys : List Bool) (w : Reading)
+    : Type 0 where
+  pub one : StandsForWorld left.files left.tracked (question_of ask) single_plan 0 (left_reading xs w) e.one.world
+      e.one.env
+  pub other : StandsForWorld right.files right.tracked (question_of ask) single_plan 0 (right_reading e.places ys w)
+      e.other.world e.other.env
+
 -- the root stands in the terms; whatever values make it true say two stable routings; and the values of two such
--- routings make it true
+-- routings make it true. The nodes of both worlds stand in the terms, those of the right one by their places; worlds
+-- and environments read as the values say, be they all values or given ones of each; and the values of a routing say
+-- its shapes.
 pub record IsPairEncoding (left right : Network) (ask : Same) (e : PairTerms) : Type 0 where
   pub root : e.root.0 < size e.terms
   pub vars : e.terms.vars ≡ width left ask + width right ask
@@ -76,3 +109,13 @@ pub record IsPairEncoding (left right : Network) (ask : Same) (e : PairTerms) : 
   pub complete : (one other : World) (around about : Environment) →
       IsSide left.files ask one around → IsSide right.files ask other about →
       value_of e.terms.nodes (side_bits left ask one around ++ side_bits right ask other about) e.root.0 ≡ true
+  pub nodes : whole_end e.one.world ≤ size e.terms
+  pub others : whole_end e.other.world ≤ length e.places
+  pub places : ids_end e.places ≤ size e.terms
+  pub values : (valuation : List Bool) (w : Reading) → Reads w e.terms → Agrees w valuation e.terms.vars →
+      StandBeside left right ask e (left_values left ask valuation) (right_values left right ask valuation) w
+  pub given : (xs ys : List Bool) (w : Reading) → Reads w e.terms →
+      Agrees w (exactly (width left ask) xs ++ exactly (width right ask) ys) e.terms.vars →
+      StandBeside left right ask e xs ys w
+  pub one_shapes : SayShapes left ask
+  pub other_shapes : SayShapes right ask

@@ -4,4 +4,4 @@
 pub mod encoding;
 pub mod question;
 
-pub use encoding::{PairTerms, encode_pair};
+pub use encoding::{PairTerms, Side, encode_pair};

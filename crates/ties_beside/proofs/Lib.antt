@@ -1,0 +1,4 @@
+pub mod Alike
+pub mod Counting
+pub mod Failing
+pub mod Placing
