@@ -7,7 +7,7 @@ use Rattle.question_lang.specs.declared.walk.Hop.TheVariants.{To, Ends}
 use Rattle.walk_def.specs.Marks.{known}
 use Rattle.packet_fates.specs.Reaching.{AreInside, IsRound, hops_at}
 use Rattle.packet_fates.specs.Rounds.{ComesBackBy, IsInside, SomeRound}
-use Rattle.packet_fates.proofs.Spreading.{hops_within}
+use Rattle.packet_fates.proofs.Spreading.{earlier, hops_within}
 
 -- a hop of a router of the list is inside
 pub hop_inside : (all : List (List Hop)) (router : ℕ) (hop : Hop) → AreInside all → Contains (hops_at all router) hop →
@@ -31,9 +31,6 @@ round_by hops router (Ends end) has back = absurd back
 abbrev pub NoRoundBelow : List (List Hop) → List Bool → ℕ → Type 0
 NoRoundBelow all marks bound =
     (router : ℕ) → router < bound → known marks router ≡ true → IsRound (hops_at all) router → ⊥
-
-earlier : (from at : ℕ) → from < at + 1 → (from < at) ⊎ (from ≡ at)
-earlier from at below = grind (arith, below)
 
 pub no_round_more : (all : List (List Hop)) (marks : List Bool) (at : ℕ) → NoRoundBelow all marks at →
     (known marks at ≡ true → IsRound (hops_at all) at → ⊥) → NoRoundBelow all marks (at + 1)

@@ -104,7 +104,7 @@ ClosedBelow all marks bound =
     (from : ℕ) (i : IfaceId) → from < bound → known marks from ≡ true → Contains (hops_at all from) (To i)
     → known marks i.router ≡ true
 
-earlier : (from at : ℕ) → from < at + 1 → (from < at) ⊎ (from ≡ at)
+pub earlier : (from at : ℕ) → from < at + 1 → (from < at) ⊎ (from ≡ at)
 earlier from at below = grind (arith, below)
 
 pub skip_unmarked : (all : List (List Hop)) (marks : List Bool) (at : ℕ) → known marks at ≡ false →

@@ -10,9 +10,7 @@ use Rattle.net_parts.specs.declared.sessions.SessionEnd.{SessionEnd}
 use Rattle.net_parts.specs.Sessions.{ends_of}
 use Rattle.paired_nets.specs.declared.ends.EndPair.{EndPair}
 use Rattle.paired_nets.specs.Ends.{AreCommonEnds, AreEndPairs, AreOneEnd, ArePut, IsPairOf, with_pair}
-
-earlier : (one at : ℕ) → one < at + 1 → (one < at) ⊎ (one ≡ at)
-earlier one at below = grind (arith, below)
+use Rattle.paired_nets.proofs.Pairing.{earlier}
 
 -- ---- the ends of the right network, one at a time
 

@@ -46,7 +46,7 @@ none_passes_at p xs k x none found = by_test (nat_lt (position_or_len p xs) (len
 order_of : (i j : ℕ) → (i < j) ⊎ ((i ≡ j) ⊎ (j < i))
 order_of i j = grind arith
 
-earlier : (one at : ℕ) → one < at + 1 → (one < at) ⊎ (one ≡ at)
+pub earlier : (one at : ℕ) → one < at + 1 → (one < at) ⊎ (one ≡ at)
 earlier one at below = grind (arith, below)
 
 abbrev on : Link → Link → Bool
