@@ -6,18 +6,13 @@ use Rattle.std.proofs.Common.{get_or-set_other, get_or-set_same, take, length-dr
 use Rattle.std.proofs.lemmas.List.{take_all}
 use Rattle.std.proofs.lemmas.Bool.{cases_lt, cases_eq, or_parts}
 use Rattle.std.proofs.lemmas.List.{length-map}
+use Rattle.std.proofs.lemmas.Option.{slice_get-get_or}
 use Rattle.std.proofs.lemmas.List.FromFn.{fill_by_all, get_or-map-range_with_len, length-map-range_with_len}
 use Rattle.std.specs.List.{list_any, range_with_len, slice_get}
 use Rattle.std.specs.Option.{option_map_or}
 use Rattle.mw_text.specs.declared.words.Line.{Line}
 use Rattle.ios_policy_reader.specs.declared.cause.Refused.{Refused}
 use Rattle.config_lint.specs.Asides.{asides, block_size, EachGoesWith, EachIsWith, goes_with, is_aside, unset, with_line}
-
--- what stands at a place
-pub there : {X : Type 0} (xs : List X) (k : ℕ) (d : X) → k < length xs → slice_get xs k ≡ Some (get_or xs k d)
-there [] k d within = absurd (omega arith)
-there (x ∷ xs) zero d within = refl
-there (x ∷ xs) (suc k) d within = there xs k d (omega arith)
 
 -- ---- one sign after another
 
@@ -79,7 +74,7 @@ pub each_goes : (lines : List Line) (n : ℕ) (line : Line) (old new : List Bool
     EachIsWith lines line n (n + block_size line (drop n lines)) old new → EachGoesWith lines n old new
 each_goes lines n line old new first each k within =
     let other : Line = get_or lines k line in
-    let found : slice_get lines k ≡ Some other = there lines k line within in
+    let found : slice_get lines k ≡ Some other = slice_get-get_or lines k line within in
     each k other found ∙ ap (λ b. get_or old k false || b) (sym (with_is lines n k line other first found))
 
 -- by the size of the block of the line at that place
@@ -88,7 +83,7 @@ pub leaves : (lines : List Line) (n : ℕ) (line : Line) (size : ℕ) (old new :
     EachIsWith lines line n (n + size) old new → EachGoesWith lines n old new
 leaves lines n line size old new some within is size_is each =
     let first : slice_get lines (n - 1) ≡ Some line =
-    there lines (n - 1) line (omega arith) ∙ ap (λ l. Some l) (sym is) in
+    slice_get-get_or lines (n - 1) line (omega arith) ∙ ap (λ l. Some l) (sym is) in
     let rest : take (length lines - n) (drop n lines) ≡ drop n lines =
     take_all (length lines - n) (drop n lines) (omega (arith, length-drop n lines)) in
     each_goes lines n line old new first

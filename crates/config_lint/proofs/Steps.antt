@@ -5,7 +5,7 @@ use Rattle.std.proofs.Common.{append_assoc, append-nil, eq-eqb, drop, nat_lt, na
 use Rattle.std.specs.Prelude.{IsOk, MatchOption}
 use Rattle.std.proofs.lemmas.Bool.{false_from_ne_true}
 use Rattle.std.proofs.lemmas.List.{length-map}
-use Rattle.std.proofs.lemmas.Option.{get_or_from_slice_get}
+use Rattle.std.proofs.lemmas.Option.{get_or_from_slice_get, slice_get-get_or}
 use Rattle.std.specs.Borrow.{Bor}
 use Rattle.std.specs.List.{slice_get, zip}
 use Rattle.bstr.specs.Text.{lines_of as pieces_in, without_terminator}
@@ -19,7 +19,7 @@ use Rattle.config_lint.specs.Asides.{asides, block_size, cut_line, cut_lines, Ea
 use Rattle.config_lint.specs.Asides.{is_of_neighbour, unset, without, with_line}
 use Rattle.config_lint.specs.Listed.{AreListed, is_last, Notes}
 use Rattle.config_lint.proofs.Cuts.{cut_within, lines_of-cut}
-use Rattle.config_lint.proofs.Marks.{asides_more, length-asides, there, unset_less, with_is}
+use Rattle.config_lint.proofs.Marks.{asides_more, length-asides, unset_less, with_is}
 use Rattle.config_lint.proofs.Refusals.{map_at, numbered_at, refusal_says, Says, zip_at}
 
 -- ---- a line that is refused is not left aside
@@ -97,8 +97,8 @@ with_itself line other n end k same =
 goes_itself : (lines : List Line) (k : ℕ) → k < length lines → (line : Line) → goes_with lines (1 + k) (k + 1) ≡ true
 goes_itself lines k within line =
     let first : slice_get lines (1 + k - 1) ≡ Some (get_or lines k line) =
-    ap (slice_get lines) (number k) ∙ there lines k line within in
-    with_is lines (1 + k) k (get_or lines k line) (get_or lines k line) first (there lines k line within)
+    ap (slice_get lines) (number k) ∙ slice_get-get_or lines k line within in
+    with_is lines (1 + k) k (get_or lines k line) (get_or lines k line) first (slice_get-get_or lines k line within)
     ∙ with_itself (get_or lines k line) (get_or lines k line) (1 + k)
     (1 + k + block_size (get_or lines k line) (drop (1 + k) lines)) (k + 1) (omega arith) where
       number : (k : ℕ) → 1 + k - 1 ≡ k

@@ -7,6 +7,7 @@ use Rattle.std.specs.declared.cmp.Ordering.{Ordering}
 use Rattle.std.specs.declared.cmp.Ordering.TheVariants.{Less, Equal, Greater}
 use Rattle.std.specs.Ordering.{is_eq, ordering_reverse}
 use Rattle.std.proofs.lemmas.Cmp.{tied_itself}
+use Rattle.std.proofs.lemmas.Bool.{cases_order}
 use Rattle.std.proofs.lemmas.Option.{get_or_from_slice_get, slice_get_read, slice_get_within}
 use Rattle.packet_fates.specs.declared.fate.Fate.{Fate}
 use Rattle.packet_fates.specs.Order.{Precedes, fate_order}
@@ -56,17 +57,14 @@ place_of xs f (k, within, is) = (k, slice_get_read xs (length xs) k f refl withi
 has_at : (xs : List Fate) (k : ℕ) (f : Fate) → slice_get xs k ≡ Some f → Contains xs f
 has_at xs k f found = (k, slice_get_within xs k f found, get_or_from_slice_get xs k f f found)
 
-order_of : (i j : ℕ) → (i < j) ⊎ ((i ≡ j) ⊎ (j < i))
-order_of i j = grind arith
-
 -- in an ordered list the first fate that the others lack comes before all others that they lack
 pub first_of : (own others : List Fate) (at : ℕ) → AllPairs Precedes own → (is : IsFirstAlone own others at) →
     (f : Fate) → IsOnlyOf (Contains own) (Contains others) f → (is.fate ≡ f) ⊎ Precedes is.fate f
 first_of own others at up is f (has, lacks) =
     let (k, found) = place_of own f has in
-    elim (order_of k at) [
-      | inl before ↦ absurd (lacks (is.before k f before found))
-      | inr (inl same) ↦ let here : Some is.fate ≡ Some f = sym is.found ∙ ap (slice_get own) (sym same) ∙ found in
+    elim (cases_order k at) [
+      | inr (inl before) ↦ absurd (lacks (is.before k f before found))
+      | inl same ↦ let here : Some is.fate ≡ Some f = sym is.found ∙ ap (slice_get own) (sym same) ∙ found in
           inl cc
       | inr (inr after) ↦ let within = slice_get_within own k f found in
           let P : Fate → Type 0 = λ x. Precedes x f in

@@ -4,7 +4,7 @@ use Rattle.std.proofs.Common.{Option, Some}
 use Rattle.std.proofs.Common.{None, refl, sym, ap, subst, arith, ◌∙◌, ◌⊎◌, inl, inr, eqb, eq-eqb, cond}
 use Rattle.std.specs.Prelude.{Contains, nat_lt, position, slice_get}
 use Rattle.std.specs.List.{position_or_len}
-use Rattle.std.proofs.lemmas.Bool.{ltb-false}
+use Rattle.std.proofs.lemmas.Bool.{cases_order, ltb-false}
 use Rattle.std.proofs.lemmas.List.Elements.{Contains-append_left, Contains-push, Contains-push_cases}
 use Rattle.std.proofs.lemmas.List.Quantifiers.{position-Some}
 use Rattle.std.proofs.lemmas.List.Sums.{fails_before_first}
@@ -43,9 +43,6 @@ none_passes_at p xs k x none found = by_test (nat_lt (position_or_len p xs) (len
         ap p (sym (get_or_from_slice_get xs k x x found))
         ∙ fails_before_first p xs k x (omega (arith, past, within))
 
-order_of : (i j : ℕ) → (i < j) ⊎ ((i ≡ j) ⊎ (j < i))
-order_of i j = grind arith
-
 pub earlier : (one at : ℕ) → one < at + 1 → (one < at) ⊎ (one ≡ at)
 earlier one at below = grind (arith, below)
 
@@ -61,9 +58,9 @@ only_place files link b k other found there same =
     let here : on link b ≡ true = ap (λ p. same_prefix b.prefix p) same ∙ self_prefix b.prefix in
     let read : get_or xs other link ≡ b = get_or_from_slice_get xs other b link there in
     let below = slice_get_within xs other b there in
-    elim (order_of other k) [
-      | inl less ↦ absurd (never (on link b) here (ap (on link) (sym read) ∙ fail other less))
-      | inr (inl one) ↦ one
+    elim (cases_order other k) [
+      | inl one ↦ one
+      | inr (inl less) ↦ absurd (never (on link b) here (ap (on link) (sym read) ∙ fail other less))
       | inr (inr more) ↦ let before = links_ascend files k other link more below in
           let first : (get_or xs k link).prefix ≡ link.prefix =
           one_prefix (get_or xs k link).prefix link.prefix passes in

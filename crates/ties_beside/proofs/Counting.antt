@@ -2,23 +2,16 @@
 use Rattle.std.proofs.Common.{◌≡◌, ◌∙◌, ℕ, zero, suc, ◌+◌, ◌<◌, ◌≤◌, Bool, true}
 use Rattle.std.proofs.Common.{false, cond, List, [], ◌∷◌, ◌++◌, ap, arith, sym, refl}
 use Rattle.std.proofs.Common.{count_by, drop, get_or, length, map, max, if◌then◌else◌}
-use Rattle.std.proofs.lemmas.List.{append_assoc}
+use Rattle.std.proofs.lemmas.List.{append_assoc, drop_all, drop_more}
 use Rattle.std.proofs.lemmas.List.Sums.{sum_by-append, sum_by-cons}
 use Rattle.term_store.specs.declared.NodeId.{NodeId}
 use Rattle.term_store.specs.Terms.{Reading, at}
 use Rattle.term_arith.specs.Bits.{ids_end}
+use Rattle.sym_policy.proofs.NetworkBits.{ids_end-append}
 use Rattle.joined_terms.specs.Joining.{behind, place_of}
 use Rattle.paired_nets.specs.declared.links.LinkPair.{LinkPair}
 use Rattle.ties_beside.proofs.Placing.{end_placed}
 use Rattle.ties_beside.specs.Count.{is_own, own_from}
-
--- what is left after some is one more and the rest
-drop_step : (ids : List NodeId) (i : ℕ) (d : NodeId) → i < length ids → drop i ids ≡ get_or ids i d ∷ drop (i + 1) ids
-drop_step [] i d less = absurd (omega (arith, less))
-drop_step (id ∷ ids) zero d less = refl
-drop_step (id ∷ ids) (suc i) d less =
-    let next : suc (i + 1) ≡ suc i + 1 = omega arith in
-    drop_step ids i d (omega (arith, less)) ∙ ap (λ (n : ℕ). get_or ids i d ∷ drop n (id ∷ ids)) next
 
 abbrev pub own_places : List NodeId → List LinkPair → ℕ → List NodeId → List NodeId
 own_places places pairs i ids = map (place_of places) (own_from pairs i ids)
@@ -41,7 +34,7 @@ own_step places pairs out ids i d less =
     ap (λ (n : ℕ). (if is_own pairs i then out ++ place_of places (get_or ids i d) ∷ [] else out)
     ++ own_places places pairs n (drop (i + 1) ids)) (omega arith)
     ∙ by_own places pairs out i (get_or ids i d) (drop (i + 1) ids) (is_own pairs i)
-    ∙ ap (λ (rest : List NodeId). out ++ own_places places pairs i rest) (sym (drop_step ids i d less))
+    ∙ ap (λ (rest : List NodeId). out ++ own_places places pairs i rest) (sym (drop_more ids i d less))
 
 -- none is left
 pub own_none : (places : List NodeId) (pairs : List LinkPair) (ids : List NodeId) (i : ℕ) → length ids ≤ i →
@@ -51,19 +44,9 @@ own_none places pairs [] zero past = refl
 own_none places pairs [] (suc i) past = refl
 own_none places pairs (id ∷ ids) zero past = absurd (omega (arith, past))
 own_none places pairs (id ∷ ids) (suc i) past =
-    ap (own_places places pairs (suc i)) (all_gone ids i (omega (arith, past)))
-  where
-    all_gone : (xs : List NodeId) (n : ℕ) → length xs ≤ n → drop n xs ≡ []
-    all_gone [] zero le = refl
-    all_gone [] (suc n) le = refl
-    all_gone (x ∷ xs) zero le = absurd (omega (arith, le))
-    all_gone (x ∷ xs) (suc n) le = all_gone xs n (omega (arith, le))
+    ap (own_places places pairs (suc i)) (drop_all i ids (omega (arith, past)))
 
 -- ---- where they end
-
-end_append : (xs ys : List NodeId) → ids_end (xs ++ ys) ≡ max (ids_end xs) (ids_end ys)
-end_append [] ys = omega arith
-end_append (x ∷ xs) ys = let rest = end_append xs ys in omega (arith, rest)
 
 end_by : (id : NodeId) (most : ℕ) (rest : List NodeId) (own : Bool) → id.0 + 1 ≤ most → ids_end rest ≤ most →
     ids_end (if own then id ∷ rest else rest) ≤ most
@@ -81,7 +64,7 @@ own_end pairs i most (id ∷ ids) le =
 pub all_end : (places : List NodeId) (pairs : List LinkPair) (a b : List NodeId) (most : ℕ) → ids_end a ≤ most →
     ids_end b ≤ length places → ids_end places ≤ most → ids_end (a ++ own_places places pairs 0 b) ≤ most
 all_end places pairs a b most first second within =
-    let both = end_append a (own_places places pairs 0 b) in
+    let both = ids_end-append a (own_places places pairs 0 b) in
     let own = end_placed places (own_from pairs 0 b) (own_end pairs 0 (length places) b second) in
     omega (arith, both, own, first, within)
 
