@@ -51,7 +51,7 @@ use Rattle.world_variables.specs.declared.unknowns.Unknown.{Unknown}
 use Rattle.world_variables.specs.Worlds.{opens_from as unknowns_read_from, places_in}
 use Rattle.world_variables.specs.Packets.{packet_from}
 use Rattle.bgp_equations.specs.declared.environment.SymEnv.{SymEnv}
-use Rattle.bgp_equations.specs.Environments.{environment_read}
+use Rattle.bgp_equations.specs.Environments.{FitsNet, environment_read}
 use Rattle.bgp_equations.specs.Equations.{DistancesForSessions, RowsForSessions, has_inner, slot_read}
 use Rattle.bgp_variables.specs.declared.rooms.BgpRoom.{BgpRoom}
 use Rattle.bgp_variables.specs.Brought.{brings_bgp}
@@ -65,7 +65,7 @@ use Rattle.routing_worlds.proofs.MadeAgain.{not_back}
 use Rattle.routing_encoder.specs.declared.opening.OpenRouting.{OpenRouting}
 use Rattle.routing_encoder.specs.Opened.{ReadsAs, StandsIn}
 use Rattle.routing_encoder.specs.Shapes.{ReadAsShapes}
-use Rattle.routing_encoder.specs.Encoded.{SayDistances, StandsForWorld}
+use Rattle.routing_encoder.specs.Encoded.{HasEnvironment, SayDistances, StandsForWorld}
 use Rattle.routing_encoder.proofs.Halves.{here_at}
 use Rattle.routing_encoder.proofs.OpeningSteps.{places_are}
 
@@ -297,3 +297,13 @@ world_nodes files tracked question plan t u made slots world stands within large
     let each : slots_end world.slots ≤ size u =
     subst (λ (xs : List SymSlot). slots_end xs ≤ size u) (sym to_slots) (omega (arith, within, larger)) in
     omega (arith, packet, net, each)
+
+-- the environment of a routing stands in a larger store too
+pub has_environment : (files : List File) (tracked : Tracked) (question : Question) (plan : Plan) (t u : Store)
+    (made : OpenRouting) (env : SymEnv) → StandsIn files tracked question plan t made → size t ≤ size u →
+    env ≡ made.env → HasEnvironment files tracked plan u env
+has_environment files tracked question plan t u made env stands larger same =
+    subst (HasEnvironment files tracked plan u) (sym same) (record {
+      nodes = let own = stands.environment in omega (arith, own, larger);
+      fits = subst (λ (ls : List ℕ). FitsNet files tracked ls made.env) stands.frame.lens stands.fits;
+    })

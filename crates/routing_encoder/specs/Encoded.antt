@@ -19,7 +19,7 @@ use Rattle.sym_policy.specs.Packets.{packet_of}
 use Rattle.sym_walk.specs.declared.breaks.SymWorld.{SymWorld}
 use Rattle.sym_walk.specs.Whole.{HasSlots, whole_end}
 use Rattle.bgp_equations.specs.declared.environment.SymEnv.{SymEnv}
-use Rattle.bgp_equations.specs.Environments.{environment_read}
+use Rattle.bgp_equations.specs.Environments.{FitsNet, env_end, environment_read}
 use Rattle.bgp_equations.specs.Equations.{HaveTracked}
 use Rattle.igp_variables.specs.Rows.{distances, rows_bits, rows_from}
 use Rattle.shape_worlds.specs.Worlds.{ShapeWorld, shapes_of}
@@ -35,6 +35,12 @@ pub record HasWorld (files : List File) (tracked : Tracked) (t : Store) (world :
   pub slots : HasSlots files world
   pub nodes : whole_end world ≤ size t
   pub rows : HaveTracked tracked world.slots
+
+-- the nodes of what comes from outside stand in the store: there is an announcement of each external peer at each length
+-- of the plan
+pub record HasEnvironment (files : List File) (tracked : Tracked) (plan : Plan) (t : Store) (env : SymEnv) : Type 0 where
+  pub nodes : env_end env ≤ size t
+  pub fits : FitsNet files tracked (lens_of plan) env
 
 -- a symbolic world and environment read as the world by shapes that the variables from one on stand for
 pub record StandsForWorld (files : List File) (tracked : Tracked) (question : Question) (plan : Plan) (from : ℕ)

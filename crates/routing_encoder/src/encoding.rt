@@ -3,7 +3,7 @@
 ghost use Rattle.std.specs.Prelude.{◌≡◌, ℕ, ◌≤◌, ◌<◌, ◌+◌, IfOk, length, true};
 ghost use Rattle.sym_rib.specs.Worlds.{slots_end};
 ghost use Rattle.bgp_equations.specs.Equations.{HaveTracked};
-ghost use Rattle.routing_encoder.specs.Encoded.{HasWorld, IsEncoding, IsRoot, StandsForWorld};
+ghost use Rattle.routing_encoder.specs.Encoded.{HasEnvironment, HasWorld, IsEncoding, IsRoot, StandsForWorld};
 ghost use Rattle.routing_encoder.specs.Opened.{ReadsAs, StandsIn, routing_width};
 ghost use Rattle.routing_encoder.specs.Shapes.{ReadAsShapes};
 ghost use Rattle.term_store.specs.Terms.{size};
@@ -100,6 +100,7 @@ fn root_of(
     ensures builds { Builds terms.old terms.new }
     ensures within { IfOk result (λ r. r.root.0 < size terms.new) }
     ensures stands { IfOk result (λ r. HasWorld net.now.files net.now.tracked terms.new r.world) }
+    ensures outside { IfOk result (λ r. HasEnvironment net.now.files net.now.tracked plan terms.new r.env) }
     ensures plan { IfOk result (λ r. r.world.plan ≡ plan) }
     ensures world { Gives terms.new result (λ w r. (from : ℕ) →
         ReadsAs net.now.files net.now.tracked question.now plan from w made.routing →
@@ -132,6 +133,7 @@ fn root_over_new(
 ) -> Result<Rooted, AllocError>
     ensures root { IfOk result (λ r. r.root.0 < size terms.new) }
     ensures stands { IfOk result (λ r. HasWorld net.now.files net.now.tracked terms.new r.world) }
+    ensures outside { IfOk result (λ r. HasEnvironment net.now.files net.now.tracked plan terms.new r.env) }
     ensures plan { IfOk result (λ r. r.world.plan ≡ plan) }
     ensures vars { IfOk result (λ r. terms.new.vars
         ≡ terms.old.vars + routing_width net.now.files net.now.tracked question.now plan) }
@@ -148,8 +150,8 @@ fn root_over_new(
 /// true under exactly those values of the variables whose world and environment are a stable routing that breaks the
 /// question and stands at the slices of the plan alone: whatever values make it true, their world in their environment is
 /// one; and where such a routing breaks the question its own bits make it true. The nodes of the world stand in the terms:
-/// each router has a slot at each slice of the plan, whose BGP route has a node for each value that the network tracks. Err
-/// is want of memory.
+/// each router has a slot at each slice of the plan, whose BGP route has a node for each value that the network tracks; so
+/// do those of the environment, which has an announcement of each external peer at each slice. Err is want of memory.
 pub fn encode(
     alloc: Global,
     net: &Net,
@@ -158,6 +160,7 @@ pub fn encode(
 ) -> Result<Encoding, AllocError>
     ensures plan { IfOk result (λ e. e.world.plan ≡ plan.now) }
     ensures stands { IfOk result (λ e. HasWorld net.now.files net.now.tracked e.terms e.world) }
+    ensures outside { IfOk result (λ e. HasEnvironment net.now.files net.now.tracked plan.now e.terms e.env) }
     ensures encoding { IfOk result (IsEncoding net.now.files net.now.tracked question.now) }
 {
     let rooms = rooms_of(alloc, net, &question.packets.dst)?;

@@ -9,7 +9,7 @@ use Rattle.routing_worlds.specs.Worlds.{shape_world_from, world_from}
 use Rattle.routing_worlds.proofs.RoutingSound.{shapes_are}
 use Rattle.bgp_equations.specs.Equations.{HaveTracked}
 use Rattle.routing_encoder.proofs.OpeningSteps.{places_are}
-use Rattle.routing_encoder.proofs.RootSteps.{distances_needed, distances_said, needed_by, stands_world, whole_is, world_nodes, world_slots}
+use Rattle.routing_encoder.proofs.RootSteps.{distances_needed, distances_said, has_environment, needed_by, stands_world, whole_is, world_nodes, world_slots}
 use Rattle.routing_encoder.proofs.WantedSteps.{stand_read}
 use Rattle.routing_encoder.proofs.encoding.root_of.Goals as goal
 
@@ -40,6 +40,15 @@ returns-clause-stands c =
           c.settled-opened.ensures.slots;
       rows = subst (HaveTracked c.args.net.now.tracked) (sym c.settled-opened.ensures.slots) c.requires.rows;
     }
+
+pub returns-clause-outside : goal.returns-clause-outside
+returns-clause-outside c =
+    let a = c.sym_routing.ensures.builds.larger in
+    let b = c.sym_breaks.ensures.builds.larger in
+    let d = c.both.ensures.builds.larger in
+    has_environment c.args.net.now.files c.args.net.now.tracked c.args.question.now c.args.plan c.args.terms.now
+    c.both.new.terms c.args.made.routing c.settled-opened.result.env c.requires.stands (omega (arith, a, b, d))
+    c.settled-opened.ensures.env
 
 pub returns-clause-world : goal.returns-clause-world
 returns-clause-world c = λ w reads from read shapes.
