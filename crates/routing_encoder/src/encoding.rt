@@ -2,12 +2,13 @@
 
 ghost use Rattle.std.specs.Prelude.{◌≡◌, ℕ, ◌≤◌, ◌<◌, ◌+◌, IfOk, length, true};
 ghost use Rattle.sym_rib.specs.Worlds.{slots_end};
+ghost use Rattle.sym_walk.specs.Distances.{DistancesWhereNeeded};
 ghost use Rattle.bgp_equations.specs.Equations.{HaveTracked};
 ghost use Rattle.routing_encoder.specs.Encoded.{HasEnvironment, HasWorld, IsEncoding, IsRoot, StandsForWorld};
 ghost use Rattle.routing_encoder.specs.Opened.{ReadsAs, StandsIn, routing_width};
 ghost use Rattle.routing_encoder.specs.Shapes.{ReadAsShapes};
-ghost use Rattle.term_store.specs.Terms.{size};
-ghost use Rattle.term_store.specs.Reading.{Builds, Gives};
+ghost use Rattle.term_store.specs.Terms.{Reading, at, size};
+ghost use Rattle.term_store.specs.Reading.{Builds, Gives, Reads};
 
 use crate::routing::sym_routing;
 use crate::world::{OpenWorld, open_world};
@@ -106,6 +107,10 @@ fn root_of(
         ReadsAs net.now.files net.now.tracked question.now plan from w made.routing →
         ReadAsShapes net.now.files net.now.tracked question.now plan from w made.slots →
         StandsForWorld net.now.files net.now.tracked question.now plan from w r.world r.env) }
+    ensures distances { Gives terms.new result (λ w r. (from : ℕ) →
+        ReadsAs net.now.files net.now.tracked question.now plan from w made.routing →
+        ReadAsShapes net.now.files net.now.tracked question.now plan from w made.slots → at w r.root ≡ true →
+        DistancesWhereNeeded w net.now.files r.world.net r.world.slots) }
     ensures value { Gives terms.new result (λ w r. (from : ℕ) →
         ReadsAs net.now.files net.now.tracked question.now plan from w made.routing →
         ReadAsShapes net.now.files net.now.tracked question.now plan from w made.slots →
@@ -139,6 +144,8 @@ fn root_over_new(
         ≡ terms.old.vars + routing_width net.now.files net.now.tracked question.now plan) }
     ensures world { Gives terms.new result (λ w r.
         StandsForWorld net.now.files net.now.tracked question.now plan terms.old.vars w r.world r.env) }
+    ensures distances { Gives terms.new result (λ w r. at w r.root ≡ true →
+        DistancesWhereNeeded w net.now.files r.world.net r.world.slots) }
     ensures value { Gives terms.new result (λ w r.
         IsRoot net.now.files net.now.tracked question.now plan terms.old.vars w r.root) }
 {
@@ -151,7 +158,8 @@ fn root_over_new(
 /// question and stands at the slices of the plan alone: whatever values make it true, their world in their environment is
 /// one; and where such a routing breaks the question its own bits make it true. The nodes of the world stand in the terms:
 /// each router has a slot at each slice of the plan, whose BGP route has a node for each value that the network tracks; so
-/// do those of the environment, which has an announcement of each external peer at each slice. Err is want of memory.
+/// do those of the environment, which has an announcement of each external peer at each slice. Where the root is true, walks
+/// read the interior distances of the network where they read any. Err is want of memory.
 pub fn encode(
     alloc: Global,
     net: &Net,
@@ -161,6 +169,8 @@ pub fn encode(
     ensures plan { IfOk result (λ e. e.world.plan ≡ plan.now) }
     ensures stands { IfOk result (λ e. HasWorld net.now.files net.now.tracked e.terms e.world) }
     ensures outside { IfOk result (λ e. HasEnvironment net.now.files net.now.tracked plan.now e.terms e.env) }
+    ensures distances { IfOk result (λ e. (w : Reading) → Reads w e.terms → at w e.root ≡ true →
+        DistancesWhereNeeded w net.now.files e.world.net e.world.slots) }
     ensures encoding { IfOk result (IsEncoding net.now.files net.now.tracked question.now) }
 {
     let rooms = rooms_of(alloc, net, &question.packets.dst)?;

@@ -58,6 +58,20 @@ returns-clause-world c = λ w reads from read shapes.
     c.args.made.slots c.requires.stands read c.requires.long shapes world c.settled-opened.result.env c.settled-opened.ensures.packet
     c.settled-opened.ensures.net c.settled-opened.ensures.slots c.settled-opened.ensures.env
 
+pub returns-clause-distances : goal.returns-clause-distances
+returns-clause-distances c = λ w reads from read shapes holds.
+    let files = c.args.net.now.files in
+    let made = c.args.made.routing in
+    let slots = c.args.made.slots in
+    let r2 = c.both.ensures.builds.reads w reads in
+    let r1 = c.sym_breaks.ensures.builds.reads w r2 in
+    let parts = and_parts (at w c.in_ok-routing.routing) (at w c.in_ok-broken.broken)
+    (sym (c.in_ok-root.ensures.value w reads) ∙ holds) in
+    needed_by w files made.net c.settled-opened.result.world slots c.settled-opened.ensures.net
+    c.settled-opened.ensures.slots
+    (distances_needed w files c.args.net.now.tracked c.args.question.now c.args.plan from c.args.terms.now made slots
+    c.requires.stands read c.requires.long shapes (c.in_ok-routing.ensures.distances w r1 parts.0))
+
 pub returns-clause-value : goal.returns-clause-value
 returns-clause-value c = λ w reads from read shapes.
     let files = c.args.net.now.files in
