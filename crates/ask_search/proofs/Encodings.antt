@@ -20,7 +20,6 @@ use Rattle.net_parts.specs.Sessions.{ends_of, peerings, sessions}
 use Rattle.net_parts.specs.Tracked.{TracksNet}
 use Rattle.bgp_shapes.proofs.TrackedLaw.{tests_tracked}
 use Rattle.plan_places.specs.Plans.{lens_of, single_plan}
-use Rattle.plan_places.proofs.PlaceSteps.{places-length}
 use Rattle.question_lang.specs.declared.question.Question.{Question}
 use Rattle.question_lang.specs.declared.walk.Walk.{Walk}
 use Rattle.question_lang.specs.Breaking.{IsBreaking}
@@ -28,12 +27,10 @@ use Rattle.question_lang.specs.Packets.{IsInSet}
 use Rattle.sym_policy.specs.Held.{failures_of}
 use Rattle.sym_policy.specs.Records.{address_of, prefix_of}
 use Rattle.sym_policy.proofs.HighBits.{covers_prefix}
-use Rattle.sym_rib.specs.Worlds.{StandForTables}
 use Rattle.sym_walk.specs.declared.breaks.SymWorld.{SymWorld}
 use Rattle.sym_walk.specs.Whole.{HasSlots}
 use Rattle.term_store.specs.Reading.{Builds, Reads}
 use Rattle.term_store.specs.Terms.{Agrees, Reading, Store, at, reading_of, size, truth, value_of}
-use Rattle.world_variables.specs.Worlds.{places_in}
 use Rattle.bgp_equations.specs.declared.environment.SymEnv.{SymEnv}
 use Rattle.shape_worlds.specs.Worlds.{ShapeWorld, shapes_of}
 use Rattle.sliced_routings.specs.Plans.{IsFittingPlan}
@@ -43,7 +40,6 @@ use Rattle.routing_worlds.proofs.RoutingSound.{shapes_are}
 use Rattle.routing_encoder.specs.declared.encoding.Encoding.{Encoding}
 use Rattle.routing_encoder.specs.Encoded.{IsEncoding, StandsForWorld, routing_bits}
 use Rattle.routing_encoder.specs.Opened.{routing_width}
-use Rattle.routing_encoder.proofs.WantedSteps.{stand_read}
 use Rattle.export_asks.specs.declared.ask.Ask.{Ask}
 use Rattle.export_asks.specs.Exported.{end_to, is_asked, is_exported}
 use Rattle.export_terms.specs.Routes.{routes_at}
@@ -53,7 +49,8 @@ use Rattle.export_terms.proofs.Read.{out_of_tables}
 use Rattle.ask_search.specs.declared.encoding.AskTerms.{AskTerms}
 use Rattle.ask_search.specs.Encoded.{IsAskEncoding, IsExportTerm, IsExportedBy, exports_read}
 use Rattle.ask_search.specs.Exporting.{IsExportable, IsExporting, packets_to, question_of}
-use Rattle.ask_search.proofs.Plan.{all_sliced, fits_single}
+use Rattle.routing_encoder.proofs.RealWorlds.{stand_for}
+use Rattle.routing_encoder.proofs.SinglePlan.{all_sliced, fits_single}
 
 -- ---- where a route goes out there is a router
 
@@ -87,17 +84,6 @@ module _ (w : Reading) (files : List File) (tracked : Tracked) (question : Quest
     (env : SymEnv) (real : World) (environment : Environment) (slots : HasSlots files world)
     (at_plan : world.plan ≡ plan) (stands : StandsForWorld files tracked question plan 0 w world env)
     (same : shape_world_from files tracked question plan w.variable 0 ≡ shapes_of tracked real environment) where
-  long : length world.slots ≡ length (places_in files plan)
-  long =
-      slots ∙ ap (λ (p : Plan). length files * length (lens_of p)) at_plan
-      ∙ sym (places-length (lens_of plan) (length files))
-
-  stand_for : StandForTables w tracked (lens_of world.plan) (length files) world.slots real.tables
-  stand_for =
-      subst (λ (p : Plan). StandForTables w tracked (lens_of p) (length files) world.slots real.tables) (sym at_plan)
-      (stand_read w files tracked question plan 0 real.tables (sym (ap (λ (s : ShapeWorld). s.slots) same)) world.slots
-      stands.slots long)
-
   destination : address_of w world.packet.dst ≡ real.packet.dst
   destination =
       ap (λ (p : Packet). p.dst) (stands.packet ∙ ap (λ (s : ShapeWorld). s.packet) same)
@@ -110,7 +96,8 @@ module _ (w : Reading) (files : List File) (tracked : Tracked) (question : Quest
       ≡ any_below LENGTHS (is_exported files ask real.packet.dst real.failures real.tables)
   exports_are ask tracks =
       out_of_tables w tracked files ask (address_of w world.packet.dst) (failures_of w world.net) (lens_of world.plan)
-      world.slots real.tables (tests_tracked files tracked tracks) stand_for
+      world.slots real.tables (tests_tracked files tracked tracks)
+      (stand_for w files tracked question plan world env real environment slots at_plan stands same)
       ∙ (λ i. any_below LENGTHS (is_exported files ask (destination i) (failed i) real.tables))
 
 -- ---- the packet of a routing that exports

@@ -1,4 +1,3 @@
-pub mod Plan
 pub mod Encodings
 pub mod Formulas
 pub mod Decodings

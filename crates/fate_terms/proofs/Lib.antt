@@ -1,1 +1,2 @@
 pub mod EndingKinds
+pub mod Naming

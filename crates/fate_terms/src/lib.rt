@@ -2,7 +2,9 @@
 #![tactic(auto)]
 
 pub mod ending;
+pub mod named;
 pub mod terms;
 
 pub use ending::Ending;
+pub use named::sym_fates;
 pub use terms::sym_ending;

@@ -14,3 +14,4 @@ pub use apart::{Apart, Side};
 pub use comparing::fate_apart;
 pub use ends::fates;
 pub use fate::Fate;
+pub use ordered::put_fate;

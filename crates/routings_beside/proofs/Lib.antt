@@ -1,2 +1,3 @@
+pub mod Hops
 pub mod Readings
-pub mod Sides
+pub mod OneSide

@@ -1,34 +1,22 @@
 //! Two networks as one formula: its solutions are the stable routings of both.
 
 ghost use Rattle.std.specs.Prelude.{◌≡◌, ◌+◌, ◌<◌, ◌≤◌, ◌&&◌, Bool, IfOk, List as ListOf, length};
-ghost use Rattle.plan_places.specs.Plans as plans;
-ghost use Rattle.routing_encoder.specs.Encoded.{HasWorld, IsEncoding};
-ghost use Rattle.routings_beside.specs.Pairs.{IsPairEncoding, question_of};
+ghost use Rattle.routings_beside.specs.Pairs.{IsPairEncoding};
 ghost use Rattle.same_asks.specs.Asking.{IsKnown};
 ghost use Rattle.term_arith.specs.Bits.{ids_end};
 ghost use Rattle.term_store.specs.Reading.{Reads};
-ghost use Rattle.term_store.specs.Terms.{Agrees, IsSound, Reading, reading_of, size, value_of};
-ghost use Rattle.terms_beside.specs.Beside.{ReadBeside, first_part, second_part, values_beside};
+ghost use Rattle.term_store.specs.Terms.{Agrees, Reading, at, size, value_of};
+ghost use Rattle.terms_beside.specs.Beside.{ReadBeside, first_part, place_of, second_part, values_beside};
 
-use crate::question::question_for;
-use bgp_equations::SymEnv;
+use crate::sides::{Side, side_of};
 use mw_text::List;
-use net_encoder::{Encoding, encode};
 use net_model::Net;
-use plan_places::single_plan;
+use packet_fates::Fate;
 use same_asks::Same;
 use std::alloc::{AllocError, Global};
-use sym_walk::SymWorld;
 use term_arith::gates::both;
 use term_store::{NodeId, Terms};
 use terms_beside::put_beside;
-
-/// What the variables of one network stand for, as terms.
-#[derive(Drop)]
-pub struct Side {
-    pub world: SymWorld,
-    pub env: SymEnv,
-}
 
 /// Two networks as terms, with the root that is true exactly of two stable routings, one of each, and what the
 /// variables of each stand for. The nodes of the left one stand in the terms by their own numbers, and those of the
@@ -37,25 +25,11 @@ pub struct Side {
 pub struct PairTerms {
     pub terms: Terms,
     pub root: NodeId,
+    /// How many variables the left one has.
+    pub split: u64,
     pub one: Side,
     pub other: Side,
     pub places: List<NodeId>,
-}
-
-// The stable routings of one network.
-fn side_of(alloc: Global, net: &Net, ask: &Same) -> Result<Encoding, AllocError>
-    ensures encoding { IfOk result (IsEncoding net.now.files net.now.tracked (question_of ask.now)) }
-    ensures plan { IfOk result (λ e. e.world.plan ≡ plans.single_plan) }
-    ensures stands { IfOk result (λ e. HasWorld net.now.files net.now.tracked e.terms e.world) }
-    ensures sound { IfOk result (λ e. IsSound e.terms.nodes e.terms.vars) }
-    ensures reads { IfOk result (λ e. (xs : ListOf Bool) → Reads (reading_of e.terms.nodes xs) e.terms) }
-{
-    let question = question_for(alloc, ask)?;
-    let plan = single_plan(alloc)?;
-    let encoding = encode(alloc, net, &question, &plan)?;
-    encoding.terms.stands_in_order();
-    encoding.terms.valuation_reads();
-    Ok(encoding)
 }
 
 // Two stores of terms as one, with a root, and where the nodes of the second store stand.
@@ -86,6 +60,8 @@ fn joined(
         ReadBeside one other.now e.places (first_part one valuation) (second_part one other.now valuation) w) }
     ensures besides { IfOk result (λ e. (w : Reading) → Reads w e.terms → (xs ys : ListOf Bool) →
         Agrees w (values_beside one other.now xs ys) e.terms.vars → ReadBeside one other.now e.places xs ys w) }
+    ensures root { IfOk result (λ e. (w : Reading) → Reads w e.terms →
+        at w e.root ≡ (at w root && at w (place_of e.places out.0))) }
     ensures values { IfOk result (λ e. (valuation : ListOf Bool) → value_of e.terms.nodes valuation e.root.0
         ≡ (value_of one.nodes (first_part one valuation) root.0
         && value_of other.now.nodes (second_part one other.now valuation) out.0)) }
@@ -108,32 +84,30 @@ fn joined(
 /// The stable routings of two networks for an ask, side by side: whatever values make the root true, the routings
 /// that they say are stable, each with a packet of the ask and no more failed links than it allows (`sound`); and
 /// where there are two such routings, their values, one after another, make the root true (`complete`). The terms of
-/// each network's world and environment read as what the values say (`values`, `given`), and those of a routing say
-/// its shapes (`one_shapes`, `other_shapes`). Nothing ties the two to one packet, one environment and one set of
-/// failed links. Err is want of memory.
+/// each network's world and environment read as what the values say, and where the root is true the node of each fate
+/// says whether packets have it that begin at the ask's router (`values`, `given`); the values of a routing say its
+/// shapes (`one_shapes`, `other_shapes`). Nothing ties the two to one packet, one environment and one set of failed
+/// links. Err is want of memory.
 pub fn encode_pair(
     alloc: Global,
     left: &Net,
     right: &Net,
     ask: &Same,
+    fates: &[Fate],
 ) -> Result<PairTerms, AllocError>
     requires known { IsKnown left.now.files right.now.files ask.now }
-    ensures { IfOk result (IsPairEncoding left.now right.now ask.now) }
+    ensures { IfOk result (IsPairEncoding left.now right.now ask.now fates.now) }
 {
-    let one = side_of(alloc, left, ask)?;
-    let other = side_of(alloc, right, ask)?;
+    let one = side_of(alloc, left, ask, ask.left, fates)?;
+    let other = side_of(alloc, right, ask, ask.right, fates)?;
+    let split = one.terms.vars();
     let made = joined(alloc, one.terms, one.root, &other.terms, other.root)?;
     Ok(PairTerms {
         terms: made.terms,
         root: made.root,
-        one: Side {
-            world: one.world,
-            env: one.env,
-        },
-        other: Side {
-            world: other.world,
-            env: other.env,
-        },
+        split,
+        one: one.side,
+        other: other.side,
         places: made.places,
     })
 }

@@ -3,5 +3,7 @@
 
 pub mod encoding;
 pub mod question;
+pub mod sides;
 
-pub use encoding::{PairTerms, Side, encode_pair};
+pub use encoding::{PairTerms, encode_pair};
+pub use sides::Side;

@@ -39,6 +39,12 @@ returns-clause-besides c = λ w reads xs ys agrees.
     c.in_ok-places.ensures.given w (c.both.ensures.builds.reads w reads) xs ys
     (agrees_so_many w (values_beside c.args.one c.args.other.now xs ys) _ _ c.both.ensures.builds.same_vars agrees)
 
+pub returns-clause-root : goal.returns-clause-root
+returns-clause-root c = λ w reads.
+    let root = c.args.out.0 in
+    let place = ap (λ (xs : List NodeId). at w (get_or xs root (record { 0 = 0 }))) c.as_slice.ensures in
+    c.in_ok-root.ensures.value w reads ∙ (λ i. at w c.args.root && place i)
+
 pub returns-clause-values : goal.returns-clause-values
 returns-clause-values c = λ valuation.
     let w = reading_of c.both.new.terms.nodes valuation in
