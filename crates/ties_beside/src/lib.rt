@@ -9,5 +9,5 @@ pub mod placed;
 
 pub use count::few_fail;
 pub use links::same_links;
-pub use packets::same_packet;
+pub use packets::{same_number, same_packet};
 pub use placed::all_placed;

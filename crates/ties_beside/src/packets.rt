@@ -15,9 +15,9 @@ use term_arith::gates::both;
 use term_arith::{Bits, equal};
 use term_store::{NodeId, Terms};
 
-// Whether a number is that of nodes at their places.
+/// Whether a number of the first formula is one of the second, whose nodes stand at these places. Err is want of memory.
 #[tactic(auto, using(crate::proofs::Placing::placed_steps))]
-fn same_number(
+pub fn same_number(
     alloc: Global,
     terms: &mut Terms,
     places: &[NodeId],

@@ -1,0 +1,3 @@
+pub mod NextHops
+pub mod Leading
+pub mod Held

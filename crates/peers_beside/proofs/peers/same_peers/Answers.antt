@@ -1,0 +1,38 @@
+use Rattle.std.proofs.Common.{◌≡◌, length, true}
+use Rattle.std.specs.Prelude.{◌↔◌, All, Contains}
+use Rattle.std.proofs.lemmas.List.Elements.{All-contains_itself, All-weaker}
+use Rattle.std.proofs.lemmas.Result.{IfOk-weaker}
+use Rattle.paired_nets.specs.declared.ends.EndPair.{EndPair}
+use Rattle.paired_nets.specs.Ends.{AreOneEnd}
+use Rattle.term_store.specs.declared.NodeId.{NodeId}
+use Rattle.term_store.specs.Reading.{Reads}
+use Rattle.term_store.specs.Terms.{Reading, at}
+use Rattle.joined_terms.specs.Joining.{behind}
+use Rattle.bgp_equations.specs.Environments.{environment_read}
+use Rattle.peers_beside.specs.Same.{IsOnePeer}
+use Rattle.peers_beside.specs.Shared.{AreCommonShapes}
+use Rattle.peers_beside.proofs.WholeEnvironments.{peers_tell}
+use Rattle.peers_beside.proofs.peers.same_peers.Goals as goal
+
+pub are_one_peer-requires-clause-pairs : goal.are_one_peer-requires-clause-pairs
+are_one_peer-requires-clause-pairs c =
+    All-weaker (Contains c.args.pairs.now)
+    (λ (pair : EndPair). AreOneEnd c.args.left.now.files c.args.right.now.files pair.one pair.other)
+    c.requires.pairs.sound c.args.pairs.now (All-contains_itself c.args.pairs.now)
+
+pub returns-clause-value : goal.returns-clause-value
+returns-clause-value c =
+    let left = c.args.left.now.files in
+    let right = c.args.right.now.files in
+    let lens = c.args.lens.now in
+    let u = behind c.args.places.now in
+    IfOk-weaker c.are_one_peer.result
+    (λ (r : NodeId). (w : Reading) → Reads w c.are_one_peer.new.terms → at w r ≡ true
+    ↔ All (IsOnePeer left right (length lens) w (u w) c.args.a.now c.args.b.now) c.args.pairs.now)
+    (λ (r : NodeId). (w : Reading) → Reads w c.are_one_peer.new.terms → at w r ≡ true
+    ↔ AreCommonShapes left right (environment_read w left lens c.args.a.now)
+    (environment_read (u w) right lens c.args.b.now))
+    (λ r tells w reads. peers_tell left right c.args.left.now.tracked c.args.right.now.tracked lens w (u w) c.args.a.now
+    c.args.b.now c.args.pairs.now (at w r) c.requires.lens c.requires.fits c.requires.fits_too c.requires.pairs
+    (tells w reads))
+    c.are_one_peer.ensures.value
