@@ -1,10 +1,12 @@
 //! Answers to asks one after another.
 
-ghost use Rattle.std.specs.Prelude.{◌≡◌, ◌⊎◌, ◌<◌, ◌||◌, Some, IfOk, OnErr, OnOk, length, map, slice_get};
-ghost use Rattle.advert_ask.specs.Answering.{AnswersSo, IsCutShort, IsPut, is_broken, is_unknown};
+ghost use Rattle.std.specs.Prelude.{◌≡◌, ◌⊎◌, ◌<◌, ◌||◌, List as ListOf, Some, IfOk, OnErr, OnOk, length, map, slice_get};
+ghost use Rattle.advert_ask.specs.Answering.{answering, is_broken, is_unknown};
 ghost use Rattle.ask_search.specs.Verdicts.{verdict_text};
+ghost use Rattle.asked_files.specs.Answering.{AnswersSo, IsCutShort, IsPut};
 ghost use Rattle.mw_outside.specs.Faults.{Rose};
 ghost use Rattle.mw_outside.specs.Taken.{Takes, TakesPart};
+ghost use Rattle.resolution_check.specs.declared.log.Entry.{Entry};
 ghost use Rattle.run_answers.specs.Answering.{OnWriteFault, UnlessWriteFault};
 ghost use Rattle.run_inputs.specs.Loading.{IsBudget};
 
@@ -71,9 +73,11 @@ fn put_answer<O: Sink, L: Sink>(
     deciders: &mut Vec<Box<dyn Decider>>,
 ) -> Result<AskVerdict, Halt>
     requires budget { IsBudget budget }
-    ensures ok { IfOk result (IsPut net.now.files budget ask.now (O.taken out.old) (O.taken out.new)
-        (L.taken log.old) (L.taken log.new) (map (λ b. told b) deciders.new.items)) }
-    ensures cut { OnErr result (IsCutShort net.now.files budget ask.now (O.taken out.old) (O.taken out.new)
+    ensures ok { IfOk result (λ verdict. (section : ListOf Entry)
+        × IsPut (answering net.now.files budget) ask.now (O.taken out.old) (O.taken out.new)
+        (L.taken log.old) (L.taken log.new) (map (λ b. told b) deciders.new.items)
+        (record { verdict = verdict; section = section })) }
+    ensures cut { OnErr result (IsCutShort (answering net.now.files budget) ask.now (O.taken out.old) (O.taken out.new)
         (L.taken log.old) (L.taken log.new)) }
     ensures fault { OnWriteFault result (Rose (O.faults out.old) (O.faults out.new) ⊎ Rose (L.faults log.old) (L.faults log.new)) }
     ensures writes { UnlessWriteFault result ((O.faults out.new ≡ O.faults out.old) × (L.faults log.new ≡ L.faults log.old)) }
@@ -102,7 +106,7 @@ pub fn put_answers<O: Sink, L: Sink>(
     deciders: &mut Vec<Box<dyn Decider>>,
 ) -> Ended
     requires budget { IsBudget budget }
-    ensures so { AnswersSo net.now.files asks.now budget (record {
+    ensures so { AnswersSo (answering net.now.files budget) asks.now (record {
       taken = O.taken out.old;
       taken_now = O.taken out.new;
       faults = O.faults out.old;

@@ -1,10 +1,13 @@
 //! The whole command.
 
 ghost use Rattle.std.specs.Prelude.{◌≡◌, length, map, string_bytes};
-ghost use Rattle.advert_ask.specs.Answering.{AnswersSo};
+ghost use Rattle.advert_ask.specs.Answering.{answering};
 ghost use Rattle.advert_ask.specs.Loading.{IsReady};
-ghost use Rattle.advert_ask.specs.Running.{EndsSo, IsAccepted};
+ghost use Rattle.advert_ask.specs.Running.{advertising};
+ghost use Rattle.advert_ask.specs.Words.{asked_of};
+ghost use Rattle.asked_files.specs.Answering.{AnswersSo};
 ghost use Rattle.asked_files.specs.Ending.{IsComplete, NoFault};
+ghost use Rattle.asked_files.specs.Running.{EndsSo, IsAccepted};
 
 use crate::answers::put_answers;
 use crate::loading::{Loaded, work_of};
@@ -25,7 +28,7 @@ pub fn end_work<O: Sink, L: Sink>(
     deciders: &mut Vec<Box<dyn Decider>>,
 ) -> Ended
     requires ready { IsReady loaded }
-    ensures so { AnswersSo loaded.net.files loaded.asks loaded.budget (record {
+    ensures so { AnswersSo (answering loaded.net.files loaded.budget) loaded.asks (record {
       taken = O.taken out.old;
       taken_now = O.taken out.new;
       faults = O.faults out.old;
@@ -53,7 +56,7 @@ fn do_work<F: Files, O: Sink, L: Sink>(
     log: &mut L,
     deciders: &mut Vec<Box<dyn Decider>>,
 ) -> Ended
-    ensures so { EndsSo (F.contents files.old) (map string_bytes words.now)
+    ensures so { EndsSo advertising (F.contents files.old) (asked_of (map string_bytes words.now))
         (record {
           faults = F.faults files.old;
           faults_now = F.faults files.new;
@@ -101,7 +104,7 @@ pub fn run_advert<F: Files, O: Sink, L: Sink>(
     deciders: &mut Vec<Box<dyn Decider>>,
 ) -> Ended
     // By how it ends: what was read, and what stands.
-    ensures so { EndsSo (F.contents files.old) (map string_bytes words.now)
+    ensures so { EndsSo advertising (F.contents files.old) (asked_of (map string_bytes words.now))
         (record {
           faults = F.faults files.old;
           faults_now = F.faults files.new;
@@ -122,7 +125,7 @@ pub fn run_advert<F: Files, O: Sink, L: Sink>(
         (log.new ≡ log.old) result }
 
     // Accepted words and files and no fault: every ask is answered, but for want of memory.
-    ensures complete { IsAccepted (F.contents files.old) (map string_bytes words.now) → NoFault
+    ensures complete { IsAccepted advertising (F.contents files.old) (asked_of (map string_bytes words.now)) → NoFault
         (record {
           faults = F.faults files.old;
           faults_now = F.faults files.new;

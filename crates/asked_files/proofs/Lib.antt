@@ -1,3 +1,5 @@
+pub mod Answering
 pub mod Copies
-pub mod Networks
 pub mod Endings
+pub mod Networks
+pub mod Running

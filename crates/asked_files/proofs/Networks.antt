@@ -27,7 +27,7 @@ network_refused told names refusal line says stopped =
     (λ contents is. ap (loaded_as names) is ∙ ap (λ l. Err (refused l)) (sym says))
 
 -- the texts were read of files that are a network
-read_of : (names : List (List ℕ)) (r : Result (List Placed) Unloaded) (files : List File) →
+pub read_of : (names : List (List ℕ)) (r : Result (List Placed) Unloaded) (files : List File) →
     loaded_as names (following parsed_due r) ≡ Ok files → (texts : List Placed) × (r ≡ Ok texts)
 read_of names (Ok texts) files is = (texts, refl)
 read_of names (Err load.unread) files is = absurd cc

@@ -6,5 +6,5 @@ pub mod network;
 pub mod words;
 
 pub use ending::{ended_by, put_refusal};
-pub use network::load_network;
+pub use network::{load_network, stop_at};
 pub use words::{Asked, owned, read_asked_words};

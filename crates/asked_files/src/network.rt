@@ -4,12 +4,12 @@ ghost use Rattle.std.specs.Prelude.{◌≡◌, Ok, Err, IfOk, IfErr, IfSome, map
 ghost use Rattle.asked_files.specs.Network as due;
 ghost use Rattle.mw_load.specs.Loading.{StopsAt};
 ghost use Rattle.mw_outside.specs.Faults.{Rose};
+ghost use Rattle.net_parts.specs.Tracked.{tracked_of};
 ghost use Rattle.run_inputs.specs.Due.{refused};
 ghost use Rattle.run_inputs.specs.Loading.{OnStop, UnlessReadFault};
 
 use mw_load::{LoadRefused, load, refusal_text};
 use mw_outside::Files;
-use mw_text::List;
 use net_model::Net;
 use run_inputs::Stop;
 use run_inputs::load::stop_with;
@@ -24,23 +24,25 @@ fn name_at(names: &[String], at: u64) -> &str
     }
 }
 
-// One of the files of these names is refused.
-fn stop_at(
+/// One of the files of these names is refused: that of this place, at this line, for a cause with this number and these
+/// words.
+pub fn stop_at(
     alloc: Global,
     names: &[String],
     name: u64,
     line: u32,
     number: u32,
-    cause: &List<u8>,
+    cause: &[u8],
 ) -> Stop
     ensures { OnStop result (λ printed. printed ≡ due.refusal_line (map string_bytes names.now)
         (record { name = name; line = line; number = number; cause = cause.now })) ⊥ }
 {
     let name = name_at(names, name);
-    stop_with(refusal_text(alloc, name, line, number, cause.as_slice()))
+    stop_with(refusal_text(alloc, name, line, number, cause))
 }
 
-/// The network of the configurations of these names: they are read in their order, parsed in it, and their network is built.
+/// The network of the configurations of these names: they are read in their order, parsed in it, and their network is built,
+/// which tracks what they name.
 ///
 /// # Errors
 /// The line of the first refusal; a read of one of the files that failed; want of memory.
@@ -48,6 +50,7 @@ pub fn load_network<F: Files>(alloc: Global, files: &mut F, names: &[String]) ->
     ensures kept { F.contents files.new ≡ F.contents files.old }
     ensures ok { IfOk result (λ net. IfSome (F.contents files.old) (λ contents.
         due.network_of contents (map string_bytes names.now) ≡ Ok net.files)) }
+    ensures tracks { IfOk result (λ net. net.tracked ≡ tracked_of net.files) }
     ensures quiet { UnlessReadFault result (F.faults files.new ≡ F.faults files.old) }
     ensures name_stays { UnlessReadFault result (F.last_failed files.new ≡ F.last_failed files.old) }
     ensures stop { IfErr result (λ stop. OnStop stop
@@ -66,7 +69,7 @@ pub fn load_network<F: Files>(alloc: Global, files: &mut F, names: &[String]) ->
                 number,
                 cause,
             },
-        ) => Err(stop_at(alloc, names, name, line, number, &cause)),
+        ) => Err(stop_at(alloc, names, name, line, number, cause.as_slice())),
         Err(LoadRefused::Memory) => Err(Stop::Memory),
     }
 }

@@ -9,6 +9,7 @@ ghost use Rattle.mw_outside.specs.Contents.{TellsOnly};
 ghost use Rattle.mw_load.specs.Loading as due;
 ghost use Rattle.mw_load.specs.Loading.{AreSmall, StopsAt};
 ghost use Rattle.mw_load.specs.Refused.{OnRefused, UnlessFault};
+ghost use Rattle.net_parts.specs.Tracked.{tracked_of};
 
 use crate::causes::{cause_number, cause_words, net_cause_number, net_cause_words};
 use crate::refused::LoadRefused;
@@ -169,6 +170,7 @@ fn parse_files(alloc: Global, texts: &[Placed]) -> Result<List<File>, LoadRefuse
 fn network_of(alloc: Global, files: List<File>) -> Result<Net, LoadRefused>
     requires limits { list_all keeps_limits files ≡ true }
     ensures ok { IfOk result (λ net. due.network_of files ≡ Ok net.files) }
+    ensures tracks { IfOk result (λ net. net.tracked ≡ tracked_of net.files) }
     ensures stop { IfErr result (λ why. OnRefused why (λ refusal. due.network_of files ≡ Err (due.refused refusal)) ⊥) }
 {
     match Net::build(alloc, files) {
@@ -181,13 +183,15 @@ fn network_of(alloc: Global, files: List<File>) -> Result<Net, LoadRefused>
 pub fn parse_network(alloc: Global, texts: &[Placed]) -> Result<Net, LoadRefused>
     requires { AreSmall texts.now }
     ensures ok { IfOk result (λ net. due.parsed_due texts.now ≡ Ok net.files) }
+    ensures tracks { IfOk result (λ net. net.tracked ≡ tracked_of net.files) }
     ensures stop { IfErr result (λ why. OnRefused why (λ refusal. due.parsed_due texts.now ≡ Err (due.refused refusal)) ⊥) }
 {
     let files = parse_files(alloc, texts)?;
     network_of(alloc, files)
 }
 
-/// Reads the configurations of these names in their order, then parses them in this order, then builds their network.
+/// Reads the configurations of these names in their order, then parses them in this order, then builds their network, which
+/// tracks what they name.
 ///
 /// # Errors
 /// `Fault` only where a read of one of these files failed in this call. `Refused` exactly for the first refusal in this
@@ -197,6 +201,7 @@ pub fn load<F: Files>(alloc: Global, files: &mut F, names: &[String]) -> Result<
     ensures kept { F.contents files.new ≡ F.contents files.old }
     ensures ok { IfOk result (λ net. IfSome (F.contents files.old) (λ contents.
         due.network_due contents (map string_bytes names.now) ≡ Ok net.files)) }
+    ensures tracks { IfOk result (λ net. net.tracked ≡ tracked_of net.files) }
     ensures quiet { UnlessFault result (F.faults files.new ≡ F.faults files.old) }
     ensures name_stays { UnlessFault result (F.last_failed files.new ≡ F.last_failed files.old) }
     ensures stop { IfErr result (λ why. OnRefused why

@@ -1,6 +1,5 @@
-use Rattle.std.proofs.Common.{inl, refl}
+use Rattle.std.proofs.Common.{inl, inr, refl}
 use Rattle.mw_text.proofs.Results.{on_err}
-use Rattle.advert_ask.proofs.Answering.{cut_told}
 use Rattle.advert_ask.proofs.answers.put_answer.Goals as goal
 
 pub returns-in_err-verdict-clause-cut : goal.returns-in_err-verdict-clause-cut
@@ -8,6 +7,15 @@ returns-in_err-verdict-clause-cut g c = on_err _ (inl (refl, c.in_err-verdict.en
 
 pub returns-in_err-put_lines-clause-cut : goal.returns-in_err-put_lines-clause-cut
 returns-in_err-put_lines-clause-cut g c =
-    on_err _ (cut_told c.args.net.now.files c.args.budget c.args.ask.now c.in_ok-verdict.verdict
-    (g.O.Sink.taken c.args.out.now) (g.O.Sink.taken c.put_lines.new.out) (g.L.Sink.taken c.args.log.now)
-    (g.L.Sink.taken c.answer.new.log) _ c.in_ok-verdict.ensures.ok c.put_lines.ensures.part)
+    let (section, right, logs, bumps) = c.in_ok-verdict.ensures.ok in
+    on_err _ (inr (
+      record { verdict = c.in_ok-verdict.verdict; section = section },
+      right,
+      logs,
+      c.put_lines.ensures.part,
+    ))
+
+pub returns-clause-ok : goal.returns-clause-ok
+returns-clause-ok g c =
+    let (section, right, logs, bumps) = c.in_ok-verdict.ensures.ok in
+    (section, (right, logs, bumps, c.in_ok-put_lines.ensures.takes))

@@ -1,11 +1,12 @@
 use Rattle.std.proofs.Common.{◌≡◌, length, map, take}
-use Rattle.advert_ask.proofs.Answering.{AreSeen}
+use Rattle.asked_files.proofs.Answering.{AreSeen}
+use Rattle.advert_ask.specs.Answering.{answering}
 use Rattle.advert_ask.proofs.answers.put_answers.Given as goal
 
 -- the asks so far are answered, and no write failed
 abbrev pub invariant-loop-at : goal.invariant-loop-at
 invariant-loop-at g l = record {
-  seen : AreSeen l.net.files l.budget (take l.at l.asks)
+  seen : AreSeen (answering l.net.files l.budget) (take l.at l.asks)
       (g.O.Sink.taken l.initial.out) (g.O.Sink.taken l.out) (g.L.Sink.taken l.initial.log) (g.L.Sink.taken l.log)
       (map (λ b. (goal.Decider-dyn g (b.vtable, b.value)).told b.value) l.deciders.items) l.seen;
   prints : g.O.Sink.faults l.out ≡ g.O.Sink.faults l.initial.out;
