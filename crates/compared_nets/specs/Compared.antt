@@ -45,3 +45,10 @@ pub record AreDifferent (left right : List File) (ask : Same) (one other : World
   pub about : Environment
   pub beside : AreBeside left right ask one other around about
   pub first : IsFirstApart (FatesIn left one ask) (FatesBeside right other ask) side fate
+
+-- in some two such routings the fates are not the same
+abbrev pub DoDiffer : List File → List File → Same → Type 0
+DoDiffer left right ask =
+    (one : World) × (other : World) × (around : Environment) × (about : Environment)
+    × AreBeside left right ask one other around about
+    × (AreSame (FatesIn left one ask) (FatesBeside right other ask) → ⊥)

@@ -1,0 +1,4 @@
+pub mod Verdicts
+pub mod Decoded
+pub mod Formulas
+pub mod Searches
