@@ -4,13 +4,17 @@ use Rattle.mw_outside.specs.Contents.{Contents}
 use Rattle.mw_load.specs.declared.ended.Ended.{Ended}
 use Rattle.mw_load.specs.declared.ended.Ended.TheVariants as ended
 use Rattle.asked_files.specs.Ending.{IsComplete, NoFault, Writes}
-use Rattle.advert_ask.specs.Running as advert
+use Rattle.asked_files.specs.Running as asked
+use Rattle.advert_ask.specs.Running.{advertising}
+use Rattle.advert_ask.specs.Words as advert
+use Rattle.compare_words.specs.Words as compare
 use Rattle.least_failures.specs.Running as least
 use Rattle.log_trim.specs.Printing.{PrintsSo}
 use Rattle.log_trim.specs.Running as trim
 use Rattle.log_trim.specs.Texts.{usage_text}
+use Rattle.net_compare.specs.Running.{comparing}
 use Rattle.extra_commands.specs.declared.commands.Command.{Command}
-use Rattle.extra_commands.specs.declared.commands.Command.TheVariants.{Advert, Least, Trim, Unknown}
+use Rattle.extra_commands.specs.declared.commands.Command.TheVariants.{Advert, Compare, Least, Trim, Unknown}
 
 -- what a run begins with, and what it leaves: the contents of the files and the words, what reads have done, what writes of
 -- the output and of the log have, and what the deciders tell
@@ -32,15 +36,20 @@ EndsUsage c result =
 
 -- Each command ends as its own call does, where `Unlogged` says that nothing is logged.
 abbrev pub EndsSo : Command → Course → Type 0 → Ended → Type 0
-EndsSo Advert c Unlogged result = advert.EndsSo c.told c.words c.reads c.writes Unlogged result
+EndsSo Advert c Unlogged result =
+    asked.EndsSo advertising c.told (advert.asked_of c.words) c.reads c.writes Unlogged result
+EndsSo Compare c Unlogged result = asked.EndsSo comparing c.told (compare.asked_of c.words) c.reads c.writes Unlogged result
 EndsSo Least c Unlogged result = least.EndsSo c.told c.words c.reads c.writes Unlogged result
 EndsSo Trim c Unlogged result = trim.EndsSo c.told c.words c.reads (printed c.writes) result × Unlogged
 EndsSo Unknown c Unlogged result = EndsUsage c result × Unlogged
 
--- Where the words of `advert` or `least` and the files are accepted, and no fault came, every ask or question is answered,
+-- Where the words of `advert`, `compare` or `least` and the files are accepted, and no fault came, every ask or question is answered,
 -- or memory was refused.
 abbrev pub CompletesSo : Command → Course → Ended → Type 0
-CompletesSo Advert c result = advert.IsAccepted c.told c.words → NoFault c.reads c.writes → IsComplete result
+CompletesSo Advert c result =
+    asked.IsAccepted advertising c.told (advert.asked_of c.words) → NoFault c.reads c.writes → IsComplete result
+CompletesSo Compare c result =
+    asked.IsAccepted comparing c.told (compare.asked_of c.words) → NoFault c.reads c.writes → IsComplete result
 CompletesSo Least c result = least.IsAccepted c.told c.words → NoFault c.reads c.writes → IsComplete result
 CompletesSo Trim c result = Unit {0}
 CompletesSo Unknown c result = Unit {0}

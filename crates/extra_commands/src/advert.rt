@@ -5,7 +5,9 @@
 
 ghost use Rattle.std.specs.Prelude.{◌≡◌, length, map, string_bytes};
 ghost use Rattle.asked_files.specs.Ending.{IsComplete, NoFault};
-ghost use Rattle.advert_ask.specs.Running.{EndsSo, IsAccepted};
+ghost use Rattle.advert_ask.specs.Running.{advertising};
+ghost use Rattle.advert_ask.specs.Words.{asked_of};
+ghost use Rattle.asked_files.specs.Running.{EndsSo, IsAccepted};
 
 use advert_ask::loading::work_of;
 use advert_ask::running::end_work;
@@ -26,7 +28,7 @@ fn do_advert<F: Files, O: Sink, L: Sink>(
     log: &mut L,
     deciders: &mut Vec<Box<dyn Decider>>,
 ) -> Ended
-    ensures so { EndsSo (F.contents files.old) (map string_bytes words.now)
+    ensures so { EndsSo advertising (F.contents files.old) (asked_of (map string_bytes words.now))
         (record {
           faults = F.faults files.old;
           faults_now = F.faults files.new;
@@ -67,7 +69,7 @@ pub fn advert_words<F: Files, O: Sink, L: Sink>(
     deciders: &mut Vec<Box<dyn Decider>>,
 ) -> Ended
     // By how it ends: what was read, and what stands.
-    ensures so { EndsSo (F.contents files.old) (map string_bytes words.now)
+    ensures so { EndsSo advertising (F.contents files.old) (asked_of (map string_bytes words.now))
         (record {
           faults = F.faults files.old;
           faults_now = F.faults files.new;
@@ -88,7 +90,7 @@ pub fn advert_words<F: Files, O: Sink, L: Sink>(
         (log.new ≡ log.old) result }
 
     // Accepted words and files and no fault: every ask is answered, but for want of memory.
-    ensures complete { IsAccepted (F.contents files.old) (map string_bytes words.now) → NoFault
+    ensures complete { IsAccepted advertising (F.contents files.old) (asked_of (map string_bytes words.now)) → NoFault
         (record {
           faults = F.faults files.old;
           faults_now = F.faults files.new;

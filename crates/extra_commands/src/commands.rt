@@ -9,6 +9,8 @@ ghost use Rattle.extra_commands.specs.Commands as commands;
 pub enum Command {
     /// `advert`: whether routes go out to external peers.
     Advert,
+    /// `compare`: whether packets have the same fates in two networks.
+    Compare,
     /// `least`: with how few failed links something breaks a question.
     Least,
     /// `trim`: the trimmed form of a log.
@@ -21,6 +23,12 @@ fn is_advert(word: &String) -> bool
     ensures { result ≡ same_text (string_bytes word.now) (codes "advert") }
 {
     word.as_str() == "advert"
+}
+
+fn is_compare(word: &String) -> bool
+    ensures { result ≡ same_text (string_bytes word.now) (codes "compare") }
+{
+    word.as_str() == "compare"
 }
 
 fn is_least(word: &String) -> bool
@@ -43,6 +51,7 @@ pub fn command_of(words: &[String]) -> Command
     match words {
         [] => Command::Unknown,
         [name, ..] if is_advert(name) => Command::Advert,
+        [name, ..] if is_compare(name) => Command::Compare,
         [name, ..] if is_least(name) => Command::Least,
         [name, ..] if is_trim(name) => Command::Trim,
         _ => Command::Unknown,

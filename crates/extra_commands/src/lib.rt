@@ -3,6 +3,7 @@
 
 mod advert;
 pub mod commands;
+mod compare;
 mod least;
 pub mod running;
 

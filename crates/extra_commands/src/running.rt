@@ -6,6 +6,7 @@ ghost use Rattle.extra_commands.specs.Running.{CompletesSo, EndsSo};
 
 use crate::advert::advert_words;
 use crate::commands::{Command, command_of};
+use crate::compare::compare_pair;
 use crate::least::least_words;
 use deciders::Decider;
 use log_trim::{put_usage, trim_words};
@@ -14,8 +15,8 @@ use mw_outside::{Files, Sink};
 use std::alloc::Global;
 
 /// The whole run of the second program: hands the words to the call of their first word, `advert ASKS CONFIG...`,
-/// `least QUESTIONS CONFIG...` or `trim LOG`. Where that is none, the line of usage is printed, and nothing is read or
-/// logged.
+/// `compare COUNT ASKS CONFIG...`, `least QUESTIONS CONFIG...` or `trim LOG`. Where that is none, the line of usage is
+/// printed, and nothing is read or logged.
 pub fn run_extra<F: Files, O: Sink, L: Sink>(
     alloc: Global,
     words: &[String],
@@ -74,6 +75,7 @@ pub fn run_extra<F: Files, O: Sink, L: Sink>(
 {
     match command_of(words) {
         Command::Advert => advert_words(alloc, words, files, out, log, deciders),
+        Command::Compare => compare_pair(alloc, words, files, out, log, deciders),
         Command::Least => least_words(alloc, words, files, out, log, deciders),
         Command::Trim => trim_words(alloc, words, files, out),
         Command::Unknown => put_usage(out),

@@ -1,25 +1,29 @@
 use Rattle.std.proofs.Common.{inl, map, refl}
 use Rattle.std.specs.Prelude.{string_bytes}
-use Rattle.advert_ask.proofs.Ending.{ends_answers, ends_refused, ends_usage}
+use Rattle.asked_files.proofs.Running.{ends_refused, ends_usage}
+use Rattle.advert_ask.specs.Words.{asked_of}
+use Rattle.advert_ask.specs.Running.{advertising}
+use Rattle.advert_ask.proofs.Ending.{ends_advertised}
 use Rattle.extra_commands.proofs.advert.do_advert.Goals as goal
 
 pub returns-in-Ok-Some-clause-so : goal.returns-in-Ok-Some-clause-so
 returns-in-Ok-Some-clause-so g c =
     let so = rw c.in-Ok-Some.field-0-is at c.in-Ok-Some.ensures.so in
-    ends_answers (g.F.Files.contents c.args.files.now) (map string_bytes c.args.words.now) _ _ _ so.0 _ _ _
-    c.end_work.result so.2.0 so.1 so.2.1 so.2.2 c.end_work.ensures.so
+    ends_advertised (g.F.Files.contents c.args.files.now) (asked_of (map string_bytes c.args.words.now)) _ _ _ _ _ _
+    c.in-Ok-Some.loaded.budget c.end_work.result so.2.0 so.1 so.2.1 so.2.2 c.end_work.ensures.so
 
 pub returns-in-Ok-None-clause-so : goal.returns-in-Ok-None-clause-so
 returns-in-Ok-None-clause-so g c =
     let so = rw c.in-Ok-None.field-0-is at c.in-Ok-None.ensures.so in
-    ends_usage (g.F.Files.contents c.args.files.now) (map string_bytes c.args.words.now) _ _ _ c.put_usage.result so.0
-    so.1 refl refl refl c.put_usage.ensures
+    ends_usage advertising (g.F.Files.contents c.args.files.now) (asked_of (map string_bytes c.args.words.now)) _ _ _
+    c.put_usage.result so.0 so.1 refl refl refl c.put_usage.ensures
 
 pub returns-in-Err-Refused-clause-so : goal.returns-in-Err-Refused-clause-so
 returns-in-Err-Refused-clause-so g c =
     let so = rw c.in-Err-Refused.field-0-is at c.in-Err-Refused.ensures.so in
-    ends_refused (g.F.Files.contents c.args.files.now) (map string_bytes c.args.words.now) _ _ _ so.0 _
-    c.put_refusal.result so.2.0 so.1 so.2.1 refl refl refl (rw c.in-Err-Refused.field-0-is at c.put_refusal.ensures)
+    ends_refused advertising (g.F.Files.contents c.args.files.now) (asked_of (map string_bytes c.args.words.now)) _ _ _
+    so.0 _ c.put_refusal.result so.2.0 so.1 so.2.1 refl refl refl
+    (rw c.in-Err-Refused.field-0-is at c.put_refusal.ensures)
 
 pub returns-in-Err-ReadFault-clause-so : goal.returns-in-Err-ReadFault-clause-so
 returns-in-Err-ReadFault-clause-so g c =
