@@ -204,7 +204,7 @@ pub(crate) fn sym_arrives(
 
 /// Whether a walk from the router comes back to one.
 #[tactic(auto, using(crate::proofs::Tables::loops_layers))]
-pub(crate) fn sym_loops(
+pub fn sym_loops(
     alloc: Global,
     terms: &mut Terms,
     table: &[SymForwarding],

@@ -35,6 +35,7 @@ pub use choices::{choose_forwarding, join_forwarding};
 pub use connected::sym_connected;
 pub use forwarding::{SymBeginning, SymEdge, SymForwarding};
 pub use here::sym_here;
+pub use layers::sym_loops;
 pub use lists::sym_ends;
 pub use over::sym_send_over;
 pub use own::sym_own;

@@ -12,14 +12,14 @@ ghost use Rattle.sym_walk.specs.Distances.{DistancesWhereNeeded};
 ghost use Rattle.sym_forwarding.specs.Forwardings.{start_asked};
 ghost use Rattle.sym_policy.specs.Packets.{packet_of};
 ghost use Rattle.sym_forwarding.specs.Symbolic.{beginning_of, beginning_end, table_end, table_of};
-ghost use Rattle.sym_walk.specs.TwinTables.{AreTwins};
+ghost use Rattle.sym_walk.specs.TwinTables.{AreTwins, may_end};
 ghost use Rattle.route_record.specs.declared.TheConstants as constants;
 ghost use Rattle.sym_walk.specs.Whole.{HasSlots, whole_of, whole_end};
 ghost use Rattle.term_store.specs.Terms.{Reading, size, at};
 ghost use Rattle.term_store.specs.Reading.{Reads, Builds, Gives};
 ghost use Rattle.term_arith.specs.Bits.{ids_end};
 
-use crate::routers::{router_count, sym_table};
+use crate::routers::{router_count, sym_router, sym_table};
 use mw_text::List;
 use net_model::Net;
 use plan_places::lens_of;
@@ -110,9 +110,15 @@ fn world_tables<'a>(net: &Net, lens: &'a [u8], world: &'a SymWorld) -> SymTables
     }
 }
 
-// What each router does with the packet of a world, for a question of that kind.
+/// What each router does with the packet of a world, for a question of that kind: where it may send the packet, and
+/// whether a walk may end there as the question asks. The world has a slot for each router of the network at each prefix
+/// length at which a slice of its plan stands. Where slots hold a BGP route, the interior distances are to be those of
+/// the network.
+///
+/// # Errors
+/// Memory was refused.
 #[tactic(auto, using(plan_places::proofs::PlaceSteps::lens_few))]
-fn world_table(
+pub fn world_table(
     alloc: Global,
     terms: &mut Terms,
     net: &Net,
@@ -130,6 +136,42 @@ fn world_table(
     let tables = world_tables(net, lens.as_slice(), world);
     let made = sym_table(alloc, terms, net, &world.net, &tables, &world.packet, kind)?;
     Ok(made)
+}
+
+/// Whether a walk that comes to the router may end there as a question of that kind asks, in the world that the records
+/// stand for, under what is said of `world_table`.
+///
+/// # Errors
+/// Memory was refused.
+#[tactic(auto, using(plan_places::proofs::PlaceSteps::lens_few))]
+pub fn sym_ends_at(
+    alloc: Global,
+    terms: &mut Terms,
+    net: &Net,
+    world: &SymWorld,
+    kind: Kind,
+    router: u32,
+) -> Result<NodeId, AllocError>
+    requires slots { HasSlots net.now.files world.now }
+    requires nodes { whole_end world.now ≤ size terms.old }
+    ensures builds { Builds terms.old terms.new }
+    ensures within { IfOk result (λ r. r.0 < size terms.new) }
+    ensures value { Gives terms.new result (λ w r. DistancesWhereNeeded w net.now.files world.now.net world.now.slots →
+        at w r ≡ may_end net.now.files (whole_of w net.now.files world.now) kind router) }
+{
+    let lens = lens_of(alloc, &world.plan)?;
+    let tables = world_tables(net, lens.as_slice(), world);
+    let made = sym_router(
+        alloc,
+        terms,
+        net,
+        &world.net,
+        &tables,
+        &world.packet,
+        kind,
+        router,
+    )?;
+    Ok(made.ends)
 }
 
 /// Whether a walk of the packet breaks the question in the world that the records stand for. The world has a slot for

@@ -10,13 +10,13 @@ mod offers;
 mod routers;
 
 pub use adjacent::sym_ospf_hops;
-pub use breaks::{SymWorld, sym_breaks};
+pub use breaks::{SymWorld, sym_breaks, sym_ends_at, world_table};
 pub use entries::sym_entry_hops;
 pub use longest::sym_hops;
 pub use routers::sym_table;
 pub use sym_forwarding::{
     SymAim, SymBeginning, SymEdge, SymForwarding, sym_begin, sym_bgp_hops, sym_broken,
-    sym_connected, sym_here, sym_own, sym_permits_in, sym_permits_out, sym_send_over, sym_static,
-    sym_statics,
+    sym_connected, sym_here, sym_loops, sym_own, sym_permits_in, sym_permits_out, sym_send_over,
+    sym_static, sym_statics,
 };
 pub use sym_rib::slot_for;

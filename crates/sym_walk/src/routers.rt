@@ -60,8 +60,8 @@ fn sym_next(
     }
 }
 
-// The same, for a question of that kind.
-fn sym_router(
+/// The same, for a question of that kind.
+pub(crate) fn sym_router(
     alloc: Global,
     terms: &mut Terms,
     net: &Net,
