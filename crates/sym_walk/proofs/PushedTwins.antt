@@ -24,7 +24,7 @@ pushed (z ∷ xs) x y (suc i) h =
       | inr here ↦ let place : suc i ≡ length (z ∷ xs) = ap suc here.0 in inr (place, here.1)
     ]
 
-longer_by_one : {A : Type 0} (xs : List A) (x : A) → length (xs ++ x ∷ []) ≡ length xs + 1
+pub longer_by_one : {A : Type 0} (xs : List A) (x : A) → length (xs ++ x ∷ []) ≡ length xs + 1
 longer_by_one [] x = refl
 longer_by_one (z ∷ xs) x = let rest = longer_by_one xs x in omega arith
 

@@ -129,6 +129,7 @@ pub fn world_table(
     requires nodes { whole_end world.now ≤ size terms.old }
     ensures builds { Builds terms.old terms.new }
     ensures within { IfOk result (λ r. table_end r ≤ size terms.new) }
+    ensures long { IfOk result (λ r. length r ≡ length net.now.files) }
     ensures value { Gives terms.new result (λ w r. DistancesWhereNeeded w net.now.files world.now.net world.now.slots →
         AreTwins net.now.files (whole_of w net.now.files world.now) kind (length net.now.files) (table_of w r)) }
 {

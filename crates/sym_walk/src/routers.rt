@@ -107,7 +107,7 @@ pub(crate) fn router_count(net: &Net) -> u32
 }
 
 // The table of the first routers, with that of the next number.
-#[tactic(auto, using(crate::proofs::PushedTwins::table_end_push))]
+#[tactic(auto, using(crate::proofs::PushedTwins::table_end_push, crate::proofs::PushedTwins::longer_by_one))]
 fn add_router(
     alloc: Global,
     terms: &mut Terms,
@@ -125,6 +125,7 @@ fn add_router(
     requires table { table_end table ≤ size terms.old }
     ensures builds { Builds terms.old terms.new }
     ensures within { IfOk result (λ r. table_end r ≤ size terms.new) }
+    ensures long { IfOk result (λ r. length r ≡ length table + 1) }
     ensures value { Gives terms.new result (λ w r. DistancesWhereNeeded w net.now.files sym.now tables.now.slots.now →
         AreTwins net.now.files (read_world w sym.now packet.now tables.now) kind router (table_of w table) →
         AreTwins net.now.files (read_world w sym.now packet.now tables.now) kind (router + 1) (table_of w r)) }
@@ -150,6 +151,7 @@ pub fn sym_table(
     requires packet { packet_end packet.now ≤ size terms.old }
     ensures builds { Builds terms.old terms.new }
     ensures within { IfOk result (λ r. table_end r ≤ size terms.new) }
+    ensures long { IfOk result (λ r. length r ≡ length net.now.files) }
     ensures value { Gives terms.new result (λ w r. DistancesWhereNeeded w net.now.files sym.now tables.now.slots.now →
         AreTwins net.now.files (read_world w sym.now packet.now tables.now) kind
         (length net.now.files) (table_of w r)) }

@@ -10,6 +10,7 @@ pub loop-router-init : goal.loop-router-init
 loop-router-init c = record {
   builds = search rules;
   within = search rules;
+  long = search rules;
   value = λ w reads needed.
       let net = c.args.net.now.files in
       let world = read_world w c.args.sym.now c.args.packet.now c.args.tables.now in
@@ -21,6 +22,7 @@ pub loop-router-preserved : goal.loop-router-preserved
 loop-router-preserved c = record {
   builds = search rules;
   within = search rules;
+  long = search rules;
   value = λ w reads needed.
       let step = c.in_ok-table.ensures in
       step.value w reads needed (c.loop-router.invariant.value w (step.builds.reads w reads) needed);

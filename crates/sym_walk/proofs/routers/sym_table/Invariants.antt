@@ -1,4 +1,4 @@
-use Rattle.std.proofs.Common.{◌≤◌}
+use Rattle.std.proofs.Common.{◌≡◌, ◌≤◌, length}
 use Rattle.term_store.specs.Terms.{Reading, size}
 use Rattle.term_store.specs.Reading.{Reads, Builds}
 use Rattle.sym_walk.specs.Distances.{DistancesWhereNeeded}
@@ -12,6 +12,7 @@ abbrev pub invariant-loop-router : goal.invariant-loop-router
 invariant-loop-router l = record {
   builds : Builds l.fn.terms l.terms;
   within : table_end l.table ≤ size l.terms;
+  long : length l.table ≡ l.router;
   value : (w : Reading) → Reads w l.terms → DistancesWhereNeeded w l.net.files l.sym l.tables.slots.now →
       AreTwins l.net.files (read_world w l.sym l.packet l.tables) l.kind l.router (table_of w l.table);
 }
