@@ -53,3 +53,8 @@ CompletesSo Compare c result =
 CompletesSo Least c result = least.IsAccepted c.told c.words → NoFault c.reads c.writes → IsComplete result
 CompletesSo Trim c result = Unit {0}
 CompletesSo Unknown c result = Unit {0}
+
+-- both: how a run of the command ends, and that it answers all that it should
+pub record Runs (command : Command) (c : Course) (Unlogged : Type 0) (result : Ended) : Type 0 where
+  pub so : EndsSo command c Unlogged result
+  pub complete : CompletesSo command c result

@@ -2,7 +2,7 @@
 
 ghost use Rattle.std.specs.Prelude.{◌≡◌, length, map, string_bytes};
 ghost use Rattle.extra_commands.specs.Commands as commands;
-ghost use Rattle.extra_commands.specs.Running.{CompletesSo, EndsSo};
+ghost use Rattle.extra_commands.specs.Running.{Runs};
 
 use crate::advert::advert_words;
 use crate::commands::{Command, command_of};
@@ -25,7 +25,7 @@ pub fn run_extra<F: Files, O: Sink, L: Sink>(
     log: &mut L,
     deciders: &mut Vec<Box<dyn Decider>>,
 ) -> Ended
-    ensures so { EndsSo (commands.command_of (map string_bytes words.now))
+    ensures runs { Runs (commands.command_of (map string_bytes words.now))
         (record {
           told = F.contents files.old;
           words = map string_bytes words.now;
@@ -48,28 +48,6 @@ pub fn run_extra<F: Files, O: Sink, L: Sink>(
           };
         })
         (log.new ≡ log.old) result }
-    ensures complete { CompletesSo (commands.command_of (map string_bytes words.now))
-        (record {
-          told = F.contents files.old;
-          words = map string_bytes words.now;
-          reads = record {
-            faults = F.faults files.old;
-            faults_now = F.faults files.new;
-            last = F.last_failed files.old;
-            last_now = F.last_failed files.new;
-          };
-          writes = record {
-            taken = O.taken out.old;
-            taken_now = O.taken out.new;
-            faults = O.faults out.old;
-            faults_now = O.faults out.new;
-            logged = L.taken log.old;
-            logged_now = L.taken log.new;
-            log_faults = L.faults log.old;
-            log_faults_now = L.faults log.new;
-            tolds = map (λ b. told b) deciders.new.items;
-          };
-        }) result }
     ensures kept { F.contents files.new ≡ F.contents files.old }
     ensures deciders { length deciders.new.items ≡ length deciders.old.items }
 {

@@ -1,9 +1,5 @@
 -- A walk ends so exactly where it breaks the question of that kind.
-use Rattle.std.proofs.Common.{◌≡◌, ℕ, true, List, Option, Some, None, sym, subst}
-use Rattle.std.specs.Prelude.{IfOk, Result, Ok, Err}
-use Rattle.term_store.specs.declared.NodeId.{NodeId}
-use Rattle.term_store.specs.Reading.{Reads}
-use Rattle.term_store.specs.Terms.{Reading, Store, at}
+use Rattle.std.proofs.Common.{◌≡◌, ℕ, List, Option, Some, None, subst}
 use Rattle.ios_ast.specs.declared.file.File.{File}
 use Rattle.route_record.specs.declared.World.{World}
 use Rattle.question_lang.specs.declared.question.Kind.{Kind}
@@ -46,26 +42,3 @@ ending_breaks files world start (Delivered router) (walk, is, begins, ends) = (w
 ending_breaks files world start (Left router a) (walk, is, begins, ends) = (walk, (is, (begins, ends)))
 ending_breaks files world start BlackHole (walk, is, begins, ends) = (walk, (is, (begins, ends)))
 ending_breaks files world start Loop (walk, is, begins, ends) = (walk, (is, (begins, ends)))
-
--- ---- so does the term
-
-pub term_sound : {E : Type 0} (t : Store) (made : Result NodeId E) (Needed : Reading → Type 0) (files : List File)
-    (world : Reading → World) (start : ℕ) (ending : Ending) (kind : Kind) → kind ≡ kind_of start ending →
-    IfOk made (λ r. (w : Reading) → Reads w t → Needed w → at w r ≡ true →
-    (walk : Option Walk) × Breaks files (world w) kind walk) →
-    IfOk made (λ r. (w : Reading) → Reads w t → Needed w → at w r ≡ true → HasEnding files (world w) start ending)
-term_sound t (Err e) Needed files world start ending kind same given = tt
-term_sound t (Ok id) Needed files world start ending kind same given =
-    λ w reads needed is. broken_ends files (world w) start ending kind same (given w reads needed is)
-
-pub term_complete : {E : Type 0} (t : Store) (made : Result NodeId E) (Needed : Reading → Type 0) (files : List File)
-    (world : Reading → World) (start : ℕ) (ending : Ending) (kind : Kind) → kind ≡ kind_of start ending →
-    IfOk made (λ r. (w : Reading) → Reads w t → Needed w → (walk : Option Walk) →
-    Breaks files (world w) kind walk → at w r ≡ true) →
-    IfOk made (λ r. (w : Reading) → Reads w t → Needed w → HasEnding files (world w) start ending → at w r ≡ true)
-term_complete t (Err e) Needed files world start ending kind same given = tt
-term_complete t (Ok id) Needed files world start ending kind same given =
-    λ w reads needed has.
-    let (walk, breaks) = ending_breaks files (world w) start ending has in
-    let B : Kind → Type 0 = λ k. Breaks files (world w) k (Some walk) in
-    given w reads needed (Some walk) (subst B (sym same) breaks)

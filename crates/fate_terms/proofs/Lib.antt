@@ -1,2 +1,5 @@
 pub mod EndingKinds
 pub mod Naming
+pub mod Reached
+pub mod Spreading
+pub mod Walks

@@ -1,5 +1,5 @@
 -- Fates by endings at the routers of their names.
-use Rattle.std.proofs.Common.{◌≡◌, ◌<◌, ◌≤◌, ◌+◌, ◌++◌, ◌||◌, ◌⊎◌, ◌∙◌, ℕ, Bool, true, List, [], ◌∷◌, Some, ap, arith}
+use Rattle.std.proofs.Common.{◌≡◌, ◌<◌, ◌≤◌, ◌+◌, ◌++◌, ◌||◌, ◌⊎◌, ◌∙◌, ℕ, Bool, true, List, [], ◌∷◌, None, Option, Some, ap, arith}
 use Rattle.std.proofs.Common.{inl, inr, length, refl, subst, sym}
 use Rattle.std.specs.Prelude.{◌↔◌, Result, Ok, Err, slice_get}
 use Rattle.std.specs.declared.alloc.AllocError.{AllocError}
@@ -17,12 +17,14 @@ use Rattle.term_arith.specs.Bits.{ids_end}
 use Rattle.term_store.specs.declared.NodeId.{NodeId}
 use Rattle.term_store.specs.Reading.{Gives}
 use Rattle.term_store.specs.Terms.{Reading, Store, at}
-use Rattle.fate_terms.specs.Named.{AreFateNodes, EndsAmong, EndsAtCalled}
+use Rattle.packet_fates.proofs.Spreading.{earlier}
+use Rattle.fate_terms.specs.Named.{AreFateNodes, EndsAmongCalled, EndsAtCalled}
+use Rattle.sym_walk.proofs.PushedTwins.{longer_by_one}
 
 -- ---- fates and endings
 
 pub delivered_among : (files : List File) (world : World) (start : ℕ) (name : List ℕ) →
-    EndsAmong files world start name (Delivered name) (length files) ↔ HasFate files world start (Delivered name)
+    EndsAmongCalled files world start name None (length files) ↔ HasFate files world start (Delivered name)
 delivered_among files world start name = (
   λ (router, below, (called, (walk, is, begins, (end, (front, last, hops, stands))))).
       (walk, is, begins, (end, (front, last, hops, subst (IsCalled files name) (sym stands) called))),
@@ -37,7 +39,7 @@ delivered_among files world start name = (
 )
 
 pub left_among : (files : List File) (world : World) (start : ℕ) (name : List ℕ) (a : Addr) →
-    EndsAmong files world start name (Left name a) (length files) ↔ HasFate files world start (Left name a)
+    EndsAmongCalled files world start name (Some a) (length files) ↔ HasFate files world start (Left name a)
 left_among files world start name a = (
   λ (router, below, (called, (walk, is, begins, (end, (front, last, hops, stands))))).
       (walk, is, begins, (end, (front, last, hops, subst (IsCalled files name) (sym stands) called))),
@@ -53,62 +55,57 @@ left_among files world start name a = (
 
 -- ---- among one router more
 
-less_or_last : (a b : ℕ) → a < b + 1 → (a < b) ⊎ (a ≡ b)
-less_or_last a b less = grind arith
+pub none_among : (files : List File) (world : World) (start : ℕ) (name : List ℕ) (leaves : Option Addr) →
+    EndsAmongCalled files world start name leaves 0 → ⊥
+none_among files world start name leaves (router, less, ends) = omega (arith, less)
 
-pub none_among : (files : List File) (world : World) (start : ℕ) (name : List ℕ) (fate : Fate) →
-    EndsAmong files world start name fate 0 → ⊥
-none_among files world start name fate (router, less, ends) = omega (arith, less)
-
-pub more_among : (files : List File) (world : World) (start : ℕ) (name : List ℕ) (fate : Fate) (many : ℕ) (b c : Bool) →
-    (b ≡ true ↔ EndsAmong files world start name fate many) →
-    (c ≡ true ↔ EndsAtCalled files world start name fate many) →
-    ((b || c) ≡ true ↔ EndsAmong files world start name fate (many + 1))
-more_among files world start name fate many b c before here = (to, from) where
-  on : b ≡ true ⊎ c ≡ true → EndsAmong files world start name fate (many + 1)
+pub more_among : (files : List File) (world : World) (start : ℕ) (name : List ℕ) (leaves : Option Addr) (many : ℕ)
+    (b c : Bool) → (b ≡ true ↔ EndsAmongCalled files world start name leaves many) →
+    (c ≡ true ↔ EndsAtCalled files world start name leaves many) →
+    ((b || c) ≡ true ↔ EndsAmongCalled files world start name leaves (many + 1))
+more_among files world start name leaves many b c before here = (to, from) where
+  on : b ≡ true ⊎ c ≡ true → EndsAmongCalled files world start name leaves (many + 1)
   on (inl holds) = let (router, less, ends) = before.0 holds in (router, omega (arith, less), ends)
   on (inr holds) = (many, omega arith, here.0 holds)
 
-  to : (b || c) ≡ true → EndsAmong files world start name fate (many + 1)
+  to : (b || c) ≡ true → EndsAmongCalled files world start name leaves (many + 1)
   to holds = on (or_cases b c holds)
 
-  from : EndsAmong files world start name fate (many + 1) → (b || c) ≡ true
-  from (router, less, ends) = by (less_or_last router many less) where
+  from : EndsAmongCalled files world start name leaves (many + 1) → (b || c) ≡ true
+  from (router, less, ends) = by (earlier router many less) where
     by : (router < many) ⊎ (router ≡ many) → (b || c) ≡ true
-    by (inl earlier) = or_left b c (before.1 (router, earlier, ends))
-    by (inr last) = or_right b c (here.1 (subst (EndsAtCalled files world start name fate) last ends))
+    by (inl before_it) = or_left b c (before.1 (router, before_it, ends))
+    by (inr last) = or_right b c (here.1 (subst (EndsAtCalled files world start name leaves) last ends))
 
 -- ---- fates that name a router
 
 pub called_delivered : (files : List File) (world : World) (start : ℕ) (name n : List ℕ) (fate : Fate) → n ≡ name →
     fate ≡ Delivered name →
-    (EndsAmong files world start n fate (length files) ↔ HasFate files world start fate)
+    (EndsAmongCalled files world start n None (length files) ↔ HasFate files world start fate)
 called_delivered files world start name n fate same is =
-    subst (λ (f : Fate). EndsAmong files world start n f (length files) ↔ HasFate files world start f) (sym is)
-    (subst (λ (m : List ℕ). EndsAmong files world start m (Delivered name) (length files)
+    subst (λ (f : Fate). EndsAmongCalled files world start n None (length files) ↔ HasFate files world start f) (sym is)
+    (subst (λ (m : List ℕ). EndsAmongCalled files world start m None (length files)
     ↔ HasFate files world start (Delivered name)) (sym same) (delivered_among files world start name))
 
 pub called_left : (files : List File) (world : World) (start : ℕ) (name n : List ℕ) (a : Addr) (fate : Fate) →
     n ≡ name → fate ≡ Left name a →
-    (EndsAmong files world start n fate (length files) ↔ HasFate files world start fate)
+    (EndsAmongCalled files world start n (Some a) (length files) ↔ HasFate files world start fate)
 called_left files world start name n a fate same is =
-    subst (λ (f : Fate). EndsAmong files world start n f (length files) ↔ HasFate files world start f) (sym is)
-    (subst (λ (m : List ℕ). EndsAmong files world start m (Left name a) (length files)
+    subst (λ (f : Fate). EndsAmongCalled files world start n (Some a) (length files) ↔ HasFate files world start f)
+    (sym is)
+    (subst (λ (m : List ℕ). EndsAmongCalled files world start m (Some a) (length files)
     ↔ HasFate files world start (Left name a)) (sym same) (left_among files world start name a))
 
 -- a term that tells whether a walk ends so tells whether packets have the fate
 pub gives_fate : (t : Store) (made : Result NodeId AllocError) (Needed : Reading → Type 0)
-    (Ends Has : Reading → Type 0) → ((w : Reading) → Ends w ↔ Has w) →
+    (Ends Has : Reading → Type 0) → ((w : Reading) → Needed w → Ends w ↔ Has w) →
     Gives t made (λ w r. Needed w → at w r ≡ true ↔ Ends w) → Gives t made (λ w r. Needed w → at w r ≡ true ↔ Has w)
 gives_fate t (Err e) Needed Ends Has both given = tt
 gives_fate t (Ok r) Needed Ends Has both given = λ w reads needed.
-    let told = given w reads needed in (λ holds. (both w).0 (told.0 holds), λ has. told.1 ((both w).1 has))
+    let told = given w reads needed in
+    (λ holds. (both w needed).0 (told.0 holds), λ has. told.1 ((both w needed).1 has))
 
 -- ---- a node more
-
-pub length_more : {X : Type 0} (xs : List X) (x : X) → length (xs ++ x ∷ []) ≡ length xs + 1
-length_more [] x = refl
-length_more (y ∷ ys) x = let rest = length_more ys x in omega (arith, rest)
 
 slice_left : {X : Type 0} (xs : List X) (x y : X) (k : ℕ) → k < length xs → slice_get (xs ++ y ∷ []) k ≡ Some x →
     slice_get xs k ≡ Some x
@@ -127,13 +124,13 @@ pub fates_more : (w : Reading) (files : List File) (world : World) (start : ℕ)
 fates_more w files world start fates ids all fate id next is told here = λ k f d at_f at_d.
     let there : slice_get (ids ++ id ∷ []) k ≡ Some d =
     subst (λ (xs : List NodeId). slice_get xs k ≡ Some d) is at_d in
-    let long = length_more ids id in
+    let long = longer_by_one ids id in
     let within = slice_get_within (ids ++ id ∷ []) k d there in
-    by k f d at_f there (less_or_last k (length ids) (omega (arith, within, long)))
+    by k f d at_f there (earlier k (length ids) (omega (arith, within, long)))
   where
     by : (k : ℕ) (f : Fate) (d : NodeId) → slice_get fates k ≡ Some f → slice_get (ids ++ id ∷ []) k ≡ Some d →
         (k < length ids) ⊎ (k ≡ length ids) → (at w d ≡ true ↔ HasFate files world start f)
-    by k f d at_f at_d (inl earlier) = told k f d at_f (slice_left ids d id k earlier at_d)
+    by k f d at_f at_d (inl before_it) = told k f d at_f (slice_left ids d id k before_it at_d)
     by k f d at_f at_d (inr last) =
         let node : id ≡ d =
         slice_last ids d id (subst (λ (n : ℕ). slice_get (ids ++ id ∷ []) n ≡ Some d) last at_d) in
@@ -141,12 +138,3 @@ fates_more w files world start fates ids all fate id next is told here = λ k f 
         same_Some fate f (sym next ∙ subst (λ (n : ℕ). slice_get fates n ≡ Some f) last at_f) in
         subst (λ (g : Fate). at w d ≡ true ↔ HasFate files world start g) same
         (subst (λ (e : NodeId). at w e ≡ true ↔ HasFate files world start fate) node here)
-
-pub end_more : (ids all : List NodeId) (id : NodeId) (most : ℕ) → all ≡ ids ++ id ∷ [] → ids_end ids ≤ most →
-    id.0 < most → ids_end all ≤ most
-end_more ids all id most is within here =
-    subst (λ (xs : List NodeId). ids_end xs ≤ most) (sym is) (by ids within)
-  where
-    by : (xs : List NodeId) → ids_end xs ≤ most → ids_end (xs ++ id ∷ []) ≤ most
-    by [] less = omega (arith, here)
-    by (x ∷ xs) less = let rest = by xs (omega (arith, less)) in omega (arith, less, rest)

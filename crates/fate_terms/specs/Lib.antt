@@ -1,2 +1,3 @@
 pub mod Endings
 pub mod Named
+pub mod Reaching

@@ -4,9 +4,8 @@ ghost use Rattle.std.specs.Prelude.{◌≡◌};
 ghost use Rattle.question_lang.specs.Breaking as breaking;
 ghost use Rattle.fate_terms.specs.Endings as endings;
 
-use mw_text::{Addr, List, Prefix};
-use question_lang::{Kind, PacketSet, Question, Start, Target};
-use std::alloc::Global;
+use mw_text::Addr;
+use question_lang::{Kind, Start, Target};
 
 /// What becomes of a packet: it is delivered at that router of a network, leaves the network there to that address, is
 /// lost without a route or at Null0, or comes back to where it stood.
@@ -18,7 +17,8 @@ pub enum Ending {
     Loop,
 }
 
-fn at_router(router: u32) -> Start
+/// The start at a router, without an incoming interface.
+pub(crate) fn at_router(router: u32) -> Start
     ensures { result ≡ breaking.at_router router }
 {
     Start {
@@ -37,34 +37,5 @@ pub fn kind_of(start: u32, ending: &Ending) -> Kind
         Ending::Left(router, addr) => Kind::Isolate(from, Target::Peer { router, addr }),
         Ending::BlackHole => Kind::NoBlackHole(from),
         Ending::Loop => Kind::NoLoop(from),
-    }
-}
-
-fn all_addresses() -> Prefix {
-    Prefix {
-        addr: Addr(0),
-        len: 0,
-    }
-}
-
-fn all_packets() -> PacketSet {
-    PacketSet {
-        proto: None,
-        src: all_addresses(),
-        sport: (0, 65_535),
-        dst: all_addresses(),
-        dport: (0, 65_535),
-    }
-}
-
-/// A question of that kind, without a name.
-pub fn question_of(alloc: Global, kind: Kind) -> Question
-    ensures { result.kind ≡ kind }
-{
-    Question {
-        name: List::new(alloc),
-        kind,
-        packets: all_packets(),
-        failures: 0,
     }
 }

@@ -3,8 +3,7 @@
 
 pub mod ending;
 pub mod named;
-pub mod terms;
+mod reaching;
 
 pub use ending::Ending;
 pub use named::sym_fates;
-pub use terms::sym_ending;

@@ -1,35 +1,45 @@
 //! Whether packets have a fate, as a term: it names the routers where they end.
 
 ghost use Rattle.std.specs.Prelude.{◌≡◌, ◌↔◌, ◌≤◌, ◌<◌, false, length, true, IfOk};
-ghost use Rattle.fate_terms.specs.Named.{AreFateNodes, EndsAmong, EndsAtCalled};
-ghost use Rattle.fate_terms.specs.Named as named;
 ghost use Rattle.packet_fates.specs.Fates.{HasFate, IsCalled};
 ghost use Rattle.sym_walk.specs.Distances.{DistancesWhereNeeded};
 ghost use Rattle.sym_walk.specs.Whole.{HasSlots, whole_end, whole_of};
 ghost use Rattle.term_arith.specs.Bits.{ids_end};
 ghost use Rattle.term_store.specs.Reading.{Builds, Gives};
 ghost use Rattle.term_store.specs.Terms.{at, size};
+ghost use Rattle.fate_terms.specs.Named.{AreFateNodes, EndsAmongCalled, EndsAtCalled, IsWalked, KnowsWalks, world_of_walks};
+ghost use Rattle.fate_terms.specs.Named as named;
 
-use crate::ending::Ending;
-use crate::terms::sym_ending;
-use mw_text::{List, same_bytes};
+use crate::ending::{Ending, at_router, kind_of};
+use crate::reaching::{sym_ends, sym_reached};
+use mw_text::{Addr, List, same_bytes};
 use net_model::Net;
 use packet_fates::Fate;
+use question_lang::Kind;
 use std::alloc::{AllocError, Global};
-use sym_walk::SymWorld;
-use term_arith::gates::{constant_node, either};
+use sym_walk::{SymForwarding, SymWorld, sym_ends_at, sym_loops, world_table};
+use term_arith::gates::{both, constant_node, either};
 use term_arith::lists::put;
 use term_store::{NodeId, Terms};
 
-// How a packet ends that has that fate at a router.
-fn ending_at(fate: &Fate, router: u32) -> Ending
-    ensures { result ≡ named.ending_at fate.now router }
+/// What is known of all walks of a packet of a world from a router: what each router does with it, where an end counts
+/// at which it is lost, and to which routers it comes.
+pub(crate) struct Walked<'a> {
+    pub(crate) net: &'a Net,
+    pub(crate) world: &'a SymWorld,
+    pub(crate) start: u32,
+    pub(crate) table: &'a [SymForwarding],
+    pub(crate) reached: &'a [NodeId],
+}
+
+// ---- at a router of a name
+
+fn ending_by(leaves: Option<Addr>, router: u32) -> Ending
+    ensures { result ≡ named.ending_by leaves router }
 {
-    match fate {
-        Fate::Delivered(_) => Ending::Delivered(router),
-        Fate::Left(_, a) => Ending::Left(router, *a),
-        Fate::BlackHole => Ending::BlackHole,
-        Fate::Loop => Ending::Loop,
+    match leaves {
+        None => Ending::Delivered(router),
+        Some(addr) => Ending::Left(router, addr),
     }
 }
 
@@ -43,93 +53,123 @@ fn is_called(net: &Net, router: u32, name: &[u8]) -> bool
     }
 }
 
-// Whether the router has that name and some walk ends there as the fate says.
+// Whether the packet comes to the router and ends so there.
+#[tactic(auto, using(term_arith::proofs::NumberLemmas::ids_end_at))]
+fn sym_ends_by(
+    alloc: Global,
+    terms: &mut Terms,
+    walked: &Walked<'_>,
+    leaves: Option<Addr>,
+    router: u32,
+) -> Result<NodeId, AllocError>
+    requires walked { IsWalked walked.now (size terms.old) }
+    requires there { router < length walked.now.net.now.files }
+    ensures builds { Builds terms.old terms.new }
+    ensures within { IfOk result (λ r. r.0 < size terms.new) }
+    ensures value { Gives terms.new result (λ w r. KnowsWalks w walked.now → at w r ≡ true
+        ↔ HasEnding walked.now.net.now.files (world_of_walks w walked.now) walked.now.start
+        (named.ending_by leaves router)) }
+{
+    let kind = kind_of(walked.start, &ending_by(leaves, router));
+    let ends = sym_ends_at(alloc, terms, walked.net, walked.world, kind, router)?;
+    both(terms, walked.reached[router as usize], ends)
+}
+
+// The same, if the router has that name.
 fn sym_there(
     alloc: Global,
     terms: &mut Terms,
-    net: &Net,
-    start: u32,
+    walked: &Walked<'_>,
     name: &[u8],
-    fate: &Fate,
+    leaves: Option<Addr>,
     router: u32,
-    world: &SymWorld,
 ) -> Result<NodeId, AllocError>
-    requires slots { HasSlots net.now.files world.now }
-    requires nodes { whole_end world.now ≤ size terms.old }
+    requires walked { IsWalked walked.now (size terms.old) }
+    requires there { router < length walked.now.net.now.files }
     ensures builds { Builds terms.old terms.new }
     ensures within { IfOk result (λ r. r.0 < size terms.new) }
-    ensures value { Gives terms.new result (λ w r.
-        DistancesWhereNeeded w net.now.files world.now.net world.now.slots →
-        at w r ≡ true ↔ EndsAtCalled net.now.files (whole_of w net.now.files world.now) start name.now fate.now router) }
+    ensures value { Gives terms.new result (λ w r. KnowsWalks w walked.now → at w r ≡ true
+        ↔ EndsAtCalled walked.now.net.now.files (world_of_walks w walked.now) walked.now.start name.now leaves router) }
 {
-    if !is_called(net, router, name) {
+    if !is_called(walked.net, router, name) {
         return constant_node(terms, false);
     }
-    let ending = ending_at(fate, router);
-    sym_ending(alloc, terms, net, start, &ending, world)
+    sym_ends_by(alloc, terms, walked, leaves, router)
 }
 
-// Whether some walk ends as the fate says at a router of that name.
+// Whether some walk ends so at a router of that name.
 fn sym_called(
     alloc: Global,
     terms: &mut Terms,
-    net: &Net,
-    start: u32,
+    walked: &Walked<'_>,
     name: &[u8],
-    fate: &Fate,
-    world: &SymWorld,
+    leaves: Option<Addr>,
 ) -> Result<NodeId, AllocError>
-    requires slots { HasSlots net.now.files world.now }
-    requires nodes { whole_end world.now ≤ size terms.old }
+    requires walked { IsWalked walked.now (size terms.old) }
     ensures builds { Builds terms.old terms.new }
     ensures within { IfOk result (λ r. r.0 < size terms.new) }
-    ensures value { Gives terms.new result (λ w r.
-        DistancesWhereNeeded w net.now.files world.now.net world.now.slots →
-        at w r ≡ true ↔ EndsAmong net.now.files (whole_of w net.now.files world.now) start name.now fate.now
-        (length net.now.files)) }
+    ensures value { Gives terms.new result (λ w r. KnowsWalks w walked.now → at w r ≡ true
+        ↔ EndsAmongCalled walked.now.net.now.files (world_of_walks w walked.now) walked.now.start name.now leaves
+        (length walked.now.net.now.files)) }
 {
     let mut any = constant_node(terms, false)?;
-    for router in 0..net.routers().len() as u32 {
-        let there = sym_there(alloc, terms, net, start, name, fate, router, world)?;
+    for router in 0..walked.net.routers().len() as u32 {
+        let there = sym_there(alloc, terms, walked, name, leaves, router)?;
         let more = either(terms, any, there)?;
         any = more;
     }
     Ok(any)
 }
 
-// Whether packets from the router have that fate.
+// ---- fates
+
+// Whether packets from the start have that fate.
 fn sym_fate(
     alloc: Global,
     terms: &mut Terms,
-    net: &Net,
-    start: u32,
+    walked: &Walked<'_>,
     fate: &Fate,
-    world: &SymWorld,
 ) -> Result<NodeId, AllocError>
-    requires slots { HasSlots net.now.files world.now }
-    requires nodes { whole_end world.now ≤ size terms.old }
+    requires walked { IsWalked walked.now (size terms.old) }
     ensures builds { Builds terms.old terms.new }
     ensures within { IfOk result (λ r. r.0 < size terms.new) }
-    ensures value { Gives terms.new result (λ w r.
-        DistancesWhereNeeded w net.now.files world.now.net world.now.slots →
-        at w r ≡ true ↔ HasFate net.now.files (whole_of w net.now.files world.now) start fate.now) }
+    ensures value { Gives terms.new result (λ w r. KnowsWalks w walked.now → at w r ≡ true
+        ↔ HasFate walked.now.net.now.files (world_of_walks w walked.now) walked.now.start fate.now) }
 {
     match fate {
-        Fate::Delivered(name) => {
-            sym_called(alloc, terms, net, start, name.as_slice(), fate, world)
-        }
-        Fate::Left(name, _) => {
-            sym_called(alloc, terms, net, start, name.as_slice(), fate, world)
-        }
-        Fate::BlackHole => sym_ending(alloc, terms, net, start, &Ending::BlackHole, world),
-        Fate::Loop => sym_ending(alloc, terms, net, start, &Ending::Loop, world),
+        Fate::Delivered(name) => sym_called(alloc, terms, walked, name.as_slice(), None),
+        Fate::Left(name, addr) => sym_called(alloc, terms, walked, name.as_slice(), Some(*addr)),
+        Fate::BlackHole => sym_ends(terms, walked.reached, walked.table),
+        Fate::Loop => sym_loops(alloc, terms, walked.table, walked.start),
     }
 }
 
+// Which of these fates they have.
+fn sym_each(
+    alloc: Global,
+    terms: &mut Terms,
+    walked: &Walked<'_>,
+    fates: &[Fate],
+) -> Result<List<NodeId>, AllocError>
+    requires walked { IsWalked walked.now (size terms.old) }
+    ensures builds { Builds terms.old terms.new }
+    ensures within { IfOk result (λ ids. ids_end ids ≤ size terms.new) }
+    ensures long { IfOk result (λ ids. length ids ≡ length fates.now) }
+    ensures value { Gives terms.new result (λ w ids. KnowsWalks w walked.now →
+        AreFateNodes w walked.now.net.now.files (world_of_walks w walked.now) walked.now.start fates.now ids) }
+{
+    let mut ids = List::new(alloc);
+    for fate in fates {
+        let id = sym_fate(alloc, terms, walked, fate)?;
+        put(&mut ids, id)?;
+    }
+    Ok(ids)
+}
+
 /// Which of these fates packets from a router have, in the world that the records stand for: a node for each, in their
-/// order. The world has a slot for each router of the network at each prefix length at which a slice of its plan stands,
-/// and its tables have nothing at all other lengths. Where slots hold a BGP route, the interior distances are to be those
-/// of the network.
+/// order. What each router does and to which routers a packet comes is made once for all fates. The world has a slot for
+/// each router of the network at each prefix length at which a slice of its plan stands, and its tables have nothing at
+/// all other lengths. Where slots hold a BGP route, the interior distances are to be those of the network.
 ///
 /// # Errors
 /// Memory was refused.
@@ -150,10 +190,21 @@ pub fn sym_fates(
         DistancesWhereNeeded w net.now.files world.now.net world.now.slots →
         AreFateNodes w net.now.files (whole_of w net.now.files world.now) start fates.now ids) }
 {
-    let mut ids = List::new(alloc);
-    for fate in fates {
-        let id = sym_fate(alloc, terms, net, start, fate, world)?;
-        put(&mut ids, id)?;
-    }
+    let table = world_table(
+        alloc,
+        terms,
+        net,
+        world,
+        Kind::NoBlackHole(at_router(start)),
+    )?;
+    let reached = sym_reached(alloc, terms, table.as_slice(), start)?;
+    let walked = Walked {
+        net,
+        world,
+        start,
+        table: table.as_slice(),
+        reached: reached.as_slice(),
+    };
+    let ids = sym_each(alloc, terms, &walked, fates)?;
     Ok(ids)
 }

@@ -27,7 +27,7 @@ use std::alloc::{AllocError, Global};
 use sym_forwarding::{SymAim, SymForwarding, join_forwarding, sym_send_adjacent};
 use sym_policy::{SymNet, SymOspf, SymPacket};
 use sym_rib::SymTables;
-use term_arith::gates::constant_node;
+use term_arith::gates::{constant_node, is_never};
 use term_store::Terms;
 
 // Over the adjacency, where the entry sends over it, and where the rest does.
@@ -76,6 +76,9 @@ fn sym_adjacent_or(
         held,
         a,
     )?;
+    if is_never(terms, taken) {
+        return Ok(rest);
+    }
     let to = sym_send_adjacent(alloc, terms, net, packet, aim, a)?;
     let made = join_forwarding(terms, taken, rest, &to)?;
     Ok(made)

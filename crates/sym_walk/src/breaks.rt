@@ -160,8 +160,8 @@ pub fn sym_ends_at(
     ensures value { Gives terms.new result (λ w r. DistancesWhereNeeded w net.now.files world.now.net world.now.slots →
         at w r ≡ may_end net.now.files (whole_of w net.now.files world.now) kind router) }
 {
-    let lens = lens_of(alloc, &world.plan)?;
-    let tables = world_tables(net, lens.as_slice(), world);
+    let lengths = lens_of(alloc, &world.plan)?;
+    let tables = world_tables(net, lengths.as_slice(), world);
     let made = sym_router(
         alloc,
         terms,

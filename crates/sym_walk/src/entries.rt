@@ -32,6 +32,7 @@ use sym_forwarding::{
 use sym_policy::{SymNet, SymPacket};
 use sym_rib::{SymSlot, SymTables};
 use term_arith::equal_number;
+use term_arith::gates::is_never;
 use term_store::{NodeId, Terms};
 
 // Whether the source of the entry has that number.
@@ -56,7 +57,7 @@ fn sym_by_ospf(
     router: u32,
     len: u8,
     slot: &SymSlot,
-    rest: &SymForwarding,
+    rest: SymForwarding,
 ) -> Result<SymForwarding, AllocError>
     requires long { len ≤ 32 }
     requires downs { ids_end sym.now.down ≤ size terms.old }
@@ -64,21 +65,24 @@ fn sym_by_ospf(
     requires packet { packet_end packet.now ≤ size terms.old }
     requires aim { aim.now.here.0 < size terms.old }
     requires slot { slot_end slot.now ≤ size terms.old }
-    requires rest { forwarding_end rest.now ≤ size terms.old }
+    requires rest { forwarding_end rest ≤ size terms.old }
     ensures builds { Builds terms.old terms.new }
     ensures within { IfOk result (λ r. forwarding_end r ≤ size terms.new) }
     ensures value { Gives terms.new result (λ w r. (others : ListOf HopOf) →
-        IsTwin (sought_by w aim.now) others (forwarding_of w rest.now) →
+        IsTwin (sought_by w aim.now) others (forwarding_of w rest) →
         IsTwin (sought_by w aim.now)
         (if number w slot.now.rib.source.nodes.items == 3 then hops.ospf_hops net.now.files
         (read_world w sym.now packet.now tables.now) router (prefix_at (address_of w packet.now.dst) len)
         (slot_of w slot.now) else others) (forwarding_of w r)) }
 {
     let test = sym_source(terms, slot, 3)?;
+    if is_never(terms, test) {
+        return Ok(rest);
+    }
     let to = sym_ospf_hops(
         alloc, terms, net, sym, tables, packet, aim, router, len, &slot.ospf,
     )?;
-    let made = choose_forwarding(alloc, terms, test, &to, rest)?;
+    let made = choose_forwarding(alloc, terms, test, &to, &rest)?;
     Ok(made)
 }
 
@@ -94,17 +98,17 @@ fn sym_by_static(
     file: &File,
     len: u8,
     slot: &SymSlot,
-    rest: &SymForwarding,
+    rest: SymForwarding,
 ) -> Result<SymForwarding, AllocError>
     requires downs { ids_end sym.now.down ≤ size terms.old }
     requires packet { packet_end packet.now ≤ size terms.old }
     requires aim { aim.now.here.0 < size terms.old }
     requires slot { slot_end slot.now ≤ size terms.old }
-    requires rest { forwarding_end rest.now ≤ size terms.old }
+    requires rest { forwarding_end rest ≤ size terms.old }
     ensures builds { Builds terms.old terms.new }
     ensures within { IfOk result (λ r. forwarding_end r ≤ size terms.new) }
     ensures value { Gives terms.new result (λ w r. (others : ListOf HopOf) →
-        IsTwin (sought_by w aim.now) others (forwarding_of w rest.now) →
+        IsTwin (sought_by w aim.now) others (forwarding_of w rest) →
         IsTwin (sought_by w aim.now)
         (if number w slot.now.rib.source.nodes.items == 1 then defined.static_part net.now.files (packet_of w packet.now)
         (hops.all_up net.now.files (failures_of w sym.now)) (up_interfaces net.now.files (failures_of w sym.now) router)
@@ -112,6 +116,9 @@ fn sym_by_static(
         else others) (forwarding_of w r)) }
 {
     let test = sym_source(terms, slot, 1)?;
+    if is_never(terms, test) {
+        return Ok(rest);
+    }
     let to = sym_statics(
         alloc,
         terms,
@@ -124,7 +131,7 @@ fn sym_by_static(
         &slot.rib.distance,
         file.statics.as_slice(),
     )?;
-    let made = choose_forwarding(alloc, terms, test, &to, rest)?;
+    let made = choose_forwarding(alloc, terms, test, &to, &rest)?;
     Ok(made)
 }
 
@@ -139,26 +146,29 @@ fn sym_by_connected(
     router: u32,
     len: u8,
     slot: &SymSlot,
-    rest: &SymForwarding,
+    rest: SymForwarding,
 ) -> Result<SymForwarding, AllocError>
     requires downs { ids_end sym.now.down ≤ size terms.old }
     requires packet { packet_end packet.now ≤ size terms.old }
     requires aim { aim.now.here.0 < size terms.old }
     requires long { len ≤ 32 }
     requires slot { slot_end slot.now ≤ size terms.old }
-    requires rest { forwarding_end rest.now ≤ size terms.old }
+    requires rest { forwarding_end rest ≤ size terms.old }
     ensures builds { Builds terms.old terms.new }
     ensures within { IfOk result (λ r. forwarding_end r ≤ size terms.new) }
     ensures value { Gives terms.new result (λ w r. (others : ListOf HopOf) →
-        IsTwin (sought_by w aim.now) others (forwarding_of w rest.now) →
+        IsTwin (sought_by w aim.now) others (forwarding_of w rest) →
         IsTwin (sought_by w aim.now)
         (if number w slot.now.rib.source.nodes.items == 0 then hops.connected_hops net.now.files (packet_of w packet.now)
         (hops.all_up net.now.files (failures_of w sym.now)) (up_interfaces net.now.files (failures_of w sym.now) router)
         (prefix_at (address_of w packet.now.dst) len) else others) (forwarding_of w r)) }
 {
     let test = sym_source(terms, slot, 0)?;
+    if is_never(terms, test) {
+        return Ok(rest);
+    }
     let to = sym_connected(alloc, terms, net, sym, packet, aim, router, len)?;
-    let made = choose_forwarding(alloc, terms, test, &to, rest)?;
+    let made = choose_forwarding(alloc, terms, test, &to, &rest)?;
     Ok(made)
 }
 
@@ -193,13 +203,13 @@ pub fn sym_entry_hops(
 {
     let bgp = sym_bgp_hops(alloc, terms, net, sym, packet, aim, router, &slot.bgp)?;
     let ospf = sym_by_ospf(
-        alloc, terms, net, sym, tables, packet, aim, router, len, slot, &bgp,
+        alloc, terms, net, sym, tables, packet, aim, router, len, slot, bgp,
     )?;
     let plain = sym_by_static(
-        alloc, terms, net, sym, packet, aim, router, file, len, slot, &ospf,
+        alloc, terms, net, sym, packet, aim, router, file, len, slot, ospf,
     )?;
     let made = sym_by_connected(
-        alloc, terms, net, sym, packet, aim, router, len, slot, &plain,
+        alloc, terms, net, sym, packet, aim, router, len, slot, plain,
     )?;
     Ok(made)
 }

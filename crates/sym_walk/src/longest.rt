@@ -33,6 +33,7 @@ use std::alloc::{AllocError, Global};
 use sym_forwarding::{SymAim, SymForwarding, choose_forwarding, sym_ends, sym_own};
 use sym_policy::{SymNet, SymPacket};
 use sym_rib::{SymSlot, SymTables, slot_for};
+use term_arith::gates::is_never;
 use term_store::Terms;
 
 // By the entry of the slot where it has one, and else as given.
@@ -67,6 +68,9 @@ fn sym_by_slot(
         (up_interfaces net.now.files (failures_of w sym.now) router) router file.now len slot.now else others)
         (forwarding_of w r)) }
 {
+    if is_never(terms, slot.rib.valid) {
+        return Ok(rest);
+    }
     let to = sym_entry_hops(
         alloc, terms, net, sym, tables, packet, aim, router, file, len, slot,
     )?;

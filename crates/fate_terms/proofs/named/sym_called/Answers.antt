@@ -1,6 +1,6 @@
 use Rattle.std.proofs.Common.{◌∙◌, arith, sym}
-use Rattle.sym_walk.specs.Whole.{whole_of}
 use Rattle.term_store.specs.Terms.{at}
+use Rattle.fate_terms.specs.Named.{world_of_walks}
 use Rattle.fate_terms.proofs.Naming.{more_among}
 use Rattle.fate_terms.proofs.named.sym_called.Goals as goal
 
@@ -18,8 +18,9 @@ loop-router-preserved c =
       };
       within = c.in_ok-more.ensures.within;
       value = λ w reads needed.
-          let both = more_among c.args.net.now.files (whole_of w c.args.net.now.files c.args.world.now) c.args.start
-          c.args.name.now c.args.fate.now c.loop-router.router (at w c.loop-router.any) (at w c.in_ok-there.there)
+          let walked = c.args.walked.now in
+          let both = more_among walked.net.now.files (world_of_walks w walked) walked.start c.args.name.now c.args.leaves
+          c.loop-router.router (at w c.loop-router.any) (at w c.in_ok-there.there)
           (before.value w (a.reads w (b.reads w reads)) needed)
           (c.in_ok-there.ensures.value w (b.reads w reads) needed) in
           let is = c.in_ok-more.ensures.value w reads in (

@@ -24,5 +24,5 @@ returns-clause-value c = λ w reads others twin.
     chosen_lists (sought_by w c.args.aim.now) (at w c.in_ok-test.test) (eqb (number w slot.rib.source.nodes.items) 0)
     (connected_hops net (packet_of w c.args.packet.now) (all_up net failures) (up_interfaces net failures
     c.args.router) (prefix_at (address_of w c.args.packet.now.dst) c.args.len)) others
-    (forwarding_of w c.in_ok-to.to) (forwarding_of w c.args.rest.now) (forwarding_of w c.in_ok-made.made)
+    (forwarding_of w c.in_ok-to.to) (forwarding_of w c.args.rest) (forwarding_of w c.in_ok-made.made)
     (made.value w reads) (test.value w (to.builds.reads w after_to)) (to.value w after_to) twin

@@ -20,5 +20,5 @@ returns-clause-value c = λ w reads others twin.
     chosen_lists (sought_by w c.args.aim.now) (at w c.in_ok-test.test) (eqb (number w slot.rib.source.nodes.items) 3)
     (ospf_hops c.args.net.now.files (read_world w c.args.sym.now c.args.packet.now c.args.tables.now) c.args.router
     (prefix_at (address_of w c.args.packet.now.dst) c.args.len) (slot_of w slot)) others
-    (forwarding_of w c.in_ok-to.to) (forwarding_of w c.args.rest.now) (forwarding_of w c.in_ok-made.made)
+    (forwarding_of w c.in_ok-to.to) (forwarding_of w c.args.rest) (forwarding_of w c.in_ok-made.made)
     (made.value w reads) (test.value w (to.builds.reads w after_to)) (to.value w after_to) twin

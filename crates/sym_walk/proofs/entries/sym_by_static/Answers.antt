@@ -32,6 +32,6 @@ returns-clause-value c = λ w reads others twin.
     (static_part net (packet_of w c.args.packet.now) (all_up net failures) (up_interfaces net failures c.args.router)
     c.args.file.now.statics (prefix_at (address_of w c.args.packet.now.dst) c.args.len) (number w
     slot.rib.distance.nodes.items)) others
-    (forwarding_of w c.in_ok-to.to) (forwarding_of w c.args.rest.now) (forwarding_of w c.in_ok-made.made)
+    (forwarding_of w c.in_ok-to.to) (forwarding_of w c.args.rest) (forwarding_of w c.in_ok-made.made)
     (made.value w reads) (test.value w (to.builds.reads w after_to))
     (subst P c.as_slice.ensures (to.value w after_to)) twin
