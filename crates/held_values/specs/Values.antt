@@ -1,6 +1,6 @@
--- Which values the numbers of a held BGP route can have, and of whom it can be learnt, whatever announcements come and whatever links fail (RFC 4271,
--- sections 5.1.2, 5.1.3 and 5.1.5; Cisco IOS, `neighbor weight`, `set weight`, `set local-preference` and `set as-path
--- prepend`).
+-- Which values the numbers of a held BGP route can have, and of whom it can be learnt, whatever announcements come and
+-- whatever links fail (RFC 4271, sections 5.1.2, 5.1.3 and 5.1.5; Cisco IOS, `neighbor weight`, `set weight`, `set
+-- local-preference` and `set as-path prepend`).
 use Rattle.std.specs.Prelude.{◌≡◌, ℕ, ◌==◌, Bool, true, List, [], ◌∷◌, ◌++◌, Option, Some, None, slice_get, if◌then◌else◌}
 use Rattle.std.specs.List.{filter_map, flat_map}
 use Rattle.std.specs.Option.{option_map_or}
