@@ -1,5 +1,5 @@
 -- Fields for known values: each value once, and each held route has room.
-use Rattle.std.proofs.Common.{◌≡◌, ℕ, ◌^◌, ◌<◌, ◌==◌, ◌||◌, Bool, true, false, List, [], ◌∷◌, inl, inr, refl, sym}
+use Rattle.std.proofs.Common.{◌≡◌, ◌⊎◌, ℕ, ◌+◌, ◌^◌, ◌<◌, ◌==◌, ◌||◌, Bool, true, false, List, [], ◌∷◌, inl, inr, refl, sym}
 use Rattle.std.proofs.Common.{arith}
 use Rattle.std.specs.Prelude.{All, Some, fold}
 use Rattle.std.specs.List.{flat_map, list_all}
@@ -16,22 +16,25 @@ use Rattle.ios_ast.specs.Paths.{first_of}
 use Rattle.route_record.specs.declared.BgpRec.{BgpRec}
 use Rattle.route_record.specs.declared.Environment.{Environment}
 use Rattle.route_record.specs.declared.Failures.{Failures}
+use Rattle.route_record.specs.declared.Learnt.{Learnt}
+use Rattle.route_record.specs.declared.Learnt.TheVariants.{Local, Peer}
 use Rattle.route_record.specs.declared.Slot.{Slot}
 use Rattle.route_record.specs.declared.Tables.{Tables}
 use Rattle.route_record.specs.declared.TheConstants.{LENGTHS}
 use Rattle.route_record.specs.declared.tracked.Tracked.{Tracked}
-use Rattle.route_record.specs.Fits.{FitsBgp, FitsSlot, IsWord}
+use Rattle.route_record.specs.Fits.{FitsBgp, FitsLearnt, FitsSlot, IsWord}
 use Rattle.route_record.specs.Places.{slot_at}
 use Rattle.net_interfaces.proofs.Options.{if_is}
 use Rattle.net_parts.specs.Stable.{Stable}
 use Rattle.net_parts.specs.Tracked.{TracksNet}
 use Rattle.net_parts.specs.World.{IsEnvironment}
+use Rattle.route_shapes.specs.Bgp.{learnt_number}
 use Rattle.slot_places.specs.Values.{once, put_once}
-use Rattle.slot_places.proofs.Fitting.{fits_among}
+use Rattle.slot_places.proofs.Fitting.{fits_addresses, fits_among}
 use Rattle.held_values.specs.declared.numbers.HeldNumber.{HeldNumber}
 use Rattle.held_values.specs.Rooms.{FitsHeldValues, values_room}
-use Rattle.held_values.specs.Values.{HasHeldValues, firsts_of, next_hops_of, preferences_of, said_in_file, unsaid}
-use Rattle.held_values.specs.Values.{values_of, weights_of}
+use Rattle.held_values.specs.Values.{HasHeldValues, firsts_of, is_learnt_among, next_hops_of, peers_of, preferences_of}
+use Rattle.held_values.specs.Values.{said_in_file, unsaid, values_of, weights_of}
 use Rattle.held_values.proofs.Held.{held_known}
 
 -- first what no line need say, and then what lines say
@@ -54,9 +57,24 @@ first_small : (path : List ℕ) → All IsWord path → first_of path < 2 ^ 32
 first_small [] all = omega arith
 first_small (n ∷ ns) all = All-head IsWord n ns all
 
+-- ---- peers
+
+pub learnt_small : (learnt : Learnt) → FitsLearnt learnt → learnt_number learnt < 2 ^ 33
+learnt_small Local fits = omega arith
+learnt_small (Peer a) fits = omega (arith, fits)
+
+learnt_there : (peers : List ℕ) (learnt : Learnt) → is_learnt_among peers learnt ≡ true →
+    (learnt_number learnt ≡ 0) ⊎ ((a : ℕ) × In a peers × (learnt_number learnt ≡ 2 ^ 32 + a))
+learnt_there peers Local is = inl refl
+learnt_there peers (Peer a) is = inr (a.0, in-carried peers a.0 is, refl)
+
+-- ---- both
+
 fits_known : (files : List File) (rec : BgpRec) → HasHeldValues files rec → FitsBgp rec →
     FitsHeldValues (values_room files) rec
 fits_known files rec known fits = record {
+  from = fits_addresses (peers_of files) (learnt_number rec.from)
+      (learnt_there (peers_of files) rec.from known.from) (learnt_small rec.from fits.from);
   weight = fits_among (weights_of files) rec.weight (in-carried (weights_of files) rec.weight known.weight)
       fits.weight;
   local_pref = fits_among (preferences_of files) rec.local_pref

@@ -1,7 +1,7 @@
--- The numbers of held routes are known: over each session, and so in each stable routing.
+-- The numbers of held routes are known, and so are their peers: over each session, and so in each stable routing.
 use Rattle.std.proofs.Common.{◌≡◌, ℕ, ◌<◌, ◌==◌, ◌&&◌, ◌⊎◌, inl, inr, not, Bool, true, false, List, ◌∷◌}
 use Rattle.std.proofs.Common.{Option, Some, None, refl, sym, ap, ◌∙◌, subst, if◌then◌else◌}
-use Rattle.std.specs.Prelude.{IfSome, option_and_then, slice_get, unwrap_or}
+use Rattle.std.specs.Prelude.{IfSome, length, nat_le, option_and_then, slice_get, unwrap_or}
 use Rattle.std.specs.List.{find, list_all}
 use Rattle.std.proofs.lemmas.Bool.{and_parts, eq-eqb, eqb-true, or_left}
 use Rattle.std.proofs.lemmas.Option.{same_Some}
@@ -14,7 +14,9 @@ use Rattle.ios_ast.specs.declared.bgp.Neighbour.{Neighbour}
 use Rattle.ios_ast.specs.declared.file.File.{File}
 use Rattle.ios_ast.specs.Deciding.{carries}
 use Rattle.ios_ast.specs.Limits.{keeps_limits}
+use Rattle.ios_ast.specs.Maps.{through_map}
 use Rattle.ios_ast.specs.Paths.{first_of}
+use Rattle.ios_ast.specs.Setting.{Attributes}
 use Rattle.route_record.specs.declared.Announcement.{Announcement}
 use Rattle.route_record.specs.declared.BgpMsg.{BgpMsg}
 use Rattle.route_record.specs.declared.BgpRec.{BgpRec}
@@ -30,7 +32,8 @@ use Rattle.net_interfaces.proofs.Options.{if_is}
 use Rattle.net_parts.specs.declared.sessions.Far.TheVariants.{Inside}
 use Rattle.net_parts.specs.declared.sessions.SessionEnd.{SessionEnd}
 use Rattle.net_parts.specs.Exports.{announced_message, exported, imported, internal_next_hop, learnt_over}
-use Rattle.net_parts.specs.Exports.{external_message, internal_message, own_address, received}
+use Rattle.net_parts.specs.Exports.{external_message, if_short, internal_message, most_numbers, own_address, received}
+use Rattle.net_parts.specs.Mapping.{attributes_of, with_attributes}
 use Rattle.net_parts.specs.Origins.{local_routes}
 use Rattle.net_parts.specs.Sessions.{ends_of, neighbour_of}
 use Rattle.net_parts.specs.Stable.{Stable}
@@ -39,14 +42,15 @@ use Rattle.net_parts.specs.World.{IsAnnouncement, IsEnvironment}
 use Rattle.bgp_shapes.proofs.EndLaw.{IsAlike, ends_alike}
 use Rattle.rebuilt_routes.specs.Clusters.{IsKeptBySessions}
 use Rattle.rebuilt_routes.proofs.Crossed.{runs_there}
-use Rattle.rebuilt_routes.proofs.Options.{find_passes}
+use Rattle.rebuilt_routes.proofs.Options.{find_passes, if_found, if_true}
+use Rattle.rebuilt_routes.proofs.Plain.{IsPlain, locals_plain}
 use Rattle.rebuilt_routes.proofs.RealSources.{all_members}
 use Rattle.rebuilt_routes.proofs.StableShapes.{kept_held}
 use Rattle.held_values.specs.declared.numbers.HeldNumber.{HeldNumber}
 use Rattle.held_values.specs.declared.numbers.HeldNumber.TheVariants.{Weight, LocalPref, NextHop, FirstAs}
-use Rattle.held_values.specs.Values.{HasHeldValues, number_of, said_of_neighbour, values_of}
+use Rattle.held_values.specs.Values.{HasHeldValues, is_learnt_among, number_of, peers_of, said_of_neighbour, values_of}
 use Rattle.held_values.proofs.EndsMeet.{NamesOther, names_far}
-use Rattle.held_values.proofs.Lines.{IsKnown, known_lines, known_unsaid}
+use Rattle.held_values.proofs.Lines.{IsKnown, known_lines, known_unsaid, peers_known}
 use Rattle.held_values.proofs.Routes.{IsKnownReceived, IsKnownRoute, IsMadeOf, exported_made, imported_known}
 use Rattle.held_values.proofs.Routes.{locals_known}
 
@@ -72,6 +76,43 @@ other_as : (files : List File) (n : ℕ) (b : Bool) → b ≡ false →
     IfSome (if b then None else Some n) (IsKnown FirstAs files) → IsKnown FirstAs files n
 other_as files n true other said = absurd cc
 other_as files n false other said = said
+
+-- a route that is imported is learnt of a neighbour
+learnt_peer : (files : List File) (end : SessionEnd) (p : Prefix) (message : BgpMsg) →
+    IfSome (imported files end p message) (λ rec. is_learnt_among (peers_of files) rec.from ≡ true)
+unfolding imported
+learnt_peer files end p message =
+    if_found P _ (slice_get files end.router) (λ file there. if_found P _ file.bgp (λ process runs.
+    if_found P _ (neighbour_of files end) (λ neighbour named.
+    if_true P _ _ (λ passes. by neighbour
+    (all_found (λ (n : Neighbour). carries (peers_of files) n.addr.0 ≡ true) process.neighbours end.neighbour neighbour
+    (peers_known files end.router file process there runs)
+    (line_there files end file process neighbour there runs named))
+    (through_map file.policies neighbour.map_in p (not end.internal)
+    (attributes_of (received neighbour end message)))))))
+  where
+    P : BgpRec → Type 0
+    P rec = is_learnt_among (peers_of files) rec.from ≡ true
+
+    by : (neighbour : Neighbour) → carries (peers_of files) neighbour.addr.0 ≡ true → (o : Option Attributes) →
+        IfSome (option_and_then (λ r. if_short (with_attributes (received neighbour end message) r)) o) P
+    by neighbour there None = tt
+    by neighbour there (Some r) =
+        if_true P (nat_le (length r.path) most_numbers) (Some (with_attributes (received neighbour end message) r))
+        (λ few. there)
+
+kept_learnt : (files : List File) (environment : Environment) (p : Prefix) →
+    IsKeptBySessions files environment p (λ router rec. is_learnt_among (peers_of files) rec.from)
+kept_learnt files environment p = record {
+  announced = λ at end neighbour a rec stands outside named says taken.
+      if_is P (imported files end p (announced_message neighbour.addr a)) rec
+      (learnt_peer files end p (announced_message neighbour.addr a)) taken;
+  sent = λ at far_at end far held message rec stands reached far_stands sends taken behind.
+      if_is P (imported files end p message) rec (learnt_peer files end p message) taken;
+}
+  where
+    P : BgpRec → Type 0
+    P rec = is_learnt_among (peers_of files) rec.from ≡ true
 
 module _ (files : List File) where
   alike : (at : ℕ) (end : SessionEnd) → slice_get (ends_of files) at ≡ Some end → IsAlike files end
@@ -278,6 +319,7 @@ pub held_known : (tracked : Tracked) (files : List File) (destination : Addr) (f
     slot.bgp ≡ Some held → HasHeldValues files held
 held_known tracked files destination failures environment tables len net limits may stable below router slot held there
     holds = record {
+      from = learnt;
       weight = known Weight;
       local_pref = known LocalPref;
       next_hop = known NextHop;
@@ -292,4 +334,14 @@ held_known tracked files destination failures environment tables len net limits 
         (local_routes files r is.file is.process (prefix_at destination len) is.slot)
         (locals_known which files r is.file is.process (prefix_at destination len) is.slot is.there is.runs) rec is.is)
         (kept files environment may which (prefix_at destination len)) router held
+        (ap (option_and_then (λ (x : Slot). x.bgp)) there ∙ holds)
+
+    learnt : is_learnt_among (peers_of files) held.from ≡ true
+    learnt =
+        kept_held files destination failures environment tables stable len below tracked net limits
+        (λ router rec. is_learnt_among (peers_of files) rec.from)
+        (λ r rec is. ap (is_learnt_among (peers_of files)) (all_members IsPlain
+        (local_routes files r is.file is.process (prefix_at destination len) is.slot)
+        (locals_plain files r is.file is.process (prefix_at destination len) is.slot) rec is.is).from)
+        (kept_learnt files environment (prefix_at destination len)) router held
         (ap (option_and_then (λ (x : Slot). x.bgp)) there ∙ holds)

@@ -10,6 +10,7 @@ use Rattle.mw_text.proofs.Lists.{all_found}
 use Rattle.mw_text.specs.Text.{same_text}
 use Rattle.mw_text.specs.declared.address.Prefix.{Prefix}
 use Rattle.ios_ast.specs.declared.bgp.Bgp.{Bgp}
+use Rattle.ios_ast.specs.declared.bgp.Neighbour.{Neighbour}
 use Rattle.ios_ast.specs.declared.file.File.{File}
 use Rattle.ios_ast.specs.declared.file.Use.{Use}
 use Rattle.ios_ast.specs.declared.policies.MapEntry.{MapEntry}
@@ -20,7 +21,8 @@ use Rattle.ios_ast.specs.Deciding.{carries, in_order}
 use Rattle.ios_ast.specs.Maps.{deciding, entries_named, mapped, route_taken, through_map}
 use Rattle.ios_ast.specs.Setting.{Attributes, set_all, set_one}
 use Rattle.held_values.specs.declared.numbers.HeldNumber.{HeldNumber}
-use Rattle.held_values.specs.Values.{said_by_process, said_in_entry, said_in_file, said_in_map, said_of_neighbour}
+use Rattle.held_values.specs.declared.numbers.HeldNumber.TheVariants.{NextHop}
+use Rattle.held_values.specs.Values.{peers_of, said_by_process, said_in_entry, said_in_file, said_in_map, said_of_neighbour}
 use Rattle.held_values.specs.Values.{said_of_set, unsaid, values_of}
 use Rattle.rebuilt_routes.proofs.Words.{found_all, ordered_all}
 
@@ -92,6 +94,15 @@ pub record HasKnownLines (which : HeldNumber) (files : List File) (file : File) 
   pub neighbours : All (λ n. IfSome (said_of_neighbour which process n) (IsKnown which files)) process.neighbours
   pub maps : All (λ (m : RouteMap). AreKnownEntries which files m.entries) file.policies.maps
 
+-- what is true of all that lines say is true of what those of a router that runs BGP say
+lines_hold : (which : HeldNumber) (files : List File) (P : ℕ → Type 0) → All P (flat_map (said_in_file which) files) →
+    (router : ℕ) (file : File) (process : Bgp) → slice_get files router ≡ Some file → file.bgp ≡ Some process →
+    All P (said_by_process which file process)
+lines_hold which files P all router file process there runs =
+    subst (λ (o : Option Bgp). All P (option_map_or (said_by_process which file) o [])) runs
+    (all_found (λ (f : File). All P (said_in_file which f)) files router file
+    (all_joined P (said_in_file which) files all) there)
+
 pub known_lines : (which : HeldNumber) (files : List File) (router : ℕ) (file : File) (process : Bgp) →
     slice_get files router ≡ Some file → file.bgp ≡ Some process → HasKnownLines which files file process
 unfolding values_of
@@ -113,11 +124,20 @@ known_lines which files router file process there runs = record {
 
     here : All P (said_by_process which file process)
     here =
-        subst (λ (o : Option Bgp). All P (option_map_or (said_by_process which file) o [])) runs
-        (all_found (λ (f : File). All P (said_in_file which f)) files router file
-        (all_joined P (said_in_file which) files
-        (all_right P (unsaid which) (flat_map (said_in_file which) files)
-        (all_stand (unsaid which ++ flat_map (said_in_file which) files)))) there)
+        lines_hold which files P (all_right P (unsaid which) (flat_map (said_in_file which) files)
+        (all_stand (unsaid which ++ flat_map (said_in_file which) files))) router file process there runs
+
+-- the addresses of neighbour lines are those of peers
+pub peers_known : (files : List File) (router : ℕ) (file : File) (process : Bgp) → slice_get files router ≡ Some file →
+    file.bgp ≡ Some process → All (λ (n : Neighbour). carries (peers_of files) n.addr.0 ≡ true) process.neighbours
+peers_known files router file process there runs =
+    all_given_back P (said_of_neighbour NextHop process) process.neighbours
+    (all_left P (filter_map (said_of_neighbour NextHop process) process.neighbours)
+    (flat_map (said_in_map NextHop) file.policies.maps)
+    (lines_hold NextHop files P (all_stand (peers_of files)) router file process there runs))
+  where
+    P : ℕ → Type 0
+    P n = carries (peers_of files) n ≡ true
 
 -- what no line need say
 pub known_unsaid : (which : HeldNumber) (files : List File) (n : ℕ) → carries (unsaid which) n ≡ true →

@@ -1,7 +1,7 @@
--- Which values the numbers of a held BGP route can have, whatever announcements come and whatever links fail (RFC 4271,
--- sections 5.1.2, 5.1.3 and 5.1.5; Cisco IOS, `neighbor weight`, `set weight`, `set local-preference` and `set as-path
--- prepend`).
-use Rattle.std.specs.Prelude.{◌≡◌, ℕ, ◌==◌, true, List, [], ◌∷◌, ◌++◌, Option, Some, None, slice_get, if◌then◌else◌}
+-- Which values the numbers of a held BGP route can have, and of whom it can be learnt, whatever announcements come and
+-- whatever links fail (RFC 4271, sections 5.1.2, 5.1.3 and 5.1.5; Cisco IOS, `neighbor weight`, `set weight`, `set
+-- local-preference` and `set as-path prepend`).
+use Rattle.std.specs.Prelude.{◌≡◌, ℕ, ◌==◌, Bool, true, List, [], ◌∷◌, ◌++◌, Option, Some, None, slice_get, if◌then◌else◌}
 use Rattle.std.specs.List.{filter_map, flat_map}
 use Rattle.std.specs.Option.{option_map_or}
 use Rattle.ios_ast.specs.declared.bgp.Bgp.{Bgp}
@@ -14,6 +14,8 @@ use Rattle.ios_ast.specs.declared.policies.SetAct.TheVariants as set
 use Rattle.ios_ast.specs.Deciding.{carries}
 use Rattle.ios_ast.specs.Paths.{first_of}
 use Rattle.route_record.specs.declared.BgpRec.{BgpRec}
+use Rattle.route_record.specs.declared.Learnt.{Learnt}
+use Rattle.route_record.specs.declared.Learnt.TheVariants.{Local, Peer}
 use Rattle.held_values.specs.declared.numbers.HeldNumber.{HeldNumber}
 use Rattle.held_values.specs.declared.numbers.HeldNumber.TheVariants.{Weight, LocalPref, NextHop, FirstAs}
 
@@ -78,8 +80,18 @@ next_hops_of files = values_of NextHop files
 abbrev pub firsts_of : List File → List ℕ
 firsts_of files = values_of FirstAs files
 
--- the numbers of the route are among them
+-- the addresses of peers: those of neighbour lines
+abbrev pub peers_of : List File → List ℕ
+peers_of files = flat_map (said_in_file NextHop) files
+
+-- a route is local, or learnt of one of these
+abbrev pub is_learnt_among : List ℕ → Learnt → Bool
+is_learnt_among peers Local = true
+is_learnt_among peers (Peer a) = carries peers a.0
+
+-- the numbers of the route are among them, and it is local or learnt of a neighbour
 pub record HasHeldValues (files : List File) (rec : BgpRec) : Type 0 where
+  pub from : is_learnt_among (peers_of files) rec.from ≡ true
   pub weight : carries (weights_of files) rec.weight ≡ true
   pub local_pref : carries (preferences_of files) rec.local_pref ≡ true
   pub next_hop : carries (next_hops_of files) rec.next_hop.0 ≡ true

@@ -10,13 +10,14 @@ use crate::numbers::HeldNumber;
 use ios_ast::{Bgp, File, MapEntry, Neighbour, RouteMap, SetAct};
 use mw_text::List;
 use slot_places::Field;
-use slot_places::fields::{field_of, put_once};
+use slot_places::fields::{addresses_field, field_of, put_once};
 use std::alloc::{AllocError, Global};
 
-/// The values that the weight, the local preference and the next hop of a held route can have, and the first AS number
-/// of its path.
+/// Of whom a held route can be learnt, and the values that its weight, its local preference and its next hop can have and
+/// the first AS number of its path.
 #[derive(Drop)]
 pub struct HeldValues {
+    pub from: Field,
     pub weight: Field,
     pub local_pref: Field,
     pub next_hop: Field,
@@ -159,19 +160,53 @@ fn field_for(alloc: Global, which: HeldNumber, files: &[File]) -> Result<Field, 
     Ok(field_of(held))
 }
 
-/// Fields for the numbers of the BGP routes that routers of these files can hold in a stable routing: few values are
-/// told by their place among them, many by their bits.
+// A field for the peer of whom a route is learnt, if any: a neighbour line says its address.
+fn peers_field(alloc: Global, files: &[File]) -> Result<Field, AllocError>
+    ensures { IfOk result (λ field. field ≡ fields.addresses_field (fields.once (values.peers_of files.now))) }
+{
+    let mut peers = List::new(alloc);
+    put_files(&mut peers, HeldNumber::NextHop, files)?;
+    Ok(addresses_field(peers))
+}
+
+// What neighbour lines say of who sends a route.
+#[derive(Drop)]
+struct Senders {
+    from: Field,
+    next_hop: Field,
+    first: Field,
+}
+
+fn senders_of(alloc: Global, files: &[File]) -> Result<Senders, AllocError>
+    ensures { IfOk result (λ r. r ≡ record {
+      from = (values_room files.now).from;
+      next_hop = (values_room files.now).next_hop;
+      first = (values_room files.now).first;
+    }) }
+{
+    let from = peers_field(alloc, files)?;
+    let next_hop = field_for(alloc, HeldNumber::NextHop, files)?;
+    let first = field_for(alloc, HeldNumber::FirstAs, files)?;
+    Ok(Senders {
+        from,
+        next_hop,
+        first,
+    })
+}
+
+/// Fields for the numbers of the BGP routes that routers of these files can hold in a stable routing, and for the peers of
+/// whom they are learnt: few values and few peers are told by their place among them, many by their bits.
 pub fn held_values(alloc: Global, files: &[File]) -> Result<HeldValues, AllocError>
     ensures { IfOk result (λ room. room ≡ values_room files.now) }
 {
     let weight = field_for(alloc, HeldNumber::Weight, files)?;
     let local_pref = field_for(alloc, HeldNumber::LocalPref, files)?;
-    let next_hop = field_for(alloc, HeldNumber::NextHop, files)?;
-    let first = field_for(alloc, HeldNumber::FirstAs, files)?;
+    let senders = senders_of(alloc, files)?;
     Ok(HeldValues {
+        from: senders.from,
         weight,
         local_pref,
-        next_hop,
-        first,
+        next_hop: senders.next_hop,
+        first: senders.first,
     })
 }

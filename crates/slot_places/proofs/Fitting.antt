@@ -2,7 +2,7 @@
 use Rattle.std.proofs.Common.{◌≡◌, ℕ, ◌+◌, ◌*◌, ◌^◌, ◌<◌, ◌≤◌, Bool, true, false, ◌&&◌, ◌||◌, List, []}
 use Rattle.std.proofs.Common.{◌∷◌, ◌++◌, length, map, max, Option, Some, None, inl, inr, refl, sym, ap, subst}
 use Rattle.std.proofs.Common.{arith, ◌∙◌, slice_get}
-use Rattle.std.specs.Prelude.{◌==◌, All, IfSome, MatchOption, fold, is_some, nat_le, if◌then◌else◌}
+use Rattle.std.specs.Prelude.{◌==◌, ◌⊎◌, All, IfSome, MatchOption, fold, is_some, nat_le, if◌then◌else◌}
 use Rattle.std.specs.List.{list_any}
 use Rattle.std.specs.Option.{option_map_or}
 use Rattle.std.proofs.lemmas.Bool.{and_from, eqb-true, false≢true, leb-true, or_parts}
@@ -38,15 +38,16 @@ use Rattle.net_parts.specs.Ospf.{adjacencies}
 use Rattle.net_parts.specs.OspfRoutes.{kind_rank}
 use Rattle.net_parts.specs.Stable.{Stable}
 use Rattle.net_parts.proofs.LeastWalks.{in-contains, in-left, in-right}
-use Rattle.slot_places.specs.declared.fields.Field.TheVariants.{Bits, Among}
+use Rattle.slot_places.specs.declared.fields.Field.TheVariants.{Addresses, Among, Bits}
 use Rattle.slot_places.specs.declared.rooms.Room.{Room}
-use Rattle.slot_places.specs.declared.fields.TheConstants.{MOST_VALUES}
+use Rattle.slot_places.specs.declared.fields.TheConstants.{MOST_ADDRESSES, MOST_VALUES}
 use Rattle.slot_places.specs.Origins.{is_static_at, is_subnet_at, origins_at}
 use Rattle.slot_places.specs.Rooms.{FitsIn, can_be_used, dearest_of, dearest_walk, has_sources, has_subnet}
 use Rattle.slot_places.specs.Rooms.{room_among, room_around, room_at, room_for, room_of, rooms_of, runs_ospf}
 use Rattle.slot_places.specs.Supported.{AreOrigins}
 use Rattle.plan_places.specs.Tables.{empty_slot}
-use Rattle.slot_places.specs.Values.{FitsField, field_of, greatest, once, put_once, width_for}
+use Rattle.slot_places.specs.Values.{FitsField, address_numbers, addresses_field, field_of, greatest, once, put_once}
+use Rattle.slot_places.specs.Values.{width_for}
 use Rattle.slot_places.proofs.Bounded.{cost_bound}
 use Rattle.slot_places.proofs.Brought.{IsBacked, entry_backed}
 use Rattle.slot_places.proofs.Known.{origins_known, static_there, subnet_there}
@@ -109,6 +110,26 @@ fits_among numbers x there small = by (nat_le (length (once numbers)) MOST_VALUE
   by true is = (in-contains x (once numbers) within, leb-true (length (once numbers)) MOST_VALUES is)
   by false is =
       in_width x (greatest (once numbers)) 0 32 (below_greatest (once numbers) 0 x within) small
+
+-- and that of none or of one of some addresses the field of these
+pub fits_addresses : (addresses : List ℕ) (n : ℕ) →
+    (n ≡ 0) ⊎ ((a : ℕ) × In a addresses × (n ≡ 2 ^ 32 + a)) → n < 2 ^ 33 →
+    FitsField (addresses_field (once addresses)) n
+unfolding addresses_field
+fits_addresses addresses n is small = by (nat_le (length (once addresses)) MOST_ADDRESSES) refl where
+  within : (n ≡ 0) ⊎ ((a : ℕ) × In a addresses × (n ≡ 2 ^ 32 + a)) → In n (address_numbers (once addresses))
+  within (inl none) = inl none
+  within (inr (a, there, same)) =
+      inr (subst (λ m. In m (map (λ b. 2 ^ 32 + b) (once addresses))) (sym same)
+      (map-in (λ b. 2 ^ 32 + b) (once addresses) a (folded-there addresses [] a there)))
+
+  by : (b : Bool) → nat_le (length (once addresses)) MOST_ADDRESSES ≡ b →
+      FitsField (if b then Addresses (once addresses) else Bits 33) n
+  by true few = (
+    in-contains n (address_numbers (once addresses)) (within is),
+    leb-true (length (once addresses)) MOST_ADDRESSES few,
+  )
+  by false many = small
 
 -- ---- the dearest of some routes, and of the adjacencies
 

@@ -8,6 +8,6 @@ pub mod origins;
 pub mod rooms;
 pub mod usable;
 
-pub use fields::{Field, MOST_VALUES, width_for};
+pub use fields::{Field, MOST_ADDRESSES, MOST_VALUES, width_for};
 pub use rooms::{Room, room_for, rooms_of};
 pub use usable::{can_be_used, used_among};

@@ -14,7 +14,7 @@ use Rattle.route_record.specs.declared.OspfRec.{OspfRec}
 use Rattle.route_record.specs.declared.TheConstants.{LENGTHS}
 use Rattle.net_parts.specs.OspfRoutes.{kind_rank}
 use Rattle.slot_places.specs.declared.fields.Field.{Field}
-use Rattle.slot_places.specs.declared.fields.Field.TheVariants.{Bits, Among}
+use Rattle.slot_places.specs.declared.fields.Field.TheVariants.{Bits, Among, Addresses}
 use Rattle.slot_places.specs.declared.fields.TheConstants.{MOST_VALUES}
 use Rattle.slot_places.specs.declared.rooms.Room.{Room}
 use Rattle.slot_places.specs.Origins.{origins_at}
@@ -109,6 +109,7 @@ metric_narrow metrics = field_cases (λ field. HasWords field → TellsWithin 32
 pub few_bits : (bits : ℕ) (field : Field) → bits ≤ 32 → TellsWithin bits field → field_width field ≤ 32
 few_bits bits (Bits width) small narrow = omega (arith, narrow, small)
 few_bits bits (Among values) small narrow = width_few (length values - 1)
+few_bits bits (Addresses addresses) small narrow = width_few (length addresses)
 
 -- ---- rooms
 

@@ -7,7 +7,7 @@ use Rattle.route_record.specs.declared.OspfRec.{OspfRec}
 use Rattle.net_parts.specs.OspfRoutes.{kind_rank}
 use Rattle.plan_places.specs.declared.places.Place.{Place}
 use Rattle.slot_places.specs.declared.fields.Field.{Field}
-use Rattle.slot_places.specs.declared.fields.Field.TheVariants.{Bits, Among}
+use Rattle.slot_places.specs.declared.fields.Field.TheVariants.{Bits, Among, Addresses}
 use Rattle.slot_places.specs.declared.rooms.Room.{Room}
 use Rattle.slot_places.specs.Rooms.{FitsIn, room_for}
 use Rattle.slot_places.specs.Values.{field_width, read_as, told_as}
@@ -96,11 +96,13 @@ FitRooms (room ∷ rooms) (u ∷ us) = FitsRoom room u × FitRooms rooms us
 abbrev pub HasWords : Field → Type 0
 HasWords (Bits width) = Unit {0}
 HasWords (Among values) = All (λ n. n < 2 ^ 32) values
+HasWords (Addresses addresses) = All (λ a. a < 2 ^ 32) addresses
 
--- no number that the field can tell has more bits than that
+-- no number that the field can tell has more bits than that: that of an address has 33
 abbrev pub TellsWithin : ℕ → Field → Type 0
 TellsWithin bits (Bits width) = width ≤ bits
 TellsWithin bits (Among values) = All (λ n. n < 2 ^ bits) values
+TellsWithin bits (Addresses addresses) = (33 ≤ bits) × All (λ a. a < 2 ^ 32) addresses
 
 pub record IsNarrow (room : Room) : Type 0 where
   pub kind : TellsWithin 2 room.kind

@@ -105,13 +105,13 @@ fn kind_of(number: u32) -> OspfKind
 }
 
 // The number that a field tells by its variables.
-#[tactic(auto, using(crate::proofs::RoomSteps::few_bits))]
+#[tactic(auto, using(crate::proofs::RoomSteps::few_bits, crate::proofs::Worlds::told_small))]
 fn told_at(values: &[bool], from: usize, field: &Field) -> u32
     requires narrow { TellsWithin 32 field.now }
     requires within { from + told_width field.now ≤ length values.now }
     ensures { result ≡ read_as field.now (number_from (truth values.now) from (told_width field.now)) }
 {
-    field.read(number_at(values, from, field.width()))
+    field.read(u64::from(number_at(values, from, field.width()))) as u32
 }
 
 // How many variables a route has.

@@ -4,12 +4,13 @@ ghost use Rattle.std.specs.Prelude.{◌≡◌, ℕ, ◌+◌, ◌-◌, ◌*◌, �
 ghost use Rattle.term_store.specs.Terms.{Reading, size};
 ghost use Rattle.term_store.specs.Reading.{Reads, Builds, Grows, Gives};
 ghost use Rattle.term_arith.specs.Bits.{number, ids_end};
-ghost use Rattle.slot_places.specs.Values.{field_width, read_as};
+ghost use Rattle.slot_places.specs.Values.{address_numbers, field_width, read_as};
 ghost use Rattle.failed_links.specs.Rows.{number_from};
 ghost use Rattle.world_variables.specs.Unknowns.{TellsWithin};
 
 use crate::packets::above;
 use slot_places::Field;
+use slot_places::fields::address_number;
 use std::alloc::{AllocError, Global};
 use term_arith::{Bits, choose, constant, equal_number, fresh_bits};
 use term_store::Terms;
@@ -73,6 +74,48 @@ pub fn value_among(
     Ok(rest)
 }
 
+// The number of an address, where so many bits have room for it.
+fn address_within(addr: u32, whole: u8) -> u64
+    requires { 33 ≤ whole }
+    ensures value { result ≡ 2 ^ 32 + addr }
+    ensures fits { result < 2 ^ whole }
+{
+    address_number(addr)
+}
+
+// The number at the place that a number says among those of none and of some addresses, 0 past the last.
+#[tactic(auto, using(crate::proofs::FieldSteps::address_last, crate::proofs::FieldSteps::address_next))]
+fn address_among(
+    alloc: Global,
+    terms: &mut Terms,
+    addresses: &[u32],
+    place: &Bits,
+    whole: u8,
+) -> Result<Bits, AllocError>
+    requires whole { whole ≤ 64 }
+    requires long { 33 ≤ whole }
+    requires place { ids_end place.now.nodes.items ≤ size terms.old }
+    ensures builds { Builds terms.old terms.new }
+    ensures within { IfOk result (λ r. ids_end r.nodes.items ≤ size terms.new) }
+    ensures width { IfOk result (λ r. length r.nodes.items ≡ whole) }
+    ensures value { Gives terms.new result (λ w r. number w r.nodes.items
+        ≡ slice_index (address_numbers addresses.now) (number w place.now.nodes.items)) }
+{
+    let mut rest = constant(alloc, terms, 0, whole)?;
+    for i in (0..addresses.len()).rev() {
+        rest = value_or(
+            alloc,
+            terms,
+            address_within(addresses[i], whole),
+            i as u64 + 1,
+            place,
+            &rest,
+            whole,
+        )?;
+    }
+    Ok(rest)
+}
+
 /// A number of so many bits, whose lowest `width` are new variables and whose others are 0.
 #[tactic(auto, using(failed_links::proofs::Steps::grows_built, failed_links::proofs::Steps::grows_grown, failed_links::proofs::Steps::number_fresh, failed_links::proofs::Steps::number_above, sym_policy::proofs::NetworkBits::joined_ends, crate::proofs::Steps::nothing_above))]
 pub fn padded(alloc: Global, terms: &mut Terms, width: u8, whole: u8) -> Result<Bits, AllocError>
@@ -111,6 +154,28 @@ fn open_among(
     value_among(alloc, terms, values, &place, whole)
 }
 
+// None or one of some addresses, whose place is a number of new variables.
+#[tactic(auto, using(failed_links::proofs::Steps::grows_built, failed_links::proofs::Steps::grows_grown, failed_links::proofs::Steps::number_fresh))]
+fn open_address(
+    alloc: Global,
+    terms: &mut Terms,
+    addresses: &[u32],
+    width: u8,
+    whole: u8,
+) -> Result<Bits, AllocError>
+    requires whole { whole ≤ 64 }
+    requires long { 33 ≤ whole }
+    ensures grows { Grows terms.old terms.new }
+    ensures within { IfOk result (λ r. ids_end r.nodes.items ≤ size terms.new) }
+    ensures width { IfOk result (λ r. length r.nodes.items ≡ whole) }
+    ensures vars { OnOk result (terms.new.vars ≡ terms.old.vars + width) }
+    ensures value { Gives terms.new result (λ w r. number w r.nodes.items
+        ≡ slice_index (address_numbers addresses.now) (number_from w.variable terms.old.vars width)) }
+{
+    let place = fresh_bits(alloc, terms, width)?;
+    address_among(alloc, terms, addresses, &place, whole)
+}
+
 /// A number of so many bits that a field tells, by new variables.
 pub fn open_field(
     alloc: Global,
@@ -131,5 +196,8 @@ pub fn open_field(
     match field {
         Field::Bits(width) => padded(alloc, terms, *width, whole),
         Field::Among(values) => open_among(alloc, terms, values.as_slice(), told, whole),
+        Field::Addresses(addresses) => {
+            open_address(alloc, terms, addresses.as_slice(), told, whole)
+        }
     }
 }

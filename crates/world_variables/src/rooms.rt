@@ -23,6 +23,7 @@ fn read_field(field: &Field)
     match field {
         Field::Bits(_) => {}
         Field::Among(values) => read_values(values.as_slice()),
+        Field::Addresses(addresses) => read_values(addresses.as_slice()),
     }
 }
 
