@@ -1,5 +1,5 @@
 -- Fates by endings at the routers of their names.
-use Rattle.std.proofs.Common.{◌≡◌, ◌<◌, ◌≤◌, ◌+◌, ◌++◌, ◌||◌, ◌⊎◌, ◌∙◌, ℕ, Bool, true, List, [], ◌∷◌, None, Option, Some, ap, arith}
+use Rattle.std.proofs.Common.{◌≡◌, ◌<◌, ◌+◌, ◌++◌, ◌||◌, ◌⊎◌, ◌∙◌, ℕ, Bool, true, List, [], ◌∷◌, None, Option, Some, ap, arith}
 use Rattle.std.proofs.Common.{inl, inr, length, refl, subst, sym}
 use Rattle.std.specs.Prelude.{◌↔◌, Result, Ok, Err, slice_get}
 use Rattle.std.specs.declared.alloc.AllocError.{AllocError}
@@ -11,13 +11,14 @@ use Rattle.ios_ast.specs.declared.file.File.{File}
 use Rattle.mw_text.specs.declared.address.Addr.{Addr}
 use Rattle.route_record.specs.declared.World.{World}
 use Rattle.packet_fates.specs.declared.fate.Fate.{Fate}
-use Rattle.packet_fates.specs.declared.fate.Fate.TheVariants.{Delivered, Left}
+use Rattle.packet_fates.specs.declared.fate.Fate.TheVariants.{Delivered, Left, BlackHole, Loop}
 use Rattle.packet_fates.specs.Fates.{HasFate, IsCalled}
-use Rattle.term_arith.specs.Bits.{ids_end}
 use Rattle.term_store.specs.declared.NodeId.{NodeId}
 use Rattle.term_store.specs.Reading.{Gives}
 use Rattle.term_store.specs.Terms.{Reading, Store, at}
 use Rattle.packet_fates.proofs.Spreading.{earlier}
+use Rattle.fate_terms.specs.declared.ending.Ending.TheVariants as ends
+use Rattle.fate_terms.specs.Endings.{HasEnding}
 use Rattle.fate_terms.specs.Named.{AreFateNodes, EndsAmongCalled, EndsAtCalled}
 use Rattle.sym_walk.proofs.PushedTwins.{longer_by_one}
 
@@ -104,6 +105,26 @@ gives_fate t (Err e) Needed Ends Has both given = tt
 gives_fate t (Ok r) Needed Ends Has both given = λ w reads needed.
     let told = given w reads needed in
     (λ holds. (both w needed).0 (told.0 holds), λ has. told.1 ((both w needed).1 has))
+
+-- whatever else a term is said to be
+pub gives_by : (t : Store) (made : Result NodeId AllocError) (Needed Has : Reading → Type 0)
+    (Told : Reading → NodeId → Type 0) → ((w : Reading) (r : NodeId) → Needed w → Told w r → at w r ≡ true ↔ Has w) →
+    Gives t made Told → Gives t made (λ w r. Needed w → at w r ≡ true ↔ Has w)
+gives_by t (Err e) Needed Has Told by given = tt
+gives_by t (Ok r) Needed Has Told by given = λ w reads needed. by w r needed (given w reads)
+
+-- the other fates are endings
+pub lost_fate : (files : List File) (world : World) (start : ℕ) (fate : Fate) → fate ≡ BlackHole →
+    HasEnding files world start ends.BlackHole ↔ HasFate files world start fate
+lost_fate files world start fate is =
+    subst (λ (f : Fate). HasEnding files world start ends.BlackHole ↔ HasFate files world start f) (sym is)
+    (λ has. has, λ has. has)
+
+pub back_fate : (files : List File) (world : World) (start : ℕ) (fate : Fate) → fate ≡ Loop →
+    HasEnding files world start ends.Loop ↔ HasFate files world start fate
+back_fate files world start fate is =
+    subst (λ (f : Fate). HasEnding files world start ends.Loop ↔ HasFate files world start f) (sym is)
+    (λ has. has, λ has. has)
 
 -- ---- a node more
 

@@ -1,6 +1,6 @@
 -- Marks one hop on.
 use Rattle.std.proofs.Common.{◌≡◌, ◌<◌, ◌≤◌, ◌+◌, ◌++◌, ◌||◌, ◌&&◌, ◌⊎◌, ◌∙◌, ℕ, zero, suc, Bool, true, List, [], ◌∷◌, Some, ap, arith}
-use Rattle.std.proofs.Common.{inl, inr, length, refl, subst, sym, get_or, map}
+use Rattle.std.proofs.Common.{inl, inr, length, refl, subst, sym, get_or}
 use Rattle.std.specs.Prelude.{◌↔◌, slice_get}
 use Rattle.std.specs.List.{list_any}
 use Rattle.std.specs.Cmp.Derive.{both_true}

@@ -1,5 +1,5 @@
 -- How walks from a router end, by the table of what each router does with the packet and by where it comes to.
-use Rattle.std.proofs.Common.{◌≡◌, ◌<◌, ◌≤◌, ◌==◌, ◌&&◌, ◌⊎◌, ◌∙◌, ℕ, zero, suc, Bool, true, false, List, [], ◌∷◌, length}
+use Rattle.std.proofs.Common.{◌≡◌, ◌<◌, ◌≤◌, ◌==◌, ◌&&◌, ◌∙◌, ℕ, zero, suc, Bool, true, false, List, [], ◌∷◌, length}
 use Rattle.std.proofs.Common.{map, Option, Some, None, refl, sym, ap, subst, arith, inl, inr}
 use Rattle.std.specs.Prelude.{◌↔◌, slice_get}
 use Rattle.std.specs.Cmp.Derive.{both_true}
@@ -29,7 +29,7 @@ use Rattle.fate_terms.specs.declared.ending.Ending.TheVariants.{Delivered, Left,
 use Rattle.fate_terms.specs.Endings.{HasEnding, kind_of}
 use Rattle.fate_terms.specs.declared.named.Walked.{Walked}
 use Rattle.fate_terms.specs.Named.{IsWalked, ending_by}
-use Rattle.fate_terms.specs.Reaching.{AreReached, Comes, EndsAmong, MayEnd, Sends}
+use Rattle.fate_terms.specs.Reaching.{AreReached, Comes, EndsAmong, Sends}
 use Rattle.fate_terms.proofs.EndingKinds.{broken_ends, ending_breaks}
 use Rattle.fate_terms.proofs.Reached.{arriving_ends, ends_arriving}
 

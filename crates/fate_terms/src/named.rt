@@ -4,10 +4,12 @@ ghost use Rattle.std.specs.Prelude.{◌≡◌, ◌↔◌, ◌≤◌, ◌<◌, fa
 ghost use Rattle.packet_fates.specs.Fates.{HasFate, IsCalled};
 ghost use Rattle.sym_walk.specs.Distances.{DistancesWhereNeeded};
 ghost use Rattle.sym_walk.specs.Whole.{HasSlots, whole_end, whole_of};
-ghost use Rattle.term_arith.specs.Bits.{ids_end};
+ghost use Rattle.term_arith.specs.Bits.{bits, ids_end};
 ghost use Rattle.term_store.specs.Reading.{Builds, Gives};
-ghost use Rattle.term_store.specs.Terms.{at, size};
+ghost use Rattle.term_store.specs.Terms.{Reading, at, size};
+ghost use Rattle.walk_def.specs.Marks.{known};
 ghost use Rattle.fate_terms.specs.Named.{AreFateNodes, EndsAmongCalled, EndsAtCalled, IsWalked, KnowsWalks, world_of_walks};
+ghost use Rattle.fate_terms.specs.Endings.{HasEnding};
 ghost use Rattle.fate_terms.specs.Named as named;
 
 use crate::ending::{Ending, at_router, kind_of};
@@ -24,6 +26,7 @@ use term_store::{NodeId, Terms};
 
 /// What is known of all walks of a packet of a world from a router: what each router does with it, where an end counts
 /// at which it is lost, and to which routers it comes.
+#[derive(Clone, Copy)]
 pub(crate) struct Walked<'a> {
     pub(crate) net: &'a Net,
     pub(crate) world: &'a SymWorld,
@@ -53,8 +56,17 @@ fn is_called(net: &Net, router: u32, name: &[u8]) -> bool
     }
 }
 
+// The mark of a router.
+#[tactic(auto, using(term_arith::proofs::NumberLemmas::ids_end_at, sym_forwarding::proofs::Tables::known_at))]
+fn mark_at(reached: &[NodeId], router: u32) -> NodeId
+    requires { router < length reached.now }
+    ensures within { result.0 < ids_end reached.now }
+    ensures value { (w : Reading) → at w result ≡ known (bits w reached.now) router }
+{
+    reached[router as usize]
+}
+
 // Whether the packet comes to the router and ends so there.
-#[tactic(auto, using(term_arith::proofs::NumberLemmas::ids_end_at))]
 fn sym_ends_by(
     alloc: Global,
     terms: &mut Terms,
@@ -72,7 +84,9 @@ fn sym_ends_by(
 {
     let kind = kind_of(walked.start, &ending_by(leaves, router));
     let ends = sym_ends_at(alloc, terms, walked.net, walked.world, kind, router)?;
-    both(terms, walked.reached[router as usize], ends)
+    let mark = mark_at(walked.reached, router);
+    let made = both(terms, mark, ends)?;
+    Ok(made)
 }
 
 // The same, if the router has that name.
@@ -166,6 +180,13 @@ fn sym_each(
     Ok(ids)
 }
 
+// How many routers there are.
+fn router_count(net: &Net) -> u32
+    ensures { result ≡ length net.now.files }
+{
+    net.routers().len() as u32
+}
+
 /// Which of these fates packets from a router have, in the world that the records stand for: a node for each, in their
 /// order. What each router does and to which routers a packet comes is made once for all fates. The world has a slot for
 /// each router of the network at each prefix length at which a slice of its plan stands, and its tables have nothing at
@@ -197,7 +218,7 @@ pub fn sym_fates(
         world,
         Kind::NoBlackHole(at_router(start)),
     )?;
-    let reached = sym_reached(alloc, terms, table.as_slice(), start)?;
+    let reached = sym_reached(alloc, terms, table.as_slice(), start, router_count(net))?;
     let walked = Walked {
         net,
         world,

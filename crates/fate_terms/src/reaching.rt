@@ -1,7 +1,7 @@
 //! To which routers a packet comes, as terms: the marks of all routers, hop by hop from the start, each layer at the cost
 //! of the edges.
 
-ghost use Rattle.std.specs.Prelude.{◌≡◌, ◌↔◌, ◌&&◌, ◌^◌, ◌<◌, ◌≤◌, true, IfOk, length};
+ghost use Rattle.std.specs.Prelude.{◌≡◌, ◌↔◌, ◌&&◌, ◌<◌, ◌≤◌, true, IfOk, length};
 ghost use Rattle.std.specs.List.{list_any};
 ghost use Rattle.term_store.specs.Terms.{at, size};
 ghost use Rattle.term_store.specs.Reading.{Builds, Gives};
@@ -142,11 +142,12 @@ fn sym_spread(
     terms: &mut Terms,
     marks: &[NodeId],
     table: &[SymForwarding],
+    routers: u32,
 ) -> Result<List<NodeId>, AllocError>
     requires marks { ids_end marks.now ≤ size terms.old }
     requires nodes { table_end table.now ≤ size terms.old }
     requires long { length marks.now ≡ length table.now }
-    requires few { length table.now < 2 ^ 32 }
+    requires count { routers ≡ length table.now }
     ensures builds { Builds terms.old terms.new }
     ensures within { IfOk result (λ ids. ids_end ids ≤ size terms.new) }
     ensures long { IfOk result (λ ids. length ids ≡ length table.now) }
@@ -154,7 +155,7 @@ fn sym_spread(
         AreSpread (bits w marks.now) (table_of w table.now) (bits w ids)) }
 {
     let mut later = List::new(alloc);
-    for router in 0..table.len() as u32 {
+    for router in 0..routers {
         let mark = sym_on(terms, marks, table, router)?;
         put(&mut later, mark)?;
     }
@@ -181,8 +182,8 @@ fn start_marks(
     Ok(marks)
 }
 
-/// The marks of the routers to which a packet comes that begins at the start, where the table has what each router does
-/// with it.
+/// The marks of the routers to which a packet comes that begins at the start, where the table has what each of so many
+/// routers does with it.
 ///
 /// # Errors
 /// Memory was refused.
@@ -191,18 +192,19 @@ pub fn sym_reached(
     terms: &mut Terms,
     table: &[SymForwarding],
     start: u32,
+    routers: u32,
 ) -> Result<List<NodeId>, AllocError>
     requires nodes { table_end table.now ≤ size terms.old }
-    requires few { length table.now < 2 ^ 32 }
+    requires count { routers ≡ length table.now }
     ensures builds { Builds terms.old terms.new }
     ensures within { IfOk result (λ ids. ids_end ids ≤ size terms.new) }
     ensures long { IfOk result (λ ids. length ids ≡ length table.now) }
     ensures value { Gives terms.new result (λ w ids.
         AreReached (table_of w table.now) start (length table.now) (bits w ids)) }
 {
-    let mut marks = start_marks(alloc, terms, start, table.len() as u32)?;
+    let mut marks = start_marks(alloc, terms, start, routers)?;
     for hop in 0..table.len() {
-        let later = sym_spread(alloc, terms, marks.as_slice(), table)?;
+        let later = sym_spread(alloc, terms, marks.as_slice(), table, routers)?;
         marks = later;
     }
     Ok(marks)
