@@ -19,15 +19,13 @@ use Rattle.ios_ast.specs.Paths.{first_of}
 use Rattle.route_record.specs.declared.BgpRec.{BgpRec}
 use Rattle.route_record.specs.declared.Environment.{Environment}
 use Rattle.route_record.specs.declared.Failures.{Failures}
-use Rattle.route_record.specs.declared.Learnt.{Learnt}
-use Rattle.route_record.specs.declared.Learnt.TheVariants.{Local, Peer}
 use Rattle.route_record.specs.declared.Origin.{Origin}
 use Rattle.route_record.specs.declared.Origin.TheVariants.{Igp, Egp, Incomplete}
 use Rattle.route_record.specs.declared.Slot.{Slot}
 use Rattle.route_record.specs.declared.Tables.{Tables}
 use Rattle.route_record.specs.declared.TheConstants.{LENGTHS}
 use Rattle.route_record.specs.declared.tracked.Tracked.{Tracked}
-use Rattle.route_record.specs.Fits.{FitsBgp, FitsLearnt, FitsSlot, IsAddress}
+use Rattle.route_record.specs.Fits.{FitsBgp, FitsSlot, IsAddress}
 use Rattle.route_record.specs.Origins.{origin_code}
 use Rattle.route_record.specs.Places.{slot_at}
 use Rattle.route_record.specs.Shape.{has_address, saturated}
@@ -39,18 +37,18 @@ use Rattle.net_parts.specs.Decisions.{DecidedByBgp}
 use Rattle.net_parts.specs.Stable.{Stable}
 use Rattle.route_shapes.specs.Bgp.{address_number, bgp_shape, learnt_number}
 use Rattle.held_values.specs.Rooms.{FitsHeldValues, values_room}
-use Rattle.held_values.proofs.Fields.{held_fits as values_fit}
+use Rattle.held_values.proofs.Fields.{held_fits as values_fit, learnt_small}
 use Rattle.rebuilt_routes.specs.Clusters.{HasBoundedLists}
 use Rattle.rebuilt_routes.proofs.Sources.{routes_in}
 use Rattle.rebuilt_routes.proofs.StableShapes.{lists_bounded}
 use Rattle.slot_places.specs.declared.fields.Field.{Field}
-use Rattle.slot_places.specs.declared.fields.Field.TheVariants.{Among, Bits}
+use Rattle.slot_places.specs.declared.fields.Field.TheVariants.{Addresses, Among, Bits}
 use Rattle.slot_places.specs.Values.{FitsField}
 use Rattle.bgp_shapes.specs.Candidates.{ShapeAnnouncement, shape_announced}
 use Rattle.announced_shapes.specs.Paths.{IsPathShape, is_as_number, is_word}
 use Rattle.world_variables.proofs.Worlds.{value_small}
 use Rattle.bgp_variables.specs.Marks.{FitMarks}
-use Rattle.bgp_variables.specs.Rooms.{announcement_room, bgp_room, held_room, of_words, only, reflected}
+use Rattle.bgp_variables.specs.Rooms.{announcement_room, bgp_room, held_room, of_addresses, of_words, only, reflected}
 use Rattle.bgp_variables.specs.Brought.{brings_bgp}
 use Rattle.bgp_variables.specs.Shapes.{FitsBgpRoom, FitsShape}
 use Rattle.bgp_variables.specs.declared.rooms.BgpRoom.{BgpRoom}
@@ -84,10 +82,6 @@ origin_small Igp = omega arith
 origin_small Egp = omega arith
 origin_small Incomplete = omega arith
 
-learnt_small : (learnt : Learnt) → FitsLearnt learnt → learnt_number learnt < 2 ^ 33
-learnt_small Local fits = omega arith
-learnt_small (Peer a) fits = omega (arith, fits)
-
 -- ---- held routes
 
 originator_small : (o : Option Addr) → IfSome o IsAddress → address_number o < 2 ^ 33
@@ -115,13 +109,33 @@ words_fit (Among values) n fits small = by (list_all is_word values)
     by : (b : Bool) → FitsField (if b then Among values else Bits 32) n
     by true = fits
     by false = small
+words_fit (Addresses addresses) n fits small = small
+
+-- and one of 33 bits
+addresses_fit : (field : Field) (n : ℕ) → FitsField field n → n < 2 ^ 33 → FitsField (of_addresses field) n
+addresses_fit (Bits width) n fits small = by (nat_le width 33)
+  where
+    by : (b : Bool) → FitsField (if b then Bits width else Bits 33) n
+    by true = fits
+    by false = small
+addresses_fit (Among values) n fits small = by (list_all is_word values)
+  where
+    by : (b : Bool) → FitsField (if b then Among values else Bits 33) n
+    by true = fits
+    by false = small
+addresses_fit (Addresses addresses) n fits small = by (list_all is_word addresses)
+  where
+    by : (b : Bool) → FitsField (if b then Addresses addresses else Bits 33) n
+    by true = fits
+    by false = small
 
 -- a route with bounded lists, whose numbers are among the values of the files, fits its room
 rec_fits : (tracked : Tracked) (files : List File) (rec : BgpRec) → FitsBgp rec → HasBoundedLists tracked rec →
     FitsHeldValues (values_room files) rec → length tracked.clusters ≤ MOST_TRACKED →
     FitsShape (held_room tracked files) (bgp_shape tracked rec)
 rec_fits tracked files rec fits lists values most = record {
-  from = learnt_small rec.from fits.from;
+  from = addresses_fit (values_room files).from (learnt_number rec.from) values.from
+      (learnt_small rec.from fits.from);
   preferences = record {
     weight = words_fit (values_room files).weight rec.weight values.weight fits.weight;
     local_pref = words_fit (values_room files).local_pref rec.local_pref values.local_pref fits.local_pref;

@@ -9,7 +9,7 @@ use Rattle.announced_shapes.specs.Paths.{is_word}
 use Rattle.held_values.specs.Rooms.{values_room}
 use Rattle.plan_places.specs.declared.places.Place.{Place}
 use Rattle.slot_places.specs.declared.fields.Field.{Field}
-use Rattle.slot_places.specs.declared.fields.Field.TheVariants.{Bits, Among}
+use Rattle.slot_places.specs.declared.fields.Field.TheVariants.{Bits, Among, Addresses}
 use Rattle.bgp_variables.specs.declared.rooms.BgpRoom.{BgpRoom}
 use Rattle.bgp_variables.specs.Brought.{speaker_at}
 
@@ -33,12 +33,19 @@ reflected tracked bits = if length tracked.clusters == 0 then only 0 else Bits b
 abbrev pub of_words : Field → Field
 of_words (Bits width) = if nat_le width 32 then Bits width else Bits 32
 of_words (Among values) = if list_all is_word values then Among values else Bits 32
+of_words (Addresses addresses) = Bits 32
 
--- what a held route can be, by what lines of the files say of its numbers. An imported path has at most 255 numbers, and a
+-- and one for numbers of addresses that may be missing, which have 33
+abbrev pub of_addresses : Field → Field
+of_addresses (Bits width) = if nat_le width 33 then Bits width else Bits 33
+of_addresses (Among values) = if list_all is_word values then Among values else Bits 33
+of_addresses (Addresses addresses) = if list_all is_word addresses then Addresses addresses else Bits 33
+
+-- what a held route can be, by what lines of the files say of its numbers and of peers. An imported path has at most 255 numbers, and a
 -- cluster list names no reflector twice
 abbrev pub held_room : Tracked → List File → BgpRoom
 held_room tracked files = record {
-  from = Bits 33;
+  from = of_addresses (values_room files).from;
   preferences = record {
     weight = of_words (values_room files).weight;
     local_pref = of_words (values_room files).local_pref;

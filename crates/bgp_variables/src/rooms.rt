@@ -152,12 +152,43 @@ fn of_words(field: Field) -> Field
                 Field::Bits(32)
             }
         }
+        Field::Addresses(_) => Field::Bits(32),
     }
 }
 
-// The numbers of a held route that lines of the files say.
+// A field for numbers of 33 bits, which stand for addresses that may be missing.
+fn of_addresses(field: Field) -> Field
+    ensures { result ≡ rooms.of_addresses field }
+{
+    match field {
+        Field::Bits(width) => {
+            if width <= 33 {
+                Field::Bits(width)
+            } else {
+                Field::Bits(33)
+            }
+        }
+        Field::Among(values) => {
+            if are_words(values.as_slice()) {
+                Field::Among(values)
+            } else {
+                Field::Bits(33)
+            }
+        }
+        Field::Addresses(addresses) => {
+            if are_words(addresses.as_slice()) {
+                Field::Addresses(addresses)
+            } else {
+                Field::Bits(33)
+            }
+        }
+    }
+}
+
+// The numbers of a held route that lines of the files say, and its peers.
 fn worded_values(alloc: Global, files: &[File]) -> Result<HeldValues, AllocError>
     ensures { IfOk result (λ r. r ≡ record {
+      from = rooms.of_addresses (values_room files.now).from;
       weight = rooms.of_words (values_room files.now).weight;
       local_pref = rooms.of_words (values_room files.now).local_pref;
       next_hop = rooms.of_words (values_room files.now).next_hop;
@@ -165,12 +196,14 @@ fn worded_values(alloc: Global, files: &[File]) -> Result<HeldValues, AllocError
     }) }
 {
     let HeldValues {
+        from,
         weight,
         local_pref,
         next_hop,
         first,
     } = held_values(alloc, files)?;
     Ok(HeldValues {
+        from: of_addresses(from),
         weight: of_words(weight),
         local_pref: of_words(local_pref),
         next_hop: of_words(next_hop),
@@ -224,7 +257,7 @@ fn held_lists(alloc: Global, tracked: &Tracked) -> Result<Lists, AllocError>
 // A held route, of the parts that are known.
 fn held_of(alloc: Global, tracked: &Tracked, values: HeldValues) -> Result<BgpRoom, AllocError>
     ensures { IfOk result (λ r. r ≡ record {
-      from = Bits 33;
+      from = values.from;
       preferences = record {
         weight = values.weight;
         local_pref = values.local_pref;
@@ -245,6 +278,7 @@ fn held_of(alloc: Global, tracked: &Tracked, values: HeldValues) -> Result<BgpRo
     }) }
 {
     let HeldValues {
+        from,
         weight,
         local_pref,
         next_hop,
@@ -253,7 +287,7 @@ fn held_of(alloc: Global, tracked: &Tracked, values: HeldValues) -> Result<BgpRo
     let path = path_from(alloc, tracked, first)?;
     let lists = held_lists(alloc, tracked)?;
     Ok(BgpRoom {
-        from: Field::Bits(33),
+        from,
         preferences: PreferencesRoom {
             weight,
             local_pref,
@@ -270,7 +304,8 @@ fn held_of(alloc: Global, tracked: &Tracked, values: HeldValues) -> Result<BgpRo
 }
 
 /// What a held route of a network of these files can be: its weight, local preference, next hop and first AS number are
-/// among those that lines of the files say, where these are few (RFC 4271, section 5.1).
+/// among those that lines of the files say, where these are few (RFC 4271, section 5.1), and so is the peer of whom it is
+/// learnt, if any.
 #[tactic(auto, using(crate::proofs::RoomSteps::held_is_room))]
 pub fn held_room(alloc: Global, tracked: &Tracked, files: &[File]) -> Result<BgpRoom, AllocError>
     ensures value { IfOk result (λ r. r ≡ rooms.held_room tracked.now files.now) }
