@@ -37,13 +37,14 @@ use Rattle.net_parts.specs.Decisions.{DecidedByBgp}
 use Rattle.net_parts.specs.Stable.{Stable}
 use Rattle.route_shapes.specs.Bgp.{address_number, bgp_shape, learnt_number}
 use Rattle.held_values.specs.Rooms.{FitsHeldValues, values_room}
-use Rattle.held_values.proofs.Fields.{held_fits as values_fit, learnt_small}
+use Rattle.held_values.proofs.Fields.{held_fits as values_fit, learnt_small, originator_small}
 use Rattle.rebuilt_routes.specs.Clusters.{HasBoundedLists}
 use Rattle.rebuilt_routes.proofs.Sources.{routes_in}
 use Rattle.rebuilt_routes.proofs.StableShapes.{lists_bounded}
 use Rattle.slot_places.specs.declared.fields.Field.{Field}
 use Rattle.slot_places.specs.declared.fields.Field.TheVariants.{Addresses, Among, Bits}
-use Rattle.slot_places.specs.Values.{FitsField}
+use Rattle.slot_places.specs.Values.{FitsField, width_for}
+use Rattle.slot_places.proofs.Widths.{in_width}
 use Rattle.bgp_shapes.specs.Candidates.{ShapeAnnouncement, shape_announced}
 use Rattle.announced_shapes.specs.Paths.{IsPathShape, is_as_number, is_word}
 use Rattle.world_variables.proofs.Worlds.{value_small}
@@ -84,18 +85,14 @@ origin_small Incomplete = omega arith
 
 -- ---- held routes
 
-originator_small : (o : Option Addr) → IfSome o IsAddress → address_number o < 2 ^ 33
-originator_small None fits = omega arith
-originator_small (Some a) fits = omega (arith, fits)
-
 -- a number of a route that no reflector passed on is none
-reflected_fits : (tracked : Tracked) (bits n : ℕ) → n < 2 ^ bits → (length tracked.clusters ≡ 0 → n ≡ 0) →
-    FitsField (reflected tracked bits) n
-reflected_fits tracked bits n small none = by (length tracked.clusters == 0) refl
+reflected_fits : (tracked : Tracked) (field : Field) (n : ℕ) → FitsField field n →
+    (length tracked.clusters ≡ 0 → n ≡ 0) → FitsField (reflected tracked field) n
+reflected_fits tracked field n fits none = by (length tracked.clusters == 0) refl
   where
-    by : (b : Bool) → (length tracked.clusters == 0) ≡ b → FitsField (if b then only 0 else Bits bits) n
+    by : (b : Bool) → (length tracked.clusters == 0) ≡ b → FitsField (if b then only 0 else field) n
     by true is = only_fits 0 n (none (eqb-true (length tracked.clusters) 0 is))
-    by false is = small
+    by false is = fits
 
 -- a number of 32 bits that fits a field
 words_fit : (field : Field) (n : ℕ) → FitsField field n → n < 2 ^ 32 → FitsField (of_words field) n
@@ -152,13 +149,15 @@ rec_fits tracked files rec fits lists values most = record {
   };
   communities = each_fit (carries rec.communities) tracked.communities;
   next_hop = words_fit (values_room files).next_hop rec.next_hop.0 values.next_hop fits.next_hop;
-  originator = reflected_fits tracked 33 (address_number rec.originator)
-      (originator_small rec.originator fits.originator)
+  originator = reflected_fits tracked (of_addresses (values_room files).originator) (address_number rec.originator)
+      (addresses_fit (values_room files).originator (address_number rec.originator) values.originator
+      (originator_small rec.originator fits.originator))
       (λ none. ap address_number (lists.reflected (unlisted none)));
   cluster_len = let few = lists.clusters.few in
       let same = saturated-small (length rec.clusters) (omega (arith, few, most)) in
-      reflected_fits tracked 8 (saturated (length rec.clusters))
-      (subst (λ k. k < 2 ^ 8) same (omega (arith, few, most)))
+      reflected_fits tracked (Bits (width_for (length tracked.clusters))) (saturated (length rec.clusters))
+      (subst (λ k. k < 2 ^ width_for (length tracked.clusters)) same
+      (in_width (length rec.clusters) (length tracked.clusters) 0 32 few (omega (arith, few, most))))
       (λ none. ap (λ cs. saturated (length cs)) (unlisted none) ∙ saturated-none);
   clusters = each_fit (has_address rec.clusters) tracked.clusters;
 }

@@ -3,6 +3,8 @@ use Rattle.std.proofs.Common.{ℕ, ◌^◌, ◌<◌, ◌≤◌, ◌==◌, Bool, 
 use Rattle.std.proofs.Common.{arith, if◌then◌else◌, ◌≡◌, ◌∷◌, refl}
 use Rattle.slot_places.specs.declared.fields.Field.TheVariants.{Addresses, Among, Bits}
 use Rattle.slot_places.specs.declared.fields.Field.{Field}
+use Rattle.slot_places.specs.Values.{width_for}
+use Rattle.slot_places.proofs.Widths.{few}
 use Rattle.announced_shapes.specs.Paths.{is_word}
 use Rattle.held_values.specs.Rooms.{values_room}
 use Rattle.std.specs.Prelude.{IfSome, nat_le, option_map}
@@ -22,11 +24,11 @@ use Rattle.bgp_variables.specs.Shapes.{IsRoomOf}
 only_within : (bits n : ℕ) → n < 2 ^ bits → TellsWithin bits (only n)
 only_within bits n small = All-cons (λ m. m < 2 ^ bits) n [] small (All-nil (λ m. m < 2 ^ bits))
 
-reflected_within : (tracked : Tracked) (bits most : ℕ) → bits ≤ most → 0 < 2 ^ most →
-    TellsWithin most (reflected tracked bits)
-reflected_within tracked bits most few some = by (length tracked.clusters == 0)
+reflected_within : (tracked : Tracked) (most : ℕ) (field : Field) → TellsWithin most field → 0 < 2 ^ most →
+    TellsWithin most (reflected tracked field)
+reflected_within tracked most field few some = by (length tracked.clusters == 0)
   where
-    by : (b : Bool) → TellsWithin most (if b then only 0 else Bits bits)
+    by : (b : Bool) → TellsWithin most (if b then only 0 else field)
     by true = only_within most 0 some
     by false = few
 
@@ -82,8 +84,10 @@ held_is_room tracked files = (
     };
     path = record { len = omega arith; first = words_within (values_room files).first; last = omega arith };
     next_hop = words_within (values_room files).next_hop;
-    originator = reflected_within tracked 33 33 (omega arith) (omega arith);
-    cluster_len = reflected_within tracked 8 32 (omega arith) (omega arith);
+    originator = reflected_within tracked 33 (of_addresses (values_room files).originator)
+        (addresses_within (values_room files).originator) (omega arith);
+    cluster_len = let below = few (length tracked.clusters) 0 32 (omega arith) in
+        reflected_within tracked 32 (Bits (width_for (length tracked.clusters))) (omega (arith, below)) (omega arith);
   },
   record {
     numbers = length-replicate (length tracked.numbers) true;

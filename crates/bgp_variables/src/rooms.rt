@@ -9,10 +9,11 @@ ghost use Rattle.bgp_variables.specs.Rooms as rooms;
 ghost use Rattle.bgp_variables.specs.Shapes.{IsRoomOf};
 
 use held_values::{HeldValues, held_values};
-use ios_ast::{File, Neighbour};
+use ios_ast::Neighbour;
 use mw_text::List;
+use net_model::Net;
 use route_record::Tracked;
-use slot_places::Field;
+use slot_places::{Field, width_for};
 use std::alloc::{AllocError, Global};
 
 /// What the numbers can be by which routes are preferred.
@@ -73,26 +74,38 @@ struct Reflection {
 }
 
 // A number that only a reflected route has.
-fn reflected(alloc: Global, tracked: &Tracked, bits: u8) -> Result<Field, AllocError>
-    ensures { IfOk result (λ r. r ≡ rooms.reflected tracked.now bits) }
+fn reflected(alloc: Global, tracked: &Tracked, field: Field) -> Result<Field, AllocError>
+    ensures { IfOk result (λ r. r ≡ rooms.reflected tracked.now field) }
 {
     if tracked.clusters.as_slice().len() == 0 {
         only(alloc, 0)
     } else {
-        Ok(Field::Bits(bits))
+        Ok(field)
     }
 }
 
+// How long a cluster list is, which names no reflector twice.
+fn clusters_field(alloc: Global, tracked: &Tracked) -> Result<Field, AllocError>
+    ensures { IfOk result (λ r. r ≡ rooms.clusters_field tracked.now) }
+{
+    let many = tracked.clusters.as_slice().len() as u64;
+    reflected(alloc, tracked, Field::Bits(width_for(many)))
+}
+
 // Of a held route.
-fn attributes_of_reflectors(alloc: Global, tracked: &Tracked) -> Result<Reflection, AllocError>
+fn attributes_of_reflectors(
+    alloc: Global,
+    tracked: &Tracked,
+    originator: Field,
+) -> Result<Reflection, AllocError>
     ensures { IfOk result (λ r. r ≡ record {
-      originator = rooms.reflected tracked.now 33;
-      cluster_len = rooms.reflected tracked.now 8;
+      originator = rooms.reflected tracked.now originator;
+      cluster_len = rooms.clusters_field tracked.now;
       clusters = rooms.all_marks tracked.now.clusters;
     }) }
 {
-    let originator = reflected(alloc, tracked, 33)?;
-    let cluster_len = reflected(alloc, tracked, 8)?;
+    let originator = reflected(alloc, tracked, originator)?;
+    let cluster_len = clusters_field(alloc, tracked)?;
     let clusters = marks(alloc, true, tracked.clusters.as_slice().len())?;
     Ok(Reflection {
         originator,
@@ -185,25 +198,28 @@ fn of_addresses(field: Field) -> Field
     }
 }
 
-// The numbers of a held route that lines of the files say, and its peers.
-fn worded_values(alloc: Global, files: &[File]) -> Result<HeldValues, AllocError>
+// The numbers of a held route that lines of the files say, its peers and its originators.
+fn worded_values(alloc: Global, net: &Net) -> Result<HeldValues, AllocError>
     ensures { IfOk result (λ r. r ≡ record {
-      from = rooms.of_addresses (values_room files.now).from;
-      weight = rooms.of_words (values_room files.now).weight;
-      local_pref = rooms.of_words (values_room files.now).local_pref;
-      next_hop = rooms.of_words (values_room files.now).next_hop;
-      first = rooms.of_words (values_room files.now).first;
+      from = rooms.of_addresses (values_room net.now.files).from;
+      originator = rooms.of_addresses (values_room net.now.files).originator;
+      weight = rooms.of_words (values_room net.now.files).weight;
+      local_pref = rooms.of_words (values_room net.now.files).local_pref;
+      next_hop = rooms.of_words (values_room net.now.files).next_hop;
+      first = rooms.of_words (values_room net.now.files).first;
     }) }
 {
     let HeldValues {
         from,
+        originator,
         weight,
         local_pref,
         next_hop,
         first,
-    } = held_values(alloc, files)?;
+    } = held_values(alloc, net)?;
     Ok(HeldValues {
         from: of_addresses(from),
+        originator: of_addresses(originator),
         weight: of_words(weight),
         local_pref: of_words(local_pref),
         next_hop: of_words(next_hop),
@@ -236,18 +252,18 @@ struct Lists {
     reflection: Reflection,
 }
 
-fn held_lists(alloc: Global, tracked: &Tracked) -> Result<Lists, AllocError>
+fn held_lists(alloc: Global, tracked: &Tracked, originator: Field) -> Result<Lists, AllocError>
     ensures { IfOk result (λ r. r ≡ record {
       communities = rooms.all_marks tracked.now.communities;
       reflection = record {
-        originator = rooms.reflected tracked.now 33;
-        cluster_len = rooms.reflected tracked.now 8;
+        originator = rooms.reflected tracked.now originator;
+        cluster_len = rooms.clusters_field tracked.now;
         clusters = rooms.all_marks tracked.now.clusters;
       };
     }) }
 {
     let communities = marks(alloc, true, tracked.communities.as_slice().len())?;
-    let reflection = attributes_of_reflectors(alloc, tracked)?;
+    let reflection = attributes_of_reflectors(alloc, tracked, originator)?;
     Ok(Lists {
         communities,
         reflection,
@@ -272,20 +288,21 @@ fn held_of(alloc: Global, tracked: &Tracked, values: HeldValues) -> Result<BgpRo
       };
       communities = rooms.all_marks tracked.now.communities;
       next_hop = values.next_hop;
-      originator = rooms.reflected tracked.now 33;
-      cluster_len = rooms.reflected tracked.now 8;
+      originator = rooms.reflected tracked.now values.originator;
+      cluster_len = rooms.clusters_field tracked.now;
       clusters = rooms.all_marks tracked.now.clusters;
     }) }
 {
     let HeldValues {
         from,
+        originator,
         weight,
         local_pref,
         next_hop,
         first,
     } = values;
     let path = path_from(alloc, tracked, first)?;
-    let lists = held_lists(alloc, tracked)?;
+    let lists = held_lists(alloc, tracked, originator)?;
     Ok(BgpRoom {
         from,
         preferences: PreferencesRoom {
@@ -305,13 +322,13 @@ fn held_of(alloc: Global, tracked: &Tracked, values: HeldValues) -> Result<BgpRo
 
 /// What a held route of a network of these files can be: its weight, local preference, next hop and first AS number are
 /// among those that lines of the files say, where these are few (RFC 4271, section 5.1), and so is the peer of whom it is
-/// learnt, if any.
+/// learnt, if any; its originator is a router, if any (RFC 4456, section 8).
 #[tactic(auto, using(crate::proofs::RoomSteps::held_is_room))]
-pub fn held_room(alloc: Global, tracked: &Tracked, files: &[File]) -> Result<BgpRoom, AllocError>
-    ensures value { IfOk result (λ r. r ≡ rooms.held_room tracked.now files.now) }
+pub fn held_room(alloc: Global, tracked: &Tracked, net: &Net) -> Result<BgpRoom, AllocError>
+    ensures value { IfOk result (λ r. r ≡ rooms.held_room tracked.now net.now.files) }
     ensures room { IfOk result (IsRoomOf tracked.now) }
 {
-    let values = worded_values(alloc, files)?;
+    let values = worded_values(alloc, net)?;
     let room = held_of(alloc, tracked, values)?;
     Ok(room)
 }

@@ -1,10 +1,11 @@
--- The numbers of held routes are known, and so are their peers: over each session, and so in each stable routing.
-use Rattle.std.proofs.Common.{◌≡◌, ℕ, ◌<◌, ◌==◌, ◌&&◌, ◌⊎◌, inl, inr, not, Bool, true, false, List, ◌∷◌}
+-- The numbers of held routes are known, and so are their peers and originators: over each session, and so in each stable routing.
+use Rattle.std.proofs.Common.{arith, ◌≡◌, ℕ, ◌<◌, ◌==◌, ◌&&◌, ◌⊎◌, inl, inr, not, Bool, true, false, List, ◌∷◌}
 use Rattle.std.proofs.Common.{Option, Some, None, refl, sym, ap, ◌∙◌, subst, if◌then◌else◌}
-use Rattle.std.specs.Prelude.{IfSome, length, nat_le, option_and_then, slice_get, unwrap_or}
+use Rattle.std.specs.Prelude.{IfSome, length, nat_le, option_and_then, option_map, slice_get, unwrap_or}
 use Rattle.std.specs.List.{find, list_all}
-use Rattle.std.proofs.lemmas.Bool.{and_parts, eq-eqb, eqb-true, or_left}
-use Rattle.std.proofs.lemmas.Option.{same_Some}
+use Rattle.std.proofs.lemmas.Bool.{and_parts, eq-eqb, eqb-true, or_left, or_right}
+use Rattle.std.proofs.lemmas.List.FromFn.{get_or-map-range_with_len, length-map-range_with_len}
+use Rattle.std.proofs.lemmas.Option.{same_Some, slice_get_within}
 use Rattle.mw_text.proofs.Lists.{all_found}
 use Rattle.mw_text.specs.declared.address.Addr.{Addr}
 use Rattle.mw_text.specs.declared.address.Prefix.{Prefix}
@@ -29,11 +30,14 @@ use Rattle.route_record.specs.declared.tracked.Tracked.{Tracked}
 use Rattle.route_record.specs.Places.{slot_at}
 use Rattle.net_interfaces.proofs.Members.{in-find}
 use Rattle.net_interfaces.proofs.Options.{if_is}
-use Rattle.net_parts.specs.declared.sessions.Far.TheVariants.{Inside}
+use Rattle.net_parts.specs.declared.sessions.Far.{Far}
+use Rattle.net_parts.specs.declared.sessions.Far.TheVariants.{Inside, Outside}
 use Rattle.net_parts.specs.declared.sessions.SessionEnd.{SessionEnd}
-use Rattle.net_parts.specs.Exports.{announced_message, exported, imported, internal_next_hop, learnt_over}
+use Rattle.net_parts.specs.Exports.{announced_message, exported, imported, internal_next_hop, learnt_id, learnt_over}
+use Rattle.net_parts.specs.Exports.{reflected_originator, router_id}
 use Rattle.net_parts.specs.Exports.{external_message, if_short, internal_message, most_numbers, own_address, received}
 use Rattle.net_parts.specs.Mapping.{attributes_of, with_attributes}
+use Rattle.net_parts.proofs.LeastWalks.{contains-in}
 use Rattle.net_parts.specs.Origins.{local_routes}
 use Rattle.net_parts.specs.Sessions.{ends_of, neighbour_of}
 use Rattle.net_parts.specs.Stable.{Stable}
@@ -45,10 +49,13 @@ use Rattle.rebuilt_routes.proofs.Crossed.{runs_there}
 use Rattle.rebuilt_routes.proofs.Options.{find_passes, if_found, if_true}
 use Rattle.rebuilt_routes.proofs.Plain.{IsPlain, locals_plain}
 use Rattle.rebuilt_routes.proofs.RealSources.{all_members}
+use Rattle.rebuilt_routes.proofs.ReflectorsOnce.{IsRouteSent, IsRouteTaken, route_sent_parts, route_taken_parts}
 use Rattle.rebuilt_routes.proofs.StableShapes.{kept_held}
+use Rattle.slot_places.proofs.Members.{any-in}
 use Rattle.held_values.specs.declared.numbers.HeldNumber.{HeldNumber}
 use Rattle.held_values.specs.declared.numbers.HeldNumber.TheVariants.{Weight, LocalPref, NextHop, FirstAs}
-use Rattle.held_values.specs.Values.{HasHeldValues, is_learnt_among, number_of, peers_of, said_of_neighbour, values_of}
+use Rattle.held_values.specs.Values.{HasHeldValues, is_learnt_among, is_none_or_among, number_of, originators_of}
+use Rattle.held_values.specs.Values.{peers_of, router_ids, said_of_neighbour, values_of}
 use Rattle.held_values.proofs.EndsMeet.{NamesOther, names_far}
 use Rattle.held_values.proofs.Lines.{IsKnown, known_lines, known_unsaid, peers_known}
 use Rattle.held_values.proofs.Routes.{IsKnownReceived, IsKnownRoute, IsMadeOf, exported_made, imported_known}
@@ -113,6 +120,95 @@ kept_learnt files environment p = record {
   where
     P : BgpRec → Type 0
     P rec = is_learnt_among (peers_of files) rec.from ≡ true
+
+-- ---- originators
+
+module _ (files : List File) where
+  abbrev IsKnownOriginator : Option Addr → Type 0
+  IsKnownOriginator o = is_none_or_among (originators_of files) o ≡ true
+
+  -- the identifier of a router is one of them
+  id_there : (router : ℕ) → router < length files → IsKnownOriginator (Some (router_id files router))
+  id_there router below =
+      or_right (0 == (router_id files router).0) (carries (router_ids files) (router_id files router).0)
+      (any-in (λ n. n == (router_id files router).0) (router_ids files) (router_id files router).0
+      (contains-in (router_id files router).0 (router_ids files) (
+        router,
+        subst (λ k. router < k) (sym (length-map-range_with_len (λ r. (router_id files r).0) 0 (length files))) below,
+        get_or-map-range_with_len (λ r. (router_id files r).0) 0 (length files) router router
+            (router_id files router).0 below (omega arith),
+      )) (eq-eqb (router_id files router).0 (router_id files router).0 refl))
+
+  -- the router of an end is one of the files
+  end_below : (at : ℕ) (end : SessionEnd) → slice_get (ends_of files) at ≡ Some end → end.router < length files
+  end_below at end there = by (slice_get files end.router) refl is.runs
+    where
+      is : IsAlike files end
+      is = all_found (IsAlike files) (ends_of files) at end (ends_alike files) there
+
+      by : (o : Option File) → slice_get files end.router ≡ o →
+          option_and_then (λ (f : File). f.bgp) o ≡ Some is.process → end.router < length files
+      by None none runs = absurd cc
+      by (Some file) found runs = slice_get_within files end.router file found
+
+  learnt_id_known : (from : SessionEnd) → IsKnownOriginator (learnt_id files from)
+  learnt_id_known from = by from.far
+    where
+      found : (at : ℕ) (o : Option SessionEnd) → slice_get (ends_of files) at ≡ o →
+          IsKnownOriginator (option_map (λ (far : SessionEnd). router_id files far.router) o)
+      found at None none = refl
+      found at (Some far) there = id_there far.router (end_below at far there)
+
+      by : (far : Far) → IsKnownOriginator (learnt_id files (record from { far = far }))
+      by Outside = refl
+      by (Inside at) = found at (slice_get (ends_of files) at) refl
+
+  reflected_known : (held : BgpRec) (o : Option SessionEnd) → IsKnownOriginator held.originator →
+      IsKnownOriginator (reflected_originator files held o)
+  reflected_known held None h = h
+  reflected_known held (Some from) h = by from.internal
+    where
+      first : (p q : Option Addr) → IsKnownOriginator p → IsKnownOriginator q →
+          IsKnownOriginator (Some (unwrap_or p (unwrap_or q (record { 0 = 0 }))))
+      first (Some a) q known other = known
+      first None (Some a) known other = other
+      first None None known other = refl
+
+      by : (b : Bool) → IsKnownOriginator (if b then Some (unwrap_or held.originator
+          (unwrap_or (learnt_id files from) (record { 0 = 0 }))) else held.originator)
+      by true = first held.originator (learnt_id files from) h (learnt_id_known from)
+      by false = h
+
+  -- a route that is imported has the originator of its message
+  taken_originator : (end : SessionEnd) (p : Prefix) (message : BgpMsg) (rec : BgpRec) →
+      IsKnownOriginator message.originator → imported files end p message ≡ Some rec → IsKnownOriginator rec.originator
+  taken_originator end p message rec known taken =
+      subst IsKnownOriginator (sym (if_is (IsRouteTaken files end message) (imported files end p message) rec
+      (route_taken_parts files end p message) taken).originator) known
+
+  sent_originator : (end : SessionEnd) (p : Prefix) (held : BgpRec) (message : BgpMsg) →
+      IsKnownOriginator held.originator → exported files end p held ≡ Some message →
+      IsKnownOriginator message.originator
+  sent_originator end p held message known sends =
+      by (if_is (IsRouteSent files end held) (exported files end p held) message (route_sent_parts files end p held)
+      sends)
+    where
+      by : IsRouteSent files end held message → IsKnownOriginator message.originator
+      by (inl none) = subst IsKnownOriginator (sym none.originator) refl
+      by (inr sent) =
+          subst IsKnownOriginator (sym sent.originator)
+          (reflected_known held (learnt_over files end.router held.from) known)
+
+  kept_originator : (environment : Environment) (p : Prefix) →
+      IsKeptBySessions files environment p (λ router rec. is_none_or_among (originators_of files) rec.originator)
+  kept_originator environment p = record {
+    announced = λ at end neighbour a rec stands outside named says taken.
+        taken_originator end p (announced_message neighbour.addr a) rec refl taken;
+    sent = λ at far_at end far held message rec stands reached far_stands sends taken behind.
+        taken_originator end p message rec (sent_originator far p held message behind sends) taken;
+  }
+
+-- ---- numbers
 
 module _ (files : List File) where
   alike : (at : ℕ) (end : SessionEnd) → slice_get (ends_of files) at ≡ Some end → IsAlike files end
@@ -320,6 +416,7 @@ pub held_known : (tracked : Tracked) (files : List File) (destination : Addr) (f
 held_known tracked files destination failures environment tables len net limits may stable below router slot held there
     holds = record {
       from = learnt;
+      originator = originated;
       weight = known Weight;
       local_pref = known LocalPref;
       next_hop = known NextHop;
@@ -344,4 +441,14 @@ held_known tracked files destination failures environment tables len net limits 
         (local_routes files r is.file is.process (prefix_at destination len) is.slot)
         (locals_plain files r is.file is.process (prefix_at destination len) is.slot) rec is.is).from)
         (kept_learnt files environment (prefix_at destination len)) router held
+        (ap (option_and_then (λ (x : Slot). x.bgp)) there ∙ holds)
+
+    originated : is_none_or_among (originators_of files) held.originator ≡ true
+    originated =
+        kept_held files destination failures environment tables stable len below tracked net limits
+        (λ router rec. is_none_or_among (originators_of files) rec.originator)
+        (λ r rec is. ap (is_none_or_among (originators_of files)) (all_members IsPlain
+        (local_routes files r is.file is.process (prefix_at destination len) is.slot)
+        (locals_plain files r is.file is.process (prefix_at destination len) is.slot) rec is.is).originator)
+        (kept_originator files environment (prefix_at destination len)) router held
         (ap (option_and_then (λ (x : Slot). x.bgp)) there ∙ holds)

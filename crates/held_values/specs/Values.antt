@@ -1,9 +1,10 @@
--- Which values the numbers of a held BGP route can have, and of whom it can be learnt, whatever announcements come and
--- whatever links fail (RFC 4271, sections 5.1.2, 5.1.3 and 5.1.5; Cisco IOS, `neighbor weight`, `set weight`, `set
--- local-preference` and `set as-path prepend`).
-use Rattle.std.specs.Prelude.{◌≡◌, ℕ, ◌==◌, Bool, true, List, [], ◌∷◌, ◌++◌, Option, Some, None, slice_get, if◌then◌else◌}
-use Rattle.std.specs.List.{filter_map, flat_map}
+-- Which values the numbers of a held BGP route can have, of whom it can be learnt and what its originator can be, whatever
+-- announcements come and whatever links fail (RFC 4271, sections 5.1.2, 5.1.3 and 5.1.5; RFC 4456, section 8; Cisco
+-- IOS, `neighbor weight`, `set weight`, `set local-preference` and `set as-path prepend`).
+use Rattle.std.specs.Prelude.{◌≡◌, ℕ, ◌==◌, Bool, true, length, map, List, [], ◌∷◌, ◌++◌, Option, Some, None, slice_get, if◌then◌else◌}
+use Rattle.std.specs.List.{filter_map, flat_map, range_with_len}
 use Rattle.std.specs.Option.{option_map_or}
+use Rattle.mw_text.specs.declared.address.Addr.{Addr}
 use Rattle.ios_ast.specs.declared.bgp.Bgp.{Bgp}
 use Rattle.ios_ast.specs.declared.bgp.Neighbour.{Neighbour}
 use Rattle.ios_ast.specs.declared.file.File.{File}
@@ -16,6 +17,7 @@ use Rattle.ios_ast.specs.Paths.{first_of}
 use Rattle.route_record.specs.declared.BgpRec.{BgpRec}
 use Rattle.route_record.specs.declared.Learnt.{Learnt}
 use Rattle.route_record.specs.declared.Learnt.TheVariants.{Local, Peer}
+use Rattle.net_parts.specs.Exports.{router_id}
 use Rattle.held_values.specs.declared.numbers.HeldNumber.{HeldNumber}
 use Rattle.held_values.specs.declared.numbers.HeldNumber.TheVariants.{Weight, LocalPref, NextHop, FirstAs}
 
@@ -89,9 +91,24 @@ abbrev pub is_learnt_among : List ℕ → Learnt → Bool
 is_learnt_among peers Local = true
 is_learnt_among peers (Peer a) = carries peers a.0
 
--- the numbers of the route are among them, and it is local or learnt of a neighbour
+-- the identifiers of the routers
+abbrev pub router_ids : List File → List ℕ
+router_ids files = map (λ router. (router_id files router).0) (range_with_len 0 (length files))
+
+-- what the originator of a reflected route can be: the identifier of a router, and 0.0.0.0, which a router would set where
+-- it learnt the route of an internal peer outside
+abbrev pub originators_of : List File → List ℕ
+originators_of files = 0 ∷ router_ids files
+
+-- there is no address, or it is one of these
+abbrev pub is_none_or_among : List ℕ → Option Addr → Bool
+is_none_or_among addresses None = true
+is_none_or_among addresses (Some a) = carries addresses a.0
+
+-- the numbers of the route are among them, it is local or learnt of a neighbour, and its originator is a router if any
 pub record HasHeldValues (files : List File) (rec : BgpRec) : Type 0 where
   pub from : is_learnt_among (peers_of files) rec.from ≡ true
+  pub originator : is_none_or_among (originators_of files) rec.originator ≡ true
   pub weight : carries (weights_of files) rec.weight ≡ true
   pub local_pref : carries (preferences_of files) rec.local_pref ≡ true
   pub next_hop : carries (next_hops_of files) rec.next_hop.0 ≡ true
