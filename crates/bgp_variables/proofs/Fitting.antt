@@ -15,7 +15,7 @@ use Rattle.ios_ast.specs.declared.bgp.Neighbour.{Neighbour}
 use Rattle.ios_ast.specs.declared.file.File.{File}
 use Rattle.ios_ast.specs.Deciding.{carries}
 use Rattle.ios_ast.specs.Limits.{keeps_limits}
-use Rattle.ios_ast.specs.Paths.{first_of}
+use Rattle.ios_ast.specs.Paths.{first_of, last_of}
 use Rattle.route_record.specs.declared.BgpRec.{BgpRec}
 use Rattle.route_record.specs.declared.Environment.{Environment}
 use Rattle.route_record.specs.declared.Failures.{Failures}
@@ -144,7 +144,8 @@ rec_fits tracked files rec fits lists values most = record {
         subst (λ k. k < 2 ^ 8) (saturated-small (length rec.path) (omega (arith, short))) (omega (arith, short));
     first = words_fit (values_room files).first (first_of rec.path) values.first
         (value_small rec.path 0 (2 ^ 32) (omega arith) fits.path);
-    last = value_small rec.path (length rec.path - 1) (2 ^ 32) (omega arith) fits.path;
+    last = words_fit (values_room files).last (last_of rec.path) values.last
+        (value_small rec.path (length rec.path - 1) (2 ^ 32) (omega arith) fits.path);
     numbers = each_fit (carries rec.path) tracked.numbers;
   };
   communities = each_fit (carries rec.communities) tracked.communities;

@@ -82,7 +82,7 @@ held_is_room tracked files = (
       med = omega arith;
       origin = omega arith;
     };
-    path = record { len = omega arith; first = words_within (values_room files).first; last = omega arith };
+    path = record { len = omega arith; first = words_within (values_room files).first; last = words_within (values_room files).last };
     next_hop = words_within (values_room files).next_hop;
     originator = reflected_within tracked 33 (of_addresses (values_room files).originator)
         (addresses_within (values_room files).originator) (omega arith);

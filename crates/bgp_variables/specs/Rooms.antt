@@ -60,7 +60,7 @@ held_room tracked files = record {
   path = record {
     len = Bits 8;
     first = of_words (values_room files).first;
-    last = Bits 32;
+    last = of_words (values_room files).last;
     numbers = all_marks tracked.numbers;
   };
   communities = all_marks tracked.communities;

@@ -207,6 +207,7 @@ fn worded_values(alloc: Global, net: &Net) -> Result<HeldValues, AllocError>
       local_pref = rooms.of_words (values_room net.now.files).local_pref;
       next_hop = rooms.of_words (values_room net.now.files).next_hop;
       first = rooms.of_words (values_room net.now.files).first;
+      last = rooms.of_words (values_room net.now.files).last;
     }) }
 {
     let HeldValues {
@@ -216,6 +217,7 @@ fn worded_values(alloc: Global, net: &Net) -> Result<HeldValues, AllocError>
         local_pref,
         next_hop,
         first,
+        last,
     } = held_values(alloc, net)?;
     Ok(HeldValues {
         from: of_addresses(from),
@@ -224,15 +226,21 @@ fn worded_values(alloc: Global, net: &Net) -> Result<HeldValues, AllocError>
         local_pref: of_words(local_pref),
         next_hop: of_words(next_hop),
         first: of_words(first),
+        last: of_words(last),
     })
 }
 
-// The path of a route whose first number that field tells.
-fn path_from(alloc: Global, tracked: &Tracked, first: Field) -> Result<PathRoom, AllocError>
+// The path of a route whose ends those fields tell.
+fn path_from(
+    alloc: Global,
+    tracked: &Tracked,
+    first: Field,
+    last: Field,
+) -> Result<PathRoom, AllocError>
     ensures { IfOk result (λ r. r ≡ record {
       len = Bits 8;
       first = first;
-      last = Bits 32;
+      last = last;
       numbers = rooms.all_marks tracked.now.numbers;
     }) }
 {
@@ -240,7 +248,7 @@ fn path_from(alloc: Global, tracked: &Tracked, first: Field) -> Result<PathRoom,
     Ok(PathRoom {
         len: Field::Bits(8),
         first,
-        last: Field::Bits(32),
+        last,
         numbers,
     })
 }
@@ -283,7 +291,7 @@ fn held_of(alloc: Global, tracked: &Tracked, values: HeldValues) -> Result<BgpRo
       path = record {
         len = Bits 8;
         first = values.first;
-        last = Bits 32;
+        last = values.last;
         numbers = rooms.all_marks tracked.now.numbers;
       };
       communities = rooms.all_marks tracked.now.communities;
@@ -300,8 +308,9 @@ fn held_of(alloc: Global, tracked: &Tracked, values: HeldValues) -> Result<BgpRo
         local_pref,
         next_hop,
         first,
+        last,
     } = values;
-    let path = path_from(alloc, tracked, first)?;
+    let path = path_from(alloc, tracked, first, last)?;
     let lists = held_lists(alloc, tracked, originator)?;
     Ok(BgpRoom {
         from,
@@ -322,7 +331,8 @@ fn held_of(alloc: Global, tracked: &Tracked, values: HeldValues) -> Result<BgpRo
 
 /// What a held route of a network of these files can be: its weight, local preference, next hop and first AS number are
 /// among those that lines of the files say, where these are few (RFC 4271, section 5.1), and so is the peer of whom it is
-/// learnt, if any; its originator is a router, if any (RFC 4456, section 8).
+/// learnt, if any; its originator is a router, if any (RFC 4456, section 8). Where no router has an external peer so is its
+/// last AS number.
 #[tactic(auto, using(crate::proofs::RoomSteps::held_is_room))]
 pub fn held_room(alloc: Global, tracked: &Tracked, net: &Net) -> Result<BgpRoom, AllocError>
     ensures value { IfOk result (λ r. r ≡ rooms.held_room tracked.now net.now.files) }
@@ -423,7 +433,7 @@ fn announced(
         first,
         next_hop,
     } = sender;
-    let path = path_from(alloc, tracked, first)?;
+    let path = path_from(alloc, tracked, first, Field::Bits(32))?;
     let lists = lists_of(alloc, tracked)?;
     Ok(BgpRoom {
         from,

@@ -1,10 +1,10 @@
 -- Fields for known values: each value once, and each held route has room.
 use Rattle.std.proofs.Common.{◌≡◌, ◌⊎◌, ℕ, ◌+◌, ◌^◌, ◌<◌, ◌==◌, ◌||◌, Bool, true, false, List, [], ◌∷◌, inl, inr, refl, sym}
-use Rattle.std.proofs.Common.{arith, ap, map, ◌++◌, ◌∙◌}
-use Rattle.std.specs.Prelude.{All, IfSome, None, Option, Some, fold}
+use Rattle.std.proofs.Common.{arith, zero, suc, ◌-◌, ap, map, ◌++◌, ◌∙◌}
+use Rattle.std.specs.Prelude.{All, IfSome, None, Option, Some, fold, if◌then◌else◌, length, slice_index}
 use Rattle.std.specs.List.{flat_map, list_all, range_with_len}
 use Rattle.std.proofs.lemmas.Bool.{eqb-true}
-use Rattle.std.proofs.lemmas.List.Elements.{All-head}
+use Rattle.std.proofs.lemmas.List.Elements.{All-head, All-tail}
 use Rattle.std.proofs.lemmas.List.FromFn.{map-range_with_len_more}
 use Rattle.std.proofs.lemmas.List.Sums.{fold-append}
 use Rattle.mw_text.specs.Members.{In}
@@ -13,7 +13,7 @@ use Rattle.mw_text.proofs.Lists.{all_found}
 use Rattle.ios_ast.specs.declared.file.File.{File}
 use Rattle.ios_ast.specs.Deciding.{carries}
 use Rattle.ios_ast.specs.Limits.{keeps_limits}
-use Rattle.ios_ast.specs.Paths.{first_of}
+use Rattle.ios_ast.specs.Paths.{first_of, last_of}
 use Rattle.route_record.specs.declared.BgpRec.{BgpRec}
 use Rattle.route_record.specs.declared.Environment.{Environment}
 use Rattle.route_record.specs.declared.Failures.{Failures}
@@ -31,11 +31,12 @@ use Rattle.net_parts.specs.Stable.{Stable}
 use Rattle.net_parts.specs.Tracked.{TracksNet}
 use Rattle.net_parts.specs.World.{IsEnvironment}
 use Rattle.route_shapes.specs.Bgp.{address_number, learnt_number}
-use Rattle.slot_places.specs.Values.{once, put_once}
+use Rattle.slot_places.specs.declared.fields.Field.TheVariants.{Bits}
+use Rattle.slot_places.specs.Values.{FitsField, field_of, once, put_once}
 use Rattle.slot_places.proofs.Fitting.{fits_addresses, fits_among}
 use Rattle.held_values.specs.declared.numbers.HeldNumber.{HeldNumber}
 use Rattle.held_values.specs.Rooms.{FitsHeldValues, values_room}
-use Rattle.held_values.specs.Values.{HasHeldValues, firsts_of, is_learnt_among, is_none_or_among, next_hops_of}
+use Rattle.held_values.specs.Values.{HasHeldValues, firsts_of, has_peers, lasts_of, is_learnt_among, is_none_or_among, next_hops_of}
 use Rattle.held_values.specs.Values.{originators_of, peers_of, preferences_of, said_in_file, unsaid, values_of}
 use Rattle.held_values.specs.Values.{weights_of}
 use Rattle.held_values.proofs.Held.{held_known}
@@ -59,6 +60,11 @@ in-carried (x ∷ xs) n there = by (x == n) refl there (in-carried xs n)
 first_small : (path : List ℕ) → All IsWord path → first_of path < 2 ^ 32
 first_small [] all = omega arith
 first_small (n ∷ ns) all = All-head IsWord n ns all
+
+all_below : (k : ℕ) (path : List ℕ) → All IsWord path → slice_index path k < 2 ^ 32
+all_below k [] all = omega arith
+all_below zero (n ∷ ns) all = All-head IsWord n ns all
+all_below (suc k) (n ∷ ns) all = all_below k ns (All-tail IsWord n ns all)
 
 -- ---- peers
 
@@ -110,7 +116,18 @@ fits_known files rec known fits = record {
       (in-carried (next_hops_of files) rec.next_hop.0 known.next_hop) fits.next_hop;
   first = fits_among (firsts_of files) (first_of rec.path)
       (in-carried (firsts_of files) (first_of rec.path) known.first) (first_small rec.path fits.path);
+  last = by (has_peers files) known.last;
 }
+  where
+    small : last_of rec.path < 2 ^ 32
+    small = all_below (length rec.path - 1) rec.path fits.path
+
+    by : (b : Bool) → (b ≡ false → carries (lasts_of files) (last_of rec.path) ≡ true) →
+        FitsField (if b then Bits 32 else field_of (once (lasts_of files))) (last_of rec.path)
+    by true said = small
+    by false said =
+        fits_among (lasts_of files) (last_of rec.path)
+        (in-carried (lasts_of files) (last_of rec.path) (said refl)) small
 
 pub held_fits : (tracked : Tracked) (files : List File) (destination : Addr) (failures : Failures)
     (environment : Environment) (tables : Tables) (len : ℕ) → TracksNet files tracked →

@@ -1,6 +1,6 @@
 //! The values that the numbers of held BGP routes can have, and fields that tell them.
 
-ghost use Rattle.std.specs.Prelude.{◌≡◌, ◌<◌, IfOk, OnOk, fold, length, slice_get};
+ghost use Rattle.std.specs.Prelude.{◌≡◌, ◌<◌, ◌-◌, ◌==◌, IfOk, None, OnOk, Some, fold, if◌then◌else◌, length, slice_get};
 ghost use Rattle.std.specs.List.{filter_map, flat_map};
 ghost use Rattle.net_parts.specs.Exports.{router_id};
 ghost use Rattle.held_values.specs.Rooms.{put_option, values_room};
@@ -11,12 +11,13 @@ use crate::numbers::HeldNumber;
 use ios_ast::{Bgp, File, MapEntry, Neighbour, RouteMap, SetAct};
 use mw_text::List;
 use net_model::Net;
+use net_parts::ends::is_outside;
 use slot_places::Field;
 use slot_places::fields::{addresses_field, field_of, put_once};
 use std::alloc::{AllocError, Global};
 
 /// Of whom a held route can be learnt, what its originator can be, and the values that its weight, its local preference
-/// and its next hop can have and the first AS number of its path.
+/// and its next hop can have and the first and the last AS number of its path.
 #[derive(Drop)]
 pub struct HeldValues {
     pub from: Field,
@@ -25,9 +26,20 @@ pub struct HeldValues {
     pub local_pref: Field,
     pub next_hop: Field,
     pub first: Field,
+    pub last: Field,
 }
 
 // ---- what one line says
+
+fn other_asn(process: &Bgp, neighbour: &Neighbour) -> Option<u32>
+    ensures { result ≡ (if process.now.asn == neighbour.now.asn then None else Some neighbour.now.asn) }
+{
+    if process.asn == neighbour.asn {
+        None
+    } else {
+        Some(neighbour.asn)
+    }
+}
 
 fn neighbour_says(which: HeldNumber, process: &Bgp, neighbour: &Neighbour) -> Option<u32>
     ensures { result ≡ values.said_of_neighbour which process.now neighbour.now }
@@ -36,13 +48,8 @@ fn neighbour_says(which: HeldNumber, process: &Bgp, neighbour: &Neighbour) -> Op
         HeldNumber::Weight => Some(neighbour.weight),
         HeldNumber::LocalPref => None,
         HeldNumber::NextHop => Some(neighbour.addr.0),
-        HeldNumber::FirstAs => {
-            if process.asn == neighbour.asn {
-                None
-            } else {
-                Some(neighbour.asn)
-            }
-        }
+        HeldNumber::FirstAs => other_asn(process, neighbour),
+        HeldNumber::LastAs => other_asn(process, neighbour),
     }
 }
 
@@ -55,6 +62,15 @@ fn first_number(numbers: &[u32]) -> Option<u32>
     }
 }
 
+fn last_number(numbers: &[u32]) -> Option<u32>
+    ensures { result ≡ slice_get numbers.now (length numbers.now - 1) }
+{
+    match numbers.get(numbers.len().saturating_sub(1)) {
+        None => None,
+        Some(n) => Some(*n),
+    }
+}
+
 fn set_says(which: HeldNumber, line: &SetAct) -> Option<u32>
     ensures { result ≡ values.said_of_set which line.now }
 {
@@ -62,6 +78,7 @@ fn set_says(which: HeldNumber, line: &SetAct) -> Option<u32>
         (HeldNumber::Weight, SetAct::Weight(n)) => Some(*n),
         (HeldNumber::LocalPref, SetAct::LocalPref(n)) => Some(*n),
         (HeldNumber::FirstAs, SetAct::Prepend(numbers)) => first_number(numbers.as_slice()),
+        (HeldNumber::LastAs, SetAct::Prepend(numbers)) => last_number(numbers.as_slice()),
         _ => None,
     }
 }
@@ -148,6 +165,7 @@ fn put_unsaid(held: &mut List<u32>, which: HeldNumber) -> Result<(), AllocError>
         HeldNumber::LocalPref => put_once(held, 100),
         HeldNumber::NextHop => put_once(held, 0),
         HeldNumber::FirstAs => put_once(held, 0),
+        HeldNumber::LastAs => put_once(held, 0),
     }
 }
 
@@ -222,17 +240,40 @@ fn senders_of(alloc: Global, net: &Net) -> Result<Senders, AllocError>
 struct Sent {
     next_hop: Field,
     first: Field,
+    last: Field,
 }
 
-fn sent_values(alloc: Global, files: &[File]) -> Result<Sent, AllocError>
+fn has_peers(net: &Net) -> bool
+    ensures { result ≡ values.has_peers net.now.files }
+{
+    net.ends().iter().any(|end| is_outside(end))
+}
+
+fn last_field(alloc: Global, net: &Net) -> Result<Field, AllocError>
+    ensures { IfOk result (λ field. field ≡ (values_room net.now.files).last) }
+{
+    if has_peers(net) {
+        Ok(Field::Bits(32))
+    } else {
+        field_for(alloc, HeldNumber::LastAs, net.routers())
+    }
+}
+
+fn sent_values(alloc: Global, net: &Net) -> Result<Sent, AllocError>
     ensures { IfOk result (λ r. r ≡ record {
-      next_hop = (values_room files.now).next_hop;
-      first = (values_room files.now).first;
+      next_hop = (values_room net.now.files).next_hop;
+      first = (values_room net.now.files).first;
+      last = (values_room net.now.files).last;
     }) }
 {
-    let next_hop = field_for(alloc, HeldNumber::NextHop, files)?;
-    let first = field_for(alloc, HeldNumber::FirstAs, files)?;
-    Ok(Sent { next_hop, first })
+    let next_hop = field_for(alloc, HeldNumber::NextHop, net.routers())?;
+    let first = field_for(alloc, HeldNumber::FirstAs, net.routers())?;
+    let last = last_field(alloc, net)?;
+    Ok(Sent {
+        next_hop,
+        first,
+        last,
+    })
 }
 
 // The values of the numbers that a router gives a route.
@@ -260,7 +301,7 @@ pub fn held_values(alloc: Global, net: &Net) -> Result<HeldValues, AllocError>
     ensures { IfOk result (λ room. room ≡ values_room net.now.files) }
 {
     let given = given_values(alloc, net.routers())?;
-    let sent = sent_values(alloc, net.routers())?;
+    let sent = sent_values(alloc, net)?;
     let senders = senders_of(alloc, net)?;
     Ok(HeldValues {
         from: senders.from,
@@ -269,5 +310,6 @@ pub fn held_values(alloc: Global, net: &Net) -> Result<HeldValues, AllocError>
         local_pref: given.local_pref,
         next_hop: sent.next_hop,
         first: sent.first,
+        last: sent.last,
     })
 }
