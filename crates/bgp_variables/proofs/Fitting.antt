@@ -90,8 +90,8 @@ reflected_fits : (tracked : Tracked) (field : Field) (n : ℕ) → FitsField fie
     (length tracked.clusters ≡ 0 → n ≡ 0) → FitsField (reflected tracked field) n
 reflected_fits tracked field n fits none = by (length tracked.clusters == 0) refl
   where
-    by : (b : Bool) → (length tracked.clusters == 0) ≡ b → FitsField (if b then only 0 else field) n
-    by true is = only_fits 0 n (none (eqb-true (length tracked.clusters) 0 is))
+    by : (b : Bool) → (length tracked.clusters == 0) ≡ b → FitsField (if b then Bits 0 else field) n
+    by true is = let zero = none (eqb-true (length tracked.clusters) 0 is) in omega (arith, zero)
     by false is = fits
 
 -- a number of 32 bits that fits a field

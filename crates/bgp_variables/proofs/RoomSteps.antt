@@ -24,12 +24,12 @@ use Rattle.bgp_variables.specs.Shapes.{IsRoomOf}
 only_within : (bits n : ℕ) → n < 2 ^ bits → TellsWithin bits (only n)
 only_within bits n small = All-cons (λ m. m < 2 ^ bits) n [] small (All-nil (λ m. m < 2 ^ bits))
 
-reflected_within : (tracked : Tracked) (most : ℕ) (field : Field) → TellsWithin most field → 0 < 2 ^ most →
+reflected_within : (tracked : Tracked) (most : ℕ) (field : Field) → TellsWithin most field →
     TellsWithin most (reflected tracked field)
-reflected_within tracked most field few some = by (length tracked.clusters == 0)
+reflected_within tracked most field few = by (length tracked.clusters == 0)
   where
-    by : (b : Bool) → TellsWithin most (if b then only 0 else field)
-    by true = only_within most 0 some
+    by : (b : Bool) → TellsWithin most (if b then Bits 0 else field)
+    by true = omega arith
     by false = few
 
 all_words : (values : List ℕ) → list_all is_word values ≡ true → All (λ n. n < 2 ^ 32) values
@@ -85,9 +85,9 @@ held_is_room tracked files = (
     path = record { len = omega arith; first = words_within (values_room files).first; last = words_within (values_room files).last };
     next_hop = words_within (values_room files).next_hop;
     originator = reflected_within tracked 33 (of_addresses (values_room files).originator)
-        (addresses_within (values_room files).originator) (omega arith);
+        (addresses_within (values_room files).originator);
     cluster_len = let below = few (length tracked.clusters) 0 32 (omega arith) in
-        reflected_within tracked 32 (Bits (width_for (length tracked.clusters))) (omega (arith, below)) (omega arith);
+        reflected_within tracked 32 (Bits (width_for (length tracked.clusters))) (omega (arith, below));
   },
   record {
     numbers = length-replicate (length tracked.numbers) true;

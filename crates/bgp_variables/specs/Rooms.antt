@@ -26,9 +26,9 @@ abbrev pub no_marks : {X : Type 0} → List X → List Bool
 no_marks tracked = replicate (length tracked) false
 
 -- a number that only a reflected route has, by that field where some router of the network is a reflector (RFC 4456,
--- section 8)
+-- section 8); else it is 0, and has no bits
 abbrev pub reflected : Tracked → Field → Field
-reflected tracked field = if length tracked.clusters == 0 then only 0 else field
+reflected tracked field = if length tracked.clusters == 0 then Bits 0 else field
 
 -- how long a cluster list is, which names no reflector twice
 abbrev pub clusters_field : Tracked → Field

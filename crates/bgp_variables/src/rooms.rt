@@ -65,53 +65,31 @@ fn marks(alloc: Global, may: bool, count: usize) -> Result<List<bool>, AllocErro
     })
 }
 
+// A number that only a reflected route has.
+fn reflected(tracked: &Tracked, field: Field) -> Field
+    ensures { result ≡ rooms.reflected tracked.now field }
+{
+    if tracked.clusters.as_slice().len() == 0 {
+        Field::Bits(0)
+    } else {
+        field
+    }
+}
+
+// How long a cluster list is, which names no reflector twice.
+fn clusters_field(tracked: &Tracked) -> Field
+    ensures { result ≡ rooms.clusters_field tracked.now }
+{
+    let many = tracked.clusters.as_slice().len() as u64;
+    reflected(tracked, Field::Bits(width_for(many)))
+}
+
 // What the attributes of reflectors can be (RFC 4456, section 8).
 #[derive(Drop)]
 struct Reflection {
     originator: Field,
     cluster_len: Field,
     clusters: List<bool>,
-}
-
-// A number that only a reflected route has.
-fn reflected(alloc: Global, tracked: &Tracked, field: Field) -> Result<Field, AllocError>
-    ensures { IfOk result (λ r. r ≡ rooms.reflected tracked.now field) }
-{
-    if tracked.clusters.as_slice().len() == 0 {
-        only(alloc, 0)
-    } else {
-        Ok(field)
-    }
-}
-
-// How long a cluster list is, which names no reflector twice.
-fn clusters_field(alloc: Global, tracked: &Tracked) -> Result<Field, AllocError>
-    ensures { IfOk result (λ r. r ≡ rooms.clusters_field tracked.now) }
-{
-    let many = tracked.clusters.as_slice().len() as u64;
-    reflected(alloc, tracked, Field::Bits(width_for(many)))
-}
-
-// Of a held route.
-fn attributes_of_reflectors(
-    alloc: Global,
-    tracked: &Tracked,
-    originator: Field,
-) -> Result<Reflection, AllocError>
-    ensures { IfOk result (λ r. r ≡ record {
-      originator = rooms.reflected tracked.now originator;
-      cluster_len = rooms.clusters_field tracked.now;
-      clusters = rooms.all_marks tracked.now.clusters;
-    }) }
-{
-    let originator = reflected(alloc, tracked, originator)?;
-    let cluster_len = clusters_field(alloc, tracked)?;
-    let clusters = marks(alloc, true, tracked.clusters.as_slice().len())?;
-    Ok(Reflection {
-        originator,
-        cluster_len,
-        clusters,
-    })
 }
 
 // Of an announcement: it was not reflected.
@@ -230,17 +208,12 @@ fn worded_values(alloc: Global, net: &Net) -> Result<HeldValues, AllocError>
     })
 }
 
-// The path of a route whose ends those fields tell.
-fn path_from(
-    alloc: Global,
-    tracked: &Tracked,
-    first: Field,
-    last: Field,
-) -> Result<PathRoom, AllocError>
+// The path of an announcement whose first number that field tells.
+fn path_from(alloc: Global, tracked: &Tracked, first: Field) -> Result<PathRoom, AllocError>
     ensures { IfOk result (λ r. r ≡ record {
       len = Bits 8;
       first = first;
-      last = last;
+      last = Bits 32;
       numbers = rooms.all_marks tracked.now.numbers;
     }) }
 {
@@ -248,39 +221,46 @@ fn path_from(
     Ok(PathRoom {
         len: Field::Bits(8),
         first,
-        last,
+        last: Field::Bits(32),
         numbers,
     })
 }
 
-// The lists of a route.
+// The lists of an announcement.
 #[derive(Drop)]
 struct Lists {
     communities: List<bool>,
     reflection: Reflection,
 }
 
-fn held_lists(alloc: Global, tracked: &Tracked, originator: Field) -> Result<Lists, AllocError>
+// The marks of a held route.
+#[derive(Drop)]
+struct HeldMarks {
+    numbers: List<bool>,
+    communities: List<bool>,
+    clusters: List<bool>,
+}
+
+fn held_marks(alloc: Global, tracked: &Tracked) -> Result<HeldMarks, AllocError>
     ensures { IfOk result (λ r. r ≡ record {
+      numbers = rooms.all_marks tracked.now.numbers;
       communities = rooms.all_marks tracked.now.communities;
-      reflection = record {
-        originator = rooms.reflected tracked.now originator;
-        cluster_len = rooms.clusters_field tracked.now;
-        clusters = rooms.all_marks tracked.now.clusters;
-      };
+      clusters = rooms.all_marks tracked.now.clusters;
     }) }
 {
+    let numbers = marks(alloc, true, tracked.numbers.as_slice().len())?;
     let communities = marks(alloc, true, tracked.communities.as_slice().len())?;
-    let reflection = attributes_of_reflectors(alloc, tracked, originator)?;
-    Ok(Lists {
+    let clusters = marks(alloc, true, tracked.clusters.as_slice().len())?;
+    Ok(HeldMarks {
+        numbers,
         communities,
-        reflection,
+        clusters,
     })
 }
 
-// A held route, of the parts that are known.
-fn held_of(alloc: Global, tracked: &Tracked, values: HeldValues) -> Result<BgpRoom, AllocError>
-    ensures { IfOk result (λ r. r ≡ record {
+// A held route, of parts that are known: nothing fails here, where so much is owned.
+fn held_of(tracked: &Tracked, values: HeldValues, marks: HeldMarks) -> BgpRoom
+    ensures { result ≡ record {
       from = values.from;
       preferences = record {
         weight = values.weight;
@@ -288,45 +268,34 @@ fn held_of(alloc: Global, tracked: &Tracked, values: HeldValues) -> Result<BgpRo
         med = Bits 32;
         origin = Bits 2;
       };
-      path = record {
-        len = Bits 8;
-        first = values.first;
-        last = values.last;
-        numbers = rooms.all_marks tracked.now.numbers;
-      };
-      communities = rooms.all_marks tracked.now.communities;
+      path = record { len = Bits 8; first = values.first; last = values.last; numbers = marks.numbers };
+      communities = marks.communities;
       next_hop = values.next_hop;
       originator = rooms.reflected tracked.now values.originator;
       cluster_len = rooms.clusters_field tracked.now;
-      clusters = rooms.all_marks tracked.now.clusters;
-    }) }
+      clusters = marks.clusters;
+    } }
 {
-    let HeldValues {
-        from,
-        originator,
-        weight,
-        local_pref,
-        next_hop,
-        first,
-        last,
-    } = values;
-    let path = path_from(alloc, tracked, first, last)?;
-    let lists = held_lists(alloc, tracked, originator)?;
-    Ok(BgpRoom {
-        from,
+    BgpRoom {
+        from: values.from,
         preferences: PreferencesRoom {
-            weight,
-            local_pref,
+            weight: values.weight,
+            local_pref: values.local_pref,
             med: Field::Bits(32),
             origin: Field::Bits(2),
         },
-        path,
-        communities: lists.communities,
-        next_hop,
-        originator: lists.reflection.originator,
-        cluster_len: lists.reflection.cluster_len,
-        clusters: lists.reflection.clusters,
-    })
+        path: PathRoom {
+            len: Field::Bits(8),
+            first: values.first,
+            last: values.last,
+            numbers: marks.numbers,
+        },
+        communities: marks.communities,
+        next_hop: values.next_hop,
+        originator: reflected(tracked, values.originator),
+        cluster_len: clusters_field(tracked),
+        clusters: marks.clusters,
+    }
 }
 
 /// What a held route of a network of these files can be: its weight, local preference, next hop and first AS number are
@@ -338,9 +307,9 @@ pub fn held_room(alloc: Global, tracked: &Tracked, net: &Net) -> Result<BgpRoom,
     ensures value { IfOk result (λ r. r ≡ rooms.held_room tracked.now net.now.files) }
     ensures room { IfOk result (IsRoomOf tracked.now) }
 {
+    let marks = held_marks(alloc, tracked)?;
     let values = worded_values(alloc, net)?;
-    let room = held_of(alloc, tracked, values)?;
-    Ok(room)
+    Ok(held_of(tracked, values, marks))
 }
 
 // What an announcement tells of its peer.
@@ -433,7 +402,7 @@ fn announced(
         first,
         next_hop,
     } = sender;
-    let path = path_from(alloc, tracked, first, Field::Bits(32))?;
+    let path = path_from(alloc, tracked, first)?;
     let lists = lists_of(alloc, tracked)?;
     Ok(BgpRoom {
         from,
