@@ -55,7 +55,7 @@ fn bgp_room_at(alloc: Global, net: &Net, p: Place) -> Result<Option<BgpRoom>, Al
     match speaker_at(net, p) {
         None => Ok(None),
         Some(_) => {
-            let room = held_room(alloc, net.tracked(), net.routers())?;
+            let room = held_room(alloc, net.tracked(), net)?;
             Ok(Some(room))
         }
     }

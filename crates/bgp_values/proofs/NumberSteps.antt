@@ -5,8 +5,10 @@ use Rattle.std.specs.Prelude.{nat_lt}
 use Rattle.std.proofs.Math.Nat.{pow-suc}
 use Rattle.failed_links.specs.Rows.{number_from, row}
 use Rattle.term_arith.specs.Bits.{bit, number_of}
-use Rattle.slot_places.specs.declared.fields.Field.TheVariants.{Among}
+use Rattle.slot_places.specs.declared.fields.Field.{Field}
+use Rattle.slot_places.specs.declared.fields.Field.TheVariants.{Addresses, Among, Bits}
 use Rattle.slot_places.specs.Values.{field_width, width_from}
+use Rattle.world_variables.specs.Unknowns.{TellsWithin}
 
 twice : (width : ℕ) (b : Bool) → 2 ^ suc width * bit b ≡ 2 * (2 ^ width * bit b)
 twice width true = omega (arith, pow-suc 2 width)
@@ -44,6 +46,8 @@ few n width (suc tries) = by (nat_lt n (2 ^ width)) (few n (suc width) tries) wh
   by true rest = omega arith
   by false rest = omega (arith, rest)
 
--- one of some values is told by at most 32 variables
-pub place_bits : (values : List ℕ) → field_width (Among values) ≤ 32
-place_bits values = let below = few (length values - 1) 0 32 in omega (arith, below)
+-- a field that tells numbers of 33 bits has no more variables
+pub long_bits : (field : Field) → TellsWithin 33 field → field_width field ≤ 33
+long_bits (Bits width) narrow = narrow
+long_bits (Among values) narrow = let below = few (length values - 1) 0 32 in omega (arith, below)
+long_bits (Addresses addresses) narrow = let below = few (length addresses) 0 32 in omega (arith, below)

@@ -53,27 +53,24 @@ fn long_number_at(values: &[bool], from: usize, width: u8) -> u64
 }
 
 /// The number of 32 bits that a field tells by its variables.
-#[tactic(auto, using(world_variables::proofs::RoomSteps::few_bits))]
+#[tactic(auto, using(world_variables::proofs::RoomSteps::few_bits, world_variables::proofs::Worlds::told_small))]
 pub fn told_at(values: &[bool], from: usize, field: &Field) -> u32
     requires narrow { TellsWithin 32 field.now }
     requires within { from + field_width field.now ≤ length values.now }
     ensures { result ≡ shapes.told_from field.now (truth values.now) from }
 {
-    field.read(number_at(values, from, field.width()))
+    field.read(u64::from(number_at(values, from, field.width()))) as u32
 }
 
 /// The number of 33 bits that a field tells by its variables.
-#[tactic(auto, using(crate::proofs::NumberSteps::place_bits))]
+#[tactic(auto, using(crate::proofs::NumberSteps::long_bits))]
 pub fn long_told_at(values: &[bool], from: usize, field: &Field) -> u64
     requires narrow { TellsWithin 33 field.now }
     requires within { from + field_width field.now ≤ length values.now }
     ensures value { result ≡ shapes.told_from field.now (truth values.now) from }
     ensures small { result < 2 ^ 33 }
 {
-    match field {
-        Field::Bits(width) => long_number_at(values, from, *width),
-        Field::Among(_) => u64::from(field.read(number_at(values, from, field.width()))),
-    }
+    field.read(long_number_at(values, from, field.width()))
 }
 
 // ---- what numbers stand for

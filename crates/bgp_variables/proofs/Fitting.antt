@@ -15,19 +15,17 @@ use Rattle.ios_ast.specs.declared.bgp.Neighbour.{Neighbour}
 use Rattle.ios_ast.specs.declared.file.File.{File}
 use Rattle.ios_ast.specs.Deciding.{carries}
 use Rattle.ios_ast.specs.Limits.{keeps_limits}
-use Rattle.ios_ast.specs.Paths.{first_of}
+use Rattle.ios_ast.specs.Paths.{first_of, last_of}
 use Rattle.route_record.specs.declared.BgpRec.{BgpRec}
 use Rattle.route_record.specs.declared.Environment.{Environment}
 use Rattle.route_record.specs.declared.Failures.{Failures}
-use Rattle.route_record.specs.declared.Learnt.{Learnt}
-use Rattle.route_record.specs.declared.Learnt.TheVariants.{Local, Peer}
 use Rattle.route_record.specs.declared.Origin.{Origin}
 use Rattle.route_record.specs.declared.Origin.TheVariants.{Igp, Egp, Incomplete}
 use Rattle.route_record.specs.declared.Slot.{Slot}
 use Rattle.route_record.specs.declared.Tables.{Tables}
 use Rattle.route_record.specs.declared.TheConstants.{LENGTHS}
 use Rattle.route_record.specs.declared.tracked.Tracked.{Tracked}
-use Rattle.route_record.specs.Fits.{FitsBgp, FitsLearnt, FitsSlot, IsAddress}
+use Rattle.route_record.specs.Fits.{FitsBgp, FitsSlot, IsAddress}
 use Rattle.route_record.specs.Origins.{origin_code}
 use Rattle.route_record.specs.Places.{slot_at}
 use Rattle.route_record.specs.Shape.{has_address, saturated}
@@ -39,18 +37,19 @@ use Rattle.net_parts.specs.Decisions.{DecidedByBgp}
 use Rattle.net_parts.specs.Stable.{Stable}
 use Rattle.route_shapes.specs.Bgp.{address_number, bgp_shape, learnt_number}
 use Rattle.held_values.specs.Rooms.{FitsHeldValues, values_room}
-use Rattle.held_values.proofs.Fields.{held_fits as values_fit}
+use Rattle.held_values.proofs.Fields.{held_fits as values_fit, learnt_small, originator_small}
 use Rattle.rebuilt_routes.specs.Clusters.{HasBoundedLists}
 use Rattle.rebuilt_routes.proofs.Sources.{routes_in}
 use Rattle.rebuilt_routes.proofs.StableShapes.{lists_bounded}
 use Rattle.slot_places.specs.declared.fields.Field.{Field}
-use Rattle.slot_places.specs.declared.fields.Field.TheVariants.{Among, Bits}
-use Rattle.slot_places.specs.Values.{FitsField}
+use Rattle.slot_places.specs.declared.fields.Field.TheVariants.{Addresses, Among, Bits}
+use Rattle.slot_places.specs.Values.{FitsField, width_for}
+use Rattle.slot_places.proofs.Widths.{in_width}
 use Rattle.bgp_shapes.specs.Candidates.{ShapeAnnouncement, shape_announced}
 use Rattle.announced_shapes.specs.Paths.{IsPathShape, is_as_number, is_word}
 use Rattle.world_variables.proofs.Worlds.{value_small}
 use Rattle.bgp_variables.specs.Marks.{FitMarks}
-use Rattle.bgp_variables.specs.Rooms.{announcement_room, bgp_room, held_room, of_words, only, reflected}
+use Rattle.bgp_variables.specs.Rooms.{announcement_room, bgp_room, held_room, of_addresses, of_words, only, reflected}
 use Rattle.bgp_variables.specs.Brought.{brings_bgp}
 use Rattle.bgp_variables.specs.Shapes.{FitsBgpRoom, FitsShape}
 use Rattle.bgp_variables.specs.declared.rooms.BgpRoom.{BgpRoom}
@@ -84,24 +83,16 @@ origin_small Igp = omega arith
 origin_small Egp = omega arith
 origin_small Incomplete = omega arith
 
-learnt_small : (learnt : Learnt) → FitsLearnt learnt → learnt_number learnt < 2 ^ 33
-learnt_small Local fits = omega arith
-learnt_small (Peer a) fits = omega (arith, fits)
-
 -- ---- held routes
 
-originator_small : (o : Option Addr) → IfSome o IsAddress → address_number o < 2 ^ 33
-originator_small None fits = omega arith
-originator_small (Some a) fits = omega (arith, fits)
-
 -- a number of a route that no reflector passed on is none
-reflected_fits : (tracked : Tracked) (bits n : ℕ) → n < 2 ^ bits → (length tracked.clusters ≡ 0 → n ≡ 0) →
-    FitsField (reflected tracked bits) n
-reflected_fits tracked bits n small none = by (length tracked.clusters == 0) refl
+reflected_fits : (tracked : Tracked) (field : Field) (n : ℕ) → FitsField field n →
+    (length tracked.clusters ≡ 0 → n ≡ 0) → FitsField (reflected tracked field) n
+reflected_fits tracked field n fits none = by (length tracked.clusters == 0) refl
   where
-    by : (b : Bool) → (length tracked.clusters == 0) ≡ b → FitsField (if b then only 0 else Bits bits) n
-    by true is = only_fits 0 n (none (eqb-true (length tracked.clusters) 0 is))
-    by false is = small
+    by : (b : Bool) → (length tracked.clusters == 0) ≡ b → FitsField (if b then Bits 0 else field) n
+    by true is = let zero = none (eqb-true (length tracked.clusters) 0 is) in omega (arith, zero)
+    by false is = fits
 
 -- a number of 32 bits that fits a field
 words_fit : (field : Field) (n : ℕ) → FitsField field n → n < 2 ^ 32 → FitsField (of_words field) n
@@ -115,13 +106,33 @@ words_fit (Among values) n fits small = by (list_all is_word values)
     by : (b : Bool) → FitsField (if b then Among values else Bits 32) n
     by true = fits
     by false = small
+words_fit (Addresses addresses) n fits small = small
+
+-- and one of 33 bits
+addresses_fit : (field : Field) (n : ℕ) → FitsField field n → n < 2 ^ 33 → FitsField (of_addresses field) n
+addresses_fit (Bits width) n fits small = by (nat_le width 33)
+  where
+    by : (b : Bool) → FitsField (if b then Bits width else Bits 33) n
+    by true = fits
+    by false = small
+addresses_fit (Among values) n fits small = by (list_all is_word values)
+  where
+    by : (b : Bool) → FitsField (if b then Among values else Bits 33) n
+    by true = fits
+    by false = small
+addresses_fit (Addresses addresses) n fits small = by (list_all is_word addresses)
+  where
+    by : (b : Bool) → FitsField (if b then Addresses addresses else Bits 33) n
+    by true = fits
+    by false = small
 
 -- a route with bounded lists, whose numbers are among the values of the files, fits its room
 rec_fits : (tracked : Tracked) (files : List File) (rec : BgpRec) → FitsBgp rec → HasBoundedLists tracked rec →
     FitsHeldValues (values_room files) rec → length tracked.clusters ≤ MOST_TRACKED →
     FitsShape (held_room tracked files) (bgp_shape tracked rec)
 rec_fits tracked files rec fits lists values most = record {
-  from = learnt_small rec.from fits.from;
+  from = addresses_fit (values_room files).from (learnt_number rec.from) values.from
+      (learnt_small rec.from fits.from);
   preferences = record {
     weight = words_fit (values_room files).weight rec.weight values.weight fits.weight;
     local_pref = words_fit (values_room files).local_pref rec.local_pref values.local_pref fits.local_pref;
@@ -133,18 +144,21 @@ rec_fits tracked files rec fits lists values most = record {
         subst (λ k. k < 2 ^ 8) (saturated-small (length rec.path) (omega (arith, short))) (omega (arith, short));
     first = words_fit (values_room files).first (first_of rec.path) values.first
         (value_small rec.path 0 (2 ^ 32) (omega arith) fits.path);
-    last = value_small rec.path (length rec.path - 1) (2 ^ 32) (omega arith) fits.path;
+    last = words_fit (values_room files).last (last_of rec.path) values.last
+        (value_small rec.path (length rec.path - 1) (2 ^ 32) (omega arith) fits.path);
     numbers = each_fit (carries rec.path) tracked.numbers;
   };
   communities = each_fit (carries rec.communities) tracked.communities;
   next_hop = words_fit (values_room files).next_hop rec.next_hop.0 values.next_hop fits.next_hop;
-  originator = reflected_fits tracked 33 (address_number rec.originator)
-      (originator_small rec.originator fits.originator)
+  originator = reflected_fits tracked (of_addresses (values_room files).originator) (address_number rec.originator)
+      (addresses_fit (values_room files).originator (address_number rec.originator) values.originator
+      (originator_small rec.originator fits.originator))
       (λ none. ap address_number (lists.reflected (unlisted none)));
   cluster_len = let few = lists.clusters.few in
       let same = saturated-small (length rec.clusters) (omega (arith, few, most)) in
-      reflected_fits tracked 8 (saturated (length rec.clusters))
-      (subst (λ k. k < 2 ^ 8) same (omega (arith, few, most)))
+      reflected_fits tracked (Bits (width_for (length tracked.clusters))) (saturated (length rec.clusters))
+      (subst (λ k. k < 2 ^ width_for (length tracked.clusters)) same
+      (in_width (length rec.clusters) (length tracked.clusters) 0 32 few (omega (arith, few, most))))
       (λ none. ap (λ cs. saturated (length cs)) (unlisted none) ∙ saturated-none);
   clusters = each_fit (has_address rec.clusters) tracked.clusters;
 }

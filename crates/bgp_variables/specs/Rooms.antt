@@ -9,7 +9,8 @@ use Rattle.announced_shapes.specs.Paths.{is_word}
 use Rattle.held_values.specs.Rooms.{values_room}
 use Rattle.plan_places.specs.declared.places.Place.{Place}
 use Rattle.slot_places.specs.declared.fields.Field.{Field}
-use Rattle.slot_places.specs.declared.fields.Field.TheVariants.{Bits, Among}
+use Rattle.slot_places.specs.declared.fields.Field.TheVariants.{Bits, Among, Addresses}
+use Rattle.slot_places.specs.Values.{width_for}
 use Rattle.bgp_variables.specs.declared.rooms.BgpRoom.{BgpRoom}
 use Rattle.bgp_variables.specs.Brought.{speaker_at}
 
@@ -24,21 +25,32 @@ all_marks tracked = replicate (length tracked) true
 abbrev pub no_marks : {X : Type 0} → List X → List Bool
 no_marks tracked = replicate (length tracked) false
 
--- a number that only a reflected route has: so many bits where some router of the network is a reflector (RFC 4456,
--- section 8)
-abbrev pub reflected : Tracked → ℕ → Field
-reflected tracked bits = if length tracked.clusters == 0 then only 0 else Bits bits
+-- a number that only a reflected route has, by that field where some router of the network is a reflector (RFC 4456,
+-- section 8); else it is 0, and has no bits
+abbrev pub reflected : Tracked → Field → Field
+reflected tracked field = if length tracked.clusters == 0 then Bits 0 else field
+
+-- how long a cluster list is, which names no reflector twice
+abbrev pub clusters_field : Tracked → Field
+clusters_field tracked = reflected tracked (Bits (width_for (length tracked.clusters)))
 
 -- a field for numbers of 32 bits: where a value has more, it tells all of 32
 abbrev pub of_words : Field → Field
 of_words (Bits width) = if nat_le width 32 then Bits width else Bits 32
 of_words (Among values) = if list_all is_word values then Among values else Bits 32
+of_words (Addresses addresses) = Bits 32
 
--- what a held route can be, by what lines of the files say of its numbers. An imported path has at most 255 numbers, and a
--- cluster list names no reflector twice
+-- and one for numbers of addresses that may be missing, which have 33
+abbrev pub of_addresses : Field → Field
+of_addresses (Bits width) = if nat_le width 33 then Bits width else Bits 33
+of_addresses (Among values) = if list_all is_word values then Among values else Bits 33
+of_addresses (Addresses addresses) = if list_all is_word addresses then Addresses addresses else Bits 33
+
+-- what a held route can be, by what lines of the files say of its numbers and of peers, and by the identifiers of routers.
+-- An imported path has at most 255 numbers
 abbrev pub held_room : Tracked → List File → BgpRoom
 held_room tracked files = record {
-  from = Bits 33;
+  from = of_addresses (values_room files).from;
   preferences = record {
     weight = of_words (values_room files).weight;
     local_pref = of_words (values_room files).local_pref;
@@ -48,13 +60,13 @@ held_room tracked files = record {
   path = record {
     len = Bits 8;
     first = of_words (values_room files).first;
-    last = Bits 32;
+    last = of_words (values_room files).last;
     numbers = all_marks tracked.numbers;
   };
   communities = all_marks tracked.communities;
   next_hop = of_words (values_room files).next_hop;
-  originator = reflected tracked 33;
-  cluster_len = reflected tracked 8;
+  originator = reflected tracked (of_addresses (values_room files).originator);
+  cluster_len = clusters_field tracked;
   clusters = all_marks tracked.clusters;
 }
 

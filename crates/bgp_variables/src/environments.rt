@@ -100,6 +100,9 @@ fn open_row(
     Ok(())
 }
 
+// A room that is done with: each of its fields ends here, so that no caller ends them beside its own clauses.
+fn put_away(_room: BgpRoom) {}
+
 // Puts at the end what arrives at so many lengths over the session of an external end with that neighbour line.
 fn open_peer(
     alloc: Global,
@@ -125,7 +128,9 @@ fn open_peer(
         None => open_row(alloc, terms, made, None, tracked, count),
         Some(neighbour) => {
             let room = announcement_room(alloc, tracked, neighbour)?;
-            open_row(alloc, terms, made, Some(&room), tracked, count)
+            let opened = open_row(alloc, terms, made, Some(&room), tracked, count);
+            put_away(room);
+            opened
         }
     }
 }

@@ -9,10 +9,11 @@ ghost use Rattle.bgp_variables.specs.Rooms as rooms;
 ghost use Rattle.bgp_variables.specs.Shapes.{IsRoomOf};
 
 use held_values::{HeldValues, held_values};
-use ios_ast::{File, Neighbour};
+use ios_ast::Neighbour;
 use mw_text::List;
+use net_model::Net;
 use route_record::Tracked;
-use slot_places::Field;
+use slot_places::{Field, width_for};
 use std::alloc::{AllocError, Global};
 
 /// What the numbers can be by which routes are preferred.
@@ -64,41 +65,31 @@ fn marks(alloc: Global, may: bool, count: usize) -> Result<List<bool>, AllocErro
     })
 }
 
+// A number that only a reflected route has.
+fn reflected(tracked: &Tracked, field: Field) -> Field
+    ensures { result ≡ rooms.reflected tracked.now field }
+{
+    if tracked.clusters.as_slice().len() == 0 {
+        Field::Bits(0)
+    } else {
+        field
+    }
+}
+
+// How long a cluster list is, which names no reflector twice.
+fn clusters_field(tracked: &Tracked) -> Field
+    ensures { result ≡ rooms.clusters_field tracked.now }
+{
+    let many = tracked.clusters.as_slice().len() as u64;
+    reflected(tracked, Field::Bits(width_for(many)))
+}
+
 // What the attributes of reflectors can be (RFC 4456, section 8).
 #[derive(Drop)]
 struct Reflection {
     originator: Field,
     cluster_len: Field,
     clusters: List<bool>,
-}
-
-// A number that only a reflected route has.
-fn reflected(alloc: Global, tracked: &Tracked, bits: u8) -> Result<Field, AllocError>
-    ensures { IfOk result (λ r. r ≡ rooms.reflected tracked.now bits) }
-{
-    if tracked.clusters.as_slice().len() == 0 {
-        only(alloc, 0)
-    } else {
-        Ok(Field::Bits(bits))
-    }
-}
-
-// Of a held route.
-fn attributes_of_reflectors(alloc: Global, tracked: &Tracked) -> Result<Reflection, AllocError>
-    ensures { IfOk result (λ r. r ≡ record {
-      originator = rooms.reflected tracked.now 33;
-      cluster_len = rooms.reflected tracked.now 8;
-      clusters = rooms.all_marks tracked.now.clusters;
-    }) }
-{
-    let originator = reflected(alloc, tracked, 33)?;
-    let cluster_len = reflected(alloc, tracked, 8)?;
-    let clusters = marks(alloc, true, tracked.clusters.as_slice().len())?;
-    Ok(Reflection {
-        originator,
-        cluster_len,
-        clusters,
-    })
 }
 
 // Of an announcement: it was not reflected.
@@ -152,33 +143,72 @@ fn of_words(field: Field) -> Field
                 Field::Bits(32)
             }
         }
+        Field::Addresses(_) => Field::Bits(32),
     }
 }
 
-// The numbers of a held route that lines of the files say.
-fn worded_values(alloc: Global, files: &[File]) -> Result<HeldValues, AllocError>
+// A field for numbers of 33 bits, which stand for addresses that may be missing.
+fn of_addresses(field: Field) -> Field
+    ensures { result ≡ rooms.of_addresses field }
+{
+    match field {
+        Field::Bits(width) => {
+            if width <= 33 {
+                Field::Bits(width)
+            } else {
+                Field::Bits(33)
+            }
+        }
+        Field::Among(values) => {
+            if are_words(values.as_slice()) {
+                Field::Among(values)
+            } else {
+                Field::Bits(33)
+            }
+        }
+        Field::Addresses(addresses) => {
+            if are_words(addresses.as_slice()) {
+                Field::Addresses(addresses)
+            } else {
+                Field::Bits(33)
+            }
+        }
+    }
+}
+
+// The numbers of a held route that lines of the files say, its peers and its originators.
+fn worded_values(alloc: Global, net: &Net) -> Result<HeldValues, AllocError>
     ensures { IfOk result (λ r. r ≡ record {
-      weight = rooms.of_words (values_room files.now).weight;
-      local_pref = rooms.of_words (values_room files.now).local_pref;
-      next_hop = rooms.of_words (values_room files.now).next_hop;
-      first = rooms.of_words (values_room files.now).first;
+      from = rooms.of_addresses (values_room net.now.files).from;
+      originator = rooms.of_addresses (values_room net.now.files).originator;
+      weight = rooms.of_words (values_room net.now.files).weight;
+      local_pref = rooms.of_words (values_room net.now.files).local_pref;
+      next_hop = rooms.of_words (values_room net.now.files).next_hop;
+      first = rooms.of_words (values_room net.now.files).first;
+      last = rooms.of_words (values_room net.now.files).last;
     }) }
 {
     let HeldValues {
+        from,
+        originator,
         weight,
         local_pref,
         next_hop,
         first,
-    } = held_values(alloc, files)?;
+        last,
+    } = held_values(alloc, net)?;
     Ok(HeldValues {
+        from: of_addresses(from),
+        originator: of_addresses(originator),
         weight: of_words(weight),
         local_pref: of_words(local_pref),
         next_hop: of_words(next_hop),
         first: of_words(first),
+        last: of_words(last),
     })
 }
 
-// The path of a route whose first number that field tells.
+// The path of an announcement whose first number that field tells.
 fn path_from(alloc: Global, tracked: &Tracked, first: Field) -> Result<PathRoom, AllocError>
     ensures { IfOk result (λ r. r ≡ record {
       len = Bits 8;
@@ -196,89 +226,90 @@ fn path_from(alloc: Global, tracked: &Tracked, first: Field) -> Result<PathRoom,
     })
 }
 
-// The lists of a route.
+// The lists of an announcement.
 #[derive(Drop)]
 struct Lists {
     communities: List<bool>,
     reflection: Reflection,
 }
 
-fn held_lists(alloc: Global, tracked: &Tracked) -> Result<Lists, AllocError>
+// The marks of a held route.
+#[derive(Drop)]
+struct HeldMarks {
+    numbers: List<bool>,
+    communities: List<bool>,
+    clusters: List<bool>,
+}
+
+fn held_marks(alloc: Global, tracked: &Tracked) -> Result<HeldMarks, AllocError>
     ensures { IfOk result (λ r. r ≡ record {
+      numbers = rooms.all_marks tracked.now.numbers;
       communities = rooms.all_marks tracked.now.communities;
-      reflection = record {
-        originator = rooms.reflected tracked.now 33;
-        cluster_len = rooms.reflected tracked.now 8;
-        clusters = rooms.all_marks tracked.now.clusters;
-      };
+      clusters = rooms.all_marks tracked.now.clusters;
     }) }
 {
+    let numbers = marks(alloc, true, tracked.numbers.as_slice().len())?;
     let communities = marks(alloc, true, tracked.communities.as_slice().len())?;
-    let reflection = attributes_of_reflectors(alloc, tracked)?;
-    Ok(Lists {
+    let clusters = marks(alloc, true, tracked.clusters.as_slice().len())?;
+    Ok(HeldMarks {
+        numbers,
         communities,
-        reflection,
+        clusters,
     })
 }
 
-// A held route, of the parts that are known.
-fn held_of(alloc: Global, tracked: &Tracked, values: HeldValues) -> Result<BgpRoom, AllocError>
-    ensures { IfOk result (λ r. r ≡ record {
-      from = Bits 33;
+// A held route, of parts that are known: nothing fails here, where so much is owned.
+fn held_of(tracked: &Tracked, values: HeldValues, marks: HeldMarks) -> BgpRoom
+    ensures { result ≡ record {
+      from = values.from;
       preferences = record {
         weight = values.weight;
         local_pref = values.local_pref;
         med = Bits 32;
         origin = Bits 2;
       };
-      path = record {
-        len = Bits 8;
-        first = values.first;
-        last = Bits 32;
-        numbers = rooms.all_marks tracked.now.numbers;
-      };
-      communities = rooms.all_marks tracked.now.communities;
+      path = record { len = Bits 8; first = values.first; last = values.last; numbers = marks.numbers };
+      communities = marks.communities;
       next_hop = values.next_hop;
-      originator = rooms.reflected tracked.now 33;
-      cluster_len = rooms.reflected tracked.now 8;
-      clusters = rooms.all_marks tracked.now.clusters;
-    }) }
+      originator = rooms.reflected tracked.now values.originator;
+      cluster_len = rooms.clusters_field tracked.now;
+      clusters = marks.clusters;
+    } }
 {
-    let HeldValues {
-        weight,
-        local_pref,
-        next_hop,
-        first,
-    } = values;
-    let path = path_from(alloc, tracked, first)?;
-    let lists = held_lists(alloc, tracked)?;
-    Ok(BgpRoom {
-        from: Field::Bits(33),
+    BgpRoom {
+        from: values.from,
         preferences: PreferencesRoom {
-            weight,
-            local_pref,
+            weight: values.weight,
+            local_pref: values.local_pref,
             med: Field::Bits(32),
             origin: Field::Bits(2),
         },
-        path,
-        communities: lists.communities,
-        next_hop,
-        originator: lists.reflection.originator,
-        cluster_len: lists.reflection.cluster_len,
-        clusters: lists.reflection.clusters,
-    })
+        path: PathRoom {
+            len: Field::Bits(8),
+            first: values.first,
+            last: values.last,
+            numbers: marks.numbers,
+        },
+        communities: marks.communities,
+        next_hop: values.next_hop,
+        originator: reflected(tracked, values.originator),
+        cluster_len: clusters_field(tracked),
+        clusters: marks.clusters,
+    }
 }
 
 /// What a held route of a network of these files can be: its weight, local preference, next hop and first AS number are
-/// among those that lines of the files say, where these are few (RFC 4271, section 5.1).
+/// among those that lines of the files say, where these are few (RFC 4271, section 5.1), and so is the peer of whom it is
+/// learnt, if any; its originator is a router, if any (RFC 4456, section 8). Where no router has an external peer so is its
+/// last AS number.
 #[tactic(auto, using(crate::proofs::RoomSteps::held_is_room))]
-pub fn held_room(alloc: Global, tracked: &Tracked, files: &[File]) -> Result<BgpRoom, AllocError>
-    ensures value { IfOk result (λ r. r ≡ rooms.held_room tracked.now files.now) }
+pub fn held_room(alloc: Global, tracked: &Tracked, net: &Net) -> Result<BgpRoom, AllocError>
+    ensures value { IfOk result (λ r. r ≡ rooms.held_room tracked.now net.now.files) }
     ensures room { IfOk result (IsRoomOf tracked.now) }
 {
-    let values = worded_values(alloc, files)?;
-    let room = held_of(alloc, tracked, values)?;
-    Ok(room)
+    let marks = held_marks(alloc, tracked)?;
+    let values = worded_values(alloc, net)?;
+    Ok(held_of(tracked, values, marks))
 }
 
 // What an announcement tells of its peer.

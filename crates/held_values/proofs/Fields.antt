@@ -1,10 +1,11 @@
 -- Fields for known values: each value once, and each held route has room.
 use Rattle.std.proofs.Common.{◌≡◌, ◌⊎◌, ℕ, ◌+◌, ◌^◌, ◌<◌, ◌==◌, ◌||◌, Bool, true, false, List, [], ◌∷◌, inl, inr, refl, sym}
-use Rattle.std.proofs.Common.{arith}
-use Rattle.std.specs.Prelude.{All, Some, fold}
-use Rattle.std.specs.List.{flat_map, list_all}
+use Rattle.std.proofs.Common.{arith, zero, suc, ◌-◌, ap, map, ◌++◌, ◌∙◌}
+use Rattle.std.specs.Prelude.{All, IfSome, None, Option, Some, fold, if◌then◌else◌, length, slice_index}
+use Rattle.std.specs.List.{flat_map, list_all, range_with_len}
 use Rattle.std.proofs.lemmas.Bool.{eqb-true}
-use Rattle.std.proofs.lemmas.List.Elements.{All-head}
+use Rattle.std.proofs.lemmas.List.Elements.{All-head, All-tail}
+use Rattle.std.proofs.lemmas.List.FromFn.{map-range_with_len_more}
 use Rattle.std.proofs.lemmas.List.Sums.{fold-append}
 use Rattle.mw_text.specs.Members.{In}
 use Rattle.mw_text.specs.declared.address.Addr.{Addr}
@@ -12,7 +13,7 @@ use Rattle.mw_text.proofs.Lists.{all_found}
 use Rattle.ios_ast.specs.declared.file.File.{File}
 use Rattle.ios_ast.specs.Deciding.{carries}
 use Rattle.ios_ast.specs.Limits.{keeps_limits}
-use Rattle.ios_ast.specs.Paths.{first_of}
+use Rattle.ios_ast.specs.Paths.{first_of, last_of}
 use Rattle.route_record.specs.declared.BgpRec.{BgpRec}
 use Rattle.route_record.specs.declared.Environment.{Environment}
 use Rattle.route_record.specs.declared.Failures.{Failures}
@@ -22,19 +23,22 @@ use Rattle.route_record.specs.declared.Slot.{Slot}
 use Rattle.route_record.specs.declared.Tables.{Tables}
 use Rattle.route_record.specs.declared.TheConstants.{LENGTHS}
 use Rattle.route_record.specs.declared.tracked.Tracked.{Tracked}
-use Rattle.route_record.specs.Fits.{FitsBgp, FitsLearnt, FitsSlot, IsWord}
+use Rattle.route_record.specs.Fits.{FitsBgp, FitsLearnt, FitsSlot, IsAddress, IsWord}
 use Rattle.route_record.specs.Places.{slot_at}
 use Rattle.net_interfaces.proofs.Options.{if_is}
+use Rattle.net_parts.specs.Exports.{router_id}
 use Rattle.net_parts.specs.Stable.{Stable}
 use Rattle.net_parts.specs.Tracked.{TracksNet}
 use Rattle.net_parts.specs.World.{IsEnvironment}
-use Rattle.route_shapes.specs.Bgp.{learnt_number}
-use Rattle.slot_places.specs.Values.{once, put_once}
+use Rattle.route_shapes.specs.Bgp.{address_number, learnt_number}
+use Rattle.slot_places.specs.declared.fields.Field.TheVariants.{Bits}
+use Rattle.slot_places.specs.Values.{FitsField, field_of, once, put_once}
 use Rattle.slot_places.proofs.Fitting.{fits_addresses, fits_among}
 use Rattle.held_values.specs.declared.numbers.HeldNumber.{HeldNumber}
 use Rattle.held_values.specs.Rooms.{FitsHeldValues, values_room}
-use Rattle.held_values.specs.Values.{HasHeldValues, firsts_of, is_learnt_among, next_hops_of, peers_of, preferences_of}
-use Rattle.held_values.specs.Values.{said_in_file, unsaid, values_of, weights_of}
+use Rattle.held_values.specs.Values.{HasHeldValues, firsts_of, has_peers, lasts_of, is_learnt_among, is_none_or_among, next_hops_of}
+use Rattle.held_values.specs.Values.{originators_of, peers_of, preferences_of, said_in_file, unsaid, values_of}
+use Rattle.held_values.specs.Values.{weights_of}
 use Rattle.held_values.proofs.Held.{held_known}
 
 -- first what no line need say, and then what lines say
@@ -57,6 +61,11 @@ first_small : (path : List ℕ) → All IsWord path → first_of path < 2 ^ 32
 first_small [] all = omega arith
 first_small (n ∷ ns) all = All-head IsWord n ns all
 
+all_below : (k : ℕ) (path : List ℕ) → All IsWord path → slice_index path k < 2 ^ 32
+all_below k [] all = omega arith
+all_below zero (n ∷ ns) all = All-head IsWord n ns all
+all_below (suc k) (n ∷ ns) all = all_below k ns (All-tail IsWord n ns all)
+
 -- ---- peers
 
 pub learnt_small : (learnt : Learnt) → FitsLearnt learnt → learnt_number learnt < 2 ^ 33
@@ -68,13 +77,37 @@ learnt_there : (peers : List ℕ) (learnt : Learnt) → is_learnt_among peers le
 learnt_there peers Local is = inl refl
 learnt_there peers (Peer a) is = inr (a.0, in-carried peers a.0 is, refl)
 
--- ---- both
+-- ---- originators
+
+-- the identifier of one router more
+pub ids_more : (files : List File) (held : List ℕ) (router : ℕ) →
+    put_once (fold put_once held (map (λ r. (router_id files r).0) (range_with_len 0 router)))
+    (router_id files router).0
+    ≡ fold put_once held (map (λ r. (router_id files r).0) (range_with_len 0 (router + 1)))
+ids_more files held router =
+    sym (ap (fold put_once held) (map-range_with_len_more (λ r. (router_id files r).0) 0 router router (omega arith))
+    ∙ fold-append put_once held (map (λ r. (router_id files r).0) (range_with_len 0 router))
+    ((router_id files router).0 ∷ []))
+
+pub originator_small : (o : Option Addr) → IfSome o IsAddress → address_number o < 2 ^ 33
+originator_small None fits = omega arith
+originator_small (Some a) fits = omega (arith, fits)
+
+originator_there : (ids : List ℕ) (o : Option Addr) → is_none_or_among ids o ≡ true →
+    (address_number o ≡ 0) ⊎ ((a : ℕ) × In a ids × (address_number o ≡ 2 ^ 32 + a))
+originator_there ids None is = inl refl
+originator_there ids (Some a) is = inr (a.0, in-carried ids a.0 is, refl)
+
+-- ---- all
 
 fits_known : (files : List File) (rec : BgpRec) → HasHeldValues files rec → FitsBgp rec →
     FitsHeldValues (values_room files) rec
 fits_known files rec known fits = record {
   from = fits_addresses (peers_of files) (learnt_number rec.from)
       (learnt_there (peers_of files) rec.from known.from) (learnt_small rec.from fits.from);
+  originator = fits_addresses (originators_of files) (address_number rec.originator)
+      (originator_there (originators_of files) rec.originator known.originator)
+      (originator_small rec.originator fits.originator);
   weight = fits_among (weights_of files) rec.weight (in-carried (weights_of files) rec.weight known.weight)
       fits.weight;
   local_pref = fits_among (preferences_of files) rec.local_pref
@@ -83,7 +116,18 @@ fits_known files rec known fits = record {
       (in-carried (next_hops_of files) rec.next_hop.0 known.next_hop) fits.next_hop;
   first = fits_among (firsts_of files) (first_of rec.path)
       (in-carried (firsts_of files) (first_of rec.path) known.first) (first_small rec.path fits.path);
+  last = by (has_peers files) known.last;
 }
+  where
+    small : last_of rec.path < 2 ^ 32
+    small = all_below (length rec.path - 1) rec.path fits.path
+
+    by : (b : Bool) → (b ≡ false → carries (lasts_of files) (last_of rec.path) ≡ true) →
+        FitsField (if b then Bits 32 else field_of (once (lasts_of files))) (last_of rec.path)
+    by true said = small
+    by false said =
+        fits_among (lasts_of files) (last_of rec.path)
+        (in-carried (lasts_of files) (last_of rec.path) (said refl)) small
 
 pub held_fits : (tracked : Tracked) (files : List File) (destination : Addr) (failures : Failures)
     (environment : Environment) (tables : Tables) (len : ℕ) → TracksNet files tracked →

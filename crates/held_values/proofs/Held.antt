@@ -1,10 +1,11 @@
--- The numbers of held routes are known, and so are their peers: over each session, and so in each stable routing.
-use Rattle.std.proofs.Common.{◌≡◌, ℕ, ◌<◌, ◌==◌, ◌&&◌, ◌⊎◌, inl, inr, not, Bool, true, false, List, ◌∷◌}
+-- The numbers of held routes are known, and so are their peers and originators: over each session, and so in each stable routing.
+use Rattle.std.proofs.Common.{arith, zero, suc, [], ◌≡◌, ℕ, ◌<◌, ◌==◌, ◌&&◌, ◌⊎◌, inl, inr, not, Bool, true, false, List, ◌∷◌}
 use Rattle.std.proofs.Common.{Option, Some, None, refl, sym, ap, ◌∙◌, subst, if◌then◌else◌}
-use Rattle.std.specs.Prelude.{IfSome, length, nat_le, option_and_then, slice_get, unwrap_or}
-use Rattle.std.specs.List.{find, list_all}
-use Rattle.std.proofs.lemmas.Bool.{and_parts, eq-eqb, eqb-true, or_left}
-use Rattle.std.proofs.lemmas.Option.{same_Some}
+use Rattle.std.specs.Prelude.{IfSome, length, nat_le, option_and_then, option_map, slice_get, unwrap_or}
+use Rattle.std.specs.List.{find, list_all, list_any}
+use Rattle.std.proofs.lemmas.Bool.{and_parts, eq-eqb, eqb-true, false≢true, or_left, or_right}
+use Rattle.std.proofs.lemmas.List.FromFn.{get_or-map-range_with_len, length-map-range_with_len}
+use Rattle.std.proofs.lemmas.Option.{same_Some, slice_get_within}
 use Rattle.mw_text.proofs.Lists.{all_found}
 use Rattle.mw_text.specs.declared.address.Addr.{Addr}
 use Rattle.mw_text.specs.declared.address.Prefix.{Prefix}
@@ -15,7 +16,7 @@ use Rattle.ios_ast.specs.declared.file.File.{File}
 use Rattle.ios_ast.specs.Deciding.{carries}
 use Rattle.ios_ast.specs.Limits.{keeps_limits}
 use Rattle.ios_ast.specs.Maps.{through_map}
-use Rattle.ios_ast.specs.Paths.{first_of}
+use Rattle.ios_ast.specs.Paths.{first_of, last_of}
 use Rattle.ios_ast.specs.Setting.{Attributes}
 use Rattle.route_record.specs.declared.Announcement.{Announcement}
 use Rattle.route_record.specs.declared.BgpMsg.{BgpMsg}
@@ -29,13 +30,16 @@ use Rattle.route_record.specs.declared.tracked.Tracked.{Tracked}
 use Rattle.route_record.specs.Places.{slot_at}
 use Rattle.net_interfaces.proofs.Members.{in-find}
 use Rattle.net_interfaces.proofs.Options.{if_is}
-use Rattle.net_parts.specs.declared.sessions.Far.TheVariants.{Inside}
+use Rattle.net_parts.specs.declared.sessions.Far.{Far}
+use Rattle.net_parts.specs.declared.sessions.Far.TheVariants.{Inside, Outside}
 use Rattle.net_parts.specs.declared.sessions.SessionEnd.{SessionEnd}
-use Rattle.net_parts.specs.Exports.{announced_message, exported, imported, internal_next_hop, learnt_over}
+use Rattle.net_parts.specs.Exports.{announced_message, exported, imported, internal_next_hop, learnt_id, learnt_over}
+use Rattle.net_parts.specs.Exports.{reflected_originator, router_id}
 use Rattle.net_parts.specs.Exports.{external_message, if_short, internal_message, most_numbers, own_address, received}
 use Rattle.net_parts.specs.Mapping.{attributes_of, with_attributes}
+use Rattle.net_parts.proofs.LeastWalks.{contains-in}
 use Rattle.net_parts.specs.Origins.{local_routes}
-use Rattle.net_parts.specs.Sessions.{ends_of, neighbour_of}
+use Rattle.net_parts.specs.Sessions.{ends_of, is_outside, neighbour_of}
 use Rattle.net_parts.specs.Stable.{Stable}
 use Rattle.net_parts.specs.Tracked.{TracksNet}
 use Rattle.net_parts.specs.World.{IsAnnouncement, IsEnvironment}
@@ -45,14 +49,17 @@ use Rattle.rebuilt_routes.proofs.Crossed.{runs_there}
 use Rattle.rebuilt_routes.proofs.Options.{find_passes, if_found, if_true}
 use Rattle.rebuilt_routes.proofs.Plain.{IsPlain, locals_plain}
 use Rattle.rebuilt_routes.proofs.RealSources.{all_members}
+use Rattle.rebuilt_routes.proofs.ReflectorsOnce.{IsRouteSent, IsRouteTaken, route_sent_parts, route_taken_parts}
 use Rattle.rebuilt_routes.proofs.StableShapes.{kept_held}
+use Rattle.slot_places.proofs.Members.{any-in}
 use Rattle.held_values.specs.declared.numbers.HeldNumber.{HeldNumber}
-use Rattle.held_values.specs.declared.numbers.HeldNumber.TheVariants.{Weight, LocalPref, NextHop, FirstAs}
-use Rattle.held_values.specs.Values.{HasHeldValues, is_learnt_among, number_of, peers_of, said_of_neighbour, values_of}
+use Rattle.held_values.specs.declared.numbers.HeldNumber.TheVariants.{Weight, LocalPref, NextHop, FirstAs, LastAs}
+use Rattle.held_values.specs.Values.{HasHeldValues, has_peers, is_learnt_among, is_none_or_among, number_of, originators_of}
+use Rattle.held_values.specs.Values.{peers_of, router_ids, said_of_neighbour, values_of}
 use Rattle.held_values.proofs.EndsMeet.{NamesOther, names_far}
 use Rattle.held_values.proofs.Lines.{IsKnown, known_lines, known_unsaid, peers_known}
 use Rattle.held_values.proofs.Routes.{IsKnownReceived, IsKnownRoute, IsMadeOf, exported_made, imported_known}
-use Rattle.held_values.proofs.Routes.{locals_known}
+use Rattle.held_values.proofs.Routes.{known_front, locals_known}
 
 -- the line of an end is one of the process of its router
 line_there : (files : List File) (end : SessionEnd) (file : File) (process : Bgp) (neighbour : Neighbour) →
@@ -72,10 +79,10 @@ line_known which files end file process neighbour there runs named =
     (line_there files end file process neighbour there runs named)
 
 -- the AS number of a neighbour of another AS
-other_as : (files : List File) (n : ℕ) (b : Bool) → b ≡ false →
-    IfSome (if b then None else Some n) (IsKnown FirstAs files) → IsKnown FirstAs files n
-other_as files n true other said = absurd cc
-other_as files n false other said = said
+other_as : (which : HeldNumber) (files : List File) (n : ℕ) (b : Bool) → b ≡ false →
+    IfSome (if b then None else Some n) (IsKnown which files) → IsKnown which files n
+other_as which files n true other said = absurd cc
+other_as which files n false other said = said
 
 -- a route that is imported is learnt of a neighbour
 learnt_peer : (files : List File) (end : SessionEnd) (p : Prefix) (message : BgpMsg) →
@@ -113,6 +120,109 @@ kept_learnt files environment p = record {
   where
     P : BgpRec → Type 0
     P rec = is_learnt_among (peers_of files) rec.from ≡ true
+
+-- ---- originators
+
+module _ (files : List File) where
+  abbrev IsKnownOriginator : Option Addr → Type 0
+  IsKnownOriginator o = is_none_or_among (originators_of files) o ≡ true
+
+  -- the identifier of a router is one of them
+  id_there : (router : ℕ) → router < length files → IsKnownOriginator (Some (router_id files router))
+  id_there router below =
+      or_right (0 == (router_id files router).0) (carries (router_ids files) (router_id files router).0)
+      (any-in (λ n. n == (router_id files router).0) (router_ids files) (router_id files router).0
+      (contains-in (router_id files router).0 (router_ids files) (
+        router,
+        subst (λ k. router < k) (sym (length-map-range_with_len (λ r. (router_id files r).0) 0 (length files))) below,
+        get_or-map-range_with_len (λ r. (router_id files r).0) 0 (length files) router router
+            (router_id files router).0 below (omega arith),
+      )) (eq-eqb (router_id files router).0 (router_id files router).0 refl))
+
+  -- the router of an end is one of the files
+  end_below : (at : ℕ) (end : SessionEnd) → slice_get (ends_of files) at ≡ Some end → end.router < length files
+  end_below at end there = by (slice_get files end.router) refl is.runs
+    where
+      is : IsAlike files end
+      is = all_found (IsAlike files) (ends_of files) at end (ends_alike files) there
+
+      by : (o : Option File) → slice_get files end.router ≡ o →
+          option_and_then (λ (f : File). f.bgp) o ≡ Some is.process → end.router < length files
+      by None none runs = absurd cc
+      by (Some file) found runs = slice_get_within files end.router file found
+
+  learnt_id_known : (from : SessionEnd) → IsKnownOriginator (learnt_id files from)
+  learnt_id_known from = by from.far
+    where
+      found : (at : ℕ) (o : Option SessionEnd) → slice_get (ends_of files) at ≡ o →
+          IsKnownOriginator (option_map (λ (far : SessionEnd). router_id files far.router) o)
+      found at None none = refl
+      found at (Some far) there = id_there far.router (end_below at far there)
+
+      by : (far : Far) → IsKnownOriginator (learnt_id files (record from { far = far }))
+      by Outside = refl
+      by (Inside at) = found at (slice_get (ends_of files) at) refl
+
+  reflected_known : (held : BgpRec) (o : Option SessionEnd) → IsKnownOriginator held.originator →
+      IsKnownOriginator (reflected_originator files held o)
+  reflected_known held None h = h
+  reflected_known held (Some from) h = by from.internal
+    where
+      first : (p q : Option Addr) → IsKnownOriginator p → IsKnownOriginator q →
+          IsKnownOriginator (Some (unwrap_or p (unwrap_or q (record { 0 = 0 }))))
+      first (Some a) q known other = known
+      first None (Some a) known other = other
+      first None None known other = refl
+
+      by : (b : Bool) → IsKnownOriginator (if b then Some (unwrap_or held.originator
+          (unwrap_or (learnt_id files from) (record { 0 = 0 }))) else held.originator)
+      by true = first held.originator (learnt_id files from) h (learnt_id_known from)
+      by false = h
+
+  -- a route that is imported has the originator of its message
+  taken_originator : (end : SessionEnd) (p : Prefix) (message : BgpMsg) (rec : BgpRec) →
+      IsKnownOriginator message.originator → imported files end p message ≡ Some rec → IsKnownOriginator rec.originator
+  taken_originator end p message rec known taken =
+      subst IsKnownOriginator (sym (if_is (IsRouteTaken files end message) (imported files end p message) rec
+      (route_taken_parts files end p message) taken).originator) known
+
+  sent_originator : (end : SessionEnd) (p : Prefix) (held : BgpRec) (message : BgpMsg) →
+      IsKnownOriginator held.originator → exported files end p held ≡ Some message →
+      IsKnownOriginator message.originator
+  sent_originator end p held message known sends =
+      by (if_is (IsRouteSent files end held) (exported files end p held) message (route_sent_parts files end p held)
+      sends)
+    where
+      by : IsRouteSent files end held message → IsKnownOriginator message.originator
+      by (inl none) = subst IsKnownOriginator (sym none.originator) refl
+      by (inr sent) =
+          subst IsKnownOriginator (sym sent.originator)
+          (reflected_known held (learnt_over files end.router held.from) known)
+
+  kept_originator : (environment : Environment) (p : Prefix) →
+      IsKeptBySessions files environment p (λ router rec. is_none_or_among (originators_of files) rec.originator)
+  kept_originator environment p = record {
+    announced = λ at end neighbour a rec stands outside named says taken.
+        taken_originator end p (announced_message neighbour.addr a) rec refl taken;
+    sent = λ at far_at end far held message rec stands reached far_stands sends taken behind.
+        taken_originator end p message rec (sent_originator far p held message behind sends) taken;
+  }
+
+-- ---- numbers
+
+-- announcements can end in any AS number
+abbrev IsSaid : HeldNumber → List File → Type 0
+IsSaid Weight files = Unit {0}
+IsSaid LocalPref files = Unit {0}
+IsSaid NextHop files = Unit {0}
+IsSaid FirstAs files = Unit {0}
+IsSaid LastAs files = has_peers files ≡ false
+
+any_at : {X : Type 0} (p : X → Bool) (xs : List X) (at : ℕ) (x : X) → slice_get xs at ≡ Some x → p x ≡ true →
+    list_any p xs ≡ true
+any_at p [] at x there holds = absurd cc
+any_at p (y ∷ ys) zero x there holds = or_left (p y) (list_any p ys) (ap p (same_Some y x there) ∙ holds)
+any_at p (y ∷ ys) (suc at) x there holds = or_right (p y) (list_any p ys) (any_at p ys at x there holds)
 
 module _ (files : List File) where
   alike : (at : ℕ) (end : SessionEnd) → slice_get (ends_of files) at ≡ Some end → IsAlike files end
@@ -199,14 +309,33 @@ module _ (files : List File) where
           by_kind (inr (outside, made)) =
               subst (λ (m : BgpMsg). IsKnown NextHop files m.next_hop.0) (sym made.1) address
 
+      asn_of : (w : HeldNumber) (of : IsMadeOf w files far held message) → of.process.asn ≡ neighbour.asn
+      asn_of w of =
+          ap (λ (b : Bgp). b.asn) (same_Some of.process met.process
+          (sym (runs_there files far.router of.file of.process of.there of.runs) ∙ met.runs)) ∙ met.asn
+
+      other : far.internal ≡ false → (process.asn == neighbour.asn) ≡ false
+      other outside = sym (internal_is at end file process neighbour stands there runs named) ∙ same ∙ outside
+
+      last : IsMadeOf LastAs files far held message → IsKnown LastAs files (last_of message.path)
+      last of = by_kind of.made
+        where
+          by_kind : ((far.internal ≡ true)
+              × (message ≡ internal_message files far.router of.neighbour (own_address files far) held of.r))
+              ⊎ ((far.internal ≡ false) × ((keeps : Bool)
+              × (message ≡ external_message of.process of.neighbour (own_address files far) keeps held of.r))) →
+              IsKnown LastAs files (last_of message.path)
+          by_kind (inl (inside, made)) =
+              subst (λ (m : BgpMsg). IsKnown LastAs files (last_of m.path)) (sym made) of.left
+          by_kind (inr (outside, made)) =
+              subst (λ (m : BgpMsg). IsKnown LastAs files (last_of m.path)) (sym made.1)
+              (known_front files of.process.asn of.r.path (subst (IsKnown LastAs files) (sym (asn_of LastAs of))
+              (other_as LastAs files neighbour.asn (process.asn == neighbour.asn) (other outside) (said LastAs)))
+              of.left)
+
       first : IsMadeOf FirstAs files far held message → IsKnown FirstAs files (first_of message.path)
       first of = by_kind of.made
         where
-          asn : of.process.asn ≡ neighbour.asn
-          asn =
-              ap (λ (b : Bgp). b.asn) (same_Some of.process met.process
-              (sym (runs_there files far.router of.file of.process of.there of.runs) ∙ met.runs)) ∙ met.asn
-
           by_kind : ((far.internal ≡ true)
               × (message ≡ internal_message files far.router of.neighbour (own_address files far) held of.r))
               ⊎ ((far.internal ≡ false) × ((keeps : Bool)
@@ -216,10 +345,8 @@ module _ (files : List File) where
               subst (λ (m : BgpMsg). IsKnown FirstAs files (first_of m.path)) (sym made) of.left
           by_kind (inr (outside, made)) =
               subst (λ (m : BgpMsg). IsKnown FirstAs files (first_of m.path)) (sym made.1)
-              (subst (IsKnown FirstAs files) (sym asn)
-              (other_as files neighbour.asn (process.asn == neighbour.asn)
-              (sym (internal_is at end file process neighbour stands there runs named) ∙ same ∙ outside)
-              (said FirstAs)))
+              (subst (IsKnown FirstAs files) (sym (asn_of FirstAs of))
+              (other_as FirstAs files neighbour.asn (process.asn == neighbour.asn) (other outside) (said FirstAs)))
 
       by : (w : HeldNumber) → IsMadeOf w files far held message → IsKnownRoute w files held →
           IsKnownRoute w files (received neighbour end message)
@@ -227,16 +354,19 @@ module _ (files : List File) where
       by LocalPref of h = preference of end.internal refl
       by NextHop of h = hop of h
       by FirstAs of h = first of
+      by LastAs of h = last of
 
   -- ---- what is received of an external peer
 
   module _ (environment : Environment) (may : IsEnvironment files environment) where
     announced_received : (which : HeldNumber) (at len : ℕ) (end : SessionEnd) (line : Neighbour) (a : Announcement) →
-        slice_get (ends_of files) at ≡ Some end → neighbour_of files end ≡ Some line →
+        IsSaid which files → slice_get (ends_of files) at ≡ Some end → end.far ≡ Outside →
+        neighbour_of files end ≡ Some line →
         find (λ (a : Announcement). (a.end == at) && (a.len == len)) environment.announced ≡ Some a →
         IsKnownReceived which files end (announced_message line.addr a)
-    announced_received which at len end line a stands says_line says file process neighbour there runs named accepted =
-        by which
+    announced_received which at len end line a may_say stands peer says_line says file process neighbour there runs named
+        accepted =
+        by which may_say
       where
         said : (w : HeldNumber) → IfSome (said_of_neighbour w process neighbour) (IsKnown w files)
         said w = line_known w files end file process neighbour there runs named
@@ -286,23 +416,27 @@ module _ (files : List File) where
         preference true own = absurd cc
         preference false own = known_unsaid LocalPref files 100 refl
 
-        by : (w : HeldNumber) → IsKnownRoute w files (received neighbour end (announced_message line.addr a))
-        by Weight = said Weight
-        by LocalPref = preference end.internal outside
-        by NextHop =
+        by : (w : HeldNumber) → IsSaid w files →
+            IsKnownRoute w files (received neighbour end (announced_message line.addr a))
+        by Weight may_say = said Weight
+        by LocalPref may_say = preference end.internal outside
+        by NextHop may_say =
             subst (λ (n : Neighbour). IsKnown NextHop files n.addr.0)
             (same_Some neighbour line (sym named ∙ says_line)) (said NextHop)
-        by FirstAs =
+        by FirstAs may_say =
             subst (IsKnown FirstAs files) (sym (ap first_of begins.1))
-            (other_as files neighbour.asn (process.asn == neighbour.asn) other (said FirstAs))
+            (other_as FirstAs files neighbour.asn (process.asn == neighbour.asn) other (said FirstAs))
+        by LastAs none =
+            absurd (false≢true (sym none ∙ any_at (λ (e : SessionEnd). is_outside e.far) (ends_of files) at end stands
+            (ap is_outside peer)))
 
-    kept : (which : HeldNumber) (p : Prefix) →
+    kept : (which : HeldNumber) (p : Prefix) → IsSaid which files →
         IsKeptBySessions files environment p (λ router rec. carries (values_of which files) (number_of which rec))
-    kept which p = record {
+    kept which p may_say = record {
       announced = λ at end neighbour a rec stands outside named says taken.
           if_is (IsKnownRoute which files) (imported files end p (announced_message neighbour.addr a)) rec
           (imported_known which files end p (announced_message neighbour.addr a)
-          (announced_received which at p.len end neighbour a stands named says)) taken;
+          (announced_received which at p.len end neighbour a may_say stands outside named says)) taken;
       sent = λ at far_at end far held message rec stands reached far_stands sends taken behind.
           if_is (IsKnownRoute which files) (imported files end p message) rec
           (imported_known which files end p message
@@ -320,20 +454,22 @@ pub held_known : (tracked : Tracked) (files : List File) (destination : Addr) (f
 held_known tracked files destination failures environment tables len net limits may stable below router slot held there
     holds = record {
       from = learnt;
-      weight = known Weight;
-      local_pref = known LocalPref;
-      next_hop = known NextHop;
-      first = known FirstAs;
+      originator = originated;
+      weight = known Weight tt;
+      local_pref = known LocalPref tt;
+      next_hop = known NextHop tt;
+      first = known FirstAs tt;
+      last = λ none. known LastAs none;
     }
   where
-    known : (which : HeldNumber) → IsKnownRoute which files held
-    known which =
+    known : (which : HeldNumber) → IsSaid which files → IsKnownRoute which files held
+    known which may_say =
         kept_held files destination failures environment tables stable len below tracked net limits
         (λ router rec. carries (values_of which files) (number_of which rec))
         (λ r rec is. all_members (IsKnownRoute which files)
         (local_routes files r is.file is.process (prefix_at destination len) is.slot)
         (locals_known which files r is.file is.process (prefix_at destination len) is.slot is.there is.runs) rec is.is)
-        (kept files environment may which (prefix_at destination len)) router held
+        (kept files environment may which (prefix_at destination len) may_say) router held
         (ap (option_and_then (λ (x : Slot). x.bgp)) there ∙ holds)
 
     learnt : is_learnt_among (peers_of files) held.from ≡ true
@@ -344,4 +480,14 @@ held_known tracked files destination failures environment tables len net limits 
         (local_routes files r is.file is.process (prefix_at destination len) is.slot)
         (locals_plain files r is.file is.process (prefix_at destination len) is.slot) rec is.is).from)
         (kept_learnt files environment (prefix_at destination len)) router held
+        (ap (option_and_then (λ (x : Slot). x.bgp)) there ∙ holds)
+
+    originated : is_none_or_among (originators_of files) held.originator ≡ true
+    originated =
+        kept_held files destination failures environment tables stable len below tracked net limits
+        (λ router rec. is_none_or_among (originators_of files) rec.originator)
+        (λ r rec is. ap (is_none_or_among (originators_of files)) (all_members IsPlain
+        (local_routes files r is.file is.process (prefix_at destination len) is.slot)
+        (locals_plain files r is.file is.process (prefix_at destination len) is.slot) rec is.is).originator)
+        (kept_originator files environment (prefix_at destination len)) router held
         (ap (option_and_then (λ (x : Slot). x.bgp)) there ∙ holds)

@@ -1,7 +1,7 @@
 -- What routers make of routes and messages has known numbers.
-use Rattle.std.proofs.Common.{◌≡◌, ℕ, ◌==◌, ◌||◌, ◌⊎◌, inl, inr, not, Bool, true, false, List, [], ◌∷◌, ◌++◌}
+use Rattle.std.proofs.Common.{◌≡◌, ◌-◌, suc, subst, sym, ap, arith, ℕ, ◌==◌, ◌||◌, ◌⊎◌, inl, inr, not, Bool, true, false, List, [], ◌∷◌, ◌++◌}
 use Rattle.std.proofs.Common.{length, Option, Some, None, refl, if◌then◌else◌}
-use Rattle.std.specs.Prelude.{All, IfSome, nat_le, option_and_then, option_map, slice_get, unwrap_or}
+use Rattle.std.specs.Prelude.{All, IfSome, nat_le, option_and_then, option_map, slice_get, slice_index, unwrap_or}
 use Rattle.std.specs.List.{filter_map}
 use Rattle.std.proofs.lemmas.Bool.{and_parts}
 use Rattle.std.proofs.lemmas.List.Elements.{All-append}
@@ -15,7 +15,7 @@ use Rattle.ios_ast.specs.declared.policies.SetAct.{SetAct}
 use Rattle.ios_ast.specs.declared.policies.SetAct.TheVariants as set
 use Rattle.ios_ast.specs.Deciding.{carries}
 use Rattle.ios_ast.specs.Maps.{through_map}
-use Rattle.ios_ast.specs.Paths.{first_of}
+use Rattle.ios_ast.specs.Paths.{first_of, last_of}
 use Rattle.ios_ast.specs.Setting.{Attributes, set_one}
 use Rattle.route_record.specs.declared.BgpMsg.{BgpMsg}
 use Rattle.route_record.specs.declared.BgpRec.{BgpRec}
@@ -34,7 +34,7 @@ use Rattle.bgp_shapes.proofs.LengthLaw.{if_then}
 use Rattle.rebuilt_routes.proofs.Options.{if_found, if_true}
 use Rattle.rebuilt_routes.proofs.Plain.{all_given}
 use Rattle.held_values.specs.declared.numbers.HeldNumber.{HeldNumber}
-use Rattle.held_values.specs.declared.numbers.HeldNumber.TheVariants.{Weight, LocalPref, NextHop, FirstAs}
+use Rattle.held_values.specs.declared.numbers.HeldNumber.TheVariants.{Weight, LocalPref, NextHop, FirstAs, LastAs}
 use Rattle.held_values.specs.Values.{number_of, unsaid}
 use Rattle.held_values.proofs.Lines.{HasKnownLines, IsKnown, IsKnownSet, known_lines, known_unsaid, through_known}
 
@@ -45,9 +45,31 @@ IsKnownIn Weight files r = IsKnown Weight files r.weight
 IsKnownIn LocalPref files r = IsKnown LocalPref files r.local_pref
 IsKnownIn NextHop files r = Unit {0}
 IsKnownIn FirstAs files r = IsKnown FirstAs files (first_of r.path)
+IsKnownIn LastAs files r = IsKnown LastAs files (last_of r.path)
 
 abbrev pub IsKnownRoute : HeldNumber → List File → BgpRec → Type 0
 IsKnownRoute which files rec = IsKnown which files (number_of which rec)
+
+one_less : (xs : List ℕ) → suc (suc (length xs)) - 1 ≡ suc (suc (length xs) - 1)
+one_less xs = omega arith
+
+-- the last number of what stands in front of a path is that of the whole where the path is empty
+known_behind : (files : List File) (numbers path : List ℕ) →
+    IfSome (slice_get numbers (length numbers - 1)) (IsKnown LastAs files) → IsKnown LastAs files (last_of path) →
+    IsKnown LastAs files (last_of (numbers ++ path))
+known_behind files [] path said h = h
+known_behind files (n ∷ []) [] said h = said
+known_behind files (n ∷ []) (a ∷ path) said h =
+    subst (IsKnown LastAs files) (sym (ap (slice_index (n ∷ a ∷ path)) (one_less path))) h
+known_behind files (n ∷ m ∷ numbers) path said h =
+    subst (IsKnown LastAs files) (sym (ap (slice_index (n ∷ m ∷ (numbers ++ path))) (one_less (numbers ++ path))))
+    (known_behind files (m ∷ numbers) path (subst (λ o. IfSome o (IsKnown LastAs files))
+    (ap (slice_get (n ∷ m ∷ numbers)) (one_less numbers)) said) h)
+
+-- and one number in front of a path that has one
+pub known_front : (files : List File) (n : ℕ) (path : List ℕ) → IsKnown LastAs files n →
+    IsKnown LastAs files (last_of path) → IsKnown LastAs files (last_of (n ∷ path))
+known_front files n path said h = known_behind files (n ∷ []) path said h
 
 set_known : (which : HeldNumber) (files : List File) (external : Bool) (r : Attributes) (line : SetAct) →
     IsKnownSet which files line → IsKnownIn which files r → IsKnownIn which files (set_one external r line)
@@ -82,6 +104,18 @@ set_known FirstAs files external r (set.Prepend numbers) said h = put external n
     put true [] said = h
     put true (n ∷ ns) said = said
 set_known FirstAs files external r (set.Type1 type1) said h = h
+set_known LastAs files external r (set.LocalPref n) said h = h
+set_known LastAs files external r (set.Metric n) said h = h
+set_known LastAs files external r (set.Weight n) said h = h
+set_known LastAs files external r set.NoCommunity said h = h
+set_known LastAs files external r (set.Community values additive) said h = h
+set_known LastAs files external r (set.Origin igp) said h = h
+set_known LastAs files external r (set.Prepend numbers) said h = put external
+  where
+    put : (b : Bool) → IsKnown LastAs files (last_of (if b then numbers ++ r.path else r.path))
+    put false = h
+    put true = known_behind files numbers r.path said h
+set_known LastAs files external r (set.Type1 type1) said h = h
 
 seen : (which : HeldNumber) (files : List File) (rec : BgpRec) → IsKnownRoute which files rec →
     IsKnownIn which files (attributes_of rec)
@@ -89,6 +123,7 @@ seen Weight files rec h = h
 seen LocalPref files rec h = h
 seen NextHop files rec h = tt
 seen FirstAs files rec h = h
+seen LastAs files rec h = h
 
 left_known : (which : HeldNumber) (files : List File) (rec : BgpRec) (r : Attributes) → IsKnownRoute which files rec →
     IsKnownIn which files r → IsKnownRoute which files (with_attributes rec r)
@@ -96,6 +131,7 @@ left_known Weight files rec r h left = left
 left_known LocalPref files rec r h left = left
 left_known NextHop files rec r h left = h
 left_known FirstAs files rec r h left = left
+left_known LastAs files rec r h left = left
 
 module _ (which : HeldNumber) (files : List File) where
   abbrev IsRoute : BgpRec → Type 0
@@ -121,6 +157,7 @@ module _ (which : HeldNumber) (files : List File) where
       no_line LocalPref = refl
       no_line NextHop = refl
       no_line FirstAs = refl
+      no_line LastAs = refl
 
       bare : IsRoute (local_route origin med)
       bare = known_unsaid which files (number_of which (local_route origin med)) (no_line which)

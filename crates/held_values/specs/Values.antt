@@ -1,9 +1,10 @@
--- Which values the numbers of a held BGP route can have, and of whom it can be learnt, whatever announcements come and
--- whatever links fail (RFC 4271, sections 5.1.2, 5.1.3 and 5.1.5; Cisco IOS, `neighbor weight`, `set weight`, `set
--- local-preference` and `set as-path prepend`).
-use Rattle.std.specs.Prelude.{◌≡◌, ℕ, ◌==◌, Bool, true, List, [], ◌∷◌, ◌++◌, Option, Some, None, slice_get, if◌then◌else◌}
-use Rattle.std.specs.List.{filter_map, flat_map}
+-- Which values the numbers of a held BGP route can have, of whom it can be learnt and what its originator can be, whatever
+-- announcements come and whatever links fail (RFC 4271, sections 5.1.2, 5.1.3 and 5.1.5; RFC 4456, section 8; Cisco
+-- IOS, `neighbor weight`, `set weight`, `set local-preference` and `set as-path prepend`).
+use Rattle.std.specs.Prelude.{◌≡◌, ℕ, ◌-◌, ◌==◌, Bool, true, false, length, map, List, [], ◌∷◌, ◌++◌, Option, Some, None, slice_get, if◌then◌else◌}
+use Rattle.std.specs.List.{filter_map, flat_map, list_any, range_with_len}
 use Rattle.std.specs.Option.{option_map_or}
+use Rattle.mw_text.specs.declared.address.Addr.{Addr}
 use Rattle.ios_ast.specs.declared.bgp.Bgp.{Bgp}
 use Rattle.ios_ast.specs.declared.bgp.Neighbour.{Neighbour}
 use Rattle.ios_ast.specs.declared.file.File.{File}
@@ -12,19 +13,22 @@ use Rattle.ios_ast.specs.declared.policies.RouteMap.{RouteMap}
 use Rattle.ios_ast.specs.declared.policies.SetAct.{SetAct}
 use Rattle.ios_ast.specs.declared.policies.SetAct.TheVariants as set
 use Rattle.ios_ast.specs.Deciding.{carries}
-use Rattle.ios_ast.specs.Paths.{first_of}
+use Rattle.ios_ast.specs.Paths.{first_of, last_of}
 use Rattle.route_record.specs.declared.BgpRec.{BgpRec}
 use Rattle.route_record.specs.declared.Learnt.{Learnt}
 use Rattle.route_record.specs.declared.Learnt.TheVariants.{Local, Peer}
+use Rattle.net_parts.specs.Exports.{router_id}
+use Rattle.net_parts.specs.Sessions.{ends_of, is_outside}
 use Rattle.held_values.specs.declared.numbers.HeldNumber.{HeldNumber}
-use Rattle.held_values.specs.declared.numbers.HeldNumber.TheVariants.{Weight, LocalPref, NextHop, FirstAs}
+use Rattle.held_values.specs.declared.numbers.HeldNumber.TheVariants.{Weight, LocalPref, NextHop, FirstAs, LastAs}
 
--- the number of a route; the first AS number of an empty path counts as 0
+-- the number of a route; the first and the last AS number of an empty path count as 0
 abbrev pub number_of : HeldNumber → BgpRec → ℕ
 number_of Weight rec = rec.weight
 number_of LocalPref rec = rec.local_pref
 number_of NextHop rec = rec.next_hop.0
 number_of FirstAs rec = first_of rec.path
+number_of LastAs rec = last_of rec.path
 
 -- what it can be without any line that says it: the weight of a local route or of another, the local preference of a
 -- local route or one of an external peer, and no next hop and no path
@@ -33,20 +37,23 @@ unsaid Weight = 0 ∷ 32768 ∷ []
 unsaid LocalPref = 100 ∷ []
 unsaid NextHop = 0 ∷ []
 unsaid FirstAs = 0 ∷ []
+unsaid LastAs = 0 ∷ []
 
 -- what a neighbour line says: the weight of all that is learnt of the neighbour, the address that is the next hop, and
--- the AS number that stands in front of each path of another AS
+-- the AS number that stands in front of each path of another AS, and alone where that path was empty
 abbrev pub said_of_neighbour : HeldNumber → Bgp → Neighbour → Option ℕ
 said_of_neighbour Weight process neighbour = Some neighbour.weight
 said_of_neighbour LocalPref process neighbour = None
 said_of_neighbour NextHop process neighbour = Some neighbour.addr.0
 said_of_neighbour FirstAs process neighbour = if process.asn == neighbour.asn then None else Some neighbour.asn
+said_of_neighbour LastAs process neighbour = if process.asn == neighbour.asn then None else Some neighbour.asn
 
--- what a set line says: of numbers that are put in front of the path the first
+-- what a set line says: of numbers that are put in front of the path the first, and the last where it was empty
 abbrev pub said_of_set : HeldNumber → SetAct → Option ℕ
 said_of_set Weight (set.Weight n) = Some n
 said_of_set LocalPref (set.LocalPref n) = Some n
 said_of_set FirstAs (set.Prepend numbers) = slice_get numbers 0
+said_of_set LastAs (set.Prepend numbers) = slice_get numbers (length numbers - 1)
 said_of_set _ _ = None
 
 abbrev pub said_in_entry : HeldNumber → MapEntry → List ℕ
@@ -89,10 +96,33 @@ abbrev pub is_learnt_among : List ℕ → Learnt → Bool
 is_learnt_among peers Local = true
 is_learnt_among peers (Peer a) = carries peers a.0
 
--- the numbers of the route are among them, and it is local or learnt of a neighbour
+abbrev pub lasts_of : List File → List ℕ
+lasts_of files = values_of LastAs files
+
+-- some router has an external peer, whose announcements can end in any AS number
+abbrev pub has_peers : List File → Bool
+has_peers files = list_any (λ end. is_outside end.far) (ends_of files)
+
+-- the identifiers of the routers
+abbrev pub router_ids : List File → List ℕ
+router_ids files = map (λ router. (router_id files router).0) (range_with_len 0 (length files))
+
+-- what the originator of a reflected route can be: the identifier of a router, and 0.0.0.0, which a router would set where
+-- it learnt the route of an internal peer outside
+abbrev pub originators_of : List File → List ℕ
+originators_of files = 0 ∷ router_ids files
+
+-- there is no address, or it is one of these
+abbrev pub is_none_or_among : List ℕ → Option Addr → Bool
+is_none_or_among addresses None = true
+is_none_or_among addresses (Some a) = carries addresses a.0
+
+-- the numbers of the route are among them, it is local or learnt of a neighbour, and its originator is a router if any
 pub record HasHeldValues (files : List File) (rec : BgpRec) : Type 0 where
   pub from : is_learnt_among (peers_of files) rec.from ≡ true
+  pub originator : is_none_or_among (originators_of files) rec.originator ≡ true
   pub weight : carries (weights_of files) rec.weight ≡ true
   pub local_pref : carries (preferences_of files) rec.local_pref ≡ true
   pub next_hop : carries (next_hops_of files) rec.next_hop.0 ≡ true
   pub first : carries (firsts_of files) (first_of rec.path) ≡ true
+  pub last : has_peers files ≡ false → carries (lasts_of files) (last_of rec.path) ≡ true

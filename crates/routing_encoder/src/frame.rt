@@ -38,7 +38,7 @@ pub fn frame_of(
     let places = places_of(alloc, plan, net.routers().len() as u32)?;
     let rooms = rooms_of(alloc, net, destinations)?;
     read_rooms(rooms.as_slice());
-    let bgp = held_room(alloc, net.tracked(), net.routers())?;
+    let bgp = held_room(alloc, net.tracked(), net)?;
     Ok(Frame {
         destinations: *destinations,
         lens,
