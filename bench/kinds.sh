@@ -27,7 +27,7 @@ def network(name, ends, last, cost=lambda link: None):
         interfaces.setdefault(a, []).append((link, 1))
         interfaces.setdefault(b, []).append((link, 2))
     for router, held in interfaces.items():
-        lines = [f"hostname R{router}"]
+        lines = [f"hostname N{router}"]
         for at, (link, side) in enumerate(held):
             lines.append(f"interface GigabitEthernet0/{at}")
             lines.append(f" ip address 10.200.{link}.{side} 255.255.255.252")
@@ -41,13 +41,13 @@ def network(name, ends, last, cost=lambda link: None):
     for to, packets in (("address", f"10.100.{last}.1/32"), ("lan", f"10.150.{last}.0/24"), ("any", "any")):
         set_of = f"packets ip any any {packets} any failures {failures}"
         kinds = [
-            f"reach from R0 to router R{last}",
-            f"isolate from R0 to router R{last}",
-            f"waypoint from R0 to router R{last} via R1",
-            "noloop from R0",
-            "noblackhole from R0",
-            f"within {2 * len(interfaces)} from R0",
-            f"alike R0 R1 to router R{last}",
+            f"reach from N0 to router N{last}",
+            f"isolate from N0 to router N{last}",
+            f"waypoint from N0 to router N{last} via N1",
+            "noloop from N0",
+            "noblackhole from N0",
+            f"within {2 * len(interfaces)} from N0",
+            f"alike N0 N1 to router N{last}",
         ]
         for kind in kinds:
             with open(os.path.join(top, name, f"{to}-{kind.split()[0]}.q"), "w") as file:

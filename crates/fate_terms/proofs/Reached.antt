@@ -1,13 +1,12 @@
 -- A walk that ends so is one to a router, where it may end.
-use Rattle.std.proofs.Common.{◌≡◌, ◌⊎◌, inl, inr, ◌==◌, ◌∙◌, ℕ, zero, suc, Bool, true, List, [], ◌∷◌, map}
+use Rattle.std.proofs.Common.{◌≡◌, ◌⊎◌, inl, inr, ◌∙◌, ℕ, zero, suc, Bool, true, List, [], ◌∷◌, map}
 use Rattle.std.proofs.Common.{Some, refl, sym, ap, subst}
 use Rattle.std.specs.Prelude.{slice_get}
 use Rattle.std.specs.List.{list_any}
-use Rattle.std.specs.Cmp.Derive.{both_true}
-use Rattle.std.proofs.lemmas.Bool.{and_parts, eq-eqb, eqb-true, or_cases, or_left, or_right}
+use Rattle.std.proofs.lemmas.Bool.{or_cases, or_left, or_right}
 use Rattle.std.proofs.lemmas.Option.{same_Some}
-use Rattle.sym_forwarding.specs.Forwardings.{sends_to}
-use Rattle.sym_forwarding.specs.Layers.{Edge, Forwarding, arriving, ends_or_sends, leads}
+use Rattle.sym_forwarding.proofs.Edges.{sent_leads, sent_somewhere}
+use Rattle.sym_forwarding.specs.Layers.{Forwarding, arriving, ends_or_sends, leads}
 use Rattle.walk_def.specs.Marks.{known}
 use Rattle.fate_terms.specs.Reaching.{Comes, MayEnd, Sends}
 
@@ -59,40 +58,6 @@ mark_of g [] router f there is = absurd cc
 mark_of g (x ∷ fs) zero f there is = ap g (same_Some x f there) ∙ is
 mark_of g (x ∷ fs) (suc router) f there is = mark_of g fs router f there is
 
-leads_on : (marks : List Bool) (next : List Edge) → list_any (leads marks) next ≡ true →
-    (router : ℕ) × (list_any (sends_to router) next ≡ true) × (known marks router ≡ true)
-leads_on marks [] is = absurd cc
-leads_on marks (e ∷ es) is =
-    by (or_cases (leads marks e) (list_any (leads marks) es) is) (λ later. leads_on marks es later)
-  where
-    by : (leads marks e ≡ true) ⊎ (list_any (leads marks) es ≡ true) → (list_any (leads marks) es ≡ true →
-        (router : ℕ) × (list_any (sends_to router) es ≡ true) × (known marks router ≡ true)) →
-        (router : ℕ) × (list_any (sends_to router) (e ∷ es) ≡ true) × (known marks router ≡ true)
-    by (inl here) rest =
-        let (when, mark) = and_parts e.when (known marks e.to) here in (
-          e.to,
-          or_left (sends_to e.to e) (list_any (sends_to e.to) es) (both_true when (eq-eqb e.to e.to refl)),
-          mark,
-        )
-    by (inr later) rest =
-        let (router, sends, mark) = rest later in
-        (router, or_right (sends_to router e) (list_any (sends_to router) es) sends, mark)
-
-led_to : (marks : List Bool) (next : List Edge) (router : ℕ) → list_any (sends_to router) next ≡ true →
-    known marks router ≡ true → list_any (leads marks) next ≡ true
-led_to marks [] router is mark = absurd cc
-led_to marks (e ∷ es) router is mark =
-    by (or_cases (sends_to router e) (list_any (sends_to router) es) is) (λ later. led_to marks es router later mark)
-  where
-    by : (sends_to router e ≡ true) ⊎ (list_any (sends_to router) es ≡ true) →
-        (list_any (sends_to router) es ≡ true → list_any (leads marks) es ≡ true) →
-        list_any (leads marks) (e ∷ es) ≡ true
-    by (inl here) rest =
-        let (when, to) = and_parts e.when (e.to == router) here in
-        or_left (leads marks e) (list_any (leads marks) es)
-        (both_true when (ap (known marks) (eqb-true e.to router to) ∙ mark))
-    by (inr later) rest = or_right (leads marks e) (list_any (leads marks) es) (rest later)
-
 -- ---- walks
 
 pub arriving_ends : (table : List Forwarding) (start hops : ℕ) → known (arriving table hops) start ≡ true →
@@ -111,7 +76,7 @@ arriving_ends table start (suc hops) is =
         (router : ℕ) × Comes table start (suc hops) router × MayEnd table router
     by f there (inl ends) rest = (start, stays table start (suc hops), (f, there, ends))
     by f there (inr sends) rest =
-        let (next, sent, mark) = leads_on (arriving table hops) f.next sends in
+        let (next, sent, mark) = sent_somewhere (arriving table hops) f.next sends in
         let (router, comes, ends) = rest next mark in
         (router, hop_before table start next router hops (f, there, sent) comes, ends)
 
@@ -134,4 +99,4 @@ ends_arriving table start (suc hops) router comes ends =
     by (inr (next, (f, there, sends), rest)) mark =
         mark_of (ends_or_sends (arriving table hops)) table start f there
         (or_right f.ends (list_any (leads (arriving table hops)) f.next)
-        (led_to (arriving table hops) f.next next sends (mark next rest)))
+        (sent_leads (arriving table hops) next f.next sends (mark next rest)))
