@@ -1,6 +1,7 @@
 //! Where slots stand, and what OSPF routes can stand in them.
 
 ghost use Rattle.std.specs.Prelude.{◌≡◌, ◌++◌, true, false, [], ◌∷◌, Some, None, length, replicate};
+ghost use Rattle.std.specs.List.{range_with_len};
 ghost use Rattle.route_record.specs.declared.OspfKind.TheVariants.{Internal, Ext2};
 ghost use Rattle.slot_places.specs.declared.fields.Field.TheVariants.{Among};
 ghost use Rattle.slot_places.specs.Origins.{origins_at};
@@ -47,10 +48,11 @@ pub fn routes_from_bgp()
     ensures no_default { origins_at pair outside 0 ≡ [] }
 {}
 
-/// Up to eight values are told by their place, by as many bits as that takes.
+/// Up to 32 values are told by their place, by as many bits as that takes.
 pub fn fields_of_values()
     ensures one { field_width (field_of (once (20 ∷ 20 ∷ []))) ≡ 0 }
     ensures three { field_of (once (20 ∷ 30 ∷ 20 ∷ 1 ∷ [])) ≡ Among (20 ∷ 30 ∷ 1 ∷ []) }
     ensures width_of_three { field_width (field_of (20 ∷ 30 ∷ 1 ∷ [])) ≡ 2 }
-    ensures nine { field_width (field_of (1 ∷ 2 ∷ 3 ∷ 4 ∷ 5 ∷ 6 ∷ 7 ∷ 8 ∷ 300 ∷ [])) ≡ 9 }
+    ensures nine { field_width (field_of (1 ∷ 2 ∷ 3 ∷ 4 ∷ 5 ∷ 6 ∷ 7 ∷ 8 ∷ 300 ∷ [])) ≡ 4 }
+    ensures many { field_width (field_of (300 ∷ range_with_len 0 32)) ≡ 9 }
 {}

@@ -82,7 +82,7 @@ folded-keeps : (numbers values : List ℕ) (x : ℕ) → In x values → In x (f
 folded-keeps [] values x there = there
 folded-keeps (n ∷ numbers) values x there = folded-keeps numbers (put_once values n) x (put-keeps values n x there)
 
-folded-there : (numbers values : List ℕ) (x : ℕ) → In x numbers → In x (fold put_once values numbers)
+pub folded-there : (numbers values : List ℕ) (x : ℕ) → In x numbers → In x (fold put_once values numbers)
 folded-there [] values x there = absurd there
 folded-there (n ∷ numbers) values x (inl same) =
     folded-keeps numbers (put_once values n) x (subst (λ m. In m (put_once values n)) (sym same) (put-there values n))
@@ -150,7 +150,7 @@ adjacencies_above : (xs : List Adjacency) (most : ℕ) → most ≤ fold (λ m a
 adjacencies_above [] most = omega arith
 adjacencies_above (a ∷ xs) most = let rest = adjacencies_above xs (max most a.cost) in omega (arith, rest)
 
-adjacencies_within : (xs : List Adjacency) (most : ℕ) → All (λ a. a.cost ≤ fold (λ m b. max m b.cost) most xs) xs
+pub adjacencies_within : (xs : List Adjacency) (most : ℕ) → All (λ a. a.cost ≤ fold (λ m b. max m b.cost) most xs) xs
 adjacencies_within [] most = All-nil (λ a. a.cost ≤ most)
 adjacencies_within (a ∷ xs) most =
     let above = adjacencies_above xs (max most a.cost) in

@@ -8,7 +8,7 @@ use mw_text::List;
 use std::alloc::{AllocError, Global};
 
 /// How many values are told apart by their place among them, at most.
-pub const MOST_VALUES: usize = 8;
+pub const MOST_VALUES: usize = 32;
 
 /// How many addresses are told apart by their place among them, at most.
 pub const MOST_ADDRESSES: usize = 32;
@@ -52,7 +52,8 @@ pub fn put_once(held: &mut List<u32>, n: u32) -> Result<(), AllocError>
     Ok(())
 }
 
-fn greatest(numbers: &[u32]) -> u32
+/// The greatest of some numbers, 0 of none.
+pub fn greatest(numbers: &[u32]) -> u32
     ensures { result ≡ values.greatest numbers.now }
 {
     let mut most = 0u32;

@@ -74,8 +74,8 @@ fn dearest_adjacency(adjacencies: &[Adjacency]) -> u32
     most
 }
 
-// No walk over adjacencies that comes to each router once costs more.
-fn dearest_walk(files: &[File], adjacencies: &[Adjacency]) -> u64
+/// No walk over adjacencies that comes to each router once costs more.
+pub fn dearest_walk(files: &[File], adjacencies: &[Adjacency]) -> u64
     requires few { length files.now ≤ 64 }
     requires adjacencies { adjacencies.now ≡ model.adjacencies files.now }
     ensures value { result ≡ rooms.dearest_walk files.now }
