@@ -130,13 +130,14 @@ addresses_fit (Addresses addresses) n fits small = by (list_all is_word addresse
 rec_fits : (tracked : Tracked) (files : List File) (rec : BgpRec) → FitsBgp rec → HasBoundedLists tracked rec →
     FitsHeldValues (values_room files) rec → length tracked.clusters ≤ MOST_TRACKED →
     FitsShape (held_room tracked files) (bgp_shape tracked rec)
+unfolding held_room
 rec_fits tracked files rec fits lists values most = record {
   from = addresses_fit (values_room files).from (learnt_number rec.from) values.from
       (learnt_small rec.from fits.from);
   preferences = record {
     weight = words_fit (values_room files).weight rec.weight values.weight fits.weight;
     local_pref = words_fit (values_room files).local_pref rec.local_pref values.local_pref fits.local_pref;
-    med = fits.med;
+    med = words_fit (values_room files).med rec.med values.med fits.med;
     origin = origin_small rec.origin;
   };
   path = record {

@@ -73,13 +73,14 @@ addresses_within (Addresses addresses) = by (list_all is_word addresses) refl
     by false words = omega arith
 
 pub held_is_room : (tracked : Tracked) (files : List File) → IsRoomOf tracked (held_room tracked files)
+unfolding held_room
 held_is_room tracked files = (
   record {
     from = addresses_within (values_room files).from;
     preferences = record {
       weight = words_within (values_room files).weight;
       local_pref = words_within (values_room files).local_pref;
-      med = omega arith;
+      med = words_within (values_room files).med;
       origin = omega arith;
     };
     path = record { len = omega arith; first = words_within (values_room files).first; last = words_within (values_room files).last };

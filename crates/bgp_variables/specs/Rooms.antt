@@ -48,13 +48,13 @@ of_addresses (Addresses addresses) = if list_all is_word addresses then Addresse
 
 -- what a held route can be, by what lines of the files say of its numbers and of peers, and by the identifiers of routers.
 -- An imported path has at most 255 numbers
-abbrev pub held_room : Tracked → List File → BgpRoom
+unfoldable pub held_room : Tracked → List File → BgpRoom
 held_room tracked files = record {
   from = of_addresses (values_room files).from;
   preferences = record {
     weight = of_words (values_room files).weight;
     local_pref = of_words (values_room files).local_pref;
-    med = Bits 32;
+    med = of_words (values_room files).med;
     origin = Bits 2;
   };
   path = record {

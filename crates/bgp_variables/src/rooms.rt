@@ -183,6 +183,7 @@ fn worded_values(alloc: Global, net: &Net) -> Result<HeldValues, AllocError>
       originator = rooms.of_addresses (values_room net.now.files).originator;
       weight = rooms.of_words (values_room net.now.files).weight;
       local_pref = rooms.of_words (values_room net.now.files).local_pref;
+      med = rooms.of_words (values_room net.now.files).med;
       next_hop = rooms.of_words (values_room net.now.files).next_hop;
       first = rooms.of_words (values_room net.now.files).first;
       last = rooms.of_words (values_room net.now.files).last;
@@ -193,6 +194,7 @@ fn worded_values(alloc: Global, net: &Net) -> Result<HeldValues, AllocError>
         originator,
         weight,
         local_pref,
+        med,
         next_hop,
         first,
         last,
@@ -202,6 +204,7 @@ fn worded_values(alloc: Global, net: &Net) -> Result<HeldValues, AllocError>
         originator: of_addresses(originator),
         weight: of_words(weight),
         local_pref: of_words(local_pref),
+        med: of_words(med),
         next_hop: of_words(next_hop),
         first: of_words(first),
         last: of_words(last),
@@ -265,7 +268,7 @@ fn held_of(tracked: &Tracked, values: HeldValues, marks: HeldMarks) -> BgpRoom
       preferences = record {
         weight = values.weight;
         local_pref = values.local_pref;
-        med = Bits 32;
+        med = values.med;
         origin = Bits 2;
       };
       path = record { len = Bits 8; first = values.first; last = values.last; numbers = marks.numbers };
@@ -281,7 +284,7 @@ fn held_of(tracked: &Tracked, values: HeldValues, marks: HeldMarks) -> BgpRoom
         preferences: PreferencesRoom {
             weight: values.weight,
             local_pref: values.local_pref,
-            med: Field::Bits(32),
+            med: values.med,
             origin: Field::Bits(2),
         },
         path: PathRoom {
@@ -301,8 +304,8 @@ fn held_of(tracked: &Tracked, values: HeldValues, marks: HeldMarks) -> BgpRoom
 /// What a held route of a network of these files can be: its weight, local preference, next hop and first AS number are
 /// among those that lines of the files say, where these are few (RFC 4271, section 5.1), and so is the peer of whom it is
 /// learnt, if any; its originator is a router, if any (RFC 4456, section 8). Where no router has an external peer so is its
-/// last AS number.
-#[tactic(auto, using(crate::proofs::RoomSteps::held_is_room))]
+/// last AS number, and its MED is among those that lines say or has room in the bits of the metrics of OSPF routes.
+#[tactic(auto, using(crate::proofs::RoomSteps::held_is_room), unfolding(crate::specs::Rooms::held_room))]
 pub fn held_room(alloc: Global, tracked: &Tracked, net: &Net) -> Result<BgpRoom, AllocError>
     ensures value { IfOk result (λ r. r ≡ rooms.held_room tracked.now net.now.files) }
     ensures room { IfOk result (IsRoomOf tracked.now) }

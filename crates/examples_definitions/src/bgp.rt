@@ -6,9 +6,9 @@ ghost use Rattle.net_parts.specs.Decisions.{survivors};
 ghost use Rattle.net_parts.specs.Exports.{exported, imported};
 ghost use Rattle.net_parts.specs.Resolution.{session_up};
 ghost use Rattle.net_parts.specs.Sessions.{ends_of};
-ghost use Rattle.held_values.specs.Values.{firsts_of, next_hops_of, preferences_of, weights_of};
+ghost use Rattle.held_values.specs.Values.{firsts_of, meds_of, next_hops_of, ospf_bits, preferences_of, weights_of};
 ghost use Rattle.slot_places.specs.Values.{once};
-ghost use Rattle.examples_definitions.specs.Networks.{address, candidate, edge, failed, learnt, message, prefix};
+ghost use Rattle.examples_definitions.specs.Networks.{address, candidate, edge, failed, learnt, message, pair, prefix};
 
 /// E1 has an end towards the external peer, and each router has one towards the other. The session between loopbacks is up
 /// while the link between the routers is.
@@ -37,10 +37,15 @@ pub fn exports_at_an_edge()
 {}
 
 /// Held routes at the edge have the weight of a neighbour or of a local route, and next hops that are neighbours; the first
-/// AS number of a path is the external peer's, and none is said of the two internal neighbours.
+/// AS number of a path is the external peer's, and none is said of the two internal neighbours. No line says a MED; an OSPF
+/// route costs at most 1 and, for each of the two routers, 1 more. Where a line redistributes BGP routes the default metric
+/// of 20 counts too.
 pub fn values_at_an_edge()
     ensures weights { once (weights_of edge) ≡ 0 ∷ 32768 ∷ [] }
     ensures preferences { once (preferences_of edge) ≡ 100 ∷ [] }
+    ensures meds { once (meds_of edge) ≡ 0 ∷ [] }
+    ensures metrics { ospf_bits edge ≡ 2 }
+    ensures brought { ospf_bits pair ≡ 5 }
     ensures next_hops { once (next_hops_of edge) ≡ 0 ∷ 3221225986 ∷ 184483842 ∷ 184483841 ∷ [] }
     ensures firsts { once (firsts_of edge) ≡ 0 ∷ 65001 ∷ [] }
 {}

@@ -1,9 +1,9 @@
 -- Fields for known values: each value once, and each held route has room.
 use Rattle.std.proofs.Common.{◌≡◌, ◌⊎◌, ℕ, ◌+◌, ◌^◌, ◌<◌, ◌==◌, ◌||◌, Bool, true, false, List, [], ◌∷◌, inl, inr, refl, sym}
-use Rattle.std.proofs.Common.{arith, zero, suc, ◌-◌, ap, map, ◌++◌, ◌∙◌}
+use Rattle.std.proofs.Common.{arith, zero, suc, ◌-◌, ap, map, ◌∙◌, max, nat_lt, subst}
 use Rattle.std.specs.Prelude.{All, IfSome, None, Option, Some, fold, if◌then◌else◌, length, slice_index}
 use Rattle.std.specs.List.{flat_map, list_all, range_with_len}
-use Rattle.std.proofs.lemmas.Bool.{eqb-true}
+use Rattle.std.proofs.lemmas.Bool.{eqb-true, ltb-true}
 use Rattle.std.proofs.lemmas.List.Elements.{All-head, All-tail}
 use Rattle.std.proofs.lemmas.List.FromFn.{map-range_with_len_more}
 use Rattle.std.proofs.lemmas.List.Sums.{fold-append}
@@ -31,15 +31,18 @@ use Rattle.net_parts.specs.Stable.{Stable}
 use Rattle.net_parts.specs.Tracked.{TracksNet}
 use Rattle.net_parts.specs.World.{IsEnvironment}
 use Rattle.route_shapes.specs.Bgp.{address_number, learnt_number}
+use Rattle.slot_places.specs.declared.fields.Field.{Field}
 use Rattle.slot_places.specs.declared.fields.Field.TheVariants.{Bits}
-use Rattle.slot_places.specs.Values.{FitsField, field_of, once, put_once}
+use Rattle.slot_places.specs.Values.{FitsField, field_bits, field_of, once, put_once}
 use Rattle.slot_places.proofs.Fitting.{fits_addresses, fits_among}
 use Rattle.held_values.specs.declared.numbers.HeldNumber.{HeldNumber}
-use Rattle.held_values.specs.Rooms.{FitsHeldValues, values_room}
-use Rattle.held_values.specs.Values.{HasHeldValues, firsts_of, has_peers, lasts_of, is_learnt_among, is_none_or_among, next_hops_of}
-use Rattle.held_values.specs.Values.{originators_of, peers_of, preferences_of, said_in_file, unsaid, values_of}
-use Rattle.held_values.specs.Values.{weights_of}
+use Rattle.held_values.specs.declared.numbers.HeldNumber.TheVariants.{Med}
+use Rattle.held_values.specs.Rooms.{FitsHeldValues, values_room, with_bits}
+use Rattle.held_values.specs.Values.{HasHeldValues, firsts_of, has_peers, lasts_of, is_held_value, is_learnt_among}
+use Rattle.held_values.specs.Values.{is_none_or_among, meds_of, next_hops_of, originators_of, ospf_bits, peers_of}
+use Rattle.held_values.specs.Values.{preferences_of, said_in_file, unsaid, values_of, weights_of}
 use Rattle.held_values.proofs.Held.{held_known}
+use Rattle.held_values.proofs.Metrics.{bits_hold, wider}
 
 -- first what no line need say, and then what lines say
 pub values_once : (which : HeldNumber) (files : List File) →
@@ -98,6 +101,50 @@ originator_there : (ids : List ℕ) (o : Option Addr) → is_none_or_among ids o
 originator_there ids None is = inl refl
 originator_there ids (Some a) is = inr (a.0, in-carried ids a.0 is, refl)
 
+-- ---- the MED
+
+zero_there : (files : List File) → In 0 (meds_of files)
+unfolding values_of
+zero_there files = inl refl
+
+-- what lines say, and what has room in the bits of OSPF metrics, has room in their field
+module _ (files : List File) (n : ℕ) (small : n < 2 ^ 32) where
+  abbrev said_field : Field
+  said_field = field_of (once (meds_of files))
+
+  listed_fits : In n (meds_of files) → FitsField (with_bits said_field (ospf_bits files)) n
+  listed_fits there = by (ospf_bits files == 0)
+    where
+      fits : FitsField said_field n
+      fits = fits_among (meds_of files) n there small
+
+      by : (b : Bool) →
+          FitsField (if b then said_field else Bits (max (field_bits said_field) (ospf_bits files))) n
+      by true = fits
+      by false =
+          wider n (field_bits said_field) (max (field_bits said_field) (ospf_bits files)) (omega arith)
+          (bits_hold said_field n fits small)
+
+  metric_fits : n < 2 ^ ospf_bits files → FitsField (with_bits said_field (ospf_bits files)) n
+  metric_fits less = by (ospf_bits files == 0) refl
+    where
+      by : (b : Bool) → (ospf_bits files == 0) ≡ b →
+          FitsField (if b then said_field else Bits (max (field_bits said_field) (ospf_bits files))) n
+      by true none =
+          let one : n < 2 ^ 0 = subst (λ k. n < 2 ^ k) (eqb-true (ospf_bits files) 0 none) less in
+          let nothing : 0 ≡ n = omega (arith, one) in
+          fits_among (meds_of files) n (subst (λ k. In k (meds_of files)) nothing (zero_there files)) small
+      by false some =
+          wider n (ospf_bits files) (max (field_bits said_field) (ospf_bits files)) (omega arith) less
+
+  med_fits : is_held_value Med files n ≡ true → FitsField (with_bits said_field (ospf_bits files)) n
+  med_fits = by (carries (values_of Med files) n) refl
+    where
+      by : (b : Bool) → carries (values_of Med files) n ≡ b → (b || nat_lt n (2 ^ ospf_bits files)) ≡ true →
+          FitsField (with_bits said_field (ospf_bits files)) n
+      by true there is = listed_fits (in-carried (values_of Med files) n there)
+      by false missing is = metric_fits (ltb-true n (2 ^ ospf_bits files) is)
+
 -- ---- all
 
 fits_known : (files : List File) (rec : BgpRec) → HasHeldValues files rec → FitsBgp rec →
@@ -112,6 +159,7 @@ fits_known files rec known fits = record {
       fits.weight;
   local_pref = fits_among (preferences_of files) rec.local_pref
       (in-carried (preferences_of files) rec.local_pref known.local_pref) fits.local_pref;
+  med = by_med (has_peers files) known.med;
   next_hop = fits_among (next_hops_of files) rec.next_hop.0
       (in-carried (next_hops_of files) rec.next_hop.0 known.next_hop) fits.next_hop;
   first = fits_among (firsts_of files) (first_of rec.path)
@@ -119,6 +167,11 @@ fits_known files rec known fits = record {
   last = by (has_peers files) known.last;
 }
   where
+    by_med : (b : Bool) → (b ≡ false → is_held_value Med files rec.med ≡ true) → FitsField
+        (if b then Bits 32 else with_bits (field_of (once (meds_of files))) (ospf_bits files)) rec.med
+    by_med true said = fits.med
+    by_med false said = med_fits files rec.med fits.med (said refl)
+
     small : last_of rec.path < 2 ^ 32
     small = all_below (length rec.path - 1) rec.path fits.path
 

@@ -1,9 +1,10 @@
 -- The numbers of held routes are known, and so are their peers and originators: over each session, and so in each stable routing.
-use Rattle.std.proofs.Common.{arith, zero, suc, [], ◌≡◌, ℕ, ◌<◌, ◌==◌, ◌&&◌, ◌⊎◌, inl, inr, not, Bool, true, false, List, ◌∷◌}
+use Rattle.std.proofs.Common.{arith, ◌≡◌, ℕ, ◌<◌, ◌==◌, ◌&&◌, ◌⊎◌, inl, inr, not, Bool, true, false, List, ◌∷◌}
 use Rattle.std.proofs.Common.{Option, Some, None, refl, sym, ap, ◌∙◌, subst, if◌then◌else◌}
 use Rattle.std.specs.Prelude.{IfSome, length, nat_le, option_and_then, option_map, slice_get, unwrap_or}
-use Rattle.std.specs.List.{find, list_all, list_any}
+use Rattle.std.specs.List.{find, list_all}
 use Rattle.std.proofs.lemmas.Bool.{and_parts, eq-eqb, eqb-true, false≢true, or_left, or_right}
+use Rattle.std.proofs.lemmas.Map.Keys.{any_passes_from_place}
 use Rattle.std.proofs.lemmas.List.FromFn.{get_or-map-range_with_len, length-map-range_with_len}
 use Rattle.std.proofs.lemmas.Option.{same_Some, slice_get_within}
 use Rattle.mw_text.proofs.Lists.{all_found}
@@ -53,11 +54,12 @@ use Rattle.rebuilt_routes.proofs.ReflectorsOnce.{IsRouteSent, IsRouteTaken, rout
 use Rattle.rebuilt_routes.proofs.StableShapes.{kept_held}
 use Rattle.slot_places.proofs.Members.{any-in}
 use Rattle.held_values.specs.declared.numbers.HeldNumber.{HeldNumber}
-use Rattle.held_values.specs.declared.numbers.HeldNumber.TheVariants.{Weight, LocalPref, NextHop, FirstAs, LastAs}
-use Rattle.held_values.specs.Values.{HasHeldValues, has_peers, is_learnt_among, is_none_or_among, number_of, originators_of}
-use Rattle.held_values.specs.Values.{peers_of, router_ids, said_of_neighbour, values_of}
+use Rattle.held_values.specs.declared.numbers.HeldNumber.TheVariants.{Weight, LocalPref, Med, NextHop, FirstAs, LastAs}
+use Rattle.held_values.specs.Values.{HasHeldValues, has_peers, is_held_value, is_learnt_among, is_none_or_among, number_of}
+use Rattle.held_values.specs.Values.{originators_of, peers_of, router_ids, said_of_neighbour}
 use Rattle.held_values.proofs.EndsMeet.{NamesOther, names_far}
 use Rattle.held_values.proofs.Lines.{IsKnown, known_lines, known_unsaid, peers_known}
+use Rattle.held_values.proofs.Metrics.{slot_metric}
 use Rattle.held_values.proofs.Routes.{IsKnownReceived, IsKnownRoute, IsMadeOf, exported_made, imported_known}
 use Rattle.held_values.proofs.Routes.{known_front, locals_known}
 
@@ -210,19 +212,14 @@ module _ (files : List File) where
 
 -- ---- numbers
 
--- announcements can end in any AS number
+-- announcements can end in any AS number and have any MED
 abbrev IsSaid : HeldNumber → List File → Type 0
 IsSaid Weight files = Unit {0}
 IsSaid LocalPref files = Unit {0}
+IsSaid Med files = has_peers files ≡ false
 IsSaid NextHop files = Unit {0}
 IsSaid FirstAs files = Unit {0}
 IsSaid LastAs files = has_peers files ≡ false
-
-any_at : {X : Type 0} (p : X → Bool) (xs : List X) (at : ℕ) (x : X) → slice_get xs at ≡ Some x → p x ≡ true →
-    list_any p xs ≡ true
-any_at p [] at x there holds = absurd cc
-any_at p (y ∷ ys) zero x there holds = or_left (p y) (list_any p ys) (ap p (same_Some y x there) ∙ holds)
-any_at p (y ∷ ys) (suc at) x there holds = or_right (p y) (list_any p ys) (any_at p ys at x there holds)
 
 module _ (files : List File) where
   alike : (at : ℕ) (end : SessionEnd) → slice_get (ends_of files) at ≡ Some end → IsAlike files end
@@ -309,6 +306,23 @@ module _ (files : List File) where
           by_kind (inr (outside, made)) =
               subst (λ (m : BgpMsg). IsKnown NextHop files m.next_hop.0) (sym made.1) address
 
+      med : IsMadeOf Med files far held message → IsKnown Med files (unwrap_or message.med 0)
+      med of = by_kind of.made
+        where
+          kept : (keeps : Bool) → IsKnown Med files (unwrap_or (if keeps then Some of.r.med else None) 0)
+          kept true = of.left
+          kept false = known_unsaid Med files 0 refl
+
+          by_kind : ((far.internal ≡ true)
+              × (message ≡ internal_message files far.router of.neighbour (own_address files far) held of.r))
+              ⊎ ((far.internal ≡ false) × ((keeps : Bool)
+              × (message ≡ external_message of.process of.neighbour (own_address files far) keeps held of.r))) →
+              IsKnown Med files (unwrap_or message.med 0)
+          by_kind (inl (inside, made)) =
+              subst (λ (m : BgpMsg). IsKnown Med files (unwrap_or m.med 0)) (sym made) of.left
+          by_kind (inr (outside, made)) =
+              subst (λ (m : BgpMsg). IsKnown Med files (unwrap_or m.med 0)) (sym made.1) (kept made.0)
+
       asn_of : (w : HeldNumber) (of : IsMadeOf w files far held message) → of.process.asn ≡ neighbour.asn
       asn_of w of =
           ap (λ (b : Bgp). b.asn) (same_Some of.process met.process
@@ -352,6 +366,7 @@ module _ (files : List File) where
           IsKnownRoute w files (received neighbour end message)
       by Weight of h = said Weight
       by LocalPref of h = preference of end.internal refl
+      by Med of h = med of
       by NextHop of h = hop of h
       by FirstAs of h = first of
       by LastAs of h = last of
@@ -412,6 +427,12 @@ module _ (files : List File) where
         outside : end.internal ≡ false
         outside = internal_is at end file process neighbour stands there runs named ∙ other
 
+        -- there is an external peer
+        no_peer : has_peers files ≡ false → ⊥
+        no_peer none =
+            false≢true (sym none ∙ any_passes_from_place (λ (e : SessionEnd). is_outside e.far) (ends_of files) at end stands
+            (ap is_outside peer))
+
         preference : (b : Bool) → b ≡ false → IsKnown LocalPref files (if b then 0 else 100)
         preference true own = absurd cc
         preference false own = known_unsaid LocalPref files 100 refl
@@ -420,18 +441,17 @@ module _ (files : List File) where
             IsKnownRoute w files (received neighbour end (announced_message line.addr a))
         by Weight may_say = said Weight
         by LocalPref may_say = preference end.internal outside
+        by Med none = absurd (no_peer none)
         by NextHop may_say =
             subst (λ (n : Neighbour). IsKnown NextHop files n.addr.0)
             (same_Some neighbour line (sym named ∙ says_line)) (said NextHop)
         by FirstAs may_say =
             subst (IsKnown FirstAs files) (sym (ap first_of begins.1))
             (other_as FirstAs files neighbour.asn (process.asn == neighbour.asn) other (said FirstAs))
-        by LastAs none =
-            absurd (false≢true (sym none ∙ any_at (λ (e : SessionEnd). is_outside e.far) (ends_of files) at end stands
-            (ap is_outside peer)))
+        by LastAs none = absurd (no_peer none)
 
     kept : (which : HeldNumber) (p : Prefix) → IsSaid which files →
-        IsKeptBySessions files environment p (λ router rec. carries (values_of which files) (number_of which rec))
+        IsKeptBySessions files environment p (λ router rec. is_held_value which files (number_of which rec))
     kept which p may_say = record {
       announced = λ at end neighbour a rec stands outside named says taken.
           if_is (IsKnownRoute which files) (imported files end p (announced_message neighbour.addr a)) rec
@@ -457,6 +477,7 @@ held_known tracked files destination failures environment tables len net limits 
       originator = originated;
       weight = known Weight tt;
       local_pref = known LocalPref tt;
+      med = λ none. known Med none;
       next_hop = known NextHop tt;
       first = known FirstAs tt;
       last = λ none. known LastAs none;
@@ -465,10 +486,11 @@ held_known tracked files destination failures environment tables len net limits 
     known : (which : HeldNumber) → IsSaid which files → IsKnownRoute which files held
     known which may_say =
         kept_held files destination failures environment tables stable len below tracked net limits
-        (λ router rec. carries (values_of which files) (number_of which rec))
+        (λ router rec. is_held_value which files (number_of which rec))
         (λ r rec is. all_members (IsKnownRoute which files)
         (local_routes files r is.file is.process (prefix_at destination len) is.slot)
-        (locals_known which files r is.file is.process (prefix_at destination len) is.slot is.there is.runs) rec is.is)
+        (locals_known which files r is.file is.process (prefix_at destination len) is.slot is.there is.runs
+        (slot_metric files destination failures environment tables stable limits len below r is.slot is.holds)) rec is.is)
         (kept files environment may which (prefix_at destination len) may_say) router held
         (ap (option_and_then (λ (x : Slot). x.bgp)) there ∙ holds)
 

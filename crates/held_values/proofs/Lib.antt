@@ -1,5 +1,6 @@
 pub mod EndsMeet
 pub mod Lines
 pub mod Routes
+pub mod Metrics
 pub mod Held
 pub mod Fields

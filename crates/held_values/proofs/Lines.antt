@@ -1,7 +1,7 @@
 -- What is true of all values that lines of the files say is true of each line, and so of what a route map leaves.
 use Rattle.std.proofs.Common.{◌≡◌, ℕ, ◌==◌, ◌||◌, Bool, true, false, List, [], ◌∷◌, ◌++◌, Option, Some, None, refl}
 use Rattle.std.proofs.Common.{subst, if◌then◌else◌}
-use Rattle.std.specs.Prelude.{All, IfSome, option_and_then, slice_get}
+use Rattle.std.specs.Prelude.{◌^◌, All, IfSome, nat_lt, option_and_then, slice_get}
 use Rattle.std.specs.List.{cons_option, filter_map, find, flat_map}
 use Rattle.std.specs.Option.{option_map_or}
 use Rattle.std.proofs.lemmas.Bool.{eq-eqb, or_left, or_right}
@@ -21,30 +21,30 @@ use Rattle.ios_ast.specs.Deciding.{carries, in_order}
 use Rattle.ios_ast.specs.Maps.{deciding, entries_named, mapped, route_taken, through_map}
 use Rattle.ios_ast.specs.Setting.{Attributes, set_all, set_one}
 use Rattle.held_values.specs.declared.numbers.HeldNumber.{HeldNumber}
-use Rattle.held_values.specs.declared.numbers.HeldNumber.TheVariants.{NextHop}
+use Rattle.held_values.specs.declared.numbers.HeldNumber.TheVariants.{Weight, LocalPref, Med, NextHop, FirstAs, LastAs}
 use Rattle.held_values.specs.Values.{peers_of, said_by_process, said_in_entry, said_in_file, said_in_map, said_of_neighbour}
-use Rattle.held_values.specs.Values.{said_of_set, unsaid, values_of}
+use Rattle.held_values.specs.Values.{is_held_value, ospf_bits, said_of_redist, said_of_set, unsaid, values_of}
 use Rattle.rebuilt_routes.proofs.Words.{found_all, ordered_all}
 
 -- ---- lists
 
-all_left : {X : Type 0} (P : X → Type 0) (xs ys : List X) → All P (xs ++ ys) → All P xs
+pub all_left : {X : Type 0} (P : X → Type 0) (xs ys : List X) → All P (xs ++ ys) → All P xs
 all_left P [] ys all = All-nil P
 all_left P (x ∷ xs) ys all =
     All-cons P x xs (All-head P x (xs ++ ys) all) (all_left P xs ys (All-tail P x (xs ++ ys) all))
 
-all_right : {X : Type 0} (P : X → Type 0) (xs ys : List X) → All P (xs ++ ys) → All P ys
+pub all_right : {X : Type 0} (P : X → Type 0) (xs ys : List X) → All P (xs ++ ys) → All P ys
 all_right P [] ys all = all
 all_right P (x ∷ xs) ys all = all_right P xs ys (All-tail P x (xs ++ ys) all)
 
-all_joined : {X Y : Type 0} (P : Y → Type 0) (f : X → List Y) (xs : List X) → All P (flat_map f xs) →
+pub all_joined : {X Y : Type 0} (P : Y → Type 0) (f : X → List Y) (xs : List X) → All P (flat_map f xs) →
     All (λ x. All P (f x)) xs
 all_joined P f [] all = All-nil (λ x. All P (f x))
 all_joined P f (x ∷ xs) all =
     All-cons (λ y. All P (f y)) x xs (all_left P (f x) (flat_map f xs) all)
     (all_joined P f xs (all_right P (f x) (flat_map f xs) all))
 
-all_given_back : {X Y : Type 0} (P : Y → Type 0) (h : X → Option Y) (xs : List X) → All P (filter_map h xs) →
+pub all_given_back : {X Y : Type 0} (P : Y → Type 0) (h : X → Option Y) (xs : List X) → All P (filter_map h xs) →
     All (λ x. IfSome (h x) P) xs
 all_given_back P h [] all = All-nil (λ x. IfSome (h x) P)
 all_given_back {X = X} {Y = Y} P h (x ∷ xs) all =
@@ -78,21 +78,46 @@ stands_left (x ∷ xs) ys n there = by (x == n) there (stands_left xs ys n)
 -- ---- the lines of files
 
 abbrev pub IsKnown : HeldNumber → List File → ℕ → Type 0
-IsKnown which files n = carries (values_of which files) n ≡ true
+IsKnown which files n = is_held_value which files n ≡ true
 
-abbrev pub IsKnownSet : HeldNumber → List File → SetAct → Type 0
-IsKnownSet which files line = IfSome (said_of_set which line) (IsKnown which files)
+-- what no line or some line says is known
+listed_known : (which : HeldNumber) (files : List File) (n : ℕ) → carries (values_of which files) n ≡ true →
+    IsKnown which files n
+listed_known Weight files n there = there
+listed_known LocalPref files n there = there
+listed_known Med files n there =
+    or_left (carries (values_of Med files) n) (nat_lt n (2 ^ ospf_bits files)) there
+listed_known NextHop files n there = there
+listed_known FirstAs files n there = there
+listed_known LastAs files n there = there
 
-abbrev AreKnownSets : HeldNumber → List File → MapEntry → Type 0
-AreKnownSets which files e = All (IsKnownSet which files) e.sets
+-- what a set line says of the number, if anything, is so
+abbrev pub IsSetOf : HeldNumber → (ℕ → Type 0) → SetAct → Type 0
+IsSetOf which Q line = IfSome (said_of_set which line) Q
 
-abbrev AreKnownEntries : HeldNumber → List File → List MapEntry → Type 0
-AreKnownEntries which files entries = All (AreKnownSets which files) entries
+abbrev AreSetsOf : HeldNumber → (ℕ → Type 0) → MapEntry → Type 0
+AreSetsOf which Q e = All (IsSetOf which Q) e.sets
 
--- of a router that runs BGP all that its neighbour lines and its maps say
+-- and so of all lines of a route map, of each
+abbrev pub AreEntriesOf : HeldNumber → (ℕ → Type 0) → List MapEntry → Type 0
+AreEntriesOf which Q entries = All (AreSetsOf which Q) entries
+
+abbrev pub AreMapsOf : HeldNumber → (ℕ → Type 0) → List RouteMap → Type 0
+AreMapsOf which Q maps = All (λ (m : RouteMap). AreEntriesOf which Q m.entries) maps
+
+pub maps_of : (which : HeldNumber) (Q : ℕ → Type 0) (maps : List RouteMap) → All Q (flat_map (said_in_map which) maps) →
+    AreMapsOf which Q maps
+maps_of which Q maps all =
+    All-weaker (λ (m : RouteMap). All Q (said_in_map which m)) (λ (m : RouteMap). AreEntriesOf which Q m.entries)
+    (λ m said. All-weaker (λ (e : MapEntry). All Q (said_in_entry which e)) (AreSetsOf which Q)
+    (λ e sets. all_given_back Q (said_of_set which) e.sets sets) m.entries
+    (all_joined Q (said_in_entry which) m.entries said)) maps (all_joined Q (said_in_map which) maps all)
+
+-- of a router that runs BGP all that its neighbour lines, its `redistribute` lines and its maps say
 pub record HasKnownLines (which : HeldNumber) (files : List File) (file : File) (process : Bgp) : Type 0 where
   pub neighbours : All (λ n. IfSome (said_of_neighbour which process n) (IsKnown which files)) process.neighbours
-  pub maps : All (λ (m : RouteMap). AreKnownEntries which files m.entries) file.policies.maps
+  pub redists : All (λ l. IfSome (said_of_redist which l) (IsKnown which files)) process.redistribute
+  pub maps : AreMapsOf which (IsKnown which files) file.policies.maps
 
 -- what is true of all that lines say is true of what those of a router that runs BGP say
 lines_hold : (which : HeldNumber) (files : List File) (P : ℕ → Type 0) → All P (flat_map (said_in_file which) files) →
@@ -108,24 +133,33 @@ pub known_lines : (which : HeldNumber) (files : List File) (router : ℕ) (file 
 unfolding values_of
 known_lines which files router file process there runs = record {
   neighbours = all_given_back P (said_of_neighbour which process) process.neighbours
-      (all_left P (filter_map (said_of_neighbour which process) process.neighbours)
-      (flat_map (said_in_map which) file.policies.maps) here);
-  maps = All-weaker (λ (m : RouteMap). All P (said_in_map which m)) (λ (m : RouteMap). AreKnownEntries which files
-      m.entries) (λ m all. All-weaker (λ (e : MapEntry). All P (said_in_entry which e)) (AreKnownSets which files)
-      (λ e said. all_given_back P (said_of_set which) e.sets said) m.entries
-      (all_joined P (said_in_entry which) m.entries all)) file.policies.maps
-      (all_joined P (said_in_map which) file.policies.maps
-      (all_right P (filter_map (said_of_neighbour which process) process.neighbours)
-      (flat_map (said_in_map which) file.policies.maps) here));
+      (all_left P (filter_map (said_of_neighbour which process) process.neighbours) (redists ++ maps) here);
+  redists = all_given_back P (said_of_redist which) process.redistribute (all_left P redists maps behind);
+  maps = maps_of which P file.policies.maps (all_right P redists maps behind);
 }
   where
     P : ℕ → Type 0
     P = IsKnown which files
 
+    redists : List ℕ
+    redists = filter_map (said_of_redist which) process.redistribute
+
+    maps : List ℕ
+    maps = flat_map (said_in_map which) file.policies.maps
+
+    all : All P (unsaid which ++ flat_map (said_in_file which) files)
+    all =
+        All-weaker (λ n. carries (values_of which files) n ≡ true) P (listed_known which files)
+        (unsaid which ++ flat_map (said_in_file which) files)
+        (all_stand (unsaid which ++ flat_map (said_in_file which) files))
+
     here : All P (said_by_process which file process)
     here =
-        lines_hold which files P (all_right P (unsaid which) (flat_map (said_in_file which) files)
-        (all_stand (unsaid which ++ flat_map (said_in_file which) files))) router file process there runs
+        lines_hold which files P (all_right P (unsaid which) (flat_map (said_in_file which) files) all) router file
+        process there runs
+
+    behind : All P (redists ++ maps)
+    behind = all_right P (filter_map (said_of_neighbour which process) process.neighbours) (redists ++ maps) here
 
 -- the addresses of neighbour lines are those of peers
 pub peers_known : (files : List File) (router : ℕ) (file : File) (process : Bgp) → slice_get files router ≡ Some file →
@@ -133,7 +167,8 @@ pub peers_known : (files : List File) (router : ℕ) (file : File) (process : Bg
 peers_known files router file process there runs =
     all_given_back P (said_of_neighbour NextHop process) process.neighbours
     (all_left P (filter_map (said_of_neighbour NextHop process) process.neighbours)
-    (flat_map (said_in_map NextHop) file.policies.maps)
+    (filter_map (said_of_redist NextHop) process.redistribute
+    ++ flat_map (said_in_map NextHop) file.policies.maps)
     (lines_hold NextHop files P (all_stand (peers_of files)) router file process there runs))
   where
     P : ℕ → Type 0
@@ -143,47 +178,47 @@ peers_known files router file process there runs =
 pub known_unsaid : (which : HeldNumber) (files : List File) (n : ℕ) → carries (unsaid which) n ≡ true →
     IsKnown which files n
 unfolding values_of
-known_unsaid which files n there = stands_left (unsaid which) (flat_map (said_in_file which) files) n there
+known_unsaid which files n there =
+    listed_known which files n (stands_left (unsaid which) (flat_map (said_in_file which) files) n there)
 
 -- ---- route maps
 
--- what every set line that says known values keeps, a map keeps, also where none is applied
-module _ (which : HeldNumber) (files : List File) (P : Attributes → Type 0) (external : Bool)
-    (keeps : (r : Attributes) (line : SetAct) → IsKnownSet which files line → P r → P (set_one external r line)) where
-  lines_keep : (r : Attributes) (lines : List SetAct) → All (IsKnownSet which files) lines → P r →
-      P (set_all external r lines)
-  lines_keep r [] known h = h
-  lines_keep r (line ∷ lines) known h =
-      lines_keep (set_one external r line) lines (All-tail (IsKnownSet which files) line lines known)
-      (keeps r line (All-head (IsKnownSet which files) line lines known) h)
+-- what every set line that says such values keeps, a map keeps, also where none is applied
+module _ (which : HeldNumber) (Q : ℕ → Type 0) (P : Attributes → Type 0) (external : Bool)
+    (keeps : (r : Attributes) (line : SetAct) → IsSetOf which Q line → P r → P (set_one external r line)) where
+  lines_keep : (r : Attributes) (lines : List SetAct) → All (IsSetOf which Q) lines → P r → P (set_all external r lines)
+  lines_keep r [] said h = h
+  lines_keep r (line ∷ lines) said h =
+      lines_keep (set_one external r line) lines (All-tail (IsSetOf which Q) line lines said)
+      (keeps r line (All-head (IsSetOf which Q) line lines said) h)
 
   map_keeps : (policies : Policies) (entries : List MapEntry) (p : Prefix) (r : Attributes) →
-      AreKnownEntries which files entries → P r → IfSome (mapped policies entries p external r) P
-  map_keeps policies entries p r known h =
+      AreEntriesOf which Q entries → P r → IfSome (mapped policies entries p external r) P
+  map_keeps policies entries p r said h =
       by (deciding policies p r entries)
-      (found_all (AreKnownSets which files) (route_taken policies p r) (in_order (λ e. e.seq) entries)
-      (ordered_all (AreKnownSets which files) (λ e. e.seq) entries known))
+      (found_all (AreSetsOf which Q) (route_taken policies p r) (in_order (λ e. e.seq) entries)
+      (ordered_all (AreSetsOf which Q) (λ e. e.seq) entries said))
     where
-      left : (e : MapEntry) (permit : Bool) → AreKnownSets which files e →
+      left : (e : MapEntry) (permit : Bool) → AreSetsOf which Q e →
           IfSome (if permit then Some (set_all external r e.sets) else None) P
       left e true sets = lines_keep r e.sets sets h
       left e false sets = tt
 
-      by : (o : Option MapEntry) → IfSome o (AreKnownSets which files) →
+      by : (o : Option MapEntry) → IfSome o (AreSetsOf which Q) →
           IfSome (option_and_then (λ (e : MapEntry). if e.permit then Some (set_all external r e.sets) else None) o) P
       by None sets = tt
       by (Some e) sets = left e e.permit sets
 
-  pub through_known : (file : File) (process : Bgp) → HasKnownLines which files file process → (used : Option Use)
-      (p : Prefix) (r : Attributes) → P r → IfSome (through_map file.policies used p external r) P
-  through_known file process lines None p r h = h
-  through_known file process lines (Some named) p r h =
+  pub through_kept : (file : File) → AreMapsOf which Q file.policies.maps → (used : Option Use) (p : Prefix)
+      (r : Attributes) → P r → IfSome (through_map file.policies used p external r) P
+  through_kept file maps None p r h = h
+  through_kept file maps (Some named) p r h =
       map_keeps file.policies (entries_named file.policies named) p r
       (by (find (λ map. same_text map.name named.name) file.policies.maps)
-      (found_all (λ (m : RouteMap). AreKnownEntries which files m.entries) (λ map. same_text map.name named.name)
-      file.policies.maps lines.maps)) h
+      (found_all (λ (m : RouteMap). AreEntriesOf which Q m.entries) (λ map. same_text map.name named.name)
+      file.policies.maps maps)) h
     where
-      by : (o : Option RouteMap) → IfSome o (λ (m : RouteMap). AreKnownEntries which files m.entries) →
-          AreKnownEntries which files (option_map_or (λ (m : RouteMap). m.entries) o [])
-      by None all = All-nil (AreKnownSets which files)
+      by : (o : Option RouteMap) → IfSome o (λ (m : RouteMap). AreEntriesOf which Q m.entries) →
+          AreEntriesOf which Q (option_map_or (λ (m : RouteMap). m.entries) o [])
+      by None all = All-nil (AreSetsOf which Q)
       by (Some m) all = all

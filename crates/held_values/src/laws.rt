@@ -22,7 +22,8 @@ ghost use Rattle.held_values.specs.Values.{HasHeldValues};
 /// The weight, the local preference and the next hop of each BGP route that a router of a stable routing holds, and the
 /// first AS number of its path, are among those that lines of the files say; it is local, or learnt of the address of a
 /// neighbour line; its originator, if any, is the identifier of a router or 0.0.0.0; and where no router has an external
-/// peer the last AS number of its path is among those that lines say, too.
+/// peer the last AS number of its path is among those that lines say, too, and so is its MED, or it has room in the bits of
+/// the metrics of OSPF routes.
 pub fn values_law()
     ensures { (tracked : TrackedOf) (files : ListOf FileOf) (destination : AddrOf) (failures : FailuresOf)
         (environment : EnvironmentOf) (tables : TablesOf) (len : ℕ) → TracksNet files tracked →

@@ -1,29 +1,33 @@
 //! The values that the numbers of held BGP routes can have, and fields that tell them.
 
-ghost use Rattle.std.specs.Prelude.{◌≡◌, ◌<◌, ◌-◌, ◌==◌, IfOk, None, OnOk, Some, fold, if◌then◌else◌, length, slice_get};
+ghost use Rattle.std.specs.Prelude.{◌≡◌, ◌<◌, ◌-◌, ◌==◌, IfOk, None, OnOk, Some, fold, if◌then◌else◌, length, max, option_map, slice_get};
 ghost use Rattle.std.specs.List.{filter_map, flat_map};
+ghost use Rattle.std.specs.Option.{option_to_list};
 ghost use Rattle.net_parts.specs.Exports.{router_id};
 ghost use Rattle.held_values.specs.Rooms.{put_option, values_room};
+ghost use Rattle.held_values.specs.Rooms as rooms;
 ghost use Rattle.held_values.specs.Values as values;
 ghost use Rattle.slot_places.specs.Values as fields;
 
 use crate::numbers::HeldNumber;
-use ios_ast::{Bgp, File, MapEntry, Neighbour, RouteMap, SetAct};
+use ios_ast::{Bgp, File, MapEntry, Neighbour, Ospf, Redist, RouteMap, SetAct};
 use mw_text::List;
-use net_model::Net;
+use net_model::{Net, OspfInterface};
 use net_parts::ends::is_outside;
-use slot_places::Field;
-use slot_places::fields::{addresses_field, field_of, put_once};
+use slot_places::fields::{addresses_field, field_of, greatest, put_once};
+use slot_places::rooms::dearest_walk;
+use slot_places::{Field, width_for};
 use std::alloc::{AllocError, Global};
 
-/// Of whom a held route can be learnt, what its originator can be, and the values that its weight, its local preference
-/// and its next hop can have and the first and the last AS number of its path.
+/// Of whom a held route can be learnt, what its originator can be, and the values that its weight, its local preference,
+/// its MED and its next hop can have and the first and the last AS number of its path.
 #[derive(Drop)]
 pub struct HeldValues {
     pub from: Field,
     pub originator: Field,
     pub weight: Field,
     pub local_pref: Field,
+    pub med: Field,
     pub next_hop: Field,
     pub first: Field,
     pub last: Field,
@@ -47,9 +51,19 @@ fn neighbour_says(which: HeldNumber, process: &Bgp, neighbour: &Neighbour) -> Op
     match which {
         HeldNumber::Weight => Some(neighbour.weight),
         HeldNumber::LocalPref => None,
+        HeldNumber::Med => None,
         HeldNumber::NextHop => Some(neighbour.addr.0),
         HeldNumber::FirstAs => other_asn(process, neighbour),
         HeldNumber::LastAs => other_asn(process, neighbour),
+    }
+}
+
+fn redist_says(which: HeldNumber, line: &Redist) -> Option<u32>
+    ensures { result ≡ values.said_of_redist which line.now }
+{
+    match which {
+        HeldNumber::Med => line.metric,
+        _ => None,
     }
 }
 
@@ -77,6 +91,7 @@ fn set_says(which: HeldNumber, line: &SetAct) -> Option<u32>
     match (which, line) {
         (HeldNumber::Weight, SetAct::Weight(n)) => Some(*n),
         (HeldNumber::LocalPref, SetAct::LocalPref(n)) => Some(*n),
+        (HeldNumber::Med, SetAct::Metric(n)) => Some(*n),
         (HeldNumber::FirstAs, SetAct::Prepend(numbers)) => first_number(numbers.as_slice()),
         (HeldNumber::LastAs, SetAct::Prepend(numbers)) => last_number(numbers.as_slice()),
         _ => None,
@@ -100,6 +115,16 @@ fn put_neighbours(held: &mut List<u32>, which: HeldNumber, process: &Bgp) -> Res
 {
     for neighbour in process.neighbours.as_slice() {
         put_said(held, neighbour_says(which, process, neighbour))?;
+    }
+    Ok(())
+}
+
+fn put_redists(held: &mut List<u32>, which: HeldNumber, process: &Bgp) -> Result<(), AllocError>
+    ensures { OnOk result (held.new
+        ≡ fold fields.put_once held.old (filter_map (values.said_of_redist which) process.now.redistribute)) }
+{
+    for line in process.redistribute.as_slice() {
+        put_said(held, redist_says(which, line))?;
     }
     Ok(())
 }
@@ -139,6 +164,7 @@ fn put_file(held: &mut List<u32>, which: HeldNumber, file: &File) -> Result<(), 
         None => Ok(()),
         Some(process) => {
             put_neighbours(held, which, process)?;
+            put_redists(held, which, process)?;
             put_maps(held, which, file)
         }
     }
@@ -163,6 +189,7 @@ fn put_unsaid(held: &mut List<u32>, which: HeldNumber) -> Result<(), AllocError>
             put_once(held, 32768)
         }
         HeldNumber::LocalPref => put_once(held, 100),
+        HeldNumber::Med => put_once(held, 0),
         HeldNumber::NextHop => put_once(held, 0),
         HeldNumber::FirstAs => put_once(held, 0),
         HeldNumber::LastAs => put_once(held, 0),
@@ -276,31 +303,154 @@ fn sent_values(alloc: Global, net: &Net) -> Result<Sent, AllocError>
     })
 }
 
+// ---- the MED
+
+fn put_line(held: &mut List<u32>, line: &Redist) -> Result<(), AllocError>
+    ensures { OnOk result (held.new ≡ fold fields.put_once held.old (values.brought_by_line line.now)) }
+{
+    put_once(held, 1)?;
+    put_once(held, 20)?;
+    match line.metric {
+        None => Ok(()),
+        Some(n) => put_once(held, n),
+    }
+}
+
+fn put_lines(held: &mut List<u32>, process: &Ospf) -> Result<(), AllocError>
+    ensures { OnOk result (held.new
+        ≡ fold fields.put_once held.old (flat_map values.brought_by_line process.now.redistribute)) }
+{
+    for line in process.redistribute.as_slice() {
+        put_line(held, line)?;
+    }
+    Ok(())
+}
+
+fn put_default(held: &mut List<u32>, process: &Ospf) -> Result<(), AllocError>
+    ensures { OnOk result (held.new
+        ≡ fold fields.put_once held.old (option_to_list (option_map (λ line. line.metric) process.now.default))) }
+{
+    match &process.default {
+        None => Ok(()),
+        Some(line) => put_once(held, line.metric),
+    }
+}
+
+fn put_brought(held: &mut List<u32>, file: &File) -> Result<(), AllocError>
+    ensures { OnOk result (held.new ≡ fold fields.put_once held.old (values.brought_by_file file.now)) }
+{
+    match &file.ospf {
+        None => Ok(()),
+        Some(process) => {
+            put_lines(held, process)?;
+            put_default(held, process)?;
+            put_maps(held, HeldNumber::Med, file)
+        }
+    }
+}
+
+fn put_all_brought(held: &mut List<u32>, files: &[File]) -> Result<(), AllocError>
+    ensures { OnOk result (held.new ≡ fold fields.put_once held.old (flat_map values.brought_by_file files.now)) }
+{
+    for file in files {
+        put_brought(held, file)?;
+    }
+    Ok(())
+}
+
+// The greatest metric that lines bring into OSPF.
+fn dearest_brought(alloc: Global, files: &[File]) -> Result<u32, AllocError>
+    ensures { IfOk result (λ most. most ≡ values.dearest_brought files.now) }
+{
+    let mut held = List::new(alloc);
+    put_all_brought(&mut held, files)?;
+    Ok(greatest(held.as_slice()))
+}
+
+fn dearest_interface(interfaces: &[OspfInterface]) -> u32
+    ensures { result ≡ fold (λ most x. max most x.cost) 0 interfaces.now }
+{
+    let mut most = 0u32;
+    for x in interfaces {
+        most = most.max(x.cost);
+    }
+    most
+}
+
+// In how many bits the metric of each OSPF route has room.
+#[tactic(auto, unfolding(crate::specs::Values::ospf_bits))]
+fn ospf_bits(alloc: Global, net: &Net) -> Result<u8, AllocError>
+    ensures { IfOk result (λ bits. bits ≡ values.ospf_bits net.now.files) }
+{
+    let brought = dearest_brought(alloc, net.routers())?;
+    let origin = dearest_interface(net.ospf_interfaces()).max(brought);
+    let walk = dearest_walk(net.routers(), net.adjacencies());
+    Ok(width_for(u64::from(origin) + walk))
+}
+
+// A field for the numbers of another and for all of so many bits.
+fn with_bits(field: Field, bits: u8) -> Field
+    ensures { result ≡ rooms.with_bits field bits }
+{
+    if bits == 0 {
+        field
+    } else {
+        Field::Bits(field.bits().max(bits))
+    }
+}
+
+// Of the MED of a route that no external peer announced.
+fn inner_meds(alloc: Global, net: &Net) -> Result<Field, AllocError>
+    ensures { IfOk result (λ field. field ≡ rooms.with_bits
+        (fields.field_of (fields.once (values.meds_of net.now.files))) (values.ospf_bits net.now.files)) }
+{
+    let bits = ospf_bits(alloc, net)?;
+    let said = field_for(alloc, HeldNumber::Med, net.routers())?;
+    Ok(with_bits(said, bits))
+}
+
+fn meds_field(alloc: Global, net: &Net) -> Result<Field, AllocError>
+    ensures { IfOk result (λ field. field ≡ rooms.meds_field net.now.files) }
+{
+    if has_peers(net) {
+        Ok(Field::Bits(32))
+    } else {
+        inner_meds(alloc, net)
+    }
+}
+
 // The values of the numbers that a router gives a route.
 #[derive(Drop)]
 struct Given {
     weight: Field,
     local_pref: Field,
+    med: Field,
 }
 
-fn given_values(alloc: Global, files: &[File]) -> Result<Given, AllocError>
+fn given_values(alloc: Global, net: &Net) -> Result<Given, AllocError>
     ensures { IfOk result (λ r. r ≡ record {
-      weight = (values_room files.now).weight;
-      local_pref = (values_room files.now).local_pref;
+      weight = (values_room net.now.files).weight;
+      local_pref = (values_room net.now.files).local_pref;
+      med = (values_room net.now.files).med;
     }) }
 {
-    let weight = field_for(alloc, HeldNumber::Weight, files)?;
-    let local_pref = field_for(alloc, HeldNumber::LocalPref, files)?;
-    Ok(Given { weight, local_pref })
+    let weight = field_for(alloc, HeldNumber::Weight, net.routers())?;
+    let local_pref = field_for(alloc, HeldNumber::LocalPref, net.routers())?;
+    let med = meds_field(alloc, net)?;
+    Ok(Given {
+        weight,
+        local_pref,
+        med,
+    })
 }
 
 /// Fields for the numbers of the BGP routes that routers of the network can hold in a stable routing, for the peers of
 /// whom they are learnt and for their originators: few values and few addresses are told by their place among them, many
-/// by their bits.
+/// by their bits. The MED of a local route can be the metric of an OSPF route (RFC 4271, section 5.1.4).
 pub fn held_values(alloc: Global, net: &Net) -> Result<HeldValues, AllocError>
     ensures { IfOk result (λ room. room ≡ values_room net.now.files) }
 {
-    let given = given_values(alloc, net.routers())?;
+    let given = given_values(alloc, net)?;
     let sent = sent_values(alloc, net)?;
     let senders = senders_of(alloc, net)?;
     Ok(HeldValues {
@@ -308,6 +458,7 @@ pub fn held_values(alloc: Global, net: &Net) -> Result<HeldValues, AllocError>
         originator: senders.originator,
         weight: given.weight,
         local_pref: given.local_pref,
+        med: given.med,
         next_hop: sent.next_hop,
         first: sent.first,
         last: sent.last,

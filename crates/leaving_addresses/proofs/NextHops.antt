@@ -2,19 +2,21 @@
 use Rattle.std.proofs.Common.{◌≡◌, ℕ, List, [], ◌∷◌, ◌++◌, Option, Some, None, map, refl, ap, ◌∙◌}
 use Rattle.std.specs.List.{filter_map, flat_map}
 use Rattle.std.specs.Option.{option_map_or}
+use Rattle.std.proofs.lemmas.List.{append-nil}
 use Rattle.ios_ast.specs.declared.bgp.Bgp.{Bgp}
 use Rattle.ios_ast.specs.declared.bgp.Neighbour.{Neighbour}
 use Rattle.ios_ast.specs.declared.file.File.{File}
+use Rattle.ios_ast.specs.declared.ospf.Redist.{Redist}
 use Rattle.ios_ast.specs.declared.policies.MapEntry.{MapEntry}
 use Rattle.ios_ast.specs.declared.policies.RouteMap.{RouteMap}
 use Rattle.ios_ast.specs.declared.policies.SetAct.{SetAct}
 use Rattle.net_parts.specs.Tracked.{addresses_of}
 use Rattle.held_values.specs.declared.numbers.HeldNumber.TheVariants.{NextHop}
 use Rattle.held_values.specs.Values.{said_by_process, said_in_entry, said_in_file, said_in_map, said_of_neighbour}
-use Rattle.held_values.specs.Values.{said_of_set, values_of}
+use Rattle.held_values.specs.Values.{said_of_redist, said_of_set, values_of}
 use Rattle.leaving_addresses.specs.Leaving.{bgp_next_hops, neighbour_addresses}
 
--- ---- no set line says a next hop
+-- ---- no set line and no `redistribute` line says a next hop
 
 sets_none : (sets : List SetAct) → filter_map (said_of_set NextHop) sets ≡ []
 sets_none [] = refl
@@ -30,6 +32,10 @@ maps_none [] = refl
 maps_none (one ∷ rest) = ap (λ xs. xs ++ flat_map (said_in_map NextHop) rest) (entries_none one.entries)
     ∙ maps_none rest
 
+lines_none : (lines : List Redist) → filter_map (said_of_redist NextHop) lines ≡ []
+lines_none [] = refl
+lines_none (line ∷ rest) = lines_none rest
+
 -- ---- each neighbour line says its address
 
 appended : (xs ys : List ℕ) → addresses_of (xs ++ ys) ≡ addresses_of xs ++ addresses_of ys
@@ -42,10 +48,6 @@ neighbours_say : (process : Bgp) (neighbours : List Neighbour) →
 neighbours_say process [] = refl
 neighbours_say process (neighbour ∷ rest) = ap (λ zs. neighbour.addr ∷ zs) (neighbours_say process rest)
 
-no_more : {A : Type 0} (xs : List A) → xs ++ [] ≡ xs
-no_more [] = refl
-no_more (x ∷ xs) = ap (λ zs. x ∷ zs) (no_more xs)
-
 file_says : (file : File) → addresses_of (said_in_file NextHop file) ≡ neighbour_addresses file
 file_says file = by_process file.bgp
   where
@@ -54,8 +56,9 @@ file_says file = by_process file.bgp
     by_process None = refl
     by_process (Some process) =
         ap (λ xs. addresses_of (filter_map (said_of_neighbour NextHop process) process.neighbours ++ xs))
-        (maps_none file.policies.maps)
-        ∙ ap addresses_of (no_more (filter_map (said_of_neighbour NextHop process) process.neighbours))
+        (ap (λ xs. xs ++ flat_map (said_in_map NextHop) file.policies.maps) (lines_none process.redistribute)
+        ∙ maps_none file.policies.maps)
+        ∙ ap addresses_of (append-nil (filter_map (said_of_neighbour NextHop process) process.neighbours))
         ∙ neighbours_say process process.neighbours
 
 files_say : (files : List File) → addresses_of (flat_map (said_in_file NextHop) files)
