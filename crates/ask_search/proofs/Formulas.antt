@@ -20,6 +20,7 @@ use Rattle.route_record.specs.declared.tracked.Tracked.{Tracked}
 use Rattle.run_answers.specs.Answering.{end_text}
 use Rattle.run_answers.specs.Verdicts.{opening_text}
 use Rattle.export_asks.specs.declared.ask.Ask.{Ask}
+use Rattle.question_search.proofs.Formulas.{few_shown}
 use Rattle.ask_search.specs.declared.formula.AskFormula.{AskFormula}
 use Rattle.ask_search.specs.declared.verdict.AskVerdict.{AskVerdict}
 use Rattle.ask_search.specs.declared.verdict.AskVerdict.TheVariants.{Broken, Holds, Unknown}
@@ -88,12 +89,6 @@ broken_shown budget entries values (Broken len cex) is shows = shows
 broken_shown budget entries values (Unknown after) is shows = absurd is
 
 -- ---- sections
-
-few_shown : (budget : ℕ) (entries : List Entry) (outcome : Outcome) → Shows budget entries outcome →
-    addition_count entries ≤ budget
-few_shown budget entries found.Unsat shows = shows.1
-few_shown budget entries (found.Sat values) shows = let few = shows.1 in omega (arith, few)
-few_shown budget entries (found.Unknown added) shows = let all = shows.1 in omega (arith, all)
 
 -- the entries of a search for the clauses of an ask
 searched_from : (files : List File) (tracked : Tracked) (ask : Ask) (formula : AskFormula) (budget : ℕ)

@@ -2,10 +2,10 @@
 use Rattle.std.proofs.Common.{◌≡◌, ℕ, zero, suc, ◌+◌, ◌-◌, ◌*◌, ◌<◌, ◌≤◌, Bool, List, [], ◌∷◌, ◌++◌, sym, ap, ◌∙◌}
 use Rattle.std.proofs.Common.{arith}
 use Rattle.std.proofs.Common.{append_assoc}
+use Rattle.std.proofs.lemmas.List.{append-nil}
 use Rattle.mw_text.specs.declared.address.Addr.{Addr}
 use Rattle.failed_links.specs.Rows.{number_from}
 use Rattle.bgp_variables.specs.Environments.{addresses_from}
-use Rattle.bgp_values.proofs.RowSteps.{nothing_behind}
 
 first : (n : ℕ) (v : ℕ → Bool) (at : ℕ) → 0 < n →
     addresses_from n v at ≡ record { 0 = number_from v at 32 } ∷ addresses_from (n - 1) v (at + 32)
@@ -33,4 +33,4 @@ pub addresses_none : (count i at : ℕ) (v : ℕ → Bool) (made : List Addr) �
 unfolding addresses_from
 addresses_none count i at v made all =
     let none : count - i ≡ 0 = omega (arith, all) in
-    ap (λ k. made ++ addresses_from k v at) none ∙ nothing_behind made
+    ap (λ k. made ++ addresses_from k v at) none ∙ append-nil made

@@ -3,7 +3,7 @@ use Rattle.std.proofs.Common.{◌≡◌, ℕ, ◌+◌, ◌<◌, ◌≤◌, Bool,
 use Rattle.std.proofs.Common.{option_map}
 use Rattle.std.proofs.Common.{refl, sym, ap, subst, ◌∙◌, append_assoc}
 use Rattle.std.specs.Prelude.{All, IfSome}
-use Rattle.std.proofs.lemmas.List.{drop_all}
+use Rattle.std.proofs.lemmas.List.{append-nil, drop_all}
 use Rattle.mw_text.proofs.Lists.{drop-read}
 use Rattle.route_record.specs.declared.tracked.Tracked.{Tracked}
 use Rattle.route_shapes.specs.Bgp.{BgpShape}
@@ -44,10 +44,6 @@ pub room_there : (tracked : Tracked) (rooms : List (Option BgpRoom)) (k : ℕ) (
 room_there tracked rooms k room all within is =
     subst (λ r. IfSome r (IsRoomOf tracked)) (sym is) (all k room within)
 
-pub nothing_behind : {A : Type 0} (xs : List A) → xs ++ [] ≡ xs
-nothing_behind [] = refl
-nothing_behind (x ∷ xs) = ap (λ ys. x ∷ ys) (nothing_behind xs)
-
 pub routes_done : (rooms : List (Option BgpRoom)) (k : ℕ) (v : ℕ → Bool) (at : ℕ) (made : List (Option BgpShape)) →
     length rooms ≤ k → made ++ told_from (drop k rooms) v at ≡ made
-routes_done rooms k v at made all = ap (λ xs. made ++ xs) (routes_end rooms k v at all) ∙ nothing_behind made
+routes_done rooms k v at made all = ap (λ xs. made ++ xs) (routes_end rooms k v at all) ∙ append-nil made

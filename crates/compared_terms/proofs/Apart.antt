@@ -7,12 +7,10 @@ use Rattle.std.proofs.lemmas.Option.{same_Some, slice_get-get_or, slice_get_read
 use Rattle.term_store.specs.declared.NodeId.{NodeId}
 use Rattle.term_store.specs.Terms.{Reading, at, differ}
 use Rattle.joined_terms.specs.Joining.{behind}
+use Rattle.packet_fates.proofs.Spreading.{earlier}
 use Rattle.compared_terms.specs.Ties.{DifferBelow, DiffersAt}
 
 -- ---- below one place more
-
-less_or_last : (a b : ℕ) → a < b + 1 → (a < b) ⊎ (a ≡ b)
-less_or_last a b less = grind arith
 
 pub none_below : (w : Reading) (places a b : List NodeId) → DifferBelow w places a b 0 → ⊥
 none_below w places a b (k, less, differs) = omega (arith, less)
@@ -29,7 +27,7 @@ more_below w places a b many before here so_far now = (to, from) where
   to holds = on (or_cases before here holds)
 
   from : DifferBelow w places a b (many + 1) → (before || here) ≡ true
-  from (k, less, differs) = by (less_or_last k many less) where
+  from (k, less, differs) = by (earlier k many less) where
     by : (k < many) ⊎ (k ≡ many) → (before || here) ≡ true
     by (inl earlier) = or_left before here (so_far.1 (k, earlier, differs))
     by (inr last) = or_right before here (now.1 (subst (DiffersAt w places a b) last differs))

@@ -25,6 +25,7 @@ use Rattle.routings_beside.specs.Pairs.{environment_by, left_values, question_of
 use Rattle.run_answers.specs.Answering.{end_text}
 use Rattle.run_answers.specs.Verdicts.{opening_text}
 use Rattle.same_asks.specs.declared.same.Same.{Same}
+use Rattle.question_search.proofs.Formulas.{few_shown}
 use Rattle.pair_search.specs.declared.formula.PairFormula.{PairFormula}
 use Rattle.pair_search.specs.declared.verdict.SameVerdict.{SameVerdict}
 use Rattle.pair_search.specs.declared.verdict.SameVerdict.TheVariants as verdict
@@ -106,12 +107,6 @@ different_shown budget entries values (verdict.Different one other apart) is sho
 different_shown budget entries values (verdict.Unknown after) is shows = absurd is
 
 -- ---- sections
-
-few_shown : (budget : ℕ) (entries : List Entry) (outcome : Outcome) → Shows budget entries outcome →
-    addition_count entries ≤ budget
-few_shown budget entries found.Unsat shows = shows.1
-few_shown budget entries (found.Sat values) shows = let few = shows.1 in omega (arith, few)
-few_shown budget entries (found.Unknown added) shows = let all = shows.1 in omega (arith, all)
 
 -- the entries of a search for the clauses of an ask
 searched_from : (left right : Network) (ask : Same) (formula : PairFormula) (budget : ℕ) (entries : List Entry) →

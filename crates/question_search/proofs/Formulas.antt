@@ -84,7 +84,7 @@ sat_true files tracked question formula values row is satisfied roots =
     (and_parts _ _ (roots (subst S is.clauses satisfied))).0
 
 -- what shows an outcome shows its verdict
-few_shown : (budget : ℕ) (entries : List Entry) (outcome : Outcome) → Shows budget entries outcome →
+pub few_shown : (budget : ℕ) (entries : List Entry) (outcome : Outcome) → Shows budget entries outcome →
     addition_count entries ≤ budget
 few_shown budget entries found.Unsat shows = shows.1
 few_shown budget entries (found.Sat values) shows = let few = shows.1 in omega (arith, few)
