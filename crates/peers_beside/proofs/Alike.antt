@@ -1,5 +1,5 @@
 -- Announcements that stand as terms are the same where their numbers are.
-use Rattle.std.proofs.Common.{◌≡◌, ℕ, ◌+◌, ◌*◌, ◌<◌, ◌≤◌, Bool, true, false, List, [], ◌∷◌, length, Option, Some, None}
+use Rattle.std.proofs.Common.{◌≡◌, ℕ, ◌+◌, ◌*◌, ◌<◌, ◌≤◌, Bool, true, false, List, [], ◌∷◌, length, Some, None}
 use Rattle.std.proofs.Common.{not, refl, sym, ap, arith, ◌∙◌}
 use Rattle.std.specs.Prelude.{◌==◌, ◌&&◌, ◌||◌, ◌↔◌, option_map, if◌then◌else◌}
 use Rattle.std.proofs.lemmas.Bool.{and_from, and_parts, eq-eqb, eqb-true, false≢true}
@@ -11,7 +11,7 @@ use Rattle.term_store.specs.declared.NodeId.{NodeId}
 use Rattle.term_store.specs.Terms.{Reading, at, differ}
 use Rattle.term_arith.specs.Bits.{bit, bits, ids_end, number, number_of}
 use Rattle.term_arith.proofs.NumberLemmas.{ids_end_at, length_bits}
-use Rattle.joined_terms.specs.Joining.{behind, place_of}
+use Rattle.joined_terms.specs.Joining.{place_of}
 use Rattle.sym_policy.specs.declared.records.SymBgp.{SymBgp}
 use Rattle.sym_policy.specs.Held.{bgp_at, bgp_end}
 use Rattle.peers_beside.specs.Same.{HaveSameLists, announced_at, announced_by}

@@ -1,6 +1,6 @@
 -- Rows of announcements, item by item.
 use Rattle.std.proofs.Common.{◌≡◌, ℕ, zero, suc, ◌+◌, ◌*◌, ◌<◌, ◌≤◌, Bool, true, List, [], ◌∷◌, ◌++◌, length, map, take, drop}
-use Rattle.std.proofs.Common.{get_or, Some, refl, sym, ap, ap₂, subst, arith, ◌∙◌, slice_get}
+use Rattle.std.proofs.Common.{Some, refl, sym, ap, ap₂, subst, arith, ◌∙◌, slice_get}
 use Rattle.std.specs.Prelude.{◌&&◌, ◌↔◌, All}
 use Rattle.std.proofs.lemmas.Bool.{and_from, and_parts}
 use Rattle.std.proofs.lemmas.List.{length-drop, length-map, length-take-le, map-append, take_all, take_more}

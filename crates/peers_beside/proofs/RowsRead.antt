@@ -1,13 +1,13 @@
 -- What stands in a row at a length, and rows in which the same stands at each length.
-use Rattle.std.proofs.Common.{◌≡◌, ℕ, zero, suc, ◌+◌, ◌-◌, ◌*◌, ◌<◌, ◌≤◌, Bool, true, false, List, [], ◌∷◌, length, map, take}
-use Rattle.std.proofs.Common.{drop, get_or, Option, Some, None, refl, sym, ap, ap₂, subst, arith, ◌∙◌, slice_get}
-use Rattle.std.specs.Prelude.{◌==◌, cond, nat_lt, option_and_then, option_map, position, slice_range}
+use Rattle.std.proofs.Common.{◌≡◌, ℕ, zero, suc, ◌+◌, ◌-◌, ◌*◌, ◌<◌, Bool, true, false, List, [], ◌∷◌, length, map, take}
+use Rattle.std.proofs.Common.{drop, get_or, Option, Some, None, refl, sym, ap, subst, arith, ◌∙◌, slice_get}
+use Rattle.std.specs.Prelude.{◌==◌, cond, nat_lt, option_and_then, option_map, position}
 use Rattle.std.specs.List.{position_or_len}
 use Rattle.std.proofs.lemmas.Bool.{eq-eqb, lt-ltb, ltb-true, ne_eqb}
 use Rattle.std.proofs.lemmas.List.Sums.{position_or_len_is}
 use Rattle.std.proofs.lemmas.Option.{same_Some, slice_get-map, slice_get_within}
 use Rattle.mw_text.proofs.Lists.{list_ext}
-use Rattle.plan_places.specs.Places.{is_at, item_at, places_below}
+use Rattle.plan_places.specs.Places.{item_at, places_below}
 use Rattle.plan_places.proofs.PlaceSteps.{counted, item_is}
 use Rattle.announced_places.specs.Announced.{Ascend}
 use Rattle.peers_beside.specs.Same.{row}

@@ -12,7 +12,7 @@ use Rattle.net_parts.specs.declared.sessions.SessionEnd.{SessionEnd}
 use Rattle.net_parts.specs.Sessions.{ends_of, external_ends, is_outside}
 use Rattle.route_shapes.specs.Bgp.{BgpShape}
 use Rattle.bgp_shapes.specs.Candidates.{ShapeAnnouncement}
-use Rattle.plan_places.specs.Places.{item_at, places_below}
+use Rattle.plan_places.specs.Places.{places_below}
 use Rattle.announced_places.specs.Announced.{Ascend}
 use Rattle.announced_places.specs.Environments.{announcement_of}
 use Rattle.announced_places.proofs.ExternalPlaces.{environment_found, external_row}

@@ -28,6 +28,18 @@ use term_arith::gates::{both, constant_node};
 use term_store::{NodeId, Terms};
 use ties_beside::same_number;
 
+// Two networks and their environments over these prefix lengths, side by side: the nodes of the first environment stand
+// in the store, and those of the second one at these places.
+#[derive(Clone, Copy)]
+struct Sides<'a> {
+    places: &'a [NodeId],
+    left: &'a Net,
+    right: &'a Net,
+    lens: &'a [u8],
+    a: &'a SymEnv,
+    b: &'a SymEnv,
+}
+
 // How many external ends stand before a place.
 #[tactic(auto, using(bgp_equations::proofs::Environments::count_is))]
 fn external_number(ends: &[SessionEnd], at: u64) -> usize
@@ -131,44 +143,40 @@ fn same_lengths(
 fn is_one_peer(
     alloc: Global,
     terms: &mut Terms,
-    places: &[NodeId],
-    left: &Net,
-    right: &Net,
-    lens: &[u8],
-    a: &SymEnv,
-    b: &SymEnv,
+    sides: &Sides<'_>,
     pair: &EndPair,
 ) -> Result<NodeId, AllocError>
-    requires first { env_end a.now ≤ size terms.old }
-    requires second { env_end b.now ≤ length places.now }
-    requires places { ids_end places.now ≤ size terms.old }
-    requires fits { FitsNet left.now.files left.now.tracked lens.now a.now }
-    requires fits_too { FitsNet right.now.files right.now.tracked lens.now b.now }
-    requires tracked { left.now.tracked ≡ right.now.tracked }
-    requires pair { AreOneEnd left.now.files right.now.files pair.now.one pair.now.other }
+    requires first { env_end sides.now.a.now ≤ size terms.old }
+    requires second { env_end sides.now.b.now ≤ length sides.now.places.now }
+    requires places { ids_end sides.now.places.now ≤ size terms.old }
+    requires fits { FitsNet sides.now.left.now.files sides.now.left.now.tracked sides.now.lens.now sides.now.a.now }
+    requires fits_too { FitsNet sides.now.right.now.files sides.now.right.now.tracked sides.now.lens.now sides.now.b.now }
+    requires tracked { sides.now.left.now.tracked ≡ sides.now.right.now.tracked }
+    requires pair { AreOneEnd sides.now.left.now.files sides.now.right.now.files pair.now.one pair.now.other }
     ensures builds { Builds terms.old terms.new }
     ensures within { IfOk result (λ r. r.0 < size terms.new) }
     ensures value { Gives terms.new result (λ w r. at w r ≡ true
-        ↔ same.IsOnePeer left.now.files right.now.files (length lens.now) w (behind places.now w) a.now b.now pair.now) }
+        ↔ same.IsOnePeer sides.now.left.now.files sides.now.right.now.files (length sides.now.lens.now) w
+        (behind sides.now.places.now w) sides.now.a.now sides.now.b.now pair.now) }
 {
-    let one = number_of(left, pair.one);
-    let other = number_of(right, pair.other);
+    let one = number_of(sides.left, pair.one);
+    let other = number_of(sides.right, pair.other);
     let id = same_ids(
         alloc,
         terms,
-        places,
-        a.ids.as_slice(),
-        b.ids.as_slice(),
+        sides.places,
+        sides.a.ids.as_slice(),
+        sides.b.ids.as_slice(),
         one,
         other,
     )?;
     let announced = same_lengths(
         alloc,
         terms,
-        places,
-        lens.len(),
-        a.announced.as_slice(),
-        b.announced.as_slice(),
+        sides.places,
+        sides.lens.len(),
+        sides.a.announced.as_slice(),
+        sides.b.announced.as_slice(),
         one,
         other,
     )?;
@@ -179,30 +187,26 @@ fn is_one_peer(
 fn are_one_peer(
     alloc: Global,
     terms: &mut Terms,
-    places: &[NodeId],
-    left: &Net,
-    right: &Net,
-    lens: &[u8],
-    a: &SymEnv,
-    b: &SymEnv,
+    sides: &Sides<'_>,
     pairs: &[EndPair],
 ) -> Result<NodeId, AllocError>
-    requires first { env_end a.now ≤ size terms.old }
-    requires second { env_end b.now ≤ length places.now }
-    requires places { ids_end places.now ≤ size terms.old }
-    requires fits { FitsNet left.now.files left.now.tracked lens.now a.now }
-    requires fits_too { FitsNet right.now.files right.now.tracked lens.now b.now }
-    requires tracked { left.now.tracked ≡ right.now.tracked }
-    requires pairs { All (λ pair. AreOneEnd left.now.files right.now.files pair.one pair.other) pairs.now }
+    requires first { env_end sides.now.a.now ≤ size terms.old }
+    requires second { env_end sides.now.b.now ≤ length sides.now.places.now }
+    requires places { ids_end sides.now.places.now ≤ size terms.old }
+    requires fits { FitsNet sides.now.left.now.files sides.now.left.now.tracked sides.now.lens.now sides.now.a.now }
+    requires fits_too { FitsNet sides.now.right.now.files sides.now.right.now.tracked sides.now.lens.now sides.now.b.now }
+    requires tracked { sides.now.left.now.tracked ≡ sides.now.right.now.tracked }
+    requires pairs { All (λ pair. AreOneEnd sides.now.left.now.files sides.now.right.now.files pair.one pair.other)
+        pairs.now }
     ensures builds { Builds terms.old terms.new }
     ensures within { IfOk result (λ r. r.0 < size terms.new) }
     ensures value { Gives terms.new result (λ w r. at w r ≡ true
-        ↔ All (same.IsOnePeer left.now.files right.now.files (length lens.now) w (behind places.now w) a.now b.now)
-        pairs.now) }
+        ↔ All (same.IsOnePeer sides.now.left.now.files sides.now.right.now.files (length sides.now.lens.now) w
+        (behind sides.now.places.now w) sides.now.a.now sides.now.b.now) pairs.now) }
 {
     let mut all = constant_node(terms, true)?;
     for pair in pairs {
-        let one = is_one_peer(alloc, terms, places, left, right, lens, a, b, pair)?;
+        let one = is_one_peer(alloc, terms, sides, pair)?;
         all = both(terms, all, one)?;
     }
     Ok(all)
@@ -236,5 +240,13 @@ pub fn same_peers(
         (environment_read w left.now.files lens.now a.now)
         (environment_read (behind places.now w) right.now.files lens.now b.now)) }
 {
-    are_one_peer(alloc, terms, places, left, right, lens, a, b, pairs)
+    let sides = Sides {
+        places,
+        left,
+        right,
+        lens,
+        a,
+        b,
+    };
+    are_one_peer(alloc, terms, &sides, pairs)
 }

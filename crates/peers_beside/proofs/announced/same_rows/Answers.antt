@@ -1,4 +1,4 @@
-use Rattle.std.proofs.Common.{◌≡◌, ◌<◌, arith, length, refl, slice_get, Some}
+use Rattle.std.proofs.Common.{arith, length, refl}
 use Rattle.std.proofs.lemmas.Option.{slice_get_read}
 use Rattle.sym_policy.specs.Held.{bgp_end}
 use Rattle.bgp_equations.proofs.Environments.{end_at}

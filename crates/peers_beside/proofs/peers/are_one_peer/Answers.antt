@@ -10,6 +10,7 @@ use Rattle.peers_beside.proofs.peers.are_one_peer.Goals as goal
 pub loop-pair-preserved : goal.loop-pair-preserved
 loop-pair-preserved c =
     let before = c.loop-pair.invariant in
+    let sides = c.args.sides.now in
     record {
       builds = builds_join _ _ _ before.builds (builds_join _ _ _ c.is_one_peer.ensures.builds c.both.ensures.builds);
       within = c.in_ok-all-2.ensures.within;
@@ -17,8 +18,8 @@ loop-pair-preserved c =
           let after_one = c.both.ensures.builds.reads w reads in
           let after_loop = c.is_one_peer.ensures.builds.reads w after_one in
           all_more
-          (IsOnePeer c.args.left.now.files c.args.right.now.files (length c.args.lens.now) w
-          (behind c.args.places.now w) c.args.a.now c.args.b.now) c.args.pairs.now c.loop-pair.pair-index _
+          (IsOnePeer sides.left.now.files sides.right.now.files (length sides.lens.now) w (behind sides.places.now w)
+          sides.a.now sides.b.now) c.args.pairs.now c.loop-pair.pair-index _
           (at w c.loop-pair.all) (at w c.in_ok-one.one) (at w c.in_ok-all-2.all)
           (slice_get-get_or c.args.pairs.now c.loop-pair.pair-index _
           c.loop-pair-test.true) (before.value w after_loop) (c.in_ok-one.ensures.value w after_one)
@@ -27,7 +28,8 @@ loop-pair-preserved c =
 
 pub returns-clause-value : goal.returns-clause-value
 returns-clause-value c = λ w reads.
+    let sides = c.args.sides.now in
     all_whole
-    (IsOnePeer c.args.left.now.files c.args.right.now.files (length c.args.lens.now) w (behind c.args.places.now w)
-    c.args.a.now c.args.b.now) c.args.pairs.now c.loop-pair.pair-index (at w c.loop-pair.all) c.loop-pair-test.false
+    (IsOnePeer sides.left.now.files sides.right.now.files (length sides.lens.now) w (behind sides.places.now w)
+    sides.a.now sides.b.now) c.args.pairs.now c.loop-pair.pair-index (at w c.loop-pair.all) c.loop-pair-test.false
     (c.loop-pair.invariant.value w reads)

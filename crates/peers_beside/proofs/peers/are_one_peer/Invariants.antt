@@ -11,6 +11,6 @@ invariant-loop-pair l = record {
   builds : Builds l.fn.terms l.terms;
   within : l.all.0 < size l.terms;
   value : (w : Reading) → Reads w l.terms → at w l.all ≡ true
-      ↔ All (IsOnePeer l.left.files l.right.files (length l.lens) w (behind l.places w) l.a l.b)
-      (take l.pair-index l.pairs);
+      ↔ All (IsOnePeer l.sides.left.now.files l.sides.right.now.files (length l.sides.lens.now) w
+      (behind l.sides.places.now w) l.sides.a.now l.sides.b.now) (take l.pair-index l.pairs);
 }

@@ -17,59 +17,65 @@ use Rattle.peers_beside.proofs.peers.is_one_peer.Goals as goal
 
 pub number_of-one-requires : goal.number_of-one-requires
 number_of-one-requires c =
-    let within = slice_get_within (ends_of c.args.left.now.files) c.args.pair.now.one c.requires.pair.0
+    let sides = c.args.sides.now in
+    let within = slice_get_within (ends_of sides.left.now.files) c.args.pair.now.one c.requires.pair.0
     c.requires.pair.2 in
     omega (arith, within)
 
 pub number_of-other-requires : goal.number_of-other-requires
 number_of-other-requires c =
-    let within = slice_get_within (ends_of c.args.right.now.files) c.args.pair.now.other c.requires.pair.1
+    let sides = c.args.sides.now in
+    let within = slice_get_within (ends_of sides.right.now.files) c.args.pair.now.other c.requires.pair.1
     c.requires.pair.3 in
     omega (arith, within)
 
 pub same_lengths-requires-clause-here : goal.same_lengths-requires-clause-here
 same_lengths-requires-clause-here c =
-    let count = length c.args.lens.now in
+    let sides = c.args.sides.now in
+    let count = length sides.lens.now in
     subst (λ (xs : List SymBgp). c.number_of-one.result * count + count ≤ length xs) (sym c.as_slice-3.ensures)
-    (row_there c.args.left.now.files c.args.left.now.tracked c.args.lens.now c.args.a.now c.args.pair.now.one
+    (row_there sides.left.now.files sides.left.now.tracked sides.lens.now sides.a.now c.args.pair.now.one
     c.requires.pair.0 c.number_of-one.result c.requires.fits c.requires.pair.2 c.requires.pair.4.0
     c.number_of-one.ensures)
 
 pub same_lengths-requires-clause-there : goal.same_lengths-requires-clause-there
 same_lengths-requires-clause-there c =
-    let count = length c.args.lens.now in
+    let sides = c.args.sides.now in
+    let count = length sides.lens.now in
     subst (λ (xs : List SymBgp). c.number_of-other.result * count + count ≤ length xs) (sym c.as_slice-4.ensures)
-    (row_there c.args.right.now.files c.args.right.now.tracked c.args.lens.now c.args.b.now c.args.pair.now.other
+    (row_there sides.right.now.files sides.right.now.tracked sides.lens.now sides.b.now c.args.pair.now.other
     c.requires.pair.1 c.number_of-other.result c.requires.fits_too c.requires.pair.3 c.requires.pair.4.1
     c.number_of-other.ensures)
 
 pub same_lengths-requires-clause-lists : goal.same_lengths-requires-clause-lists
 same_lengths-requires-clause-lists c =
-    lists_rows c.args.left.now.tracked c.args.right.now.tracked (length c.args.lens.now) c.as_slice-3.result.now
+    let sides = c.args.sides.now in
+    lists_rows sides.left.now.tracked sides.right.now.tracked (length sides.lens.now) c.as_slice-3.result.now
     c.as_slice-4.result.now c.number_of-one.result c.number_of-other.result c.requires.tracked
-    (subst (All (HasLists c.args.left.now.tracked)) (sym c.as_slice-3.ensures) c.requires.fits.lists)
-    (subst (All (HasLists c.args.right.now.tracked)) (sym c.as_slice-4.ensures) c.requires.fits_too.lists)
+    (subst (All (HasLists sides.left.now.tracked)) (sym c.as_slice-3.ensures) c.requires.fits.lists)
+    (subst (All (HasLists sides.right.now.tracked)) (sym c.as_slice-4.ensures) c.requires.fits_too.lists)
 
 pub returns-clause-value : goal.returns-clause-value
 returns-clause-value c =
-    let u = behind c.args.places.now in
-    let count = length c.args.lens.now in
+    let sides = c.args.sides.now in
+    let u = behind sides.places.now in
+    let count = length sides.lens.now in
     IfOk-weaker c.both.result
     (λ (r : NodeId). (w : Reading) → Reads w c.both.new.terms →
     at w r ≡ (at w c.in_ok-id.id && at w c.in_ok-announced.announced))
     (λ (r : NodeId). (w : Reading) → Reads w c.both.new.terms → at w r ≡ true
-    ↔ IsOnePeer c.args.left.now.files c.args.right.now.files count w (u w) c.args.a.now c.args.b.now c.args.pair.now)
+    ↔ IsOnePeer sides.left.now.files sides.right.now.files count w (u w) sides.a.now sides.b.now c.args.pair.now)
     (λ r is w reads.
     let after_announced = c.both.ensures.builds.reads w reads in
     let after_id = c.same_lengths.ensures.builds.reads w after_announced in
-    peer_tells c.args.left.now.files c.args.right.now.files count w (u w) c.args.a.now c.args.b.now c.args.pair.now
+    peer_tells sides.left.now.files sides.right.now.files count w (u w) sides.a.now sides.b.now c.args.pair.now
     c.number_of-one.result c.number_of-other.result (at w c.in_ok-id.id) (at w c.in_ok-announced.announced) (at w r)
     c.number_of-one.ensures c.number_of-other.ensures
     (c.in_ok-id.ensures.value w after_id
     ∙ ap₂ (λ (xs ys : List Bits). same_id w (u w) (slice_get xs c.number_of-one.result)
     (slice_get ys c.number_of-other.result)) c.as_slice.ensures c.as_slice-2.ensures)
     (subst (λ (ys : List SymBgp). at w c.in_ok-announced.announced ≡ true
-    ↔ map (announced_by w) (row count c.args.a.now.announced c.number_of-one.result)
+    ↔ map (announced_by w) (row count sides.a.now.announced c.number_of-one.result)
     ≡ map (announced_by (u w)) (row count ys c.number_of-other.result)) c.as_slice-4.ensures
     (subst (λ (xs : List SymBgp). at w c.in_ok-announced.announced ≡ true
     ↔ map (announced_by w) (row count xs c.number_of-one.result)
