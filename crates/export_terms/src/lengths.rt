@@ -16,7 +16,7 @@ ghost use Rattle.export_asks.specs.Exported.{is_asked};
 ghost use Rattle.export_terms.specs.Routes.{HaveTracked, routes_read};
 ghost use Rattle.export_terms.specs.Shapes as shapes;
 
-use crate::sending::sym_goes_out;
+use crate::sending::{Asked, sym_goes_out};
 use export_asks::Ask;
 use export_asks::exporting::end_to;
 use ios_ast::{PrefixEntry, PrefixList};
@@ -79,34 +79,31 @@ fn sym_asked(
 fn sym_over_end(
     alloc: Global,
     terms: &mut Terms,
-    net: &Net,
-    ask: &Ask,
-    sym: &SymNet,
-    tables: &SymTables<'_>,
+    asked: &Asked<'_>,
     place: Option<u32>,
-    dst: &Bits,
     len: u8,
 ) -> Result<NodeId, AllocError>
-    requires outside { IfSome place (λ k. (end : EndOf) → slice_get (ends_of net.now.files) k ≡ Some end → is_outside end.far ≡ true) }
-    requires routers { tables.now.routers ≡ length net.now.files }
+    requires outside { IfSome place (λ k. (end : EndOf) → slice_get (ends_of asked.now.net.now.files) k ≡ Some end →
+        is_outside end.far ≡ true) }
+    requires routers { asked.now.tables.now.routers ≡ length asked.now.net.now.files }
     requires long { len ≤ 32 }
-    requires wide { length dst.now.nodes.items ≡ 32 }
-    requires dst { ids_end dst.now.nodes.items ≤ size terms.old }
-    requires down { ids_end sym.now.down ≤ size terms.old }
-    requires rows { HaveTracked net.now.tracked tables.now.slots.now }
-    requires slots { slots_end tables.now.slots.now ≤ size terms.old }
+    requires wide { length asked.now.dst.now.nodes.items ≡ 32 }
+    requires dst { ids_end asked.now.dst.now.nodes.items ≤ size terms.old }
+    requires down { ids_end asked.now.sym.now.down ≤ size terms.old }
+    requires rows { HaveTracked asked.now.net.now.tracked asked.now.tables.now.slots.now }
+    requires slots { slots_end asked.now.tables.now.slots.now ≤ size terms.old }
     ensures builds { Builds terms.old terms.new }
     ensures within { IfOk result (λ r. r.0 < size terms.new) }
     ensures value { Gives terms.new result (λ w r. at w r
-        ≡ option_map_or (shapes.shape_goes_out net.now.tracked net.now.files ask.now (failures_of w sym.now)
-        (routes_read w tables.now len) (prefix_of w dst.now len))
-        (option_and_then (slice_get (ends_of net.now.files)) place) false) }
+        ≡ option_map_or (shapes.shape_goes_out asked.now.net.now.tracked asked.now.net.now.files asked.now.ask.now
+        (failures_of w asked.now.sym.now) (routes_read w asked.now.tables.now len) (prefix_of w asked.now.dst.now len))
+        (option_and_then (slice_get (ends_of asked.now.net.now.files)) place) false) }
 {
     match place {
         None => constant_node(terms, false),
-        Some(at) => match net.ends().get(at as usize) {
+        Some(at) => match asked.net.ends().get(at as usize) {
             None => constant_node(terms, false),
-            Some(end) => sym_goes_out(alloc, terms, net, ask, sym, tables, at, end, dst, len),
+            Some(end) => sym_goes_out(alloc, terms, asked, at, end, len),
         },
     }
 }
@@ -116,33 +113,29 @@ fn sym_over_end(
 fn sym_out_at(
     alloc: Global,
     terms: &mut Terms,
-    net: &Net,
-    ask: &Ask,
-    sym: &SymNet,
-    tables: &SymTables<'_>,
-    dst: &Bits,
+    asked: &Asked<'_>,
     len: u8,
 ) -> Result<NodeId, AllocError>
-    requires routers { tables.now.routers ≡ length net.now.files }
+    requires routers { asked.now.tables.now.routers ≡ length asked.now.net.now.files }
     requires long { len ≤ 32 }
-    requires wide { length dst.now.nodes.items ≡ 32 }
-    requires dst { ids_end dst.now.nodes.items ≤ size terms.old }
-    requires down { ids_end sym.now.down ≤ size terms.old }
-    requires rows { HaveTracked net.now.tracked tables.now.slots.now }
-    requires slots { slots_end tables.now.slots.now ≤ size terms.old }
+    requires wide { length asked.now.dst.now.nodes.items ≡ 32 }
+    requires dst { ids_end asked.now.dst.now.nodes.items ≤ size terms.old }
+    requires down { ids_end asked.now.sym.now.down ≤ size terms.old }
+    requires rows { HaveTracked asked.now.net.now.tracked asked.now.tables.now.slots.now }
+    requires slots { slots_end asked.now.tables.now.slots.now ≤ size terms.old }
     ensures builds { Builds terms.old terms.new }
     ensures within { IfOk result (λ r. r.0 < size terms.new) }
     ensures value { Gives terms.new result (λ w r. at w r
-        ≡ shapes.shape_out net.now.tracked net.now.files ask.now (failures_of w sym.now) (routes_read w tables.now len)
-        (prefix_of w dst.now len)) }
+        ≡ shapes.shape_out asked.now.net.now.tracked asked.now.net.now.files asked.now.ask.now
+        (failures_of w asked.now.sym.now) (routes_read w asked.now.tables.now len) (prefix_of w asked.now.dst.now len)) }
 {
-    let asked = sym_asked(alloc, terms, ask, dst, len)?;
-    if is_never(terms, asked) {
+    let within = sym_asked(alloc, terms, asked.ask, asked.dst, len)?;
+    if is_never(terms, within) {
         return constant_node(terms, false);
     }
-    let place = end_to(net, &ask.to);
-    let goes = sym_over_end(alloc, terms, net, ask, sym, tables, place, dst, len)?;
-    both(terms, asked, goes)
+    let place = end_to(asked.net, &asked.ask.to);
+    let goes = sym_over_end(alloc, terms, asked, place, len)?;
+    both(terms, within, goes)
 }
 
 /// Whether in the tables, for the prefixes of the destination `dst`, a route of the ask goes out to its peer at some prefix
@@ -169,9 +162,16 @@ pub fn sym_out(
         ≡ shapes.any_below constants.LENGTHS (λ len. shapes.shape_out net.now.tracked net.now.files ask.now
         (failures_of w sym.now) (routes_read w tables.now len) (prefix_of w dst.now len))) }
 {
+    let asked = Asked {
+        net,
+        ask,
+        sym,
+        tables,
+        dst,
+    };
     let mut any = constant_node(terms, false)?;
     for len in 0..LENGTHS as u8 {
-        let out = sym_out_at(alloc, terms, net, ask, sym, tables, dst, len)?;
+        let out = sym_out_at(alloc, terms, &asked, len)?;
         any = either(terms, any, out)?;
     }
     Ok(any)

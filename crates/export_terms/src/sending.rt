@@ -24,33 +24,43 @@ use term_arith::Bits;
 use term_arith::gates::{both, constant_node};
 use term_store::{NodeId, Terms};
 
+/// What is asked: whether a route of this ask goes out for the prefixes of a destination, by these tables of the network,
+/// while the links of `sym` have failed.
+#[derive(Clone, Copy)]
+pub(crate) struct Asked<'a> {
+    pub(crate) net: &'a Net,
+    pub(crate) ask: &'a Ask,
+    pub(crate) sym: &'a SymNet,
+    pub(crate) tables: &'a SymTables<'a>,
+    pub(crate) dst: &'a Bits,
+}
+
 /// Whether the router of an end that stands at that place sends something over its session of the route that it holds at
 /// a length.
 fn sym_sent(
     alloc: Global,
     terms: &mut Terms,
-    net: &Net,
-    tables: &SymTables<'_>,
+    asked: &Asked<'_>,
     place: u32,
     end: &SessionEnd,
-    dst: &Bits,
     len: u8,
 ) -> Result<NodeId, AllocError>
-    requires there { slice_get (ends_of net.now.files) place ≡ Some end.now }
+    requires there { slice_get (ends_of asked.now.net.now.files) place ≡ Some end.now }
     requires long { len ≤ 32 }
-    requires wide { length dst.now.nodes.items ≡ 32 }
-    requires dst { ids_end dst.now.nodes.items ≤ size terms.old }
-    requires rows { HaveTracked net.now.tracked tables.now.slots.now }
-    requires slots { slots_end tables.now.slots.now ≤ size terms.old }
+    requires wide { length asked.now.dst.now.nodes.items ≡ 32 }
+    requires dst { ids_end asked.now.dst.now.nodes.items ≤ size terms.old }
+    requires rows { HaveTracked asked.now.net.now.tracked asked.now.tables.now.slots.now }
+    requires slots { slots_end asked.now.tables.now.slots.now ≤ size terms.old }
     ensures builds { Builds terms.old terms.new }
     ensures within { IfOk result (λ r. r.0 < size terms.new) }
     ensures value { Gives terms.new result (λ w r. at w r
-        ≡ shapes.shape_sent net.now.tracked net.now.files (routes_read w tables.now len) (prefix_of w dst.now len) end.now) }
+        ≡ shapes.shape_sent asked.now.net.now.tracked asked.now.net.now.files (routes_read w asked.now.tables.now len)
+        (prefix_of w asked.now.dst.now len) end.now) }
 {
-    match slot_for(tables, end.router, len) {
+    match slot_for(asked.tables, end.router, len) {
         None => constant_node(terms, false),
         Some(slot) => {
-            let message = sym_export(alloc, terms, net, place, dst, len, &slot.bgp)?;
+            let message = sym_export(alloc, terms, asked.net, place, asked.dst, len, &slot.bgp)?;
             Ok(message.valid)
         }
     }
@@ -78,33 +88,38 @@ fn sym_outer_up(
 pub(crate) fn sym_goes_out(
     alloc: Global,
     terms: &mut Terms,
-    net: &Net,
-    ask: &Ask,
-    sym: &SymNet,
-    tables: &SymTables<'_>,
+    asked: &Asked<'_>,
     place: u32,
     end: &SessionEnd,
-    dst: &Bits,
     len: u8,
 ) -> Result<NodeId, AllocError>
-    requires there { slice_get (ends_of net.now.files) place ≡ Some end.now }
+    requires there { slice_get (ends_of asked.now.net.now.files) place ≡ Some end.now }
     requires outside { is_outside end.now.far ≡ true }
-    requires routers { tables.now.routers ≡ length net.now.files }
+    requires routers { asked.now.tables.now.routers ≡ length asked.now.net.now.files }
     requires long { len ≤ 32 }
-    requires wide { length dst.now.nodes.items ≡ 32 }
-    requires dst { ids_end dst.now.nodes.items ≤ size terms.old }
-    requires down { ids_end sym.now.down ≤ size terms.old }
-    requires rows { HaveTracked net.now.tracked tables.now.slots.now }
-    requires slots { slots_end tables.now.slots.now ≤ size terms.old }
+    requires wide { length asked.now.dst.now.nodes.items ≡ 32 }
+    requires dst { ids_end asked.now.dst.now.nodes.items ≤ size terms.old }
+    requires down { ids_end asked.now.sym.now.down ≤ size terms.old }
+    requires rows { HaveTracked asked.now.net.now.tracked asked.now.tables.now.slots.now }
+    requires slots { slots_end asked.now.tables.now.slots.now ≤ size terms.old }
     ensures builds { Builds terms.old terms.new }
     ensures within { IfOk result (λ r. r.0 < size terms.new) }
     ensures value { Gives terms.new result (λ w r. at w r
-        ≡ shapes.shape_goes_out net.now.tracked net.now.files ask.now (failures_of w sym.now) (routes_read w tables.now len)
-        (prefix_of w dst.now len) end.now) }
+        ≡ shapes.shape_goes_out asked.now.net.now.tracked asked.now.net.now.files asked.now.ask.now
+        (failures_of w asked.now.sym.now) (routes_read w asked.now.tables.now len) (prefix_of w asked.now.dst.now len)
+        end.now) }
 {
-    let up = sym_outer_up(alloc, terms, net, sym, end)?;
-    let sent = sym_sent(alloc, terms, net, tables, place, end, dst, len)?;
-    let learnt = sym_learnt(alloc, terms, net, &ask.learnt, tables, len, end.router)?;
+    let up = sym_outer_up(alloc, terms, asked.net, asked.sym, end)?;
+    let sent = sym_sent(alloc, terms, asked, place, end, len)?;
+    let learnt = sym_learnt(
+        alloc,
+        terms,
+        asked.net,
+        &asked.ask.learnt,
+        asked.tables,
+        len,
+        end.router,
+    )?;
     let goes = both(terms, sent, learnt)?;
     both(terms, up, goes)
 }

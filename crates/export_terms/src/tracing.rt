@@ -24,6 +24,16 @@ use term_arith::gates::{both, constant_node, select};
 use term_arith::{Bits, equal_number};
 use term_store::{NodeId, Terms};
 
+/// What one step of the traces goes by: the files and the ends of their sessions, the peer at which traces are to end, and
+/// the node of each router that says whether the trace of its route does.
+#[derive(Clone, Copy)]
+struct Step<'a> {
+    files: &'a [File],
+    ends: &'a [SessionEnd],
+    peer: &'a AskPeer,
+    next: &'a [NodeId],
+}
+
 /// The number of an address in a field that says by its highest bit that there is one.
 fn numbered(a: Addr) -> u64
     ensures { result ≡ 2 ^ 32 + a.0 }
@@ -69,25 +79,22 @@ pub(crate) fn node_of(terms: &mut Terms, nodes: &[NodeId], place: u32) -> Result
 }
 
 /// Whether a route that came over the end is from the peer, or from a router whose route is, by the nodes of these.
-fn sym_leads_to(
-    terms: &mut Terms,
-    files: &[File],
-    ends: &[SessionEnd],
-    peer: &AskPeer,
-    next: &[NodeId],
-    end: &SessionEnd,
-) -> Result<NodeId, AllocError>
-    requires ends { ends.now ≡ ends_of files.now }
-    requires next { ids_end next.now ≤ size terms.old }
+fn sym_leads_to(terms: &mut Terms, step: &Step<'_>, end: &SessionEnd) -> Result<NodeId, AllocError>
+    requires ends { step.now.ends.now ≡ ends_of step.now.files.now }
+    requires next { ids_end step.now.next.now ≤ size terms.old }
     ensures builds { Builds terms.old terms.new }
     ensures within { IfOk result (λ r. r.0 < size terms.new) }
-    ensures value { Gives terms.new result (λ w r. at w r ≡ shapes.leads_to files.now peer.now (node_in w next.now) end.now) }
+    ensures value { Gives terms.new result (λ w r. at w r
+        ≡ shapes.leads_to step.now.files.now step.now.peer.now (node_in w step.now.next.now) end.now) }
 {
     match end.far {
-        Far::Outside => constant_node(terms, is_towards(files, peer.router, peer.addr, end)),
-        Far::Inside(at) => match ends.get(at as usize) {
+        Far::Outside => constant_node(
+            terms,
+            is_towards(step.files, step.peer.router, step.peer.addr, end),
+        ),
+        Far::Inside(at) => match step.ends.get(at as usize) {
             None => constant_node(terms, false),
-            Some(far) => node_of(terms, next, far.router),
+            Some(far) => node_of(terms, step.next, far.router),
         },
     }
 }
@@ -95,53 +102,47 @@ fn sym_leads_to(
 /// The same where the route of the router came over this end, else what is known of the other ends.
 fn sym_over(
     terms: &mut Terms,
-    files: &[File],
-    ends: &[SessionEnd],
-    peer: &AskPeer,
-    next: &[NodeId],
+    step: &Step<'_>,
     router: u32,
     from: &Bits,
     end: &SessionEnd,
     rest: NodeId,
 ) -> Result<NodeId, AllocError>
-    requires ends { ends.now ≡ ends_of files.now }
-    requires next { ids_end next.now ≤ size terms.old }
+    requires ends { step.now.ends.now ≡ ends_of step.now.files.now }
+    requires next { ids_end step.now.next.now ≤ size terms.old }
     requires from { ids_end from.now.nodes.items ≤ size terms.old }
     requires rest { rest.0 < size terms.old }
     ensures builds { Builds terms.old terms.new }
     ensures within { IfOk result (λ r. r.0 < size terms.new) }
     ensures value { Gives terms.new result (λ w r. at w r
-        ≡ (if is_from files.now router (number w from.now.nodes.items) end.now
-        then shapes.leads_to files.now peer.now (node_in w next.now) end.now else at w rest)) }
+        ≡ (if is_from step.now.files.now router (number w from.now.nodes.items) end.now
+        then shapes.leads_to step.now.files.now step.now.peer.now (node_in w step.now.next.now) end.now else at w rest)) }
 {
-    let here = sym_is_from(terms, files, router, from, end)?;
-    let leads = sym_leads_to(terms, files, ends, peer, next, end)?;
+    let here = sym_is_from(terms, step.files, router, from, end)?;
+    let leads = sym_leads_to(terms, step, end)?;
     select(terms, here, leads, rest)
 }
 
 /// The same over the end by which the route of the router was learnt, by the number of its peer.
 fn sym_learnt_over(
     terms: &mut Terms,
-    files: &[File],
-    ends: &[SessionEnd],
-    peer: &AskPeer,
-    next: &[NodeId],
+    step: &Step<'_>,
     router: u32,
     from: &Bits,
 ) -> Result<NodeId, AllocError>
-    requires ends { ends.now ≡ ends_of files.now }
-    requires next { ids_end next.now ≤ size terms.old }
+    requires ends { step.now.ends.now ≡ ends_of step.now.files.now }
+    requires next { ids_end step.now.next.now ≤ size terms.old }
     requires from { ids_end from.now.nodes.items ≤ size terms.old }
     ensures builds { Builds terms.old terms.new }
     ensures within { IfOk result (λ r. r.0 < size terms.new) }
     ensures value { Gives terms.new result (λ w r. at w r
-        ≡ option_map_or (shapes.leads_to files.now peer.now (node_in w next.now))
-        (end_numbered files.now router (number w from.now.nodes.items)) false) }
+        ≡ option_map_or (shapes.leads_to step.now.files.now step.now.peer.now (node_in w step.now.next.now))
+        (end_numbered step.now.files.now router (number w from.now.nodes.items)) false) }
 {
     let mut rest = constant_node(terms, false)?;
-    for i in (0..ends.len()).rev() {
-        let over = &ends[i];
-        rest = sym_over(terms, files, ends, peer, next, router, from, over, rest)?;
+    for i in (0..step.ends.len()).rev() {
+        let over = &step.ends[i];
+        rest = sym_over(terms, step, router, from, over, rest)?;
     }
     Ok(rest)
 }
@@ -150,22 +151,19 @@ fn sym_learnt_over(
 #[tactic(auto, using(crate::proofs::Layers::where_valid))]
 fn sym_traced_by(
     terms: &mut Terms,
-    files: &[File],
-    ends: &[SessionEnd],
-    peer: &AskPeer,
-    next: &[NodeId],
+    step: &Step<'_>,
     router: u32,
     held: &SymBgp,
 ) -> Result<NodeId, AllocError>
-    requires ends { ends.now ≡ ends_of files.now }
-    requires next { ids_end next.now ≤ size terms.old }
+    requires ends { step.now.ends.now ≡ ends_of step.now.files.now }
+    requires next { ids_end step.now.next.now ≤ size terms.old }
     requires held { bgp_end held.now ≤ size terms.old }
     ensures builds { Builds terms.old terms.new }
     ensures within { IfOk result (λ r. r.0 < size terms.new) }
     ensures value { Gives terms.new result (λ w r. at w r
-        ≡ shapes.traced_by files.now peer.now (node_in w next.now) router (bgp_of w held.now)) }
+        ≡ shapes.traced_by step.now.files.now step.now.peer.now (node_in w step.now.next.now) router (bgp_of w held.now)) }
 {
-    let leads = sym_learnt_over(terms, files, ends, peer, next, router, &held.from)?;
+    let leads = sym_learnt_over(terms, step, router, &held.from)?;
     both(terms, held.valid, leads)
 }
 
@@ -188,15 +186,15 @@ fn sym_traced_at(
 {
     match slot_for(tables, router, len) {
         None => constant_node(terms, false),
-        Some(slot) => sym_traced_by(
-            terms,
-            net.routers(),
-            net.ends(),
-            peer,
-            next,
-            router,
-            &slot.bgp,
-        ),
+        Some(slot) => {
+            let step = Step {
+                files: net.routers(),
+                ends: net.ends(),
+                peer,
+                next,
+            };
+            sym_traced_by(terms, &step, router, &slot.bgp)
+        }
     }
 }
 

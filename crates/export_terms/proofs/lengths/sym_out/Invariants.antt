@@ -13,6 +13,6 @@ invariant-loop-len l = record {
   builds : Builds l.fn.terms l.terms;
   within : l.any.0 < size l.terms;
   value : (w : Reading) → Reads w l.terms → at w l.any
-      ≡ any_below l.len (λ len. shape_out l.net.tracked l.net.files l.ask (failures_of w l.sym) (routes_read w l.tables len)
+      ≡ any_below l.len (λ len. shape_out l.net.tracked l.net.files l.ask (failures_of w l.sym) (routes_read w l.fn.tables len)
       (prefix_of w l.dst len));
 }

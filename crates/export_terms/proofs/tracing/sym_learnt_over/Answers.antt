@@ -13,8 +13,8 @@ loop-i-preserved c =
       builds = search rules;
       within = search rules;
       value = λ w reads.
-          over_more (is_from c.args.files.now c.args.router (number w c.args.from.now.nodes.items))
-          (leads_to c.args.files.now c.args.peer.now (node_in w c.args.next.now)) c.args.ends.now c.loop-i.i
+          over_more (is_from c.args.step.now.files.now c.args.router (number w c.args.from.now.nodes.items))
+          (leads_to c.args.step.now.files.now c.args.step.now.peer.now (node_in w c.args.step.now.next.now)) c.args.step.now.ends.now c.loop-i.i
           _ _ _ _ (omega arith) (omega arith) refl
           (c.loop-i.invariant.value w (step.builds.reads w reads)) (step.value w reads);
     }

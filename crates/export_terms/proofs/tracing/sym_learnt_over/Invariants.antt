@@ -15,6 +15,6 @@ invariant-loop-i l = record {
   builds : Builds l.fn.terms l.terms;
   within : l.rest.0 < size l.terms;
   value : (w : Reading) → Reads w l.terms → at w l.rest
-      ≡ option_map_or (leads_to l.files l.peer (node_in w l.next))
-      (find (is_from l.files l.router (number w l.from.nodes.items)) (drop l.i l.ends)) false;
+      ≡ option_map_or (leads_to l.step.files.now l.step.peer.now (node_in w l.step.next.now))
+      (find (is_from l.step.files.now l.router (number w l.from.nodes.items)) (drop l.i l.step.ends.now)) false;
 }
