@@ -1,5 +1,5 @@
 -- What a replay says of a counterexample.
-use Rattle.std.specs.Prelude.{◌≡◌, ◌≢◌, List, Option, Some, None}
+use Rattle.std.specs.Prelude.{◌≢◌, List, Option, Some, None}
 use Rattle.ios_ast.specs.declared.file.File.{File}
 use Rattle.route_record.specs.declared.World.{World}
 use Rattle.net_parts.specs.Stable.{Stable}
@@ -10,7 +10,6 @@ use Rattle.question_lang.specs.declared.question.Question.{Question}
 use Rattle.question_lang.specs.declared.walk.Walk.{Walk}
 use Rattle.question_lang.specs.Breaking.{Breaks}
 use Rattle.question_lang.specs.Walks.{IsWalk}
-use Rattle.stable_replay.specs.declared.differs.Differs.{Differs as Difference}
 use Rattle.stable_replay.specs.declared.differs.ReplayNo.{ReplayNo}
 use Rattle.stable_replay.specs.declared.differs.ReplayNo.TheVariants as no
 use Rattle.stable_replay.specs.Differences.{IsFirstDifference}

@@ -8,42 +8,37 @@ ghost use Rattle.route_candidates.specs.Underlays.{IsUnderlay};
 ghost use Rattle.stable_replay.specs.declared.differs.Differs.{Differs as Difference};
 
 use crate::differs::{Differs, ReplayNo};
+use crate::routing::Routing;
 use crate::slots::test_slot;
 use mw_text::{Addr, prefix_of};
 use net_model::Net;
-use route_candidates::{Underlay, underlay_of};
+use route_candidates::underlay_of;
 use route_record::{Environment, Failures, LENGTHS, Tables, read_tables};
 use std::alloc::{AllocError, Global};
 
 // Tests the slot at a place of the tables.
 fn test_place(
     alloc: Global,
-    net: &Net,
+    routing: &Routing<'_>,
     d: Addr,
-    failures: &Failures,
-    env: &Environment,
-    tables: &Tables,
-    underlay: &Underlay,
     place: usize,
 ) -> Result<Option<Differs>, AllocError>
-    requires underlay { IsUnderlay net.now.files failures.now underlay.now }
-    requires size { length tables.now.slots ≡ LENGTHS * length net.now.files }
-    requires within { place < LENGTHS * length net.now.files }
+    requires underlay { IsUnderlay routing.now.net.now.files routing.now.failures.now routing.now.underlay.now }
+    requires size { length routing.now.tables.now.slots ≡ LENGTHS * length routing.now.net.now.files }
+    requires within { place < LENGTHS * length routing.now.net.now.files }
     ensures { IfOk result (λ found. MatchOption found
-        (differences.IsStableAt net.now.files d failures.now env.now tables.now place)
-        (differences.IsDifferenceAt net.now.files d failures.now env.now tables.now place)) }
+        (differences.IsStableAt routing.now.net.now.files d routing.now.failures.now routing.now.env.now
+        routing.now.tables.now place)
+        (differences.IsDifferenceAt routing.now.net.now.files d routing.now.failures.now routing.now.env.now
+        routing.now.tables.now place)) }
 {
-    let routers = net.routers();
+    let routers = routing.net.routers();
     let router = place / LENGTHS;
     let p = prefix_of(d, (place % LENGTHS) as u8);
-    let slots = tables.slots.as_slice();
+    let slots = routing.tables.slots.as_slice();
     test_slot(
         alloc,
-        net,
-        failures,
-        env,
-        tables,
-        underlay,
+        routing,
         router as u32,
         &routers[router],
         &p,
@@ -51,25 +46,18 @@ fn test_place(
     )
 }
 
-// The first place that differs, over this underlay.
-fn first_over(
-    alloc: Global,
-    net: &Net,
-    d: Addr,
-    failures: &Failures,
-    env: &Environment,
-    tables: &Tables,
-    underlay: &Underlay,
-) -> Result<Option<Differs>, AllocError>
-    requires underlay { IsUnderlay net.now.files failures.now underlay.now }
-    requires size { length tables.now.slots ≡ LENGTHS * length net.now.files }
+// The first place of the tables that differs.
+fn first_over(alloc: Global, routing: &Routing<'_>, d: Addr) -> Result<Option<Differs>, AllocError>
+    requires underlay { IsUnderlay routing.now.net.now.files routing.now.failures.now routing.now.underlay.now }
+    requires size { length routing.now.tables.now.slots ≡ LENGTHS * length routing.now.net.now.files }
     ensures { IfOk result (λ found. MatchOption found
-        (Stable net.now.files d failures.now env.now tables.now)
-        (differences.IsFirstDifference net.now.files d failures.now env.now tables.now)) }
+        (Stable routing.now.net.now.files d routing.now.failures.now routing.now.env.now routing.now.tables.now)
+        (differences.IsFirstDifference routing.now.net.now.files d routing.now.failures.now routing.now.env.now
+        routing.now.tables.now)) }
 {
-    read_tables(tables);
-    for place in 0..LENGTHS * net.routers().len() {
-        if let Some(found) = test_place(alloc, net, d, failures, env, tables, underlay, place)? {
+    read_tables(routing.tables);
+    for place in 0..LENGTHS * routing.net.routers().len() {
+        if let Some(found) = test_place(alloc, routing, d, place)? {
             return Ok(Some(found));
         }
     }
@@ -91,7 +79,14 @@ fn first_difference(
         (differences.IsFirstDifference net.now.files d failures.now env.now tables.now)) }
 {
     let underlay = underlay_of(alloc, net, failures)?;
-    first_over(alloc, net, d, failures, env, tables, &underlay)
+    let routing = Routing {
+        net,
+        failures,
+        env,
+        tables,
+        underlay: &underlay,
+    };
+    first_over(alloc, &routing, d)
 }
 
 /// Whether the tables are a stable routing of the network for the destination `d`, while these links have failed and the

@@ -14,13 +14,12 @@ ghost use Rattle.stable_replay.specs.Parts as parts;
 ghost use Rattle.same_routes.specs.Same.{same_rec};
 
 use crate::candidates::candidates;
+use crate::routing::Routing;
 use ios_ast::{Bgp, File};
 use mw_text::{List, Prefix};
-use net_model::Net;
 use policy_eval::copy_route;
 use proto_bgp::{Candidate, survivors};
-use route_candidates::Underlay;
-use route_record::{BgpRec, Environment, Failures, Slot, Tables};
+use route_record::{BgpRec, Slot};
 use same_routes::same_route;
 use std::alloc::{AllocError, Global};
 
@@ -110,27 +109,23 @@ fn test_left(
 #[tactic(auto, unfolding(net_parts::specs::Decisions::DecidedByBgp))]
 fn test_process(
     alloc: Global,
-    net: &Net,
-    failures: &Failures,
-    env: &Environment,
-    tables: &Tables,
-    underlay: &Underlay,
+    routing: &Routing<'_>,
     router: u32,
     file: &File,
     process: &Bgp,
     p: &Prefix,
     held: &Option<BgpRec>,
 ) -> Result<Option<List<Slot>>, AllocError>
-    requires underlay { IsUnderlay net.now.files failures.now underlay.now }
-    requires file { slice_get net.now.files router ≡ Some file.now }
+    requires underlay { IsUnderlay routing.now.net.now.files routing.now.failures.now routing.now.underlay.now }
+    requires file { slice_get routing.now.net.now.files router ≡ Some file.now }
     requires process { file.now.bgp ≡ Some process.now }
     ensures { IfOk result (parts.IsTested
-        (decisions.DecidedByBgp net.now.files failures.now env.now tables.now router file.now process.now p.now held.now)
-        (parts.bgp_slots (parts.left_by net.now.files failures.now env.now tables.now router file.now p.now process.now))) }
+        (decisions.DecidedByBgp routing.now.net.now.files routing.now.failures.now routing.now.env.now
+        routing.now.tables.now router file.now process.now p.now held.now)
+        (parts.bgp_slots (parts.left_by routing.now.net.now.files routing.now.failures.now routing.now.env.now
+        routing.now.tables.now router file.now p.now process.now))) }
 {
-    let made = candidates(
-        alloc, net, failures, env, tables, underlay, router, file, process, p,
-    )?;
+    let made = candidates(alloc, routing, router, file, process, p)?;
     test_left(alloc, process, made.as_slice(), held)
 }
 
@@ -148,26 +143,22 @@ fn test_none(alloc: Global, held: &Option<BgpRec>) -> Option<List<Slot>>
 /// leaves, or there is none of either; else the routes of all that it leaves, each as often as it comes.
 pub fn test_bgp(
     alloc: Global,
-    net: &Net,
-    failures: &Failures,
-    env: &Environment,
-    tables: &Tables,
-    underlay: &Underlay,
+    routing: &Routing<'_>,
     router: u32,
     file: &File,
     p: &Prefix,
     held: &Option<BgpRec>,
 ) -> Result<Option<List<Slot>>, AllocError>
-    requires underlay { IsUnderlay net.now.files failures.now underlay.now }
-    requires file { slice_get net.now.files router ≡ Some file.now }
+    requires underlay { IsUnderlay routing.now.net.now.files routing.now.failures.now routing.now.underlay.now }
+    requires file { slice_get routing.now.net.now.files router ≡ Some file.now }
     ensures { IfOk result (parts.IsTested
-        (stable.IsDecided net.now.files failures.now env.now tables.now router file.now p.now held.now)
-        (parts.bgp_wanted net.now.files failures.now env.now tables.now router file.now p.now)) }
+        (stable.IsDecided routing.now.net.now.files routing.now.failures.now routing.now.env.now
+        routing.now.tables.now router file.now p.now held.now)
+        (parts.bgp_wanted routing.now.net.now.files routing.now.failures.now routing.now.env.now
+        routing.now.tables.now router file.now p.now)) }
 {
     match &file.bgp {
         None => Ok(test_none(alloc, held)),
-        Some(process) => test_process(
-            alloc, net, failures, env, tables, underlay, router, file, process, p, held,
-        ),
+        Some(process) => test_process(alloc, routing, router, file, process, p, held),
     }
 }

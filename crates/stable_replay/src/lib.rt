@@ -8,6 +8,7 @@ mod differs;
 mod entry;
 mod ospf;
 mod replaying;
+mod routing;
 mod slots;
 
 pub use arriving_messages::arriving;

@@ -11,11 +11,12 @@ ghost use Rattle.route_candidates.specs.Origins.{origins_at};
 ghost use Rattle.route_candidates.specs.Underlays.{IsUnderlay};
 ghost use Rattle.stable_replay.specs.Parts as parts;
 
+use crate::routing::Routing;
 use arriving_messages::far_record;
 use ios_ast::File;
 use mw_text::{List, Prefix};
 use net_model::Net;
-use route_candidates::{Underlay, held_from, origins};
+use route_candidates::{held_from, origins};
 use route_record::{Failures, OspfKind, OspfRec, Slot, Tables};
 use std::alloc::{AllocError, Global};
 
@@ -57,28 +58,33 @@ fn far_records(
 #[tactic(auto, using(crate::proofs::OspfParts::held_is))]
 pub fn wanted_ospf(
     alloc: Global,
-    net: &Net,
-    failures: &Failures,
-    tables: &Tables,
-    underlay: &Underlay,
+    routing: &Routing<'_>,
     router: u32,
     file: &File,
     p: &Prefix,
 ) -> Result<Option<OspfRec>, AllocError>
-    requires underlay { IsUnderlay net.now.files failures.now underlay.now }
-    requires file { slice_get net.now.files router ≡ Some file.now }
+    requires underlay { IsUnderlay routing.now.net.now.files routing.now.failures.now routing.now.underlay.now }
+    requires file { slice_get routing.now.net.now.files router ≡ Some file.now }
     ensures { IfOk result (λ wanted. wanted
-        ≡ stable.held_ospf net.now.files failures.now tables.now router file.now p.now) }
+        ≡ stable.held_ospf routing.now.net.now.files routing.now.failures.now routing.now.tables.now router file.now
+        p.now) }
 {
     if file.ospf.is_none() {
         return Ok(None);
     }
-    let own = held_origins(alloc, net, failures, tables, router, p)?;
-    let heard = far_records(alloc, net, tables, p)?;
+    let own = held_origins(
+        alloc,
+        routing.net,
+        routing.failures,
+        routing.tables,
+        router,
+        p,
+    )?;
+    let heard = far_records(alloc, routing.net, routing.tables, p)?;
     Ok(held_from(
-        net,
-        failures,
-        underlay,
+        routing.net,
+        routing.failures,
+        routing.underlay,
         router,
         own.as_slice(),
         heard.as_slice(),
@@ -129,22 +135,21 @@ fn slots_of(alloc: Global, wanted: Option<OspfRec>) -> Result<List<Slot>, AllocE
 /// Tests the OSPF part of a slot. None where it is what the router holds by the tables; else that record, if there is one.
 pub fn test_ospf(
     alloc: Global,
-    net: &Net,
-    failures: &Failures,
-    tables: &Tables,
-    underlay: &Underlay,
+    routing: &Routing<'_>,
     router: u32,
     file: &File,
     p: &Prefix,
     held: &Option<OspfRec>,
 ) -> Result<Option<List<Slot>>, AllocError>
-    requires underlay { IsUnderlay net.now.files failures.now underlay.now }
-    requires file { slice_get net.now.files router ≡ Some file.now }
+    requires underlay { IsUnderlay routing.now.net.now.files routing.now.failures.now routing.now.underlay.now }
+    requires file { slice_get routing.now.net.now.files router ≡ Some file.now }
     ensures { IfOk result (parts.IsTested
-        (held.now ≡ stable.held_ospf net.now.files failures.now tables.now router file.now p.now)
-        (parts.ospf_slots (stable.held_ospf net.now.files failures.now tables.now router file.now p.now))) }
+        (held.now ≡ stable.held_ospf routing.now.net.now.files routing.now.failures.now routing.now.tables.now router
+        file.now p.now)
+        (parts.ospf_slots (stable.held_ospf routing.now.net.now.files routing.now.failures.now routing.now.tables.now
+        router file.now p.now))) }
 {
-    let wanted = wanted_ospf(alloc, net, failures, tables, underlay, router, file, p)?;
+    let wanted = wanted_ospf(alloc, routing, router, file, p)?;
     if same_ospf(held, &wanted) {
         return Ok(None);
     }

@@ -10,12 +10,11 @@ use crate::decided::test_bgp;
 use crate::differs::{Differs, Part};
 use crate::entry::test_entry;
 use crate::ospf::test_ospf;
+use crate::routing::Routing;
 use ios_ast::File;
 use mw_text::{List, Prefix};
-use net_model::Net;
 use policy_eval::copy_route;
-use route_candidates::Underlay;
-use route_record::{BgpRec, Environment, Failures, OspfRec, RibEntry, Slot, Tables};
+use route_record::{BgpRec, OspfRec, RibEntry, Slot};
 use std::alloc::{AllocError, Global};
 
 fn ospf_slot(ospf: Option<OspfRec>) -> Slot
@@ -67,33 +66,26 @@ fn differs_in(p: &Prefix, router: u32, part: Part, held: Slot, wanted: List<Slot
 /// Tests the slot of a router for a prefix: None where it is stable, else the first of its parts that differs.
 pub fn test_slot(
     alloc: Global,
-    net: &Net,
-    failures: &Failures,
-    env: &Environment,
-    tables: &Tables,
-    underlay: &Underlay,
+    routing: &Routing<'_>,
     router: u32,
     file: &File,
     p: &Prefix,
     slot: &Slot,
 ) -> Result<Option<Differs>, AllocError>
-    requires underlay { IsUnderlay net.now.files failures.now underlay.now }
-    requires file { slice_get net.now.files router ≡ Some file.now }
-    ensures { IfOk result (IsSlotTested net.now.files failures.now env.now tables.now router file.now p.now slot.now) }
+    requires underlay { IsUnderlay routing.now.net.now.files routing.now.failures.now routing.now.underlay.now }
+    requires file { slice_get routing.now.net.now.files router ≡ Some file.now }
+    ensures { IfOk result (IsSlotTested routing.now.net.now.files routing.now.failures.now routing.now.env.now
+        routing.now.tables.now router file.now p.now slot.now) }
 {
-    if let Some(wanted) = test_ospf(
-        alloc, net, failures, tables, underlay, router, file, p, &slot.ospf,
-    )? {
+    if let Some(wanted) = test_ospf(alloc, routing, router, file, p, &slot.ospf)? {
         let held = ospf_slot(slot.ospf);
         return Ok(Some(differs_in(p, router, Part::Ospf, held, wanted)));
     }
-    if let Some(wanted) = test_bgp(
-        alloc, net, failures, env, tables, underlay, router, file, p, &slot.bgp,
-    )? {
+    if let Some(wanted) = test_bgp(alloc, routing, router, file, p, &slot.bgp)? {
         let held = bgp_slot(alloc, &slot.bgp)?;
         return Ok(Some(differs_in(p, router, Part::Bgp, held, wanted)));
     }
-    if let Some(wanted) = test_entry(alloc, net, failures, router, file, p, slot)? {
+    if let Some(wanted) = test_entry(alloc, routing.net, routing.failures, router, file, p, slot)? {
         let held = rib_slot(slot.rib);
         return Ok(Some(differs_in(p, router, Part::Rib, held, wanted)));
     }

@@ -10,8 +10,10 @@ use Rattle.stable_replay.proofs.candidates.add_learnt.Given as goal
 abbrev pub invariant-loop-at : goal.invariant-loop-at
 invariant-loop-at l =
     map seen l.out-inside.items.items
-    ++ filter_map (arriving_candidate l.net.files l.failures l.env l.tables l.p)
-    (filter (λ e. e.1.router == l.router) (enumerate_from l.at (drop l.at (ends_of l.net.files))))
+    ++ filter_map (arriving_candidate l.routing.net.now.files l.routing.failures.now l.routing.env.now
+    l.routing.tables.now l.p)
+    (filter (λ e. e.1.router == l.router) (enumerate_from l.at (drop l.at (ends_of l.routing.net.now.files))))
     ≡ map seen l.fn.out
-    ++ filter_map (arriving_candidate l.net.files l.failures l.env l.tables l.p)
-    (filter (λ e. e.1.router == l.router) (enumerate_from 0 (ends_of l.net.files)))
+    ++ filter_map (arriving_candidate l.routing.net.now.files l.routing.failures.now l.routing.env.now
+    l.routing.tables.now l.p)
+    (filter (λ e. e.1.router == l.router) (enumerate_from 0 (ends_of l.routing.net.now.files)))
