@@ -6,10 +6,9 @@ use Rattle.std.specs.List.{list_any}
 use Rattle.std.proofs.Math.Bool.{or-false}
 use Rattle.std.proofs.lemmas.List.{append-nil, take_all}
 use Rattle.std.proofs.lemmas.List.Folds.{list_any-append}
-use Rattle.std.proofs.lemmas.Option.{get_or_from_slice_get, slice_get_within}
 use Rattle.mw_load.specs.declared.ended.Ended.{Ended}
 use Rattle.mw_outside.specs.Taken.{Takes, TakesPart, part_more, part_of_all, takes_more}
-use Rattle.mw_text.proofs.Reading.{take-read}
+use Rattle.resolution_check.proofs.Variables.{take_at}
 use Rattle.run_answers.specs.declared.seen.Seen.{Seen}
 use Rattle.asked_files.specs.Ending.{NoWriteFailed, Writes, ended_by}
 use Rattle.asked_files.specs.Answering.{Answering, AnswersSo, AreAnswered, AreBegun, AreRight, IsCutShort, IsPut, TellLast}
@@ -91,12 +90,6 @@ seen_none {Q} {A} k asks taken logged tolds seen is = by_asks asks where
     bumps = tt;
   }
 
--- one ask more
-one_more : {Q : Type 0} (asks : List Q) (i : ℕ) (ask : Q) → slice_get asks i ≡ Some ask →
-    take (i + 1) asks ≡ take i asks ++ ask ∷ []
-one_more asks i ask there =
-    take-read asks i ask (slice_get_within asks i ask there) (sym (get_or_from_slice_get asks i ask ask there))
-
 pub seen_more : {Q A : Type 0} (k : Answering Q A) (asks : List Q) (i : ℕ) (seen next : Seen) (ask : Q) (answer : A)
     (before middle now logged_before logged_middle logged_now : Option (List ℕ)) (earlier tolds : List (Option (List ℕ))) →
     AreSeen k (take i asks) before middle logged_before logged_middle earlier seen →
@@ -109,7 +102,7 @@ seen_more {Q} {A} k asks i seen next ask answer before middle now logged_before 
     let T : List ℕ → Type 0 = λ t. Takes before now t in
     let L : List ℕ → Type 0 = λ t. Takes logged_before logged_now t in
     let S : List Q → Type 0 = λ qs. AreSeen k qs before now logged_before logged_now tolds next in
-    subst S (sym (one_more asks i ask there)) (record {
+    subst S (sym (take_at asks i ask there)) (record {
       answers = so_far.answers ++ answer ∷ [];
       right = right_more k first so_far.answers ask answer so_far.right right;
       broken = broken ∙ ap (λ b. b || k.broken answer) so_far.broken ∙ any_more k.broken so_far.answers answer;
@@ -152,7 +145,7 @@ seen_cut {Q} {A} k asks i seen ask before middle now logged_before logged_middle
     (inr (answer, is, logs, part)) =
     let answers = so_far.answers ++ answer ∷ [] in
     let first = take i asks in
-    let one = one_more asks i ask there in
+    let one = take_at asks i ask there in
     let R : List Q → Type 0 = λ qs. AreRight k qs answers in
     let P : List Q → Type 0 = λ qs. TakesPart before now (texts_of k.lines qs answers) in
     let M : List Q → Type 0 = λ qs. Takes logged_before logged_now (texts_of k.section qs answers) in

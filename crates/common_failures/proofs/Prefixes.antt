@@ -16,12 +16,10 @@ use Rattle.net_model.proofs.OneSubnet.{one_prefix}
 use Rattle.net_parts.specs.declared.links.Link.{Link}
 use Rattle.net_parts.specs.World.{links_of}
 use Rattle.net_parts.proofs.Ascending.{before-apart, links_ascend}
+use Rattle.paired_nets.proofs.Pairing.{self_prefix}
 use Rattle.common_failures.proofs.Items.{IsBelow, pairs_map}
 
 -- ---- prefixes
-
-self_prefix : (p : Prefix) → same_prefix p p ≡ true
-self_prefix p = ap (λ b. b && eqb p.len p.len) (eq-eqb p.addr.0 p.addr.0 refl) ∙ eq-eqb p.len p.len refl
 
 -- the test of prefixes tells which are equal
 prefix_decides : (p q : Prefix) → Decides (same_prefix p q) (p ≡ q)

@@ -47,16 +47,16 @@ use Rattle.bgp_shapes.proofs.LengthLaw.{if_then}
 use Rattle.rebuilt_routes.proofs.Options.{if_true}
 use Rattle.slot_places.specs.declared.fields.Field.{Field}
 use Rattle.slot_places.specs.declared.fields.Field.TheVariants.{Addresses, Among, Bits}
-use Rattle.slot_places.specs.Rooms.{dearest_walk}
+use Rattle.slot_places.specs.Rooms.{dearest_interface, dearest_walk}
 use Rattle.slot_places.specs.Supported.{AreOrigins}
 use Rattle.slot_places.specs.Values.{FitsField, field_bits, greatest, once, width_for}
 use Rattle.slot_places.proofs.Bounded.{cost_bound}
-use Rattle.slot_places.proofs.Fitting.{adjacencies_within, below_greatest, folded-there}
+use Rattle.slot_places.proofs.Fitting.{all_below_dearest, below_greatest, folded-there}
 use Rattle.slot_places.proofs.Supports.{all_held}
 use Rattle.slot_places.proofs.Widths.{in_width}
 use Rattle.held_values.specs.declared.numbers.HeldNumber.TheVariants.{Med}
 use Rattle.held_values.specs.Values.{brought_by_file, brought_by_line, brought_by_process, dearest_brought}
-use Rattle.held_values.specs.Values.{dearest_interface, dearest_origin, ospf_bits, said_in_map, values_of}
+use Rattle.held_values.specs.Values.{dearest_origin, ospf_bits, said_in_map, values_of}
 use Rattle.held_values.proofs.Lines.{AreMapsOf, IsKnown, all_joined, all_left, all_right, maps_of, through_kept}
 use Rattle.held_values.proofs.Routes.{HasKnownMetric, all_given_known, either_known, given_known, med_kept}
 
@@ -80,17 +80,6 @@ record IsBrought (most : ℕ) (o : OspfRec) : Type 0 where
 external_brought : (most med : ℕ) (type1 : Bool) → med ≤ most → IsBrought most (external_record type1 med)
 external_brought most med true few = record { cost = few; metric = omega arith }
 external_brought most med false few = record { cost = omega arith; metric = few }
-
-interface_above : (xs : List OspfInterface) (most : ℕ) → most ≤ fold (λ m x. max m x.cost) most xs
-interface_above [] most = omega arith
-interface_above (x ∷ xs) most = let rest = interface_above xs (max most x.cost) in omega (arith, rest)
-
-interfaces_within : (xs : List OspfInterface) (most : ℕ) → All (λ x. x.cost ≤ fold (λ m y. max m y.cost) most xs) xs
-interfaces_within [] most = All-nil (λ x. x.cost ≤ most)
-interfaces_within (x ∷ xs) most =
-    let above = interface_above xs (max most x.cost) in
-    All-cons (λ y. y.cost ≤ fold (λ m z. max m z.cost) (max most x.cost) xs) x xs (omega (arith, above))
-    (interfaces_within xs (max most x.cost))
 
 originates : (most : ℕ) (xs : List OspfInterface) (own : OspfInterface → Bool) → All (λ x. x.cost ≤ most) xs →
     All (IsBrought most) (map (λ x. record { kind = Internal; metric = 0; cost = x.cost }) (filter own xs))
@@ -209,7 +198,7 @@ module _ (files : List File) where
       (originates most (ospf_interfaces files)
       (λ x. (x.at.id.router == router) && (same_prefix (advertisement x) p && is_up files failures x.at))
       (All-weaker (λ (x : OspfInterface). x.cost ≤ dearest_interface files) (λ (x : OspfInterface). x.cost ≤ most)
-      (λ x few. omega (arith, few)) (ospf_interfaces files) (interfaces_within (ospf_interfaces files) 0)))
+      (λ x few. omega (arith, few)) (ospf_interfaces files) (all_below_dearest (λ (x : OspfInterface). x.cost) (ospf_interfaces files))))
       (All-append (IsBrought most) (filter_map (into_ospf file p slot) process.redistribute)
       (option_to_list (option_and_then (originated_default p slot) process.default))
       (all_given_known (IsBrought most) (λ (line : Redist). All IsFew (brought_by_line line)) (into_ospf file p slot)
@@ -259,7 +248,7 @@ module _ (files : List File) (d : Addr) (failures : Failures) (environment : Env
       cost : r.cost ≤ bound
       cost =
           cost_bound files d failures environment tables len (dearest_origin files)
-          (fold (λ m a. max m a.cost) 0 (adjacencies files)) stable short costs (adjacencies_within (adjacencies files) 0)
+          (fold (λ m a. max m a.cost) 0 (adjacencies files)) stable short costs (all_below_dearest (λ (a : Adjacency). a.cost) (adjacencies files))
           (weaker (λ o. o.cost ≤ dearest_origin files) (λ o is. is.cost)) router slot r here holds
 
       origin : r.metric ≤ dearest_origin files

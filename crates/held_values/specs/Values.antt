@@ -23,7 +23,7 @@ use Rattle.route_record.specs.declared.Learnt.TheVariants.{Local, Peer}
 use Rattle.net_parts.specs.Exports.{router_id}
 use Rattle.net_parts.specs.Ospf.{ospf_interfaces}
 use Rattle.net_parts.specs.Sessions.{ends_of, is_outside}
-use Rattle.slot_places.specs.Rooms.{dearest_walk}
+use Rattle.slot_places.specs.Rooms.{dearest_interface, dearest_walk}
 use Rattle.slot_places.specs.Values.{greatest, once, width_for}
 use Rattle.held_values.specs.declared.numbers.HeldNumber.{HeldNumber}
 use Rattle.held_values.specs.declared.numbers.HeldNumber.TheVariants.{Weight, LocalPref, Med, NextHop, FirstAs, LastAs}
@@ -113,9 +113,6 @@ brought_by_file file = option_map_or (brought_by_process file) file.ospf []
 
 abbrev pub dearest_brought : List File → ℕ
 dearest_brought files = greatest (once (flat_map brought_by_file files))
-
-abbrev pub dearest_interface : List File → ℕ
-dearest_interface files = fold (λ most x. max most x.cost) 0 (ospf_interfaces files)
 
 -- what a router originates into OSPF costs no more, nor is its metric greater
 abbrev pub dearest_origin : List File → ℕ

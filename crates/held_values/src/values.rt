@@ -12,10 +12,10 @@ ghost use Rattle.slot_places.specs.Values as fields;
 use crate::numbers::HeldNumber;
 use ios_ast::{Bgp, File, MapEntry, Neighbour, Ospf, Redist, RouteMap, SetAct};
 use mw_text::List;
-use net_model::{Net, OspfInterface};
+use net_model::Net;
 use net_parts::ends::is_outside;
 use slot_places::fields::{addresses_field, field_of, greatest, put_once};
-use slot_places::rooms::dearest_walk;
+use slot_places::rooms::{dearest_interface, dearest_walk};
 use slot_places::{Field, width_for};
 use std::alloc::{AllocError, Global};
 
@@ -365,16 +365,6 @@ fn dearest_brought(alloc: Global, files: &[File]) -> Result<u32, AllocError>
     let mut held = List::new(alloc);
     put_all_brought(&mut held, files)?;
     Ok(greatest(held.as_slice()))
-}
-
-fn dearest_interface(interfaces: &[OspfInterface]) -> u32
-    ensures { result ≡ fold (λ most x. max most x.cost) 0 interfaces.now }
-{
-    let mut most = 0u32;
-    for x in interfaces {
-        most = most.max(x.cost);
-    }
-    most
 }
 
 // In how many bits the metric of each OSPF route has room.

@@ -18,14 +18,15 @@ use Rattle.net_parts.proofs.Costs.{adjacency_costs, interface_costs}
 use Rattle.proto_ospf.specs.Rounds.{AtMost, everywhere, interior_distances, of_router, receiver}
 use Rattle.proto_ospf.proofs.Bounds.{own_costs_below, receivers_cheap, rounds_small}
 use Rattle.proto_ospf.proofs.Interior.{interior_there, rounds_interior}
-use Rattle.igp_variables.specs.Rows.{dearest_interface, distance_width, distances, distances_at, runs_bgp}
+use Rattle.igp_variables.specs.Rows.{distance_width, distances, distances_at, runs_bgp}
 use Rattle.net_parts.specs.declared.adjacencies.Adjacency.{Adjacency}
 use Rattle.net_parts.specs.declared.ospf.OspfInterface.{OspfInterface}
 use Rattle.net_parts.specs.Ospf.{adjacencies, origin_interfaces, ospf_interfaces, up_adjacencies}
 use Rattle.net_parts.proofs.LeastWalks.{in-cases, in-filter, in-filter_map, in-map, in-option, least-is}
 use Rattle.mw_text.specs.Members.{In}
 use Rattle.std.proofs.lemmas.Option.{same_Some}
-use Rattle.slot_places.specs.Rooms.{dearest_walk}
+use Rattle.slot_places.specs.Rooms.{dearest_interface, dearest_walk}
+use Rattle.slot_places.proofs.Fitting.{below_dearest}
 use Rattle.slot_places.proofs.Widths.{few as few_bits, in_width}
 use Rattle.slot_places.specs.Values.{width_for}
 use Rattle.std.proofs.Math.Nat.{suc-mul}
@@ -68,18 +69,6 @@ width_few n = let below = few_bits n 0 32 (omega arith) in omega (arith, below)
 added : (c : ℕ) (o : Option ℕ) (n : ℕ) → option_map (λ d. c + d) o ≡ Some n → (d : ℕ) × (o ≡ Some d) × (c + d ≡ n)
 added c None n is = absurd cc
 added c (Some d) n is = (d, refl, same_Some (c + d) n is)
-
-below_dearest : {X : Type 0} (cost : X → ℕ) (xs : List X) (most : ℕ) (x : X) → In x xs →
-    cost x ≤ fold (λ m y. max m (cost y)) most xs
-below_dearest cost [] most x there = absurd there
-below_dearest {X = X} cost (y ∷ ys) most x (inl same) =
-    let is = ap cost same in
-    let above = from_start ys (max most (cost y)) in omega (arith, is, above)
-  where
-    from_start : (zs : List X) (start : ℕ) → start ≤ fold (λ m z. max m (cost z)) start zs
-    from_start [] start = omega arith
-    from_start (z ∷ zs) start = let rest = from_start zs (max start (cost z)) in omega (arith, rest)
-below_dearest cost (y ∷ ys) most x (inr later) = below_dearest cost ys (max most (cost y)) x later
 
 module _ (files : List File) (failures : Failures) (p : Prefix) where
   abbrev own : ℕ

@@ -12,7 +12,7 @@ use Rattle.net_parts.specs.Ospf.{advertised, ospf_interfaces}
 use Rattle.net_parts.specs.Sessions.{runs_bgp as has_process}
 use Rattle.sym_policy.specs.declared.records.SymNet.{SymNet}
 use Rattle.sym_policy.specs.Held.{internal_route}
-use Rattle.slot_places.specs.Rooms.{dearest_walk}
+use Rattle.slot_places.specs.Rooms.{dearest_interface, dearest_walk}
 use Rattle.slot_places.specs.Values.{width_for}
 use Rattle.failed_links.specs.Failures.{none_of}
 use Rattle.failed_links.specs.Rows.{digits, number_from}
@@ -26,10 +26,6 @@ abbrev pub rows_count : List File → ℕ
 rows_count files = if runs_bgp files then length files * length (advertised files) else 0
 
 -- ---- how long a distance can be
-
--- what the dearest interface costs by which a router can originate a prefix
-abbrev pub dearest_interface : List File → ℕ
-dearest_interface files = fold (λ most x. max most x.cost) 0 (ospf_interfaces files)
 
 -- no walk that comes to each router once costs more than that and, for each router, the dearest adjacency
 abbrev pub distance_width : List File → ℕ

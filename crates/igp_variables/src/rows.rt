@@ -7,14 +7,14 @@ ghost use Rattle.term_arith.specs.Bits.{number, ids_end};
 ghost use Rattle.net_parts.specs.Ospf as ospf;
 ghost use Rattle.sym_policy.specs.Held.{internal_route, ospf_end, ospf_of};
 ghost use Rattle.sym_ospf.specs.Routes.{routes_end};
-ghost use Rattle.slot_places.specs.Rooms.{dearest_walk};
+ghost use Rattle.slot_places.specs.Rooms as rooms;
 ghost use Rattle.igp_variables.specs.Rows as igp;
 ghost use Rattle.igp_variables.specs.Rows.{route_from, routes_from, rows_count, rows_from, rows_width};
 
 use ios_ast::File;
 use mw_text::List;
 use net_model::Net;
-use net_parts::{Adjacency, OspfInterface};
+use slot_places::rooms::{dearest_interface, dearest_walk};
 use slot_places::width_for;
 use std::alloc::{AllocError, Global};
 use sym_policy::SymOspf;
@@ -60,34 +60,12 @@ fn internal(
     })
 }
 
-fn dearest_interface(interfaces: &[OspfInterface]) -> u32
-    ensures { result ≡ fold (λ most x. max most x.cost) 0 interfaces.now }
-{
-    let mut most = 0u32;
-    for x in interfaces {
-        most = most.max(x.cost);
-    }
-    most
-}
-
-fn dearest_adjacency(adjacencies: &[Adjacency]) -> u32
-    ensures { result ≡ fold (λ most a. max most a.cost) 0 adjacencies.now }
-{
-    let mut most = 0u32;
-    for a in adjacencies {
-        most = most.max(a.cost);
-    }
-    most
-}
-
 // What no distance of the network exceeds.
 fn longest(net: &Net) -> u64
-    ensures { result ≡ igp.dearest_interface net.now.files + dearest_walk net.now.files }
+    ensures { result ≡ rooms.dearest_interface net.now.files + rooms.dearest_walk net.now.files }
 {
     let interface = u64::from(dearest_interface(net.ospf_interfaces()));
-    let adjacency = u64::from(dearest_adjacency(net.adjacencies()));
-    let routers = net.routers().len() as u64;
-    interface + routers * adjacency
+    interface + dearest_walk(net.routers(), net.adjacencies())
 }
 
 // How many bits a distance has.

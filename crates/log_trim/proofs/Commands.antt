@@ -3,7 +3,7 @@ use Rattle.std.proofs.Common.{◌≡◌, ◌∙◌, refl, ap, sym, subst, arith,
 use Rattle.std.proofs.Common.{Option, Some, None, is_some, inl, inr}
 use Rattle.std.specs.Prelude.{IfSome, IsSomeAnd}
 use Rattle.std.specs.Option.{option_map_or}
-use Rattle.std.proofs.lemmas.Bool.{true≢false}
+use Rattle.std.proofs.lemmas.Bool.{le-leb, lt-leb, true≢false}
 use Rattle.mw_outside.specs.Contents.{Contents, Has, TellsOnly, get}
 use Rattle.mw_load.specs.declared.ended.Ended.{Ended}
 use Rattle.mw_load.specs.declared.ended.Ended.TheVariants as ended
@@ -18,12 +18,6 @@ use Rattle.log_trim.specs.Texts.{log_too_long, usage_text}
 use Rattle.log_trim.specs.Words.{log_named}
 use Rattle.trimmed_logs.specs.Logs.{sections_in}
 
-le_true : (a b : ℕ) → a ≤ b → nat_le a b ≡ true
-le_true a b h = grind arith
-
-le_false : (a b : ℕ) → b < a → nat_le a b ≡ false
-le_false a b h = grind arith
-
 -- ---- the log
 
 whole_due : (told : Option Contents) (name bytes : List ℕ) (outcome : Outcome) → Has told name (λ file. file ≡ bytes) →
@@ -37,7 +31,7 @@ whole_due (Some contents) name bytes outcome whole small is = there (get content
     there (Some file) h =
         ap (bytes_due name) h
         ∙ ap (λ b. cond b (read_as name (sections_in bytes)) (refused (log_too_long name)))
-        (le_true (length bytes) MOST_BYTES small)
+        (le-leb (length bytes) MOST_BYTES small)
         ∙ is
 
 -- the log was read, and this comes of its bytes
@@ -61,7 +55,7 @@ long_due (Some contents) name long = there (get contents name) long
     there None h = absurd h
     there (Some file) h =
         ap (λ b. cond b (read_as name (sections_in file)) (refused (log_too_long name)))
-        (le_false (length file) MOST_BYTES h)
+        (lt-leb (length file) MOST_BYTES h)
 
 -- it has too many bytes
 pub log_long : (told : Option Contents) (name : List ℕ) (r : Reads) (w : Work) →

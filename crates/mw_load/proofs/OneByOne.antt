@@ -2,6 +2,7 @@
 use Rattle.std.proofs.Common.{◌≡◌, ℕ, zero, suc, ◌+◌, ◌<◌, ◌≤◌, true, false, List, [], ◌∷◌, ◌++◌, length, take, drop}
 use Rattle.std.proofs.Common.{get_or, Option, Some, None, Result, Ok, Err, refl, ap, ap₂, sym, arith, ◌∙◌}
 use Rattle.std.proofs.Common.{cond, map, nat_le, subst}
+use Rattle.std.proofs.lemmas.Bool.{le-leb, lt-leb}
 use Rattle.std.specs.Prelude.{IfSome, IsSomeAnd}
 use Rattle.std.specs.Option.{option_map_or}
 use Rattle.mw_outside.specs.Contents.{Contents, get, Has, TellsOnly}
@@ -13,12 +14,6 @@ use Rattle.mw_load.specs.declared.refused.LoadRefused.{LoadRefused}
 use Rattle.mw_load.specs.declared.refused.LoadRefused.TheVariants.{Fault, Refused, Memory}
 use Rattle.mw_load.specs.Loading.{StopsAt, Unloaded, placed, refused, text_of, too_long, unread}
 use Rattle.mw_load.specs.Refused.{OnRefused, Refusal}
-
-le_true : (a b : ℕ) → a ≤ b → nat_le a b ≡ true
-le_true a b h = grind arith
-
-le_false : (a b : ℕ) → b < a → nat_le a b ≡ false
-le_false a b h = grind arith
 
 abbrev text_there : ℕ → Option (List ℕ) → Result Placed Unloaded
 text_there at there =
@@ -32,14 +27,14 @@ there_whole at bytes None whole small = absurd whole
 there_whole at bytes (Some file) whole small =
     ap (λ f. text_there at (Some f)) whole
     ∙ ap (λ b. cond b (Ok (record { at = at; bytes = bytes })) (Err (refused (too_long at))))
-    (le_true (length bytes) MOST_BYTES small)
+    (le-leb (length bytes) MOST_BYTES small)
 
 there_too_long : (at : ℕ) (there : Option (List ℕ)) → IsSomeAnd there (λ file. MOST_BYTES < length file) →
     text_there at there ≡ Err (refused (too_long at))
 there_too_long at None long = absurd long
 there_too_long at (Some file) long =
     ap (λ b. cond b (Ok (record { at = at; bytes = file })) (Err (refused (too_long at))))
-    (le_false (length file) MOST_BYTES long)
+    (lt-leb (length file) MOST_BYTES long)
 
 -- a file that was read whole, where contents are told
 pub text_whole : (told : Option Contents) (at : ℕ) (name bytes : List ℕ) → Has told name (λ file. file ≡ bytes) →

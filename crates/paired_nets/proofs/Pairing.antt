@@ -21,7 +21,7 @@ use Rattle.paired_nets.specs.Links.{AreOneLink, ArePairs, with_pair}
 
 -- ---- prefixes and places
 
-self_prefix : (p : Prefix) → same_prefix p p ≡ true
+pub self_prefix : (p : Prefix) → same_prefix p p ≡ true
 self_prefix p =
     ap (λ b. b && eqb p.len p.len) (eq-eqb p.addr.0 p.addr.0 refl) ∙ eq-eqb p.len p.len refl
 

@@ -2,6 +2,7 @@
 use Rattle.std.proofs.Common.{◌≡◌, ℕ, zero, suc, ◌+◌, ◌<◌, ◌≤◌, true, false, List, [], ◌∷◌, ◌++◌, length, take, drop}
 use Rattle.std.proofs.Common.{get_or, Option, Some, None, Result, Ok, Err, refl, ap, sym, arith, ◌∙◌}
 use Rattle.std.proofs.Common.{cond, append_assoc, nat_le, map, subst}
+use Rattle.std.proofs.lemmas.Bool.{le-leb, lt-leb}
 use Rattle.std.specs.Prelude.{IfSome, IsSomeAnd}
 use Rattle.std.proofs.Math.Seq.{get_or-append_seam, take-append_seam}
 use Rattle.std.proofs.lemmas.List.{length-append}
@@ -17,12 +18,6 @@ use Rattle.run_inputs.specs.Due.{Outcome, unread, refused, text_of, text_within}
 use Rattle.run_inputs.specs.Order.{StopsAt}
 use Rattle.run_inputs.specs.Texts.{too_long}
 
-le_true : (a b : ℕ) → a ≤ b → nat_le a b ≡ true
-le_true a b h = grind arith
-
-le_false : (a b : ℕ) → b < a → nat_le a b ≡ false
-le_false a b h = grind arith
-
 -- the text of what is there
 abbrev text_there : ℕ → List ℕ → Option (List ℕ) → Result Text Outcome
 text_there most name there =
@@ -37,14 +32,14 @@ there_whole most name bytes None whole small = absurd whole
 there_whole most name bytes (Some file) whole small =
     ap (λ f. text_there most name (Some f)) whole
     ∙ ap (λ b. cond b (Ok (record { name = name; bytes = bytes })) (Err (refused (too_long name))))
-    (le_true (length bytes) most small)
+    (le-leb (length bytes) most small)
 
 there_too_long : (most : ℕ) (name : List ℕ) (there : Option (List ℕ)) → IsSomeAnd there (λ file. most < length file) →
     text_there most name there ≡ Err (refused (too_long name))
 there_too_long most name None long = absurd long
 there_too_long most name (Some file) long =
     ap (λ b. cond b (Ok (record { name = name; bytes = file })) (Err (refused (too_long name))))
-    (le_false (length file) most long)
+    (lt-leb (length file) most long)
 
 -- a file that was read whole, where contents are told
 pub text_whole : (most : ℕ) (told : Option Contents) (name bytes : List ℕ) (text : Text)

@@ -131,31 +131,23 @@ fits_addresses addresses n is small = by (nat_le (length (once addresses)) MOST_
   )
   by false many = small
 
--- ---- the dearest of some routes, and of the adjacencies
+-- ---- the dearest of some
 
-routes_above : (routes : List OspfRec) (most : ℕ) → most ≤ fold (λ m r. max m r.cost) most routes
-routes_above [] most = omega arith
-routes_above (r ∷ routes) most = let rest = routes_above routes (max most r.cost) in omega (arith, rest)
+pub below_dearest : {X : Type 0} (cost : X → ℕ) (xs : List X) (most : ℕ) (x : X) → In x xs →
+    cost x ≤ fold (λ m y. max m (cost y)) most xs
+below_dearest cost [] most x there = absurd there
+below_dearest {X = X} cost (y ∷ ys) most x (inl same) =
+    let is = ap cost same in
+    let above = from_start ys (max most (cost y)) in omega (arith, is, above)
+  where
+    from_start : (zs : List X) (start : ℕ) → start ≤ fold (λ m z. max m (cost z)) start zs
+    from_start [] start = omega arith
+    from_start (z ∷ zs) start = let rest = from_start zs (max start (cost z)) in omega (arith, rest)
+below_dearest cost (y ∷ ys) most x (inr later) = below_dearest cost ys (max most (cost y)) x later
 
-route_within : (routes : List OspfRec) (most : ℕ) (x : OspfRec) → In x routes →
-    x.cost ≤ fold (λ m r. max m r.cost) most routes
-route_within [] most x there = absurd there
-route_within (r ∷ routes) most x (inl same) =
-    let above = routes_above routes (max most r.cost) in
-    let cost : x.cost ≡ r.cost = ap (λ (y : OspfRec). y.cost) same in
-    omega (arith, above, cost)
-route_within (r ∷ routes) most x (inr later) = route_within routes (max most r.cost) x later
-
-adjacencies_above : (xs : List Adjacency) (most : ℕ) → most ≤ fold (λ m a. max m a.cost) most xs
-adjacencies_above [] most = omega arith
-adjacencies_above (a ∷ xs) most = let rest = adjacencies_above xs (max most a.cost) in omega (arith, rest)
-
-pub adjacencies_within : (xs : List Adjacency) (most : ℕ) → All (λ a. a.cost ≤ fold (λ m b. max m b.cost) most xs) xs
-adjacencies_within [] most = All-nil (λ a. a.cost ≤ most)
-adjacencies_within (a ∷ xs) most =
-    let above = adjacencies_above xs (max most a.cost) in
-    All-cons (λ b. b.cost ≤ fold (λ m c. max m c.cost) (max most a.cost) xs) a xs (omega (arith, above))
-    (adjacencies_within xs (max most a.cost))
+pub all_below_dearest : {X : Type 0} (cost : X → ℕ) (xs : List X) →
+    All (λ x. cost x ≤ fold (λ m y. max m (cost y)) 0 xs) xs
+all_below_dearest cost xs = all-from-in _ xs (λ x there. below_dearest cost xs 0 x there)
 
 -- ---- the routes of a stable routing
 
@@ -195,8 +187,8 @@ module _ (files : List File) (destinations : Prefix) (d : Addr) (failures : Fail
       slot.ospf ≡ Some h → h.cost ≤ dearest_of origins + dearest_walk files
   held_cost router slot h here holds =
       cost_bound files d failures environment tables len (dearest_of origins) (fold (λ m a. max m a.cost) 0
-      (adjacencies files)) stable short costs (adjacencies_within (adjacencies files) 0)
-      (weaker (λ o. o.cost ≤ dearest_of origins) (λ o there. route_within origins 0 o there)) router slot h here holds
+      (adjacencies files)) stable short costs (all_below_dearest (λ (a : Adjacency). a.cost) (adjacencies files))
+      (weaker (λ o. o.cost ≤ dearest_of origins) (λ o there. below_dearest (λ (r : OspfRec). r.cost) origins 0 o there)) router slot h here holds
 
   -- no line brings in any: no router holds one
   pub nothing_held : origins ≡ [] → (router : ℕ) (slot : Slot) → slot_at tables router len ≡ Some slot →

@@ -11,7 +11,7 @@ use Rattle.route_record.specs.declared.OspfRec.{OspfRec}
 use Rattle.route_record.specs.declared.Plan.{Plan}
 use Rattle.route_record.specs.declared.TheConstants.{LENGTHS}
 use Rattle.net_interfaces.specs.Interfaces.{addressed}
-use Rattle.net_parts.specs.Ospf.{adjacencies}
+use Rattle.net_parts.specs.Ospf.{adjacencies, ospf_interfaces}
 use Rattle.net_parts.specs.OspfRoutes.{kind_rank}
 use Rattle.plan_places.specs.declared.places.Place.{Place}
 use Rattle.slot_places.specs.declared.rooms.Room.{Room}
@@ -24,6 +24,10 @@ use Rattle.slot_places.specs.Values.{FitsField, field_of, once, width_for}
 -- the dearest of some routes
 abbrev pub dearest_of : List OspfRec → ℕ
 dearest_of routes = fold (λ most r. max most r.cost) 0 routes
+
+-- what the dearest interface costs by which a router can originate a prefix
+abbrev pub dearest_interface : List File → ℕ
+dearest_interface files = fold (λ most x. max most x.cost) 0 (ospf_interfaces files)
 
 -- no walk over adjacencies that comes to each router once costs more
 abbrev pub dearest_walk : List File → ℕ

@@ -11,7 +11,7 @@ use crate::fields::{Field, field_of, put_once, width_for};
 use crate::origins::origins_at;
 use ios_ast::File;
 use mw_text::{List, Prefix};
-use net_model::{Adjacency, Net};
+use net_model::{Adjacency, Net, OspfInterface};
 use net_parts::ends::file_of;
 use route_record::{LENGTHS, OspfKind, OspfRec};
 use std::alloc::{AllocError, Global};
@@ -60,6 +60,17 @@ fn dearest_of(origins: &[OspfRec]) -> u32
     let mut most = 0u32;
     for r in origins {
         most = most.max(r.cost);
+    }
+    most
+}
+
+/// The greatest cost of these interfaces, 0 of none.
+pub fn dearest_interface(interfaces: &[OspfInterface]) -> u32
+    ensures { result ≡ fold (λ most x. max most x.cost) 0 interfaces.now }
+{
+    let mut most = 0u32;
+    for x in interfaces {
+        most = most.max(x.cost);
     }
     most
 }
