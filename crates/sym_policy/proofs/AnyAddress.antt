@@ -1,6 +1,5 @@
 -- Every address matches `any`.
 use Rattle.std.proofs.Common.{◌≡◌, ◌==◌, ℕ, ◌^◌, ◌<◌, List, length, true, ap, ◌∙◌, subst, arith, bit_or}
-use Rattle.std.proofs.lemmas.Bool.Decides.{nat_tests}
 use Rattle.std.proofs.lemmas.Nat.{le_or_r, or_lt}
 use Rattle.term_store.specs.declared.NodeId.{NodeId}
 use Rattle.term_store.specs.Terms.{Reading}

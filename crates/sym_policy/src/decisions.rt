@@ -10,42 +10,48 @@ ghost use Rattle.sym_policy.specs.Routes.{route_at, route_end, made_at, made_end
 ghost use Rattle.route_shapes.specs.Shapes.{shape_after, shape_decided};
 
 use crate::entries::{sym_made, sym_none};
-use crate::lines::sym_takes;
+use crate::lines::{Grounds, sym_takes};
 use crate::parts::{SymMade, SymRoute};
 use crate::routes::choose_made;
-use ios_ast::{MapEntry, Policies};
-use route_record::Tracked;
+use ios_ast::MapEntry;
 use std::alloc::{AllocError, Global};
-use term_arith::Bits;
 use term_store::Terms;
 
 /// What an entry makes of a route that it takes, and else what the entries behind it made.
 fn sym_entry(
     alloc: Global,
     terms: &mut Terms,
-    policies: &Policies,
-    tracked: &Tracked,
-    dst: &Bits,
-    len: u8,
+    grounds: &Grounds<'_>,
     external: bool,
     route: &SymRoute,
     entry: &MapEntry,
     behind: &SymMade,
 ) -> Result<SymMade, AllocError>
-    requires long { len ≤ 32 }
-    requires wide { length dst.now.nodes.items ≡ 32 }
-    requires dst { ids_end dst.now.nodes.items ≤ size terms.old }
-    requires rows { HasRows tracked.now route.now }
+    requires long { grounds.now.len ≤ 32 }
+    requires wide { length grounds.now.dst.now.nodes.items ≡ 32 }
+    requires dst { ids_end grounds.now.dst.now.nodes.items ≤ size terms.old }
+    requires rows { HasRows grounds.now.tracked.now route.now }
     requires nodes { route_end route.now ≤ size terms.old }
-    requires behind_rows { HasRows tracked.now behind.now.route }
+    requires behind_rows { HasRows grounds.now.tracked.now behind.now.route }
     requires behind_nodes { made_end behind.now ≤ size terms.old }
     ensures builds { Builds terms.old terms.new }
     ensures within { IfOk result (λ r. made_end r ≤ size terms.new) }
-    ensures rows { IfOk result (λ r. HasRows tracked.now r.route) }
-    ensures value { Gives terms.new result (λ w r. made_at w r ≡ shape_after policies.now tracked.now (prefix_of w dst.now len) external (route_at w route.now) entry.now (made_at w behind.now)) }
+    ensures rows { IfOk result (λ r. HasRows grounds.now.tracked.now r.route) }
+    ensures value { Gives terms.new result (λ w r. made_at w r
+        ≡ shape_after grounds.now.policies.now grounds.now.tracked.now (prefix_of w grounds.now.dst.now grounds.now.len)
+        external (route_at w route.now) entry.now (made_at w behind.now)) }
 {
-    let takes = sym_takes(alloc, terms, policies, tracked, dst, len, route, entry)?;
-    let made = sym_made(alloc, terms, tracked, external, route, entry)?;
+    let takes = sym_takes(
+        alloc,
+        terms,
+        grounds.policies,
+        grounds.tracked,
+        grounds.dst,
+        grounds.len,
+        route,
+        entry,
+    )?;
+    let made = sym_made(alloc, terms, grounds.tracked, external, route, entry)?;
     choose_made(alloc, terms, takes, &made, behind)
 }
 
@@ -53,30 +59,27 @@ fn sym_entry(
 pub(crate) fn sym_decided(
     alloc: Global,
     terms: &mut Terms,
-    policies: &Policies,
-    tracked: &Tracked,
-    dst: &Bits,
-    len: u8,
+    grounds: &Grounds<'_>,
     external: bool,
     route: &SymRoute,
     entries: &[&MapEntry],
 ) -> Result<SymMade, AllocError>
-    requires long { len ≤ 32 }
-    requires wide { length dst.now.nodes.items ≡ 32 }
-    requires dst { ids_end dst.now.nodes.items ≤ size terms.old }
-    requires rows { HasRows tracked.now route.now }
+    requires long { grounds.now.len ≤ 32 }
+    requires wide { length grounds.now.dst.now.nodes.items ≡ 32 }
+    requires dst { ids_end grounds.now.dst.now.nodes.items ≤ size terms.old }
+    requires rows { HasRows grounds.now.tracked.now route.now }
     requires nodes { route_end route.now ≤ size terms.old }
     ensures builds { Builds terms.old terms.new }
     ensures within { IfOk result (λ r. made_end r ≤ size terms.new) }
-    ensures rows { IfOk result (λ r. HasRows tracked.now r.route) }
-    ensures value { Gives terms.new result (λ w r. made_at w r ≡ shape_decided policies.now tracked.now (prefix_of w dst.now len) external (route_at w route.now) (entries_of entries.now)) }
+    ensures rows { IfOk result (λ r. HasRows grounds.now.tracked.now r.route) }
+    ensures value { Gives terms.new result (λ w r. made_at w r
+        ≡ shape_decided grounds.now.policies.now grounds.now.tracked.now
+        (prefix_of w grounds.now.dst.now grounds.now.len) external (route_at w route.now) (entries_of entries.now)) }
 {
     let mut rest = sym_none(alloc, terms, route)?;
     for i in (0..entries.len()).rev() {
         let entry = entries[i];
-        rest = sym_entry(
-            alloc, terms, policies, tracked, dst, len, external, route, entry, &rest,
-        )?;
+        rest = sym_entry(alloc, terms, grounds, external, route, entry, &rest)?;
     }
     Ok(rest)
 }

@@ -19,6 +19,16 @@ use term_arith::Bits;
 use term_arith::gates::{both, constant_node, either};
 use term_store::{NodeId, Terms};
 
+/// What lists and route maps judge a route by beside the route itself: the policies of its router, the values that its
+/// rows of marks stand for, and its prefix, which is the one of this length of an address.
+#[derive(Clone, Copy)]
+pub(crate) struct Grounds<'a> {
+    pub(crate) policies: &'a Policies,
+    pub(crate) tracked: &'a Tracked,
+    pub(crate) dst: &'a Bits,
+    pub(crate) len: u8,
+}
+
 /// The names of the lists of a match line.
 fn names(line: &Match) -> &[Use]
     ensures { result.now ≡ names_of line.now }
@@ -54,31 +64,45 @@ fn asks_for(lines: &[Match], wanted: u8) -> bool
 fn sym_list_permits(
     alloc: Global,
     terms: &mut Terms,
-    policies: &Policies,
-    tracked: &Tracked,
-    dst: &Bits,
-    len: u8,
+    grounds: &Grounds<'_>,
     route: &SymRoute,
     line: &Match,
     named: &Use,
 ) -> Result<NodeId, AllocError>
-    requires long { len ≤ 32 }
-    requires wide { length dst.now.nodes.items ≡ 32 }
-    requires dst { ids_end dst.now.nodes.items ≤ size terms.old }
+    requires long { grounds.now.len ≤ 32 }
+    requires wide { length grounds.now.dst.now.nodes.items ≡ 32 }
+    requires dst { ids_end grounds.now.dst.now.nodes.items ≤ size terms.old }
     requires nodes { route_end route.now ≤ size terms.old }
     ensures builds { Builds terms.old terms.new }
     ensures within { IfOk result (λ r. r.0 < size terms.new) }
-    ensures value { Gives terms.new result (λ w r. at w r ≡ shape_list_permits policies.now tracked.now (prefix_of w dst.now len) (path_at w route.now.path) (bits w route.now.communities.nodes.items) line.now named.now) }
+    ensures value { Gives terms.new result (λ w r. at w r
+        ≡ shape_list_permits grounds.now.policies.now grounds.now.tracked.now
+        (prefix_of w grounds.now.dst.now grounds.now.len) (path_at w route.now.path)
+        (bits w route.now.communities.nodes.items) line.now named.now) }
 {
     match line {
-        Match::Access(_) => sym_access_named(alloc, terms, policies, dst, len, named),
-        Match::Prefixes(_) => sym_prefixes_named(alloc, terms, policies, dst, len, named),
+        Match::Access(_) => sym_access_named(
+            alloc,
+            terms,
+            grounds.policies,
+            grounds.dst,
+            grounds.len,
+            named,
+        ),
+        Match::Prefixes(_) => sym_prefixes_named(
+            alloc,
+            terms,
+            grounds.policies,
+            grounds.dst,
+            grounds.len,
+            named,
+        ),
         Match::Communities(_) => {
             let marks = route.communities.nodes.as_slice();
             sym_communities_named(
                 terms,
-                policies,
-                tracked.communities.as_slice(),
+                grounds.policies,
+                grounds.tracked.communities.as_slice(),
                 marks,
                 named,
             )
@@ -86,8 +110,8 @@ fn sym_list_permits(
         Match::Paths(_) => {
             sym_paths_named(
                 terms,
-                policies,
-                tracked.numbers.as_slice(),
+                grounds.policies,
+                grounds.tracked.numbers.as_slice(),
                 &route.path,
                 named,
             )
@@ -99,26 +123,24 @@ fn sym_list_permits(
 fn sym_line(
     alloc: Global,
     terms: &mut Terms,
-    policies: &Policies,
-    tracked: &Tracked,
-    dst: &Bits,
-    len: u8,
+    grounds: &Grounds<'_>,
     route: &SymRoute,
     line: &Match,
 ) -> Result<NodeId, AllocError>
-    requires long { len ≤ 32 }
-    requires wide { length dst.now.nodes.items ≡ 32 }
-    requires dst { ids_end dst.now.nodes.items ≤ size terms.old }
+    requires long { grounds.now.len ≤ 32 }
+    requires wide { length grounds.now.dst.now.nodes.items ≡ 32 }
+    requires dst { ids_end grounds.now.dst.now.nodes.items ≤ size terms.old }
     requires nodes { route_end route.now ≤ size terms.old }
     ensures builds { Builds terms.old terms.new }
     ensures within { IfOk result (λ r. r.0 < size terms.new) }
-    ensures value { Gives terms.new result (λ w r. at w r ≡ shape_line_holds policies.now tracked.now (prefix_of w dst.now len) (path_at w route.now.path) (bits w route.now.communities.nodes.items) line.now) }
+    ensures value { Gives terms.new result (λ w r. at w r
+        ≡ shape_line_holds grounds.now.policies.now grounds.now.tracked.now
+        (prefix_of w grounds.now.dst.now grounds.now.len) (path_at w route.now.path)
+        (bits w route.now.communities.nodes.items) line.now) }
 {
     let mut any = constant_node(terms, false)?;
     for named in names(line) {
-        let permits = sym_list_permits(
-            alloc, terms, policies, tracked, dst, len, route, line, named,
-        )?;
+        let permits = sym_list_permits(alloc, terms, grounds, route, line, named)?;
         any = either(terms, any, permits)?;
     }
     Ok(any)
@@ -128,24 +150,24 @@ fn sym_line(
 fn sym_line_of(
     alloc: Global,
     terms: &mut Terms,
-    policies: &Policies,
-    tracked: &Tracked,
-    dst: &Bits,
-    len: u8,
+    grounds: &Grounds<'_>,
     route: &SymRoute,
     line: &Match,
     wanted: u8,
 ) -> Result<NodeId, AllocError>
-    requires long { len ≤ 32 }
-    requires wide { length dst.now.nodes.items ≡ 32 }
-    requires dst { ids_end dst.now.nodes.items ≤ size terms.old }
+    requires long { grounds.now.len ≤ 32 }
+    requires wide { length grounds.now.dst.now.nodes.items ≡ 32 }
+    requires dst { ids_end grounds.now.dst.now.nodes.items ≤ size terms.old }
     requires nodes { route_end route.now ≤ size terms.old }
     ensures builds { Builds terms.old terms.new }
     ensures within { IfOk result (λ r. r.0 < size terms.new) }
-    ensures value { Gives terms.new result (λ w r. at w r ≡ ((kind_of line.now == wanted) && shape_line_holds policies.now tracked.now (prefix_of w dst.now len) (path_at w route.now.path) (bits w route.now.communities.nodes.items) line.now)) }
+    ensures value { Gives terms.new result (λ w r. at w r
+        ≡ ((kind_of line.now == wanted) && shape_line_holds grounds.now.policies.now grounds.now.tracked.now
+        (prefix_of w grounds.now.dst.now grounds.now.len) (path_at w route.now.path)
+        (bits w route.now.communities.nodes.items) line.now)) }
 {
     if kind(line) == wanted {
-        sym_line(alloc, terms, policies, tracked, dst, len, route, line)
+        sym_line(alloc, terms, grounds, route, line)
     } else {
         constant_node(terms, false)
     }
@@ -155,27 +177,25 @@ fn sym_line_of(
 fn sym_kind(
     alloc: Global,
     terms: &mut Terms,
-    policies: &Policies,
-    tracked: &Tracked,
-    dst: &Bits,
-    len: u8,
+    grounds: &Grounds<'_>,
     route: &SymRoute,
     lines: &[Match],
     wanted: u8,
 ) -> Result<NodeId, AllocError>
-    requires long { len ≤ 32 }
-    requires wide { length dst.now.nodes.items ≡ 32 }
-    requires dst { ids_end dst.now.nodes.items ≤ size terms.old }
+    requires long { grounds.now.len ≤ 32 }
+    requires wide { length grounds.now.dst.now.nodes.items ≡ 32 }
+    requires dst { ids_end grounds.now.dst.now.nodes.items ≤ size terms.old }
     requires nodes { route_end route.now ≤ size terms.old }
     ensures builds { Builds terms.old terms.new }
     ensures within { IfOk result (λ r. r.0 < size terms.new) }
-    ensures value { Gives terms.new result (λ w r. at w r ≡ kind_holds (shape_line_holds policies.now tracked.now (prefix_of w dst.now len) (path_at w route.now.path) (bits w route.now.communities.nodes.items)) lines.now wanted) }
+    ensures value { Gives terms.new result (λ w r. at w r
+        ≡ kind_holds (shape_line_holds grounds.now.policies.now grounds.now.tracked.now
+        (prefix_of w grounds.now.dst.now grounds.now.len) (path_at w route.now.path)
+        (bits w route.now.communities.nodes.items)) lines.now wanted) }
 {
     let mut any = constant_node(terms, false)?;
     for line in lines {
-        let holds = sym_line_of(
-            alloc, terms, policies, tracked, dst, len, route, line, wanted,
-        )?;
+        let holds = sym_line_of(alloc, terms, grounds, route, line, wanted)?;
         any = either(terms, any, holds)?;
     }
     Ok(any)
@@ -185,26 +205,24 @@ fn sym_kind(
 fn sym_kind_passes(
     alloc: Global,
     terms: &mut Terms,
-    policies: &Policies,
-    tracked: &Tracked,
-    dst: &Bits,
-    len: u8,
+    grounds: &Grounds<'_>,
     route: &SymRoute,
     lines: &[Match],
     wanted: u8,
 ) -> Result<NodeId, AllocError>
-    requires long { len ≤ 32 }
-    requires wide { length dst.now.nodes.items ≡ 32 }
-    requires dst { ids_end dst.now.nodes.items ≤ size terms.old }
+    requires long { grounds.now.len ≤ 32 }
+    requires wide { length grounds.now.dst.now.nodes.items ≡ 32 }
+    requires dst { ids_end grounds.now.dst.now.nodes.items ≤ size terms.old }
     requires nodes { route_end route.now ≤ size terms.old }
     ensures builds { Builds terms.old terms.new }
     ensures within { IfOk result (λ r. r.0 < size terms.new) }
-    ensures value { Gives terms.new result (λ w r. at w r ≡ kind_passes (shape_line_holds policies.now tracked.now (prefix_of w dst.now len) (path_at w route.now.path) (bits w route.now.communities.nodes.items)) lines.now wanted) }
+    ensures value { Gives terms.new result (λ w r. at w r
+        ≡ kind_passes (shape_line_holds grounds.now.policies.now grounds.now.tracked.now
+        (prefix_of w grounds.now.dst.now grounds.now.len) (path_at w route.now.path)
+        (bits w route.now.communities.nodes.items)) lines.now wanted) }
 {
     if asks_for(lines, wanted) {
-        sym_kind(
-            alloc, terms, policies, tracked, dst, len, route, lines, wanted,
-        )
+        sym_kind(alloc, terms, grounds, route, lines, wanted)
     } else {
         constant_node(terms, true)
     }
@@ -229,11 +247,17 @@ pub fn sym_takes(
     ensures within { IfOk result (λ r. r.0 < size terms.new) }
     ensures value { Gives terms.new result (λ w r. at w r ≡ shape_route_taken policies.now tracked.now (prefix_of w dst.now len) (route_at w route.now) entry.now) }
 {
+    let grounds = Grounds {
+        policies,
+        tracked,
+        dst,
+        len,
+    };
     let lines = entry.matches.as_slice();
-    let access = sym_kind_passes(alloc, terms, policies, tracked, dst, len, route, lines, 0)?;
-    let prefixes = sym_kind_passes(alloc, terms, policies, tracked, dst, len, route, lines, 1)?;
-    let communities = sym_kind_passes(alloc, terms, policies, tracked, dst, len, route, lines, 2)?;
-    let paths = sym_kind_passes(alloc, terms, policies, tracked, dst, len, route, lines, 3)?;
+    let access = sym_kind_passes(alloc, terms, &grounds, route, lines, 0)?;
+    let prefixes = sym_kind_passes(alloc, terms, &grounds, route, lines, 1)?;
+    let communities = sym_kind_passes(alloc, terms, &grounds, route, lines, 2)?;
+    let paths = sym_kind_passes(alloc, terms, &grounds, route, lines, 3)?;
     let first = both(terms, access, prefixes)?;
     let second = both(terms, communities, paths)?;
     both(terms, first, second)

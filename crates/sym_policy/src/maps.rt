@@ -15,6 +15,7 @@ ghost use Rattle.route_shapes.specs.Shapes.{all_tracked, route_shape, shape_mapp
 
 use crate::copies::{joined, rest_of, route_of};
 use crate::decisions::sym_decided;
+use crate::lines::Grounds;
 use crate::order::ordered;
 use crate::parts::{SymMade, SymRoute};
 use crate::records::SymMapRec;
@@ -46,36 +47,25 @@ fn with_made(
 fn sym_mapped(
     alloc: Global,
     terms: &mut Terms,
-    tracked: &Tracked,
-    policies: &Policies,
+    grounds: &Grounds<'_>,
     map: &RouteMap,
-    dst: &Bits,
-    len: u8,
     route: &SymRoute,
     external: bool,
 ) -> Result<SymMade, AllocError>
-    requires long { len ≤ 32 }
-    requires wide { length dst.now.nodes.items ≡ 32 }
-    requires dst { ids_end dst.now.nodes.items ≤ size terms.old }
-    requires rows { HasRows tracked.now route.now }
+    requires long { grounds.now.len ≤ 32 }
+    requires wide { length grounds.now.dst.now.nodes.items ≡ 32 }
+    requires dst { ids_end grounds.now.dst.now.nodes.items ≤ size terms.old }
+    requires rows { HasRows grounds.now.tracked.now route.now }
     requires nodes { route_end route.now ≤ size terms.old }
     ensures builds { Builds terms.old terms.new }
     ensures within { IfOk result (λ r. made_end r ≤ size terms.new) }
-    ensures rows { IfOk result (λ r. HasRows tracked.now r.route) }
-    ensures value { Gives terms.new result (λ w r. made_at w r ≡ shape_mapped policies.now map.now.entries tracked.now (prefix_of w dst.now len) external (route_at w route.now)) }
+    ensures rows { IfOk result (λ r. HasRows grounds.now.tracked.now r.route) }
+    ensures value { Gives terms.new result (λ w r. made_at w r
+        ≡ shape_mapped grounds.now.policies.now map.now.entries grounds.now.tracked.now
+        (prefix_of w grounds.now.dst.now grounds.now.len) external (route_at w route.now)) }
 {
     let entries = ordered(alloc, map.entries.as_slice())?;
-    sym_decided(
-        alloc,
-        terms,
-        policies,
-        tracked,
-        dst,
-        len,
-        external,
-        route,
-        entries.as_slice(),
-    )
+    sym_decided(alloc, terms, grounds, external, route, entries.as_slice())
 }
 
 /// What a route map makes of what it sees of a record.
@@ -83,28 +73,25 @@ fn sym_mapped(
 fn made_of(
     alloc: Global,
     terms: &mut Terms,
-    tracked: &Tracked,
-    policies: &Policies,
+    grounds: &Grounds<'_>,
     map: &RouteMap,
-    dst: &Bits,
-    len: u8,
     rec: &SymMapRec,
     external: bool,
 ) -> Result<SymMade, AllocError>
-    requires long { len ≤ 32 }
-    requires wide { length dst.now.nodes.items ≡ 32 }
-    requires dst { ids_end dst.now.nodes.items ≤ size terms.old }
-    requires marks { HasMarks tracked.now rec.now }
+    requires long { grounds.now.len ≤ 32 }
+    requires wide { length grounds.now.dst.now.nodes.items ≡ 32 }
+    requires dst { ids_end grounds.now.dst.now.nodes.items ≤ size terms.old }
+    requires marks { HasMarks grounds.now.tracked.now rec.now }
     requires nodes { map_rec_end rec.now ≤ size terms.old }
     ensures builds { Builds terms.old terms.new }
     ensures within { IfOk result (λ r. made_end r ≤ size terms.new) }
-    ensures rows { IfOk result (λ r. HasRows tracked.now r.route) }
-    ensures value { Gives terms.new result (λ w r. made_at w r ≡ shape_mapped policies.now map.now.entries tracked.now (prefix_of w dst.now len) external (attributes_at w rec.now)) }
+    ensures rows { IfOk result (λ r. HasRows grounds.now.tracked.now r.route) }
+    ensures value { Gives terms.new result (λ w r. made_at w r
+        ≡ shape_mapped grounds.now.policies.now map.now.entries grounds.now.tracked.now
+        (prefix_of w grounds.now.dst.now grounds.now.len) external (attributes_at w rec.now)) }
 {
     let route = route_of(alloc, rec)?;
-    sym_mapped(
-        alloc, terms, tracked, policies, map, dst, len, &route, external,
-    )
+    sym_mapped(alloc, terms, grounds, map, &route, external)
 }
 
 /// What the route map makes of a route to the prefix of that length of an address: the record is there where the map
@@ -136,9 +123,13 @@ pub fn sym_route_map(
         → map_rec_at w r ≡ option_map (route_shape tracked.now) (mapped policies.now map.now.entries (prefix_of w dst.now len) (at_external side) c)) }
 {
     let external = side.is_external();
-    let made = made_of(
-        alloc, terms, tracked, policies, map, dst, len, rec, external,
-    )?;
+    let grounds = Grounds {
+        policies,
+        tracked,
+        dst,
+        len,
+    };
+    let made = made_of(alloc, terms, &grounds, map, rec, external)?;
     let left = with_made(alloc, terms, rec, made)?;
     Ok(left)
 }

@@ -14,6 +14,7 @@ ghost use Rattle.term_store.specs.Terms.{Reading, size, at};
 ghost use Rattle.term_store.specs.Reading.{Reads, Builds, Gives};
 ghost use Rattle.term_arith.specs.Bits.{ids_end};
 
+use crate::lines::Grounds;
 use crate::maps::sym_route_map;
 use crate::records::SymMapRec;
 use ios_ast::{Policies, RouteMap, Use};
@@ -56,30 +57,38 @@ fn dropped(terms: &mut Terms, rec: SymMapRec) -> Result<SymMapRec, AllocError>
 fn sym_named(
     alloc: Global,
     terms: &mut Terms,
-    tracked: &Tracked,
-    policies: &Policies,
+    grounds: &Grounds<'_>,
     named: &Use,
-    dst: &Bits,
-    len: u8,
     rec: SymMapRec,
     side: Side,
 ) -> Result<SymMapRec, AllocError>
-    requires long { len ≤ 32 }
-    requires wide { length dst.now.nodes.items ≡ 32 }
-    requires dst { ids_end dst.now.nodes.items ≤ size terms.old }
-    requires marks { HasMarks tracked.now rec }
+    requires long { grounds.now.len ≤ 32 }
+    requires wide { length grounds.now.dst.now.nodes.items ≡ 32 }
+    requires dst { ids_end grounds.now.dst.now.nodes.items ≤ size terms.old }
+    requires marks { HasMarks grounds.now.tracked.now rec }
     requires nodes { map_rec_end rec ≤ size terms.old }
     ensures builds { Builds terms.old terms.new }
     ensures within { IfOk result (λ r. map_rec_end r ≤ size terms.new) }
-    ensures marks { IfOk result (λ r. HasMarks tracked.now r) }
+    ensures marks { IfOk result (λ r. HasMarks grounds.now.tracked.now r) }
     ensures rest { IfOk result (λ r. KeepsRest rec r) }
     ensures value { Gives terms.new result (λ w r. map_rec_at w r
-        ≡ option_and_then (shape_mapped policies.now (entries_named policies.now named.now) tracked.now
-        (prefix_of w dst.now len) (at_external side)) (map_rec_at w rec)) }
+        ≡ option_and_then (shape_mapped grounds.now.policies.now (entries_named grounds.now.policies.now named.now)
+        grounds.now.tracked.now (prefix_of w grounds.now.dst.now grounds.now.len) (at_external side))
+        (map_rec_at w rec)) }
 {
-    match map_named(policies, named) {
+    match map_named(grounds.policies, named) {
         None => dropped(terms, rec),
-        Some(map) => sym_route_map(alloc, terms, tracked, policies, map, dst, len, &rec, side),
+        Some(map) => sym_route_map(
+            alloc,
+            terms,
+            grounds.tracked,
+            grounds.policies,
+            map,
+            grounds.dst,
+            grounds.len,
+            &rec,
+            side,
+        ),
     }
 }
 
@@ -87,30 +96,27 @@ fn sym_named(
 fn applied(
     alloc: Global,
     terms: &mut Terms,
-    tracked: &Tracked,
-    policies: &Policies,
+    grounds: &Grounds<'_>,
     used: &Option<Use>,
-    dst: &Bits,
-    len: u8,
     rec: SymMapRec,
     side: Side,
 ) -> Result<SymMapRec, AllocError>
-    requires long { len ≤ 32 }
-    requires wide { length dst.now.nodes.items ≡ 32 }
-    requires dst { ids_end dst.now.nodes.items ≤ size terms.old }
-    requires marks { HasMarks tracked.now rec }
+    requires long { grounds.now.len ≤ 32 }
+    requires wide { length grounds.now.dst.now.nodes.items ≡ 32 }
+    requires dst { ids_end grounds.now.dst.now.nodes.items ≤ size terms.old }
+    requires marks { HasMarks grounds.now.tracked.now rec }
     requires nodes { map_rec_end rec ≤ size terms.old }
     ensures builds { Builds terms.old terms.new }
     ensures within { IfOk result (λ r. map_rec_end r ≤ size terms.new) }
-    ensures marks { IfOk result (λ r. HasMarks tracked.now r) }
+    ensures marks { IfOk result (λ r. HasMarks grounds.now.tracked.now r) }
     ensures rest { IfOk result (λ r. KeepsRest rec r) }
     ensures value { Gives terms.new result (λ w r. map_rec_at w r
-        ≡ option_and_then (shape_through_map tracked.now policies.now used.now (prefix_of w dst.now len)
-        (at_external side)) (map_rec_at w rec)) }
+        ≡ option_and_then (shape_through_map grounds.now.tracked.now grounds.now.policies.now used.now
+        (prefix_of w grounds.now.dst.now grounds.now.len) (at_external side)) (map_rec_at w rec)) }
 {
     match used {
         None => Ok(rec),
-        Some(named) => sym_named(alloc, terms, tracked, policies, named, dst, len, rec, side),
+        Some(named) => sym_named(alloc, terms, grounds, named, rec, side),
     }
 }
 
@@ -147,6 +153,12 @@ pub fn sym_through(
         → map_rec_at w r ≡ option_map (route_shape tracked.now)
         (option_and_then (through_map policies.now used.now (prefix_of w dst.now len) (at_external side)) held)) }
 {
-    let left = applied(alloc, terms, tracked, policies, used, dst, len, rec, side)?;
+    let grounds = Grounds {
+        policies,
+        tracked,
+        dst,
+        len,
+    };
+    let left = applied(alloc, terms, &grounds, used, rec, side)?;
     Ok(left)
 }

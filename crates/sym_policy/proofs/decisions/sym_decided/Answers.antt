@@ -9,8 +9,9 @@ use Rattle.sym_policy.proofs.decisions.sym_decided.Goals as goal
 pub loop-i-preserved : goal.loop-i-preserved
 loop-i-preserved c =
     let step = c.in_ok-rest-2.ensures in
-    let policies = c.args.policies.now in
-    let tracked = c.args.tracked.now in
+    let grounds = c.args.grounds.now in
+    let policies = grounds.policies.now in
+    let tracked = grounds.tracked.now in
     let external = c.args.external in
     let entry = c.index-entries-i.result in
     record {
@@ -18,7 +19,7 @@ loop-i-preserved c =
       within = search rules;
       rows = search rules;
       value = λ w reads.
-          let p = prefix_of w c.args.dst.now c.args.len in
+          let p = prefix_of w grounds.dst.now grounds.len in
           let route = route_at w c.args.route.now in
           step.value w reads
           ∙ ap (shape_after policies tracked p external route entry.now)
@@ -29,9 +30,10 @@ loop-i-preserved c =
 
 pub returns-clause-value : goal.returns-clause-value
 returns-clause-value c = λ w reads.
+    let grounds = c.args.grounds.now in
     let none : c.loop-i.i ≡ 0 = omega arith in
     c.loop-i.invariant.value w reads
     ∙ ap
-    (λ j. shape_decided c.args.policies.now c.args.tracked.now (prefix_of w c.args.dst.now c.args.len) c.args.external
-    (route_at w c.args.route.now) (entries_of (drop j c.args.entries.now)))
+    (λ j. shape_decided grounds.policies.now grounds.tracked.now (prefix_of w grounds.dst.now grounds.len)
+    c.args.external (route_at w c.args.route.now) (entries_of (drop j c.args.entries.now)))
     none

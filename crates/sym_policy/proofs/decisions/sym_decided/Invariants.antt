@@ -11,9 +11,9 @@ abbrev pub invariant-loop-i : goal.invariant-loop-i
 invariant-loop-i l = record {
   builds : Builds l.fn.terms l.terms;
   within : made_end l.rest ≤ size l.terms;
-  rows : HasRows l.tracked l.rest.route;
+  rows : HasRows l.grounds.tracked.now l.rest.route;
   value : (w : Reading) → Reads w l.terms
       → made_at w l.rest
-      ≡ shape_decided l.policies l.tracked (prefix_of w l.dst l.len) l.external (route_at w l.route)
-      (entries_of (drop l.i l.entries));
+      ≡ shape_decided l.grounds.policies.now l.grounds.tracked.now (prefix_of w l.grounds.dst.now l.grounds.len)
+      l.external (route_at w l.route) (entries_of (drop l.i l.entries));
 }

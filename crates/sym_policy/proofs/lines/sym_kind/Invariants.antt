@@ -13,7 +13,7 @@ invariant-loop-line l = record {
   builds : Builds l.fn.terms l.terms;
   within : l.any.0 < size l.terms;
   value : (w : Reading) → Reads w l.terms
-      → let holds = shape_line_holds l.policies l.tracked (prefix_of w l.dst l.len) (path_at w l.route.path)
-      (bits w l.route.communities.nodes.items) in
+      → let holds = shape_line_holds l.grounds.policies.now l.grounds.tracked.now
+      (prefix_of w l.grounds.dst.now l.grounds.len) (path_at w l.route.path) (bits w l.route.communities.nodes.items) in
       (at w l.any || kind_holds holds (drop l.line-index l.lines) l.wanted) ≡ kind_holds holds l.lines l.wanted;
 }

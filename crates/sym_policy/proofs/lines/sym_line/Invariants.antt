@@ -13,9 +13,11 @@ invariant-loop-named l = record {
   builds : Builds l.fn.terms l.terms;
   within : l.any.0 < size l.terms;
   value : (w : Reading) → Reads w l.terms
-      → let test = shape_list_permits l.policies l.tracked (prefix_of w l.dst l.len) (path_at w l.route.path)
+      → let test = shape_list_permits l.grounds.policies.now l.grounds.tracked.now
+      (prefix_of w l.grounds.dst.now l.grounds.len) (path_at w l.route.path)
       (bits w l.route.communities.nodes.items) l.line in
       (at w l.any || list_any test (drop l.named-index l.named-items))
-      ≡ shape_line_holds l.policies l.tracked (prefix_of w l.dst l.len) (path_at w l.route.path)
+      ≡ shape_line_holds l.grounds.policies.now l.grounds.tracked.now
+      (prefix_of w l.grounds.dst.now l.grounds.len) (path_at w l.route.path)
       (bits w l.route.communities.nodes.items) l.line;
 }

@@ -10,8 +10,9 @@ use Rattle.sym_policy.proofs.through.applied.Goals as goal
 
 pub returns-in-Some-clause-value : goal.returns-in-Some-clause-value
 returns-in-Some-clause-value c =
+    let grounds = c.args.grounds.now in
     IfOk-weaker c.sym_named.result _ _ (λ left read. λ w reads.
     let of_use : Option Use → Option RouteShape =
-    λ used. option_and_then (shape_through_map c.args.tracked.now c.args.policies.now used
-    (prefix_of w c.args.dst.now c.args.len) (at_external c.args.side)) (map_rec_at w c.args.rec) in
+    λ used. option_and_then (shape_through_map grounds.tracked.now grounds.policies.now used
+    (prefix_of w grounds.dst.now grounds.len) (at_external c.args.side)) (map_rec_at w c.args.rec) in
     read w reads ∙ ap of_use (sym c.in-Some.is)) c.sym_named.ensures.value

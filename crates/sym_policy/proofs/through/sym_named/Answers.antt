@@ -11,10 +11,11 @@ use Rattle.sym_policy.proofs.through.sym_named.Goals as goal
 
 pub returns-in-Some-clause-value : goal.returns-in-Some-clause-value
 returns-in-Some-clause-value c =
+    let grounds = c.args.grounds.now in
     IfOk-weaker c.sym_route_map.result _ _ (λ left read. λ w reads.
-    let p = prefix_of w c.args.dst.now c.args.len in
+    let p = prefix_of w grounds.dst.now grounds.len in
     let entries_of : Option RouteMap → List MapEntry = λ o. option_map_or (λ m. m.entries) o [] in
     let mapped : List MapEntry → Option RouteShape =
-    λ entries. option_and_then (shape_mapped c.args.policies.now entries c.args.tracked.now p (at_external c.args.side))
-    (map_rec_at w c.args.rec) in
+    λ entries. option_and_then (shape_mapped grounds.policies.now entries grounds.tracked.now p
+    (at_external c.args.side)) (map_rec_at w c.args.rec) in
     read w reads ∙ ap mapped (ap entries_of c.in-Some.ensures)) c.sym_route_map.ensures.value
