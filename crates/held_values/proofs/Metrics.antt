@@ -37,6 +37,7 @@ use Rattle.route_record.specs.Places.{slot_at}
 use Rattle.net_parts.specs.declared.ospf.OspfInterface.{OspfInterface}
 use Rattle.net_parts.specs.Origins.{external_record, into_ospf, is_default, is_ospf_entry, is_taken, originated_default}
 use Rattle.net_parts.specs.Origins.{ospf_metric, plain_route, redistributed, redistributed_route}
+use Rattle.net_parts.specs.declared.adjacencies.Adjacency.{Adjacency}
 use Rattle.net_parts.specs.Ospf.{adjacencies, advertisement, origin_interfaces, ospf_interfaces}
 use Rattle.net_parts.specs.OspfRoutes.{own_origins}
 use Rattle.net_parts.specs.Stable.{Stable}
@@ -248,7 +249,8 @@ module _ (files : List File) (d : Addr) (failures : Failures) (environment : Env
       cost : r.cost ≤ bound
       cost =
           cost_bound files d failures environment tables len (dearest_origin files)
-          (fold (λ m a. max m a.cost) 0 (adjacencies files)) stable short costs (all_below_dearest (λ (a : Adjacency). a.cost) (adjacencies files))
+          (fold (λ m a. max m a.cost) 0 (adjacencies files)) stable short costs
+          (all_below_dearest (λ (a : Adjacency). a.cost) (adjacencies files))
           (weaker (λ o. o.cost ≤ dearest_origin files) (λ o is. is.cost)) router slot r here holds
 
       origin : r.metric ≤ dearest_origin files
