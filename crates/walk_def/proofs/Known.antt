@@ -1,7 +1,7 @@
 -- Which routers are marked, as a list of Booleans.
 use Rattle.std.proofs.Common.{◌≡◌, ℕ, zero, suc, ◌<◌, Bool, true, false, List, [], ◌∷◌, ◌++◌, length, get_or, set}
-use Rattle.std.proofs.Common.{Some, None, refl, ap, arith, ◌∙◌, sym, cond}
-use Rattle.std.specs.Prelude.{sum_by, replicate, slice_get, unwrap_or, Any}
+use Rattle.std.proofs.Common.{refl, ap, arith, ◌∙◌, sym, cond}
+use Rattle.std.specs.Prelude.{sum_by, replicate, unwrap_or, Any}
 use Rattle.std.proofs.lemmas.Option.{slice_get_read}
 use Rattle.std.proofs.lemmas.List.Quantifiers.{Any-push}
 use Rattle.std.proofs.lemmas.List.Sums.{sum_by-set}

@@ -1,5 +1,5 @@
 -- Items of a list, and the first that passes a test.
-use Rattle.std.proofs.Common.{◌≡◌, zero, suc, Bool, true, false, ◌&&◌, not, List, [], ◌∷◌, ◌++◌, Option, Some, None}
+use Rattle.std.proofs.Common.{◌≡◌, zero, suc, Bool, true, false, ◌&&◌, List, [], ◌∷◌, ◌++◌, Some}
 use Rattle.std.proofs.Common.{refl, ap, arith, ◌∙◌, sym, cond}
 use Rattle.std.specs.Prelude.{Contains}
 use Rattle.std.specs.List.{find, list_all}

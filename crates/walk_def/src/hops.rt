@@ -19,8 +19,21 @@ use net_model::{Addressed, IfaceId, Net};
 use net_parts::routing::route_counts;
 use proto_ospf::{Reached, all_distances};
 use question_lang::{End, Hop};
-use route_record::{LENGTHS, Packet, RibEntry, RibSource, Slot, Tables, World};
+use route_record::{LENGTHS, RibEntry, RibSource, Slot, Tables, World};
 use std::alloc::{AllocError, Global};
+
+/// A router that has the packet of a world: its file, its interfaces that are up among all that are, and the interior
+/// distances to all that OSPF advertises.
+#[derive(Clone, Copy)]
+struct Holder<'a> {
+    net: &'a Net,
+    world: &'a World,
+    all: &'a [Reached],
+    up: &'a [Addressed],
+    own: &'a [Addressed],
+    router: u32,
+    file: &'a File,
+}
 
 fn find_owner<'a>(up: &'a [Addressed], subnet: &Prefix, a: Addr) -> Option<&'a Addressed>
     ensures { option_copied result ≡ find (λ x. (x.addr.0 == a.0) && same_prefix x.subnet subnet.now) up.now }
@@ -39,20 +52,21 @@ fn owner_of(up: &[Addressed], subnet: &Prefix, a: Addr) -> Option<IfaceId>
 }
 
 // To the router that has the address on the subnet, else this end.
-fn hop_or(net: &Net, packet: &Packet, up: &[Addressed], subnet: &Prefix, a: Addr, end: End) -> Hop
-    ensures { result ≡ option_map_or (hops.arrive net.now.files packet.now) (hops.owner_on up.now subnet.now a) (Hop.Ends end) }
+fn hop_or(holder: &Holder<'_>, subnet: &Prefix, a: Addr, end: End) -> Hop
+    ensures { result ≡ option_map_or (hops.arrive holder.now.net.now.files holder.now.world.now.packet)
+        (hops.owner_on holder.now.up.now subnet.now a) (Hop.Ends end) }
 {
-    match owner_of(up, subnet, a) {
+    match owner_of(holder.up, subnet, a) {
         None => Hop::Ends(end),
-        Some(id) => arrive(net, packet, id),
+        Some(id) => arrive(holder.net, &holder.world.packet, id),
     }
 }
 
-fn hop_to(net: &Net, packet: &Packet, up: &[Addressed], out: &Addressed, a: Addr) -> Hop
-    ensures { result ≡ hops.send_to net.now.files packet.now up.now out.now a }
+fn hop_to(holder: &Holder<'_>, out: &Addressed, a: Addr) -> Hop
+    ensures { result ≡ hops.send_to holder.now.net.now.files holder.now.world.now.packet holder.now.up.now out.now a }
 {
-    let hop = hop_or(net, packet, up, &out.subnet, a, End::Left(a));
-    depart(net, packet, out.id, hop)
+    let hop = hop_or(holder, &out.subnet, a, End::Left(a));
+    depart(holder.net, &holder.world.packet, out.id, hop)
 }
 
 fn find_over<'a>(own: &'a [Addressed], a: Addr) -> Option<&'a Addressed>
@@ -62,18 +76,12 @@ fn find_over<'a>(own: &'a [Addressed], a: Addr) -> Option<&'a Addressed>
 }
 
 // Puts the hop over the interface of the router whose subnet has the address at the end.
-fn push_over(
-    out: &mut List<Hop>,
-    net: &Net,
-    packet: &Packet,
-    up: &[Addressed],
-    own: &[Addressed],
-    a: Addr,
-) -> Result<(), AllocError>
-    ensures { OnOk result (out.new ≡ out.old ++ hops.send_over net.now.files packet.now up.now own.now a) }
+fn push_over(out: &mut List<Hop>, holder: &Holder<'_>, a: Addr) -> Result<(), AllocError>
+    ensures { OnOk result (out.new ≡ out.old ++ hops.send_over holder.now.net.now.files holder.now.world.now.packet
+        holder.now.up.now holder.now.own.now a) }
 {
-    if let Some(x) = find_over(own, a) {
-        out.items.push(hop_to(net, packet, up, x, a))?;
+    if let Some(x) = find_over(holder.own, a) {
+        out.items.push(hop_to(holder, x, a))?;
     }
     Ok(())
 }
@@ -81,42 +89,37 @@ fn push_over(
 // Puts the hops of a static route at the end.
 fn push_static(
     out: &mut List<Hop>,
-    net: &Net,
-    packet: &Packet,
-    up: &[Addressed],
-    own: &[Addressed],
+    holder: &Holder<'_>,
     route: &StaticRoute,
 ) -> Result<(), AllocError>
-    ensures { OnOk result (out.new ≡ out.old ++ hops.static_hops net.now.files packet.now up.now own.now route.now) }
+    ensures { OnOk result (out.new ≡ out.old ++ hops.static_hops holder.now.net.now.files holder.now.world.now.packet
+        holder.now.up.now holder.now.own.now route.now) }
 {
     match &route.via {
         Via::Null0 => {
             out.items.push(Hop::Ends(End::Discarded))?;
             Ok(())
         }
-        Via::Next(a) => push_over(out, net, packet, up, own, *a),
-        Via::Out(_, a) => push_over(out, net, packet, up, own, *a),
+        Via::Next(a) => push_over(out, holder, *a),
+        Via::Out(_, a) => push_over(out, holder, *a),
     }
 }
 
 // The hops of the static routes of the prefix that have the distance.
 fn static_hops_of(
     alloc: Global,
-    net: &Net,
-    packet: &Packet,
-    up: &[Addressed],
-    own: &[Addressed],
-    statics: &[StaticRoute],
+    holder: &Holder<'_>,
     p: &Prefix,
     distance: u8,
 ) -> Result<List<Hop>, AllocError>
-    ensures { IfOk result (λ all. all ≡ flat_map (hops.static_hops net.now.files packet.now up.now own.now)
-        (filter (λ route. route.distance == distance) (static_routes own.now statics.now p.now))) }
+    ensures { IfOk result (λ all. all ≡ flat_map (hops.static_hops holder.now.net.now.files holder.now.world.now.packet
+        holder.now.up.now holder.now.own.now) (filter (λ route. route.distance == distance)
+        (static_routes holder.now.own.now holder.now.file.now.statics p.now))) }
 {
     let mut out = List::new(alloc);
-    for route in statics {
-        if route.prefix == *p && route_counts(own, route) && route.distance == distance {
-            push_static(&mut out, net, packet, up, own, route)?;
+    for route in holder.file.statics.as_slice() {
+        if route.prefix == *p && route_counts(holder.own, route) && route.distance == distance {
+            push_static(&mut out, holder, route)?;
         }
     }
     Ok(out)
@@ -128,27 +131,27 @@ fn find_direct<'a>(own: &'a [Addressed], p: &Prefix) -> Option<&'a Addressed>
     own.iter().find(|x| x.subnet == *p)
 }
 
-fn connected_hop(net: &Net, packet: &Packet, up: &[Addressed], out: &Addressed, p: &Prefix) -> Hop
-    ensures { result ≡ hops.depart net.now.files packet.now out.now.id
-        (option_map_or (hops.arrive net.now.files packet.now) (hops.owner_on up.now p.now packet.now.dst) (Hop.Ends End.Delivered)) }
+fn connected_hop(holder: &Holder<'_>, out: &Addressed, p: &Prefix) -> Hop
+    ensures { result ≡ hops.depart holder.now.net.now.files holder.now.world.now.packet out.now.id
+        (option_map_or (hops.arrive holder.now.net.now.files holder.now.world.now.packet)
+        (hops.owner_on holder.now.up.now p.now holder.now.world.now.packet.dst) (Hop.Ends End.Delivered)) }
 {
-    let hop = hop_or(net, packet, up, p, packet.dst, End::Delivered);
-    depart(net, packet, out.id, hop)
+    let packet = &holder.world.packet;
+    let hop = hop_or(holder, p, packet.dst, End::Delivered);
+    depart(holder.net, packet, out.id, hop)
 }
 
 fn connected_hops_of(
     alloc: Global,
-    net: &Net,
-    packet: &Packet,
-    up: &[Addressed],
-    own: &[Addressed],
+    holder: &Holder<'_>,
     p: &Prefix,
 ) -> Result<List<Hop>, AllocError>
-    ensures { IfOk result (λ all. all ≡ hops.connected_hops net.now.files packet.now up.now own.now p.now) }
+    ensures { IfOk result (λ all. all ≡ hops.connected_hops holder.now.net.now.files holder.now.world.now.packet
+        holder.now.up.now holder.now.own.now p.now) }
 {
     let mut out = List::new(alloc);
-    if let Some(x) = find_direct(own, p) {
-        out.items.push(connected_hop(net, packet, up, x, p))?;
+    if let Some(x) = find_direct(holder.own, p) {
+        out.items.push(connected_hop(holder, x, p))?;
     }
     Ok(out)
 }
@@ -160,78 +163,62 @@ fn some_subnet_has(own: &[Addressed], a: Addr) -> bool
 }
 
 // The hops over the interface of the router whose subnet has the address.
-fn hops_out(
-    alloc: Global,
-    net: &Net,
-    packet: &Packet,
-    up: &[Addressed],
-    own: &[Addressed],
-    a: Addr,
-) -> Result<List<Hop>, AllocError>
-    ensures { IfOk result (λ all. all ≡ hops.send_over net.now.files packet.now up.now own.now a) }
+fn hops_out(alloc: Global, holder: &Holder<'_>, a: Addr) -> Result<List<Hop>, AllocError>
+    ensures { IfOk result (λ all. all ≡ hops.send_over holder.now.net.now.files holder.now.world.now.packet
+        holder.now.up.now holder.now.own.now a) }
 {
     let mut out = List::new(alloc);
-    push_over(&mut out, net, packet, up, own, a)?;
+    push_over(&mut out, holder, a)?;
     Ok(out)
 }
 
 // The hops of a BGP route that is held: to the next hop, where that is on a subnet of the router, else over the
 // adjacencies that lead to it.
-fn next_hops_of(
-    alloc: Global,
-    net: &Net,
-    world: &World,
-    all: &[Reached],
-    up: &[Addressed],
-    own: &[Addressed],
-    router: u32,
-    a: Addr,
-) -> Result<List<Hop>, AllocError>
-    requires all { all.now ≡ all_reached net.now.files world.now.failures }
-    ensures { IfOk result (λ to. to ≡ if list_any (λ x. covers x.subnet a) own.now
-        then hops.send_over net.now.files world.now.packet up.now own.now a
-        else map (hops.send_adjacent net.now.files world.now.packet) (sent_towards net.now.files world.now.failures router a)) }
+fn next_hops_of(alloc: Global, holder: &Holder<'_>, a: Addr) -> Result<List<Hop>, AllocError>
+    requires all { holder.now.all.now ≡ all_reached holder.now.net.now.files holder.now.world.now.failures }
+    ensures { IfOk result (λ to. to ≡ if list_any (λ x. covers x.subnet a) holder.now.own.now
+        then hops.send_over holder.now.net.now.files holder.now.world.now.packet holder.now.up.now holder.now.own.now a
+        else map (hops.send_adjacent holder.now.net.now.files holder.now.world.now.packet)
+        (sent_towards holder.now.net.now.files holder.now.world.now.failures holder.now.router a)) }
 {
-    if some_subnet_has(own, a) {
-        return hops_out(alloc, net, &world.packet, up, own, a);
+    if some_subnet_has(holder.own, a) {
+        return hops_out(alloc, holder, a);
     }
-    hops_towards(alloc, net, world, all, router, a)
+    hops_towards(
+        alloc,
+        holder.net,
+        holder.world,
+        holder.all,
+        holder.router,
+        a,
+    )
 }
 
 // The hops of a BGP entry.
-fn bgp_hops_of(
-    alloc: Global,
-    net: &Net,
-    world: &World,
-    all: &[Reached],
-    up: &[Addressed],
-    own: &[Addressed],
-    router: u32,
-    slot: &Slot,
-) -> Result<List<Hop>, AllocError>
-    requires all { all.now ≡ all_reached net.now.files world.now.failures }
-    ensures { IfOk result (λ to. to ≡ hops.bgp_hops net.now.files world.now up.now own.now router slot.now) }
+fn bgp_hops_of(alloc: Global, holder: &Holder<'_>, slot: &Slot) -> Result<List<Hop>, AllocError>
+    requires all { holder.now.all.now ≡ all_reached holder.now.net.now.files holder.now.world.now.failures }
+    ensures { IfOk result (λ to. to ≡ hops.bgp_hops holder.now.net.now.files holder.now.world.now holder.now.up.now
+        holder.now.own.now holder.now.router slot.now) }
 {
     match &slot.bgp {
         None => Ok(List::new(alloc)),
-        Some(held) => next_hops_of(alloc, net, world, all, up, own, router, held.next_hop),
+        Some(held) => next_hops_of(alloc, holder, held.next_hop),
     }
 }
 
 // The hops of an OSPF entry.
 fn ospf_hops_of(
     alloc: Global,
-    net: &Net,
-    world: &World,
-    router: u32,
+    holder: &Holder<'_>,
     p: &Prefix,
     slot: &Slot,
 ) -> Result<List<Hop>, AllocError>
-    ensures { IfOk result (λ to. to ≡ hops.ospf_hops net.now.files world.now router p.now slot.now) }
+    ensures { IfOk result (λ to. to ≡ hops.ospf_hops holder.now.net.now.files holder.now.world.now holder.now.router
+        p.now slot.now) }
 {
     match &slot.ospf {
         None => Ok(List::new(alloc)),
-        Some(held) => held_hops_of(alloc, net, world, router, p, held),
+        Some(held) => held_hops_of(alloc, holder.net, holder.world, holder.router, p, held),
     }
 }
 
@@ -240,37 +227,21 @@ type Longest<'a> = (u8, &'a Slot, RibEntry);
 
 fn entry_hops_of(
     alloc: Global,
-    net: &Net,
-    world: &World,
-    all: &[Reached],
-    up: &[Addressed],
-    own: &[Addressed],
-    router: u32,
-    file: &File,
+    holder: &Holder<'_>,
     found: &Longest<'_>,
 ) -> Result<List<Hop>, AllocError>
-    requires all { all.now ≡ all_reached net.now.files world.now.failures }
-    ensures { IfOk result (λ to. to ≡ hops.entry_hops net.now.files world.now up.now own.now router file.now
-        (found.now.0, found.now.1.now, found.now.2)) }
+    requires all { holder.now.all.now ≡ all_reached holder.now.net.now.files holder.now.world.now.failures }
+    ensures { IfOk result (λ to. to ≡ hops.entry_hops holder.now.net.now.files holder.now.world.now holder.now.up.now
+        holder.now.own.now holder.now.router holder.now.file.now (found.now.0, found.now.1.now, found.now.2)) }
 {
     let (len, slot, entry) = found;
-    let packet = &world.packet;
-    let p = prefix_of(packet.dst, *len);
+    let p = prefix_of(holder.world.packet.dst, *len);
     match entry.source {
-        RibSource::Connected => connected_hops_of(alloc, net, packet, up, own, &p),
-        RibSource::Static => static_hops_of(
-            alloc,
-            net,
-            packet,
-            up,
-            own,
-            file.statics.as_slice(),
-            &p,
-            entry.distance,
-        ),
-        RibSource::Ebgp => bgp_hops_of(alloc, net, world, all, up, own, router, slot),
-        RibSource::Ospf => ospf_hops_of(alloc, net, world, router, &p, slot),
-        RibSource::Ibgp => bgp_hops_of(alloc, net, world, all, up, own, router, slot),
+        RibSource::Connected => connected_hops_of(alloc, holder, &p),
+        RibSource::Static => static_hops_of(alloc, holder, &p, entry.distance),
+        RibSource::Ebgp => bgp_hops_of(alloc, holder, slot),
+        RibSource::Ospf => ospf_hops_of(alloc, holder, &p, slot),
+        RibSource::Ibgp => bgp_hops_of(alloc, holder, slot),
     }
 }
 
@@ -314,26 +285,18 @@ fn one_hop(alloc: Global, end: End) -> Result<List<Hop>, AllocError>
     Ok(out)
 }
 
-// The next hops of a router over the interfaces that are up: all of them, and its own.
-fn hops_of(
-    alloc: Global,
-    net: &Net,
-    world: &World,
-    all: &[Reached],
-    up: &[Addressed],
-    own: &[Addressed],
-    router: u32,
-    file: &File,
-) -> Result<List<Hop>, AllocError>
-    requires all { all.now ≡ all_reached net.now.files world.now.failures }
-    ensures { IfOk result (λ to. to ≡ hops.hops_over net.now.files world.now up.now own.now router file.now) }
+// The next hops of a router.
+fn hops_of(alloc: Global, holder: &Holder<'_>) -> Result<List<Hop>, AllocError>
+    requires all { holder.now.all.now ≡ all_reached holder.now.net.now.files holder.now.world.now.failures }
+    ensures { IfOk result (λ to. to ≡ hops.hops_over holder.now.net.now.files holder.now.world.now holder.now.up.now
+        holder.now.own.now holder.now.router holder.now.file.now) }
 {
-    if is_own(own, world.packet.dst) {
+    if is_own(holder.own, holder.world.packet.dst) {
         return one_hop(alloc, End::Delivered);
     }
-    match longest_of(&world.tables, router) {
+    match longest_of(&holder.world.tables, holder.router) {
         None => one_hop(alloc, End::NoRoute),
-        Some(found) => entry_hops_of(alloc, net, world, all, up, own, router, file, &found),
+        Some(found) => entry_hops_of(alloc, holder, &found),
     }
 }
 
@@ -360,16 +323,18 @@ pub fn list_hops(
     let own = own_up(alloc, net, &world.failures, router)?;
     match file_of(net, router) {
         None => Ok(List::new(alloc)),
-        Some(file) => hops_of(
-            alloc,
-            net,
-            world,
-            all,
-            up.as_slice(),
-            own.as_slice(),
-            router,
-            file,
-        ),
+        Some(file) => {
+            let holder = Holder {
+                net,
+                world,
+                all,
+                up: up.as_slice(),
+                own: own.as_slice(),
+                router,
+                file,
+            };
+            hops_of(alloc, &holder)
+        }
     }
 }
 

@@ -8,7 +8,9 @@ use Rattle.walk_def.proofs.hops.static_hops_of.Given as goal
 -- the hops so far and those of the routes that are left
 abbrev pub invariant-loop-route : goal.invariant-loop-route
 invariant-loop-route l =
-    l.out ++ flat_map (static_hops l.net.files l.packet l.up l.own)
-    (filter (λ route. route.distance == l.distance) (static_routes l.own (drop l.route-index l.statics) l.p))
-    ≡ flat_map (static_hops l.net.files l.packet l.up l.own)
-    (filter (λ route. route.distance == l.distance) (static_routes l.own l.statics l.p))
+    let holder = l.holder in
+    let sent = static_hops holder.net.now.files holder.world.now.packet holder.up.now holder.own.now in
+    l.out ++ flat_map sent (filter (λ route. route.distance == l.distance)
+    (static_routes holder.own.now (drop l.route-index holder.file.now.statics) l.p))
+    ≡ flat_map sent (filter (λ route. route.distance == l.distance)
+    (static_routes holder.own.now holder.file.now.statics l.p))
