@@ -8,7 +8,7 @@ ghost use Rattle.sym_rib.specs.Slots.{slot_end, StandsForSlot};
 ghost use Rattle.term_store.specs.Terms.{Reading, size, at};
 ghost use Rattle.term_store.specs.Reading.{Reads, Builds, Gives};
 
-use crate::known::{known_rec, word};
+use crate::known::{Known, known_rec, word};
 use crate::ribs::no_entry;
 use crate::slots::SymSlot;
 use route_record::{Origin, Tracked};
@@ -27,7 +27,13 @@ fn no_rec(alloc: Global, terms: &mut Terms, tracked: &Tracked) -> Result<SymMapR
 {
     let valid = constant_node(terms, false)?;
     let med = word(alloc, terms, 0)?;
-    known_rec(alloc, terms, tracked, valid, 0, 0, Origin::Igp, med, false)
+    let known = Known {
+        weight: 0,
+        local_pref: 0,
+        origin: Origin::Igp,
+        type1: false,
+    };
+    known_rec(alloc, terms, tracked, valid, &known, med)
 }
 
 /// A BGP route that is not there. It has one node for each tracked number, community and cluster.

@@ -15,10 +15,10 @@ ghost use Rattle.term_arith.specs.Bits.{number, ids_end};
 
 use crate::interfaces::sym_direct;
 use crate::learnt::bgp_rib;
+use crate::lookup::Lookup;
 use crate::ribs::{closer_rib, entry_where, no_entry};
 use crate::slots::{SymRib, SymSlot};
 use crate::statics::best_static;
-use ios_ast::File;
 use net_model::Net;
 use net_parts::ends::file_of;
 use route_record::RibSource;
@@ -32,24 +32,31 @@ use term_store::{NodeId, Terms};
 fn direct_rib(
     alloc: Global,
     terms: &mut Terms,
-    net: &Net,
+    lookup: &Lookup<'_>,
     sym: &SymNet,
-    router: u32,
-    dst: &Bits,
-    len: u8,
 ) -> Result<SymRib, AllocError>
-    requires long { len ≤ 32 }
-    requires wide { length dst.now.nodes.items ≡ 32 }
-    requires nodes { ids_end dst.now.nodes.items ≤ size terms.old }
+    requires long { lookup.now.len ≤ 32 }
+    requires wide { length lookup.now.dst.now.nodes.items ≡ 32 }
+    requires nodes { ids_end lookup.now.dst.now.nodes.items ≤ size terms.old }
     requires down { ids_end sym.now.down ≤ size terms.old }
     ensures builds { Builds terms.old terms.new }
     ensures within { IfOk result (λ r. rib_end r ≤ size terms.new) }
     ensures numbered { Gives terms.new result (λ w r. IsNumbered w r) }
     ensures value { Gives terms.new result (λ w r. rib_of w r
-        ≡ (if routing.is_direct (routing.up_interfaces net.now.files (failures_of w sym.now) router) (prefix_of w dst.now len)
+        ≡ (if routing.is_direct
+        (routing.up_interfaces lookup.now.net.now.files (failures_of w sym.now) lookup.now.router)
+        (prefix_of w lookup.now.dst.now lookup.now.len)
         then Some (record { source = RibSource.Connected; distance = 0 }) else None)) }
 {
-    let direct = sym_direct(alloc, terms, net, sym, router, dst, len)?;
+    let direct = sym_direct(
+        alloc,
+        terms,
+        lookup.net,
+        sym,
+        lookup.router,
+        lookup.dst,
+        lookup.len,
+    )?;
     entry_where(alloc, terms, direct, RibSource::Connected, 0)
 }
 
@@ -77,34 +84,28 @@ fn ospf_rib(
 fn plain_rib(
     alloc: Global,
     terms: &mut Terms,
-    net: &Net,
+    lookup: &Lookup<'_>,
     sym: &SymNet,
-    router: u32,
-    file: &File,
-    dst: &Bits,
-    len: u8,
 ) -> Result<SymRib, AllocError>
-    requires long { len ≤ 32 }
-    requires wide { length dst.now.nodes.items ≡ 32 }
-    requires nodes { ids_end dst.now.nodes.items ≤ size terms.old }
+    requires long { lookup.now.len ≤ 32 }
+    requires wide { length lookup.now.dst.now.nodes.items ≡ 32 }
+    requires nodes { ids_end lookup.now.dst.now.nodes.items ≤ size terms.old }
     requires down { ids_end sym.now.down ≤ size terms.old }
     ensures builds { Builds terms.old terms.new }
     ensures within { IfOk result (λ r. rib_end r ≤ size terms.new) }
     ensures numbered { Gives terms.new result (λ w r. IsNumbered w r) }
     ensures value { Gives terms.new result (λ w r. rib_of w r ≡ routing.least_distance (routing.candidates
-        (routing.up_interfaces net.now.files (failures_of w sym.now) router) file.now.statics (prefix_of w dst.now len))) }
+        (routing.up_interfaces lookup.now.net.now.files (failures_of w sym.now) lookup.now.router)
+        lookup.now.file.now.statics (prefix_of w lookup.now.dst.now lookup.now.len))) }
 {
-    let direct = direct_rib(alloc, terms, net, sym, router, dst, len)?;
+    let direct = direct_rib(alloc, terms, lookup, sym)?;
     best_static(
         alloc,
         terms,
-        net,
+        lookup,
         sym,
-        router,
-        dst,
-        len,
         direct,
-        file.statics.as_slice(),
+        lookup.file.statics.as_slice(),
     )
 }
 
@@ -112,18 +113,14 @@ fn plain_rib(
 fn table_rib(
     alloc: Global,
     terms: &mut Terms,
-    net: &Net,
+    lookup: &Lookup<'_>,
     sym: &SymNet,
-    router: u32,
-    file: &File,
-    dst: &Bits,
-    len: u8,
     slot: &SymSlot,
     own: NodeId,
 ) -> Result<SymRib, AllocError>
-    requires long { len ≤ 32 }
-    requires wide { length dst.now.nodes.items ≡ 32 }
-    requires nodes { ids_end dst.now.nodes.items ≤ size terms.old }
+    requires long { lookup.now.len ≤ 32 }
+    requires wide { length lookup.now.dst.now.nodes.items ≡ 32 }
+    requires nodes { ids_end lookup.now.dst.now.nodes.items ≤ size terms.old }
     requires down { ids_end sym.now.down ≤ size terms.old }
     requires slot { slot_end slot.now ≤ size terms.old }
     requires own { own.0 < size terms.old }
@@ -131,12 +128,14 @@ fn table_rib(
     ensures within { IfOk result (λ r. rib_end r ≤ size terms.new) }
     ensures numbered { Gives terms.new result (λ w r. IsNumbered w r) }
     ensures value { Gives terms.new result (λ w r. rib_of w r
-        ≡ entry_read net.now.files (failures_of w sym.now) router file.now (prefix_of w dst.now len)
-        (if at w slot.now.bgp.valid then learnt_entry net.now.files router (number w slot.now.bgp.from.nodes.items) else None)
+        ≡ entry_read lookup.now.net.now.files (failures_of w sym.now) lookup.now.router lookup.now.file.now
+        (prefix_of w lookup.now.dst.now lookup.now.len)
+        (if at w slot.now.bgp.valid then learnt_entry lookup.now.net.now.files lookup.now.router
+        (number w slot.now.bgp.from.nodes.items) else None)
         (at w slot.now.ospf.valid && not (at w own))) }
 {
-    let plain = plain_rib(alloc, terms, net, sym, router, file, dst, len)?;
-    let bgp = bgp_rib(alloc, terms, net, router, &slot.bgp)?;
+    let plain = plain_rib(alloc, terms, lookup, sym)?;
+    let bgp = bgp_rib(alloc, terms, lookup.net, lookup.router, &slot.bgp)?;
     let best = closer_rib(alloc, terms, &plain, &bgp)?;
     let ospf = ospf_rib(alloc, terms, &slot.ospf, own)?;
     closer_rib(alloc, terms, &best, &ospf)
@@ -177,9 +176,14 @@ pub fn sym_entry(
     match file_of(net.routers(), router) {
         None => no_entry(alloc, terms),
         Some(file) => {
-            let entry = table_rib(
-                alloc, terms, net, sym, router, file, dst, len, slot, own_ospf,
-            )?;
+            let lookup = Lookup {
+                net,
+                router,
+                file,
+                dst,
+                len,
+            };
+            let entry = table_rib(alloc, terms, &lookup, sym, slot, own_ospf)?;
             Ok(entry)
         }
     }

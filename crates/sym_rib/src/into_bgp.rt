@@ -22,12 +22,13 @@ ghost use Rattle.term_store.specs.Terms.{Reading, size, at};
 ghost use Rattle.term_store.specs.Reading.{Reads, Builds, Gives};
 ghost use Rattle.term_arith.specs.Bits.{ids_end};
 
-use crate::known::known_rec;
+use crate::known::{Known, known_rec};
+use crate::lookup::Lookup;
 use crate::metric::SymMetric;
 use crate::metrics::{metric_where, named_metric, sym_entry_metric, sym_taken_metric};
 use crate::prefixes::sym_same_prefix;
 use crate::slots::SymSlot;
-use ios_ast::{Bgp, BgpNet, File, Redist, Use};
+use ios_ast::{Bgp, BgpNet, Redist, Use};
 use mw_text::List;
 use net_model::Net;
 use net_parts::ends::file_of;
@@ -56,43 +57,46 @@ fn local_rec(
         (option_map (λ med. mapping.attributes_of (origins.local_route origin med)) (metric_of w metric))) }
 {
     let SymMetric { valid, value } = metric;
-    known_rec(
-        alloc, terms, tracked, valid, 32_768, 100, origin, value, false,
-    )
+    let known = Known {
+        weight: 32_768,
+        local_pref: 100,
+        origin,
+        type1: false,
+    };
+    known_rec(alloc, terms, tracked, valid, &known, value)
 }
 
 /// A local route with that metric as the map of its line leaves it.
 fn mapped_bgp(
     alloc: Global,
     terms: &mut Terms,
+    lookup: &Lookup<'_>,
     tracked: &Tracked,
-    file: &File,
     used: &Option<Use>,
-    dst: &Bits,
-    len: u8,
     origin: Origin,
     metric: SymMetric,
 ) -> Result<SymBgp, AllocError>
-    requires long { len ≤ 32 }
-    requires wide { length dst.now.nodes.items ≡ 32 }
-    requires dst { ids_end dst.now.nodes.items ≤ size terms.old }
+    requires long { lookup.now.len ≤ 32 }
+    requires wide { length lookup.now.dst.now.nodes.items ≡ 32 }
+    requires dst { ids_end lookup.now.dst.now.nodes.items ≤ size terms.old }
     requires metric { metric_end metric ≤ size terms.old }
     ensures builds { Builds terms.old terms.new }
     ensures within { IfOk result (λ r. bgp_end r ≤ size terms.new) }
     ensures rows { IfOk result (λ r. HasTracked tracked.now r) }
-    ensures value { Gives terms.new result (λ w r. all_tracked tracked.now file.now.policies ≡ true
-        → bgp_of w r ≡ option_map (bgp_shape tracked.now) (option_and_then (λ med. origins.local_through file.now
-        used.now (prefix_of w dst.now len) (origins.local_route origin med)) (metric_of w metric))) }
+    ensures value { Gives terms.new result (λ w r. all_tracked tracked.now lookup.now.file.now.policies ≡ true
+        → bgp_of w r ≡ option_map (bgp_shape tracked.now) (option_and_then (λ med.
+        origins.local_through lookup.now.file.now used.now (prefix_of w lookup.now.dst.now lookup.now.len)
+        (origins.local_route origin med)) (metric_of w metric))) }
 {
     let before = local_rec(alloc, terms, tracked, origin, metric)?;
     let left = sym_through(
         alloc,
         terms,
         tracked,
-        &file.policies,
+        &lookup.file.policies,
         used,
-        dst,
-        len,
+        lookup.dst,
+        lookup.len,
         before,
         Side::Redistribution,
     )?;
@@ -104,30 +108,28 @@ fn mapped_bgp(
 fn local_bgp(
     alloc: Global,
     terms: &mut Terms,
+    lookup: &Lookup<'_>,
     tracked: &Tracked,
-    file: &File,
     used: &Option<Use>,
-    dst: &Bits,
-    len: u8,
     origin: Origin,
     metric: SymMetric,
 ) -> Result<Option<SymBgp>, AllocError>
-    requires long { len ≤ 32 }
-    requires wide { length dst.now.nodes.items ≡ 32 }
-    requires dst { ids_end dst.now.nodes.items ≤ size terms.old }
+    requires long { lookup.now.len ≤ 32 }
+    requires wide { length lookup.now.dst.now.nodes.items ≡ 32 }
+    requires dst { ids_end lookup.now.dst.now.nodes.items ≤ size terms.old }
     requires metric { metric_end metric ≤ size terms.old }
     ensures builds { Builds terms.old terms.new }
     ensures within { IfOk result (λ r. list_end bgp_end (option_to_list r) ≤ size terms.new) }
     ensures rows { IfOk result (λ r. IfSome r (HasTracked tracked.now)) }
-    ensures value { Gives terms.new result (λ w r. all_tracked tracked.now file.now.policies ≡ true
+    ensures value { Gives terms.new result (λ w r. all_tracked tracked.now lookup.now.file.now.policies ≡ true
         → option_and_then (bgp_of w) r ≡ option_map (bgp_shape tracked.now) (option_and_then (λ med.
-        origins.local_through file.now used.now (prefix_of w dst.now len) (origins.local_route origin med))
-        (metric_of w metric))) }
+        origins.local_through lookup.now.file.now used.now (prefix_of w lookup.now.dst.now lookup.now.len)
+        (origins.local_route origin med)) (metric_of w metric))) }
 {
     if is_never(terms, metric.valid) {
         return Ok(None);
     }
-    let made = mapped_bgp(alloc, terms, tracked, file, used, dst, len, origin, metric)?;
+    let made = mapped_bgp(alloc, terms, lookup, tracked, used, origin, metric)?;
     Ok(Some(made))
 }
 
@@ -135,82 +137,75 @@ fn local_bgp(
 fn network_bgp(
     alloc: Global,
     terms: &mut Terms,
+    lookup: &Lookup<'_>,
     tracked: &Tracked,
-    file: &File,
     line: &BgpNet,
-    dst: &Bits,
-    len: u8,
     slot: &SymSlot,
 ) -> Result<Option<SymBgp>, AllocError>
-    requires long { len ≤ 32 }
-    requires wide { length dst.now.nodes.items ≡ 32 }
-    requires dst { ids_end dst.now.nodes.items ≤ size terms.old }
+    requires long { lookup.now.len ≤ 32 }
+    requires wide { length lookup.now.dst.now.nodes.items ≡ 32 }
+    requires dst { ids_end lookup.now.dst.now.nodes.items ≤ size terms.old }
     requires slot { slot_end slot.now ≤ size terms.old }
     ensures builds { Builds terms.old terms.new }
     ensures within { IfOk result (λ r. list_end bgp_end (option_to_list r) ≤ size terms.new) }
     ensures rows { IfOk result (λ r. IfSome r (HasTracked tracked.now)) }
-    ensures value { Gives terms.new result (λ w r. (held : Slot) → all_tracked tracked.now file.now.policies ≡ true
-        → StandsBesideBgp w slot.now held
+    ensures value { Gives terms.new result (λ w r. (held : Slot)
+        → all_tracked tracked.now lookup.now.file.now.policies ≡ true → StandsBesideBgp w slot.now held
         → option_and_then (bgp_of w) r
-        ≡ option_map (bgp_shape tracked.now) (origins.by_network file.now (prefix_of w dst.now len) held line.now)) }
+        ≡ option_map (bgp_shape tracked.now) (origins.by_network lookup.now.file.now
+        (prefix_of w lookup.now.dst.now lookup.now.len) held line.now)) }
 {
-    let same = sym_same_prefix(terms, &line.prefix, dst, len)?;
+    let same = sym_same_prefix(terms, &line.prefix, lookup.dst, lookup.len)?;
     if is_never(terms, same) {
         return Ok(None);
     }
     let metric = sym_entry_metric(alloc, terms, slot)?;
     let here = metric_where(terms, metric, same)?;
-    local_bgp(
-        alloc,
-        terms,
-        tracked,
-        file,
-        &line.map,
-        dst,
-        len,
-        Origin::Igp,
-        here,
-    )
+    local_bgp(alloc, terms, lookup, tracked, &line.map, Origin::Igp, here)
 }
 
 /// The route that a `redistribute` line brings into BGP: never the default route.
 fn line_bgp(
     alloc: Global,
     terms: &mut Terms,
-    net: &Net,
+    lookup: &Lookup<'_>,
     tracked: &Tracked,
-    router: u32,
-    file: &File,
     line: &Redist,
-    dst: &Bits,
-    len: u8,
     slot: &SymSlot,
 ) -> Result<Option<SymBgp>, AllocError>
-    requires long { len ≤ 32 }
-    requires wide { length dst.now.nodes.items ≡ 32 }
-    requires dst { ids_end dst.now.nodes.items ≤ size terms.old }
+    requires long { lookup.now.len ≤ 32 }
+    requires wide { length lookup.now.dst.now.nodes.items ≡ 32 }
+    requires dst { ids_end lookup.now.dst.now.nodes.items ≤ size terms.old }
     requires slot { slot_end slot.now ≤ size terms.old }
     ensures builds { Builds terms.old terms.new }
     ensures within { IfOk result (λ r. list_end bgp_end (option_to_list r) ≤ size terms.new) }
     ensures rows { IfOk result (λ r. IfSome r (HasTracked tracked.now)) }
-    ensures value { Gives terms.new result (λ w r. (held : Slot) → all_tracked tracked.now file.now.policies ≡ true
-        → StandsBesideBgp w slot.now held
+    ensures value { Gives terms.new result (λ w r. (held : Slot)
+        → all_tracked tracked.now lookup.now.file.now.policies ≡ true → StandsBesideBgp w slot.now held
         → option_and_then (bgp_of w) r ≡ option_map (bgp_shape tracked.now)
-        (origins.into_bgp net.now.files router file.now (prefix_of w dst.now len) held line.now)) }
+        (origins.into_bgp lookup.now.net.now.files lookup.now.router lookup.now.file.now
+        (prefix_of w lookup.now.dst.now lookup.now.len) held line.now)) }
 {
-    if len == 0 {
+    if lookup.len == 0 {
         return Ok(None);
     }
-    let taken = sym_taken_metric(alloc, terms, net, router, line, dst, len, slot)?;
+    let taken = sym_taken_metric(
+        alloc,
+        terms,
+        lookup.net,
+        lookup.router,
+        line,
+        lookup.dst,
+        lookup.len,
+        slot,
+    )?;
     let metric = named_metric(alloc, terms, line, taken)?;
     local_bgp(
         alloc,
         terms,
+        lookup,
         tracked,
-        file,
         &line.map,
-        dst,
-        len,
         Origin::Incomplete,
         metric,
     )
@@ -230,28 +225,27 @@ fn put_bgp(made: &mut List<SymBgp>, rec: Option<SymBgp>) -> Result<(), AllocErro
 fn by_networks(
     alloc: Global,
     terms: &mut Terms,
+    lookup: &Lookup<'_>,
     tracked: &Tracked,
-    file: &File,
     lines: &[BgpNet],
-    dst: &Bits,
-    len: u8,
     slot: &SymSlot,
 ) -> Result<List<SymBgp>, AllocError>
-    requires long { len ≤ 32 }
-    requires wide { length dst.now.nodes.items ≡ 32 }
-    requires dst { ids_end dst.now.nodes.items ≤ size terms.old }
+    requires long { lookup.now.len ≤ 32 }
+    requires wide { length lookup.now.dst.now.nodes.items ≡ 32 }
+    requires dst { ids_end lookup.now.dst.now.nodes.items ≤ size terms.old }
     requires slot { slot_end slot.now ≤ size terms.old }
     ensures builds { Builds terms.old terms.new }
     ensures within { IfOk result (λ r. list_end bgp_end r ≤ size terms.new) }
     ensures rows { IfOk result (λ r. All (HasTracked tracked.now) r) }
-    ensures value { Gives terms.new result (λ w r. (held : Slot) → all_tracked tracked.now file.now.policies ≡ true
-        → StandsBesideBgp w slot.now held
+    ensures value { Gives terms.new result (λ w r. (held : Slot)
+        → all_tracked tracked.now lookup.now.file.now.policies ≡ true → StandsBesideBgp w slot.now held
         → filter_map (bgp_of w) r ≡ map (bgp_shape tracked.now)
-        (filter_map (origins.by_network file.now (prefix_of w dst.now len) held) lines.now)) }
+        (filter_map (origins.by_network lookup.now.file.now (prefix_of w lookup.now.dst.now lookup.now.len) held)
+        lines.now)) }
 {
     let mut made = List::new(alloc);
     for line in lines {
-        let rec = network_bgp(alloc, terms, tracked, file, line, dst, len, slot)?;
+        let rec = network_bgp(alloc, terms, lookup, tracked, line, slot)?;
         put_bgp(&mut made, rec)?;
     }
     Ok(made)
@@ -261,34 +255,29 @@ fn by_networks(
 fn with_redistributed(
     alloc: Global,
     terms: &mut Terms,
-    net: &Net,
+    lookup: &Lookup<'_>,
     tracked: &Tracked,
-    router: u32,
-    file: &File,
     lines: &[Redist],
-    dst: &Bits,
-    len: u8,
     slot: &SymSlot,
     before: List<SymBgp>,
 ) -> Result<List<SymBgp>, AllocError>
-    requires long { len ≤ 32 }
-    requires wide { length dst.now.nodes.items ≡ 32 }
-    requires dst { ids_end dst.now.nodes.items ≤ size terms.old }
+    requires long { lookup.now.len ≤ 32 }
+    requires wide { length lookup.now.dst.now.nodes.items ≡ 32 }
+    requires dst { ids_end lookup.now.dst.now.nodes.items ≤ size terms.old }
     requires slot { slot_end slot.now ≤ size terms.old }
     requires before { list_end bgp_end before ≤ size terms.old }
     ensures builds { Builds terms.old terms.new }
     ensures within { IfOk result (λ r. list_end bgp_end r ≤ size terms.new) }
     ensures rows { IfOk result (λ r. All (HasTracked tracked.now) before → All (HasTracked tracked.now) r) }
-    ensures value { Gives terms.new result (λ w r. (held : Slot) → all_tracked tracked.now file.now.policies ≡ true
-        → StandsBesideBgp w slot.now held
+    ensures value { Gives terms.new result (λ w r. (held : Slot)
+        → all_tracked tracked.now lookup.now.file.now.policies ≡ true → StandsBesideBgp w slot.now held
         → filter_map (bgp_of w) r ≡ filter_map (bgp_of w) before ++ map (bgp_shape tracked.now)
-        (filter_map (origins.into_bgp net.now.files router file.now (prefix_of w dst.now len) held) lines.now)) }
+        (filter_map (origins.into_bgp lookup.now.net.now.files lookup.now.router lookup.now.file.now
+        (prefix_of w lookup.now.dst.now lookup.now.len) held) lines.now)) }
 {
     let mut made = before;
     for line in lines {
-        let rec = line_bgp(
-            alloc, terms, net, tracked, router, file, line, dst, len, slot,
-        )?;
+        let rec = line_bgp(alloc, terms, lookup, tracked, line, slot)?;
         put_bgp(&mut made, rec)?;
     }
     Ok(made)
@@ -298,33 +287,28 @@ fn with_redistributed(
 fn of_process(
     alloc: Global,
     terms: &mut Terms,
-    net: &Net,
+    lookup: &Lookup<'_>,
     tracked: &Tracked,
-    router: u32,
-    file: &File,
     process: &Bgp,
-    dst: &Bits,
-    len: u8,
     slot: &SymSlot,
 ) -> Result<List<SymBgp>, AllocError>
-    requires long { len ≤ 32 }
-    requires wide { length dst.now.nodes.items ≡ 32 }
-    requires dst { ids_end dst.now.nodes.items ≤ size terms.old }
+    requires long { lookup.now.len ≤ 32 }
+    requires wide { length lookup.now.dst.now.nodes.items ≡ 32 }
+    requires dst { ids_end lookup.now.dst.now.nodes.items ≤ size terms.old }
     requires slot { slot_end slot.now ≤ size terms.old }
     ensures builds { Builds terms.old terms.new }
     ensures within { IfOk result (λ r. list_end bgp_end r ≤ size terms.new) }
     ensures rows { IfOk result (λ r. All (HasTracked tracked.now) r) }
-    ensures value { Gives terms.new result (λ w r. (held : Slot) → all_tracked tracked.now file.now.policies ≡ true
-        → StandsBesideBgp w slot.now held
+    ensures value { Gives terms.new result (λ w r. (held : Slot)
+        → all_tracked tracked.now lookup.now.file.now.policies ≡ true → StandsBesideBgp w slot.now held
         → filter_map (bgp_of w) r ≡ map (bgp_shape tracked.now)
-        (origins.local_routes net.now.files router file.now process.now (prefix_of w dst.now len) held)) }
+        (origins.local_routes lookup.now.net.now.files lookup.now.router lookup.now.file.now process.now
+        (prefix_of w lookup.now.dst.now lookup.now.len) held)) }
 {
     let networks = process.networks.as_slice();
-    let made = by_networks(alloc, terms, tracked, file, networks, dst, len, slot)?;
+    let made = by_networks(alloc, terms, lookup, tracked, networks, slot)?;
     let lines = process.redistribute.as_slice();
-    let all = with_redistributed(
-        alloc, terms, net, tracked, router, file, lines, dst, len, slot, made,
-    )?;
+    let all = with_redistributed(alloc, terms, lookup, tracked, lines, slot, made)?;
     Ok(all)
 }
 
@@ -332,32 +316,27 @@ fn of_process(
 fn of_file(
     alloc: Global,
     terms: &mut Terms,
-    net: &Net,
+    lookup: &Lookup<'_>,
     tracked: &Tracked,
-    router: u32,
-    file: &File,
-    dst: &Bits,
-    len: u8,
     slot: &SymSlot,
 ) -> Result<List<SymBgp>, AllocError>
-    requires long { len ≤ 32 }
-    requires wide { length dst.now.nodes.items ≡ 32 }
-    requires dst { ids_end dst.now.nodes.items ≤ size terms.old }
+    requires long { lookup.now.len ≤ 32 }
+    requires wide { length lookup.now.dst.now.nodes.items ≡ 32 }
+    requires dst { ids_end lookup.now.dst.now.nodes.items ≤ size terms.old }
     requires slot { slot_end slot.now ≤ size terms.old }
     ensures builds { Builds terms.old terms.new }
     ensures within { IfOk result (λ r. list_end bgp_end r ≤ size terms.new) }
     ensures rows { IfOk result (λ r. All (HasTracked tracked.now) r) }
-    ensures value { Gives terms.new result (λ w r. (held : Slot) → all_tracked tracked.now file.now.policies ≡ true
-        → StandsBesideBgp w slot.now held
+    ensures value { Gives terms.new result (λ w r. (held : Slot)
+        → all_tracked tracked.now lookup.now.file.now.policies ≡ true → StandsBesideBgp w slot.now held
         → filter_map (bgp_of w) r ≡ map (bgp_shape tracked.now) (option_map_or (λ process.
-        origins.local_routes net.now.files router file.now process (prefix_of w dst.now len) held) file.now.bgp [])) }
+        origins.local_routes lookup.now.net.now.files lookup.now.router lookup.now.file.now process
+        (prefix_of w lookup.now.dst.now lookup.now.len) held) lookup.now.file.now.bgp [])) }
 {
-    match &file.bgp {
+    match &lookup.file.bgp {
         None => Ok(List::new(alloc)),
         Some(process) => {
-            let made = of_process(
-                alloc, terms, net, tracked, router, file, process, dst, len, slot,
-            )?;
+            let made = of_process(alloc, terms, lookup, tracked, process, slot)?;
             Ok(made)
         }
     }
@@ -392,17 +371,14 @@ pub fn sym_originate(
     match file_of(net.routers(), router) {
         None => Ok(List::new(alloc)),
         Some(file) => {
-            let made = of_file(
-                alloc,
-                terms,
+            let lookup = Lookup {
                 net,
-                net.tracked(),
                 router,
                 file,
                 dst,
                 len,
-                slot,
-            )?;
+            };
+            let made = of_file(alloc, terms, &lookup, net.tracked(), slot)?;
             Ok(made)
         }
     }

@@ -22,7 +22,7 @@ ghost use Rattle.term_store.specs.Reading.{Reads, Builds, Gives};
 ghost use Rattle.term_arith.specs.Bits.{bits, number, ids_end};
 
 use crate::brought::SymBrought;
-use crate::known::{held_parts, known_rec, put_held, word};
+use crate::known::{Known, held_parts, known_rec, put_held, word};
 use crate::prefixes::sym_classful;
 use crate::slots::{SymRib, SymSlot};
 use ios_ast::{DefaultOrigin, File, Ospf, Redist, Source};
@@ -175,17 +175,13 @@ fn plain_rec(
 {
     let valid = constant_node(terms, there)?;
     let med = word(alloc, terms, line.metric.unwrap_or(metric))?;
-    known_rec(
-        alloc,
-        terms,
-        tracked,
-        valid,
-        0,
-        0,
-        Origin::Incomplete,
-        med,
-        line.type1,
-    )
+    let known = Known {
+        weight: 0,
+        local_pref: 0,
+        origin: Origin::Incomplete,
+        type1: line.type1,
+    };
+    known_rec(alloc, terms, tracked, valid, &known, med)
 }
 
 /// What it sees of a held BGP route: its path and communities besides.

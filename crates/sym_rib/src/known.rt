@@ -25,6 +25,15 @@ use term_arith::gates::constant_node;
 use term_arith::{Bits, constant, copy};
 use term_store::{NodeId, Terms};
 
+/// What is known of a route with an empty path and no communities, beside its metric.
+#[derive(Clone, Copy)]
+pub(crate) struct Known {
+    pub(crate) weight: u32,
+    pub(crate) local_pref: u32,
+    pub(crate) origin: Origin,
+    pub(crate) type1: bool,
+}
+
 /// A number of 32 bits that is known.
 pub(crate) fn word(alloc: Global, terms: &mut Terms, value: u32) -> Result<Bits, AllocError>
     ensures builds { Builds terms.old terms.new }
@@ -50,9 +59,7 @@ fn number_of_origin(origin: Origin) -> u64
 fn known_preferences(
     alloc: Global,
     terms: &mut Terms,
-    weight: u32,
-    local_pref: u32,
-    origin: Origin,
+    known: &Known,
     med: Bits,
 ) -> Result<SymPreferences, AllocError>
     requires wide { length med.nodes.items ≡ 32 }
@@ -60,15 +67,15 @@ fn known_preferences(
     ensures builds { Builds terms.old terms.new }
     ensures within { IfOk result (λ r. preferences_end r ≤ size terms.new) }
     ensures value { Gives terms.new result (λ w r. preferences_at w r ≡ record {
-      weight = weight;
-      local_pref = local_pref;
+      weight = known.now.weight;
+      local_pref = known.now.local_pref;
       med = number w med.nodes.items;
-      origin = origin_code origin;
+      origin = origin_code known.now.origin;
     }) }
 {
-    let weight = word(alloc, terms, weight)?;
-    let local_pref = word(alloc, terms, local_pref)?;
-    let origin = constant(alloc, terms, number_of_origin(origin), 2)?;
+    let weight = word(alloc, terms, known.weight)?;
+    let local_pref = word(alloc, terms, known.local_pref)?;
+    let origin = constant(alloc, terms, number_of_origin(known.origin), 2)?;
     Ok(SymPreferences {
         weight,
         local_pref,
@@ -127,11 +134,8 @@ pub(crate) fn known_rec(
     terms: &mut Terms,
     tracked: &Tracked,
     valid: NodeId,
-    weight: u32,
-    local_pref: u32,
-    origin: Origin,
+    known: &Known,
     med: Bits,
-    type1: bool,
 ) -> Result<SymMapRec, AllocError>
     requires wide { length med.nodes.items ≡ 32 }
     requires valid { valid.0 < size terms.old }
@@ -144,10 +148,11 @@ pub(crate) fn known_rec(
     ensures own { Gives terms.new result (λ w r. IsOwn w tracked.now r) }
     ensures value { Gives terms.new result (λ w r. attributes_at w r
         ≡ route_shape tracked.now
-        (known_attributes weight local_pref (origin_code origin) type1 (number w med.nodes.items))) }
+        (known_attributes known.now.weight known.now.local_pref (origin_code known.now.origin) known.now.type1
+        (number w med.nodes.items))) }
 {
-    let preferences = known_preferences(alloc, terms, weight, local_pref, origin, med)?;
-    let route = known_route(alloc, terms, tracked, preferences, type1)?;
+    let preferences = known_preferences(alloc, terms, known, med)?;
+    let route = known_route(alloc, terms, tracked, preferences, known.type1)?;
     let rest = own_part(alloc, terms, tracked)?;
     Ok(joined(valid, route, rest))
 }

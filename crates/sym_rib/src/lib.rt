@@ -15,6 +15,7 @@ mod known;
 mod known_parts;
 pub mod laws;
 mod learnt;
+mod lookup;
 mod metric;
 mod metrics;
 mod places;

@@ -13,6 +13,7 @@ ghost use Rattle.term_store.specs.Reading.{Reads, Builds, Gives};
 ghost use Rattle.term_arith.specs.Bits.{number, ids_end};
 
 use crate::interfaces::sym_reached;
+use crate::lookup::Lookup;
 use crate::prefixes::sym_same_prefix;
 use crate::ribs::{closer_rib, entry_where};
 use crate::slots::SymRib;
@@ -21,7 +22,6 @@ use net_model::Net;
 use route_record::RibSource;
 use std::alloc::{AllocError, Global};
 use sym_policy::SymNet;
-use term_arith::Bits;
 use term_arith::gates::{both, constant_node, is_never};
 use term_store::{NodeId, Terms};
 
@@ -79,34 +79,31 @@ fn static_rib(
 fn after_static(
     alloc: Global,
     terms: &mut Terms,
-    net: &Net,
+    lookup: &Lookup<'_>,
     sym: &SymNet,
-    router: u32,
-    dst: &Bits,
-    len: u8,
     best: SymRib,
     route: &StaticRoute,
 ) -> Result<SymRib, AllocError>
-    requires long { len ≤ 32 }
-    requires wide { length dst.now.nodes.items ≡ 32 }
-    requires nodes { ids_end dst.now.nodes.items ≤ size terms.old }
+    requires long { lookup.now.len ≤ 32 }
+    requires wide { length lookup.now.dst.now.nodes.items ≡ 32 }
+    requires nodes { ids_end lookup.now.dst.now.nodes.items ≤ size terms.old }
     requires down { ids_end sym.now.down ≤ size terms.old }
     requires best { rib_end best ≤ size terms.old }
     ensures builds { Builds terms.old terms.new }
     ensures within { IfOk result (λ r. rib_end r ≤ size terms.new) }
     ensures numbered { Gives terms.new result (λ w r. IsNumbered w best → IsNumbered w r) }
     ensures value { Gives terms.new result (λ w r. rib_of w r ≡ closer_of (rib_of w best)
-        (static_entry (routing.up_interfaces net.now.files (failures_of w sym.now) router)
-        (prefix_of w dst.now len) route.now)) }
+        (static_entry (routing.up_interfaces lookup.now.net.now.files (failures_of w sym.now) lookup.now.router)
+        (prefix_of w lookup.now.dst.now lookup.now.len) route.now)) }
 {
-    if route.prefix.len != len {
+    if route.prefix.len != lookup.len {
         return Ok(best);
     }
-    let same = sym_same_prefix(terms, &route.prefix, dst, len)?;
+    let same = sym_same_prefix(terms, &route.prefix, lookup.dst, lookup.len)?;
     if is_never(terms, same) {
         return Ok(best);
     }
-    let next = static_rib(alloc, terms, net, sym, router, same, route)?;
+    let next = static_rib(alloc, terms, lookup.net, sym, lookup.router, same, route)?;
     closer_rib(alloc, terms, &best, &next)
 }
 
@@ -114,17 +111,14 @@ fn after_static(
 pub(crate) fn best_static(
     alloc: Global,
     terms: &mut Terms,
-    net: &Net,
+    lookup: &Lookup<'_>,
     sym: &SymNet,
-    router: u32,
-    dst: &Bits,
-    len: u8,
     first: SymRib,
     statics: &[StaticRoute],
 ) -> Result<SymRib, AllocError>
-    requires long { len ≤ 32 }
-    requires wide { length dst.now.nodes.items ≡ 32 }
-    requires nodes { ids_end dst.now.nodes.items ≤ size terms.old }
+    requires long { lookup.now.len ≤ 32 }
+    requires wide { length lookup.now.dst.now.nodes.items ≡ 32 }
+    requires nodes { ids_end lookup.now.dst.now.nodes.items ≤ size terms.old }
     requires down { ids_end sym.now.down ≤ size terms.old }
     requires first { rib_end first ≤ size terms.old }
     ensures builds { Builds terms.old terms.new }
@@ -132,12 +126,13 @@ pub(crate) fn best_static(
     ensures numbered { Gives terms.new result (λ w r. IsNumbered w first → IsNumbered w r) }
     ensures value { Gives terms.new result (λ w r. rib_of w r
         ≡ fold routing.closer (rib_of w first) (map static_candidate
-        (routing.static_routes (routing.up_interfaces net.now.files (failures_of w sym.now) router) statics.now
-        (prefix_of w dst.now len)))) }
+        (routing.static_routes
+        (routing.up_interfaces lookup.now.net.now.files (failures_of w sym.now) lookup.now.router) statics.now
+        (prefix_of w lookup.now.dst.now lookup.now.len)))) }
 {
     let mut best = first;
     for route in statics {
-        best = after_static(alloc, terms, net, sym, router, dst, len, best, route)?;
+        best = after_static(alloc, terms, lookup, sym, best, route)?;
     }
     Ok(best)
 }

@@ -17,18 +17,19 @@ returns-clause-value c = IfOk-weaker c.local_bgp.result _ _ (λ rec read. λ w r
     let metric = c.in_ok-metric.ensures in
     let before_made = c.local_bgp.ensures.builds.reads w reads in
     let before_metric = metric.builds.reads w before_made in
-    let p = prefix_of w c.args.dst.now c.args.len in
+    let lookup = c.args.lookup.now in
+    let p = prefix_of w lookup.dst.now lookup.len in
     let line = c.args.line.now in
     let shape = bgp_shape c.args.tracked.now in
     let route : ℕ → Option BgpRec =
-    λ med. local_through c.args.file.now line.map p (local_route Incomplete med) in
+    λ med. local_through lookup.file.now line.map p (local_route Incomplete med) in
     let named : ℕ → ℕ = unwrap_or line.metric in
     let of_entry : RibEntry → Option ℕ =
-    λ e. taken_metric c.args.net.now.files c.args.router p held line e.source in
+    λ e. taken_metric lookup.net.now.files lookup.router p held line e.source in
     let shaped : Option ℕ → Option BgpShape = λ m. option_map shape (option_and_then route m) in
     read w reads all
     ∙ ap shaped (metric.value w before_made
     ∙ ap (option_map named) (c.in_ok-taken.ensures.value w before_metric held stands.ospf stands.rib))
     ∙ ap (option_map shape) (line_by (is_default p) route named of_entry held.rib
-    (false_from_ne_true (c.args.len == 0) (λ yes. c.if-len-eq0.false (eqb-true c.args.len 0 yes)))))
+    (false_from_ne_true (lookup.len == 0) (λ yes. c.if-lookup-eq0.false (eqb-true lookup.len 0 yes)))))
     c.local_bgp.ensures.value

@@ -27,10 +27,10 @@ returns-clause-value c = λ w reads all.
     let before = c.in_ok-before.ensures in
     let before_left = left.builds.reads w reads in
     let tracked = c.args.tracked.now in
-    let policies = c.args.file.now.policies in
+    let policies = c.args.lookup.now.file.now.policies in
     let used = c.args.used.now in
     let origin = c.args.origin in
-    let p = prefix_of w c.args.dst.now c.args.len in
+    let p = prefix_of w c.args.lookup.now.dst.now c.args.lookup.now.len in
     let metric = metric_of w c.args.metric in
     let seen : Option Attributes = option_map (λ med. attributes_of (local_route origin med)) metric in
     record_stands w tracked c.in_ok-left.left (option_and_then (through_map policies used p false) seen)

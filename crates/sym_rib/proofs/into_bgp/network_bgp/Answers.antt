@@ -19,10 +19,11 @@ returns-clause-value c = IfOk-weaker c.local_bgp.result _ _ (λ rec read. λ w r
     let before_made = c.local_bgp.ensures.builds.reads w reads in
     let before_here = here.builds.reads w before_made in
     let before_metric = metric.builds.reads w before_here in
-    let p = prefix_of w c.args.dst.now c.args.len in
+    let lookup = c.args.lookup.now in
+    let p = prefix_of w lookup.dst.now lookup.len in
     let line = c.args.line.now in
     let route : ℕ → Option BgpRec =
-    λ med. local_through c.args.file.now line.map p (local_route Igp med) in
+    λ med. local_through lookup.file.now line.map p (local_route Igp med) in
     let shaped : Option ℕ → Option BgpShape =
     λ m. option_map (bgp_shape c.args.tracked.now) (option_and_then route m) in
     let where_same : Bool → Option ℕ → Option ℕ = λ same m. if same then m else None in

@@ -8,8 +8,9 @@ use Rattle.sym_rib.proofs.into_bgp.of_file.Goals as goal
 
 pub returns-in_ok-made-in-Some-clause-value : goal.returns-in_ok-made-in-Some-clause-value
 returns-in_ok-made-in-Some-clause-value c = λ w reads held all stands.
-    let p = prefix_of w c.args.dst.now c.args.len in
+    let lookup = c.args.lookup.now in
+    let p = prefix_of w lookup.dst.now lookup.len in
     let made : Option Bgp → List BgpShape =
     λ o. map (bgp_shape c.args.tracked.now) (option_map_or
-    (λ process. local_routes c.args.net.now.files c.args.router c.args.file.now process p held) o []) in
+    (λ process. local_routes lookup.net.now.files lookup.router lookup.file.now process p held) o []) in
     c.in_ok-made-in-Some.ensures.value w reads held all stands ∙ ap made (sym c.in-Some.is)

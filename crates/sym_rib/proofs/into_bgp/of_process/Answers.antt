@@ -10,11 +10,12 @@ pub returns-clause-value : goal.returns-clause-value
 unfolding local_routes
 returns-clause-value c = λ w reads held all stands.
     let whole = c.in_ok-all.ensures in
-    let p = prefix_of w c.args.dst.now c.args.len in
+    let lookup = c.args.lookup.now in
+    let p = prefix_of w lookup.dst.now lookup.len in
     let shape = bgp_shape c.args.tracked.now in
     let process = c.args.process.now in
-    let of_network = by_network c.args.file.now p held in
-    let of_line = into_bgp c.args.net.now.files c.args.router c.args.file.now p held in
+    let of_network = by_network lookup.file.now p held in
+    let of_line = into_bgp lookup.net.now.files lookup.router lookup.file.now p held in
     whole.value w reads held all stands
     ∙ ap₂ (λ a b. a ++ b)
     (c.in_ok-made.ensures.value w (whole.builds.reads w reads) held all stands

@@ -12,6 +12,7 @@ use Rattle.sym_rib.proofs.into_bgp.with_redistributed.Goals as goal
 
 pub loop-line-preserved : goal.loop-line-preserved
 loop-line-preserved c =
+    let lookup = c.args.lookup.now in
     let old = c.loop-line.invariant in
     let rec = c.in_ok-rec.ensures in
     record {
@@ -23,7 +24,7 @@ loop-line-preserved c =
       value = λ w reads held all stands.
           ap (filter_map (bgp_of w)) c.in_ok-put_bgp.ensures
           ∙ lines_step (bgp_of w) (bgp_shape c.args.tracked.now)
-          (into_bgp c.args.net.now.files c.args.router c.args.file.now (prefix_of w c.args.dst.now c.args.len) held)
+          (into_bgp lookup.net.now.files lookup.router lookup.file.now (prefix_of w lookup.dst.now lookup.len) held)
           (filter_map (bgp_of w) c.args.before)
           c.loop-line.made c.in_ok-rec.rec c.args.lines.now c.loop-line.line-index c.line-item.result (omega arith)
           c.line-item.is (rec.value w reads held all stands)
@@ -32,8 +33,9 @@ loop-line-preserved c =
 
 pub returns-clause-value : goal.returns-clause-value
 returns-clause-value c = λ w reads held all stands.
-    let of_line = into_bgp c.args.net.now.files c.args.router c.args.file.now
-    (prefix_of w c.args.dst.now c.args.len) held in
+    let lookup = c.args.lookup.now in
+    let of_line = into_bgp lookup.net.now.files lookup.router lookup.file.now
+    (prefix_of w lookup.dst.now lookup.len) held in
     c.loop-line.invariant.value w reads held all stands
     ∙ ap (λ ls. filter_map (bgp_of w) c.args.before ++ map (bgp_shape c.args.tracked.now) (filter_map of_line ls))
     (take_all c.loop-line.line-index c.args.lines.now c.loop-line-test.false)

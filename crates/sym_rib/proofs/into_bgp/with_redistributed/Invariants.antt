@@ -18,9 +18,10 @@ invariant-loop-line l = record {
   builds : Builds l.fn.terms l.terms;
   within : list_end bgp_end l.made ≤ size l.terms;
   rows : All (HasTracked l.tracked) l.fn.before → All (HasTracked l.tracked) l.made;
-  value : (w : Reading) → Reads w l.terms → (held : Slot) → all_tracked l.tracked l.file.policies ≡ true
+  value : (w : Reading) → Reads w l.terms → (held : Slot) → all_tracked l.tracked l.lookup.file.now.policies ≡ true
       → StandsBesideBgp w l.slot held
       → filter_map (bgp_of w) l.made
       ≡ filter_map (bgp_of w) l.fn.before ++ map (bgp_shape l.tracked)
-      (filter_map (into_bgp l.net.files l.router l.file (prefix_of w l.dst l.len) held) (take l.line-index l.lines));
+      (filter_map (into_bgp l.lookup.net.now.files l.lookup.router l.lookup.file.now
+      (prefix_of w l.lookup.dst.now l.lookup.len) held) (take l.line-index l.lines));
 }

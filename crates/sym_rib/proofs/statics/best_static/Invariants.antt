@@ -16,8 +16,9 @@ invariant-loop-route l = record {
   numbered : (w : Reading) → Reads w l.terms → IsNumbered w l.fn.first → IsNumbered w l.best;
   value : (w : Reading) → Reads w l.terms
       → fold closer (rib_of w l.best) (map static_candidate
-      (static_routes (up_interfaces l.net.files (failures_of w l.sym) l.router) (drop l.route-index l.statics)
-      (prefix_of w l.dst l.len)))
+      (static_routes (up_interfaces l.lookup.net.now.files (failures_of w l.sym) l.lookup.router)
+      (drop l.route-index l.statics) (prefix_of w l.lookup.dst.now l.lookup.len)))
       ≡ fold closer (rib_of w l.fn.first) (map static_candidate
-      (static_routes (up_interfaces l.net.files (failures_of w l.sym) l.router) l.statics (prefix_of w l.dst l.len)));
+      (static_routes (up_interfaces l.lookup.net.now.files (failures_of w l.sym) l.lookup.router) l.statics
+      (prefix_of w l.lookup.dst.now l.lookup.len)));
 }
