@@ -28,10 +28,10 @@ use crate::lists::{sym_passes_paths, sym_passes_prefixes};
 use crate::messages::{sym_external, sym_internal};
 use crate::metrics::sym_keeps_metric;
 use crate::parts::SymCrossing;
-use crate::routers::{own_address, side_of};
-use crate::through::{copied, nothing, sym_mapped};
+use crate::routers::{Session, own_address, side_of};
+use crate::through::{Applied, copied, nothing, sym_mapped};
 use crate::ways::sym_crossing;
-use ios_ast::{Bgp, File, Neighbour, Policies};
+use ios_ast::Neighbour;
 use mw_text::Addr;
 use net_interfaces::Addressed;
 use net_model::Net;
@@ -114,26 +114,31 @@ fn sym_may_go(
 fn sym_passes_out(
     alloc: Global,
     terms: &mut Terms,
-    tracked: &Tracked,
-    policies: &Policies,
+    by: &Applied<'_>,
     neighbour: &Neighbour,
-    dst: &Bits,
-    len: u8,
     held: &SymBgp,
 ) -> Result<NodeId, AllocError>
-    requires long { len ≤ 32 }
-    requires wide { length dst.now.nodes.items ≡ 32 }
-    requires dst { ids_end dst.now.nodes.items ≤ size terms.old }
+    requires long { by.now.len ≤ 32 }
+    requires wide { length by.now.dst.now.nodes.items ≡ 32 }
+    requires dst { ids_end by.now.dst.now.nodes.items ≤ size terms.old }
     requires nodes { bgp_end held.now ≤ size terms.old }
     ensures builds { Builds terms.old terms.new }
     ensures within { IfOk result (λ r. r.0 < size terms.new) }
     ensures value { Gives terms.new result (λ w r. at w r
-        ≡ (exports.passes_prefixes policies.now neighbour.now.prefix_out (prefix_of w dst.now len)
-        && shape_passes_paths tracked.now policies.now neighbour.now.filter_out (bgp_at w held.now).path)) }
+        ≡ (exports.passes_prefixes by.now.policies.now neighbour.now.prefix_out (prefix_of w by.now.dst.now by.now.len)
+        && shape_passes_paths by.now.tracked.now by.now.policies.now neighbour.now.filter_out
+        (bgp_at w held.now).path)) }
 {
     let path = path_of(alloc, held)?;
-    let prefixes = sym_passes_prefixes(alloc, terms, policies, &neighbour.prefix_out, dst, len)?;
-    let paths = sym_passes_paths(terms, tracked, policies, &neighbour.filter_out, &path)?;
+    let prefixes = sym_passes_prefixes(
+        alloc,
+        terms,
+        by.policies,
+        &neighbour.prefix_out,
+        by.dst,
+        by.len,
+    )?;
+    let paths = sym_passes_paths(terms, by.tracked, by.policies, &neighbour.filter_out, &path)?;
     let passes = both(terms, prefixes, paths)?;
     Ok(passes)
 }
@@ -142,30 +147,27 @@ fn sym_passes_out(
 fn sym_goes(
     alloc: Global,
     terms: &mut Terms,
-    tracked: &Tracked,
-    file: &File,
+    by: &Applied<'_>,
     neighbour: &Neighbour,
     end: &SessionEnd,
-    dst: &Bits,
-    len: u8,
     held: &SymBgp,
     x: &SymCrossing,
 ) -> Result<NodeId, AllocError>
-    requires long { len ≤ 32 }
-    requires wide { length dst.now.nodes.items ≡ 32 }
-    requires dst { ids_end dst.now.nodes.items ≤ size terms.old }
+    requires long { by.now.len ≤ 32 }
+    requires wide { length by.now.dst.now.nodes.items ≡ 32 }
+    requires dst { ids_end by.now.dst.now.nodes.items ≤ size terms.old }
     requires way { crossing_end x.now ≤ size terms.old }
     requires nodes { bgp_end held.now ≤ size terms.old }
     ensures builds { Builds terms.old terms.new }
     ensures within { IfOk result (λ r. r.0 < size terms.new) }
     ensures value { Gives terms.new result (λ w r. at w r
-        ≡ (exporting.shape_may_go tracked.now end.now (bgp_at w held.now) (crossing_at w x.now)
-        && (exports.passes_prefixes file.now.policies neighbour.now.prefix_out (prefix_of w dst.now len)
-        && shape_passes_paths tracked.now file.now.policies neighbour.now.filter_out (bgp_at w held.now).path))) }
+        ≡ (exporting.shape_may_go by.now.tracked.now end.now (bgp_at w held.now) (crossing_at w x.now)
+        && (exports.passes_prefixes by.now.policies.now neighbour.now.prefix_out (prefix_of w by.now.dst.now by.now.len)
+        && shape_passes_paths by.now.tracked.now by.now.policies.now neighbour.now.filter_out
+        (bgp_at w held.now).path))) }
 {
-    let may = sym_may_go(terms, tracked, end, held, x)?;
-    let policies = &file.policies;
-    let passes = sym_passes_out(alloc, terms, tracked, policies, neighbour, dst, len, held)?;
+    let may = sym_may_go(terms, by.tracked, end, held, x)?;
+    let passes = sym_passes_out(alloc, terms, by, neighbour, held)?;
     let goes = both(terms, may, passes)?;
     Ok(goes)
 }
@@ -176,35 +178,47 @@ fn sym_goes(
 fn sym_message(
     alloc: Global,
     terms: &mut Terms,
-    tracked: &Tracked,
-    files: &[File],
-    process: &Bgp,
-    neighbour: &Neighbour,
-    end: &SessionEnd,
+    session: &Session<'_>,
     own: Addr,
-    id: Addr,
     keeps: NodeId,
     x: &SymCrossing,
     left: &SymBgp,
 ) -> Result<SymBgp, AllocError>
-    requires own { own ≡ exports.own_address files.now end.now }
-    requires id { id ≡ exports.router_id files.now end.now.router }
-    requires marks { HasMarks tracked.now left.now }
+    requires own { own ≡ exports.own_address session.now.files.now session.now.end.now }
+    requires id { session.now.id ≡ exports.router_id session.now.files.now session.now.end.now.router }
+    requires marks { HasMarks session.now.tracked.now left.now }
     requires keeps { keeps.0 < size terms.old }
     requires way { crossing_end x.now ≤ size terms.old }
     requires nodes { bgp_end left.now ≤ size terms.old }
     ensures builds { Builds terms.old terms.new }
     ensures within { IfOk result (λ r. bgp_end r ≤ size terms.new) }
-    ensures marks { IfOk result (λ r. HasMarks tracked.now r) }
+    ensures marks { IfOk result (λ r. HasMarks session.now.tracked.now r) }
     ensures value { Gives terms.new result (λ w r. bgp_of w r ≡ option_map
-        (sent_of tracked.now files.now process.now neighbour.now end.now (at w keeps) (crossing_at w x.now))
-        (bgp_of w left.now)) }
+        (sent_of session.now.tracked.now session.now.files.now session.now.process.now session.now.neighbour.now
+        session.now.end.now (at w keeps) (crossing_at w x.now)) (bgp_of w left.now)) }
 {
-    let _routers = files.len();
-    if end.internal {
-        sym_internal(alloc, terms, tracked, neighbour, own, id, x, left)
+    if session.end.internal {
+        sym_internal(
+            alloc,
+            terms,
+            session.tracked,
+            session.neighbour,
+            own,
+            session.id,
+            x,
+            left,
+        )
     } else {
-        sym_external(alloc, terms, tracked, process, neighbour, own, keeps, left)
+        sym_external(
+            alloc,
+            terms,
+            session.tracked,
+            session.process,
+            session.neighbour,
+            own,
+            keeps,
+            left,
+        )
     }
 }
 
@@ -212,76 +226,68 @@ fn sym_message(
 fn sym_keeps(
     alloc: Global,
     terms: &mut Terms,
-    tracked: &Tracked,
-    file: &File,
+    by: &Applied<'_>,
     neighbour: &Neighbour,
     end: &SessionEnd,
-    dst: &Bits,
-    len: u8,
     held: &SymBgp,
 ) -> Result<NodeId, AllocError>
-    requires long { len ≤ 32 }
-    requires wide { length dst.now.nodes.items ≡ 32 }
-    requires dst { ids_end dst.now.nodes.items ≤ size terms.old }
-    requires marks { HasMarks tracked.now held.now }
+    requires long { by.now.len ≤ 32 }
+    requires wide { length by.now.dst.now.nodes.items ≡ 32 }
+    requires dst { ids_end by.now.dst.now.nodes.items ≤ size terms.old }
+    requires marks { HasMarks by.now.tracked.now held.now }
     requires nodes { bgp_end held.now ≤ size terms.old }
     ensures builds { Builds terms.old terms.new }
     ensures within { IfOk result (λ r. r.0 < size terms.new) }
     ensures value { Gives terms.new result (λ w r. end.now.internal ≡ false → at w r
         ≡ (((bgp_at w held.now).path.len == 0)
-        || shape_sets_metric tracked.now file.now.policies neighbour.now.map_out (prefix_of w dst.now len)
-        (seen_by_maps (bgp_at w held.now)))) }
+        || shape_sets_metric by.now.tracked.now by.now.policies.now neighbour.now.map_out
+        (prefix_of w by.now.dst.now by.now.len) (seen_by_maps (bgp_at w held.now)))) }
 {
     if end.internal {
         return constant_node(terms, false);
     }
-    let policies = &file.policies;
-    let used = &neighbour.map_out;
-    sym_keeps_metric(alloc, terms, policies, tracked, used, dst, len, held)
+    sym_keeps_metric(alloc, terms, by, &neighbour.map_out, held)
 }
 
 /// The message after the outgoing lists and the outgoing map, by how the route crosses the router.
 fn sym_sent_by(
     alloc: Global,
     terms: &mut Terms,
-    tracked: &Tracked,
-    files: &[File],
-    file: &File,
-    process: &Bgp,
-    neighbour: &Neighbour,
-    end: &SessionEnd,
+    session: &Session<'_>,
     own: Addr,
-    id: Addr,
     dst: &Bits,
     len: u8,
     held: &SymBgp,
     x: &SymCrossing,
 ) -> Result<SymBgp, AllocError>
-    requires own { own ≡ exports.own_address files.now end.now }
-    requires id { id ≡ exports.router_id files.now end.now.router }
+    requires own { own ≡ exports.own_address session.now.files.now session.now.end.now }
+    requires id { session.now.id ≡ exports.router_id session.now.files.now session.now.end.now.router }
     requires long { len ≤ 32 }
     requires wide { length dst.now.nodes.items ≡ 32 }
     requires dst { ids_end dst.now.nodes.items ≤ size terms.old }
-    requires marks { HasMarks tracked.now held.now }
+    requires marks { HasMarks session.now.tracked.now held.now }
     requires way { crossing_end x.now ≤ size terms.old }
     requires nodes { bgp_end held.now ≤ size terms.old }
     ensures builds { Builds terms.old terms.new }
     ensures within { IfOk result (λ r. bgp_end r ≤ size terms.new) }
-    ensures marks { IfOk result (λ r. HasMarks tracked.now r) }
+    ensures marks { IfOk result (λ r. HasMarks session.now.tracked.now r) }
     ensures value { Gives terms.new result (λ w r. bgp_of w r ≡ option_and_then
-        (λ s. exporting.shape_sent_by tracked.now files.now file.now process.now neighbour.now end.now
-        (prefix_of w dst.now len) s (crossing_at w x.now)) (bgp_of w held.now)) }
+        (λ s. exporting.shape_sent_by session.now.tracked.now session.now.files.now session.now.file.now
+        session.now.process.now session.now.neighbour.now session.now.end.now (prefix_of w dst.now len) s
+        (crossing_at w x.now)) (bgp_of w held.now)) }
 {
-    let goes = sym_goes(
-        alloc, terms, tracked, file, neighbour, end, dst, len, held, x,
-    )?;
-    let keeps = sym_keeps(alloc, terms, tracked, file, neighbour, end, dst, len, held)?;
-    let left = left_out(
-        alloc, terms, tracked, file, neighbour, end, dst, len, held, goes,
-    )?;
-    let made = sym_message(
-        alloc, terms, tracked, files, process, neighbour, end, own, id, keeps, x, &left,
-    )?;
+    let by = Applied {
+        policies: &session.file.policies,
+        tracked: session.tracked,
+        dst,
+        len,
+    };
+    let neighbour = session.neighbour;
+    let end = session.end;
+    let goes = sym_goes(alloc, terms, &by, neighbour, end, held, x)?;
+    let keeps = sym_keeps(alloc, terms, &by, neighbour, end, held)?;
+    let left = left_out(alloc, terms, &by, neighbour, end, held, goes)?;
+    let made = sym_message(alloc, terms, session, own, keeps, x, &left)?;
     Ok(made)
 }
 
@@ -289,36 +295,31 @@ fn sym_sent_by(
 fn left_out(
     alloc: Global,
     terms: &mut Terms,
-    tracked: &Tracked,
-    file: &File,
+    by: &Applied<'_>,
     neighbour: &Neighbour,
     end: &SessionEnd,
-    dst: &Bits,
-    len: u8,
     held: &SymBgp,
     goes: NodeId,
 ) -> Result<SymBgp, AllocError>
-    requires long { len ≤ 32 }
-    requires wide { length dst.now.nodes.items ≡ 32 }
-    requires dst { ids_end dst.now.nodes.items ≤ size terms.old }
-    requires marks { HasMarks tracked.now held.now }
+    requires long { by.now.len ≤ 32 }
+    requires wide { length by.now.dst.now.nodes.items ≡ 32 }
+    requires dst { ids_end by.now.dst.now.nodes.items ≤ size terms.old }
+    requires marks { HasMarks by.now.tracked.now held.now }
     requires goes { goes.0 < size terms.old }
     requires nodes { bgp_end held.now ≤ size terms.old }
     ensures builds { Builds terms.old terms.new }
     ensures within { IfOk result (λ r. bgp_end r ≤ size terms.new) }
-    ensures marks { IfOk result (λ r. HasMarks tracked.now r) }
+    ensures marks { IfOk result (λ r. HasMarks by.now.tracked.now r) }
     ensures value { Gives terms.new result (λ w r. bgp_of w r ≡ option_and_then
-        (shape_through tracked.now file.now.policies neighbour.now.map_out (prefix_of w dst.now len)
-        (not end.now.internal)) (if at w held.now.valid && at w goes then Some (bgp_at w held.now) else None)) }
+        (shape_through by.now.tracked.now by.now.policies.now neighbour.now.map_out
+        (prefix_of w by.now.dst.now by.now.len) (not end.now.internal))
+        (if at w held.now.valid && at w goes then Some (bgp_at w held.now) else None)) }
 {
     let there = both(terms, held.valid, goes)?;
-    let before = copied(alloc, terms, tracked, there, held)?;
+    let before = copied(alloc, terms, by.tracked, there, held)?;
     let side = side_of(end);
-    let policies = &file.policies;
     let used = &neighbour.map_out;
-    let left = sym_mapped(
-        alloc, terms, tracked, policies, used, dst, len, before, side,
-    )?;
+    let left = sym_mapped(alloc, terms, by, used, before, side)?;
     Ok(left)
 }
 
@@ -326,42 +327,31 @@ fn left_out(
 fn sym_sent(
     alloc: Global,
     terms: &mut Terms,
-    tracked: &Tracked,
-    files: &[File],
+    session: &Session<'_>,
     addresses: &[Addressed],
     ends: &[SessionEnd],
-    file: &File,
-    process: &Bgp,
-    neighbour: &Neighbour,
-    end: &SessionEnd,
-    id: Addr,
     dst: &Bits,
     len: u8,
     held: &SymBgp,
 ) -> Result<SymBgp, AllocError>
-    requires addresses { addresses.now ≡ addressed files.now }
-    requires ends { ends.now ≡ ends_of files.now }
-    requires id { id ≡ exports.router_id files.now end.now.router }
+    requires addresses { addresses.now ≡ addressed session.now.files.now }
+    requires ends { ends.now ≡ ends_of session.now.files.now }
+    requires id { session.now.id ≡ exports.router_id session.now.files.now session.now.end.now.router }
     requires long { len ≤ 32 }
     requires wide { length dst.now.nodes.items ≡ 32 }
     requires dst { ids_end dst.now.nodes.items ≤ size terms.old }
-    requires marks { HasMarks tracked.now held.now }
+    requires marks { HasMarks session.now.tracked.now held.now }
     requires nodes { bgp_end held.now ≤ size terms.old }
     ensures builds { Builds terms.old terms.new }
     ensures within { IfOk result (λ r. bgp_end r ≤ size terms.new) }
-    ensures marks { IfOk result (λ r. HasMarks tracked.now r) }
+    ensures marks { IfOk result (λ r. HasMarks session.now.tracked.now r) }
     ensures value { Gives terms.new result (λ w r. bgp_of w r ≡ option_and_then
-        (exporting.shape_sent tracked.now files.now file.now process.now neighbour.now end.now
-        (prefix_of w dst.now len)) (bgp_of w held.now)) }
+        (exporting.shape_sent session.now.tracked.now session.now.files.now session.now.file.now session.now.process.now
+        session.now.neighbour.now session.now.end.now (prefix_of w dst.now len)) (bgp_of w held.now)) }
 {
-    let own = own_address(files, addresses, end);
-    let from = &held.from;
-    let x = sym_crossing(
-        alloc, terms, files, addresses, ends, process, neighbour, end, from,
-    )?;
-    let made = sym_sent_by(
-        alloc, terms, tracked, files, file, process, neighbour, end, own, id, dst, len, held, &x,
-    )?;
+    let own = own_address(session.files, addresses, session.end);
+    let x = sym_crossing(alloc, terms, session, addresses, ends, &held.from)?;
+    let made = sym_sent_by(alloc, terms, session, own, dst, len, held, &x)?;
     Ok(made)
 }
 
@@ -370,39 +360,51 @@ fn sym_sent(
 fn sym_exported(
     alloc: Global,
     terms: &mut Terms,
-    tracked: &Tracked,
-    files: &[File],
-    addresses: &[Addressed],
-    ends: &[SessionEnd],
+    net: &Net,
     end: &SessionEnd,
     id: Addr,
     dst: &Bits,
     len: u8,
     held: &SymBgp,
 ) -> Result<SymBgp, AllocError>
-    requires addresses { addresses.now ≡ addressed files.now }
-    requires ends { ends.now ≡ ends_of files.now }
-    requires id { id ≡ exports.router_id files.now end.now.router }
+    requires id { id ≡ exports.router_id net.now.files end.now.router }
     requires long { len ≤ 32 }
     requires wide { length dst.now.nodes.items ≡ 32 }
     requires dst { ids_end dst.now.nodes.items ≤ size terms.old }
-    requires marks { HasMarks tracked.now held.now }
+    requires marks { HasMarks net.now.tracked held.now }
     requires nodes { bgp_end held.now ≤ size terms.old }
     ensures builds { Builds terms.old terms.new }
     ensures within { IfOk result (λ r. bgp_end r ≤ size terms.new) }
-    ensures marks { IfOk result (λ r. HasMarks tracked.now r) }
+    ensures marks { IfOk result (λ r. HasMarks net.now.tracked r) }
     ensures value { Gives terms.new result (λ w r. bgp_of w r
-        ≡ option_and_then (exporting.shape_exported tracked.now files.now end.now (prefix_of w dst.now len))
+        ≡ option_and_then (exporting.shape_exported net.now.tracked net.now.files end.now (prefix_of w dst.now len))
         (bgp_of w held.now)) }
 {
+    let files = net.routers();
+    let tracked = net.tracked();
     let Some(file) = file_of(files, end.router) else {
         return nothing(alloc, terms, tracked, held);
     };
     let (Some(process), Some(neighbour)) = (&file.bgp, neighbour_of(files, end)) else {
         return nothing(alloc, terms, tracked, held);
     };
+    let session = Session {
+        tracked,
+        files,
+        file,
+        process,
+        neighbour,
+        end,
+        id,
+    };
     sym_sent(
-        alloc, terms, tracked, files, addresses, ends, file, process, neighbour, end, id, dst, len,
+        alloc,
+        terms,
+        &session,
+        net.addresses(),
+        net.ends(),
+        dst,
+        len,
         held,
     )
 }
@@ -433,13 +435,9 @@ fn export_at(
 {
     let ends = net.ends();
     let at = ends[end as usize];
-    let files = net.routers();
-    let addresses = net.addresses();
-    let tracked = net.tracked();
-    let id = router_id(alloc, files, addresses, at.router)?;
-    sym_exported(
-        alloc, terms, tracked, files, addresses, ends, &at, id, dst, len, held,
-    )
+    let _tracked = net.tracked();
+    let id = router_id(alloc, net.routers(), net.addresses(), at.router)?;
+    sym_exported(alloc, terms, net, &at, id, dst, len, held)
 }
 
 /// What the router at an end sends over the session of the route that it holds for the prefix of that length of an

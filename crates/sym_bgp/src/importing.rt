@@ -24,9 +24,9 @@ ghost use Rattle.sym_policy.specs.Routes.{HasRows};
 ghost use Rattle.sym_bgp.specs.Joined.{HasMarks, rest_at, rest_of_shape, with_rest};
 
 use crate::lists::{sym_has_cluster, sym_passes_paths, sym_passes_prefixes};
-use crate::routers::{is_reflector, numbered, side_of};
-use crate::through::{nothing, sym_mapped};
-use ios_ast::{Bgp, File, Neighbour, Policies};
+use crate::routers::{Session, is_reflector, numbered, side_of};
+use crate::through::{Applied, nothing, sym_mapped};
+use ios_ast::{Bgp, Neighbour};
 use mw_text::Addr;
 use net_model::Net;
 use net_parts::SessionEnd;
@@ -108,25 +108,24 @@ fn sym_other_clusters(
 }
 
 /// Whether the router takes the message: no loop by its AS, by its identifier or by its cluster, and no path that is
-/// too long. `own` is its identifier.
+/// too long.
 fn sym_is_acceptable(
     alloc: Global,
     terms: &mut Terms,
-    tracked: &Tracked,
-    files: &[File],
-    router: u32,
-    process: &Bgp,
-    own: Addr,
+    session: &Session<'_>,
     message: &SymBgp,
 ) -> Result<NodeId, AllocError>
-    requires own { own ≡ exports.router_id files.now router }
+    requires id { session.now.id ≡ exports.router_id session.now.files.now session.now.end.now.router }
     requires nodes { bgp_end message.now ≤ size terms.old }
     ensures builds { Builds terms.old terms.new }
     ensures within { IfOk result (λ r. r.0 < size terms.new) }
     ensures value { Gives terms.new result (λ w r. at w r
-        ≡ importing.shape_is_acceptable tracked.now files.now router process.now (bgp_at w message.now)) }
+        ≡ importing.shape_is_acceptable session.now.tracked.now session.now.files.now session.now.end.now.router
+        session.now.process.now (bgp_at w message.now)) }
 {
-    let _routers = files.len();
+    let tracked = session.tracked;
+    let process = session.process;
+    let own = session.id;
     let straight = sym_goes_straight(terms, tracked, process, message)?;
     let back = equal_number(terms, message.originator.nodes.as_slice(), numbered(own))?;
     let other = negate(terms, back)?;
@@ -141,26 +140,31 @@ fn sym_is_acceptable(
 fn sym_passes_lists(
     alloc: Global,
     terms: &mut Terms,
-    tracked: &Tracked,
-    policies: &Policies,
+    by: &Applied<'_>,
     neighbour: &Neighbour,
-    dst: &Bits,
-    len: u8,
     message: &SymBgp,
 ) -> Result<NodeId, AllocError>
-    requires long { len ≤ 32 }
-    requires wide { length dst.now.nodes.items ≡ 32 }
-    requires dst { ids_end dst.now.nodes.items ≤ size terms.old }
+    requires long { by.now.len ≤ 32 }
+    requires wide { length by.now.dst.now.nodes.items ≡ 32 }
+    requires dst { ids_end by.now.dst.now.nodes.items ≤ size terms.old }
     requires nodes { bgp_end message.now ≤ size terms.old }
     ensures builds { Builds terms.old terms.new }
     ensures within { IfOk result (λ r. r.0 < size terms.new) }
     ensures value { Gives terms.new result (λ w r. at w r
-        ≡ (exports.passes_prefixes policies.now neighbour.now.prefix_in (prefix_of w dst.now len)
-        && shape_passes_paths tracked.now policies.now neighbour.now.filter_in (bgp_at w message.now).path)) }
+        ≡ (exports.passes_prefixes by.now.policies.now neighbour.now.prefix_in (prefix_of w by.now.dst.now by.now.len)
+        && shape_passes_paths by.now.tracked.now by.now.policies.now neighbour.now.filter_in
+        (bgp_at w message.now).path)) }
 {
     let path = path_of(alloc, message)?;
-    let prefixes = sym_passes_prefixes(alloc, terms, policies, &neighbour.prefix_in, dst, len)?;
-    let paths = sym_passes_paths(terms, tracked, policies, &neighbour.filter_in, &path)?;
+    let prefixes = sym_passes_prefixes(
+        alloc,
+        terms,
+        by.policies,
+        &neighbour.prefix_in,
+        by.dst,
+        by.len,
+    )?;
+    let paths = sym_passes_paths(terms, by.tracked, by.policies, &neighbour.filter_in, &path)?;
     let passes = both(terms, prefixes, paths)?;
     Ok(passes)
 }
@@ -169,18 +173,12 @@ fn sym_passes_lists(
 fn sym_takes_in(
     alloc: Global,
     terms: &mut Terms,
-    tracked: &Tracked,
-    files: &[File],
-    file: &File,
-    process: &Bgp,
-    neighbour: &Neighbour,
-    end: &SessionEnd,
-    own: Addr,
+    session: &Session<'_>,
     dst: &Bits,
     len: u8,
     message: &SymBgp,
 ) -> Result<NodeId, AllocError>
-    requires own { own ≡ exports.router_id files.now end.now.router }
+    requires id { session.now.id ≡ exports.router_id session.now.files.now session.now.end.now.router }
     requires long { len ≤ 32 }
     requires wide { length dst.now.nodes.items ≡ 32 }
     requires dst { ids_end dst.now.nodes.items ≤ size terms.old }
@@ -188,18 +186,21 @@ fn sym_takes_in(
     ensures builds { Builds terms.old terms.new }
     ensures within { IfOk result (λ r. r.0 < size terms.new) }
     ensures value { Gives terms.new result (λ w r. at w r
-        ≡ (importing.shape_is_acceptable tracked.now files.now end.now.router process.now (bgp_at w message.now)
-        && (exports.passes_prefixes file.now.policies neighbour.now.prefix_in (prefix_of w dst.now len)
-        && shape_passes_paths tracked.now file.now.policies neighbour.now.filter_in (bgp_at w message.now).path))) }
+        ≡ (importing.shape_is_acceptable session.now.tracked.now session.now.files.now session.now.end.now.router
+        session.now.process.now (bgp_at w message.now)
+        && (exports.passes_prefixes session.now.file.now.policies session.now.neighbour.now.prefix_in
+        (prefix_of w dst.now len)
+        && shape_passes_paths session.now.tracked.now session.now.file.now.policies session.now.neighbour.now.filter_in
+        (bgp_at w message.now).path))) }
 {
-    let router = end.router;
-    let acceptable = sym_is_acceptable(
-        alloc, terms, tracked, files, router, process, own, message,
-    )?;
-    let policies = &file.policies;
-    let passes = sym_passes_lists(
-        alloc, terms, tracked, policies, neighbour, dst, len, message,
-    )?;
+    let acceptable = sym_is_acceptable(alloc, terms, session, message)?;
+    let by = Applied {
+        policies: &session.file.policies,
+        tracked: session.tracked,
+        dst,
+        len,
+    };
+    let passes = sym_passes_lists(alloc, terms, &by, session.neighbour, message)?;
     let taken = both(terms, acceptable, passes)?;
     Ok(taken)
 }
@@ -353,81 +354,87 @@ fn if_short(terms: &mut Terms, tracked: &Tracked, route: SymBgp) -> Result<SymBg
 fn sym_taken_in(
     alloc: Global,
     terms: &mut Terms,
-    tracked: &Tracked,
-    files: &[File],
-    file: &File,
-    process: &Bgp,
-    neighbour: &Neighbour,
-    end: &SessionEnd,
-    own: Addr,
+    session: &Session<'_>,
     dst: &Bits,
     len: u8,
     message: &SymBgp,
 ) -> Result<SymBgp, AllocError>
-    requires own { own ≡ exports.router_id files.now end.now.router }
+    requires id { session.now.id ≡ exports.router_id session.now.files.now session.now.end.now.router }
     requires long { len ≤ 32 }
     requires wide { length dst.now.nodes.items ≡ 32 }
     requires dst { ids_end dst.now.nodes.items ≤ size terms.old }
-    requires marks { HasMarks tracked.now message.now }
+    requires marks { HasMarks session.now.tracked.now message.now }
     requires nodes { bgp_end message.now ≤ size terms.old }
     ensures builds { Builds terms.old terms.new }
     ensures within { IfOk result (λ r. bgp_end r ≤ size terms.new) }
-    ensures marks { IfOk result (λ r. HasMarks tracked.now r) }
-    ensures value { Gives terms.new result (λ w r. bgp_of w r
-        ≡ option_and_then (importing.shape_taken_in tracked.now files.now file.now process.now neighbour.now end.now
-        (prefix_of w dst.now len)) (bgp_of w message.now)) }
+    ensures marks { IfOk result (λ r. HasMarks session.now.tracked.now r) }
+    ensures value { Gives terms.new result (λ w r. bgp_of w r ≡ option_and_then
+        (importing.shape_taken_in session.now.tracked.now session.now.files.now session.now.file.now
+        session.now.process.now session.now.neighbour.now session.now.end.now (prefix_of w dst.now len))
+        (bgp_of w message.now)) }
 {
-    let takes = sym_takes_in(
-        alloc, terms, tracked, files, file, process, neighbour, end, own, dst, len, message,
-    )?;
+    let takes = sym_takes_in(alloc, terms, session, dst, len, message)?;
     let there = both(terms, message.valid, takes)?;
+    let tracked = session.tracked;
+    let neighbour = session.neighbour;
+    let end = session.end;
     let before = sym_received(alloc, terms, tracked, there, neighbour, end, message)?;
-    let policies = &file.policies;
-    let used = &neighbour.map_in;
+    let by = Applied {
+        policies: &session.file.policies,
+        tracked,
+        dst,
+        len,
+    };
     let side = side_of(end);
-    let left = sym_mapped(
-        alloc, terms, tracked, policies, used, dst, len, before, side,
-    )?;
+    let left = sym_mapped(alloc, terms, &by, &neighbour.map_in, before, side)?;
     let made = if_short(terms, tracked, left)?;
     Ok(made)
 }
 
-/// What the router at an end makes of a message that it receives over the session, if it takes it. `own` is the
-/// router's identifier.
+/// What the router at an end makes of a message that it receives over the session, if it takes it. `id` is the router's
+/// identifier.
 #[tactic(auto, using(crate::proofs::TakenIn::none_taken), unfolding(bgp_shapes::specs::Importing::shape_imported))]
 fn sym_imported(
     alloc: Global,
     terms: &mut Terms,
-    tracked: &Tracked,
-    files: &[File],
+    net: &Net,
     end: &SessionEnd,
-    own: Addr,
+    id: Addr,
     dst: &Bits,
     len: u8,
     message: &SymBgp,
 ) -> Result<SymBgp, AllocError>
-    requires own { own ≡ exports.router_id files.now end.now.router }
+    requires id { id ≡ exports.router_id net.now.files end.now.router }
     requires long { len ≤ 32 }
     requires wide { length dst.now.nodes.items ≡ 32 }
     requires dst { ids_end dst.now.nodes.items ≤ size terms.old }
-    requires marks { HasMarks tracked.now message.now }
+    requires marks { HasMarks net.now.tracked message.now }
     requires nodes { bgp_end message.now ≤ size terms.old }
     ensures builds { Builds terms.old terms.new }
     ensures within { IfOk result (λ r. bgp_end r ≤ size terms.new) }
-    ensures marks { IfOk result (λ r. HasMarks tracked.now r) }
+    ensures marks { IfOk result (λ r. HasMarks net.now.tracked r) }
     ensures value { Gives terms.new result (λ w r. bgp_of w r
-        ≡ option_and_then (importing.shape_imported tracked.now files.now end.now (prefix_of w dst.now len))
+        ≡ option_and_then (importing.shape_imported net.now.tracked net.now.files end.now (prefix_of w dst.now len))
         (bgp_of w message.now)) }
 {
+    let files = net.routers();
+    let tracked = net.tracked();
     let Some(file) = file_of(files, end.router) else {
         return nothing(alloc, terms, tracked, message);
     };
     let (Some(process), Some(neighbour)) = (&file.bgp, neighbour_of(files, end)) else {
         return nothing(alloc, terms, tracked, message);
     };
-    sym_taken_in(
-        alloc, terms, tracked, files, file, process, neighbour, end, own, dst, len, message,
-    )
+    let session = Session {
+        tracked,
+        files,
+        file,
+        process,
+        neighbour,
+        end,
+        id,
+    };
+    sym_taken_in(alloc, terms, &session, dst, len, message)
 }
 
 /// What the router at an end of the network makes of a message.
@@ -456,10 +463,9 @@ fn import_at(
 {
     let ends = net.ends();
     let at = ends[end as usize];
-    let files = net.routers();
-    let tracked = net.tracked();
-    let own = router_id(alloc, files, net.addresses(), at.router)?;
-    sym_imported(alloc, terms, tracked, files, &at, own, dst, len, message)
+    let _tracked = net.tracked();
+    let id = router_id(alloc, net.routers(), net.addresses(), at.router)?;
+    sym_imported(alloc, terms, net, &at, id, dst, len, message)
 }
 
 /// What the router at an end makes of a message for the prefix of that length of an address that it receives over the

@@ -17,40 +17,45 @@ ghost use Rattle.sym_policy.specs.Routes.{route_at, route_end};
 ghost use Rattle.sym_bgp.specs.Joined.{HasMarks};
 
 use crate::routers::sets_metric;
-use crate::through::seen_of;
-use ios_ast::{MapEntry, Policies, Use};
+use crate::through::{Applied, seen_of};
+use ios_ast::{MapEntry, Use};
 use policy_eval::map_named;
-use route_record::Tracked;
 use std::alloc::{AllocError, Global};
 use sym_policy::{SymBgp, SymRoute, ordered, sym_takes};
+use term_arith::equal_number;
 use term_arith::gates::{constant_node, either, select};
-use term_arith::{Bits, equal_number};
 use term_store::{NodeId, Terms};
 
 /// Whether an entry sets the metric of a route that it takes, and else what those behind it do.
 fn sym_entry_sets(
     alloc: Global,
     terms: &mut Terms,
-    policies: &Policies,
-    tracked: &Tracked,
-    dst: &Bits,
-    len: u8,
+    by: &Applied<'_>,
     route: &SymRoute,
     entry: &MapEntry,
     behind: NodeId,
 ) -> Result<NodeId, AllocError>
-    requires long { len ≤ 32 }
-    requires wide { length dst.now.nodes.items ≡ 32 }
-    requires dst { ids_end dst.now.nodes.items ≤ size terms.old }
+    requires long { by.now.len ≤ 32 }
+    requires wide { length by.now.dst.now.nodes.items ≡ 32 }
+    requires dst { ids_end by.now.dst.now.nodes.items ≤ size terms.old }
     requires nodes { route_end route.now ≤ size terms.old }
     requires behind { behind.0 < size terms.old }
     ensures builds { Builds terms.old terms.new }
     ensures within { IfOk result (λ r. r.0 < size terms.new) }
     ensures value { Gives terms.new result (λ w r. at w r
-        ≡ (if shape_route_taken policies.now tracked.now (prefix_of w dst.now len) (route_at w route.now) entry.now
-        then list_any exports.is_metric entry.now.sets else at w behind)) }
+        ≡ (if shape_route_taken by.now.policies.now by.now.tracked.now (prefix_of w by.now.dst.now by.now.len)
+        (route_at w route.now) entry.now then list_any exports.is_metric entry.now.sets else at w behind)) }
 {
-    let takes = sym_takes(alloc, terms, policies, tracked, dst, len, route, entry)?;
+    let takes = sym_takes(
+        alloc,
+        terms,
+        by.policies,
+        by.tracked,
+        by.dst,
+        by.len,
+        route,
+        entry,
+    )?;
     let sets = constant_node(terms, sets_metric(entry))?;
     select(terms, takes, sets, behind)
 }
@@ -59,29 +64,24 @@ fn sym_entry_sets(
 fn sym_entries_set(
     alloc: Global,
     terms: &mut Terms,
-    policies: &Policies,
-    tracked: &Tracked,
-    dst: &Bits,
-    len: u8,
+    by: &Applied<'_>,
     route: &SymRoute,
     entries: &[&MapEntry],
 ) -> Result<NodeId, AllocError>
-    requires long { len ≤ 32 }
-    requires wide { length dst.now.nodes.items ≡ 32 }
-    requires dst { ids_end dst.now.nodes.items ≤ size terms.old }
+    requires long { by.now.len ≤ 32 }
+    requires wide { length by.now.dst.now.nodes.items ≡ 32 }
+    requires dst { ids_end by.now.dst.now.nodes.items ≤ size terms.old }
     requires nodes { route_end route.now ≤ size terms.old }
     ensures builds { Builds terms.old terms.new }
     ensures within { IfOk result (λ r. r.0 < size terms.new) }
     ensures value { Gives terms.new result (λ w r. at w r ≡ option_map_or (λ e. list_any exports.is_metric e.sets)
-        (find (shape_route_taken policies.now tracked.now (prefix_of w dst.now len) (route_at w route.now))
-        (entries_of entries.now)) false) }
+        (find (shape_route_taken by.now.policies.now by.now.tracked.now (prefix_of w by.now.dst.now by.now.len)
+        (route_at w route.now)) (entries_of entries.now)) false) }
 {
     let mut rest = constant_node(terms, false)?;
     for i in (0..entries.len()).rev() {
         let entry = entries[i];
-        rest = sym_entry_sets(
-            alloc, terms, policies, tracked, dst, len, route, entry, rest,
-        )?;
+        rest = sym_entry_sets(alloc, terms, by, route, entry, rest)?;
     }
     Ok(rest)
 }
@@ -90,26 +90,23 @@ fn sym_entries_set(
 fn sym_deciding_sets(
     alloc: Global,
     terms: &mut Terms,
-    policies: &Policies,
-    tracked: &Tracked,
-    dst: &Bits,
-    len: u8,
+    by: &Applied<'_>,
     route: &SymRoute,
     entries: &[MapEntry],
 ) -> Result<NodeId, AllocError>
-    requires long { len ≤ 32 }
-    requires wide { length dst.now.nodes.items ≡ 32 }
-    requires dst { ids_end dst.now.nodes.items ≤ size terms.old }
+    requires long { by.now.len ≤ 32 }
+    requires wide { length by.now.dst.now.nodes.items ≡ 32 }
+    requires dst { ids_end by.now.dst.now.nodes.items ≤ size terms.old }
     requires nodes { route_end route.now ≤ size terms.old }
     ensures builds { Builds terms.old terms.new }
     ensures within { IfOk result (λ r. r.0 < size terms.new) }
     ensures value { Gives terms.new result (λ w r. at w r ≡ option_map_or (λ e. list_any exports.is_metric e.sets)
-        (find (shape_route_taken policies.now tracked.now (prefix_of w dst.now len) (route_at w route.now))
-        (in_order (λ e. e.seq) entries.now)) false) }
+        (find (shape_route_taken by.now.policies.now by.now.tracked.now (prefix_of w by.now.dst.now by.now.len)
+        (route_at w route.now)) (in_order (λ e. e.seq) entries.now)) false) }
 {
     let in_order = ordered(alloc, entries)?;
     let entries = in_order.as_slice();
-    let sets = sym_entries_set(alloc, terms, policies, tracked, dst, len, route, entries)?;
+    let sets = sym_entries_set(alloc, terms, by, route, entries)?;
     Ok(sets)
 }
 
@@ -117,65 +114,51 @@ fn sym_deciding_sets(
 fn sym_sets_metric(
     alloc: Global,
     terms: &mut Terms,
-    policies: &Policies,
-    tracked: &Tracked,
+    by: &Applied<'_>,
     used: &Option<Use>,
-    dst: &Bits,
-    len: u8,
     route: &SymRoute,
 ) -> Result<NodeId, AllocError>
-    requires long { len ≤ 32 }
-    requires wide { length dst.now.nodes.items ≡ 32 }
-    requires dst { ids_end dst.now.nodes.items ≤ size terms.old }
+    requires long { by.now.len ≤ 32 }
+    requires wide { length by.now.dst.now.nodes.items ≡ 32 }
+    requires dst { ids_end by.now.dst.now.nodes.items ≤ size terms.old }
     requires nodes { route_end route.now ≤ size terms.old }
     ensures builds { Builds terms.old terms.new }
     ensures within { IfOk result (λ r. r.0 < size terms.new) }
     ensures value { Gives terms.new result (λ w r. at w r
-        ≡ shape_sets_metric tracked.now policies.now used.now (prefix_of w dst.now len) (route_at w route.now)) }
+        ≡ shape_sets_metric by.now.tracked.now by.now.policies.now used.now (prefix_of w by.now.dst.now by.now.len)
+        (route_at w route.now)) }
 {
     let Some(named) = used else {
         return constant_node(terms, false);
     };
-    let Some(map) = map_named(policies, named) else {
+    let Some(map) = map_named(by.policies, named) else {
         return constant_node(terms, false);
     };
-    sym_deciding_sets(
-        alloc,
-        terms,
-        policies,
-        tracked,
-        dst,
-        len,
-        route,
-        map.entries.as_slice(),
-    )
+    sym_deciding_sets(alloc, terms, by, route, map.entries.as_slice())
 }
 
 /// Whether an external message carries the metric of a route: where the path was empty before, or the map sets one.
 pub(crate) fn sym_keeps_metric(
     alloc: Global,
     terms: &mut Terms,
-    policies: &Policies,
-    tracked: &Tracked,
+    by: &Applied<'_>,
     used: &Option<Use>,
-    dst: &Bits,
-    len: u8,
     held: &SymBgp,
 ) -> Result<NodeId, AllocError>
-    requires long { len ≤ 32 }
-    requires wide { length dst.now.nodes.items ≡ 32 }
-    requires dst { ids_end dst.now.nodes.items ≤ size terms.old }
-    requires marks { HasMarks tracked.now held.now }
+    requires long { by.now.len ≤ 32 }
+    requires wide { length by.now.dst.now.nodes.items ≡ 32 }
+    requires dst { ids_end by.now.dst.now.nodes.items ≤ size terms.old }
+    requires marks { HasMarks by.now.tracked.now held.now }
     requires nodes { bgp_end held.now ≤ size terms.old }
     ensures builds { Builds terms.old terms.new }
     ensures within { IfOk result (λ r. r.0 < size terms.new) }
     ensures value { Gives terms.new result (λ w r. at w r ≡ (((bgp_at w held.now).path.len == 0)
-        || shape_sets_metric tracked.now policies.now used.now (prefix_of w dst.now len)
+        || shape_sets_metric by.now.tracked.now by.now.policies.now used.now (prefix_of w by.now.dst.now by.now.len)
         (seen_by_maps (bgp_at w held.now)))) }
 {
     let empty = equal_number(terms, held.len.nodes.as_slice(), 0)?;
-    let route = seen_of(alloc, terms, tracked, held)?;
-    let sets = sym_sets_metric(alloc, terms, policies, tracked, used, dst, len, &route)?;
+    let route = seen_of(alloc, terms, by.tracked, held)?;
+    let sets = sym_sets_metric(alloc, terms, by, used, &route)?;
     let keeps = either(terms, empty, sets)?;
     Ok(keeps)
 }

@@ -7,14 +7,27 @@ ghost use Rattle.net_parts.specs.Sessions.{ends_of};
 ghost use Rattle.route_record.specs.Sides.{at_external};
 ghost use Rattle.net_parts.specs.Exports as exports;
 
-use ios_ast::{Bgp, File, MapEntry, SetAct};
+use ios_ast::{Bgp, File, MapEntry, Neighbour, SetAct};
 use mw_text::Addr;
 use net_interfaces::{Addressed, IfaceId};
 use net_parts::ends::neighbour_of;
 use net_parts::router_ids::router_id;
 use net_parts::{Far, SessionEnd};
-use route_record::Side;
+use route_record::{Side, Tracked};
 use std::alloc::{AllocError, Global};
+
+/// A session as the router at an end of it goes by it: the values that the network tracks, the files of all routers, the
+/// router's own file and process, the neighbour as it is configured there, the end, and the router's identifier.
+#[derive(Clone, Copy)]
+pub(crate) struct Session<'a> {
+    pub(crate) tracked: &'a Tracked,
+    pub(crate) files: &'a [File],
+    pub(crate) file: &'a File,
+    pub(crate) process: &'a Bgp,
+    pub(crate) neighbour: &'a Neighbour,
+    pub(crate) end: &'a SessionEnd,
+    pub(crate) id: Addr,
+}
 
 /// The number of an address in a field that says by its highest bit that there is one.
 pub(crate) fn numbered(a: Addr) -> u64

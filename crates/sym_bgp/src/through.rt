@@ -23,6 +23,16 @@ use term_arith::gates::constant_node;
 use term_arith::{Bits, copy};
 use term_store::{NodeId, Terms};
 
+/// What the lists and maps of a neighbour are applied by: the policies of a file, the values that the network tracks, and
+/// the prefix, which is that of a length of an address.
+#[derive(Clone, Copy)]
+pub(crate) struct Applied<'a> {
+    pub(crate) policies: &'a Policies,
+    pub(crate) tracked: &'a Tracked,
+    pub(crate) dst: &'a Bits,
+    pub(crate) len: u8,
+}
+
 /// A copy of what route maps see of a route.
 #[tactic(auto, using(crate::proofs::JoinedRoutes::route_steps))]
 pub(crate) fn seen_of(
@@ -94,31 +104,38 @@ pub(crate) fn nothing(
     Ok(bgp)
 }
 
-/// What the map of a neighbour that is applied, if one is, makes of a route to the prefix of that length of an address.
+/// What the map of a neighbour that is applied, if one is, makes of a route to the prefix.
 pub(crate) fn sym_mapped(
     alloc: Global,
     terms: &mut Terms,
-    tracked: &Tracked,
-    policies: &Policies,
+    by: &Applied<'_>,
     used: &Option<Use>,
-    dst: &Bits,
-    len: u8,
     rec: SymMapRec,
     side: Side,
 ) -> Result<SymBgp, AllocError>
-    requires long { len ≤ 32 }
-    requires wide { length dst.now.nodes.items ≡ 32 }
-    requires dst { ids_end dst.now.nodes.items ≤ size terms.old }
-    requires marks { HasMarks tracked.now rec.bgp }
+    requires long { by.now.len ≤ 32 }
+    requires wide { length by.now.dst.now.nodes.items ≡ 32 }
+    requires dst { ids_end by.now.dst.now.nodes.items ≤ size terms.old }
+    requires marks { HasMarks by.now.tracked.now rec.bgp }
     requires nodes { map_rec_end rec ≤ size terms.old }
     ensures builds { Builds terms.old terms.new }
     ensures within { IfOk result (λ r. bgp_end r ≤ size terms.new) }
-    ensures marks { IfOk result (λ r. HasMarks tracked.now r) }
+    ensures marks { IfOk result (λ r. HasMarks by.now.tracked.now r) }
     ensures value { Gives terms.new result (λ w r. at w rec.type1 ≡ false → bgp_of w r
-        ≡ option_and_then (shape_through tracked.now policies.now used.now (prefix_of w dst.now len) (at_external side))
-        (bgp_of w rec.bgp)) }
+        ≡ option_and_then (shape_through by.now.tracked.now by.now.policies.now used.now
+        (prefix_of w by.now.dst.now by.now.len) (at_external side)) (bgp_of w rec.bgp)) }
 {
-    let left = sym_through(alloc, terms, tracked, policies, used, dst, len, rec, side)?;
+    let left = sym_through(
+        alloc,
+        terms,
+        by.tracked,
+        by.policies,
+        used,
+        by.dst,
+        by.len,
+        rec,
+        side,
+    )?;
     let SymMapRec { bgp, .. } = left;
     Ok(bgp)
 }

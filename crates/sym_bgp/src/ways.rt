@@ -17,8 +17,8 @@ ghost use Rattle.bgp_shapes.specs.Crossings.{crossing, end_numbered, is_from};
 ghost use Rattle.sym_bgp.specs.Ways.{crossing_at, crossing_end, crossing_of};
 
 use crate::parts::{SymCrossing, Way};
-use crate::routers::{may_go_on, numbered, peer_of};
-use ios_ast::{Bgp, File, Neighbour};
+use crate::routers::{Session, may_go_on, numbered, peer_of};
+use ios_ast::File;
 use net_interfaces::Addressed;
 use net_parts::SessionEnd;
 use net_parts::ends::neighbour_of;
@@ -54,23 +54,21 @@ fn sym_is_from(
 /// How a route goes on that was learnt over an end.
 fn way_from(
     alloc: Global,
-    files: &[File],
+    session: &Session<'_>,
     addresses: &[Addressed],
     ends: &[SessionEnd],
-    process: &Bgp,
-    neighbour: &Neighbour,
-    end: &SessionEnd,
     from: &SessionEnd,
 ) -> Result<Way, AllocError>
-    requires addresses { addresses.now ≡ addressed files.now }
-    requires ends { ends.now ≡ ends_of files.now }
+    requires addresses { addresses.now ≡ addressed session.now.files.now }
+    requires ends { ends.now ≡ ends_of session.now.files.now }
     ensures { IfOk result (λ way. crossing_of way
-        ≡ crossing files.now process.now neighbour.now end.now (Some from.now)) }
+        ≡ crossing session.now.files.now session.now.process.now session.now.neighbour.now session.now.end.now
+        (Some from.now)) }
 {
-    let peer = peer_of(alloc, files, addresses, ends, from)?;
+    let peer = peer_of(alloc, session.files, addresses, ends, from)?;
     Ok(Way {
-        may: may_go_on(files, process, from, end),
-        own_hop: neighbour.next_hop_self && !from.internal,
+        may: may_go_on(session.files, session.process, from, session.end),
+        own_hop: session.neighbour.next_hop_self && !from.internal,
         reflected: from.internal,
         peer: peer.0,
     })
@@ -161,32 +159,38 @@ fn local_way() -> Way
     }
 }
 
-/// How a route goes on over the session of an end, by the number of the peer from which it was learnt.
+/// How a route goes on over the session, by the number of the peer from which it was learnt.
 pub(crate) fn sym_crossing(
     alloc: Global,
     terms: &mut Terms,
-    files: &[File],
+    session: &Session<'_>,
     addresses: &[Addressed],
     ends: &[SessionEnd],
-    process: &Bgp,
-    neighbour: &Neighbour,
-    end: &SessionEnd,
     from: &Bits,
 ) -> Result<SymCrossing, AllocError>
-    requires addresses { addresses.now ≡ addressed files.now }
-    requires ends { ends.now ≡ ends_of files.now }
+    requires addresses { addresses.now ≡ addressed session.now.files.now }
+    requires ends { ends.now ≡ ends_of session.now.files.now }
     requires from { ids_end from.now.nodes.items ≤ size terms.old }
     ensures builds { Builds terms.old terms.new }
     ensures within { IfOk result (λ r. crossing_end r ≤ size terms.new) }
     ensures value { Gives terms.new result (λ w r. crossing_at w r
-        ≡ crossing files.now process.now neighbour.now end.now
-        (end_numbered files.now end.now.router (number w from.now.nodes.items))) }
+        ≡ crossing session.now.files.now session.now.process.now session.now.neighbour.now session.now.end.now
+        (end_numbered session.now.files.now session.now.end.now.router (number w from.now.nodes.items))) }
 {
     let mut rest = known_way(alloc, terms, local_way())?;
     for i in (0..ends.len()).rev() {
         let over = &ends[i];
-        let way = way_from(alloc, files, addresses, ends, process, neighbour, end, over)?;
-        rest = way_or(alloc, terms, files, from, end, over, way, &rest)?;
+        let way = way_from(alloc, session, addresses, ends, over)?;
+        rest = way_or(
+            alloc,
+            terms,
+            session.files,
+            from,
+            session.end,
+            over,
+            way,
+            &rest,
+        )?;
     }
     Ok(rest)
 }

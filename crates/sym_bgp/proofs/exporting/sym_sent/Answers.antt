@@ -10,12 +10,13 @@ use Rattle.sym_bgp.proofs.exporting.sym_sent.Goals as goal
 pub returns-clause-value : goal.returns-clause-value
 returns-clause-value c = λ w reads.
     let made = c.in_ok-made.ensures in
-    let tracked = c.args.tracked.now in
-    let files = c.args.files.now in
-    let file = c.args.file.now in
-    let process = c.args.process.now in
-    let neighbour = c.args.neighbour.now in
-    let end = c.args.end.now in
+    let session = c.args.session.now in
+    let tracked = session.tracked.now in
+    let files = session.files.now in
+    let file = session.file.now in
+    let process = session.process.now in
+    let neighbour = session.neighbour.now in
+    let end = session.end.now in
     let p = prefix_of w c.args.dst.now c.args.len in
     let s = bgp_at w c.args.held.now in
     made.value w reads

@@ -7,6 +7,7 @@ use Rattle.sym_bgp.proofs.importing.sym_taken_in.Goals as goal
 
 pub returns-clause-value : goal.returns-clause-value
 returns-clause-value c = λ w reads.
+    let session = c.args.session.now in
     let there = c.in_ok-there.ensures in
     let before = c.in_ok-before.ensures in
     let left = c.in_ok-left.ensures in
@@ -14,8 +15,8 @@ returns-clause-value c = λ w reads.
     let mapped = made.builds.reads w reads in
     let received = left.builds.reads w mapped in
     let tested = before.builds.reads w received in
-    taken_in c.args.tracked.now c.args.files.now c.args.file.now c.args.process.now c.args.neighbour.now c.args.end.now
-    (prefix_of w c.args.dst.now c.args.len) (bgp_at w c.args.message.now) (at w c.args.message.now.valid)
+    taken_in session.tracked.now session.files.now session.file.now session.process.now session.neighbour.now
+    session.end.now (prefix_of w c.args.dst.now c.args.len) (bgp_at w c.args.message.now) (at w c.args.message.now.valid)
     (at w c.in_ok-takes.takes) (at w c.in_ok-there.there) (at_external c.side_of-side.result)
     (bgp_of w c.in_ok-before.before.bgp) (bgp_of w c.in_ok-left.left) (bgp_of w c.in_ok-made.made)
     (c.in_ok-takes.ensures.value w (there.builds.reads w tested)) (there.value w tested) (before.value w received)

@@ -15,6 +15,6 @@ invariant-loop-i l = record {
   builds : Builds l.fn.terms l.terms;
   within : l.rest.0 < size l.terms;
   value : (w : Reading) → Reads w l.terms → at w l.rest ≡ option_map_or (λ e. list_any is_metric e.sets)
-      (find (shape_route_taken l.policies l.tracked (prefix_of w l.dst l.len) (route_at w l.route))
-      (entries_of (drop l.i l.entries))) false;
+      (find (shape_route_taken l.by.policies.now l.by.tracked.now (prefix_of w l.by.dst.now l.by.len)
+      (route_at w l.route)) (entries_of (drop l.i l.entries))) false;
 }

@@ -10,7 +10,8 @@ returns-clause-within c = bgp_within c.in_ok-left.left _ c.in_ok-left.ensures.wi
 
 pub returns-clause-value : goal.returns-clause-value
 returns-clause-value c = λ w reads plain.
+    let by = c.args.by.now in
     let left = c.in_ok-left.ensures in
     mapped_route w c.args.rec c.in_ok-left.left
-    (shape_through_map c.args.tracked.now c.args.policies.now c.args.used.now
-    (prefix_of w c.args.dst.now c.args.len) (at_external c.args.side)) left.rest plain (left.value w reads)
+    (shape_through_map by.tracked.now by.policies.now c.args.used.now
+    (prefix_of w by.dst.now by.len) (at_external c.args.side)) left.rest plain (left.value w reads)

@@ -12,6 +12,6 @@ invariant-loop-i l = record {
   builds : Builds l.fn.terms l.terms;
   within : crossing_end l.rest ≤ size l.terms;
   value : (w : Reading) → Reads w l.terms
-      → crossing_at w l.rest ≡ crossing l.files l.process l.neighbour l.end
-      (find (is_from l.files l.end.router (number w l.from.nodes.items)) (drop l.i l.ends));
+      → crossing_at w l.rest ≡ crossing l.session.files.now l.session.process.now l.session.neighbour.now
+      l.session.end.now (find (is_from l.session.files.now l.session.end.now.router (number w l.from.nodes.items)) (drop l.i l.ends));
 }
