@@ -25,6 +25,7 @@ use crate::forwarding::SymForwarding;
 use crate::lists::{sym_depart, sym_ends};
 use crate::owners::sym_owner;
 use crate::prefixes::sym_is_prefix;
+use crate::sent::Sent;
 use net_model::{Addressed, Net};
 use question_lang::End;
 use std::alloc::{AllocError, Global};
@@ -37,34 +38,21 @@ use term_store::{NodeId, Terms};
 fn sym_deliver(
     alloc: Global,
     terms: &mut Terms,
-    net: &Net,
-    sym: &SymNet,
-    packet: &SymPacket,
-    aim: &SymAim,
+    sent: &Sent<'_>,
     x: &Addressed,
 ) -> Result<SymForwarding, AllocError>
-    requires downs { ids_end sym.now.down ≤ size terms.old }
-    requires packet { packet_end packet.now ≤ size terms.old }
-    requires aim { aim.now.here.0 < size terms.old }
+    requires downs { ids_end sent.now.sym.now.down ≤ size terms.old }
+    requires packet { packet_end sent.now.packet.now ≤ size terms.old }
+    requires aim { sent.now.aim.now.here.0 < size terms.old }
     ensures builds { Builds terms.old terms.new }
     ensures within { IfOk result (λ r. forwarding_end r ≤ size terms.new) }
-    ensures value { Gives terms.new result (λ w r. IsTwin (sought_by w aim.now)
-        (delivered_hop net.now.files (failures_of w sym.now) (packet_of w packet.now) x.now.subnet x.now ∷ [])
-        (forwarding_of w r)) }
+    ensures value { Gives terms.new result (λ w r. IsTwin (sought_by w sent.now.aim.now)
+        (delivered_hop sent.now.net.now.files (failures_of w sent.now.sym.now) (packet_of w sent.now.packet.now)
+        x.now.subnet x.now ∷ []) (forwarding_of w r)) }
 {
-    let delivered = sym_ends(alloc, terms, aim, End::Delivered)?;
-    let on = sym_owner(
-        alloc,
-        terms,
-        net,
-        sym,
-        packet,
-        aim,
-        &x.subnet,
-        &packet.dst,
-        delivered,
-    )?;
-    let made = sym_depart(alloc, terms, net, packet, aim, x.id, &on)?;
+    let delivered = sym_ends(alloc, terms, sent.aim, End::Delivered)?;
+    let on = sym_owner(alloc, terms, sent, &x.subnet, &sent.packet.dst, delivered)?;
+    let made = sym_depart(alloc, terms, sent.net, sent.packet, sent.aim, x.id, &on)?;
     Ok(made)
 }
 
@@ -100,34 +88,41 @@ fn sym_connects(
 fn sym_connected_or(
     alloc: Global,
     terms: &mut Terms,
-    net: &Net,
-    sym: &SymNet,
-    packet: &SymPacket,
-    aim: &SymAim,
+    sent: &Sent<'_>,
     router: u32,
     len: u8,
     x: &Addressed,
     rest: SymForwarding,
 ) -> Result<SymForwarding, AllocError>
-    requires downs { ids_end sym.now.down ≤ size terms.old }
-    requires packet { packet_end packet.now ≤ size terms.old }
-    requires aim { aim.now.here.0 < size terms.old }
+    requires downs { ids_end sent.now.sym.now.down ≤ size terms.old }
+    requires packet { packet_end sent.now.packet.now ≤ size terms.old }
+    requires aim { sent.now.aim.now.here.0 < size terms.old }
     requires long { len ≤ 32 }
     requires rest { forwarding_end rest ≤ size terms.old }
     ensures builds { Builds terms.old terms.new }
     ensures within { IfOk result (λ r. forwarding_end r ≤ size terms.new) }
     ensures value { Gives terms.new result (λ w r. (others : ListOf HopOf) →
-        IsTwin (sought_by w aim.now) others (forwarding_of w rest) →
-        IsTwin (sought_by w aim.now) (if ((x.now.id.router == router) && is_up net.now.files (failures_of w sym.now) x.now)
-        && same_prefix x.now.subnet (prefix_read w packet.now.dst len)
-        then delivered_hop net.now.files (failures_of w sym.now) (packet_of w packet.now)
-        (prefix_read w packet.now.dst len) x.now ∷ [] else others) (forwarding_of w r)) }
+        IsTwin (sought_by w sent.now.aim.now) others (forwarding_of w rest) →
+        IsTwin (sought_by w sent.now.aim.now)
+        (if ((x.now.id.router == router) && is_up sent.now.net.now.files (failures_of w sent.now.sym.now) x.now)
+        && same_prefix x.now.subnet (prefix_read w sent.now.packet.now.dst len)
+        then delivered_hop sent.now.net.now.files (failures_of w sent.now.sym.now) (packet_of w sent.now.packet.now)
+        (prefix_read w sent.now.packet.now.dst len) x.now ∷ [] else others) (forwarding_of w r)) }
 {
     if x.id.router != router {
         return Ok(rest);
     }
-    let here = sym_connects(alloc, terms, net, sym, packet, router, len, x)?;
-    let to = sym_deliver(alloc, terms, net, sym, packet, aim, x)?;
+    let here = sym_connects(
+        alloc,
+        terms,
+        sent.net,
+        sent.sym,
+        sent.packet,
+        router,
+        len,
+        x,
+    )?;
+    let to = sym_deliver(alloc, terms, sent, x)?;
     let made = choose_forwarding(alloc, terms, here, &to, &rest)?;
     Ok(made)
 }
@@ -154,6 +149,12 @@ pub fn sym_connected(
         (up_interfaces net.now.files (failures_of w sym.now) router) (prefix_at (address_of w packet.now.dst) len))
         (forwarding_of w r)) }
 {
+    let sent = Sent {
+        net,
+        sym,
+        packet,
+        aim,
+    };
     let all = net.addresses();
     let never = constant_node(terms, false)?;
     let mut rest = SymForwarding {
@@ -161,9 +162,7 @@ pub fn sym_connected(
         ends: never,
     };
     for i in (0..all.len()).rev() {
-        rest = sym_connected_or(
-            alloc, terms, net, sym, packet, aim, router, len, &all[i], rest,
-        )?;
+        rest = sym_connected_or(alloc, terms, &sent, router, len, &all[i], rest)?;
     }
     Ok(rest)
 }

@@ -23,6 +23,16 @@ use term_arith::gates::{both, constant_node, is_never, select};
 use term_arith::{Bits, add_within, constant, equal};
 use term_store::{NodeId, Terms};
 
+// An adjacency of the network that may lead a router to this address, while the links of `sym` have failed.
+#[derive(Clone, Copy)]
+struct Led<'a> {
+    net: &'a Net,
+    sym: &'a SymNet,
+    router: u32,
+    a: &'a Bits,
+    x: &'a Adjacency,
+}
+
 // The item at a place that is a row and so much more.
 fn at_row(rows: &[SymOspf], row: usize, width: usize, k: usize) -> Option<&SymOspf>
     ensures { option_copied result ≡ slice_get rows.now (row * width + k) }
@@ -104,23 +114,21 @@ fn sym_rows_cost_more(
 fn sym_on_least_walk(
     alloc: Global,
     terms: &mut Terms,
-    net: &Net,
-    sym: &SymNet,
-    router: u32,
+    led: &Led<'_>,
     k: usize,
     p: &Prefix,
-    x: &Adjacency,
 ) -> Result<NodeId, AllocError>
-    requires there { slice_get (ospf.advertised net.now.files) k ≡ Some p.now }
-    requires rows { routes_end sym.now.igp ≤ size terms.old }
+    requires there { slice_get (ospf.advertised led.now.net.now.files) k ≡ Some p.now }
+    requires rows { routes_end led.now.sym.now.igp ≤ size terms.old }
     ensures builds { Builds terms.old terms.new }
     ensures within { IfOk result (λ r. r.0 < size terms.new) }
-    ensures value { Gives terms.new result (λ w r. HasDistances w net.now.files sym.now →
-        at w r ≡ is_on_least_walk net.now.files (failures_of w sym.now) router p.now x.now) }
+    ensures value { Gives terms.new result (λ w r. HasDistances w led.now.net.now.files led.now.sym.now →
+        at w r ≡ is_on_least_walk led.now.net.now.files (failures_of w led.now.sym.now) led.now.router p.now
+        led.now.x.now) }
 {
-    let near = distance_of(net, sym, router, k);
-    let far = distance_of(net, sym, x.to.router, k);
-    let made = sym_rows_cost_more(alloc, terms, x.cost, near, far)?;
+    let near = distance_of(led.net, led.sym, led.router, k);
+    let far = distance_of(led.net, led.sym, led.x.to.router, k);
+    let made = sym_rows_cost_more(alloc, terms, led.x.cost, near, far)?;
     Ok(made)
 }
 
@@ -128,31 +136,28 @@ fn sym_on_least_walk(
 fn sym_leads_at(
     alloc: Global,
     terms: &mut Terms,
-    net: &Net,
-    sym: &SymNet,
-    router: u32,
+    led: &Led<'_>,
     k: usize,
     p: &Prefix,
-    a: &Bits,
-    x: &Adjacency,
     behind: NodeId,
 ) -> Result<NodeId, AllocError>
-    requires there { slice_get (ospf.advertised net.now.files) k ≡ Some p.now }
-    requires rows { routes_end sym.now.igp ≤ size terms.old }
-    requires wide { length a.now.nodes.items ≡ 32 }
-    requires nodes { ids_end a.now.nodes.items ≤ size terms.old }
+    requires there { slice_get (ospf.advertised led.now.net.now.files) k ≡ Some p.now }
+    requires rows { routes_end led.now.sym.now.igp ≤ size terms.old }
+    requires wide { length led.now.a.now.nodes.items ≡ 32 }
+    requires nodes { ids_end led.now.a.now.nodes.items ≤ size terms.old }
     requires behind { behind.0 < size terms.old }
     ensures builds { Builds terms.old terms.new }
     ensures within { IfOk result (λ r. r.0 < size terms.new) }
-    ensures value { Gives terms.new result (λ w r. HasDistances w net.now.files sym.now →
-        at w r ≡ (if covers p.now (address_of w a.now)
-        then is_on_least_walk net.now.files (failures_of w sym.now) router p.now x.now else at w behind)) }
+    ensures value { Gives terms.new result (λ w r. HasDistances w led.now.net.now.files led.now.sym.now →
+        at w r ≡ (if covers p.now (address_of w led.now.a.now)
+        then is_on_least_walk led.now.net.now.files (failures_of w led.now.sym.now) led.now.router p.now led.now.x.now
+        else at w behind)) }
 {
-    let inside = sym_covers(terms, p, a)?;
+    let inside = sym_covers(terms, p, led.a)?;
     if is_never(terms, inside) {
         return Ok(behind);
     }
-    let least = sym_on_least_walk(alloc, terms, net, sym, router, k, p, x)?;
+    let least = sym_on_least_walk(alloc, terms, led, k, p)?;
     let made = select(terms, inside, least, behind)?;
     Ok(made)
 }
@@ -177,10 +182,17 @@ pub(crate) fn sym_leads(
         at w r ≡ leads_by net.now.files (failures_of w sym.now) router (address_of w a.now) x.now
         (ospf.advertised net.now.files)) }
 {
+    let led = Led {
+        net,
+        sym,
+        router,
+        a,
+        x,
+    };
     let mut rest = constant_node(terms, false)?;
     for k in (0..net.advertised().len()).rev() {
         let p = net.advertised()[k];
-        rest = sym_leads_at(alloc, terms, net, sym, router, k, &p, a, x, rest)?;
+        rest = sym_leads_at(alloc, terms, &led, k, &p, rest)?;
     }
     Ok(rest)
 }

@@ -23,6 +23,7 @@ mod permits;
 mod prefixes;
 mod reaching;
 mod sending;
+mod sent;
 mod statics;
 mod still;
 mod towards;

@@ -23,6 +23,7 @@ use crate::choices::choose_forwarding;
 use crate::forwarding::SymForwarding;
 use crate::prefixes::sym_covers;
 use crate::sending::sym_send_to;
+use crate::sent::Sent;
 use net_model::{Addressed, Net};
 use std::alloc::{AllocError, Global};
 use sym_ospf::sym_up;
@@ -62,35 +63,34 @@ pub(crate) fn sym_reaches(
 fn sym_over_or(
     alloc: Global,
     terms: &mut Terms,
-    net: &Net,
-    sym: &SymNet,
-    packet: &SymPacket,
-    aim: &SymAim,
+    sent: &Sent<'_>,
     router: u32,
     a: &Bits,
     x: &Addressed,
     rest: SymForwarding,
 ) -> Result<SymForwarding, AllocError>
-    requires downs { ids_end sym.now.down ≤ size terms.old }
-    requires packet { packet_end packet.now ≤ size terms.old }
-    requires aim { aim.now.here.0 < size terms.old }
+    requires downs { ids_end sent.now.sym.now.down ≤ size terms.old }
+    requires packet { packet_end sent.now.packet.now ≤ size terms.old }
+    requires aim { sent.now.aim.now.here.0 < size terms.old }
     requires wide { length a.now.nodes.items ≡ 32 }
     requires nodes { ids_end a.now.nodes.items ≤ size terms.old }
     requires rest { forwarding_end rest ≤ size terms.old }
     ensures builds { Builds terms.old terms.new }
     ensures within { IfOk result (λ r. forwarding_end r ≤ size terms.new) }
     ensures value { Gives terms.new result (λ w r. (others : ListOf HopOf) →
-        IsTwin (sought_by w aim.now) others (forwarding_of w rest) →
-        IsTwin (sought_by w aim.now) (if ((x.now.id.router == router) && is_up net.now.files (failures_of w sym.now) x.now)
+        IsTwin (sought_by w sent.now.aim.now) others (forwarding_of w rest) →
+        IsTwin (sought_by w sent.now.aim.now)
+        (if ((x.now.id.router == router) && is_up sent.now.net.now.files (failures_of w sent.now.sym.now) x.now)
         && covers x.now.subnet (address_of w a.now)
-        then hops.send_to net.now.files (packet_of w packet.now) (hops.all_up net.now.files (failures_of w sym.now)) x.now
-        (address_of w a.now) ∷ [] else others) (forwarding_of w r)) }
+        then hops.send_to sent.now.net.now.files (packet_of w sent.now.packet.now)
+        (hops.all_up sent.now.net.now.files (failures_of w sent.now.sym.now)) x.now (address_of w a.now) ∷ []
+        else others) (forwarding_of w r)) }
 {
     if x.id.router != router {
         return Ok(rest);
     }
-    let here = sym_reaches(alloc, terms, net, sym, router, a, x)?;
-    let to = sym_send_to(alloc, terms, net, sym, packet, aim, x, a)?;
+    let here = sym_reaches(alloc, terms, sent.net, sent.sym, router, a, x)?;
+    let to = sym_send_to(alloc, terms, sent, x, a)?;
     let made = choose_forwarding(alloc, terms, here, &to, &rest)?;
     Ok(made)
 }
@@ -117,6 +117,12 @@ pub fn sym_send_over(
         (hops.send_over net.now.files (packet_of w packet.now) (hops.all_up net.now.files (failures_of w sym.now))
         (up_interfaces net.now.files (failures_of w sym.now) router) (address_of w a.now)) (forwarding_of w r)) }
 {
+    let sent = Sent {
+        net,
+        sym,
+        packet,
+        aim,
+    };
     let all = net.addresses();
     let never = constant_node(terms, false)?;
     let mut rest = SymForwarding {
@@ -124,9 +130,7 @@ pub fn sym_send_over(
         ends: never,
     };
     for i in (0..all.len()).rev() {
-        rest = sym_over_or(
-            alloc, terms, net, sym, packet, aim, router, a, &all[i], rest,
-        )?;
+        rest = sym_over_or(alloc, terms, &sent, router, a, &all[i], rest)?;
     }
     Ok(rest)
 }

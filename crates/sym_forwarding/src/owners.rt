@@ -17,15 +17,15 @@ ghost use Rattle.term_store.specs.Terms.{Reading, size, at};
 ghost use Rattle.term_store.specs.Reading.{Reads, Builds, Gives};
 ghost use Rattle.term_arith.specs.Bits.{ids_end, number};
 
-use crate::aims::SymAim;
 use crate::choices::choose_forwarding;
 use crate::forwarding::SymForwarding;
 use crate::lists::sym_arrive;
+use crate::sent::Sent;
 use mw_text::Prefix;
 use net_model::{Addressed, Net};
 use std::alloc::{AllocError, Global};
 use sym_ospf::sym_up;
-use sym_policy::{SymNet, SymPacket};
+use sym_policy::SymNet;
 use term_arith::gates::{both, constant_node};
 use term_arith::{Bits, equal_number};
 use term_store::{NodeId, Terms};
@@ -59,33 +59,31 @@ pub(crate) fn sym_has(
 fn put_owner(
     alloc: Global,
     terms: &mut Terms,
-    net: &Net,
-    sym: &SymNet,
-    packet: &SymPacket,
-    aim: &SymAim,
+    sent: &Sent<'_>,
     subnet: &Prefix,
     a: &Bits,
     x: &Addressed,
     rest: &mut SymForwarding,
 ) -> Result<(), AllocError>
-    requires downs { ids_end sym.now.down ≤ size terms.old }
-    requires packet { packet_end packet.now ≤ size terms.old }
-    requires aim { aim.now.here.0 < size terms.old }
+    requires downs { ids_end sent.now.sym.now.down ≤ size terms.old }
+    requires packet { packet_end sent.now.packet.now ≤ size terms.old }
+    requires aim { sent.now.aim.now.here.0 < size terms.old }
     requires nodes { ids_end a.now.nodes.items ≤ size terms.old }
     requires rest { forwarding_end rest.old ≤ size terms.old }
     ensures builds { Builds terms.old terms.new }
     ensures within { OnOk result (forwarding_end rest.new ≤ size terms.new) }
     ensures value { Gives terms.new result (λ w _. (hop : HopOf) →
-        IsTwin (sought_by w aim.now) (hop ∷ []) (forwarding_of w rest.old)
-        → IsTwin (sought_by w aim.now) ((if is_up net.now.files (failures_of w sym.now) x.now && has_address subnet.now
-        (address_of w a.now) x.now
-        then hops.arrive net.now.files (packet_of w packet.now) x.now.id else hop) ∷ []) (forwarding_of w rest.new)) }
+        IsTwin (sought_by w sent.now.aim.now) (hop ∷ []) (forwarding_of w rest.old)
+        → IsTwin (sought_by w sent.now.aim.now) ((if is_up sent.now.net.now.files (failures_of w sent.now.sym.now) x.now
+        && has_address subnet.now (address_of w a.now) x.now
+        then hops.arrive sent.now.net.now.files (packet_of w sent.now.packet.now) x.now.id else hop) ∷ [])
+        (forwarding_of w rest.new)) }
 {
     if x.subnet != *subnet {
         return Ok(());
     }
-    let here = sym_has(alloc, terms, net, sym, subnet, a, x)?;
-    let to = sym_arrive(alloc, terms, net, packet, aim, x.id)?;
+    let here = sym_has(alloc, terms, sent.net, sent.sym, subnet, a, x)?;
+    let to = sym_arrive(alloc, terms, sent.net, sent.packet, sent.aim, x.id)?;
     let made = choose_forwarding(alloc, terms, here, &to, rest)?;
     *rest = made;
     Ok(())
@@ -95,33 +93,28 @@ fn put_owner(
 pub(crate) fn sym_owner(
     alloc: Global,
     terms: &mut Terms,
-    net: &Net,
-    sym: &SymNet,
-    packet: &SymPacket,
-    aim: &SymAim,
+    sent: &Sent<'_>,
     subnet: &Prefix,
     a: &Bits,
     other: SymForwarding,
 ) -> Result<SymForwarding, AllocError>
-    requires downs { ids_end sym.now.down ≤ size terms.old }
-    requires packet { packet_end packet.now ≤ size terms.old }
-    requires aim { aim.now.here.0 < size terms.old }
+    requires downs { ids_end sent.now.sym.now.down ≤ size terms.old }
+    requires packet { packet_end sent.now.packet.now ≤ size terms.old }
+    requires aim { sent.now.aim.now.here.0 < size terms.old }
     requires nodes { ids_end a.now.nodes.items ≤ size terms.old }
     requires other { forwarding_end other ≤ size terms.old }
     ensures builds { Builds terms.old terms.new }
     ensures within { IfOk result (λ r. forwarding_end r ≤ size terms.new) }
     ensures value { Gives terms.new result (λ w r. (hop : HopOf) →
-        IsTwin (sought_by w aim.now) (hop ∷ []) (forwarding_of w other)
-        → IsTwin (sought_by w aim.now) (owner_hop net.now.files (failures_of w sym.now) (packet_of w packet.now)
-        subnet.now (address_of w a.now)
-        hop (addressed net.now.files) ∷ []) (forwarding_of w r)) }
+        IsTwin (sought_by w sent.now.aim.now) (hop ∷ []) (forwarding_of w other)
+        → IsTwin (sought_by w sent.now.aim.now) (owner_hop sent.now.net.now.files (failures_of w sent.now.sym.now)
+        (packet_of w sent.now.packet.now) subnet.now (address_of w a.now) hop
+        (addressed sent.now.net.now.files) ∷ []) (forwarding_of w r)) }
 {
-    let all = net.addresses();
+    let all = sent.net.addresses();
     let mut rest = other;
     for i in (0..all.len()).rev() {
-        put_owner(
-            alloc, terms, net, sym, packet, aim, subnet, a, &all[i], &mut rest,
-        )?;
+        put_owner(alloc, terms, sent, subnet, a, &all[i], &mut rest)?;
     }
     Ok(rest)
 }

@@ -24,9 +24,9 @@ use crate::aims::{SymAim, sym_left};
 use crate::forwarding::SymForwarding;
 use crate::lists::sym_depart;
 use crate::owners::sym_owner;
-use net_model::{Addressed, Net};
+use crate::sent::Sent;
+use net_model::Addressed;
 use std::alloc::{AllocError, Global};
-use sym_policy::{SymNet, SymPacket};
 use term_arith::Bits;
 use term_store::Terms;
 
@@ -56,26 +56,23 @@ pub(crate) fn sym_leaves(
 pub(crate) fn sym_send_to(
     alloc: Global,
     terms: &mut Terms,
-    net: &Net,
-    sym: &SymNet,
-    packet: &SymPacket,
-    aim: &SymAim,
+    sent: &Sent<'_>,
     out: &Addressed,
     a: &Bits,
 ) -> Result<SymForwarding, AllocError>
-    requires downs { ids_end sym.now.down ≤ size terms.old }
-    requires packet { packet_end packet.now ≤ size terms.old }
-    requires aim { aim.now.here.0 < size terms.old }
+    requires downs { ids_end sent.now.sym.now.down ≤ size terms.old }
+    requires packet { packet_end sent.now.packet.now ≤ size terms.old }
+    requires aim { sent.now.aim.now.here.0 < size terms.old }
     requires nodes { ids_end a.now.nodes.items ≤ size terms.old }
     ensures builds { Builds terms.old terms.new }
     ensures within { IfOk result (λ r. forwarding_end r ≤ size terms.new) }
-    ensures value { Gives terms.new result (λ w r. IsTwin (sought_by w aim.now)
-        (hops.send_to net.now.files (packet_of w packet.now) (hops.all_up net.now.files (failures_of w sym.now)) out.now
-        (address_of w a.now) ∷ [])
+    ensures value { Gives terms.new result (λ w r. IsTwin (sought_by w sent.now.aim.now)
+        (hops.send_to sent.now.net.now.files (packet_of w sent.now.packet.now)
+        (hops.all_up sent.now.net.now.files (failures_of w sent.now.sym.now)) out.now (address_of w a.now) ∷ [])
         (forwarding_of w r)) }
 {
-    let left = sym_leaves(alloc, terms, aim, a)?;
-    let on = sym_owner(alloc, terms, net, sym, packet, aim, &out.subnet, a, left)?;
-    let made = sym_depart(alloc, terms, net, packet, aim, out.id, &on)?;
+    let left = sym_leaves(alloc, terms, sent.aim, a)?;
+    let on = sym_owner(alloc, terms, sent, &out.subnet, a, left)?;
+    let made = sym_depart(alloc, terms, sent.net, sent.packet, sent.aim, out.id, &on)?;
     Ok(made)
 }

@@ -25,6 +25,7 @@ use crate::forwarding::SymForwarding;
 use crate::lists::sym_ends;
 use crate::over::sym_send_over;
 use crate::prefixes::sym_is_prefix;
+use crate::sent::Sent;
 use ios_ast::{StaticRoute, Via};
 use mw_text::Addr;
 use net_model::Net;
@@ -118,35 +119,41 @@ fn sym_taken(
 fn sym_static_or(
     alloc: Global,
     terms: &mut Terms,
-    net: &Net,
-    sym: &SymNet,
-    packet: &SymPacket,
-    aim: &SymAim,
+    sent: &Sent<'_>,
     router: u32,
     len: u8,
     distance: &Bits,
     route: &StaticRoute,
     rest: SymForwarding,
 ) -> Result<SymForwarding, AllocError>
-    requires downs { ids_end sym.now.down ≤ size terms.old }
-    requires packet { packet_end packet.now ≤ size terms.old }
-    requires aim { aim.now.here.0 < size terms.old }
+    requires downs { ids_end sent.now.sym.now.down ≤ size terms.old }
+    requires packet { packet_end sent.now.packet.now ≤ size terms.old }
+    requires aim { sent.now.aim.now.here.0 < size terms.old }
     requires distance { ids_end distance.now.nodes.items ≤ size terms.old }
     requires rest { forwarding_end rest ≤ size terms.old }
     ensures builds { Builds terms.old terms.new }
     ensures within { IfOk result (λ r. forwarding_end r ≤ size terms.new) }
     ensures value { Gives terms.new result (λ w r. (others : ListOf HopOf) →
-        IsTwin (sought_by w aim.now) others (forwarding_of w rest) →
-        IsTwin (sought_by w aim.now)
-        ((if is_taken (prefix_read w packet.now.dst len) (number w distance.now.nodes.items) route.now
-        then route_hops net.now.files (failures_of w sym.now) (packet_of w packet.now) router route.now else []) ++ others)
-        (forwarding_of w r)) }
+        IsTwin (sought_by w sent.now.aim.now) others (forwarding_of w rest) →
+        IsTwin (sought_by w sent.now.aim.now)
+        ((if is_taken (prefix_read w sent.now.packet.now.dst len) (number w distance.now.nodes.items) route.now
+        then route_hops sent.now.net.now.files (failures_of w sent.now.sym.now) (packet_of w sent.now.packet.now) router
+        route.now else []) ++ others) (forwarding_of w r)) }
 {
-    let taken = sym_taken(terms, &packet.dst, len, distance, route)?;
+    let taken = sym_taken(terms, &sent.packet.dst, len, distance, route)?;
     if is_never(terms, taken) {
         return Ok(rest);
     }
-    let to = sym_static(alloc, terms, net, sym, packet, aim, router, route)?;
+    let to = sym_static(
+        alloc,
+        terms,
+        sent.net,
+        sent.sym,
+        sent.packet,
+        sent.aim,
+        router,
+        route,
+    )?;
     let made = join_forwarding(terms, taken, rest, &to)?;
     Ok(made)
 }
@@ -177,15 +184,19 @@ pub fn sym_statics(
         (routing.static_routes (up_interfaces net.now.files (failures_of w sym.now) router) routes.now
         (prefix_at (address_of w packet.now.dst) len)))) (forwarding_of w r)) }
 {
+    let sent = Sent {
+        net,
+        sym,
+        packet,
+        aim,
+    };
     let never = constant_node(terms, false)?;
     let mut rest = SymForwarding {
         next: Vec::new(alloc),
         ends: never,
     };
     for i in (0..routes.len()).rev() {
-        rest = sym_static_or(
-            alloc, terms, net, sym, packet, aim, router, len, distance, &routes[i], rest,
-        )?;
+        rest = sym_static_or(alloc, terms, &sent, router, len, distance, &routes[i], rest)?;
     }
     Ok(rest)
 }

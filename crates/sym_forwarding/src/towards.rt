@@ -30,6 +30,7 @@ use crate::distances::sym_leads;
 use crate::firsts::first_else;
 use crate::forwarding::SymForwarding;
 use crate::reaching::sym_first_over;
+use crate::sent::Sent;
 use crate::still::still_forwarding;
 use net_model::{Adjacency, Net};
 use std::alloc::{AllocError, Global};
@@ -68,35 +69,35 @@ fn sym_leads_over(
 fn sym_led_or(
     alloc: Global,
     terms: &mut Terms,
-    net: &Net,
-    sym: &SymNet,
-    packet: &SymPacket,
-    aim: &SymAim,
+    sent: &Sent<'_>,
     router: u32,
     a: &Bits,
     x: &Adjacency,
     rest: SymForwarding,
 ) -> Result<SymForwarding, AllocError>
-    requires net { net_end sym.now ≤ size terms.old }
-    requires packet { packet_end packet.now ≤ size terms.old }
-    requires aim { aim.now.here.0 < size terms.old }
+    requires net { net_end sent.now.sym.now ≤ size terms.old }
+    requires packet { packet_end sent.now.packet.now ≤ size terms.old }
+    requires aim { sent.now.aim.now.here.0 < size terms.old }
     requires wide { length a.now.nodes.items ≡ 32 }
     requires nodes { ids_end a.now.nodes.items ≤ size terms.old }
     requires rest { forwarding_end rest ≤ size terms.old }
     ensures builds { Builds terms.old terms.new }
     ensures within { IfOk result (λ r. forwarding_end r ≤ size terms.new) }
-    ensures value { Gives terms.new result (λ w r. HasDistances w net.now.files sym.now → (others : ListOf HopOf) →
-        IsTwin (sought_by w aim.now) others (forwarding_of w rest) →
-        IsTwin (sought_by w aim.now)
-        ((if is_up_from net.now.files (failures_of w sym.now) router x.now
-        && defined.leads_by net.now.files (failures_of w sym.now) router (address_of w a.now) x.now (ospf.advertised net.now.files)
-        then hops.send_adjacent net.now.files (packet_of w packet.now) x.now ∷ [] else []) ++ others) (forwarding_of w r)) }
+    ensures value { Gives terms.new result (λ w r. HasDistances w sent.now.net.now.files sent.now.sym.now →
+        (others : ListOf HopOf) →
+        IsTwin (sought_by w sent.now.aim.now) others (forwarding_of w rest) →
+        IsTwin (sought_by w sent.now.aim.now)
+        ((if is_up_from sent.now.net.now.files (failures_of w sent.now.sym.now) router x.now
+        && defined.leads_by sent.now.net.now.files (failures_of w sent.now.sym.now) router (address_of w a.now) x.now
+        (ospf.advertised sent.now.net.now.files)
+        then hops.send_adjacent sent.now.net.now.files (packet_of w sent.now.packet.now) x.now ∷ [] else []) ++ others)
+        (forwarding_of w r)) }
 {
     if x.from.router != router {
         return Ok(rest);
     }
-    let taken = sym_leads_over(alloc, terms, net, sym, router, a, x)?;
-    let to = sym_send_adjacent(alloc, terms, net, packet, aim, x)?;
+    let taken = sym_leads_over(alloc, terms, sent.net, sent.sym, router, a, x)?;
+    let to = sym_send_adjacent(alloc, terms, sent.net, sent.packet, sent.aim, x)?;
     let made = join_forwarding(terms, taken, rest, &to)?;
     Ok(made)
 }
@@ -105,30 +106,27 @@ fn sym_led_or(
 fn sym_led(
     alloc: Global,
     terms: &mut Terms,
-    net: &Net,
-    sym: &SymNet,
-    packet: &SymPacket,
-    aim: &SymAim,
+    sent: &Sent<'_>,
     router: u32,
     a: &Bits,
 ) -> Result<SymForwarding, AllocError>
-    requires net { net_end sym.now ≤ size terms.old }
-    requires packet { packet_end packet.now ≤ size terms.old }
-    requires aim { aim.now.here.0 < size terms.old }
+    requires net { net_end sent.now.sym.now ≤ size terms.old }
+    requires packet { packet_end sent.now.packet.now ≤ size terms.old }
+    requires aim { sent.now.aim.now.here.0 < size terms.old }
     requires wide { length a.now.nodes.items ≡ 32 }
     requires nodes { ids_end a.now.nodes.items ≤ size terms.old }
     ensures builds { Builds terms.old terms.new }
     ensures within { IfOk result (λ r. forwarding_end r ≤ size terms.new) }
-    ensures value { Gives terms.new result (λ w r. HasDistances w net.now.files sym.now → IsTwin (sought_by w aim.now)
-        (map (hops.send_adjacent net.now.files (packet_of w packet.now))
-        (sent_towards net.now.files (failures_of w sym.now) router (address_of w a.now))) (forwarding_of w r)) }
+    ensures value { Gives terms.new result (λ w r. HasDistances w sent.now.net.now.files sent.now.sym.now →
+        IsTwin (sought_by w sent.now.aim.now)
+        (map (hops.send_adjacent sent.now.net.now.files (packet_of w sent.now.packet.now))
+        (sent_towards sent.now.net.now.files (failures_of w sent.now.sym.now) router (address_of w a.now)))
+        (forwarding_of w r)) }
 {
-    let all = net.adjacencies();
+    let all = sent.net.adjacencies();
     let mut rest = still_forwarding(alloc, terms)?;
     for i in (0..all.len()).rev() {
-        rest = sym_led_or(
-            alloc, terms, net, sym, packet, aim, router, a, &all[i], rest,
-        )?;
+        rest = sym_led_or(alloc, terms, sent, router, a, &all[i], rest)?;
     }
     Ok(rest)
 }
@@ -137,26 +135,24 @@ fn sym_led(
 fn sym_to_next_hop(
     alloc: Global,
     terms: &mut Terms,
-    net: &Net,
-    sym: &SymNet,
-    packet: &SymPacket,
-    aim: &SymAim,
+    sent: &Sent<'_>,
     router: u32,
     a: &Bits,
 ) -> Result<SymForwarding, AllocError>
-    requires net { net_end sym.now ≤ size terms.old }
-    requires packet { packet_end packet.now ≤ size terms.old }
-    requires aim { aim.now.here.0 < size terms.old }
+    requires net { net_end sent.now.sym.now ≤ size terms.old }
+    requires packet { packet_end sent.now.packet.now ≤ size terms.old }
+    requires aim { sent.now.aim.now.here.0 < size terms.old }
     requires wide { length a.now.nodes.items ≡ 32 }
     requires nodes { ids_end a.now.nodes.items ≤ size terms.old }
     ensures builds { Builds terms.old terms.new }
     ensures within { IfOk result (λ r. forwarding_end r ≤ size terms.new) }
-    ensures value { Gives terms.new result (λ w r. HasDistances w net.now.files sym.now → IsTwin (sought_by w aim.now)
-        (defined.hops_towards net.now.files (failures_of w sym.now) (packet_of w packet.now) router (address_of w a.now))
-        (forwarding_of w r)) }
+    ensures value { Gives terms.new result (λ w r. HasDistances w sent.now.net.now.files sent.now.sym.now →
+        IsTwin (sought_by w sent.now.aim.now)
+        (defined.hops_towards sent.now.net.now.files (failures_of w sent.now.sym.now) (packet_of w sent.now.packet.now)
+        router (address_of w a.now)) (forwarding_of w r)) }
 {
-    let over = sym_first_over(alloc, terms, net, sym, packet, aim, router, a)?;
-    let led = sym_led(alloc, terms, net, sym, packet, aim, router, a)?;
+    let over = sym_first_over(alloc, terms, sent, router, a)?;
+    let led = sym_led(alloc, terms, sent, router, a)?;
     let made = first_else(terms, over, &led)?;
     Ok(made)
 }
@@ -188,7 +184,13 @@ pub fn sym_bgp_hops(
     if is_never(terms, held.valid) {
         return Ok(none);
     }
-    let to = sym_to_next_hop(alloc, terms, net, sym, packet, aim, router, &held.next_hop)?;
+    let sent = Sent {
+        net,
+        sym,
+        packet,
+        aim,
+    };
+    let to = sym_to_next_hop(alloc, terms, &sent, router, &held.next_hop)?;
     let made = choose_forwarding(alloc, terms, held.valid, &to, &none)?;
     Ok(made)
 }

@@ -18,16 +18,17 @@ use Rattle.sym_forwarding.proofs.connected.sym_connected_or.Goals as goal
 
 pub returns-clause-value : goal.returns-clause-value
 returns-clause-value c = λ w reads others twin.
+    let sent = c.args.sent.now in
     let made = c.in_ok-made.ensures in
     let to = c.in_ok-to.ensures in
     let here = c.in_ok-here.ensures in
     let before = made.builds.reads w reads in
     let x = c.args.x.now in
-    let net = c.args.net.now.files in
-    let failures = failures_of w c.args.sym.now in
-    let packet = packet_of w c.args.packet.now in
-    let p = prefix_of w c.args.packet.now.dst c.args.len in
-    let sought = sought_by w c.args.aim.now in
+    let net = sent.net.now.files in
+    let failures = failures_of w sent.sym.now in
+    let packet = packet_of w sent.packet.now in
+    let p = prefix_of w sent.packet.now.dst c.args.len in
+    let sought = sought_by w sent.aim.now in
     let own = (x.id.router == c.args.router) && is_up net failures x in
     let P : Prefix → Type 0 = λ q. IsTwin sought (delivered_hop net failures packet q x ∷ []) (forwarding_of w
     c.in_ok-to.to) in

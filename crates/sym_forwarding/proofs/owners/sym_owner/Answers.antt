@@ -16,14 +16,15 @@ loop-i-preserved c = record {
   builds = search rules;
   within = search rules;
   value = λ w reads hop twin.
-      let net = c.args.net.now.files in
-      let failures = failures_of w c.args.sym.now in
-      let packet = packet_of w c.args.packet.now in
+      let sent = c.args.sent.now in
+      let net = sent.net.now.files in
+      let failures = failures_of w sent.sym.now in
+      let packet = packet_of w sent.packet.now in
       let subnet = c.args.subnet.now in
       let a = address_of w c.args.a.now in
       let all = c.addresses-all.result.now in
       let step = c.in_ok-put_owner.ensures in
-      let P : Hop → Type 0 = λ h. IsTwin (sought_by w c.args.aim.now) (h ∷ []) (forwarding_of w c.put_owner.new.rest) in
+      let P : Hop → Type 0 = λ h. IsTwin (sought_by w sent.aim.now) (h ∷ []) (forwarding_of w c.put_owner.new.rest) in
       subst P
       (sym (owner_back net failures packet subnet a hop all c.loop-i.i no_interface (omega arith) (omega arith)))
       (step.value w reads (owner_hop net failures packet subnet a hop (drop c.loop-i.i all))
@@ -32,9 +33,10 @@ loop-i-preserved c = record {
 
 pub returns-clause-value : goal.returns-clause-value
 returns-clause-value c = λ w reads hop twin.
+    let sent = c.args.sent.now in
     let none : c.loop-i.i ≡ 0 = omega arith in
     let all = c.addresses-all.result.now in
-    let P : List Addressed → Type 0 = λ xs. IsTwin (sought_by w c.args.aim.now)
-    (owner_hop c.args.net.now.files (failures_of w c.args.sym.now) (packet_of w c.args.packet.now) c.args.subnet.now
+    let P : List Addressed → Type 0 = λ xs. IsTwin (sought_by w sent.aim.now)
+    (owner_hop sent.net.now.files (failures_of w sent.sym.now) (packet_of w sent.packet.now) c.args.subnet.now
     (address_of w c.args.a.now) hop xs ∷ []) (forwarding_of w c.loop-i.rest) in
     subst P (ap (λ j. drop j all) none ∙ c.addresses-all.ensures) (c.loop-i.invariant.value w reads hop twin)

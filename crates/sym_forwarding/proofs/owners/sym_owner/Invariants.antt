@@ -15,10 +15,11 @@ abbrev pub invariant-loop-i : goal.invariant-loop-i
 invariant-loop-i l = record {
   builds : Builds l.fn.terms l.terms;
   within : forwarding_end l.rest ≤ size l.terms;
-  value : (w : Reading) → Reads w l.terms → (hop : Hop) → IsTwin (sought_by w l.aim) (hop ∷ []) (forwarding_of w
+  value : (w : Reading) → Reads w l.terms → (hop : Hop) → IsTwin (sought_by w l.sent.aim.now) (hop ∷ []) (forwarding_of w
       l.fn.other) →
-      IsTwin (sought_by w l.aim)
-      (owner_hop l.net.files (failures_of w l.sym) (packet_of w l.packet) l.subnet (address_of w l.a) hop (drop l.i l.all)
+      IsTwin (sought_by w l.sent.aim.now)
+      (owner_hop l.sent.net.now.files (failures_of w l.sent.sym.now) (packet_of w l.sent.packet.now) l.subnet
+      (address_of w l.a) hop (drop l.i l.all)
       ∷ [])
       (forwarding_of w l.rest);
 }

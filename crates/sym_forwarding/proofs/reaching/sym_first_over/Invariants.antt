@@ -14,8 +14,8 @@ abbrev pub invariant-loop-x : goal.invariant-loop-x
 invariant-loop-x l = record {
   builds : Builds l.fn.terms l.terms;
   within : first_end l.first ≤ size l.terms;
-  value : (w : Reading) → Reads w l.terms → IsFirstIn w (sought_by w l.aim)
-      (reaches l.net.files (failures_of w l.sym) l.router (address_of w l.a))
-      (sent_to l.net.files (failures_of w l.sym) (packet_of w l.packet) (address_of w l.a))
-      (take l.x-index (addressed l.net.files)) l.first;
+  value : (w : Reading) → Reads w l.terms → IsFirstIn w (sought_by w l.sent.aim.now)
+      (reaches l.sent.net.now.files (failures_of w l.sent.sym.now) l.router (address_of w l.a))
+      (sent_to l.sent.net.now.files (failures_of w l.sent.sym.now) (packet_of w l.sent.packet.now) (address_of w l.a))
+      (take l.x-index (addressed l.sent.net.now.files)) l.first;
 }

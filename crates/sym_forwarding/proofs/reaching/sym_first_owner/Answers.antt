@@ -15,9 +15,10 @@ loop-x-init c = record {
   builds = search rules;
   within = search rules;
   value = λ w reads.
-      c.in_ok-first.ensures.value w reads (sought_by w c.args.aim.now)
-      (is_owner c.args.net.now.files (failures_of w c.args.sym.now) c.args.subnet.now (address_of w c.args.a.now))
-      (owner_arrives c.args.net.now.files (packet_of w c.args.packet.now));
+      let sent = c.args.sent.now in
+      c.in_ok-first.ensures.value w reads (sought_by w sent.aim.now)
+      (is_owner sent.net.now.files (failures_of w sent.sym.now) c.args.subnet.now (address_of w c.args.a.now))
+      (owner_arrives sent.net.now.files (packet_of w sent.packet.now));
 }
 
 pub loop-x-preserved : goal.loop-x-preserved
@@ -25,12 +26,13 @@ loop-x-preserved c = record {
   builds = search rules;
   within = search rules;
   value = λ w reads.
+      let sent = c.args.sent.now in
       let step = c.in_ok-first-2.ensures in
       let all = c.addresses-x-items.result.now in
-      let xs = addressed c.args.net.now.files in
-      let P : List Addressed → Type 0 = λ ys. IsFirstIn w (sought_by w c.args.aim.now)
-      (is_owner c.args.net.now.files (failures_of w c.args.sym.now) c.args.subnet.now (address_of w c.args.a.now))
-      (owner_arrives c.args.net.now.files (packet_of w c.args.packet.now)) ys c.in_ok-first-2.first in
+      let xs = addressed sent.net.now.files in
+      let P : List Addressed → Type 0 = λ ys. IsFirstIn w (sought_by w sent.aim.now)
+      (is_owner sent.net.now.files (failures_of w sent.sym.now) c.args.subnet.now (address_of w c.args.a.now))
+      (owner_arrives sent.net.now.files (packet_of w sent.packet.now)) ys c.in_ok-first-2.first in
       subst P (taken_more all xs c.loop-x.x-index no_interface c.addresses-x-items.ensures
       (omega (arith, c.loop-x-test.true, c.loop-x.auto.x-index-end)))
       (step.value w reads (take c.loop-x.x-index xs) (c.loop-x.invariant.value w (step.builds.reads w reads)));
@@ -38,9 +40,10 @@ loop-x-preserved c = record {
 
 pub returns-clause-value : goal.returns-clause-value
 returns-clause-value c = λ w reads.
+    let sent = c.args.sent.now in
     let all = c.addresses-x-items.result.now in
-    let P : List Addressed → Type 0 = λ xs. IsFirstIn w (sought_by w c.args.aim.now)
-    (is_owner c.args.net.now.files (failures_of w c.args.sym.now) c.args.subnet.now (address_of w c.args.a.now))
-    (owner_arrives c.args.net.now.files (packet_of w c.args.packet.now)) xs c.loop-x.first in
-    subst P (taken_all all (addressed c.args.net.now.files) c.loop-x.x-index c.addresses-x-items.ensures
+    let P : List Addressed → Type 0 = λ xs. IsFirstIn w (sought_by w sent.aim.now)
+    (is_owner sent.net.now.files (failures_of w sent.sym.now) c.args.subnet.now (address_of w c.args.a.now))
+    (owner_arrives sent.net.now.files (packet_of w sent.packet.now)) xs c.loop-x.first in
+    subst P (taken_all all (addressed sent.net.now.files) c.loop-x.x-index c.addresses-x-items.ensures
     (omega (arith, c.loop-x-test.false, c.loop-x.auto.x-index-end))) (c.loop-x.invariant.value w reads)

@@ -14,7 +14,8 @@ abbrev pub invariant-loop-x : goal.invariant-loop-x
 invariant-loop-x l = record {
   builds : Builds l.fn.terms l.terms;
   within : first_end l.first ≤ size l.terms;
-  value : (w : Reading) → Reads w l.terms → IsFirstIn w (sought_by w l.aim)
-      (is_owner l.net.files (failures_of w l.sym) l.subnet (address_of w l.a)) (owner_arrives l.net.files (packet_of w l.packet))
-      (take l.x-index (addressed l.net.files)) l.first;
+  value : (w : Reading) → Reads w l.terms → IsFirstIn w (sought_by w l.sent.aim.now)
+      (is_owner l.sent.net.now.files (failures_of w l.sent.sym.now) l.subnet (address_of w l.a))
+      (owner_arrives l.sent.net.now.files (packet_of w l.sent.packet.now))
+      (take l.x-index (addressed l.sent.net.now.files)) l.first;
 }

@@ -12,20 +12,22 @@ use Rattle.sym_forwarding.proofs.reaching.sym_owner_also.Goals as goal
 
 pub returns-clause-value : goal.returns-clause-value
 returns-clause-value c = λ w reads xs before.
+    let sent = c.args.sent.now in
     let made = c.in_ok-made.ensures in
     let to = c.in_ok-to.ensures in
     let after_to = made.builds.reads w reads in
-    made.value w reads (sought_by w c.args.aim.now)
-    (is_owner c.args.net.now.files (failures_of w c.args.sym.now) c.args.subnet.now (address_of w c.args.a.now))
-    (owner_arrives c.args.net.now.files (packet_of w c.args.packet.now)) xs c.args.x.now before
+    made.value w reads (sought_by w sent.aim.now)
+    (is_owner sent.net.now.files (failures_of w sent.sym.now) c.args.subnet.now (address_of w c.args.a.now))
+    (owner_arrives sent.net.now.files (packet_of w sent.packet.now)) xs c.args.x.now before
     (c.in_ok-here.ensures.value w (to.builds.reads w after_to)) (to.value w after_to)
 
 pub returns-then-ne-clause-value : goal.returns-then-ne-clause-value
 returns-then-ne-clause-value c = λ w reads xs before.
-    let net = c.args.net.now.files in
-    let failures = failures_of w c.args.sym.now in
+    let sent = c.args.sent.now in
+    let net = sent.net.now.files in
+    let failures = failures_of w sent.sym.now in
     let a = address_of w c.args.a.now in
     let other : same_prefix c.args.x.now.subnet c.args.subnet.now ≡ false = search rules in
-    first_past (sought_by w c.args.aim.now) (is_owner net failures c.args.subnet.now a)
-    (owner_arrives net (packet_of w c.args.packet.now)) xs c.args.x.now (at w c.args.before.any)
+    first_past (sought_by w sent.aim.now) (is_owner net failures c.args.subnet.now a)
+    (owner_arrives net (packet_of w sent.packet.now)) xs c.args.x.now (at w c.args.before.any)
     (forwarding_of w c.args.before.to) (not_owner net failures c.args.subnet.now a c.args.x.now other) before

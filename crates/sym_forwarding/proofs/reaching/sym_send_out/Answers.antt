@@ -18,6 +18,7 @@ use Rattle.sym_forwarding.proofs.reaching.sym_send_out.Goals as goal
 
 pub returns-clause-value : goal.returns-clause-value
 returns-clause-value c = λ w reads.
+    let sent = c.args.sent.now in
     let made = c.in_ok-made.ensures in
     let on = c.in_ok-on.ensures in
     let first = c.in_ok-first.ensures in
@@ -25,12 +26,12 @@ returns-clause-value c = λ w reads.
     let after_on = made.builds.reads w reads in
     let after_first = on.builds.reads w after_on in
     let after_left = first.builds.reads w after_first in
-    let net = c.args.net.now.files in
-    let failures = failures_of w c.args.sym.now in
-    let packet = packet_of w c.args.packet.now in
+    let net = sent.net.now.files in
+    let failures = failures_of w sent.sym.now in
+    let packet = packet_of w sent.packet.now in
     let a = address_of w c.args.a.now in
     let subnet = c.args.out.now.subnet in
-    let sought = sought_by w c.args.aim.now in
+    let sought = sought_by w sent.aim.now in
     let P : List Hop → Type 0 = λ hops. IsTwin sought hops (forwarding_of w c.in_ok-on.on) in
     let there = subst P (owner_first net failures packet subnet a (Ends (Left a)) (addressed net))
     (else_twin sought (is_owner net failures subnet a) (owner_arrives net packet) (addressed net)

@@ -17,10 +17,11 @@ loop-i-init c = record {
   builds = search rules;
   within = search rules;
   value = λ w reads has.
-      let sought = sought_by w c.args.aim.now in
+      let sent = c.args.sent.now in
+      let sought = sought_by w sent.aim.now in
       let all = c.adjacencies-all.result.now in
       let P : List Adjacency → Type 0 = λ xs. IsTwin sought
-      (led_hops c.args.net.now.files (failures_of w c.args.sym.now) (packet_of w c.args.packet.now) c.args.router
+      (led_hops sent.net.now.files (failures_of w sent.sym.now) (packet_of w sent.packet.now) c.args.router
       (address_of w c.args.a.now) xs) (forwarding_of w c.in_ok-rest.rest) in
       subst P (sym (drop_all (length all) all (omega arith))) (c.in_ok-rest.ensures.value w reads sought);
 }
@@ -30,13 +31,14 @@ loop-i-preserved c = record {
   builds = search rules;
   within = search rules;
   value = λ w reads has.
-      let net = c.args.net.now.files in
-      let failures = failures_of w c.args.sym.now in
-      let packet = packet_of w c.args.packet.now in
+      let sent = c.args.sent.now in
+      let net = sent.net.now.files in
+      let failures = failures_of w sent.sym.now in
+      let packet = packet_of w sent.packet.now in
       let a = address_of w c.args.a.now in
       let all = c.adjacencies-all.result.now in
       let step = c.in_ok-rest-2.ensures in
-      let P : List Hop → Type 0 = λ hs. IsTwin (sought_by w c.args.aim.now) hs (forwarding_of w c.in_ok-rest-2.rest) in
+      let P : List Hop → Type 0 = λ hs. IsTwin (sought_by w sent.aim.now) hs (forwarding_of w c.in_ok-rest-2.rest) in
       subst P
       (sym (led_back net failures packet c.args.router a all c.loop-i.i no_adjacency (omega arith) (omega arith)))
       (step.value w reads has (led_hops net failures packet c.args.router a (drop c.loop-i.i all))
@@ -45,14 +47,15 @@ loop-i-preserved c = record {
 
 pub returns-clause-value : goal.returns-clause-value
 returns-clause-value c = λ w reads has.
+    let sent = c.args.sent.now in
     let none : c.loop-i.i ≡ 0 = omega arith in
-    let net = c.args.net.now.files in
-    let failures = failures_of w c.args.sym.now in
-    let packet = packet_of w c.args.packet.now in
+    let net = sent.net.now.files in
+    let failures = failures_of w sent.sym.now in
+    let packet = packet_of w sent.packet.now in
     let a = address_of w c.args.a.now in
     let all = c.adjacencies-all.result.now in
-    let P : List Adjacency → Type 0 = λ xs. IsTwin (sought_by w c.args.aim.now)
+    let P : List Adjacency → Type 0 = λ xs. IsTwin (sought_by w sent.aim.now)
     (led_hops net failures packet c.args.router a xs) (forwarding_of w c.loop-i.rest) in
-    let Q : List Hop → Type 0 = λ hs. IsTwin (sought_by w c.args.aim.now) hs (forwarding_of w c.loop-i.rest) in
+    let Q : List Hop → Type 0 = λ hs. IsTwin (sought_by w sent.aim.now) hs (forwarding_of w c.loop-i.rest) in
     subst Q (led_all net failures packet c.args.router a)
     (subst P (ap (λ j. drop j all) none ∙ c.adjacencies-all.ensures.value) (c.loop-i.invariant.value w reads has))

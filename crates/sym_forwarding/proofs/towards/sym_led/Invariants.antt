@@ -15,7 +15,9 @@ abbrev pub invariant-loop-i : goal.invariant-loop-i
 invariant-loop-i l = record {
   builds : Builds l.fn.terms l.terms;
   within : forwarding_end l.rest ≤ size l.terms;
-  value : (w : Reading) → Reads w l.terms → HasDistances w l.net.files l.sym → IsTwin (sought_by w l.aim)
-      (led_hops l.net.files (failures_of w l.sym) (packet_of w l.packet) l.router (address_of w l.a) (drop l.i l.all))
+  value : (w : Reading) → Reads w l.terms → HasDistances w l.sent.net.now.files l.sent.sym.now → IsTwin
+      (sought_by w l.sent.aim.now)
+      (led_hops l.sent.net.now.files (failures_of w l.sent.sym.now) (packet_of w l.sent.packet.now) l.router
+      (address_of w l.a) (drop l.i l.all))
       (forwarding_of w l.rest);
 }

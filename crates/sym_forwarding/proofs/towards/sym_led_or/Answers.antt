@@ -14,15 +14,16 @@ use Rattle.sym_forwarding.proofs.towards.sym_led_or.Goals as goal
 
 pub returns-clause-value : goal.returns-clause-value
 returns-clause-value c = λ w reads has others twin.
+    let sent = c.args.sent.now in
     let made = c.in_ok-made.ensures in
     let to = c.in_ok-to.ensures in
     let before = made.builds.reads w reads in
     let x = c.args.x.now in
-    let net = c.args.net.now.files in
-    let failures = failures_of w c.args.sym.now in
-    united_twin (sought_by w c.args.aim.now) (at w c.in_ok-taken.taken)
+    let net = sent.net.now.files in
+    let failures = failures_of w sent.sym.now in
+    united_twin (sought_by w sent.aim.now) (at w c.in_ok-taken.taken)
     (is_up_from net failures c.args.router x
     && leads_by net failures c.args.router (address_of w c.args.a.now) x (advertised net)) others
-    (send_adjacent net (packet_of w c.args.packet.now) x ∷ [])
+    (send_adjacent net (packet_of w sent.packet.now) x ∷ [])
     (forwarding_of w c.args.rest) (forwarding_of w c.in_ok-to.to) (forwarding_of w c.in_ok-made.made)
     (made.value w reads) (c.in_ok-taken.ensures.value w (to.builds.reads w before) has) twin (to.value w before)

@@ -18,17 +18,18 @@ use Rattle.sym_forwarding.proofs.towards.sym_to_next_hop.Goals as goal
 
 pub returns-clause-value : goal.returns-clause-value
 returns-clause-value c = λ w reads has.
+    let sent = c.args.sent.now in
     let made = c.in_ok-made.ensures in
     let led = c.in_ok-led.ensures in
     let over = c.in_ok-over.ensures in
     let after_led = made.builds.reads w reads in
     let after_over = led.builds.reads w after_led in
-    let net = c.args.net.now.files in
-    let failures = failures_of w c.args.sym.now in
-    let packet = packet_of w c.args.packet.now in
+    let net = sent.net.now.files in
+    let failures = failures_of w sent.sym.now in
+    let packet = packet_of w sent.packet.now in
     let a = address_of w c.args.a.now in
     let router = c.args.router in
-    let sought = sought_by w c.args.aim.now in
+    let sought = sought_by w sent.aim.now in
     let others = map (send_adjacent net packet) (sent_towards net failures router a) in
     let P : List Hop → Type 0 = λ hops. IsTwin sought hops (forwarding_of w c.in_ok-made.made) in
     let same : cond (list_any (reaches net failures router a) (addressed net))
