@@ -22,6 +22,7 @@ ghost use Rattle.term_store.specs.Reading.{Builds, Gives};
 ghost use Rattle.term_arith.specs.Bits.{ids_end};
 
 use crate::offers::sym_sends_over;
+use crate::stop::Stop;
 use net_model::{Adjacency, Net};
 use std::alloc::{AllocError, Global};
 use sym_forwarding::{SymAim, SymForwarding, join_forwarding, sym_send_adjacent};
@@ -34,21 +35,17 @@ use term_store::Terms;
 fn sym_adjacent_or(
     alloc: Global,
     terms: &mut Terms,
-    net: &Net,
-    sym: &SymNet,
-    tables: &SymTables<'_>,
-    packet: &SymPacket,
+    stop: &Stop<'_>,
     aim: &SymAim,
-    router: u32,
     len: u8,
     held: &SymOspf,
     a: &Adjacency,
     rest: SymForwarding,
 ) -> Result<SymForwarding, AllocError>
     requires long { len ≤ 32 }
-    requires downs { ids_end sym.now.down ≤ size terms.old }
-    requires slots { slots_end tables.now.slots.now ≤ size terms.old }
-    requires packet { packet_end packet.now ≤ size terms.old }
+    requires downs { ids_end stop.now.sym.now.down ≤ size terms.old }
+    requires slots { slots_end stop.now.tables.now.slots.now ≤ size terms.old }
+    requires packet { packet_end stop.now.packet.now ≤ size terms.old }
     requires aim { aim.now.here.0 < size terms.old }
     requires held { ospf_end held.now ≤ size terms.old }
     requires rest { forwarding_end rest ≤ size terms.old }
@@ -57,29 +54,20 @@ fn sym_adjacent_or(
     ensures value { Gives terms.new result (λ w r. (others : ListOf HopOf) →
         IsTwin (sought_by w aim.now) others (forwarding_of w rest) →
         IsTwin (sought_by w aim.now)
-        ((if defined.is_up_from net.now.files (failures_of w sym.now) router a.now
-        && defined.offers (read_tables w tables.now) (prefix_read w packet.now.dst len) (ospf_of w held.now) a.now
-        then hops.send_adjacent net.now.files (packet_of w packet.now) a.now ∷ [] else []) ++ others) (forwarding_of w r)) }
+        ((if defined.is_up_from stop.now.net.now.files (failures_of w stop.now.sym.now) stop.now.router a.now
+        && defined.offers (read_tables w stop.now.tables.now) (prefix_read w stop.now.packet.now.dst len)
+        (ospf_of w held.now) a.now
+        then hops.send_adjacent stop.now.net.now.files (packet_of w stop.now.packet.now) a.now ∷ [] else []) ++ others)
+        (forwarding_of w r)) }
 {
-    if a.from.router != router {
+    if a.from.router != stop.router {
         return Ok(rest);
     }
-    let taken = sym_sends_over(
-        alloc,
-        terms,
-        net,
-        sym,
-        tables,
-        router,
-        &packet.dst,
-        len,
-        held,
-        a,
-    )?;
+    let taken = sym_sends_over(alloc, terms, stop, len, held, a)?;
     if is_never(terms, taken) {
         return Ok(rest);
     }
-    let to = sym_send_adjacent(alloc, terms, net, packet, aim, a)?;
+    let to = sym_send_adjacent(alloc, terms, stop.net, stop.packet, aim, a)?;
     let made = join_forwarding(terms, taken, rest, &to)?;
     Ok(made)
 }
@@ -111,6 +99,13 @@ pub fn sym_ospf_hops(
         (failures_of w sym.now) (read_tables w tables.now) router (prefix_at (address_of w packet.now.dst) len) h))
         (ospf_of w held.now) []) (forwarding_of w r)) }
 {
+    let stop = Stop {
+        net,
+        sym,
+        tables,
+        packet,
+        router,
+    };
     let all = net.adjacencies();
     let never = constant_node(terms, false)?;
     let mut rest = SymForwarding {
@@ -118,9 +113,7 @@ pub fn sym_ospf_hops(
         ends: never,
     };
     for i in (0..all.len()).rev() {
-        rest = sym_adjacent_or(
-            alloc, terms, net, sym, tables, packet, aim, router, len, held, &all[i], rest,
-        )?;
+        rest = sym_adjacent_or(alloc, terms, &stop, aim, len, held, &all[i], rest)?;
     }
     Ok(rest)
 }

@@ -20,6 +20,7 @@ ghost use Rattle.term_store.specs.Reading.{Reads, Builds, Gives};
 ghost use Rattle.term_arith.specs.Bits.{ids_end};
 
 use crate::routers::{router_count, sym_router, sym_table};
+use crate::stop::Stop;
 use mw_text::List;
 use net_model::Net;
 use plan_places::lens_of;
@@ -162,16 +163,14 @@ pub fn sym_ends_at(
 {
     let lengths = lens_of(alloc, &world.plan)?;
     let tables = world_tables(net, lengths.as_slice(), world);
-    let made = sym_router(
-        alloc,
-        terms,
+    let stop = Stop {
         net,
-        &world.net,
-        &tables,
-        &world.packet,
-        kind,
+        sym: &world.net,
+        tables: &tables,
+        packet: &world.packet,
         router,
-    )?;
+    };
+    let made = sym_router(alloc, terms, &stop, kind)?;
     Ok(made.ends)
 }
 

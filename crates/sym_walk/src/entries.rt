@@ -23,6 +23,7 @@ ghost use Rattle.term_store.specs.Reading.{Builds, Gives};
 ghost use Rattle.term_arith.specs.Bits.{ids_end, number};
 
 use crate::adjacent::sym_ospf_hops;
+use crate::stop::Stop;
 use ios_ast::File;
 use net_model::Net;
 use std::alloc::{AllocError, Global};
@@ -49,20 +50,16 @@ fn sym_source(terms: &mut Terms, slot: &SymSlot, source: u64) -> Result<NodeId, 
 fn sym_by_ospf(
     alloc: Global,
     terms: &mut Terms,
-    net: &Net,
-    sym: &SymNet,
-    tables: &SymTables<'_>,
-    packet: &SymPacket,
+    stop: &Stop<'_>,
     aim: &SymAim,
-    router: u32,
     len: u8,
     slot: &SymSlot,
     rest: SymForwarding,
 ) -> Result<SymForwarding, AllocError>
     requires long { len ≤ 32 }
-    requires downs { ids_end sym.now.down ≤ size terms.old }
-    requires slots { slots_end tables.now.slots.now ≤ size terms.old }
-    requires packet { packet_end packet.now ≤ size terms.old }
+    requires downs { ids_end stop.now.sym.now.down ≤ size terms.old }
+    requires slots { slots_end stop.now.tables.now.slots.now ≤ size terms.old }
+    requires packet { packet_end stop.now.packet.now ≤ size terms.old }
     requires aim { aim.now.here.0 < size terms.old }
     requires slot { slot_end slot.now ≤ size terms.old }
     requires rest { forwarding_end rest ≤ size terms.old }
@@ -71,16 +68,25 @@ fn sym_by_ospf(
     ensures value { Gives terms.new result (λ w r. (others : ListOf HopOf) →
         IsTwin (sought_by w aim.now) others (forwarding_of w rest) →
         IsTwin (sought_by w aim.now)
-        (if number w slot.now.rib.source.nodes.items == 3 then hops.ospf_hops net.now.files
-        (read_world w sym.now packet.now tables.now) router (prefix_at (address_of w packet.now.dst) len)
-        (slot_of w slot.now) else others) (forwarding_of w r)) }
+        (if number w slot.now.rib.source.nodes.items == 3 then hops.ospf_hops stop.now.net.now.files
+        (read_world w stop.now.sym.now stop.now.packet.now stop.now.tables.now) stop.now.router
+        (prefix_at (address_of w stop.now.packet.now.dst) len) (slot_of w slot.now) else others) (forwarding_of w r)) }
 {
     let test = sym_source(terms, slot, 3)?;
     if is_never(terms, test) {
         return Ok(rest);
     }
     let to = sym_ospf_hops(
-        alloc, terms, net, sym, tables, packet, aim, router, len, &slot.ospf,
+        alloc,
+        terms,
+        stop.net,
+        stop.sym,
+        stop.tables,
+        stop.packet,
+        aim,
+        stop.router,
+        len,
+        &slot.ospf,
     )?;
     let made = choose_forwarding(alloc, terms, test, &to, &rest)?;
     Ok(made)
@@ -90,18 +96,15 @@ fn sym_by_ospf(
 fn sym_by_static(
     alloc: Global,
     terms: &mut Terms,
-    net: &Net,
-    sym: &SymNet,
-    packet: &SymPacket,
+    stop: &Stop<'_>,
     aim: &SymAim,
-    router: u32,
     file: &File,
     len: u8,
     slot: &SymSlot,
     rest: SymForwarding,
 ) -> Result<SymForwarding, AllocError>
-    requires downs { ids_end sym.now.down ≤ size terms.old }
-    requires packet { packet_end packet.now ≤ size terms.old }
+    requires downs { ids_end stop.now.sym.now.down ≤ size terms.old }
+    requires packet { packet_end stop.now.packet.now ≤ size terms.old }
     requires aim { aim.now.here.0 < size terms.old }
     requires slot { slot_end slot.now ≤ size terms.old }
     requires rest { forwarding_end rest ≤ size terms.old }
@@ -110,9 +113,10 @@ fn sym_by_static(
     ensures value { Gives terms.new result (λ w r. (others : ListOf HopOf) →
         IsTwin (sought_by w aim.now) others (forwarding_of w rest) →
         IsTwin (sought_by w aim.now)
-        (if number w slot.now.rib.source.nodes.items == 1 then defined.static_part net.now.files (packet_of w packet.now)
-        (hops.all_up net.now.files (failures_of w sym.now)) (up_interfaces net.now.files (failures_of w sym.now) router)
-        file.now.statics (prefix_at (address_of w packet.now.dst) len) (number w slot.now.rib.distance.nodes.items)
+        (if number w slot.now.rib.source.nodes.items == 1 then defined.static_part stop.now.net.now.files
+        (packet_of w stop.now.packet.now) (hops.all_up stop.now.net.now.files (failures_of w stop.now.sym.now))
+        (up_interfaces stop.now.net.now.files (failures_of w stop.now.sym.now) stop.now.router)
+        file.now.statics (prefix_at (address_of w stop.now.packet.now.dst) len) (number w slot.now.rib.distance.nodes.items)
         else others) (forwarding_of w r)) }
 {
     let test = sym_source(terms, slot, 1)?;
@@ -122,11 +126,11 @@ fn sym_by_static(
     let to = sym_statics(
         alloc,
         terms,
-        net,
-        sym,
-        packet,
+        stop.net,
+        stop.sym,
+        stop.packet,
         aim,
-        router,
+        stop.router,
         len,
         &slot.rib.distance,
         file.statics.as_slice(),
@@ -139,17 +143,14 @@ fn sym_by_static(
 fn sym_by_connected(
     alloc: Global,
     terms: &mut Terms,
-    net: &Net,
-    sym: &SymNet,
-    packet: &SymPacket,
+    stop: &Stop<'_>,
     aim: &SymAim,
-    router: u32,
     len: u8,
     slot: &SymSlot,
     rest: SymForwarding,
 ) -> Result<SymForwarding, AllocError>
-    requires downs { ids_end sym.now.down ≤ size terms.old }
-    requires packet { packet_end packet.now ≤ size terms.old }
+    requires downs { ids_end stop.now.sym.now.down ≤ size terms.old }
+    requires packet { packet_end stop.now.packet.now ≤ size terms.old }
     requires aim { aim.now.here.0 < size terms.old }
     requires long { len ≤ 32 }
     requires slot { slot_end slot.now ≤ size terms.old }
@@ -159,15 +160,25 @@ fn sym_by_connected(
     ensures value { Gives terms.new result (λ w r. (others : ListOf HopOf) →
         IsTwin (sought_by w aim.now) others (forwarding_of w rest) →
         IsTwin (sought_by w aim.now)
-        (if number w slot.now.rib.source.nodes.items == 0 then hops.connected_hops net.now.files (packet_of w packet.now)
-        (hops.all_up net.now.files (failures_of w sym.now)) (up_interfaces net.now.files (failures_of w sym.now) router)
-        (prefix_at (address_of w packet.now.dst) len) else others) (forwarding_of w r)) }
+        (if number w slot.now.rib.source.nodes.items == 0 then hops.connected_hops stop.now.net.now.files
+        (packet_of w stop.now.packet.now) (hops.all_up stop.now.net.now.files (failures_of w stop.now.sym.now))
+        (up_interfaces stop.now.net.now.files (failures_of w stop.now.sym.now) stop.now.router)
+        (prefix_at (address_of w stop.now.packet.now.dst) len) else others) (forwarding_of w r)) }
 {
     let test = sym_source(terms, slot, 0)?;
     if is_never(terms, test) {
         return Ok(rest);
     }
-    let to = sym_connected(alloc, terms, net, sym, packet, aim, router, len)?;
+    let to = sym_connected(
+        alloc,
+        terms,
+        stop.net,
+        stop.sym,
+        stop.packet,
+        aim,
+        stop.router,
+        len,
+    )?;
     let made = choose_forwarding(alloc, terms, test, &to, &rest)?;
     Ok(made)
 }
@@ -201,15 +212,16 @@ pub fn sym_entry_hops(
         (hops.all_up net.now.files (failures_of w sym.now)) (up_interfaces net.now.files (failures_of w sym.now) router) router
         file.now len slot.now) (forwarding_of w r)) }
 {
+    let stop = Stop {
+        net,
+        sym,
+        tables,
+        packet,
+        router,
+    };
     let bgp = sym_bgp_hops(alloc, terms, net, sym, packet, aim, router, &slot.bgp)?;
-    let ospf = sym_by_ospf(
-        alloc, terms, net, sym, tables, packet, aim, router, len, slot, bgp,
-    )?;
-    let plain = sym_by_static(
-        alloc, terms, net, sym, packet, aim, router, file, len, slot, ospf,
-    )?;
-    let made = sym_by_connected(
-        alloc, terms, net, sym, packet, aim, router, len, slot, plain,
-    )?;
+    let ospf = sym_by_ospf(alloc, terms, &stop, aim, len, slot, bgp)?;
+    let plain = sym_by_static(alloc, terms, &stop, aim, file, len, slot, ospf)?;
+    let made = sym_by_connected(alloc, terms, &stop, aim, len, slot, plain)?;
     Ok(made)
 }

@@ -8,6 +8,7 @@ pub mod laws;
 mod longest;
 mod offers;
 mod routers;
+mod stop;
 
 pub use adjacent::sym_ospf_hops;
 pub use breaks::{SymWorld, sym_breaks, sym_ends_at, world_table};

@@ -25,6 +25,7 @@ ghost use Rattle.term_store.specs.Terms.{Reading, size, at};
 ghost use Rattle.term_store.specs.Reading.{Reads, Builds, Gives};
 
 use crate::entries::sym_entry_hops;
+use crate::stop::Stop;
 use ios_ast::File;
 use net_model::Net;
 use question_lang::End;
@@ -40,39 +41,47 @@ use term_store::Terms;
 fn sym_by_slot(
     alloc: Global,
     terms: &mut Terms,
-    net: &Net,
-    sym: &SymNet,
-    tables: &SymTables<'_>,
-    packet: &SymPacket,
+    stop: &Stop<'_>,
     aim: &SymAim,
-    router: u32,
     file: &File,
     len: u8,
     slot: &SymSlot,
     rest: SymForwarding,
 ) -> Result<SymForwarding, AllocError>
-    requires net { net_end sym.now ≤ size terms.old }
-    requires slots { slots_end tables.now.slots.now ≤ size terms.old }
-    requires packet { packet_end packet.now ≤ size terms.old }
+    requires net { net_end stop.now.sym.now ≤ size terms.old }
+    requires slots { slots_end stop.now.tables.now.slots.now ≤ size terms.old }
+    requires packet { packet_end stop.now.packet.now ≤ size terms.old }
     requires aim { aim.now.here.0 < size terms.old }
     requires long { len ≤ 32 }
     requires slot { slot_end slot.now ≤ size terms.old }
     requires rest { forwarding_end rest ≤ size terms.old }
     ensures builds { Builds terms.old terms.new }
     ensures within { IfOk result (λ r. forwarding_end r ≤ size terms.new) }
-    ensures value { Gives terms.new result (λ w r. DistancesIfNeeded w net.now.files sym.now slot.now →
+    ensures value { Gives terms.new result (λ w r. DistancesIfNeeded w stop.now.net.now.files stop.now.sym.now slot.now →
         (others : ListOf HopOf) →
         IsTwin (sought_by w aim.now) others (forwarding_of w rest) →
-        IsTwin (sought_by w aim.now) (if at w slot.now.rib.valid then defined.entry_of w net.now.files
-        (read_world w sym.now packet.now tables.now) (hops.all_up net.now.files (failures_of w sym.now))
-        (up_interfaces net.now.files (failures_of w sym.now) router) router file.now len slot.now else others)
+        IsTwin (sought_by w aim.now) (if at w slot.now.rib.valid then defined.entry_of w stop.now.net.now.files
+        (read_world w stop.now.sym.now stop.now.packet.now stop.now.tables.now)
+        (hops.all_up stop.now.net.now.files (failures_of w stop.now.sym.now))
+        (up_interfaces stop.now.net.now.files (failures_of w stop.now.sym.now) stop.now.router) stop.now.router file.now len
+        slot.now else others)
         (forwarding_of w r)) }
 {
     if is_never(terms, slot.rib.valid) {
         return Ok(rest);
     }
     let to = sym_entry_hops(
-        alloc, terms, net, sym, tables, packet, aim, router, file, len, slot,
+        alloc,
+        terms,
+        stop.net,
+        stop.sym,
+        stop.tables,
+        stop.packet,
+        aim,
+        stop.router,
+        file,
+        len,
+        slot,
     )?;
     let made = choose_forwarding(alloc, terms, slot.rib.valid, &to, &rest)?;
     Ok(made)
@@ -82,38 +91,35 @@ fn sym_by_slot(
 fn sym_longer(
     alloc: Global,
     terms: &mut Terms,
-    net: &Net,
-    sym: &SymNet,
-    tables: &SymTables<'_>,
-    packet: &SymPacket,
+    stop: &Stop<'_>,
     aim: &SymAim,
-    router: u32,
     file: &File,
     len: u8,
     rest: SymForwarding,
 ) -> Result<SymForwarding, AllocError>
-    requires net { net_end sym.now ≤ size terms.old }
-    requires slots { slots_end tables.now.slots.now ≤ size terms.old }
-    requires packet { packet_end packet.now ≤ size terms.old }
+    requires net { net_end stop.now.sym.now ≤ size terms.old }
+    requires slots { slots_end stop.now.tables.now.slots.now ≤ size terms.old }
+    requires packet { packet_end stop.now.packet.now ≤ size terms.old }
     requires aim { aim.now.here.0 < size terms.old }
     requires long { len ≤ 32 }
     requires rest { forwarding_end rest ≤ size terms.old }
     ensures builds { Builds terms.old terms.new }
     ensures within { IfOk result (λ r. forwarding_end r ≤ size terms.new) }
-    ensures value { Gives terms.new result (λ w r. DistancesWhereNeeded w net.now.files sym.now tables.now.slots.now →
+    ensures value { Gives terms.new result (λ w r.
+        DistancesWhereNeeded w stop.now.net.now.files stop.now.sym.now stop.now.tables.now.slots.now →
         (shorter : OptionOf (ℕ × Slot × RibEntry)) →
-        IsTwin (sought_by w aim.now) (defined.by_entry net.now.files (read_world w sym.now packet.now tables.now)
-        router file.now shorter) (forwarding_of w rest) →
-        IsTwin (sought_by w aim.now) (defined.by_entry net.now.files (read_world w sym.now packet.now tables.now)
-        router file.now
-        (defined.longer (read_tables w tables.now) router len shorter)) (forwarding_of w r)) }
+        IsTwin (sought_by w aim.now)
+        (defined.by_entry stop.now.net.now.files (read_world w stop.now.sym.now stop.now.packet.now stop.now.tables.now)
+        stop.now.router file.now shorter) (forwarding_of w rest) →
+        IsTwin (sought_by w aim.now)
+        (defined.by_entry stop.now.net.now.files (read_world w stop.now.sym.now stop.now.packet.now stop.now.tables.now)
+        stop.now.router file.now
+        (defined.longer (read_tables w stop.now.tables.now) stop.now.router len shorter)) (forwarding_of w r)) }
 {
-    match slot_for(tables, router, len) {
+    match slot_for(stop.tables, stop.router, len) {
         None => Ok(rest),
         Some(slot) => {
-            let made = sym_by_slot(
-                alloc, terms, net, sym, tables, packet, aim, router, file, len, slot, rest,
-            )?;
+            let made = sym_by_slot(alloc, terms, stop, aim, file, len, slot, rest)?;
             Ok(made)
         }
     }
@@ -123,31 +129,26 @@ fn sym_longer(
 fn sym_longest(
     alloc: Global,
     terms: &mut Terms,
-    net: &Net,
-    sym: &SymNet,
-    tables: &SymTables<'_>,
-    packet: &SymPacket,
+    stop: &Stop<'_>,
     aim: &SymAim,
-    router: u32,
     file: &File,
 ) -> Result<SymForwarding, AllocError>
-    requires net { net_end sym.now ≤ size terms.old }
-    requires slots { slots_end tables.now.slots.now ≤ size terms.old }
-    requires packet { packet_end packet.now ≤ size terms.old }
+    requires net { net_end stop.now.sym.now ≤ size terms.old }
+    requires slots { slots_end stop.now.tables.now.slots.now ≤ size terms.old }
+    requires packet { packet_end stop.now.packet.now ≤ size terms.old }
     requires aim { aim.now.here.0 < size terms.old }
     ensures builds { Builds terms.old terms.new }
     ensures within { IfOk result (λ r. forwarding_end r ≤ size terms.new) }
-    ensures value { Gives terms.new result (λ w r. DistancesWhereNeeded w net.now.files sym.now tables.now.slots.now →
+    ensures value { Gives terms.new result (λ w r.
+        DistancesWhereNeeded w stop.now.net.now.files stop.now.sym.now stop.now.tables.now.slots.now →
         IsTwin (sought_by w aim.now)
-        (defined.by_entry net.now.files (read_world w sym.now packet.now tables.now)
-        router file.now
-        (hops.longest_below (read_tables w tables.now) router constants.LENGTHS)) (forwarding_of w r)) }
+        (defined.by_entry stop.now.net.now.files (read_world w stop.now.sym.now stop.now.packet.now stop.now.tables.now)
+        stop.now.router file.now
+        (hops.longest_below (read_tables w stop.now.tables.now) stop.now.router constants.LENGTHS)) (forwarding_of w r)) }
 {
     let mut rest = sym_ends(alloc, terms, aim, End::NoRoute)?;
     for len in 0..LENGTHS as u8 {
-        rest = sym_longer(
-            alloc, terms, net, sym, tables, packet, aim, router, file, len, rest,
-        )?;
+        rest = sym_longer(alloc, terms, stop, aim, file, len, rest)?;
     }
     Ok(rest)
 }
@@ -177,9 +178,16 @@ pub fn sym_hops(
         (hops.all_up net.now.files (failures_of w sym.now))
         (up_interfaces net.now.files (failures_of w sym.now) router) router file.now) (forwarding_of w r)) }
 {
+    let stop = Stop {
+        net,
+        sym,
+        tables,
+        packet,
+        router,
+    };
     let own = sym_own(alloc, terms, net, sym, router, &packet.dst)?;
     let here = sym_ends(alloc, terms, aim, End::Delivered)?;
-    let on = sym_longest(alloc, terms, net, sym, tables, packet, aim, router, file)?;
+    let on = sym_longest(alloc, terms, &stop, aim, file)?;
     let made = choose_forwarding(alloc, terms, own, &here, &on)?;
     Ok(made)
 }

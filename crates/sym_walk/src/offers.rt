@@ -12,11 +12,12 @@ ghost use Rattle.term_store.specs.Terms.{size, at};
 ghost use Rattle.term_store.specs.Reading.{Builds, Gives};
 ghost use Rattle.term_arith.specs.Bits.{ids_end};
 
-use net_model::{Adjacency, Net};
+use crate::stop::Stop;
+use net_model::Adjacency;
 use std::alloc::{AllocError, Global};
 use sym_forwarding::sym_up_from;
 use sym_ospf::{sym_same_record, sym_transfer};
-use sym_policy::{SymNet, SymOspf};
+use sym_policy::SymOspf;
 use sym_rib::{SymTables, slot_for};
 use term_arith::Bits;
 use term_arith::gates::{both, constant_node};
@@ -70,28 +71,34 @@ fn sym_offers(
 pub(crate) fn sym_sends_over(
     alloc: Global,
     terms: &mut Terms,
-    net: &Net,
-    sym: &SymNet,
-    tables: &SymTables<'_>,
-    router: u32,
-    dst: &Bits,
+    stop: &Stop<'_>,
     len: u8,
     held: &SymOspf,
     a: &Adjacency,
 ) -> Result<NodeId, AllocError>
     requires long { len ≤ 32 }
-    requires downs { ids_end sym.now.down ≤ size terms.old }
-    requires slots { slots_end tables.now.slots.now ≤ size terms.old }
+    requires downs { ids_end stop.now.sym.now.down ≤ size terms.old }
+    requires slots { slots_end stop.now.tables.now.slots.now ≤ size terms.old }
     requires held { ospf_end held.now ≤ size terms.old }
     ensures builds { Builds terms.old terms.new }
     ensures within { IfOk result (λ r. r.0 < size terms.new) }
     ensures value { Gives terms.new result (λ w r. at w r ≡
-        (defined.is_up_from net.now.files (failures_of w sym.now) router a.now
-        && defined.offers (read_tables w tables.now) (prefix_read w dst.now len) (ospf_of w held.now) a.now)) }
+        (defined.is_up_from stop.now.net.now.files (failures_of w stop.now.sym.now) stop.now.router a.now
+        && defined.offers (read_tables w stop.now.tables.now) (prefix_read w stop.now.packet.now.dst len)
+        (ospf_of w held.now) a.now)) }
 {
-    if a.from.router != router {
+    if a.from.router != stop.router {
         return constant_node(terms, false);
     }
-    let up = sym_up_from(alloc, terms, net, sym, router, a)?;
-    sym_offers(alloc, terms, tables, dst, len, held, up, a)
+    let up = sym_up_from(alloc, terms, stop.net, stop.sym, stop.router, a)?;
+    sym_offers(
+        alloc,
+        terms,
+        stop.tables,
+        &stop.packet.dst,
+        len,
+        held,
+        up,
+        a,
+    )
 }

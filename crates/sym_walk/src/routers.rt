@@ -17,6 +17,7 @@ ghost use Rattle.term_store.specs.Terms.{Reading, size, at};
 ghost use Rattle.term_store.specs.Reading.{Reads, Builds, Gives};
 
 use crate::longest::sym_hops;
+use crate::stop::Stop;
 use mw_text::List;
 use net_model::Net;
 use net_parts::ends::file_of;
@@ -31,30 +32,38 @@ use term_store::Terms;
 fn sym_next(
     alloc: Global,
     terms: &mut Terms,
-    net: &Net,
-    sym: &SymNet,
-    tables: &SymTables<'_>,
-    packet: &SymPacket,
+    stop: &Stop<'_>,
     aim: &SymAim,
-    router: u32,
 ) -> Result<SymForwarding, AllocError>
-    requires net { net_end sym.now ≤ size terms.old }
-    requires slots { slots_end tables.now.slots.now ≤ size terms.old }
-    requires packet { packet_end packet.now ≤ size terms.old }
+    requires net { net_end stop.now.sym.now ≤ size terms.old }
+    requires slots { slots_end stop.now.tables.now.slots.now ≤ size terms.old }
+    requires packet { packet_end stop.now.packet.now ≤ size terms.old }
     requires aim { aim.now.here.0 < size terms.old }
     ensures builds { Builds terms.old terms.new }
     ensures within { IfOk result (λ r. forwarding_end r ≤ size terms.new) }
-    ensures value { Gives terms.new result (λ w r. DistancesWhereNeeded w net.now.files sym.now tables.now.slots.now →
+    ensures value { Gives terms.new result (λ w r.
+        DistancesWhereNeeded w stop.now.net.now.files stop.now.sym.now stop.now.tables.now.slots.now →
         IsTwin (sought_by w aim.now)
-        (hops.next_hops net.now.files (read_world w sym.now packet.now tables.now) router) (forwarding_of w r)) }
+        (hops.next_hops stop.now.net.now.files (read_world w stop.now.sym.now stop.now.packet.now stop.now.tables.now)
+        stop.now.router) (forwarding_of w r)) }
 {
-    match file_of(net.routers(), router) {
+    match file_of(stop.net.routers(), stop.router) {
         None => {
             let none = still_forwarding(alloc, terms)?;
             Ok(none)
         }
         Some(file) => {
-            let made = sym_hops(alloc, terms, net, sym, tables, packet, aim, router, file)?;
+            let made = sym_hops(
+                alloc,
+                terms,
+                stop.net,
+                stop.sym,
+                stop.tables,
+                stop.packet,
+                aim,
+                stop.router,
+                file,
+            )?;
             Ok(made)
         }
     }
@@ -64,26 +73,33 @@ fn sym_next(
 pub(crate) fn sym_router(
     alloc: Global,
     terms: &mut Terms,
-    net: &Net,
-    sym: &SymNet,
-    tables: &SymTables<'_>,
-    packet: &SymPacket,
+    stop: &Stop<'_>,
     kind: Kind,
-    router: u32,
 ) -> Result<SymForwarding, AllocError>
-    requires net { net_end sym.now ≤ size terms.old }
-    requires slots { slots_end tables.now.slots.now ≤ size terms.old }
-    requires packet { packet_end packet.now ≤ size terms.old }
+    requires net { net_end stop.now.sym.now ≤ size terms.old }
+    requires slots { slots_end stop.now.tables.now.slots.now ≤ size terms.old }
+    requires packet { packet_end stop.now.packet.now ≤ size terms.old }
     ensures builds { Builds terms.old terms.new }
     ensures within { IfOk result (λ r. forwarding_end r ≤ size terms.new) }
-    ensures value { Gives terms.new result (λ w r. DistancesWhereNeeded w net.now.files sym.now tables.now.slots.now →
+    ensures value { Gives terms.new result (λ w r.
+        DistancesWhereNeeded w stop.now.net.now.files stop.now.sym.now stop.now.tables.now.slots.now →
         IsTwin
-        (is_sought kind (ends_here net.now.files (failures_of w sym.now) (packet_of w packet.now) router kind))
-        (hops.next_hops net.now.files (read_world w sym.now packet.now tables.now) router) (forwarding_of w r)) }
+        (is_sought kind (ends_here stop.now.net.now.files (failures_of w stop.now.sym.now) (packet_of w stop.now.packet.now)
+        stop.now.router kind))
+        (hops.next_hops stop.now.net.now.files (read_world w stop.now.sym.now stop.now.packet.now stop.now.tables.now)
+        stop.now.router) (forwarding_of w r)) }
 {
-    let here = sym_here(alloc, terms, net, sym, packet, router, kind)?;
+    let here = sym_here(
+        alloc,
+        terms,
+        stop.net,
+        stop.sym,
+        stop.packet,
+        stop.router,
+        kind,
+    )?;
     let aim = SymAim { kind, here };
-    let made = sym_next(alloc, terms, net, sym, tables, packet, &aim, router)?;
+    let made = sym_next(alloc, terms, stop, &aim)?;
     Ok(made)
 }
 
@@ -111,26 +127,25 @@ pub(crate) fn router_count(net: &Net) -> u32
 fn add_router(
     alloc: Global,
     terms: &mut Terms,
-    net: &Net,
-    sym: &SymNet,
-    tables: &SymTables<'_>,
-    packet: &SymPacket,
+    stop: &Stop<'_>,
     kind: Kind,
-    router: u32,
     table: List<SymForwarding>,
 ) -> Result<List<SymForwarding>, AllocError>
-    requires net { net_end sym.now ≤ size terms.old }
-    requires slots { slots_end tables.now.slots.now ≤ size terms.old }
-    requires packet { packet_end packet.now ≤ size terms.old }
+    requires net { net_end stop.now.sym.now ≤ size terms.old }
+    requires slots { slots_end stop.now.tables.now.slots.now ≤ size terms.old }
+    requires packet { packet_end stop.now.packet.now ≤ size terms.old }
     requires table { table_end table ≤ size terms.old }
     ensures builds { Builds terms.old terms.new }
     ensures within { IfOk result (λ r. table_end r ≤ size terms.new) }
     ensures long { IfOk result (λ r. length r ≡ length table + 1) }
-    ensures value { Gives terms.new result (λ w r. DistancesWhereNeeded w net.now.files sym.now tables.now.slots.now →
-        AreTwins net.now.files (read_world w sym.now packet.now tables.now) kind router (table_of w table) →
-        AreTwins net.now.files (read_world w sym.now packet.now tables.now) kind (router + 1) (table_of w r)) }
+    ensures value { Gives terms.new result (λ w r.
+        DistancesWhereNeeded w stop.now.net.now.files stop.now.sym.now stop.now.tables.now.slots.now →
+        AreTwins stop.now.net.now.files (read_world w stop.now.sym.now stop.now.packet.now stop.now.tables.now) kind
+        stop.now.router (table_of w table) →
+        AreTwins stop.now.net.now.files (read_world w stop.now.sym.now stop.now.packet.now stop.now.tables.now) kind
+        (stop.now.router + 1) (table_of w r)) }
 {
-    let one = sym_router(alloc, terms, net, sym, tables, packet, kind, router)?;
+    let one = sym_router(alloc, terms, stop, kind)?;
     let made = with_one(table, one)?;
     Ok(made)
 }
@@ -156,9 +171,17 @@ pub fn sym_table(
         AreTwins net.now.files (read_world w sym.now packet.now tables.now) kind
         (length net.now.files) (table_of w r)) }
 {
+    let first = Stop {
+        net,
+        sym,
+        tables,
+        packet,
+        router: 0,
+    };
     let mut table = List::new(alloc);
     for router in 0..router_count(net) {
-        table = add_router(alloc, terms, net, sym, tables, packet, kind, router, table)?;
+        let stop = Stop { router, ..first };
+        table = add_router(alloc, terms, &stop, kind, table)?;
     }
     Ok(table)
 }

@@ -14,15 +14,16 @@ use Rattle.sym_walk.proofs.entries.sym_by_connected.Goals as goal
 
 pub returns-clause-value : goal.returns-clause-value
 returns-clause-value c = λ w reads others twin.
+    let stop = c.args.stop.now in
     let made = c.in_ok-made.ensures in
     let to = c.in_ok-to.ensures in
     let test = c.in_ok-test.ensures in
     let after_to = made.builds.reads w reads in
     let slot = c.args.slot.now in
-    let net = c.args.net.now.files in
-    let failures = failures_of w c.args.sym.now in
+    let net = stop.net.now.files in
+    let failures = failures_of w stop.sym.now in
     chosen_lists (sought_by w c.args.aim.now) (at w c.in_ok-test.test) (eqb (number w slot.rib.source.nodes.items) 0)
-    (connected_hops net (packet_of w c.args.packet.now) (all_up net failures) (up_interfaces net failures
-    c.args.router) (prefix_at (address_of w c.args.packet.now.dst) c.args.len)) others
+    (connected_hops net (packet_of w stop.packet.now) (all_up net failures) (up_interfaces net failures
+    stop.router) (prefix_at (address_of w stop.packet.now.dst) c.args.len)) others
     (forwarding_of w c.in_ok-to.to) (forwarding_of w c.args.rest) (forwarding_of w c.in_ok-made.made)
     (made.value w reads) (test.value w (to.builds.reads w after_to)) (to.value w after_to) twin

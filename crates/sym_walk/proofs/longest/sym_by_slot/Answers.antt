@@ -12,13 +12,14 @@ use Rattle.sym_walk.proofs.longest.sym_by_slot.Goals as goal
 
 pub returns-clause-value : goal.returns-clause-value
 returns-clause-value c = λ w reads needed others twin.
+    let stop = c.args.stop.now in
     let made = c.in_ok-made.ensures in
     let to = c.in_ok-to.ensures in
     let slot = c.args.slot.now in
-    let net = c.args.net.now.files in
-    let failures = failures_of w c.args.sym.now in
+    let net = stop.net.now.files in
+    let failures = failures_of w stop.sym.now in
     chosen_lists (sought_by w c.args.aim.now) (at w slot.rib.valid) (at w slot.rib.valid)
-    (entry_of w net (read_world w c.args.sym.now c.args.packet.now c.args.tables.now) (all_up net failures)
-    (up_interfaces net failures c.args.router) c.args.router c.args.file.now c.args.len slot) others
+    (entry_of w net (read_world w stop.sym.now stop.packet.now stop.tables.now) (all_up net failures)
+    (up_interfaces net failures stop.router) stop.router c.args.file.now c.args.len slot) others
     (forwarding_of w c.in_ok-to.to) (forwarding_of w c.args.rest) (forwarding_of w c.in_ok-made.made)
     (made.value w reads) refl (to.value w (made.builds.reads w reads) needed) twin

@@ -12,23 +12,25 @@ use Rattle.sym_walk.proofs.longest.sym_longer.Goals as goal
 
 pub returns-in-None-clause-value : goal.returns-in-None-clause-value
 returns-in-None-clause-value c = λ w reads needed shorter twin.
-    let world = read_world w c.args.sym.now c.args.packet.now c.args.tables.now in
+    let stop = c.args.stop.now in
+    let world = read_world w stop.sym.now stop.packet.now stop.tables.now in
     let P : List Hop → Type 0 = λ hs. IsTwin (sought_by w c.args.aim.now) hs (forwarding_of w c.args.rest) in
     subst P
-    (longer_missing w c.args.net.now.files world c.args.router c.args.file.now c.args.tables.now c.args.len shorter
+    (longer_missing w stop.net.now.files world stop.router c.args.file.now stop.tables.now c.args.len shorter
     (omega arith) (sym c.in-None.ensures.place)) twin
 
 pub returns-in_ok-made-in-Some-clause-value : goal.returns-in_ok-made-in-Some-clause-value
 returns-in_ok-made-in-Some-clause-value c = λ w reads needed shorter twin.
-    let net = c.args.net.now.files in
-    let tables = c.args.tables.now in
-    let world = read_world w c.args.sym.now c.args.packet.now c.args.tables.now in
+    let stop = c.args.stop.now in
+    let net = stop.net.now.files in
+    let tables = stop.tables.now in
+    let world = read_world w stop.sym.now stop.packet.now stop.tables.now in
     let P : List Hop → Type 0 = λ hs. IsTwin (sought_by w c.args.aim.now) hs (forwarding_of w
     c.in_ok-made-in-Some.made) in
     subst P
-    (longer_there w net world c.args.router c.args.file.now c.args.tables.now c.args.len c.in-Some.slot.now shorter
+    (longer_there w net world stop.router c.args.file.now stop.tables.now c.args.len c.in-Some.slot.now shorter
     (omega arith) (sym c.in-Some.ensures.place))
     (c.in_ok-made-in-Some.ensures.value w reads
-    (placed_all (DistancesIfNeeded w net c.args.sym.now) tables.lens.now tables.routers tables.slots.now c.args.router
+    (placed_all (DistancesIfNeeded w net stop.sym.now) tables.lens.now tables.routers tables.slots.now stop.router
     c.args.len c.in-Some.slot.now (sym c.in-Some.ensures.place) needed)
-    (by_entry net world c.args.router c.args.file.now shorter) twin)
+    (by_entry net world stop.router c.args.file.now shorter) twin)

@@ -16,10 +16,11 @@ loop-len-init c = record {
   builds = search rules;
   within = search rules;
   value = λ w reads needed.
-      let world = read_world w c.args.sym.now c.args.packet.now c.args.tables.now in
+      let stop = c.args.stop.now in
+      let world = read_world w stop.sym.now stop.packet.now stop.tables.now in
       let P : Option (ℕ × Slot × RibEntry) → Type 0 = λ found. IsTwin (sought_by w c.args.aim.now)
-      (by_entry c.args.net.now.files world c.args.router c.args.file.now found) (forwarding_of w c.in_ok-rest.rest) in
-      subst P (sym (longest_none (read_tables w c.args.tables.now) c.args.router)) (c.in_ok-rest.ensures.value w reads);
+      (by_entry stop.net.now.files world stop.router c.args.file.now found) (forwarding_of w c.in_ok-rest.rest) in
+      subst P (sym (longest_none (read_tables w stop.tables.now) stop.router)) (c.in_ok-rest.ensures.value w reads);
 }
 
 pub loop-len-preserved : goal.loop-len-preserved
@@ -27,21 +28,23 @@ loop-len-preserved c = record {
   builds = search rules;
   within = search rules;
   value = λ w reads needed.
-      let world = read_world w c.args.sym.now c.args.packet.now c.args.tables.now in
-      let tables = read_tables w c.args.tables.now in
+      let stop = c.args.stop.now in
+      let world = read_world w stop.sym.now stop.packet.now stop.tables.now in
+      let tables = read_tables w stop.tables.now in
       let step = c.in_ok-rest-2.ensures in
       let P : Option (ℕ × Slot × RibEntry) → Type 0 = λ found. IsTwin (sought_by w c.args.aim.now)
-      (by_entry c.args.net.now.files world c.args.router c.args.file.now found) (forwarding_of w c.in_ok-rest-2.rest) in
-      subst P (sym (longest_more tables c.args.router c.loop-len.len))
-      (step.value w reads needed (longest_below tables c.args.router c.loop-len.len)
+      (by_entry stop.net.now.files world stop.router c.args.file.now found) (forwarding_of w c.in_ok-rest-2.rest) in
+      subst P (sym (longest_more tables stop.router c.loop-len.len))
+      (step.value w reads needed (longest_below tables stop.router c.loop-len.len)
       (c.loop-len.invariant.value w (step.builds.reads w reads) needed));
 }
 
 pub returns-clause-value : goal.returns-clause-value
 returns-clause-value c = λ w reads needed.
+    let stop = c.args.stop.now in
     let all : c.loop-len.len ≡ 33 = omega arith in
-    let world = read_world w c.args.sym.now c.args.packet.now c.args.tables.now in
+    let world = read_world w stop.sym.now stop.packet.now stop.tables.now in
     let P : ℕ → Type 0 = λ n. IsTwin (sought_by w c.args.aim.now)
-    (by_entry c.args.net.now.files world c.args.router c.args.file.now (longest_below (read_tables w c.args.tables.now)
-    c.args.router n)) (forwarding_of w c.loop-len.rest) in
+    (by_entry stop.net.now.files world stop.router c.args.file.now (longest_below (read_tables w stop.tables.now)
+    stop.router n)) (forwarding_of w c.loop-len.rest) in
     subst P all (c.loop-len.invariant.value w reads needed)

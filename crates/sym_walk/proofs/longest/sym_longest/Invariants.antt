@@ -15,9 +15,11 @@ abbrev pub invariant-loop-len : goal.invariant-loop-len
 invariant-loop-len l = record {
   builds : Builds l.fn.terms l.terms;
   within : forwarding_end l.rest ≤ size l.terms;
-  value : (w : Reading) → Reads w l.terms → DistancesWhereNeeded w l.net.files l.sym l.tables.slots.now →
+  value : (w : Reading) → Reads w l.terms → DistancesWhereNeeded w l.stop.net.now.files l.stop.sym.now
+      l.stop.tables.now.slots.now →
       IsTwin (sought_by w l.aim)
-      (by_entry l.net.files (read_world w l.sym l.packet l.tables) l.router l.file
-      (longest_below (read_tables w l.tables) l.router l.len))
+      (by_entry l.stop.net.now.files (read_world w l.stop.sym.now l.stop.packet.now l.stop.tables.now) l.stop.router
+      l.file
+      (longest_below (read_tables w l.stop.tables.now) l.stop.router l.len))
       (forwarding_of w l.rest);
 }

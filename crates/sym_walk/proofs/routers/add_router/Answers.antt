@@ -8,9 +8,10 @@ use Rattle.sym_walk.proofs.routers.add_router.Goals as goal
 
 pub returns-clause-value : goal.returns-clause-value
 returns-clause-value c = λ w reads needed twins.
-    let net = c.args.net.now.files in
-    let world = read_world w c.args.sym.now c.args.packet.now c.args.tables.now in
-    let P : List SymForwarding → Type 0 = λ t. AreTwins net world c.args.kind (c.args.router + 1) (table_of w t) in
+    let stop = c.args.stop.now in
+    let net = stop.net.now.files in
+    let world = read_world w stop.sym.now stop.packet.now stop.tables.now in
+    let P : List SymForwarding → Type 0 = λ t. AreTwins net world c.args.kind (stop.router + 1) (table_of w t) in
     subst P (sym c.in_ok-made.ensures)
-    (twins_pushed w net world c.args.kind c.args.router c.args.table c.in_ok-one.one twins (c.in_ok-one.ensures.value w
+    (twins_pushed w net world c.args.kind stop.router c.args.table c.in_ok-one.one twins (c.in_ok-one.ensures.value w
     reads needed))

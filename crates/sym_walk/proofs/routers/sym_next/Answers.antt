@@ -13,22 +13,24 @@ use Rattle.sym_walk.proofs.routers.sym_next.Goals as goal
 
 pub returns-in_ok-none-in-None-clause-value : goal.returns-in_ok-none-in-None-clause-value
 returns-in_ok-none-in-None-clause-value c = λ w reads needed.
-    let net = c.args.net.now.files in
-    let failures = failures_of w c.args.sym.now in
-    let world = read_world w c.args.sym.now c.args.packet.now c.args.tables.now in
+    let stop = c.args.stop.now in
+    let net = stop.net.now.files in
+    let failures = failures_of w stop.sym.now in
+    let world = read_world w stop.sym.now stop.packet.now stop.tables.now in
     let P : Option File → Type 0 = λ file. IsTwin (sought_by w c.args.aim.now)
-    (option_map_or (hops_over net world (all_up net failures) (up_interfaces net failures c.args.router) c.args.router)
+    (option_map_or (hops_over net world (all_up net failures) (up_interfaces net failures stop.router) stop.router)
     file []) (forwarding_of w c.in_ok-none-in-None.none) in
-    subst P (c.in-None.ensures ∙ ap (λ fs. slice_get fs c.args.router) c.routers.ensures.all)
+    subst P (c.in-None.ensures ∙ ap (λ fs. slice_get fs stop.router) c.routers.ensures.all)
     (c.in_ok-none-in-None.ensures.value w reads (sought_by w c.args.aim.now))
 
 pub returns-in_ok-made-in-Some-clause-value : goal.returns-in_ok-made-in-Some-clause-value
 returns-in_ok-made-in-Some-clause-value c = λ w reads needed.
-    let net = c.args.net.now.files in
-    let failures = failures_of w c.args.sym.now in
-    let world = read_world w c.args.sym.now c.args.packet.now c.args.tables.now in
+    let stop = c.args.stop.now in
+    let net = stop.net.now.files in
+    let failures = failures_of w stop.sym.now in
+    let world = read_world w stop.sym.now stop.packet.now stop.tables.now in
     let P : Option File → Type 0 = λ file. IsTwin (sought_by w c.args.aim.now)
-    (option_map_or (hops_over net world (all_up net failures) (up_interfaces net failures c.args.router) c.args.router)
+    (option_map_or (hops_over net world (all_up net failures) (up_interfaces net failures stop.router) stop.router)
     file []) (forwarding_of w c.in_ok-made-in-Some.made) in
-    subst P (c.in-Some.ensures ∙ ap (λ fs. slice_get fs c.args.router) c.routers.ensures.all)
+    subst P (c.in-Some.ensures ∙ ap (λ fs. slice_get fs stop.router) c.routers.ensures.all)
     (c.in_ok-made-in-Some.ensures.value w reads needed)

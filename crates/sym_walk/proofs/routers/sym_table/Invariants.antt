@@ -13,6 +13,6 @@ invariant-loop-router l = record {
   builds : Builds l.fn.terms l.terms;
   within : table_end l.table ≤ size l.terms;
   long : length l.table ≡ l.router;
-  value : (w : Reading) → Reads w l.terms → DistancesWhereNeeded w l.net.files l.sym l.tables.slots.now →
-      AreTwins l.net.files (read_world w l.sym l.packet l.tables) l.kind l.router (table_of w l.table);
+  value : (w : Reading) → Reads w l.terms → DistancesWhereNeeded w l.net.files l.sym l.fn.tables.slots.now →
+      AreTwins l.net.files (read_world w l.sym l.packet l.fn.tables) l.kind l.router (table_of w l.table);
 }
