@@ -26,6 +26,15 @@ use term_arith::gates::{both, constant_node, either};
 use term_arith::{Bits, equal_number};
 use term_store::{NodeId, Terms};
 
+/// A next hop of a route of a router of the network: its address, while the links of `sym` have failed.
+#[derive(Clone, Copy)]
+struct Hop<'a> {
+    net: &'a Net,
+    sym: &'a SymNet,
+    router: u32,
+    a: &'a Bits,
+}
+
 /// The bits of an address above its `low` lowest ones.
 #[tactic(auto, using(std::proofs::lemmas::List::take_rest))]
 fn high_bits(address: &Bits, low: u8) -> &[NodeId]
@@ -53,49 +62,42 @@ fn sym_contains(terms: &mut Terms, prefix: &Prefix, address: &Bits) -> Result<No
 fn sym_reached_by(
     alloc: Global,
     terms: &mut Terms,
-    net: &Net,
-    sym: &SymNet,
-    router: u32,
-    a: &Bits,
+    hop: &Hop<'_>,
     x: &Addressed,
 ) -> Result<NodeId, AllocError>
-    requires wide { length a.now.nodes.items ≡ 32 }
-    requires address { ids_end a.now.nodes.items ≤ size terms.old }
-    requires nodes { net_end sym.now ≤ size terms.old }
+    requires wide { length hop.now.a.now.nodes.items ≡ 32 }
+    requires address { ids_end hop.now.a.now.nodes.items ≤ size terms.old }
+    requires nodes { net_end hop.now.sym.now ≤ size terms.old }
     ensures builds { Builds terms.old terms.new }
     ensures within { IfOk result (λ r. r.0 < size terms.new) }
     ensures value { Gives terms.new result (λ w r. at w r
-        ≡ is_reached_by net.now.files (failures_of w sym.now) router (address_of w a.now) x.now) }
+        ≡ is_reached_by hop.now.net.now.files (failures_of w hop.now.sym.now) hop.now.router
+        (address_of w hop.now.a.now) x.now) }
 {
-    if x.id.router != router {
+    if x.id.router != hop.router {
         return constant_node(terms, false);
     }
-    let up = sym_up(alloc, terms, net, sym, x)?;
-    let inside = sym_contains(terms, &x.subnet, a)?;
+    let up = sym_up(alloc, terms, hop.net, hop.sym, x)?;
+    let inside = sym_contains(terms, &x.subnet, hop.a)?;
     both(terms, up, inside)
 }
 
 /// Whether an interface of the router that is up has the address on its subnet.
 #[tactic(auto, using(crate::proofs::Reach::reach_steps))]
-fn sym_reached(
-    alloc: Global,
-    terms: &mut Terms,
-    net: &Net,
-    sym: &SymNet,
-    router: u32,
-    a: &Bits,
-) -> Result<NodeId, AllocError>
-    requires wide { length a.now.nodes.items ≡ 32 }
-    requires address { ids_end a.now.nodes.items ≤ size terms.old }
-    requires nodes { net_end sym.now ≤ size terms.old }
+fn sym_reached(alloc: Global, terms: &mut Terms, hop: &Hop<'_>) -> Result<NodeId, AllocError>
+    requires wide { length hop.now.a.now.nodes.items ≡ 32 }
+    requires address { ids_end hop.now.a.now.nodes.items ≤ size terms.old }
+    requires nodes { net_end hop.now.sym.now ≤ size terms.old }
     ensures builds { Builds terms.old terms.new }
     ensures within { IfOk result (λ r. r.0 < size terms.new) }
     ensures value { Gives terms.new result (λ w r. at w r
-        ≡ routing.is_reached (routing.up_interfaces net.now.files (failures_of w sym.now) router) (address_of w a.now)) }
+        ≡ routing.is_reached
+        (routing.up_interfaces hop.now.net.now.files (failures_of w hop.now.sym.now) hop.now.router)
+        (address_of w hop.now.a.now)) }
 {
     let mut any = constant_node(terms, false)?;
-    for x in net.addresses() {
-        let one = sym_reached_by(alloc, terms, net, sym, router, a, x)?;
+    for x in hop.net.addresses() {
+        let one = sym_reached_by(alloc, terms, hop, x)?;
         any = either(terms, any, one)?;
     }
     Ok(any)
@@ -105,84 +107,73 @@ fn sym_reached(
 fn sym_found_at(
     alloc: Global,
     terms: &mut Terms,
-    net: &Net,
-    sym: &SymNet,
-    router: u32,
+    hop: &Hop<'_>,
     k: usize,
     p: &Prefix,
-    a: &Bits,
     behind: &SymOspf,
 ) -> Result<SymOspf, AllocError>
-    requires rows { length sym.now.igp ≡ length net.now.files * length (ospf.advertised net.now.files) }
-    requires router { router < length net.now.files }
-    requires place { k < length (ospf.advertised net.now.files) }
-    requires there { slice_get (ospf.advertised net.now.files) k ≡ Some p.now }
-    requires wide { length a.now.nodes.items ≡ 32 }
-    requires address { ids_end a.now.nodes.items ≤ size terms.old }
-    requires nodes { net_end sym.now ≤ size terms.old }
+    requires rows { length hop.now.sym.now.igp
+        ≡ length hop.now.net.now.files * length (ospf.advertised hop.now.net.now.files) }
+    requires router { hop.now.router < length hop.now.net.now.files }
+    requires place { k < length (ospf.advertised hop.now.net.now.files) }
+    requires there { slice_get (ospf.advertised hop.now.net.now.files) k ≡ Some p.now }
+    requires wide { length hop.now.a.now.nodes.items ≡ 32 }
+    requires address { ids_end hop.now.a.now.nodes.items ≤ size terms.old }
+    requires nodes { net_end hop.now.sym.now ≤ size terms.old }
     requires behind { ospf_end behind.now ≤ size terms.old }
     ensures builds { Builds terms.old terms.new }
     ensures within { IfOk result (λ r. ospf_end r ≤ size terms.new) }
-    ensures value { Gives terms.new result (λ w r. HasDistances w net.now.files sym.now → ospf_of w r
-        ≡ (if covers p.now (address_of w a.now)
-        then option_map internal_route (interior_distance net.now.files (failures_of w sym.now) router p.now)
+    ensures value { Gives terms.new result (λ w r. HasDistances w hop.now.net.now.files hop.now.sym.now → ospf_of w r
+        ≡ (if covers p.now (address_of w hop.now.a.now)
+        then option_map internal_route
+        (interior_distance hop.now.net.now.files (failures_of w hop.now.sym.now) hop.now.router p.now)
         else ospf_of w behind.now)) }
 {
-    let inside = sym_contains(terms, p, a)?;
-    let rec = igp_of(net, sym, router, k);
+    let inside = sym_contains(terms, p, hop.a)?;
+    let rec = igp_of(hop.net, hop.sym, hop.router, k);
     let made = choose_ospf(alloc, terms, inside, rec, behind)?;
     Ok(made)
 }
 
 /// The distance to the advertised prefix that contains the address.
 #[tactic(auto, using(crate::proofs::Reach::found_steps))]
-fn sym_found(
-    alloc: Global,
-    terms: &mut Terms,
-    net: &Net,
-    sym: &SymNet,
-    router: u32,
-    a: &Bits,
-) -> Result<SymOspf, AllocError>
-    requires rows { length sym.now.igp ≡ length net.now.files * length (ospf.advertised net.now.files) }
-    requires router { router < length net.now.files }
-    requires wide { length a.now.nodes.items ≡ 32 }
-    requires address { ids_end a.now.nodes.items ≤ size terms.old }
-    requires nodes { net_end sym.now ≤ size terms.old }
+fn sym_found(alloc: Global, terms: &mut Terms, hop: &Hop<'_>) -> Result<SymOspf, AllocError>
+    requires rows { length hop.now.sym.now.igp
+        ≡ length hop.now.net.now.files * length (ospf.advertised hop.now.net.now.files) }
+    requires router { hop.now.router < length hop.now.net.now.files }
+    requires wide { length hop.now.a.now.nodes.items ≡ 32 }
+    requires address { ids_end hop.now.a.now.nodes.items ≤ size terms.old }
+    requires nodes { net_end hop.now.sym.now ≤ size terms.old }
     ensures builds { Builds terms.old terms.new }
     ensures within { IfOk result (λ r. ospf_end r ≤ size terms.new) }
-    ensures value { Gives terms.new result (λ w r. HasDistances w net.now.files sym.now → ospf_of w r
-        ≡ found net.now.files (failures_of w sym.now) router (address_of w a.now) (ospf.advertised net.now.files)) }
+    ensures value { Gives terms.new result (λ w r. HasDistances w hop.now.net.now.files hop.now.sym.now → ospf_of w r
+        ≡ found hop.now.net.now.files (failures_of w hop.now.sym.now) hop.now.router (address_of w hop.now.a.now)
+        (ospf.advertised hop.now.net.now.files)) }
 {
     let mut rest = known_ospf(alloc, terms, false, 0)?;
-    for k in (0..net.advertised().len()).rev() {
-        let p = net.advertised()[k];
-        rest = sym_found_at(alloc, terms, net, sym, router, k, &p, a, &rest)?;
+    for k in (0..hop.net.advertised().len()).rev() {
+        let p = hop.net.advertised()[k];
+        rest = sym_found_at(alloc, terms, hop, k, &p, &rest)?;
     }
     Ok(rest)
 }
 
 /// The distance to the advertised prefix that contains the address, also of a router that is none of the files.
 #[tactic(auto, using(crate::proofs::Reach::found_past))]
-fn sym_far(
-    alloc: Global,
-    terms: &mut Terms,
-    net: &Net,
-    sym: &SymNet,
-    router: u32,
-    a: &Bits,
-) -> Result<SymOspf, AllocError>
-    requires rows { length sym.now.igp ≡ length net.now.files * length (ospf.advertised net.now.files) }
-    requires wide { length a.now.nodes.items ≡ 32 }
-    requires address { ids_end a.now.nodes.items ≤ size terms.old }
-    requires nodes { net_end sym.now ≤ size terms.old }
+fn sym_far(alloc: Global, terms: &mut Terms, hop: &Hop<'_>) -> Result<SymOspf, AllocError>
+    requires rows { length hop.now.sym.now.igp
+        ≡ length hop.now.net.now.files * length (ospf.advertised hop.now.net.now.files) }
+    requires wide { length hop.now.a.now.nodes.items ≡ 32 }
+    requires address { ids_end hop.now.a.now.nodes.items ≤ size terms.old }
+    requires nodes { net_end hop.now.sym.now ≤ size terms.old }
     ensures builds { Builds terms.old terms.new }
     ensures within { IfOk result (λ r. ospf_end r ≤ size terms.new) }
-    ensures value { Gives terms.new result (λ w r. HasDistances w net.now.files sym.now → ospf_of w r
-        ≡ found net.now.files (failures_of w sym.now) router (address_of w a.now) (ospf.advertised net.now.files)) }
+    ensures value { Gives terms.new result (λ w r. HasDistances w hop.now.net.now.files hop.now.sym.now → ospf_of w r
+        ≡ found hop.now.net.now.files (failures_of w hop.now.sym.now) hop.now.router (address_of w hop.now.a.now)
+        (ospf.advertised hop.now.net.now.files)) }
 {
-    if (router as usize) < net.routers().len() {
-        sym_found(alloc, terms, net, sym, router, a)
+    if (hop.router as usize) < hop.net.routers().len() {
+        sym_found(alloc, terms, hop)
     } else {
         known_ospf(alloc, terms, false, 0)
     }
@@ -209,8 +200,14 @@ pub fn sym_resolve(
     ensures value { Gives terms.new result (λ w r. HasDistances w net.now.files sym.now → ospf_of w r
         ≡ option_map internal_route (resolved net.now.files (failures_of w sym.now) router (address_of w a.now))) }
 {
-    let reached = sym_reached(alloc, terms, net, sym, router, a)?;
-    let far = sym_far(alloc, terms, net, sym, router, a)?;
+    let hop = Hop {
+        net,
+        sym,
+        router,
+        a,
+    };
+    let reached = sym_reached(alloc, terms, &hop)?;
+    let far = sym_far(alloc, terms, &hop)?;
     let here = known_ospf(alloc, terms, true, 0)?;
     choose_ospf(alloc, terms, reached, &here, &far)
 }

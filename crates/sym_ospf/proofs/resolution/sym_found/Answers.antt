@@ -12,8 +12,9 @@ use Rattle.sym_ospf.proofs.resolution.sym_found.Goals as goal
 pub loop-k-preserved : goal.loop-k-preserved
 loop-k-preserved c =
     let step = c.in_ok-rest-2.ensures in
-    let net = c.args.net.now.files in
-    let router = c.args.router in
+    let hop = c.args.hop.now in
+    let net = hop.net.now.files in
+    let router = hop.router in
     let none : Prefix = record { addr = record { 0 = 0 }; len = 0 } in
     let p = get_or c.advertised.result.now (c.loop-k.k - 1) none in
     let outer = ap length c.advertised-k.ensures.value in
@@ -21,8 +22,8 @@ loop-k-preserved c =
       builds = search rules;
       within = search rules;
       value = λ w reads has.
-          let failures = failures_of w c.args.sym.now in
-          let a = address_of w c.args.a.now in
+          let failures = failures_of w hop.sym.now in
+          let a = address_of w hop.a.now in
           step.value w reads has
           ∙ ap (λ (o : Option OspfRec). if covers p a
           then option_map internal_route (interior_distance net failures router p) else o)

@@ -12,6 +12,7 @@ abbrev pub invariant-loop-k : goal.invariant-loop-k
 invariant-loop-k l = record {
   builds : Builds l.fn.terms l.terms;
   within : ospf_end l.rest ≤ size l.terms;
-  value : (w : Reading) → Reads w l.terms → HasDistances w l.net.files l.sym → ospf_of w l.rest
-      ≡ found l.net.files (failures_of w l.sym) l.router (address_of w l.a) (drop l.k (advertised l.net.files));
+  value : (w : Reading) → Reads w l.terms → HasDistances w l.hop.net.now.files l.hop.sym.now → ospf_of w l.rest
+      ≡ found l.hop.net.now.files (failures_of w l.hop.sym.now) l.hop.router (address_of w l.hop.a.now)
+      (drop l.k (advertised l.hop.net.now.files));
 }

@@ -13,6 +13,6 @@ invariant-loop-x l = record {
   builds : Builds l.fn.terms l.terms;
   within : l.any.0 < size l.terms;
   value : (w : Reading) → Reads w l.terms → at w l.any
-      ≡ list_any (is_reached_by l.net.files (failures_of w l.sym) l.router (address_of w l.a))
-      (take l.x-index (addressed l.net.files));
+      ≡ list_any (is_reached_by l.hop.net.now.files (failures_of w l.hop.sym.now) l.hop.router
+      (address_of w l.hop.a.now)) (take l.x-index (addressed l.hop.net.now.files));
 }
