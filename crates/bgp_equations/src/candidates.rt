@@ -26,18 +26,17 @@ ghost use Rattle.bgp_equations.specs.Beside.{HaveAllMarks};
 ghost use Rattle.bgp_equations.specs.Environments.{FitsNet, env_end, environment_read};
 ghost use Rattle.bgp_equations.specs.Equations.{DistancesForSessions, HaveTracked, RowsForSessions, local_with, sending_read, slot_read};
 
-use crate::environment::SymEnv;
 use crate::learnt::{put_cand, with_learnt};
+use crate::routing::Routing;
 use mw_text::{Addr, List};
-use net_model::Net;
 use net_parts::router_ids::router_id;
 use route_record::Tracked;
 use std::alloc::{AllocError, Global};
 use sym_bgp::SymCand;
-use sym_policy::{SymBgp, SymMapRec, SymNet, SymRoute, joined, path_of, preferences_of, rest_of};
-use sym_rib::{SymSlot, SymTables, sym_originate};
+use sym_policy::{SymBgp, SymMapRec, SymRoute, joined, path_of, preferences_of, rest_of};
+use sym_rib::{SymSlot, sym_originate};
 use term_arith::gates::constant_node;
-use term_arith::{Bits, constant, copy};
+use term_arith::{constant, copy};
 use term_store::Terms;
 
 /// A copy of what route maps see of a route.
@@ -123,66 +122,75 @@ fn local_cands(
 fn own_cands(
     alloc: Global,
     terms: &mut Terms,
-    net: &Net,
+    routing: &Routing<'_>,
     router: u32,
-    dst: &Bits,
-    len: u8,
     slot: &SymSlot,
 ) -> Result<List<SymCand>, AllocError>
-    requires long { len ≤ 32 }
-    requires wide { length dst.now.nodes.items ≡ 32 }
-    requires dst { ids_end dst.now.nodes.items ≤ size terms.old }
+    requires long { routing.now.len ≤ 32 }
+    requires wide { length routing.now.dst.now.nodes.items ≡ 32 }
+    requires dst { ids_end routing.now.dst.now.nodes.items ≤ size terms.old }
     requires slot { slot_end slot.now ≤ size terms.old }
     ensures builds { Builds terms.old terms.new }
     ensures within { IfOk result (λ r. candidates_end r ≤ size terms.new) }
-    ensures marks { IfOk result (λ r. HaveAllMarks net.now.tracked r) }
+    ensures marks { IfOk result (λ r. HaveAllMarks routing.now.net.now.tracked r) }
     ensures value { Gives terms.new result (λ w r. (file : FileOf) (process : BgpOf) →
-        slice_get net.now.files router ≡ Some file → file.bgp ≡ Some process →
-        filter_map (candidate_of w) r ≡ map (shape_local net.now.files router)
-        (shape_local_routes net.now.tracked net.now.files router file process (prefix_of w dst.now len)
-        (slot_read w slot.now))) }
+        slice_get routing.now.net.now.files router ≡ Some file → file.bgp ≡ Some process →
+        filter_map (candidate_of w) r ≡ map (shape_local routing.now.net.now.files router)
+        (shape_local_routes routing.now.net.now.tracked routing.now.net.now.files router file process
+        (prefix_of w routing.now.dst.now routing.now.len) (slot_read w slot.now))) }
 {
-    let id = router_id(alloc, net.routers(), net.addresses(), router)?;
-    let own = sym_originate(alloc, terms, net, router, dst, len, slot)?;
-    local_cands(alloc, terms, net.tracked(), id, own.as_slice())
+    let id = router_id(
+        alloc,
+        routing.net.routers(),
+        routing.net.addresses(),
+        router,
+    )?;
+    let own = sym_originate(
+        alloc,
+        terms,
+        routing.net,
+        router,
+        routing.dst,
+        routing.len,
+        slot,
+    )?;
+    local_cands(alloc, terms, routing.net.tracked(), id, own.as_slice())
 }
 
 /// All candidates of a router that runs BGP, whose slot stands there. Nothing is asked of what silent routers hold.
 pub(crate) fn sym_candidates(
     alloc: Global,
     terms: &mut Terms,
-    net: &Net,
-    sym: &SymNet,
-    env: &SymEnv,
-    tables: &SymTables<'_>,
+    routing: &Routing<'_>,
     router: u32,
-    dst: &Bits,
-    len: u8,
     slot: &SymSlot,
 ) -> Result<List<SymCand>, AllocError>
-    requires distances { RowsForSessions net.now.files sym.now }
-    requires sym { net_end sym.now ≤ size terms.old }
-    requires long { len ≤ 32 }
-    requires wide { length dst.now.nodes.items ≡ 32 }
-    requires dst { ids_end dst.now.nodes.items ≤ size terms.old }
-    requires ascend { Ascend tables.now.lens.now }
-    requires fits { FitsNet net.now.files net.now.tracked tables.now.lens.now env.now }
-    requires nodes { env_end env.now ≤ size terms.old }
-    requires rows { HaveTracked net.now.tracked tables.now.slots.now }
-    requires slots { slots_end tables.now.slots.now ≤ size terms.old }
-    requires there { slot_placed tables.now router len ≡ Some slot.now }
+    requires distances { RowsForSessions routing.now.net.now.files routing.now.sym.now }
+    requires sym { net_end routing.now.sym.now ≤ size terms.old }
+    requires long { routing.now.len ≤ 32 }
+    requires wide { length routing.now.dst.now.nodes.items ≡ 32 }
+    requires dst { ids_end routing.now.dst.now.nodes.items ≤ size terms.old }
+    requires ascend { Ascend routing.now.tables.now.lens.now }
+    requires fits { FitsNet routing.now.net.now.files routing.now.net.now.tracked routing.now.tables.now.lens.now
+        routing.now.env.now }
+    requires nodes { env_end routing.now.env.now ≤ size terms.old }
+    requires rows { HaveTracked routing.now.net.now.tracked routing.now.tables.now.slots.now }
+    requires slots { slots_end routing.now.tables.now.slots.now ≤ size terms.old }
+    requires there { slot_placed routing.now.tables.now router routing.now.len ≡ Some slot.now }
     requires slot { slot_end slot.now ≤ size terms.old }
     ensures builds { Builds terms.old terms.new }
     ensures within { IfOk result (λ r. candidates_end r ≤ size terms.new) }
-    ensures marks { IfOk result (λ r. HaveAllMarks net.now.tracked r) }
+    ensures marks { IfOk result (λ r. HaveAllMarks routing.now.net.now.tracked r) }
     ensures value { Gives terms.new result (λ w r. (file : FileOf) (process : BgpOf) →
-        DistancesForSessions w net.now.files sym.now →
-        slice_get net.now.files router ≡ Some file → file.bgp ≡ Some process →
-        filter_map (candidate_of w) r ≡ shape_candidates net.now.tracked net.now.files (failures_of w sym.now)
-        (environment_read w net.now.files tables.now.lens.now env.now)
-        (sending_read w net.now.files tables.now len) router file process (prefix_of w dst.now len)) }
+        DistancesForSessions w routing.now.net.now.files routing.now.sym.now →
+        slice_get routing.now.net.now.files router ≡ Some file → file.bgp ≡ Some process →
+        filter_map (candidate_of w) r ≡ shape_candidates routing.now.net.now.tracked routing.now.net.now.files
+        (failures_of w routing.now.sym.now)
+        (environment_read w routing.now.net.now.files routing.now.tables.now.lens.now routing.now.env.now)
+        (sending_read w routing.now.net.now.files routing.now.tables.now routing.now.len) router file process
+        (prefix_of w routing.now.dst.now routing.now.len)) }
 {
-    let own = own_cands(alloc, terms, net, router, dst, len, slot)?;
-    let all = with_learnt(alloc, terms, net, sym, env, tables, router, dst, len, own)?;
+    let own = own_cands(alloc, terms, routing, router, slot)?;
+    let all = with_learnt(alloc, terms, routing, router, own)?;
     Ok(all)
 }

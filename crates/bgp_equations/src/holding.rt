@@ -23,6 +23,7 @@ ghost use Rattle.bgp_equations.specs.Equations.{sending_read, slots_read};
 
 use crate::candidates::sym_candidates;
 use crate::environment::SymEnv;
+use crate::routing::Routing;
 use ios_ast::{Bgp, File};
 use net_model::Net;
 use net_parts::ends::file_of;
@@ -39,40 +40,37 @@ use term_store::{NodeId, Terms};
 fn process_holds(
     alloc: Global,
     terms: &mut Terms,
-    net: &Net,
-    sym: &SymNet,
-    env: &SymEnv,
-    tables: &SymTables<'_>,
+    routing: &Routing<'_>,
     router: u32,
     process: &Bgp,
-    dst: &Bits,
-    len: u8,
     slot: &SymSlot,
 ) -> Result<NodeId, AllocError>
-    requires distances { RowsForSessions net.now.files sym.now }
-    requires sym { net_end sym.now ≤ size terms.old }
-    requires long { len ≤ 32 }
-    requires wide { length dst.now.nodes.items ≡ 32 }
-    requires dst { ids_end dst.now.nodes.items ≤ size terms.old }
-    requires ascend { Ascend tables.now.lens.now }
-    requires fits { FitsNet net.now.files net.now.tracked tables.now.lens.now env.now }
-    requires nodes { env_end env.now ≤ size terms.old }
-    requires rows { HaveTracked net.now.tracked tables.now.slots.now }
-    requires slots { slots_end tables.now.slots.now ≤ size terms.old }
-    requires there { slot_placed tables.now router len ≡ Some slot.now }
+    requires distances { RowsForSessions routing.now.net.now.files routing.now.sym.now }
+    requires sym { net_end routing.now.sym.now ≤ size terms.old }
+    requires long { routing.now.len ≤ 32 }
+    requires wide { length routing.now.dst.now.nodes.items ≡ 32 }
+    requires dst { ids_end routing.now.dst.now.nodes.items ≤ size terms.old }
+    requires ascend { Ascend routing.now.tables.now.lens.now }
+    requires fits { FitsNet routing.now.net.now.files routing.now.net.now.tracked routing.now.tables.now.lens.now
+        routing.now.env.now }
+    requires nodes { env_end routing.now.env.now ≤ size terms.old }
+    requires rows { HaveTracked routing.now.net.now.tracked routing.now.tables.now.slots.now }
+    requires slots { slots_end routing.now.tables.now.slots.now ≤ size terms.old }
+    requires there { slot_placed routing.now.tables.now router routing.now.len ≡ Some slot.now }
     requires slot { slot_end slot.now ≤ size terms.old }
-    requires row { HasTracked net.now.tracked slot.now.bgp }
+    requires row { HasTracked routing.now.net.now.tracked slot.now.bgp }
     ensures builds { Builds terms.old terms.new }
     ensures within { IfOk result (λ r. r.0 < size terms.new) }
-    ensures value { Gives terms.new result (λ w r. (file : FileOf) → DistancesForSessions w net.now.files sym.now →
-        slice_get net.now.files router ≡ Some file → file.bgp ≡ Some process.now →
+    ensures value { Gives terms.new result (λ w r. (file : FileOf) →
+        DistancesForSessions w routing.now.net.now.files routing.now.sym.now →
+        slice_get routing.now.net.now.files router ≡ Some file → file.bgp ≡ Some process.now →
         node_at w r ≡ held_shape process.now.always_compare process.now.compare_routerid
-        (shape_candidates net.now.tracked net.now.files (failures_of w sym.now)
-        (environment_read w net.now.files tables.now.lens.now env.now)
-        (sending_read w net.now.files tables.now len) router file process.now (prefix_of w dst.now len))
-        (bgp_of w slot.now.bgp)) }
+        (shape_candidates routing.now.net.now.tracked routing.now.net.now.files (failures_of w routing.now.sym.now)
+        (environment_read w routing.now.net.now.files routing.now.tables.now.lens.now routing.now.env.now)
+        (sending_read w routing.now.net.now.files routing.now.tables.now routing.now.len) router file process.now
+        (prefix_of w routing.now.dst.now routing.now.len)) (bgp_of w slot.now.bgp)) }
 {
-    let cands = sym_candidates(alloc, terms, net, sym, env, tables, router, dst, len, slot)?;
+    let cands = sym_candidates(alloc, terms, routing, router, slot)?;
     sym_survives(
         alloc,
         terms,
@@ -98,43 +96,39 @@ fn missing(terms: &mut Terms, slot: &SymSlot) -> Result<NodeId, AllocError>
 fn file_holds(
     alloc: Global,
     terms: &mut Terms,
-    net: &Net,
-    sym: &SymNet,
-    env: &SymEnv,
-    tables: &SymTables<'_>,
+    routing: &Routing<'_>,
     router: u32,
     file: &File,
-    dst: &Bits,
-    len: u8,
     slot: &SymSlot,
 ) -> Result<NodeId, AllocError>
-    requires distances { RowsForSessions net.now.files sym.now }
-    requires sym { net_end sym.now ≤ size terms.old }
-    requires long { len ≤ 32 }
-    requires wide { length dst.now.nodes.items ≡ 32 }
-    requires dst { ids_end dst.now.nodes.items ≤ size terms.old }
-    requires ascend { Ascend tables.now.lens.now }
-    requires fits { FitsNet net.now.files net.now.tracked tables.now.lens.now env.now }
-    requires nodes { env_end env.now ≤ size terms.old }
-    requires rows { HaveTracked net.now.tracked tables.now.slots.now }
-    requires slots { slots_end tables.now.slots.now ≤ size terms.old }
-    requires found { slice_get net.now.files router ≡ Some file.now }
-    requires there { slot_placed tables.now router len ≡ Some slot.now }
+    requires distances { RowsForSessions routing.now.net.now.files routing.now.sym.now }
+    requires sym { net_end routing.now.sym.now ≤ size terms.old }
+    requires long { routing.now.len ≤ 32 }
+    requires wide { length routing.now.dst.now.nodes.items ≡ 32 }
+    requires dst { ids_end routing.now.dst.now.nodes.items ≤ size terms.old }
+    requires ascend { Ascend routing.now.tables.now.lens.now }
+    requires fits { FitsNet routing.now.net.now.files routing.now.net.now.tracked routing.now.tables.now.lens.now
+        routing.now.env.now }
+    requires nodes { env_end routing.now.env.now ≤ size terms.old }
+    requires rows { HaveTracked routing.now.net.now.tracked routing.now.tables.now.slots.now }
+    requires slots { slots_end routing.now.tables.now.slots.now ≤ size terms.old }
+    requires found { slice_get routing.now.net.now.files router ≡ Some file.now }
+    requires there { slot_placed routing.now.tables.now router routing.now.len ≡ Some slot.now }
     requires slot { slot_end slot.now ≤ size terms.old }
-    requires row { HasTracked net.now.tracked slot.now.bgp }
+    requires row { HasTracked routing.now.net.now.tracked slot.now.bgp }
     ensures builds { Builds terms.old terms.new }
     ensures within { IfOk result (λ r. r.0 < size terms.new) }
-    ensures value { Gives terms.new result (λ w r. DistancesForSessions w net.now.files sym.now →
-        node_at w r ≡ is_decided_shape net.now.tracked net.now.files (failures_of w sym.now)
-        (environment_read w net.now.files tables.now.lens.now env.now)
-        (sending_read w net.now.files tables.now len) router file.now (prefix_of w dst.now len)
-        (bgp_of w slot.now.bgp)) }
+    ensures value { Gives terms.new result (λ w r.
+        DistancesForSessions w routing.now.net.now.files routing.now.sym.now →
+        node_at w r ≡ is_decided_shape routing.now.net.now.tracked routing.now.net.now.files
+        (failures_of w routing.now.sym.now)
+        (environment_read w routing.now.net.now.files routing.now.tables.now.lens.now routing.now.env.now)
+        (sending_read w routing.now.net.now.files routing.now.tables.now routing.now.len) router file.now
+        (prefix_of w routing.now.dst.now routing.now.len) (bgp_of w slot.now.bgp)) }
 {
     match &file.bgp {
         None => missing(terms, slot),
-        Some(process) => process_holds(
-            alloc, terms, net, sym, env, tables, router, process, dst, len, slot,
-        ),
+        Some(process) => process_holds(alloc, terms, routing, router, process, slot),
     }
 }
 
@@ -172,13 +166,19 @@ pub fn sym_bgp_holds(
         (environment_read w net.now.files tables.now.lens.now env.now) (slots_read w tables.now len) router
         (prefix_of w dst.now len)) }
 {
+    let routing = Routing {
+        net,
+        sym,
+        env,
+        tables,
+        dst,
+        len,
+    };
     let Some(file) = file_of(net.routers(), router) else {
         return constant_node(terms, false);
     };
     match slot_for(tables, router, len) {
         None => constant_node(terms, false),
-        Some(slot) => file_holds(
-            alloc, terms, net, sym, env, tables, router, file, dst, len, slot,
-        ),
+        Some(slot) => file_holds(alloc, terms, &routing, router, file, slot),
     }
 }

@@ -23,17 +23,16 @@ ghost use Rattle.bgp_equations.specs.Equations.{DistancesForSessions, HaveTracke
 ghost use Rattle.route_record.specs.declared.tracked.Tracked.{Tracked as TrackedOf};
 
 use crate::beside::beside;
-use crate::environment::{SymEnv, item};
+use crate::environment::item;
 use crate::messages::arrived;
 use crate::parts::SymBeside;
+use crate::routing::Routing;
 use mw_text::List;
 use net_model::{Net, SessionEnd};
 use silent_routers::is_behind_silent;
 use std::alloc::{AllocError, Global};
 use sym_bgp::SymCand;
-use sym_policy::{SymBgp, SymNet};
-use sym_rib::SymTables;
-use term_arith::Bits;
+use sym_policy::SymBgp;
 use term_store::Terms;
 
 /// The candidate of a route and of what it has beside it.
@@ -57,37 +56,46 @@ fn with_beside(rec: SymBgp, beside: SymBeside) -> SymCand
 fn learnt(
     alloc: Global,
     terms: &mut Terms,
-    net: &Net,
-    sym: &SymNet,
-    env: &SymEnv,
-    tables: &SymTables<'_>,
+    routing: &Routing<'_>,
     at: u32,
     end: &SessionEnd,
-    dst: &Bits,
-    len: u8,
 ) -> Result<SymCand, AllocError>
-    requires there { slice_get (ends_of net.now.files) at ≡ Some end.now }
-    requires distances { RowsForSessions net.now.files sym.now }
-    requires sym { net_end sym.now ≤ size terms.old }
-    requires long { len ≤ 32 }
-    requires wide { length dst.now.nodes.items ≡ 32 }
-    requires dst { ids_end dst.now.nodes.items ≤ size terms.old }
-    requires ascend { Ascend tables.now.lens.now }
-    requires fits { FitsNet net.now.files net.now.tracked tables.now.lens.now env.now }
-    requires nodes { env_end env.now ≤ size terms.old }
-    requires rows { HaveTracked net.now.tracked tables.now.slots.now }
-    requires slots { slots_end tables.now.slots.now ≤ size terms.old }
+    requires there { slice_get (ends_of routing.now.net.now.files) at ≡ Some end.now }
+    requires distances { RowsForSessions routing.now.net.now.files routing.now.sym.now }
+    requires sym { net_end routing.now.sym.now ≤ size terms.old }
+    requires long { routing.now.len ≤ 32 }
+    requires wide { length routing.now.dst.now.nodes.items ≡ 32 }
+    requires dst { ids_end routing.now.dst.now.nodes.items ≤ size terms.old }
+    requires ascend { Ascend routing.now.tables.now.lens.now }
+    requires fits { FitsNet routing.now.net.now.files routing.now.net.now.tracked routing.now.tables.now.lens.now
+        routing.now.env.now }
+    requires nodes { env_end routing.now.env.now ≤ size terms.old }
+    requires rows { HaveTracked routing.now.net.now.tracked routing.now.tables.now.slots.now }
+    requires slots { slots_end routing.now.tables.now.slots.now ≤ size terms.old }
     ensures builds { Builds terms.old terms.new }
     ensures within { IfOk result (λ r. candidate_end r ≤ size terms.new) }
-    ensures marks { IfOk result (λ r. HasMarks net.now.tracked r.rec) }
-    ensures value { Gives terms.new result (λ w r. DistancesForSessions w net.now.files sym.now → candidate_of w r
-        ≡ shape_learnt net.now.tracked net.now.files (failures_of w sym.now) (map (address_of w) env.now.ids)
-        (prefix_of w dst.now len) at end.now (shape_arriving net.now.tracked net.now.files
-        (environment_read w net.now.files tables.now.lens.now env.now) (slots_read w tables.now len)
-        (prefix_of w dst.now len) at end.now)) }
+    ensures marks { IfOk result (λ r. HasMarks routing.now.net.now.tracked r.rec) }
+    ensures value { Gives terms.new result (λ w r.
+        DistancesForSessions w routing.now.net.now.files routing.now.sym.now →
+        candidate_of w r
+        ≡ shape_learnt routing.now.net.now.tracked routing.now.net.now.files (failures_of w routing.now.sym.now)
+        (map (address_of w) routing.now.env.now.ids) (prefix_of w routing.now.dst.now routing.now.len) at end.now
+        (shape_arriving routing.now.net.now.tracked routing.now.net.now.files
+        (environment_read w routing.now.net.now.files routing.now.tables.now.lens.now routing.now.env.now)
+        (slots_read w routing.now.tables.now routing.now.len) (prefix_of w routing.now.dst.now routing.now.len)
+        at end.now)) }
 {
-    let rec = arrived(alloc, terms, net, env, tables, at, end, dst, len)?;
-    let aside = beside(alloc, terms, net, sym, env, at, end, &rec)?;
+    let rec = arrived(alloc, terms, routing, at, end)?;
+    let aside = beside(
+        alloc,
+        terms,
+        routing.net,
+        routing.sym,
+        routing.env,
+        at,
+        end,
+        &rec,
+    )?;
     Ok(with_beside(rec, aside))
 }
 
@@ -111,41 +119,39 @@ fn hears(net: &Net, router: u32, end: &SessionEnd) -> bool
 fn put_learnt(
     alloc: Global,
     terms: &mut Terms,
-    net: &Net,
-    sym: &SymNet,
-    env: &SymEnv,
-    tables: &SymTables<'_>,
+    routing: &Routing<'_>,
     router: u32,
     at: u32,
     end: &SessionEnd,
-    dst: &Bits,
-    len: u8,
     cands: &mut List<SymCand>,
 ) -> Result<(), AllocError>
-    requires there { slice_get (ends_of net.now.files) at ≡ Some end.now }
-    requires distances { RowsForSessions net.now.files sym.now }
-    requires sym { net_end sym.now ≤ size terms.old }
-    requires long { len ≤ 32 }
-    requires wide { length dst.now.nodes.items ≡ 32 }
-    requires dst { ids_end dst.now.nodes.items ≤ size terms.old }
-    requires ascend { Ascend tables.now.lens.now }
-    requires fits { FitsNet net.now.files net.now.tracked tables.now.lens.now env.now }
-    requires nodes { env_end env.now ≤ size terms.old }
-    requires rows { HaveTracked net.now.tracked tables.now.slots.now }
-    requires slots { slots_end tables.now.slots.now ≤ size terms.old }
+    requires there { slice_get (ends_of routing.now.net.now.files) at ≡ Some end.now }
+    requires distances { RowsForSessions routing.now.net.now.files routing.now.sym.now }
+    requires sym { net_end routing.now.sym.now ≤ size terms.old }
+    requires long { routing.now.len ≤ 32 }
+    requires wide { length routing.now.dst.now.nodes.items ≡ 32 }
+    requires dst { ids_end routing.now.dst.now.nodes.items ≤ size terms.old }
+    requires ascend { Ascend routing.now.tables.now.lens.now }
+    requires fits { FitsNet routing.now.net.now.files routing.now.net.now.tracked routing.now.tables.now.lens.now
+        routing.now.env.now }
+    requires nodes { env_end routing.now.env.now ≤ size terms.old }
+    requires rows { HaveTracked routing.now.net.now.tracked routing.now.tables.now.slots.now }
+    requires slots { slots_end routing.now.tables.now.slots.now ≤ size terms.old }
     requires before { candidates_end cands.old ≤ size terms.old }
-    requires marks { HaveAllMarks net.now.tracked cands.old }
+    requires marks { HaveAllMarks routing.now.net.now.tracked cands.old }
     ensures builds { Builds terms.old terms.new }
     ensures within { OnOk result (candidates_end cands.new ≤ size terms.new) }
-    ensures marks { OnOk result (HaveAllMarks net.now.tracked cands.new) }
-    ensures value { Gives terms.new result (λ w _. DistancesForSessions w net.now.files sym.now →
+    ensures marks { OnOk result (HaveAllMarks routing.now.net.now.tracked cands.new) }
+    ensures value { Gives terms.new result (λ w _.
+        DistancesForSessions w routing.now.net.now.files routing.now.sym.now →
         filter_map (candidate_of w) cands.new ≡ filter_map (candidate_of w) cands.old ++ option_to_list (learnt_by
-        (learnt_read w net.now.tracked net.now.files sym.now env.now tables.now dst.now len) router at end.now)) }
+        (learnt_read w routing.now.net.now.tracked routing.now.net.now.files routing.now.sym.now routing.now.env.now
+        routing.now.tables.now routing.now.dst.now routing.now.len) router at end.now)) }
 {
-    if !hears(net, router, end) {
+    if !hears(routing.net, router, end) {
         return Ok(());
     }
-    let cand = learnt(alloc, terms, net, sym, env, tables, at, end, dst, len)?;
+    let cand = learnt(alloc, terms, routing, at, end)?;
     put_cand(cands, cand)
 }
 
@@ -154,42 +160,38 @@ fn put_learnt(
 fn put_at(
     alloc: Global,
     terms: &mut Terms,
-    net: &Net,
-    sym: &SymNet,
-    env: &SymEnv,
-    tables: &SymTables<'_>,
+    routing: &Routing<'_>,
     router: u32,
     at: u32,
-    dst: &Bits,
-    len: u8,
     cands: &mut List<SymCand>,
 ) -> Result<(), AllocError>
-    requires distances { RowsForSessions net.now.files sym.now }
-    requires sym { net_end sym.now ≤ size terms.old }
-    requires long { len ≤ 32 }
-    requires wide { length dst.now.nodes.items ≡ 32 }
-    requires dst { ids_end dst.now.nodes.items ≤ size terms.old }
-    requires ascend { Ascend tables.now.lens.now }
-    requires fits { FitsNet net.now.files net.now.tracked tables.now.lens.now env.now }
-    requires nodes { env_end env.now ≤ size terms.old }
-    requires rows { HaveTracked net.now.tracked tables.now.slots.now }
-    requires slots { slots_end tables.now.slots.now ≤ size terms.old }
+    requires distances { RowsForSessions routing.now.net.now.files routing.now.sym.now }
+    requires sym { net_end routing.now.sym.now ≤ size terms.old }
+    requires long { routing.now.len ≤ 32 }
+    requires wide { length routing.now.dst.now.nodes.items ≡ 32 }
+    requires dst { ids_end routing.now.dst.now.nodes.items ≤ size terms.old }
+    requires ascend { Ascend routing.now.tables.now.lens.now }
+    requires fits { FitsNet routing.now.net.now.files routing.now.net.now.tracked routing.now.tables.now.lens.now
+        routing.now.env.now }
+    requires nodes { env_end routing.now.env.now ≤ size terms.old }
+    requires rows { HaveTracked routing.now.net.now.tracked routing.now.tables.now.slots.now }
+    requires slots { slots_end routing.now.tables.now.slots.now ≤ size terms.old }
     requires before { candidates_end cands.old ≤ size terms.old }
-    requires marks { HaveAllMarks net.now.tracked cands.old }
+    requires marks { HaveAllMarks routing.now.net.now.tracked cands.old }
     ensures builds { Builds terms.old terms.new }
     ensures within { OnOk result (candidates_end cands.new ≤ size terms.new) }
-    ensures marks { OnOk result (HaveAllMarks net.now.tracked cands.new) }
-    ensures value { Gives terms.new result (λ w _. DistancesForSessions w net.now.files sym.now →
+    ensures marks { OnOk result (HaveAllMarks routing.now.net.now.tracked cands.new) }
+    ensures value { Gives terms.new result (λ w _.
+        DistancesForSessions w routing.now.net.now.files routing.now.sym.now →
         filter_map (candidate_of w) cands.new ≡ filter_map (candidate_of w) cands.old ++ option_to_list
         (option_and_then (learnt_by
-        (learnt_read w net.now.tracked net.now.files sym.now env.now tables.now dst.now len) router at)
-        (slice_get (ends_of net.now.files) at))) }
+        (learnt_read w routing.now.net.now.tracked routing.now.net.now.files routing.now.sym.now routing.now.env.now
+        routing.now.tables.now routing.now.dst.now routing.now.len) router at)
+        (slice_get (ends_of routing.now.net.now.files) at))) }
 {
-    match item(net.ends(), at) {
+    match item(routing.net.ends(), at) {
         None => Ok(()),
-        Some(end) => put_learnt(
-            alloc, terms, net, sym, env, tables, router, at, end, dst, len, cands,
-        ),
+        Some(end) => put_learnt(alloc, terms, routing, router, at, end, cands),
     }
 }
 
@@ -206,41 +208,37 @@ fn count_ends(net: &Net) -> u32
 pub(crate) fn with_learnt(
     alloc: Global,
     terms: &mut Terms,
-    net: &Net,
-    sym: &SymNet,
-    env: &SymEnv,
-    tables: &SymTables<'_>,
+    routing: &Routing<'_>,
     router: u32,
-    dst: &Bits,
-    len: u8,
     before: List<SymCand>,
 ) -> Result<List<SymCand>, AllocError>
-    requires distances { RowsForSessions net.now.files sym.now }
-    requires sym { net_end sym.now ≤ size terms.old }
-    requires long { len ≤ 32 }
-    requires wide { length dst.now.nodes.items ≡ 32 }
-    requires dst { ids_end dst.now.nodes.items ≤ size terms.old }
-    requires ascend { Ascend tables.now.lens.now }
-    requires fits { FitsNet net.now.files net.now.tracked tables.now.lens.now env.now }
-    requires nodes { env_end env.now ≤ size terms.old }
-    requires rows { HaveTracked net.now.tracked tables.now.slots.now }
-    requires slots { slots_end tables.now.slots.now ≤ size terms.old }
+    requires distances { RowsForSessions routing.now.net.now.files routing.now.sym.now }
+    requires sym { net_end routing.now.sym.now ≤ size terms.old }
+    requires long { routing.now.len ≤ 32 }
+    requires wide { length routing.now.dst.now.nodes.items ≡ 32 }
+    requires dst { ids_end routing.now.dst.now.nodes.items ≤ size terms.old }
+    requires ascend { Ascend routing.now.tables.now.lens.now }
+    requires fits { FitsNet routing.now.net.now.files routing.now.net.now.tracked routing.now.tables.now.lens.now
+        routing.now.env.now }
+    requires nodes { env_end routing.now.env.now ≤ size terms.old }
+    requires rows { HaveTracked routing.now.net.now.tracked routing.now.tables.now.slots.now }
+    requires slots { slots_end routing.now.tables.now.slots.now ≤ size terms.old }
     requires before { candidates_end before ≤ size terms.old }
-    requires marks { HaveAllMarks net.now.tracked before }
+    requires marks { HaveAllMarks routing.now.net.now.tracked before }
     ensures builds { Builds terms.old terms.new }
     ensures within { IfOk result (λ r. candidates_end r ≤ size terms.new) }
-    ensures marks { IfOk result (λ r. HaveAllMarks net.now.tracked r) }
-    ensures value { Gives terms.new result (λ w r. DistancesForSessions w net.now.files sym.now →
+    ensures marks { IfOk result (λ r. HaveAllMarks routing.now.net.now.tracked r) }
+    ensures value { Gives terms.new result (λ w r.
+        DistancesForSessions w routing.now.net.now.files routing.now.sym.now →
         filter_map (candidate_of w) r ≡ filter_map (candidate_of w) before ++ filter_map
-        (learnt_read w net.now.tracked net.now.files sym.now env.now tables.now dst.now len)
-        (filter (λ e. e.1.router == router) (enumerate_from 0 (ends_of net.now.files)))) }
+        (learnt_read w routing.now.net.now.tracked routing.now.net.now.files routing.now.sym.now routing.now.env.now
+        routing.now.tables.now routing.now.dst.now routing.now.len)
+        (filter (λ e. e.1.router == router) (enumerate_from 0 (ends_of routing.now.net.now.files)))) }
 {
-    let many = count_ends(net);
+    let many = count_ends(routing.net);
     let mut cands = before;
     for at in 0..many {
-        put_at(
-            alloc, terms, net, sym, env, tables, router, at, dst, len, &mut cands,
-        )?;
+        put_at(alloc, terms, routing, router, at, &mut cands)?;
     }
     Ok(cands)
 }

@@ -13,6 +13,7 @@ pub mod laws;
 mod learnt;
 mod messages;
 mod parts;
+mod routing;
 
 pub use environment::SymEnv;
 pub use holding::sym_bgp_holds;

@@ -24,10 +24,11 @@ ghost use Rattle.sym_rib.specs.Worlds.{slot_placed, slots_end};
 ghost use Rattle.bgp_equations.specs.Environments.{environment_read, env_end, FitsNet, HasLists, message_of};
 ghost use Rattle.bgp_equations.specs.Equations.{HaveTracked, slots_read};
 
-use crate::environment::{SymEnv, announcement_at, external_number, item};
+use crate::environment::{announcement_at, external_number, item};
+use crate::routing::Routing;
 use ios_ast::Neighbour;
 use mw_text::Addr;
-use net_model::{Far, Net, SessionEnd};
+use net_model::{Far, SessionEnd};
 use net_parts::ends::neighbour_of;
 use route_record::Tracked;
 use std::alloc::{AllocError, Global};
@@ -35,9 +36,9 @@ use sym_bgp::{sym_export, sym_import};
 use sym_policy::{
     SymBgp, SymMapRec, SymPath, SymPreferences, SymRest, SymRoute, bare_rest, joined, path_of,
 };
-use sym_rib::{SymTables, no_bgp, slot_for};
+use sym_rib::{no_bgp, slot_for};
 use term_arith::gates::constant_node;
-use term_arith::{Bits, constant, copy};
+use term_arith::{constant, copy};
 use term_store::Terms;
 
 // ---- the announcement of an external peer
@@ -190,29 +191,28 @@ fn of_peer(
 fn outer_message(
     alloc: Global,
     terms: &mut Terms,
-    net: &Net,
-    env: &SymEnv,
-    tables: &SymTables<'_>,
+    routing: &Routing<'_>,
     at: u32,
     end: &SessionEnd,
-    len: u8,
 ) -> Result<SymBgp, AllocError>
-    requires there { slice_get (ends_of net.now.files) at ≡ Some end.now }
+    requires there { slice_get (ends_of routing.now.net.now.files) at ≡ Some end.now }
     requires outer { is_outside end.now.far ≡ true }
-    requires ascend { Ascend tables.now.lens.now }
-    requires fits { FitsNet net.now.files net.now.tracked tables.now.lens.now env.now }
-    requires nodes { env_end env.now ≤ size terms.old }
+    requires ascend { Ascend routing.now.tables.now.lens.now }
+    requires fits { FitsNet routing.now.net.now.files routing.now.net.now.tracked routing.now.tables.now.lens.now
+        routing.now.env.now }
+    requires nodes { env_end routing.now.env.now ≤ size terms.old }
     ensures builds { Builds terms.old terms.new }
     ensures within { IfOk result (λ r. bgp_end r ≤ size terms.new) }
-    ensures marks { IfOk result (λ r. HasMarks net.now.tracked r) }
-    ensures value { Gives terms.new result (λ w r. (p : PrefixOf) → p.len ≡ len → bgp_of w r
-        ≡ shape_arriving net.now.tracked net.now.files (environment_read w net.now.files tables.now.lens.now env.now)
-        (slots_read w tables.now len) p at end.now) }
+    ensures marks { IfOk result (λ r. HasMarks routing.now.net.now.tracked r) }
+    ensures value { Gives terms.new result (λ w r. (p : PrefixOf) → p.len ≡ routing.now.len → bgp_of w r
+        ≡ shape_arriving routing.now.net.now.tracked routing.now.net.now.files
+        (environment_read w routing.now.net.now.files routing.now.tables.now.lens.now routing.now.env.now)
+        (slots_read w routing.now.tables.now routing.now.len) p at end.now) }
 {
-    let k = external_number(net.ends(), at);
-    let rec = announcement_at(env, tables.lens, k, len);
-    let neighbour = neighbour_of(net.routers(), end);
-    of_peer(alloc, terms, net.tracked(), neighbour, rec)
+    let k = external_number(routing.net.ends(), at);
+    let rec = announcement_at(routing.env, routing.tables.lens, k, routing.len);
+    let neighbour = neighbour_of(routing.net.routers(), end);
+    of_peer(alloc, terms, routing.net.tracked(), neighbour, rec)
 }
 
 // ---- what the far router exports
@@ -222,29 +222,35 @@ fn outer_message(
 fn exported(
     alloc: Global,
     terms: &mut Terms,
-    net: &Net,
-    tables: &SymTables<'_>,
+    routing: &Routing<'_>,
     far_at: u32,
     far: &SessionEnd,
-    dst: &Bits,
-    len: u8,
 ) -> Result<SymBgp, AllocError>
-    requires there { slice_get (ends_of net.now.files) far_at ≡ Some far.now }
-    requires long { len ≤ 32 }
-    requires wide { length dst.now.nodes.items ≡ 32 }
-    requires dst { ids_end dst.now.nodes.items ≤ size terms.old }
-    requires rows { HaveTracked net.now.tracked tables.now.slots.now }
-    requires slots { slots_end tables.now.slots.now ≤ size terms.old }
+    requires there { slice_get (ends_of routing.now.net.now.files) far_at ≡ Some far.now }
+    requires long { routing.now.len ≤ 32 }
+    requires wide { length routing.now.dst.now.nodes.items ≡ 32 }
+    requires dst { ids_end routing.now.dst.now.nodes.items ≤ size terms.old }
+    requires rows { HaveTracked routing.now.net.now.tracked routing.now.tables.now.slots.now }
+    requires slots { slots_end routing.now.tables.now.slots.now ≤ size terms.old }
     ensures builds { Builds terms.old terms.new }
     ensures within { IfOk result (λ r. bgp_end r ≤ size terms.new) }
-    ensures marks { IfOk result (λ r. HasMarks net.now.tracked r) }
+    ensures marks { IfOk result (λ r. HasMarks routing.now.net.now.tracked r) }
     ensures value { Gives terms.new result (λ w r. bgp_of w r
-        ≡ option_and_then (shape_exported net.now.tracked net.now.files far.now (prefix_of w dst.now len))
-        (option_and_then (λ slot. slot.bgp) (slots_read w tables.now len far.now.router))) }
+        ≡ option_and_then (shape_exported routing.now.net.now.tracked routing.now.net.now.files far.now
+        (prefix_of w routing.now.dst.now routing.now.len))
+        (option_and_then (λ slot. slot.bgp) (slots_read w routing.now.tables.now routing.now.len far.now.router))) }
 {
-    match slot_for(tables, far.router, len) {
-        None => nothing(alloc, terms, net.tracked()),
-        Some(slot) => sym_export(alloc, terms, net, far_at, dst, len, &slot.bgp),
+    match slot_for(routing.tables, far.router, routing.len) {
+        None => nothing(alloc, terms, routing.net.tracked()),
+        Some(slot) => sym_export(
+            alloc,
+            terms,
+            routing.net,
+            far_at,
+            routing.dst,
+            routing.len,
+            &slot.bgp,
+        ),
     }
 }
 
@@ -252,28 +258,26 @@ fn exported(
 fn inner_message(
     alloc: Global,
     terms: &mut Terms,
-    net: &Net,
-    tables: &SymTables<'_>,
+    routing: &Routing<'_>,
     far_at: u32,
-    dst: &Bits,
-    len: u8,
 ) -> Result<SymBgp, AllocError>
-    requires long { len ≤ 32 }
-    requires wide { length dst.now.nodes.items ≡ 32 }
-    requires dst { ids_end dst.now.nodes.items ≤ size terms.old }
-    requires rows { HaveTracked net.now.tracked tables.now.slots.now }
-    requires slots { slots_end tables.now.slots.now ≤ size terms.old }
+    requires long { routing.now.len ≤ 32 }
+    requires wide { length routing.now.dst.now.nodes.items ≡ 32 }
+    requires dst { ids_end routing.now.dst.now.nodes.items ≤ size terms.old }
+    requires rows { HaveTracked routing.now.net.now.tracked routing.now.tables.now.slots.now }
+    requires slots { slots_end routing.now.tables.now.slots.now ≤ size terms.old }
     ensures builds { Builds terms.old terms.new }
     ensures within { IfOk result (λ r. bgp_end r ≤ size terms.new) }
-    ensures marks { IfOk result (λ r. HasMarks net.now.tracked r) }
+    ensures marks { IfOk result (λ r. HasMarks routing.now.net.now.tracked r) }
     ensures value { Gives terms.new result (λ w r. bgp_of w r ≡ option_and_then (λ far.
-        option_and_then (shape_exported net.now.tracked net.now.files far (prefix_of w dst.now len))
-        (option_and_then (λ slot. slot.bgp) (slots_read w tables.now len far.router)))
-        (slice_get (ends_of net.now.files) far_at)) }
+        option_and_then (shape_exported routing.now.net.now.tracked routing.now.net.now.files far
+        (prefix_of w routing.now.dst.now routing.now.len))
+        (option_and_then (λ slot. slot.bgp) (slots_read w routing.now.tables.now routing.now.len far.router)))
+        (slice_get (ends_of routing.now.net.now.files) far_at)) }
 {
-    match item(net.ends(), far_at) {
-        None => nothing(alloc, terms, net.tracked()),
-        Some(far) => exported(alloc, terms, net, tables, far_at, far, dst, len),
+    match item(routing.net.ends(), far_at) {
+        None => nothing(alloc, terms, routing.net.tracked()),
+        Some(far) => exported(alloc, terms, routing, far_at, far),
     }
 }
 
@@ -284,33 +288,32 @@ fn inner_message(
 fn message(
     alloc: Global,
     terms: &mut Terms,
-    net: &Net,
-    env: &SymEnv,
-    tables: &SymTables<'_>,
+    routing: &Routing<'_>,
     at: u32,
     end: &SessionEnd,
-    dst: &Bits,
-    len: u8,
 ) -> Result<SymBgp, AllocError>
-    requires there { slice_get (ends_of net.now.files) at ≡ Some end.now }
-    requires long { len ≤ 32 }
-    requires wide { length dst.now.nodes.items ≡ 32 }
-    requires dst { ids_end dst.now.nodes.items ≤ size terms.old }
-    requires ascend { Ascend tables.now.lens.now }
-    requires fits { FitsNet net.now.files net.now.tracked tables.now.lens.now env.now }
-    requires nodes { env_end env.now ≤ size terms.old }
-    requires rows { HaveTracked net.now.tracked tables.now.slots.now }
-    requires slots { slots_end tables.now.slots.now ≤ size terms.old }
+    requires there { slice_get (ends_of routing.now.net.now.files) at ≡ Some end.now }
+    requires long { routing.now.len ≤ 32 }
+    requires wide { length routing.now.dst.now.nodes.items ≡ 32 }
+    requires dst { ids_end routing.now.dst.now.nodes.items ≤ size terms.old }
+    requires ascend { Ascend routing.now.tables.now.lens.now }
+    requires fits { FitsNet routing.now.net.now.files routing.now.net.now.tracked routing.now.tables.now.lens.now
+        routing.now.env.now }
+    requires nodes { env_end routing.now.env.now ≤ size terms.old }
+    requires rows { HaveTracked routing.now.net.now.tracked routing.now.tables.now.slots.now }
+    requires slots { slots_end routing.now.tables.now.slots.now ≤ size terms.old }
     ensures builds { Builds terms.old terms.new }
     ensures within { IfOk result (λ r. bgp_end r ≤ size terms.new) }
-    ensures marks { IfOk result (λ r. HasMarks net.now.tracked r) }
+    ensures marks { IfOk result (λ r. HasMarks routing.now.net.now.tracked r) }
     ensures value { Gives terms.new result (λ w r. bgp_of w r
-        ≡ shape_arriving net.now.tracked net.now.files (environment_read w net.now.files tables.now.lens.now env.now)
-        (slots_read w tables.now len) (prefix_of w dst.now len) at end.now) }
+        ≡ shape_arriving routing.now.net.now.tracked routing.now.net.now.files
+        (environment_read w routing.now.net.now.files routing.now.tables.now.lens.now routing.now.env.now)
+        (slots_read w routing.now.tables.now routing.now.len) (prefix_of w routing.now.dst.now routing.now.len)
+        at end.now) }
 {
     match end.far {
-        Far::Outside => outer_message(alloc, terms, net, env, tables, at, end, len),
-        Far::Inside(far_at) => inner_message(alloc, terms, net, tables, far_at, dst, len),
+        Far::Outside => outer_message(alloc, terms, routing, at, end),
+        Far::Inside(far_at) => inner_message(alloc, terms, routing, far_at),
     }
 }
 
@@ -318,32 +321,40 @@ fn message(
 pub(crate) fn arrived(
     alloc: Global,
     terms: &mut Terms,
-    net: &Net,
-    env: &SymEnv,
-    tables: &SymTables<'_>,
+    routing: &Routing<'_>,
     at: u32,
     end: &SessionEnd,
-    dst: &Bits,
-    len: u8,
 ) -> Result<SymBgp, AllocError>
-    requires there { slice_get (ends_of net.now.files) at ≡ Some end.now }
-    requires long { len ≤ 32 }
-    requires wide { length dst.now.nodes.items ≡ 32 }
-    requires dst { ids_end dst.now.nodes.items ≤ size terms.old }
-    requires ascend { Ascend tables.now.lens.now }
-    requires fits { FitsNet net.now.files net.now.tracked tables.now.lens.now env.now }
-    requires nodes { env_end env.now ≤ size terms.old }
-    requires rows { HaveTracked net.now.tracked tables.now.slots.now }
-    requires slots { slots_end tables.now.slots.now ≤ size terms.old }
+    requires there { slice_get (ends_of routing.now.net.now.files) at ≡ Some end.now }
+    requires long { routing.now.len ≤ 32 }
+    requires wide { length routing.now.dst.now.nodes.items ≡ 32 }
+    requires dst { ids_end routing.now.dst.now.nodes.items ≤ size terms.old }
+    requires ascend { Ascend routing.now.tables.now.lens.now }
+    requires fits { FitsNet routing.now.net.now.files routing.now.net.now.tracked routing.now.tables.now.lens.now
+        routing.now.env.now }
+    requires nodes { env_end routing.now.env.now ≤ size terms.old }
+    requires rows { HaveTracked routing.now.net.now.tracked routing.now.tables.now.slots.now }
+    requires slots { slots_end routing.now.tables.now.slots.now ≤ size terms.old }
     ensures builds { Builds terms.old terms.new }
     ensures within { IfOk result (λ r. bgp_end r ≤ size terms.new) }
-    ensures marks { IfOk result (λ r. HasMarks net.now.tracked r) }
+    ensures marks { IfOk result (λ r. HasMarks routing.now.net.now.tracked r) }
     ensures value { Gives terms.new result (λ w r. bgp_of w r
-        ≡ option_and_then (shape_imported net.now.tracked net.now.files end.now (prefix_of w dst.now len))
-        (shape_arriving net.now.tracked net.now.files (environment_read w net.now.files tables.now.lens.now env.now)
-        (slots_read w tables.now len) (prefix_of w dst.now len) at end.now)) }
+        ≡ option_and_then (shape_imported routing.now.net.now.tracked routing.now.net.now.files end.now
+        (prefix_of w routing.now.dst.now routing.now.len))
+        (shape_arriving routing.now.net.now.tracked routing.now.net.now.files
+        (environment_read w routing.now.net.now.files routing.now.tables.now.lens.now routing.now.env.now)
+        (slots_read w routing.now.tables.now routing.now.len) (prefix_of w routing.now.dst.now routing.now.len)
+        at end.now)) }
 {
-    let sent = message(alloc, terms, net, env, tables, at, end, dst, len)?;
-    let taken = sym_import(alloc, terms, net, at, dst, len, &sent)?;
+    let sent = message(alloc, terms, routing, at, end)?;
+    let taken = sym_import(
+        alloc,
+        terms,
+        routing.net,
+        at,
+        routing.dst,
+        routing.len,
+        &sent,
+    )?;
     Ok(taken)
 }

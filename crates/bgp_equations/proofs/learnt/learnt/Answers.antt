@@ -10,9 +10,10 @@ returns-clause-builds c = builds_join _ _ _ c.in_ok-rec.ensures.builds c.in_ok-a
 
 pub returns-clause-value : goal.returns-clause-value
 returns-clause-value c = λ w reads has.
+    let routing = c.args.routing.now in
     let aside = c.in_ok-aside.ensures in
     c.with_beside.ensures.value w
     ∙ aside.value w reads
-    (environment_read w c.args.net.now.files c.args.tables.now.lens.now c.args.env.now)
-    (slots_read w c.args.tables.now c.args.len) (prefix_of w c.args.dst.now c.args.len) has
+    (environment_read w routing.net.now.files routing.tables.now.lens.now routing.env.now)
+    (slots_read w routing.tables.now routing.len) (prefix_of w routing.dst.now routing.len) has
     (c.in_ok-rec.ensures.value w (aside.builds.reads w reads))

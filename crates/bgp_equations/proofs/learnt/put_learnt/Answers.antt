@@ -20,26 +20,29 @@ returns-clause-within c =
 
 pub returns-clause-marks : goal.returns-clause-marks
 returns-clause-marks c =
+    let routing = c.args.routing.now in
     on_ok_weaker c.put_cand.result (λ is.
-    marks_push c.args.net.now.tracked c.args.cands.now c.put_cand.new.cands c.in_ok-cand.cand is c.requires.marks
+    marks_push routing.net.now.tracked c.args.cands.now c.put_cand.new.cands c.in_ok-cand.cand is c.requires.marks
     c.in_ok-cand.ensures.marks) c.put_cand.ensures
 
 pub returns-then-not-hears-clause-value : goal.returns-then-not-hears-clause-value
 returns-then-not-hears-clause-value c = λ w reads has.
+    let routing = c.args.routing.now in
     let before = filter_map (candidate_of w) c.args.cands.now in
     nothing_put before
-    ∙ ap (λ o. before ++ option_to_list o) (sym (unheard w c.args.net.now.tracked c.args.net.now.files c.args.sym.now
-    c.args.env.now c.args.tables.now c.args.dst.now c.args.len c.args.at c.args.end.now c.args.router
+    ∙ ap (λ o. before ++ option_to_list o) (sym (unheard w routing.net.now.tracked routing.net.now.files routing.sym.now
+    routing.env.now routing.tables.now routing.dst.now routing.len c.args.at c.args.end.now c.args.router
     (sym c.hears.ensures ∙ c.if-not-hears.true)))
 
 pub returns-clause-value : goal.returns-clause-value
 returns-clause-value c =
-    let heard = heard_parts (c.args.end.now.router == c.args.router) (is_behind_silent c.args.net.now.files c.args.end.now)
-    (sym c.hears.ensures ∙ c.if-not-hears.false) in
+    let routing = c.args.routing.now in
+    let heard = heard_parts (c.args.end.now.router == c.args.router)
+    (is_behind_silent routing.net.now.files c.args.end.now) (sym c.hears.ensures ∙ c.if-not-hears.false) in
     if_on c.put_cand.result c.put_cand.ensures (λ u is w reads has.
     one_put (candidate_of w) c.args.cands.now c.put_cand.new.cands c.in_ok-cand.cand
     (c.args.end.now.router == c.args.router)
-    (learnt_read w c.args.net.now.tracked c.args.net.now.files c.args.sym.now c.args.env.now c.args.tables.now
-    c.args.dst.now c.args.len (c.args.at, c.args.end.now)) is heard.0 (c.in_ok-cand.ensures.value w reads has
-    ∙ sym (learnt_heard w c.args.net.now.tracked c.args.net.now.files c.args.sym.now c.args.env.now c.args.tables.now
-    c.args.dst.now c.args.len c.args.at c.args.end.now heard.1)))
+    (learnt_read w routing.net.now.tracked routing.net.now.files routing.sym.now routing.env.now routing.tables.now
+    routing.dst.now routing.len (c.args.at, c.args.end.now)) is heard.0 (c.in_ok-cand.ensures.value w reads has
+    ∙ sym (learnt_heard w routing.net.now.tracked routing.net.now.files routing.sym.now routing.env.now
+    routing.tables.now routing.dst.now routing.len c.args.at c.args.end.now heard.1)))

@@ -11,19 +11,20 @@ use Rattle.bgp_equations.proofs.learnt.with_learnt.Goals as goal
 
 pub loop-at-preserved : goal.loop-at-preserved
 loop-at-preserved c =
+    let routing = c.args.routing.now in
     let step = c.in_ok-put_at.ensures in
     let before = c.loop-at.invariant in
     let test = c.loop-at-test.true in
     let count = c.count_ends-many.ensures in
-    let within : c.loop-at.at < length (ends_of c.args.net.now.files) = omega (arith, test, count) in
+    let within : c.loop-at.at < length (ends_of routing.net.now.files) = omega (arith, test, count) in
     record {
       builds = builds_join _ _ _ before.builds step.builds;
       within = step.within;
       marks = step.marks;
       value = λ w reads has.
-          let files = c.args.net.now.files in
-          let learnt = learnt_read w c.args.net.now.tracked files c.args.sym.now c.args.env.now c.args.tables.now
-          c.args.dst.now c.args.len in
+          let files = routing.net.now.files in
+          let learnt = learnt_read w routing.net.now.tracked files routing.sym.now routing.env.now routing.tables.now
+          routing.dst.now routing.len in
           let rest = filter_map learnt (filter (λ e. e.1.router == c.args.router)
           (enumerate_from (c.loop-at.at + 1) (drop (c.loop-at.at + 1) (ends_of files)))) in
           ap (λ xs. xs ++ rest) (step.value w reads has)

@@ -13,12 +13,14 @@ abbrev pub invariant-loop-at : goal.invariant-loop-at
 invariant-loop-at l = record {
   builds : Builds l.fn.terms l.terms;
   within : candidates_end l.cands ≤ size l.terms;
-  marks : HaveAllMarks l.net.tracked l.cands;
-  value : (w : Reading) → Reads w l.terms → DistancesForSessions w l.net.files l.sym
+  marks : HaveAllMarks l.routing.net.now.tracked l.cands;
+  value : (w : Reading) → Reads w l.terms → DistancesForSessions w l.routing.net.now.files l.routing.sym.now
       → filter_map (candidate_of w) l.cands
-      ++ filter_map (learnt_read w l.net.tracked l.net.files l.sym l.env l.tables l.dst l.len)
-      (filter (λ e. e.1.router == l.router) (enumerate_from l.at (drop l.at (ends_of l.net.files))))
+      ++ filter_map (learnt_read w l.routing.net.now.tracked l.routing.net.now.files l.routing.sym.now
+      l.routing.env.now l.routing.tables.now l.routing.dst.now l.routing.len)
+      (filter (λ e. e.1.router == l.router) (enumerate_from l.at (drop l.at (ends_of l.routing.net.now.files))))
       ≡ filter_map (candidate_of w) l.fn.before
-      ++ filter_map (learnt_read w l.net.tracked l.net.files l.sym l.env l.tables l.dst l.len)
-      (filter (λ e. e.1.router == l.router) (enumerate_from 0 (ends_of l.net.files)));
+      ++ filter_map (learnt_read w l.routing.net.now.tracked l.routing.net.now.files l.routing.sym.now
+      l.routing.env.now l.routing.tables.now l.routing.dst.now l.routing.len)
+      (filter (λ e. e.1.router == l.router) (enumerate_from 0 (ends_of l.routing.net.now.files)));
 }
