@@ -25,7 +25,7 @@ ghost use Rattle.term_arith.specs.Bits.{ids_end};
 
 use crate::dynamic::sym_dynamic;
 use crate::levels::sym_held;
-use crate::origins::own_routes;
+use crate::origins::{SlotPlace, own_routes};
 use net_model::Net;
 use net_parts::ends::file_of;
 use std::alloc::{AllocError, Global};
@@ -88,39 +88,55 @@ fn sym_as_good(terms: &mut Terms, own: &[SymOspf], held: &SymOspf) -> Result<Nod
 fn sym_runs(
     alloc: Global,
     terms: &mut Terms,
-    net: &Net,
-    sym: &SymNet,
+    place: &SlotPlace<'_>,
     tables: &SymTables<'_>,
-    router: u32,
-    dst: &Bits,
-    len: u8,
     slot: &SymSlot,
     part: &SymOpen,
     limits: &[u32],
 ) -> Result<NodeId, AllocError>
-    requires long { len ≤ 32 }
-    requires wide { length dst.now.nodes.items ≡ 32 }
-    requires nodes { ids_end dst.now.nodes.items ≤ size terms.old }
-    requires down { ids_end sym.now.down ≤ size terms.old }
-    requires rows { HasTracked net.now.tracked slot.now.bgp }
+    requires long { place.now.len ≤ 32 }
+    requires wide { length place.now.dst.now.nodes.items ≡ 32 }
+    requires nodes { ids_end place.now.dst.now.nodes.items ≤ size terms.old }
+    requires down { ids_end place.now.sym.now.down ≤ size terms.old }
+    requires rows { HasTracked place.now.net.now.tracked slot.now.bgp }
     requires tables { slots_end tables.now.slots.now ≤ size terms.old }
     requires slot { slot_end slot.now ≤ size terms.old }
     requires part { open_end part.now ≤ size terms.old }
     ensures builds { Builds terms.old terms.new }
     ensures within { IfOk result (λ r. r.0 < size terms.new) }
     ensures value { Gives terms.new result (λ w r. (real : TablesOf) (held : SlotOf) (file : FileOf) (process : OspfOf) →
-        StandFor w net.now.tracked tables.now real → StandsForSlot w net.now.tracked slot.now held →
-        slot_at real router len ≡ Some held → ospf_of w part.now.ospf ≡ held.ospf →
-        slice_get net.now.files router ≡ Some file → file.ospf ≡ Some process →
-        at w r ≡ is_wanted net.now.files (failures_of w sym.now) (address_of w dst.now) real router len
-        (open_of w part.now) held file) }
+        StandFor w place.now.net.now.tracked tables.now real → StandsForSlot w place.now.net.now.tracked slot.now held →
+        slot_at real place.now.router place.now.len ≡ Some held → ospf_of w part.now.ospf ≡ held.ospf →
+        slice_get place.now.net.now.files place.now.router ≡ Some file → file.ospf ≡ Some process →
+        at w r ≡ is_wanted place.now.net.now.files (failures_of w place.now.sym.now) (address_of w place.now.dst.now)
+        real place.now.router place.now.len (open_of w part.now) held file) }
 {
-    let own = own_routes(alloc, terms, net, sym, router, dst, len, slot)?;
+    let own = own_routes(alloc, terms, place, slot)?;
     let good = sym_as_good(terms, own.as_slice(), &part.ospf)?;
     let best = sym_held(
-        alloc, terms, net, sym, tables, router, dst, len, own, &part.ospf, limits,
+        alloc,
+        terms,
+        place.net,
+        place.sym,
+        tables,
+        place.router,
+        place.dst,
+        place.len,
+        own,
+        &part.ospf,
+        limits,
     )?;
-    let bit = sym_dynamic(alloc, terms, net, sym, router, dst, len, slot, good)?;
+    let bit = sym_dynamic(
+        alloc,
+        terms,
+        place.net,
+        place.sym,
+        place.router,
+        place.dst,
+        place.len,
+        slot,
+        good,
+    )?;
     let same = agree(terms, part.dynamic, bit)?;
     let wanted = both(terms, best, same)?;
     Ok(wanted)
@@ -130,29 +146,37 @@ fn sym_runs(
 fn sym_closed(
     alloc: Global,
     terms: &mut Terms,
-    net: &Net,
-    sym: &SymNet,
-    router: u32,
-    dst: &Bits,
-    len: u8,
+    place: &SlotPlace<'_>,
     slot: &SymSlot,
     part: &SymOpen,
 ) -> Result<NodeId, AllocError>
-    requires long { len ≤ 32 }
-    requires wide { length dst.now.nodes.items ≡ 32 }
-    requires nodes { ids_end dst.now.nodes.items ≤ size terms.old }
-    requires down { ids_end sym.now.down ≤ size terms.old }
+    requires long { place.now.len ≤ 32 }
+    requires wide { length place.now.dst.now.nodes.items ≡ 32 }
+    requires nodes { ids_end place.now.dst.now.nodes.items ≤ size terms.old }
+    requires down { ids_end place.now.sym.now.down ≤ size terms.old }
     requires slot { slot_end slot.now ≤ size terms.old }
     requires part { open_end part.now ≤ size terms.old }
     ensures builds { Builds terms.old terms.new }
     ensures within { IfOk result (λ r. r.0 < size terms.new) }
     ensures value { Gives terms.new result (λ w r. (held : SlotOf) (file : FileOf) →
-        StandsForSlot w net.now.tracked slot.now held → slice_get net.now.files router ≡ Some file →
+        StandsForSlot w place.now.net.now.tracked slot.now held →
+        slice_get place.now.net.now.files place.now.router ≡ Some file →
         at w r ≡ (same_ospf (ospf_of w part.now.ospf) None && beq (at w part.now.dynamic) (has_dynamic (entry_with
-        net.now.files (failures_of w sym.now) router file (prefix_read w dst.now len) held false)))) }
+        place.now.net.now.files (failures_of w place.now.sym.now) place.now.router file
+        (prefix_read w place.now.dst.now place.now.len) held false)))) }
 {
     let never = constant_node(terms, false)?;
-    let bit = sym_dynamic(alloc, terms, net, sym, router, dst, len, slot, never)?;
+    let bit = sym_dynamic(
+        alloc,
+        terms,
+        place.net,
+        place.sym,
+        place.router,
+        place.dst,
+        place.len,
+        slot,
+        never,
+    )?;
     let same = agree(terms, part.dynamic, bit)?;
     let none = negate(terms, part.ospf.valid)?;
     let closed = both(terms, none, same)?;
@@ -163,43 +187,38 @@ fn sym_closed(
 fn sym_wanted(
     alloc: Global,
     terms: &mut Terms,
-    net: &Net,
-    sym: &SymNet,
+    place: &SlotPlace<'_>,
     tables: &SymTables<'_>,
-    router: u32,
-    dst: &Bits,
-    len: u8,
     slot: &SymSlot,
     part: &SymOpen,
     limits: &[u32],
 ) -> Result<NodeId, AllocError>
-    requires long { len ≤ 32 }
-    requires wide { length dst.now.nodes.items ≡ 32 }
-    requires nodes { ids_end dst.now.nodes.items ≤ size terms.old }
-    requires down { ids_end sym.now.down ≤ size terms.old }
-    requires rows { HasTracked net.now.tracked slot.now.bgp }
+    requires long { place.now.len ≤ 32 }
+    requires wide { length place.now.dst.now.nodes.items ≡ 32 }
+    requires nodes { ids_end place.now.dst.now.nodes.items ≤ size terms.old }
+    requires down { ids_end place.now.sym.now.down ≤ size terms.old }
+    requires rows { HasTracked place.now.net.now.tracked slot.now.bgp }
     requires tables { slots_end tables.now.slots.now ≤ size terms.old }
     requires slot { slot_end slot.now ≤ size terms.old }
     requires part { open_end part.now ≤ size terms.old }
     ensures builds { Builds terms.old terms.new }
     ensures within { IfOk result (λ r. r.0 < size terms.new) }
     ensures value { Gives terms.new result (λ w r. (real : TablesOf) (held : SlotOf) →
-        StandFor w net.now.tracked tables.now real → StandsForSlot w net.now.tracked slot.now held →
-        slot_at real router len ≡ Some held → ospf_of w part.now.ospf ≡ held.ospf →
-        at w r ≡ option_map_or (is_wanted net.now.files (failures_of w sym.now) (address_of w dst.now) real router len
-        (open_of w part.now) held) (slice_get net.now.files router) false) }
+        StandFor w place.now.net.now.tracked tables.now real → StandsForSlot w place.now.net.now.tracked slot.now held →
+        slot_at real place.now.router place.now.len ≡ Some held → ospf_of w part.now.ospf ≡ held.ospf →
+        at w r ≡ option_map_or (is_wanted place.now.net.now.files (failures_of w place.now.sym.now)
+        (address_of w place.now.dst.now) real place.now.router place.now.len (open_of w part.now) held)
+        (slice_get place.now.net.now.files place.now.router) false) }
 {
-    match file_of(net.routers(), router) {
+    match file_of(place.net.routers(), place.router) {
         None => constant_node(terms, false),
         Some(file) => match &file.ospf {
             None => {
-                let made = sym_closed(alloc, terms, net, sym, router, dst, len, slot, part)?;
+                let made = sym_closed(alloc, terms, place, slot, part)?;
                 Ok(made)
             }
             Some(_) => {
-                let made = sym_runs(
-                    alloc, terms, net, sym, tables, router, dst, len, slot, part, limits,
-                )?;
+                let made = sym_runs(alloc, terms, place, tables, slot, part, limits)?;
                 Ok(made)
             }
         },
@@ -238,9 +257,14 @@ pub fn sym_slot_holds(
     match slot_for(tables, router, len) {
         None => constant_node(terms, false),
         Some(slot) => {
-            let made = sym_wanted(
-                alloc, terms, net, sym, tables, router, dst, len, slot, part, limits,
-            )?;
+            let place = SlotPlace {
+                net,
+                sym,
+                router,
+                dst,
+                len,
+            };
+            let made = sym_wanted(alloc, terms, &place, tables, slot, part, limits)?;
             Ok(made)
         }
     }

@@ -29,6 +29,17 @@ use term_arith::Bits;
 use term_arith::gates::both;
 use term_store::{NodeId, Terms};
 
+/// The place of a slot in a network while the links of `sym` have failed: a router, and the prefix of that length of a
+/// destination.
+#[derive(Clone, Copy)]
+pub(crate) struct SlotPlace<'a> {
+    pub(crate) net: &'a Net,
+    pub(crate) sym: &'a SymNet,
+    pub(crate) router: u32,
+    pub(crate) dst: &'a Bits,
+    pub(crate) len: u8,
+}
+
 /// Puts a route at the end of some.
 pub fn put_route(made: &mut List<SymOspf>, next: SymOspf) -> Result<(), AllocError>
     ensures { OnOk result (made.new ≡ made.old ++ next ∷ []) }
@@ -55,30 +66,26 @@ fn origin(alloc: Global, terms: &mut Terms, valid: NodeId, cost: u32) -> Result<
 fn put_origin(
     alloc: Global,
     terms: &mut Terms,
-    net: &Net,
-    sym: &SymNet,
-    router: u32,
-    dst: &Bits,
-    len: u8,
+    place: &SlotPlace<'_>,
     x: &OspfInterface,
     made: &mut List<SymOspf>,
 ) -> Result<(), AllocError>
-    requires long { len ≤ 32 }
-    requires wide { length dst.now.nodes.items ≡ 32 }
-    requires nodes { ids_end dst.now.nodes.items ≤ size terms.old }
-    requires down { ids_end sym.now.down ≤ size terms.old }
+    requires long { place.now.len ≤ 32 }
+    requires wide { length place.now.dst.now.nodes.items ≡ 32 }
+    requires nodes { ids_end place.now.dst.now.nodes.items ≤ size terms.old }
+    requires down { ids_end place.now.sym.now.down ≤ size terms.old }
     requires made { list_end ospf_end made.old ≤ size terms.old }
     ensures builds { Builds terms.old terms.new }
     ensures within { OnOk result (list_end ospf_end made.new ≤ size terms.new) }
     ensures value { Gives terms.new result (λ w _. filter_map (ospf_of w) made.new
-        ≡ filter_map (ospf_of w) made.old ++ option_to_list (origin_by net.now.files (failures_of w sym.now) router
-        (prefix_read w dst.now len) x.now)) }
+        ≡ filter_map (ospf_of w) made.old ++ option_to_list (origin_by place.now.net.now.files
+        (failures_of w place.now.sym.now) place.now.router (prefix_read w place.now.dst.now place.now.len) x.now)) }
 {
-    if x.at.id.router != router {
+    if x.at.id.router != place.router {
         return Ok(());
     }
-    let here = sym_same_prefix(terms, &advertisement(x), dst, len)?;
-    let up = sym_up(alloc, terms, net, sym, &x.at)?;
+    let here = sym_same_prefix(terms, &advertisement(x), place.dst, place.len)?;
+    let up = sym_up(alloc, terms, place.net, place.sym, &x.at)?;
     let valid = both(terms, here, up)?;
     let next = origin(alloc, terms, valid, x.cost)?;
     put_route(made, next)?;
@@ -90,26 +97,22 @@ fn put_origin(
 fn by_interfaces(
     alloc: Global,
     terms: &mut Terms,
-    net: &Net,
-    sym: &SymNet,
-    router: u32,
-    dst: &Bits,
-    len: u8,
+    place: &SlotPlace<'_>,
 ) -> Result<List<SymOspf>, AllocError>
-    requires long { len ≤ 32 }
-    requires wide { length dst.now.nodes.items ≡ 32 }
-    requires nodes { ids_end dst.now.nodes.items ≤ size terms.old }
-    requires down { ids_end sym.now.down ≤ size terms.old }
+    requires long { place.now.len ≤ 32 }
+    requires wide { length place.now.dst.now.nodes.items ≡ 32 }
+    requires nodes { ids_end place.now.dst.now.nodes.items ≤ size terms.old }
+    requires down { ids_end place.now.sym.now.down ≤ size terms.old }
     ensures builds { Builds terms.old terms.new }
     ensures within { IfOk result (λ r. list_end ospf_end r ≤ size terms.new) }
     ensures value { Gives terms.new result (λ w r. filter_map (ospf_of w) r
-        ≡ origins_by net.now.files (failures_of w sym.now) router (prefix_read w dst.now len)
-        (model.ospf_interfaces net.now.files)) }
+        ≡ origins_by place.now.net.now.files (failures_of w place.now.sym.now) place.now.router
+        (prefix_read w place.now.dst.now place.now.len) (model.ospf_interfaces place.now.net.now.files)) }
 {
-    let interfaces = net.ospf_interfaces();
+    let interfaces = place.net.ospf_interfaces();
     let mut made = List::new(alloc);
     for x in interfaces {
-        put_origin(alloc, terms, net, sym, router, dst, len, x, &mut made)?;
+        put_origin(alloc, terms, place, x, &mut made)?;
     }
     Ok(made)
 }
@@ -131,28 +134,33 @@ fn joined(first: List<SymOspf>, others: List<SymOspf>) -> Result<List<SymOspf>, 
 pub fn own_routes(
     alloc: Global,
     terms: &mut Terms,
-    net: &Net,
-    sym: &SymNet,
-    router: u32,
-    dst: &Bits,
-    len: u8,
+    place: &SlotPlace<'_>,
     slot: &SymSlot,
 ) -> Result<List<SymOspf>, AllocError>
-    requires long { len ≤ 32 }
-    requires wide { length dst.now.nodes.items ≡ 32 }
-    requires nodes { ids_end dst.now.nodes.items ≤ size terms.old }
-    requires down { ids_end sym.now.down ≤ size terms.old }
-    requires rows { HasTracked net.now.tracked slot.now.bgp }
+    requires long { place.now.len ≤ 32 }
+    requires wide { length place.now.dst.now.nodes.items ≡ 32 }
+    requires nodes { ids_end place.now.dst.now.nodes.items ≤ size terms.old }
+    requires down { ids_end place.now.sym.now.down ≤ size terms.old }
+    requires rows { HasTracked place.now.net.now.tracked slot.now.bgp }
     requires slot { slot_end slot.now ≤ size terms.old }
     ensures builds { Builds terms.old terms.new }
     ensures within { IfOk result (λ r. list_end ospf_end r ≤ size terms.new) }
     ensures value { Gives terms.new result (λ w r. (file : FileOf) (process : OspfOf) (held : SlotOf) →
-        slice_get net.now.files router ≡ Some file → file.ospf ≡ Some process →
-        StandsForSlot w net.now.tracked slot.now held → filter_map (ospf_of w) r
-        ≡ own_origins net.now.files (failures_of w sym.now) router file process (prefix_read w dst.now len) held) }
+        slice_get place.now.net.now.files place.now.router ≡ Some file → file.ospf ≡ Some process →
+        StandsForSlot w place.now.net.now.tracked slot.now held → filter_map (ospf_of w) r
+        ≡ own_origins place.now.net.now.files (failures_of w place.now.sym.now) place.now.router file process
+        (prefix_read w place.now.dst.now place.now.len) held) }
 {
-    let own = by_interfaces(alloc, terms, net, sym, router, dst, len)?;
-    let taken = sym_redistribute(alloc, terms, net, router, dst, len, slot)?;
+    let own = by_interfaces(alloc, terms, place)?;
+    let taken = sym_redistribute(
+        alloc,
+        terms,
+        place.net,
+        place.router,
+        place.dst,
+        place.len,
+        slot,
+    )?;
     let all = joined(own, taken)?;
     Ok(all)
 }

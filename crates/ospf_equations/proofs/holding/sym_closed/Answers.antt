@@ -13,18 +13,19 @@ use Rattle.ospf_equations.proofs.holding.sym_closed.Goals as goal
 
 pub returns-clause-value : goal.returns-clause-value
 returns-clause-value c = λ w reads slot file stands found.
+    let place = c.args.place.now in
     let r4 = c.both.ensures.builds.reads w reads in
     let r3 = c.negate.ensures.builds.reads w r4 in
     let r2 = c.agree.ensures.builds.reads w r3 in
     let r1 = c.sym_dynamic.ensures.builds.reads w r2 in
-    let files = c.args.net.now.files in
-    let failures = failures_of w c.args.sym.now in
-    let p = prefix_at (address_of w c.args.dst.now) c.args.len in
+    let files = place.net.now.files in
+    let failures = failures_of w place.sym.now in
+    let p = prefix_at (address_of w place.dst.now) place.len in
     let part = c.args.part.now in
     let bit = c.in_ok-bit.ensures.value w r2 slot stands
-    ∙ ap (λ o. has_dynamic (option_and_then (λ f. entry_with files failures c.args.router f p slot
+    ∙ ap (λ o. has_dynamic (option_and_then (λ f. entry_with files failures place.router f p slot
     (at w c.in_ok-never.never)) o)) found
-    ∙ ap (λ b. has_dynamic (entry_with files failures c.args.router file p slot b)) (c.in_ok-never.ensures.value w r1) in
+    ∙ ap (λ b. has_dynamic (entry_with files failures place.router file p slot b)) (c.in_ok-never.ensures.value w r1) in
     c.in_ok-closed.ensures.value w reads
     ∙ ap₂ (λ a b. a && b)
     (c.in_ok-none.ensures.value w r4 ∙ none_is (at w part.ospf.valid) (ospf_at w part.ospf))

@@ -19,29 +19,30 @@ use Rattle.ospf_equations.proofs.holding.sym_runs.Goals as goal
 
 pub returns-clause-value : goal.returns-clause-value
 returns-clause-value c = λ w reads real slot file process stand stands there same found runs.
+    let place = c.args.place.now in
     let r5 = c.both.ensures.builds.reads w reads in
     let r4 = c.agree.ensures.builds.reads w r5 in
     let r3 = c.sym_dynamic.ensures.builds.reads w r4 in
     let r2 = c.sym_held.ensures.builds.reads w r3 in
     let r1 = c.sym_as_good.ensures.builds.reads w r2 in
-    let files = c.args.net.now.files in
-    let failures = failures_of w c.args.sym.now in
+    let files = place.net.now.files in
+    let failures = failures_of w place.sym.now in
     let part = open_of w c.args.part.now in
-    let p = prefix_at (address_of w c.args.dst.now) c.args.len in
-    let offers = offers_by files failures real c.args.router p (adjacencies files) in
+    let p = prefix_at (address_of w place.dst.now) place.len in
+    let offers = offers_by files failures real place.router p (adjacencies files) in
     let own = c.in_ok-own.ensures.value w r1 file process slot found runs stands in
     let good = c.in_ok-good.ensures.value w r2
     ∙ ap (λ (rs : List OspfRec). option_map_or (λ h. list_any (λ o. is_as_good o h) rs) part.ospf Bool.false)
     (ap (filter_map (ospf_of w)) c.as_slice.ensures ∙ own) in
     let best = c.in_ok-best.ensures.value w r3 real stand in
     let bit = c.in_ok-bit.ensures.value w r4 slot stands
-    ∙ ap (λ o. has_dynamic (option_and_then (λ f. entry_with files failures c.args.router f p slot
+    ∙ ap (λ o. has_dynamic (option_and_then (λ f. entry_with files failures place.router f p slot
     (at w c.in_ok-good.good)) o)) found
-    ∙ ap (λ b. has_dynamic (entry_with files failures c.args.router file p slot b)) good in
+    ∙ ap (λ b. has_dynamic (entry_with files failures place.router file p slot b)) good in
     let agreed = c.in_ok-same.ensures.value w r5 in
     c.in_ok-wanted.ensures.value w reads
     ∙ ap₂ (λ a b. a && b)
     (best ∙ ap (λ (rs : List OspfRec). same_ospf part.ospf (first_best (rs ++ offers))) own)
     (agreed ∙ agree_is part.dynamic (at w c.in_ok-bit.bit) ∙ ap (beq part.dynamic) bit)
-    ∙ sym (wanted_is files failures (address_of w c.args.dst.now) real c.args.router c.args.len part slot file process runs
+    ∙ sym (wanted_is files failures (address_of w place.dst.now) real place.router place.len part slot file process runs
     there same)

@@ -14,6 +14,8 @@ invariant-loop-x l = record {
   builds : Builds l.fn.terms l.terms;
   within : list_end ospf_end l.made ≤ size l.terms;
   value : (w : Reading) → Reads w l.terms → filter_map (ospf_of w) l.made
-      ++ origins_by l.net.files (failures_of w l.sym) l.router (prefix_of w l.dst l.len) (drop l.x-index l.interfaces)
-      ≡ origins_by l.net.files (failures_of w l.sym) l.router (prefix_of w l.dst l.len) l.interfaces;
+      ++ origins_by l.place.net.now.files (failures_of w l.place.sym.now) l.place.router
+      (prefix_of w l.place.dst.now l.place.len) (drop l.x-index l.interfaces)
+      ≡ origins_by l.place.net.now.files (failures_of w l.place.sym.now) l.place.router
+      (prefix_of w l.place.dst.now l.place.len) l.interfaces;
 }

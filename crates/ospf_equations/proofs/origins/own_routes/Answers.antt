@@ -28,8 +28,9 @@ returns-clause-within c =
 
 pub returns-clause-value : goal.returns-clause-value
 returns-clause-value c = λ w reads file process held found runs stands.
-    let p = prefix_of w c.args.dst.now c.args.len in
-    let failures = failures_of w c.args.sym.now in
+    let place = c.args.place.now in
+    let p = prefix_of w place.dst.now place.len in
+    let failures = failures_of w place.sym.now in
     let by_process : File → List OspfRec =
     λ f. option_map_or (λ (q : Ospf). redistributed f q p held) f.ospf [] in
     let taken = c.in_ok-taken.ensures.stands w reads held stands
@@ -39,5 +40,5 @@ returns-clause-value c = λ w reads file process held found runs stands.
     ∙ filter_map-append (ospf_of w) c.in_ok-own.own c.in_ok-taken.taken
     ∙ ap (λ rs. rs ++ filter_map (ospf_of w) c.in_ok-taken.taken)
     (c.in_ok-own.ensures.value w (c.sym_redistribute.ensures.builds.reads w reads))
-    ∙ own_is c.args.net.now.files failures c.args.router file process p held
+    ∙ own_is place.net.now.files failures place.router file process p held
     (filter_map (ospf_of w) c.in_ok-taken.taken) taken
