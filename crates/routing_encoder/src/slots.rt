@@ -40,6 +40,14 @@ use term_store::Terms;
 use world_variables::SymOpen;
 use world_variables::opens::no_route;
 
+/// A network while the links of `sym` have failed, and the destination towards which it has routes.
+#[derive(Clone, Copy)]
+pub(crate) struct Towards<'a> {
+    pub(crate) net: &'a Net,
+    pub(crate) sym: &'a SymNet,
+    pub(crate) dst: &'a Bits,
+}
+
 // The place of that number.
 pub(crate) fn place_at(places: &[Place], at: usize) -> Place
     requires { at < length places.now }
@@ -98,29 +106,38 @@ fn slot_of(
 fn closed_slot(
     alloc: Global,
     terms: &mut Terms,
-    net: &Net,
-    sym: &SymNet,
-    dst: &Bits,
+    towards: &Towards<'_>,
     p: Place,
     route: &SymBgp,
 ) -> Result<SymSlot, AllocError>
     requires short { p.len < constants.LENGTHS }
-    requires wide { length dst.now.nodes.items ≡ 32 }
-    requires nodes { ids_end dst.now.nodes.items ≤ size terms.old }
-    requires down { ids_end sym.now.down ≤ size terms.old }
+    requires wide { length towards.now.dst.now.nodes.items ≡ 32 }
+    requires nodes { ids_end towards.now.dst.now.nodes.items ≤ size terms.old }
+    requires down { ids_end towards.now.sym.now.down ≤ size terms.old }
     requires route { bgp_end route.now ≤ size terms.old }
-    requires rows { HasTracked net.now.tracked route.now }
+    requires rows { HasTracked towards.now.net.now.tracked route.now }
     ensures builds { Builds terms.old terms.new }
     ensures within { IfOk result (λ r. slot_end r ≤ size terms.new) }
-    ensures rows { IfOk result (λ r. HasTracked net.now.tracked r.bgp) }
+    ensures rows { IfOk result (λ r. HasTracked towards.now.net.now.tracked r.bgp) }
     ensures value { Gives terms.new result (λ w r. (u : Unknown) → slot_read w r
-        ≡ open_shape net.now.files (failures_of w sym.now) (address_of w dst.now) p.router p.len
-        (open_with net.now.files (failures_of w sym.now) (address_of w dst.now) None p u (bgp_of w route.now))) }
+        ≡ open_shape towards.now.net.now.files (failures_of w towards.now.sym.now) (address_of w towards.now.dst.now)
+        p.router p.len (open_with towards.now.net.now.files (failures_of w towards.now.sym.now)
+        (address_of w towards.now.dst.now) None p u (bgp_of w route.now))) }
 {
     let none = no_route(alloc, terms)?;
-    let before = slot_of(alloc, terms, net.tracked(), &none, route)?;
+    let before = slot_of(alloc, terms, towards.net.tracked(), &none, route)?;
     let own = constant_node(terms, false)?;
-    let rib = sym_entry(alloc, terms, net, sym, p.router, dst, p.len, &before, own)?;
+    let rib = sym_entry(
+        alloc,
+        terms,
+        towards.net,
+        towards.sym,
+        p.router,
+        towards.dst,
+        p.len,
+        &before,
+        own,
+    )?;
     Ok(SymSlot {
         ospf: before.ospf,
         bgp: before.bgp,
@@ -132,30 +149,38 @@ fn closed_slot(
 fn open_slot(
     alloc: Global,
     terms: &mut Terms,
-    net: &Net,
-    sym: &SymNet,
-    dst: &Bits,
+    towards: &Towards<'_>,
     p: Place,
     part: &SymOpen,
     route: &SymBgp,
 ) -> Result<SymSlot, AllocError>
     requires short { p.len < constants.LENGTHS }
-    requires wide { length dst.now.nodes.items ≡ 32 }
-    requires nodes { ids_end dst.now.nodes.items ≤ size terms.old }
-    requires down { ids_end sym.now.down ≤ size terms.old }
+    requires wide { length towards.now.dst.now.nodes.items ≡ 32 }
+    requires nodes { ids_end towards.now.dst.now.nodes.items ≤ size terms.old }
+    requires down { ids_end towards.now.sym.now.down ≤ size terms.old }
     requires part { open_end part.now ≤ size terms.old }
     requires route { bgp_end route.now ≤ size terms.old }
-    requires rows { HasTracked net.now.tracked route.now }
+    requires rows { HasTracked towards.now.net.now.tracked route.now }
     ensures builds { Builds terms.old terms.new }
     ensures within { IfOk result (λ r. slot_end r ≤ size terms.new) }
-    ensures rows { IfOk result (λ r. HasTracked net.now.tracked r.bgp) }
+    ensures rows { IfOk result (λ r. HasTracked towards.now.net.now.tracked r.bgp) }
     ensures value { Gives terms.new result (λ w r. slot_read w r
-        ≡ open_shape net.now.files (failures_of w sym.now) (address_of w dst.now) p.router p.len
-        (record { unknown = open_of w part.now; bgp = bgp_of w route.now })) }
+        ≡ open_shape towards.now.net.now.files (failures_of w towards.now.sym.now) (address_of w towards.now.dst.now)
+        p.router p.len (record { unknown = open_of w part.now; bgp = bgp_of w route.now })) }
 {
-    let before = slot_of(alloc, terms, net.tracked(), &part.ospf, route)?;
+    let before = slot_of(alloc, terms, towards.net.tracked(), &part.ospf, route)?;
     let own = negate(terms, part.dynamic)?;
-    let rib = sym_entry(alloc, terms, net, sym, p.router, dst, p.len, &before, own)?;
+    let rib = sym_entry(
+        alloc,
+        terms,
+        towards.net,
+        towards.sym,
+        p.router,
+        towards.dst,
+        p.len,
+        &before,
+        own,
+    )?;
     Ok(SymSlot {
         ospf: before.ospf,
         bgp: before.bgp,
@@ -167,36 +192,34 @@ fn open_slot(
 fn slot_with(
     alloc: Global,
     terms: &mut Terms,
-    net: &Net,
-    sym: &SymNet,
-    dst: &Bits,
+    towards: &Towards<'_>,
     room: Option<&Room>,
     p: Place,
     part: &SymOpen,
     route: &SymBgp,
 ) -> Result<SymSlot, AllocError>
     requires short { p.len < constants.LENGTHS }
-    requires wide { length dst.now.nodes.items ≡ 32 }
-    requires nodes { ids_end dst.now.nodes.items ≤ size terms.old }
-    requires down { ids_end sym.now.down ≤ size terms.old }
+    requires wide { length towards.now.dst.now.nodes.items ≡ 32 }
+    requires nodes { ids_end towards.now.dst.now.nodes.items ≤ size terms.old }
+    requires down { ids_end towards.now.sym.now.down ≤ size terms.old }
     requires part { open_end part.now ≤ size terms.old }
     requires route { bgp_end route.now ≤ size terms.old }
-    requires rows { HasTracked net.now.tracked route.now }
+    requires rows { HasTracked towards.now.net.now.tracked route.now }
     ensures builds { Builds terms.old terms.new }
     ensures within { IfOk result (λ r. slot_end r ≤ size terms.new) }
-    ensures rows { IfOk result (λ r. HasTracked net.now.tracked r.bgp) }
+    ensures rows { IfOk result (λ r. HasTracked towards.now.net.now.tracked r.bgp) }
     ensures value { Gives terms.new result (λ w r. slot_read w r
-        ≡ open_shape net.now.files (failures_of w sym.now) (address_of w dst.now) p.router p.len
-        (open_with net.now.files (failures_of w sym.now) (address_of w dst.now) (option_copied room.entry) p
-        (open_of w part.now) (bgp_of w route.now))) }
+        ≡ open_shape towards.now.net.now.files (failures_of w towards.now.sym.now) (address_of w towards.now.dst.now)
+        p.router p.len (open_with towards.now.net.now.files (failures_of w towards.now.sym.now)
+        (address_of w towards.now.dst.now) (option_copied room.entry) p (open_of w part.now) (bgp_of w route.now))) }
 {
     match room {
         None => {
-            let made = closed_slot(alloc, terms, net, sym, dst, p, route)?;
+            let made = closed_slot(alloc, terms, towards, p, route)?;
             Ok(made)
         }
         Some(_) => {
-            let made = open_slot(alloc, terms, net, sym, dst, p, part, route)?;
+            let made = open_slot(alloc, terms, towards, p, part, route)?;
             Ok(made)
         }
     }
@@ -223,36 +246,40 @@ pub(crate) fn is_used(net: &Net, frame: &Frame, plan: &Plan, p: Place) -> bool
 fn slot_at(
     alloc: Global,
     terms: &mut Terms,
-    net: &Net,
-    sym: &SymNet,
-    dst: &Bits,
+    towards: &Towards<'_>,
     frame: &Frame,
     plan: &Plan,
     p: Place,
     part: &SymOpen,
     route: &SymBgp,
 ) -> Result<SymSlot, AllocError>
-    requires frame { IsFrame net.now.files net.now.tracked plan.now frame.now }
+    requires frame { IsFrame towards.now.net.now.files towards.now.net.now.tracked plan.now frame.now }
     requires short { p.len < constants.LENGTHS }
-    requires wide { length dst.now.nodes.items ≡ 32 }
-    requires nodes { ids_end dst.now.nodes.items ≤ size terms.old }
-    requires down { ids_end sym.now.down ≤ size terms.old }
+    requires wide { length towards.now.dst.now.nodes.items ≡ 32 }
+    requires nodes { ids_end towards.now.dst.now.nodes.items ≤ size terms.old }
+    requires down { ids_end towards.now.sym.now.down ≤ size terms.old }
     requires part { open_end part.now ≤ size terms.old }
     requires route { bgp_end route.now ≤ size terms.old }
-    requires rows { HasTracked net.now.tracked route.now }
+    requires rows { HasTracked towards.now.net.now.tracked route.now }
     ensures builds { Builds terms.old terms.new }
     ensures within { IfOk result (λ r. slot_end r ≤ size terms.new) }
-    ensures rows { IfOk result (λ r. HasTracked net.now.tracked r.bgp) }
+    ensures rows { IfOk result (λ r. HasTracked towards.now.net.now.tracked r.bgp) }
     ensures value { Gives terms.new result (λ w r. slot_read w r
-        ≡ shape_slot_of net.now.files frame.now.destinations (failures_of w sym.now) (address_of w dst.now) p
-        (open_with net.now.files (failures_of w sym.now) (address_of w dst.now)
-        (room_read net.now.files frame.now.destinations p.router p.len) p (open_of w part.now) (bgp_of w route.now))) }
+        ≡ shape_slot_of towards.now.net.now.files frame.now.destinations (failures_of w towards.now.sym.now)
+        (address_of w towards.now.dst.now) p (open_with towards.now.net.now.files (failures_of w towards.now.sym.now)
+        (address_of w towards.now.dst.now) (room_read towards.now.net.now.files frame.now.destinations p.router p.len) p
+        (open_of w part.now) (bgp_of w route.now))) }
 {
-    if is_used(net, frame, plan, p) {
-        let room = room_for(net.routers(), frame.rooms.as_slice(), p.router, p.len);
-        slot_with(alloc, terms, net, sym, dst, room, p, part, route)
+    if is_used(towards.net, frame, plan, p) {
+        let room = room_for(
+            towards.net.routers(),
+            frame.rooms.as_slice(),
+            p.router,
+            p.len,
+        );
+        slot_with(alloc, terms, towards, room, p, part, route)
     } else {
-        no_slot(alloc, terms, net.tracked())
+        no_slot(alloc, terms, towards.net.tracked())
     }
 }
 
@@ -261,40 +288,39 @@ fn slot_at(
 pub fn slots(
     alloc: Global,
     terms: &mut Terms,
-    net: &Net,
-    sym: &SymNet,
-    dst: &Bits,
+    towards: &Towards<'_>,
     question: &Question,
     frame: &Frame,
     plan: &Plan,
     parts: &[SymOpen],
     routes: &[SymBgp],
 ) -> Result<List<SymSlot>, AllocError>
-    requires frame { IsFrame net.now.files net.now.tracked plan.now frame.now }
+    requires frame { IsFrame towards.now.net.now.files towards.now.net.now.tracked plan.now frame.now }
     requires destinations { frame.now.destinations ≡ question.now.packets.dst }
     requires parts_long { length parts.now ≡ length frame.now.places }
     requires routes_long { length routes.now ≡ length frame.now.places }
-    requires wide { length dst.now.nodes.items ≡ 32 }
-    requires nodes { ids_end dst.now.nodes.items ≤ size terms.old }
-    requires down { ids_end sym.now.down ≤ size terms.old }
+    requires wide { length towards.now.dst.now.nodes.items ≡ 32 }
+    requires nodes { ids_end towards.now.dst.now.nodes.items ≤ size terms.old }
+    requires down { ids_end towards.now.sym.now.down ≤ size terms.old }
     requires parts { opens_end parts.now ≤ size terms.old }
     requires routes { list_end bgp_end routes.now ≤ size terms.old }
-    requires rows { All (HasTracked net.now.tracked) routes.now }
+    requires rows { All (HasTracked towards.now.net.now.tracked) routes.now }
     ensures builds { Builds terms.old terms.new }
     ensures within { IfOk result (λ r. slots_end r ≤ size terms.new) }
-    ensures rows { IfOk result (λ r. HaveTracked net.now.tracked r) }
+    ensures rows { IfOk result (λ r. HaveTracked towards.now.net.now.tracked r) }
     ensures long { IfOk result (λ r. length r ≡ length frame.now.places) }
-    ensures value { Gives terms.new result (λ w r. map (slot_read w) r ≡ shapes_over (shape_slot_of net.now.files
-        question.now.packets.dst (failures_of w sym.now) (address_of w dst.now)) frame.now.places
-        (opens_with net.now.files question.now (failures_of w sym.now) (address_of w dst.now) frame.now.places
-        (map (open_of w) parts.now) (map (bgp_of w) routes.now))) }
+    ensures value { Gives terms.new result (λ w r. map (slot_read w) r
+        ≡ shapes_over (shape_slot_of towards.now.net.now.files question.now.packets.dst
+        (failures_of w towards.now.sym.now) (address_of w towards.now.dst.now)) frame.now.places
+        (opens_with towards.now.net.now.files question.now (failures_of w towards.now.sym.now)
+        (address_of w towards.now.dst.now) frame.now.places (map (open_of w) parts.now) (map (bgp_of w) routes.now))) }
 {
     let places = frame.places.as_slice();
     let mut made = List::new(alloc);
     for (at, part) in parts.iter().enumerate() {
         let p = place_at(places, at);
         let route = &routes[at];
-        let next = slot_at(alloc, terms, net, sym, dst, frame, plan, p, part, route)?;
+        let next = slot_at(alloc, terms, towards, frame, plan, p, part, route)?;
         put_slot(&mut made, next)?;
     }
     Ok(made)

@@ -24,7 +24,7 @@ ghost use Rattle.term_store.specs.Reading.{Builds, Gives};
 ghost use Rattle.term_arith.specs.Bits.{ids_end};
 
 use crate::decided::tables_of;
-use crate::slots::{is_used, place_at};
+use crate::slots::{Towards, is_used, place_at};
 use crate::world::OpenWorld;
 use net_model::Net;
 use ospf_equations::{limits_of, sym_dynamic, sym_slot_holds};
@@ -33,39 +33,57 @@ use question_lang::Question;
 use route_record::Plan;
 use slot_places::{Room, room_for};
 use std::alloc::{AllocError, Global};
-use sym_policy::SymNet;
 use sym_rib::{SymSlot, SymTables, slot_for};
-use term_arith::Bits;
 use term_arith::gates::{both, constant_node};
 use term_store::{NodeId, Terms};
 use world_variables::SymOpen;
 use world_variables::opens::no_route;
 
+/// An open world of a question over a plan, its slots as tables, and the limits of what routes cost that are looked at.
+#[derive(Clone, Copy)]
+struct WorldTables<'a> {
+    net: &'a Net,
+    question: &'a Question,
+    plan: &'a Plan,
+    made: &'a OpenWorld,
+    tables: &'a SymTables<'a>,
+    limits: &'a [u32],
+}
+
 // What is open of a slot without room for an OSPF route: none, and the bit of the entry by its other routes.
 fn closed_part(
     alloc: Global,
     terms: &mut Terms,
-    net: &Net,
-    sym: &SymNet,
-    dst: &Bits,
+    towards: &Towards<'_>,
     p: Place,
     slot: &SymSlot,
 ) -> Result<SymOpen, AllocError>
     requires short { p.len < constants.LENGTHS }
-    requires wide { length dst.now.nodes.items ≡ 32 }
-    requires nodes { ids_end dst.now.nodes.items ≤ size terms.old }
-    requires down { ids_end sym.now.down ≤ size terms.old }
+    requires wide { length towards.now.dst.now.nodes.items ≡ 32 }
+    requires nodes { ids_end towards.now.dst.now.nodes.items ≤ size terms.old }
+    requires down { ids_end towards.now.sym.now.down ≤ size terms.old }
     requires slot { slot_end slot.now ≤ size terms.old }
     ensures builds { Builds terms.old terms.new }
     ensures within { IfOk result (λ r. open_end r ≤ size terms.new) }
     ensures value { Gives terms.new result (λ w r. (held : SlotOf) (u : Unknown) (bgp : OptionOf BgpShape) →
-        StandsForSlot w net.now.tracked slot.now held → held.ospf ≡ None →
-        option_map (bgp_shape net.now.tracked) held.bgp ≡ bgp → open_of w r
-        ≡ (open_with net.now.files (failures_of w sym.now) (address_of w dst.now) None p u bgp).unknown) }
+        StandsForSlot w towards.now.net.now.tracked slot.now held → held.ospf ≡ None →
+        option_map (bgp_shape towards.now.net.now.tracked) held.bgp ≡ bgp → open_of w r
+        ≡ (open_with towards.now.net.now.files (failures_of w towards.now.sym.now) (address_of w towards.now.dst.now)
+        None p u bgp).unknown) }
 {
     let ospf = no_route(alloc, terms)?;
     let own = constant_node(terms, false)?;
-    let dynamic = sym_dynamic(alloc, terms, net, sym, p.router, dst, p.len, slot, own)?;
+    let dynamic = sym_dynamic(
+        alloc,
+        terms,
+        towards.net,
+        towards.sym,
+        p.router,
+        towards.dst,
+        p.len,
+        slot,
+        own,
+    )?;
     Ok(SymOpen { ospf, dynamic })
 }
 
@@ -73,24 +91,23 @@ fn closed_part(
 fn wanted_closed(
     alloc: Global,
     terms: &mut Terms,
-    net: &Net,
-    sym: &SymNet,
+    towards: &Towards<'_>,
     tables: &SymTables<'_>,
-    dst: &Bits,
     p: Place,
     limits: &[u32],
 ) -> Result<NodeId, AllocError>
     requires short { p.len < constants.LENGTHS }
-    requires wide { length dst.now.nodes.items ≡ 32 }
-    requires nodes { ids_end dst.now.nodes.items ≤ size terms.old }
-    requires down { ids_end sym.now.down ≤ size terms.old }
-    requires rows { HaveTracked net.now.tracked tables.now.slots.now }
+    requires wide { length towards.now.dst.now.nodes.items ≡ 32 }
+    requires nodes { ids_end towards.now.dst.now.nodes.items ≤ size terms.old }
+    requires down { ids_end towards.now.sym.now.down ≤ size terms.old }
+    requires rows { HaveTracked towards.now.net.now.tracked tables.now.slots.now }
     requires slots { slots_end tables.now.slots.now ≤ size terms.old }
     ensures builds { Builds terms.old terms.new }
     ensures within { IfOk result (λ r. r.0 < size terms.new) }
     ensures value { Gives terms.new result (λ w r. (u : Unknown) (bgp : OptionOf BgpShape) →
-        TellsWanted w net.now.tracked net.now.files (failures_of w sym.now) (address_of w dst.now) tables.now p
-        (open_with net.now.files (failures_of w sym.now) (address_of w dst.now) None p u bgp) r) }
+        TellsWanted w towards.now.net.now.tracked towards.now.net.now.files (failures_of w towards.now.sym.now)
+        (address_of w towards.now.dst.now) tables.now p (open_with towards.now.net.now.files
+        (failures_of w towards.now.sym.now) (address_of w towards.now.dst.now) None p u bgp) r) }
 {
     match slot_for(tables, p.router, p.len) {
         None => {
@@ -98,9 +115,18 @@ fn wanted_closed(
             Ok(never)
         }
         Some(slot) => {
-            let part = closed_part(alloc, terms, net, sym, dst, p, slot)?;
+            let part = closed_part(alloc, terms, towards, p, slot)?;
             let holds = sym_slot_holds(
-                alloc, terms, net, sym, tables, p.router, dst, p.len, &part, limits,
+                alloc,
+                terms,
+                towards.net,
+                towards.sym,
+                tables,
+                p.router,
+                towards.dst,
+                p.len,
+                &part,
+                limits,
             )?;
             Ok(holds)
         }
@@ -111,37 +137,45 @@ fn wanted_closed(
 fn wanted_with(
     alloc: Global,
     terms: &mut Terms,
-    net: &Net,
-    sym: &SymNet,
+    towards: &Towards<'_>,
     tables: &SymTables<'_>,
-    dst: &Bits,
     room: Option<&Room>,
     p: Place,
     part: &SymOpen,
     limits: &[u32],
 ) -> Result<NodeId, AllocError>
     requires short { p.len < constants.LENGTHS }
-    requires wide { length dst.now.nodes.items ≡ 32 }
-    requires nodes { ids_end dst.now.nodes.items ≤ size terms.old }
-    requires down { ids_end sym.now.down ≤ size terms.old }
-    requires rows { HaveTracked net.now.tracked tables.now.slots.now }
+    requires wide { length towards.now.dst.now.nodes.items ≡ 32 }
+    requires nodes { ids_end towards.now.dst.now.nodes.items ≤ size terms.old }
+    requires down { ids_end towards.now.sym.now.down ≤ size terms.old }
+    requires rows { HaveTracked towards.now.net.now.tracked tables.now.slots.now }
     requires slots { slots_end tables.now.slots.now ≤ size terms.old }
     requires part { open_end part.now ≤ size terms.old }
     ensures builds { Builds terms.old terms.new }
     ensures within { IfOk result (λ r. r.0 < size terms.new) }
     ensures value { Gives terms.new result (λ w r. (bgp : OptionOf BgpShape) →
-        TellsWanted w net.now.tracked net.now.files (failures_of w sym.now) (address_of w dst.now) tables.now p
-        (open_with net.now.files (failures_of w sym.now) (address_of w dst.now) (option_copied room.entry) p
+        TellsWanted w towards.now.net.now.tracked towards.now.net.now.files (failures_of w towards.now.sym.now)
+        (address_of w towards.now.dst.now) tables.now p (open_with towards.now.net.now.files
+        (failures_of w towards.now.sym.now) (address_of w towards.now.dst.now) (option_copied room.entry) p
         (open_of w part.now) bgp) r) }
 {
     match room {
         None => {
-            let closed = wanted_closed(alloc, terms, net, sym, tables, dst, p, limits)?;
+            let closed = wanted_closed(alloc, terms, towards, tables, p, limits)?;
             Ok(closed)
         }
         Some(_) => {
             let holds = sym_slot_holds(
-                alloc, terms, net, sym, tables, p.router, dst, p.len, part, limits,
+                alloc,
+                terms,
+                towards.net,
+                towards.sym,
+                tables,
+                p.router,
+                towards.dst,
+                p.len,
+                part,
+                limits,
             )?;
             Ok(holds)
         }
@@ -154,56 +188,59 @@ fn wanted_with(
 fn sym_wanted(
     alloc: Global,
     terms: &mut Terms,
-    net: &Net,
-    question: &Question,
-    plan: &Plan,
-    made: &OpenWorld,
-    tables: &SymTables<'_>,
-    limits: &[u32],
+    world: &WorldTables<'_>,
     number: usize,
 ) -> Result<NodeId, AllocError>
-    requires stands { StandsIn net.now.files net.now.tracked question.now plan.now terms.old made.now.routing }
-    requires within { slots_end made.now.slots ≤ size terms.old }
-    requires rows { HaveTracked net.now.tracked made.now.slots }
-    requires long { length made.now.slots ≡ length made.now.routing.frame.places }
-    requires lens { tables.now.lens.now ≡ made.now.routing.frame.lens.items }
-    requires routers { tables.now.routers ≡ length net.now.files }
-    requires slots { tables.now.slots.now ≡ made.now.slots }
-    requires below { number < length made.now.routing.frame.places }
+    requires stands { StandsIn world.now.net.now.files world.now.net.now.tracked world.now.question.now
+        world.now.plan.now terms.old world.now.made.now.routing }
+    requires within { slots_end world.now.made.now.slots ≤ size terms.old }
+    requires rows { HaveTracked world.now.net.now.tracked world.now.made.now.slots }
+    requires long { length world.now.made.now.slots ≡ length world.now.made.now.routing.frame.places }
+    requires lens { world.now.tables.now.lens.now ≡ world.now.made.now.routing.frame.lens.items }
+    requires routers { world.now.tables.now.routers ≡ length world.now.net.now.files }
+    requires slots { world.now.tables.now.slots.now ≡ world.now.made.now.slots }
+    requires below { number < length world.now.made.now.routing.frame.places }
     ensures builds { Builds terms.old terms.new }
     ensures within { IfOk result (λ r. r.0 < size terms.new) }
     ensures value { Gives terms.new result (λ w r. (from : ℕ) (real : TablesOf) (p : PlaceOf) (o : OpenSlot) →
-        ReadsAs net.now.files net.now.tracked question.now plan.now from w made.now.routing →
-        ReadAsShapes net.now.files net.now.tracked question.now plan.now from w made.now.slots →
-        HasShapes net.now.tracked real
-        (shape_world_from net.now.files net.now.tracked question.now plan.now w.variable from) →
-        slice_get made.now.routing.frame.places number ≡ Some p →
-        slice_get (opens_from net.now.files net.now.tracked question.now plan.now w.variable from) number ≡ Some o →
-        at w r ≡ is_wanted_place net.now.files question.now.packets.dst
-        (shape_world_from net.now.files net.now.tracked question.now plan.now w.variable from) real p o) }
+        ReadsAs world.now.net.now.files world.now.net.now.tracked world.now.question.now world.now.plan.now from w
+        world.now.made.now.routing →
+        ReadAsShapes world.now.net.now.files world.now.net.now.tracked world.now.question.now world.now.plan.now from w
+        world.now.made.now.slots →
+        HasShapes world.now.net.now.tracked real (shape_world_from world.now.net.now.files world.now.net.now.tracked
+        world.now.question.now world.now.plan.now w.variable from) →
+        slice_get world.now.made.now.routing.frame.places number ≡ Some p →
+        slice_get (opens_from world.now.net.now.files world.now.net.now.tracked world.now.question.now
+        world.now.plan.now w.variable from) number ≡ Some o →
+        at w r ≡ is_wanted_place world.now.net.now.files world.now.question.now.packets.dst
+        (shape_world_from world.now.net.now.files world.now.net.now.tracked world.now.question.now world.now.plan.now
+        w.variable from) real p o) }
 {
-    let routing = &made.routing;
+    let routing = &world.made.routing;
     let places = routing.frame.places.as_slice();
     let p = place_at(places, number);
-    if !is_used(net, &routing.frame, plan, p) {
+    if !is_used(world.net, &routing.frame, world.plan, p) {
         let holds = constant_node(terms, true)?;
         return Ok(holds);
     }
     let parts = routing.parts.as_slice();
     let part = &parts[number];
     let rooms = routing.frame.rooms.as_slice();
-    let room = room_for(net.routers(), rooms, p.router, p.len);
+    let room = room_for(world.net.routers(), rooms, p.router, p.len);
+    let towards = Towards {
+        net: world.net,
+        sym: &routing.net,
+        dst: &routing.packet.dst,
+    };
     let holds = wanted_with(
         alloc,
         terms,
-        net,
-        &routing.net,
-        tables,
-        &routing.packet.dst,
+        &towards,
+        world.tables,
         room,
         p,
         part,
-        limits,
+        world.limits,
     )?;
     Ok(holds)
 }
@@ -213,35 +250,34 @@ fn sym_wanted(
 fn sym_each_wanted(
     alloc: Global,
     terms: &mut Terms,
-    net: &Net,
-    question: &Question,
-    plan: &Plan,
-    made: &OpenWorld,
-    tables: &SymTables<'_>,
-    limits: &[u32],
+    world: &WorldTables<'_>,
 ) -> Result<NodeId, AllocError>
-    requires stands { StandsIn net.now.files net.now.tracked question.now plan.now terms.old made.now.routing }
-    requires within { slots_end made.now.slots ≤ size terms.old }
-    requires rows { HaveTracked net.now.tracked made.now.slots }
-    requires long { length made.now.slots ≡ length made.now.routing.frame.places }
-    requires lens { tables.now.lens.now ≡ made.now.routing.frame.lens.items }
-    requires routers { tables.now.routers ≡ length net.now.files }
-    requires slots { tables.now.slots.now ≡ made.now.slots }
+    requires stands { StandsIn world.now.net.now.files world.now.net.now.tracked world.now.question.now
+        world.now.plan.now terms.old world.now.made.now.routing }
+    requires within { slots_end world.now.made.now.slots ≤ size terms.old }
+    requires rows { HaveTracked world.now.net.now.tracked world.now.made.now.slots }
+    requires long { length world.now.made.now.slots ≡ length world.now.made.now.routing.frame.places }
+    requires lens { world.now.tables.now.lens.now ≡ world.now.made.now.routing.frame.lens.items }
+    requires routers { world.now.tables.now.routers ≡ length world.now.net.now.files }
+    requires slots { world.now.tables.now.slots.now ≡ world.now.made.now.slots }
     ensures builds { Builds terms.old terms.new }
     ensures within { IfOk result (λ r. r.0 < size terms.new) }
     ensures value { Gives terms.new result (λ w r. (from : ℕ) (real : TablesOf) →
-        ReadsAs net.now.files net.now.tracked question.now plan.now from w made.now.routing →
-        ReadAsShapes net.now.files net.now.tracked question.now plan.now from w made.now.slots →
-        HasShapes net.now.tracked real
-        (shape_world_from net.now.files net.now.tracked question.now plan.now w.variable from) →
-        at w r ≡ are_wanted net.now.files question.now.packets.dst
-        (shape_world_from net.now.files net.now.tracked question.now plan.now w.variable from) real
-        made.now.routing.frame.places (opens_from net.now.files net.now.tracked question.now plan.now w.variable from)) }
+        ReadsAs world.now.net.now.files world.now.net.now.tracked world.now.question.now world.now.plan.now from w
+        world.now.made.now.routing →
+        ReadAsShapes world.now.net.now.files world.now.net.now.tracked world.now.question.now world.now.plan.now from w
+        world.now.made.now.slots →
+        HasShapes world.now.net.now.tracked real (shape_world_from world.now.net.now.files world.now.net.now.tracked
+        world.now.question.now world.now.plan.now w.variable from) →
+        at w r ≡ are_wanted world.now.net.now.files world.now.question.now.packets.dst
+        (shape_world_from world.now.net.now.files world.now.net.now.tracked world.now.question.now world.now.plan.now
+        w.variable from) real world.now.made.now.routing.frame.places (opens_from world.now.net.now.files
+        world.now.net.now.tracked world.now.question.now world.now.plan.now w.variable from)) }
 {
-    let places = made.routing.frame.places.as_slice();
+    let places = world.made.routing.frame.places.as_slice();
     let mut all = constant_node(terms, true)?;
     for at in 0..places.len() {
-        let holds = sym_wanted(alloc, terms, net, question, plan, made, tables, limits, at)?;
+        let holds = sym_wanted(alloc, terms, world, at)?;
         all = both(terms, all, holds)?;
     }
     Ok(all)
@@ -275,15 +311,14 @@ pub fn sym_all_wanted(
 {
     let limits = limits_of(alloc, net, question.failures)?;
     let tables = tables_of(net, made);
-    let all = sym_each_wanted(
-        alloc,
-        terms,
+    let world = WorldTables {
         net,
         question,
         plan,
         made,
-        &tables,
-        limits.as_slice(),
-    )?;
+        tables: &tables,
+        limits: limits.as_slice(),
+    };
+    let all = sym_each_wanted(alloc, terms, &world)?;
     Ok(all)
 }

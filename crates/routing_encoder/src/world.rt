@@ -9,7 +9,7 @@ ghost use Rattle.term_store.specs.Reading.{Grows, Gives};
 ghost use Rattle.term_store.specs.Terms.{size};
 
 use crate::opening::{OpenRouting, open_routing};
-use crate::slots::slots;
+use crate::slots::{Towards, slots};
 use mw_text::List;
 use net_model::Net;
 use question_lang::Question;
@@ -51,12 +51,15 @@ pub fn open_world(
     let routing = open_routing(alloc, terms, net, question, plan)?;
     let parts = routing.parts.as_slice();
     let routes = routing.routes.as_slice();
+    let towards = Towards {
+        net,
+        sym: &routing.net,
+        dst: &routing.packet.dst,
+    };
     let slots = slots(
         alloc,
         terms,
-        net,
-        &routing.net,
-        &routing.packet.dst,
+        &towards,
         question,
         &routing.frame,
         plan,

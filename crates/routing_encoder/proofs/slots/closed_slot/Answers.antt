@@ -10,9 +10,10 @@ use Rattle.routing_encoder.proofs.slots.closed_slot.Goals as goal
 
 pub returns-clause-value : goal.returns-clause-value
 returns-clause-value c = λ w reads u.
-    let files = c.args.net.now.files in
+    let towards = c.args.towards.now in
+    let files = towards.net.now.files in
     let router = c.args.p.router in
-    let p = prefix_at (address_of w c.args.dst.now) c.args.p.len in
+    let p = prefix_at (address_of w towards.dst.now) c.args.p.len in
     let r2 = c.sym_entry.ensures.builds.reads w reads in
     let r1 = c.constant_node.ensures.builds.reads w r2 in
     let r0 = c.slot_of.ensures.builds.reads w r1 in
@@ -21,7 +22,7 @@ returns-clause-value c = λ w reads u.
     let learnt = learnt_is w c.in_ok-before.before.bgp ∙ ap (option_map (λ (s : BgpShape). s.from)) bgp in
     let own = c.in_ok-own.ensures.value w r2 in
     let rib = c.in_ok-rib.ensures.value w reads
-    ∙ (λ i. option_and_then (λ file. entry_from files (failures_of w c.args.sym.now) router file p (learnt i) (ospf i)
+    ∙ (λ i. option_and_then (λ file. entry_from files (failures_of w towards.sym.now) router file p (learnt i) (ospf i)
     (own i)) (slice_get files router)) in
-    closed_shape files (failures_of w c.args.sym.now) (address_of w c.args.dst.now) c.args.p u
+    closed_shape files (failures_of w towards.sym.now) (address_of w towards.dst.now) c.args.p u
     (bgp_of w c.args.route.now) _ (λ i. record { ospf = ospf i; bgp = bgp i; rib = rib i })

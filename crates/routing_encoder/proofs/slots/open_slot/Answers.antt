@@ -23,9 +23,10 @@ returns-clause-within c =
 
 pub returns-clause-value : goal.returns-clause-value
 returns-clause-value c = λ w reads.
-    let files = c.args.net.now.files in
+    let towards = c.args.towards.now in
+    let files = towards.net.now.files in
     let router = c.args.p.router in
-    let p = prefix_at (address_of w c.args.dst.now) c.args.p.len in
+    let p = prefix_at (address_of w towards.dst.now) c.args.p.len in
     let dynamic = at w c.args.part.now.dynamic in
     let r2 = c.sym_entry.ensures.builds.reads w reads in
     let r1 = c.negate.ensures.builds.reads w r2 in
@@ -34,7 +35,7 @@ returns-clause-value c = λ w reads.
     let learnt = learnt_is w c.in_ok-before.before.bgp ∙ ap (option_map (λ (s : BgpShape). s.from)) bgp in
     let own = c.in_ok-own.ensures.value w r2 in
     let entry = c.in_ok-rib.ensures.value w reads
-    ∙ (λ i. option_and_then (λ file. entry_from files (failures_of w c.args.sym.now) router file p (learnt i) (ospf i)
+    ∙ (λ i. option_and_then (λ file. entry_from files (failures_of w towards.sym.now) router file p (learnt i) (ospf i)
     (own i)) (slice_get files router)) in
     let rib = c.with_dynamic.ensures.value w (c.in_ok-rib.ensures.numbered w reads)
     ∙ ap (option_map (entry_of_bit dynamic)) entry in

@@ -9,9 +9,10 @@ use Rattle.routing_encoder.proofs.slots.slot_with.Goals as goal
 
 pub returns-in_ok-made-in-None-clause-value : goal.returns-in_ok-made-in-None-clause-value
 returns-in_ok-made-in-None-clause-value c = λ w reads.
-    let files = c.args.net.now.files in
-    let failures = failures_of w c.args.sym.now in
-    let d = address_of w c.args.dst.now in
+    let towards = c.args.towards.now in
+    let files = towards.net.now.files in
+    let failures = failures_of w towards.sym.now in
+    let d = address_of w towards.dst.now in
     let p = c.args.p in
     let u = open_of w c.args.part.now in
     c.in_ok-made-in-None.ensures.value w reads u

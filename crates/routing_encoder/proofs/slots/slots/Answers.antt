@@ -19,6 +19,7 @@ use Rattle.routing_encoder.proofs.slots.slots.Goals as goal
 
 pub loop-at-preserved : goal.loop-at-preserved
 loop-at-preserved c =
+    let towards = c.args.towards.now in
     let put = c.in_ok-put_slot.ensures in
     let next = c.in_ok-next.next in
     let made = c.loop-at.made in
@@ -31,15 +32,15 @@ loop-at-preserved c =
         c.slot_at.ensures.builds.larger,
         c.in_ok-next.ensures.within,
       ));
-      rows = subst (HaveTracked c.args.net.now.tracked) (sym put)
-          (tracked_push c.args.net.now.tracked made next c.loop-at.invariant.rows c.in_ok-next.ensures.rows);
+      rows = subst (HaveTracked towards.net.now.tracked) (sym put)
+          (tracked_push towards.net.now.tracked made next c.loop-at.invariant.rows c.in_ok-next.ensures.rows);
       long = ap length put ∙ length-append made (next ∷ []) ∙ ap (λ n. n + 1) c.loop-at.invariant.long;
       value = λ w reads.
           let at = c.loop-at.at in
-          let files = c.args.net.now.files in
+          let files = towards.net.now.files in
           let question = c.args.question.now in
-          let failures = failures_of w c.args.sym.now in
-          let d = address_of w c.args.dst.now in
+          let failures = failures_of w towards.sym.now in
+          let d = address_of w towards.dst.now in
           let f = shape_slot_of files question.packets.dst failures d in
           let places = c.as_slice-places.result.now in
           let parts = c.args.parts.now in

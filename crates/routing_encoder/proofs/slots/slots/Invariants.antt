@@ -16,13 +16,16 @@ abbrev pub invariant-loop-at : goal.invariant-loop-at
 invariant-loop-at l = record {
   builds : Builds l.fn.terms l.terms;
   within : slots_end l.made ≤ size l.terms;
-  rows : HaveTracked l.net.tracked l.made;
+  rows : HaveTracked l.towards.net.now.tracked l.made;
   long : length l.made ≡ l.at;
-  value : (w : Reading) → Reads w l.terms → map (slot_read w) l.made ++ shapes_over (shape_slot_of l.net.files
-      l.question.packets.dst (failures_of w l.sym) (address_of w l.dst)) (drop l.at l.places)
-      (opens_with l.net.files l.question (failures_of w l.sym) (address_of w l.dst) (drop l.at l.places)
+  value : (w : Reading) → Reads w l.terms → map (slot_read w) l.made
+      ++ shapes_over (shape_slot_of l.towards.net.now.files l.question.packets.dst (failures_of w l.towards.sym.now)
+      (address_of w l.towards.dst.now)) (drop l.at l.places)
+      (opens_with l.towards.net.now.files l.question (failures_of w l.towards.sym.now)
+      (address_of w l.towards.dst.now) (drop l.at l.places)
       (map (open_of w) (drop l.at l.parts)) (map (bgp_of w) (drop l.at l.routes)))
-      ≡ shapes_over (shape_slot_of l.net.files l.question.packets.dst (failures_of w l.sym) (address_of w l.dst))
-      l.places (opens_with l.net.files l.question (failures_of w l.sym) (address_of w l.dst) l.places
-      (map (open_of w) l.parts) (map (bgp_of w) l.routes));
+      ≡ shapes_over (shape_slot_of l.towards.net.now.files l.question.packets.dst (failures_of w l.towards.sym.now)
+      (address_of w l.towards.dst.now)) l.places
+      (opens_with l.towards.net.now.files l.question (failures_of w l.towards.sym.now)
+      (address_of w l.towards.dst.now) l.places (map (open_of w) l.parts) (map (bgp_of w) l.routes));
 }

@@ -15,19 +15,21 @@ pub loop-at-preserved : goal.loop-at-preserved
 loop-at-preserved c = record {
   builds = search rules;
   stands =
+      let world = c.args.world.now in
       let first = c.sym_wanted.ensures.builds.larger in
       let second = c.both.ensures.builds.larger in
-      stands_grown c.args.net.now.files c.args.net.now.tracked c.args.question.now c.args.plan.now c.loop-at.terms
-      c.both.new.terms c.args.made.now.routing c.loop-at.invariant.stands (omega (arith, first, second));
+      stands_grown world.net.now.files world.net.now.tracked world.question.now world.plan.now c.loop-at.terms
+      c.both.new.terms world.made.now.routing c.loop-at.invariant.stands (omega (arith, first, second));
   within = c.in_ok-all-2.ensures.within;
   value = λ w reads from real read shapes has.
+      let world = c.args.world.now in
       let r1 = c.both.ensures.builds.reads w reads in
       let r0 = c.sym_wanted.ensures.builds.reads w r1 in
-      let files = c.args.net.now.files in
-      let tracked = c.args.net.now.tracked in
-      let question = c.args.question.now in
-      let plan = c.args.plan.now in
-      let made = c.args.made.now.routing in
+      let files = world.net.now.files in
+      let tracked = world.net.now.tracked in
+      let question = world.question.now in
+      let plan = world.plan.now in
+      let made = world.made.now.routing in
       let at = c.loop-at.at in
       let past = at + 1 in
       let test : Place → OpenSlot → Bool = is_wanted_place files question.packets.dst
@@ -53,11 +55,12 @@ loop-at-preserved c = record {
 
 pub returns-clause-value : goal.returns-clause-value
 returns-clause-value c = λ w reads from real read shapes has.
-    let files = c.args.net.now.files in
-    let tracked = c.args.net.now.tracked in
-    let question = c.args.question.now in
-    let plan = c.args.plan.now in
-    let made = c.args.made.now.routing in
+    let world = c.args.world.now in
+    let files = world.net.now.files in
+    let tracked = world.net.now.tracked in
+    let question = world.question.now in
+    let plan = world.plan.now in
+    let made = world.made.now.routing in
     let at = c.loop-at.at in
     let opens = opens_from files tracked question plan w.variable from in
     let test : Place → OpenSlot → Bool = is_wanted_place files question.packets.dst

@@ -12,17 +12,23 @@ use Rattle.routing_encoder.proofs.wanted.sym_each_wanted.Given as goal
 abbrev pub invariant-loop-at : goal.invariant-loop-at
 invariant-loop-at l = record {
   builds : Builds l.fn.terms l.terms;
-  stands : StandsIn l.net.files l.net.tracked l.question l.plan l.terms l.made.routing;
+  stands : StandsIn l.world.net.now.files l.world.net.now.tracked l.world.question.now l.world.plan.now l.terms
+      l.world.made.now.routing;
   within : l.all.0 < size l.terms;
   value : (w : Reading) → Reads w l.terms → (from : ℕ) (real : Tables) →
-      ReadsAs l.net.files l.net.tracked l.question l.plan from w l.made.routing →
-      ReadAsShapes l.net.files l.net.tracked l.question l.plan from w l.made.slots →
-      HasShapes l.net.tracked real (shape_world_from l.net.files l.net.tracked l.question l.plan w.variable from) →
-      (at w l.all && are_wanted l.net.files l.question.packets.dst
-      (shape_world_from l.net.files l.net.tracked l.question l.plan w.variable from) real
-      (drop l.at l.made.routing.frame.places)
-      (drop l.at (opens_from l.net.files l.net.tracked l.question l.plan w.variable from)))
-      ≡ are_wanted l.net.files l.question.packets.dst
-      (shape_world_from l.net.files l.net.tracked l.question l.plan w.variable from) real
-      l.made.routing.frame.places (opens_from l.net.files l.net.tracked l.question l.plan w.variable from);
+      ReadsAs l.world.net.now.files l.world.net.now.tracked l.world.question.now l.world.plan.now from w
+      l.world.made.now.routing →
+      ReadAsShapes l.world.net.now.files l.world.net.now.tracked l.world.question.now l.world.plan.now from w
+      l.world.made.now.slots →
+      HasShapes l.world.net.now.tracked real (shape_world_from l.world.net.now.files l.world.net.now.tracked
+      l.world.question.now l.world.plan.now w.variable from) →
+      (at w l.all && are_wanted l.world.net.now.files l.world.question.now.packets.dst
+      (shape_world_from l.world.net.now.files l.world.net.now.tracked l.world.question.now l.world.plan.now w.variable
+      from) real (drop l.at l.world.made.now.routing.frame.places)
+      (drop l.at (opens_from l.world.net.now.files l.world.net.now.tracked l.world.question.now l.world.plan.now
+      w.variable from)))
+      ≡ are_wanted l.world.net.now.files l.world.question.now.packets.dst
+      (shape_world_from l.world.net.now.files l.world.net.now.tracked l.world.question.now l.world.plan.now w.variable
+      from) real l.world.made.now.routing.frame.places
+      (opens_from l.world.net.now.files l.world.net.now.tracked l.world.question.now l.world.plan.now w.variable from);
 }

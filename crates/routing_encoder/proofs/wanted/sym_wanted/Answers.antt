@@ -15,12 +15,13 @@ use Rattle.routing_encoder.proofs.wanted.sym_wanted.Goals as goal
 
 pub returns-clause-value : goal.returns-clause-value
 returns-clause-value c = λ w reads from real p o read shapes has there here.
-    let files = c.args.net.now.files in
-    let tracked = c.args.net.now.tracked in
-    let question = c.args.question.now in
-    let plan = c.args.plan.now in
-    let made = c.args.made.now.routing in
-    let tables = c.args.tables.now in
+    let world = c.args.world.now in
+    let files = world.net.now.files in
+    let tracked = world.net.now.tracked in
+    let question = world.question.now in
+    let plan = world.plan.now in
+    let made = world.made.now.routing in
+    let tables = world.tables.now in
     let number = c.args.number in
     let failures = failures_of w made.net in
     let d = address_of w made.packet.dst in
@@ -39,7 +40,7 @@ returns-clause-value c = λ w reads from real p o read shapes has there here.
     ∙ ap (λ (xs : List SymOpen). option_map (open_of w) (slice_get xs number)) (sym c.as_slice-parts.ensures)
     ∙ ap (option_map (open_of w)) (slice_get_read parts (length parts) number part refl
     (omega (arith, long, many, below)) c.index-parts-number.is) in
-    wanted_is w files tracked question plan from c.args.terms.now made tables c.args.made.now.slots number real
+    wanted_is w files tracked question plan from c.args.terms.now made tables world.made.now.slots number real
     c.in_ok-holds-2.holds u c.place_at-p.result p o c.requires.stands read shapes has c.requires.long c.requires.lens
     c.requires.routers c.requires.slots place there open_there here (sym c.is_used.ensures ∙ c.if-not-is_used.false)
     (subst (λ room. TellsWanted w tracked files failures d tables c.place_at-p.result

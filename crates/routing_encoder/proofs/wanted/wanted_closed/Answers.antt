@@ -20,13 +20,14 @@ returns-in_ok-never-in-None-clause-value c = λ w reads u bgp real slot stand op
 
 pub returns-in_ok-holds-in-Some-clause-value : goal.returns-in_ok-holds-in-Some-clause-value
 returns-in_ok-holds-in-Some-clause-value c = λ w reads u bgp real slot stand open_there.
-    let files = c.args.net.now.files in
-    let failures = failures_of w c.args.sym.now in
-    let d = address_of w c.args.dst.now in
+    let towards = c.args.towards.now in
+    let files = towards.net.now.files in
+    let failures = failures_of w towards.sym.now in
+    let d = address_of w towards.dst.now in
     let p = c.args.p in
     let there : slot_placed c.args.tables.now p.router p.len ≡ Some c.in-Some.slot.now =
     sym c.slot_for.ensures.place ∙ ap option_copied c.in-Some.is in
-    let stands = subst (λ (s : SymSlot). StandsForSlot w c.args.net.now.tracked s slot)
+    let stands = subst (λ (s : SymSlot). StandsForSlot w towards.net.now.tracked s slot)
     (same_Some open_there.sym c.in-Some.slot.now (sym open_there.there ∙ there)) open_there.stands in
     let part = c.in_ok-part-in-Some.ensures.value w (c.sym_slot_holds.ensures.builds.reads w reads) slot u bgp stands
     open_there.ospf open_there.bgp in
