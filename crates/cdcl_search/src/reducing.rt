@@ -24,6 +24,16 @@ const LAST_NUMBER: u64 = 1 << 62;
 
 const LAST_REDUCTION: u64 = 1_000_000;
 
+/// A reduction: learnt clauses have numbers from `first` on, and so many were added; the literals before `from` are
+/// propagated; and clauses of at most `longest` literals are kept.
+#[derive(Clone, Copy)]
+struct Reduction {
+    first: u64,
+    added: u64,
+    from: usize,
+    longest: u64,
+}
+
 /// Whether so many clauses were added that another reduction may come, and a round is over.
 fn is_due(next: u64, added: u64, runs: u64) -> bool
     ensures due { result ≡ true → IsDue next added runs }
@@ -42,13 +52,13 @@ fn is_reason(assigned: &Assigned, c: ClauseRef) -> bool
     assigned.trail().reasons.contains(&Some(c))
 }
 
-/// Whether a clause was learnt, has more than two literals and more than so many, and is no reason.
-fn may_go(arena: &Arena, assigned: &Assigned, first: u64, longest: u64, c: ClauseRef) -> bool
+/// Whether a clause was learnt, has more than two literals and more than are kept, and is no reason.
+fn may_go(arena: &Arena, assigned: &Assigned, reduction: Reduction, c: ClauseRef) -> bool
     requires { IsHeld arena.now c }
-    ensures { result ≡ true → MayGo arena.now assigned.now.reasons first c }
+    ensures { result ≡ true → MayGo arena.now assigned.now.reasons reduction.first c }
 {
     let size = arena.size(c);
-    if arena.id(c) < first || size < 3 || size <= longest {
+    if arena.id(c) < reduction.first || size < 3 || size <= reduction.longest {
         return false;
     }
     !is_reason(assigned, c)
@@ -58,19 +68,18 @@ fn may_go(arena: &Arena, assigned: &Assigned, first: u64, longest: u64, c: Claus
 fn next_to_go(
     arena: &Arena,
     assigned: &Assigned,
-    first: u64,
-    longest: u64,
+    reduction: Reduction,
     lit: Lit,
 ) -> Option<ClauseRef>
     requires { lit.var < arena.now.vars }
-    ensures { IfSome result (MayGo arena.now assigned.now.reasons first) }
+    ensures { IfSome result (MayGo arena.now assigned.now.reasons reduction.first) }
 {
     let mut at = arena.first_watch(lit);
     for _ in 0..u64::MAX {
         let Some(w) = at else {
             return None;
         };
-        if may_go(arena, assigned, first, longest, w.clause) {
+        if may_go(arena, assigned, reduction, w.clause) {
             return Some(w.clause);
         }
         at = arena.next_watch(w);
@@ -84,17 +93,15 @@ fn delete_clause<L: Sink>(
     log: &mut L,
     arena: &mut Arena,
     assigned: &Assigned,
-    first: u64,
-    added: u64,
-    from: usize,
+    reduction: Reduction,
     c: ClauseRef,
 ) -> Result<(), SolveFault>
-    requires ready { IsReady arena.old assigned.now (first + added) from }
-    requires few { first + added ≤ 2 ^ 62 }
-    requires may { MayGo arena.old assigned.now.reasons first c }
-    ensures ready { OnOk result (IsReady arena.new assigned.now (first + added) from) }
-    ensures down { OnOk result (GoesDown (L.taken log.old) (L.taken log.new) arena.old arena.new first added) }
-    ensures cut { OnErr result (CutsDown (L.taken log.old) (L.taken log.new) arena.old first added) }
+    requires ready { IsReady arena.old assigned.now (reduction.first + reduction.added) reduction.from }
+    requires few { reduction.first + reduction.added ≤ 2 ^ 62 }
+    requires may { MayGo arena.old assigned.now.reasons reduction.first c }
+    ensures ready { OnOk result (IsReady arena.new assigned.now (reduction.first + reduction.added) reduction.from) }
+    ensures down { OnOk result (GoesDown (L.taken log.old) (L.taken log.new) arena.old arena.new reduction.first reduction.added) }
+    ensures cut { OnErr result (CutsDown (L.taken log.old) (L.taken log.new) arena.old reduction.first reduction.added) }
     ensures fault { OnLogFault result (Rose (L.faults log.old) (L.faults log.new)) }
     ensures stays { UnlessLogFault result (L.faults log.new ≡ L.faults log.old) }
     ensures later { L.faults log.old ≤ L.faults log.new }
@@ -112,27 +119,24 @@ fn delete_watched<L: Sink>(
     log: &mut L,
     arena: &mut Arena,
     assigned: &Assigned,
-    first: u64,
-    added: u64,
-    from: usize,
-    longest: u64,
+    reduction: Reduction,
     lit: Lit,
 ) -> Result<(), SolveFault>
-    requires ready { IsReady arena.old assigned.now (first + added) from }
-    requires few { first + added ≤ 2 ^ 62 }
+    requires ready { IsReady arena.old assigned.now (reduction.first + reduction.added) reduction.from }
+    requires few { reduction.first + reduction.added ≤ 2 ^ 62 }
     requires below { lit.var < assigned.now.vars }
-    ensures ready { OnOk result (IsReady arena.new assigned.now (first + added) from) }
-    ensures down { OnOk result (GoesDown (L.taken log.old) (L.taken log.new) arena.old arena.new first added) }
-    ensures cut { OnErr result (CutsDown (L.taken log.old) (L.taken log.new) arena.old first added) }
+    ensures ready { OnOk result (IsReady arena.new assigned.now (reduction.first + reduction.added) reduction.from) }
+    ensures down { OnOk result (GoesDown (L.taken log.old) (L.taken log.new) arena.old arena.new reduction.first reduction.added) }
+    ensures cut { OnErr result (CutsDown (L.taken log.old) (L.taken log.new) arena.old reduction.first reduction.added) }
     ensures fault { OnLogFault result (Rose (L.faults log.old) (L.faults log.new)) }
     ensures stays { UnlessLogFault result (L.faults log.new ≡ L.faults log.old) }
     ensures later { L.faults log.old ≤ L.faults log.new }
 {
     for _ in 0..u64::MAX {
-        let Some(c) = next_to_go(arena, assigned, first, longest, lit) else {
+        let Some(c) = next_to_go(arena, assigned, reduction, lit) else {
             return Ok(());
         };
-        delete_clause(alloc, log, arena, assigned, first, added, from, c)?;
+        delete_clause(alloc, log, arena, assigned, reduction, c)?;
     }
     Ok(())
 }
@@ -198,16 +202,13 @@ fn delete_all<L: Sink>(
     log: &mut L,
     arena: &mut Arena,
     assigned: &Assigned,
-    first: u64,
-    added: u64,
-    from: usize,
-    longest: u64,
+    reduction: Reduction,
 ) -> Result<(), SolveFault>
-    requires ready { IsReady arena.old assigned.now (first + added) from }
-    requires few { first + added ≤ 2 ^ 62 }
-    ensures ready { OnOk result (IsReady arena.new assigned.now (first + added) from) }
-    ensures down { OnOk result (GoesDown (L.taken log.old) (L.taken log.new) arena.old arena.new first added) }
-    ensures cut { OnErr result (CutsDown (L.taken log.old) (L.taken log.new) arena.old first added) }
+    requires ready { IsReady arena.old assigned.now (reduction.first + reduction.added) reduction.from }
+    requires few { reduction.first + reduction.added ≤ 2 ^ 62 }
+    ensures ready { OnOk result (IsReady arena.new assigned.now (reduction.first + reduction.added) reduction.from) }
+    ensures down { OnOk result (GoesDown (L.taken log.old) (L.taken log.new) arena.old arena.new reduction.first reduction.added) }
+    ensures cut { OnErr result (CutsDown (L.taken log.old) (L.taken log.new) arena.old reduction.first reduction.added) }
     ensures fault { OnLogFault result (Rose (L.faults log.old) (L.faults log.new)) }
     ensures stays { UnlessLogFault result (L.faults log.new ≡ L.faults log.old) }
     ensures later { L.faults log.old ≤ L.faults log.new }
@@ -217,9 +218,7 @@ fn delete_all<L: Sink>(
             var: code / 2,
             negated: code % 2 == 1,
         };
-        delete_watched(
-            alloc, log, arena, assigned, first, added, from, longest, lit,
-        )?;
+        delete_watched(alloc, log, arena, assigned, reduction, lit)?;
     }
     Ok(())
 }
@@ -250,8 +249,13 @@ pub(crate) fn reduce<L: Sink>(
     if !is_due(next, added, runs) {
         return Ok(runs);
     }
-    let longest = longest_kept(arena, assigned, first);
-    delete_all(alloc, log, arena, assigned, first, added, from, longest)?;
+    let reduction = Reduction {
+        first,
+        added,
+        from,
+        longest: longest_kept(arena, assigned, first),
+    };
+    delete_all(alloc, log, arena, assigned, reduction)?;
     compact(arena, assigned);
     Ok(runs + 1)
 }

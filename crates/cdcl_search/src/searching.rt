@@ -10,7 +10,7 @@ ghost use Rattle.clause_arena.specs.Held.{held_in};
 ghost use Rattle.cdcl_search.specs.Outcomes.{IsCut, IsLogged, OnLogFault, OnSat, OnUnknown, UnlessLogFault};
 ghost use Rattle.cdcl_search.specs.Going.{IsGoing, IsReady};
 
-use crate::learning::take_lesson;
+use crate::learning::{Addition, take_lesson};
 use crate::outcome::{Outcome, SolveFault};
 use crate::reducing::reduce;
 use crate::turns::turn_of;
@@ -78,9 +78,12 @@ pub(crate) fn search<L: Sink>(
             let values = values_of(alloc, assigned)?;
             return Ok(Outcome::Sat { values });
         };
-        let id = first + added;
+        let addition = Addition {
+            id: first + added,
+            turn,
+        };
         let Some(next) = take_lesson(
-            alloc, log, deciders, turn, work, arena, assigned, id, conflict,
+            alloc, log, deciders, work, arena, assigned, addition, conflict,
         )?
         else {
             return Ok(Outcome::Unsat);

@@ -10,7 +10,7 @@ ghost use Rattle.mw_outside.specs.Taken.{Takes};
 ghost use Rattle.cdcl_search.specs.Outcomes.{IsCut, IsLogged, OnLogFault, OnSat, OnUnknown, OnUnsat, UnlessLogFault, input_entries};
 ghost use Rattle.cdcl_search.specs.Turns.{AreUntold};
 
-use crate::learning::log_lesson;
+use crate::learning::{Addition, log_lesson};
 use crate::logging::write_inputs;
 use crate::outcome::{Outcome, SolveFault};
 use crate::searching::search;
@@ -57,7 +57,8 @@ fn solve_written<L: Sink>(
     let first = inputs.len() as u64 + 1;
     if let Some(conflict) = hold_inputs(&mut arena, &mut assigned, inputs)? {
         refute(&mut work, &arena, &assigned, conflict);
-        log_lesson(alloc, log, deciders, 0, first, &work)?;
+        let addition = Addition { id: first, turn: 0 };
+        log_lesson(alloc, log, deciders, addition, &work)?;
         return Ok(Outcome::Unsat);
     }
     search(

@@ -7,14 +7,14 @@ pub returns-in_err-delete_clause-clause-cut : goal.returns-in_err-delete_clause-
 returns-in_err-delete_clause-clause-cut g c =
     on_err _
     (cuts_then (g.L.Sink.taken c.args.log.now) (g.L.Sink.taken c.loop.log) (g.L.Sink.taken c.delete_clause.new.log)
-    c.args.arena.now c.loop.arena c.args.first c.args.added c.loop.invariant.down
+    c.args.arena.now c.loop.arena c.args.reduction.first c.args.reduction.added c.loop.invariant.down
     c.in_err-delete_clause.ensures.cut)
 
 pub loop-preserved : goal.loop-preserved
 loop-preserved g c = record {
   ready = c.in_ok-delete_clause.ensures.ready;
   down = down_then (g.L.Sink.taken c.args.log.now) (g.L.Sink.taken c.loop.log)
-      (g.L.Sink.taken c.delete_clause.new.log) c.args.arena.now c.loop.arena c.delete_clause.new.arena c.args.first
-      c.args.added c.loop.invariant.down c.in_ok-delete_clause.ensures.down;
+      (g.L.Sink.taken c.delete_clause.new.log) c.args.arena.now c.loop.arena c.delete_clause.new.arena c.args.reduction.first
+      c.args.reduction.added c.loop.invariant.down c.in_ok-delete_clause.ensures.down;
   stays = c.in_ok-delete_clause.ensures.stays ∙ c.loop.invariant.stays;
 }
