@@ -1,7 +1,7 @@
 //! Routes that are followed back over the sessions over which they were learnt.
 
 ghost use Rattle.std.specs.Prelude.{◌≡◌, ◌<◌, ◌≤◌, ◌+◌, ◌*◌, ◌^◌, IfOk, IfSome, Some, length, option_and_then};
-ghost use Rattle.std.specs.Prelude.{option_map, slice_get};
+ghost use Rattle.std.specs.Prelude.{slice_get};
 ghost use Rattle.std.specs.List.{find};
 ghost use Rattle.std.specs.Option.{option_copied};
 ghost use Rattle.route_record.specs.Places.{slot_at};
@@ -26,6 +26,17 @@ use route_record::{BgpMsg, BgpRec, Environment, LENGTHS, Learnt, Slot, Tables, T
 use std::alloc::{AllocError, Global};
 
 // ---- what is known of a route
+
+/// What routes for a prefix are followed back by: what external peers announce, the shapes by router and then by prefix
+/// length, and the tables without these routes.
+#[derive(Clone, Copy)]
+struct Solution<'a> {
+    net: &'a Net,
+    env: &'a Environment,
+    held: &'a [Option<ShapeRec>],
+    rest: &'a Tables,
+    p: &'a Prefix,
+}
 
 // The shape that stands for a router and a prefix length.
 fn known_at(held: &[Option<ShapeRec>], len: u8, router: u32) -> Option<&ShapeRec>
@@ -95,18 +106,17 @@ fn first_of_shape(routes: List<BgpRec>, tracked: &Tracked, known: &ShapeRec) -> 
 // The first local route of that shape that the router has beside the rest of its slot.
 fn local_route(
     alloc: Global,
-    net: &Net,
-    held: &[Option<ShapeRec>],
-    rest: &Tables,
-    p: &Prefix,
+    solution: &Solution<'_>,
     router: u32,
     known: &ShapeRec,
 ) -> Result<Option<BgpRec>, AllocError>
-    requires { AreFew net.now.tracked }
-    ensures { IfOk result (λ r. r ≡ find (λ q. same_shape (bgp_shape net.now.tracked q) (route_of net.now.tracked known.now))
-        (routes.own_routes net.now.files (slots_of net.now.tracked held.now rest.now p.now.len) p.now router)) }
+    requires { AreFew solution.now.net.now.tracked }
+    ensures { IfOk result (λ r. r ≡ find (λ q. same_shape (bgp_shape solution.now.net.now.tracked q)
+        (route_of solution.now.net.now.tracked known.now))
+        (routes.own_routes solution.now.net.now.files (slots_of solution.now.net.now.tracked solution.now.held.now
+        solution.now.rest.now solution.now.p.now.len) solution.now.p.now router)) }
 {
-    let Some(slot) = rest.slot(router, p.len) else {
+    let Some(slot) = solution.rest.slot(router, solution.p.len) else {
         return Ok(None);
     };
     let bare = Slot {
@@ -114,8 +124,8 @@ fn local_route(
         bgp: None,
         rib: slot.rib,
     };
-    let routes = originate(alloc, net, router, p, &bare)?;
-    Ok(first_of_shape(routes, net.tracked(), known))
+    let routes = originate(alloc, solution.net, router, solution.p, &bare)?;
+    Ok(first_of_shape(routes, solution.net.tracked(), known))
 }
 
 // ---- a route that was learnt
@@ -144,18 +154,17 @@ fn from_inside(
 #[tactic(auto, unfolding(rebuilt_routes::specs::Following::arriving_of))]
 fn arriving(
     alloc: Global,
-    net: &Net,
-    env: &Environment,
-    p: &Prefix,
+    solution: &Solution<'_>,
     at: u32,
     end: &SessionEnd,
     route: &Option<BgpRec>,
 ) -> Result<Option<BgpMsg>, AllocError>
-    ensures { IfOk result (λ msg. msg ≡ routes.arriving_of net.now.files env.now (λ _. route.now) p.now at end.now) }
+    ensures { IfOk result (λ msg. msg ≡ routes.arriving_of solution.now.net.now.files solution.now.env.now
+        (λ _. route.now) solution.now.p.now at end.now) }
 {
     match end.far {
-        Far::Outside => from_outside(alloc, net, env, p, at, end),
-        Far::Inside(far_at) => from_inside(alloc, net, p, far_at, route),
+        Far::Outside => from_outside(alloc, solution.net, solution.env, solution.p, at, end),
+        Far::Inside(far_at) => from_inside(alloc, solution.net, solution.p, far_at, route),
     }
 }
 
@@ -163,23 +172,22 @@ fn arriving(
 // route.
 fn learnt_route(
     alloc: Global,
-    net: &Net,
-    env: &Environment,
-    p: &Prefix,
+    solution: &Solution<'_>,
     router: u32,
     a: Addr,
     route: &Option<BgpRec>,
 ) -> Result<Option<BgpRec>, AllocError>
-    ensures { IfOk result (λ r. r ≡ option_and_then (λ e. option_and_then (exports.imported net.now.files e.1 p.now)
-        (routes.arriving_of net.now.files env.now (λ _. route.now) p.now e.0 e.1))
-        (routes.numbered_end net.now.files router (2 ^ 32 + a.0))) }
+    ensures { IfOk result (λ r. r ≡ option_and_then (λ e. option_and_then
+        (exports.imported solution.now.net.now.files e.1 solution.now.p.now)
+        (routes.arriving_of solution.now.net.now.files solution.now.env.now (λ _. route.now) solution.now.p.now e.0 e.1))
+        (routes.numbered_end solution.now.net.now.files router (2 ^ 32 + a.0))) }
 {
-    let Some((at, end)) = numbered_end(net, router, a) else {
+    let Some((at, end)) = numbered_end(solution.net, router, a) else {
         return Ok(None);
     };
-    match arriving(alloc, net, env, p, at, &end, route)? {
+    match arriving(alloc, solution, at, &end, route)? {
         None => Ok(None),
-        Some(msg) => import(alloc, net, at, p, &msg),
+        Some(msg) => import(alloc, solution.net, at, solution.p, &msg),
     }
 }
 
@@ -187,23 +195,20 @@ fn learnt_route(
 #[tactic(auto, using(crate::proofs::Steps::has_address))]
 fn follow(
     alloc: Global,
-    net: &Net,
-    env: &Environment,
-    held: &[Option<ShapeRec>],
-    rest: &Tables,
-    p: &Prefix,
+    solution: &Solution<'_>,
     router: u32,
     known: &ShapeRec,
     route: &Option<BgpRec>,
 ) -> Result<Option<BgpRec>, AllocError>
-    requires { AreFew net.now.tracked }
-    ensures { IfOk result (λ r. r ≡ routes.followed net.now.tracked net.now.files env.now
-        (slots_of net.now.tracked held.now rest.now p.now.len) p.now (λ _. route.now) router
-        (route_of net.now.tracked known.now)) }
+    requires { AreFew solution.now.net.now.tracked }
+    ensures { IfOk result (λ r. r ≡ routes.followed solution.now.net.now.tracked solution.now.net.now.files
+        solution.now.env.now (slots_of solution.now.net.now.tracked solution.now.held.now solution.now.rest.now
+        solution.now.p.now.len) solution.now.p.now (λ _. route.now) router
+        (route_of solution.now.net.now.tracked known.now)) }
 {
     match known.rec.from {
-        Learnt::Local => local_route(alloc, net, held, rest, p, router, known),
-        Learnt::Peer(a) => learnt_route(alloc, net, env, p, router, a, route),
+        Learnt::Local => local_route(alloc, solution, router, known),
+        Learnt::Peer(a) => learnt_route(alloc, solution, router, a, route),
     }
 }
 
@@ -252,5 +257,12 @@ pub fn real_route(
         None => None,
         Some(far) => real_route(alloc, net, env, held, rest, p, fuel - 1, far)?,
     };
-    follow(alloc, net, env, held, rest, p, router, known, &route)
+    let solution = Solution {
+        net,
+        env,
+        held,
+        rest,
+        p,
+    };
+    follow(alloc, &solution, router, known, &route)
 }
