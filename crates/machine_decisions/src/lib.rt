@@ -3,6 +3,7 @@
 #![tactic(auto)]
 
 mod deciding;
+mod decision;
 mod heard;
 mod kept;
 mod known;

@@ -5,48 +5,38 @@ ghost use Rattle.std.specs.List.{range_with_len};
 ghost use Rattle.machine_decisions.specs.Touched.{AreKnown};
 ghost use Rattle.machine_laws.specs.Deciding as deciding;
 ghost use Rattle.machine_laws.specs.Quiet as quiet;
-ghost use Rattle.mw_text.specs.Address.{prefix_at};
 ghost use Rattle.route_candidates.specs.Underlays.{IsUnderlay};
 ghost use Rattle.same_routes.specs.Slots as slots;
 
 use crate::deciding::decided;
-use ios_ast::File;
+use crate::decision::Decision;
 use machine_laws::State;
 use mw_text::{Addr, prefix_of};
 use net_model::Net;
 use route_candidates::Underlay;
-use route_record::{LENGTHS, Slot};
+use route_record::LENGTHS;
 use same_routes::same_slot;
 use std::alloc::{AllocError, Global};
 
-// Whether a decision of the router would change this slot.
-fn would_change(
-    alloc: Global,
-    net: &Net,
-    d: Addr,
-    state: &State,
-    underlay: &Underlay,
-    router: u32,
-    file: &File,
-    len: u8,
-    slot: &Slot,
-) -> Result<bool, AllocError>
-    requires underlay { IsUnderlay net.now.files state.now.failures underlay.now }
-    requires file { slice_get net.now.files router ≡ Some file.now }
+// Whether a decision of the router would change its slot.
+fn would_change(alloc: Global, decision: &Decision<'_>) -> Result<bool, AllocError>
+    requires underlay { IsUnderlay decision.now.net.now.files decision.now.state.now.failures decision.now.underlay.now }
+    requires file { slice_get decision.now.net.now.files decision.now.router ≡ Some decision.now.file.now }
     ensures { IfOk result (λ would. would ≡ not (slots.same_slot
-        (deciding.decided net.now.files state.now router file.now (prefix_at d len) slot.now) slot.now)) }
+        (deciding.decided decision.now.net.now.files decision.now.state.now decision.now.router decision.now.file.now
+        decision.now.p.now decision.now.slot.now) decision.now.slot.now)) }
 {
     let new = decided(
         alloc,
-        net,
-        state,
-        underlay,
-        router,
-        file,
-        &prefix_of(d, len),
-        slot,
+        decision.net,
+        decision.state,
+        decision.underlay,
+        decision.router,
+        decision.file,
+        decision.p,
+        decision.slot,
     )?;
-    Ok(!same_slot(&new, slot))
+    Ok(!same_slot(&new, decision.slot))
 }
 
 /// Whether a decision of the router for that length would change its slot. False where there is no such router or slot.
@@ -69,7 +59,16 @@ pub fn is_unsettled(
     let Some(slot) = state.tables.slot(router, len) else {
         return Ok(false);
     };
-    would_change(alloc, net, d, state, underlay, router, file, len, slot)
+    let decision = Decision {
+        net,
+        state,
+        underlay,
+        router,
+        file,
+        p: &prefix_of(d, len),
+        slot,
+    };
+    would_change(alloc, &decision)
 }
 
 /// The same at a place of the tables.

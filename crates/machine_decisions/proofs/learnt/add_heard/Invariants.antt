@@ -9,9 +9,9 @@ use Rattle.machine_decisions.proofs.learnt.add_heard.Given as goal
 -- the candidates so far, with those of the ends that are left, are all
 abbrev pub invariant-loop-at : goal.invariant-loop-at
 invariant-loop-at l =
+    let files = l.decision.net.now.files in
+    let heard = heard_candidate files l.decision.state.now l.decision.p.now in
     map seen l.out-inside.items.items
-    ++ filter_map (heard_candidate l.net.files l.state l.p)
-    (filter (λ e. e.1.router == l.router) (enumerate_from l.at (drop l.at (ends_of l.net.files))))
+    ++ filter_map heard (filter (λ e. e.1.router == l.decision.router) (enumerate_from l.at (drop l.at (ends_of files))))
     ≡ map seen l.fn.out
-    ++ filter_map (heard_candidate l.net.files l.state l.p)
-    (filter (λ e. e.1.router == l.router) (enumerate_from 0 (ends_of l.net.files)))
+    ++ filter_map heard (filter (λ e. e.1.router == l.decision.router) (enumerate_from 0 (ends_of files)))
