@@ -6,7 +6,6 @@ ghost use Rattle.plan_places.specs.Plans as plans;
 ghost use Rattle.bgp_variables.specs.Environments.{environment_width};
 ghost use Rattle.world_variables.specs.Packets.{packet_from};
 ghost use Rattle.world_variables.specs.Worlds.{slots_start};
-ghost use Rattle.shape_worlds.specs.Worlds as worlds;
 ghost use Rattle.path_rebuild.specs.Tables.{IsMadeOf};
 ghost use Rattle.routing_worlds.specs.Worlds.{HasWordNetwork, environment_from, environment_start, failures_read_from};
 ghost use Rattle.bgp_decoding.specs.Decoded.{IsInside, IsOutside};
@@ -30,6 +29,18 @@ pub struct Decoded {
     pub environment: Environment,
 }
 
+/// Values of all variables of a question's formula over a plan, the links that have failed by them, and the address to which
+/// packets go by them.
+#[derive(Clone, Copy)]
+struct Assignment<'a> {
+    values: &'a [bool],
+    net: &'a Net,
+    question: &'a Question,
+    plan: &'a Plan,
+    failures: &'a Failures,
+    d: Addr,
+}
+
 // The failed links.
 fn failures_read(
     alloc: Global,
@@ -48,63 +59,78 @@ fn failures_read(
 // The tables and the environment that are made of what is read of values that are a routing.
 fn rebuilt(
     alloc: Global,
-    values: &[bool],
-    net: &Net,
-    question: &Question,
-    plan: &Plan,
-    failures: &Failures,
-    d: Addr,
+    assignment: &Assignment<'_>,
     inside: &Inside,
     outside: &Outside,
 ) -> Result<Rebuilt, AllocError>
-    requires destination { d ≡ (packet_from question.now.packets (truth values.now) 0).dst }
+    requires destination { assignment.now.d ≡ (packet_from assignment.now.question.now.packets (truth assignment.now.values.now) 0).dst }
     requires inside { IsInside (record {
-      files = net.now.files;
-      tracked = net.now.tracked;
-      question = question.now;
-      plan = plan.now;
-      values = truth values.now;
+      files = assignment.now.net.now.files;
+      tracked = assignment.now.net.now.tracked;
+      question = assignment.now.question.now;
+      plan = assignment.now.plan.now;
+      values = truth assignment.now.values.now;
     }) inside.now }
-    requires outside { IsOutside net.now.tracked net.now.files (plans.lens_of plan.now) (truth values.now)
-        (environment_start net.now.files net.now.tracked question.now plan.now 0) outside.now }
-    requires words { HasWordNetwork net.now.files net.now.tracked question.now }
-    requires routing { is_routing net.now.files net.now.tracked question.now plan.now (truth values.now) 0 ≡ true }
-    ensures { IfOk result (IsMadeOf net.now.tracked net.now.files
-        (shape_world_from net.now.files net.now.tracked question.now plan.now (truth values.now) 0)) }
+    requires outside { IsOutside assignment.now.net.now.tracked assignment.now.net.now.files
+        (plans.lens_of assignment.now.plan.now) (truth assignment.now.values.now)
+        (environment_start assignment.now.net.now.files assignment.now.net.now.tracked assignment.now.question.now
+        assignment.now.plan.now 0) outside.now }
+    requires words { HasWordNetwork assignment.now.net.now.files assignment.now.net.now.tracked assignment.now.question.now }
+    requires routing { is_routing assignment.now.net.now.files assignment.now.net.now.tracked assignment.now.question.now assignment.now.plan.now
+        (truth assignment.now.values.now) 0 ≡ true }
+    ensures { IfOk result (IsMadeOf assignment.now.net.now.tracked assignment.now.net.now.files
+        (shape_world_from assignment.now.net.now.files assignment.now.net.now.tracked assignment.now.question.now assignment.now.plan.now
+        (truth assignment.now.values.now) 0)) }
 {
     let ids = outside.ids.as_slice();
     let announced = outside.announced.as_slice();
     let held = inside.held.as_slice();
-    let made = rebuild(alloc, net, d, failures, ids, announced, held, &inside.rest)?;
+    let made = rebuild(
+        alloc,
+        assignment.net,
+        assignment.d,
+        assignment.failures,
+        ids,
+        announced,
+        held,
+        &inside.rest,
+    )?;
     Ok(made)
 }
 
-// The tables and the environment of values that are a routing, in which these links have failed and packets go to that
-// destination.
-fn routing_at(
-    alloc: Global,
-    values: &[bool],
-    net: &Net,
-    question: &Question,
-    plan: &Plan,
-    failures: &Failures,
-    d: Addr,
-) -> Result<Rebuilt, AllocError>
-    requires failures { failures.now ≡ failures_read_from net.now.files question.now (truth values.now) 0 }
-    requires destination { d ≡ (packet_from question.now.packets (truth values.now) 0).dst }
-    requires width { environment_start net.now.files net.now.tracked question.now plan.now 0
-        + environment_width net.now.tracked net.now.files (plans.lens_of plan.now) ≤ length values.now }
-    requires words { HasWordNetwork net.now.files net.now.tracked question.now }
-    requires routing { is_routing net.now.files net.now.tracked question.now plan.now (truth values.now) 0 ≡ true }
-    ensures { IfOk result (IsMadeOf net.now.tracked net.now.files
-        (shape_world_from net.now.files net.now.tracked question.now plan.now (truth values.now) 0)) }
+// The tables and the environment of values that are a routing.
+fn routing_at(alloc: Global, assignment: &Assignment<'_>) -> Result<Rebuilt, AllocError>
+    requires failures { assignment.now.failures.now
+        ≡ failures_read_from assignment.now.net.now.files assignment.now.question.now (truth assignment.now.values.now) 0 }
+    requires destination { assignment.now.d ≡ (packet_from assignment.now.question.now.packets (truth assignment.now.values.now) 0).dst }
+    requires width { environment_start assignment.now.net.now.files assignment.now.net.now.tracked
+        assignment.now.question.now assignment.now.plan.now 0
+        + environment_width assignment.now.net.now.tracked assignment.now.net.now.files
+        (plans.lens_of assignment.now.plan.now) ≤ length assignment.now.values.now }
+    requires words { HasWordNetwork assignment.now.net.now.files assignment.now.net.now.tracked assignment.now.question.now }
+    requires routing { is_routing assignment.now.net.now.files assignment.now.net.now.tracked assignment.now.question.now assignment.now.plan.now
+        (truth assignment.now.values.now) 0 ≡ true }
+    ensures { IfOk result (IsMadeOf assignment.now.net.now.tracked assignment.now.net.now.files
+        (shape_world_from assignment.now.net.now.files assignment.now.net.now.tracked assignment.now.question.now assignment.now.plan.now
+        (truth assignment.now.values.now) 0)) }
 {
+    let values = assignment.values;
+    let net = assignment.net;
+    let question = assignment.question;
+    let plan = assignment.plan;
     let frame = frame_of(alloc, net, question, plan)?;
-    let inside = inside_at(alloc, values, net, question, plan, &frame, failures, d)?;
+    let inside = inside_at(
+        alloc,
+        values,
+        net,
+        question,
+        plan,
+        &frame,
+        assignment.failures,
+        assignment.d,
+    )?;
     let outside = outside_at(alloc, values, net, frame.lens.as_slice(), inside.end)?;
-    rebuilt(
-        alloc, values, net, question, plan, failures, d, &inside, &outside,
-    )
+    rebuilt(alloc, assignment, &inside, &outside)
 }
 
 /// The routing that values of all variables of a question's formula say, in a network with BGP: the world with its real
@@ -128,7 +154,15 @@ pub fn decode_routing(
 {
     let packet = packet_at(values, question.packets);
     let failures = failures_read(alloc, values, net, question)?;
-    let made = routing_at(alloc, values, net, question, plan, &failures, packet.dst)?;
+    let assignment = Assignment {
+        values,
+        net,
+        question,
+        plan,
+        failures: &failures,
+        d: packet.dst,
+    };
+    let made = routing_at(alloc, &assignment)?;
     Ok(Decoded {
         world: World {
             failures,

@@ -15,7 +15,7 @@ ghost use Rattle.routing_worlds.specs.Worlds.{bgps_read_from, environment_start,
 ghost use Rattle.bgp_decoding.specs.Decoded.{IsFrame, IsInside};
 ghost use Rattle.bgp_decoding.specs.Placed.{full_places};
 
-use crate::slots::{held_routes, slots_at};
+use crate::slots::{Setting, held_routes, slots_at};
 use bgp_values::{routes_at, routes_end};
 use bgp_variables::{BgpRoom, held_room, speaker_at};
 use failed_links::downs_size;
@@ -230,9 +230,14 @@ pub fn inside_at(
     let opened = opened_at(alloc, values, net, question, plan, rooms)?;
     let unknowns = opened.unknowns.as_slice();
     let told = opened.told.as_slice();
-    let slots = slots_at(
-        alloc, net, dst, rooms, failures, d, lens, unknowns, told, all,
-    )?;
+    let setting = Setting {
+        net,
+        destinations: dst,
+        rooms,
+        failures,
+        d,
+    };
+    let slots = slots_at(alloc, &setting, lens, unknowns, told, all)?;
     let held = held_routes(alloc, net, dst, rooms, lens, told, all)?;
     Ok(Inside {
         held,

@@ -22,6 +22,17 @@ use slot_places::{Room, can_be_used, room_for};
 use std::alloc::{AllocError, Global};
 use world_variables::{Unknown, entry_with_bit};
 
+/// What slots are decoded by: the network, of which these links have failed, the rooms of OSPF routes to these destinations,
+/// and the address to which packets go.
+#[derive(Clone, Copy)]
+pub(crate) struct Setting<'a> {
+    pub(crate) net: &'a Net,
+    pub(crate) destinations: &'a Prefix,
+    pub(crate) rooms: &'a [Option<Room>],
+    pub(crate) failures: &'a Failures,
+    pub(crate) d: Addr,
+}
+
 // A slot without an entry, whose BGP route has empty lists.
 fn bare_slot(alloc: Global, ospf: Option<OspfRec>, route: Option<&ShapeRec>) -> Slot
     ensures ospf { result.ospf ≡ ospf }
@@ -39,38 +50,25 @@ fn bare_slot(alloc: Global, ospf: Option<OspfRec>, route: Option<&ShapeRec>) -> 
 }
 
 // The entry of the table, where an own origin of OSPF is as good or is not.
-fn entry_at(
-    net: &Net,
-    failures: &Failures,
-    d: Addr,
-    p: Place,
-    slot: &Slot,
-    own: bool,
-) -> Option<RibEntry>
-    ensures { result ≡ entry_learnt net.now.files failures.now d p
+fn entry_at(setting: &Setting<'_>, p: Place, slot: &Slot, own: bool) -> Option<RibEntry>
+    ensures { result ≡ entry_learnt setting.now.net.now.files setting.now.failures.now setting.now.d p
         (option_map (λ r. learnt_number r.from) slot.now.bgp) slot.now.ospf own }
 {
-    let prefix = prefix_of(d, p.len);
-    best_entry(net, failures, p.router, &prefix, slot, own)
+    let prefix = prefix_of(setting.d, p.len);
+    best_entry(setting.net, setting.failures, p.router, &prefix, slot, own)
 }
 
 // A slot that can hold no route of OSPF.
-fn slot_alone(
-    alloc: Global,
-    net: &Net,
-    failures: &Failures,
-    d: Addr,
-    p: Place,
-    route: Option<&ShapeRec>,
-) -> Slot
+fn slot_alone(alloc: Global, setting: &Setting<'_>, p: Place, route: Option<&ShapeRec>) -> Slot
     ensures { result ≡ record {
       ospf = None;
       bgp = None;
-      rib = entry_learnt net.now.files failures.now d p (learnt_of (option_copied route.entry)) None false;
+      rib = entry_learnt setting.now.net.now.files setting.now.failures.now setting.now.d p
+          (learnt_of (option_copied route.entry)) None false;
     } }
 {
     let bare = bare_slot(alloc, None, route);
-    let rib = entry_at(net, failures, d, p, &bare, false);
+    let rib = entry_at(setting, p, &bare, false);
     Slot {
         ospf: None,
         bgp: None,
@@ -81,9 +79,7 @@ fn slot_alone(
 // A slot that can hold one.
 fn slot_with(
     alloc: Global,
-    net: &Net,
-    failures: &Failures,
-    d: Addr,
+    setting: &Setting<'_>,
     p: Place,
     unknown: Unknown,
     route: Option<&ShapeRec>,
@@ -91,12 +87,13 @@ fn slot_with(
     ensures { result ≡ record {
       ospf = unknown.ospf;
       bgp = None;
-      rib = option_map (entry_of_bit unknown.dynamic) (entry_learnt net.now.files failures.now d p
+      rib = option_map (entry_of_bit unknown.dynamic) (entry_learnt setting.now.net.now.files
+          setting.now.failures.now setting.now.d p
           (learnt_of (option_copied route.entry)) unknown.ospf (not unknown.dynamic));
     } }
 {
     let bare = bare_slot(alloc, unknown.ospf, route);
-    let best = entry_at(net, failures, d, p, &bare, !unknown.dynamic);
+    let best = entry_at(setting, p, &bare, !unknown.dynamic);
     let rib = best.map(|entry| entry_with_bit(unknown.dynamic, entry));
     Slot {
         ospf: unknown.ospf,
@@ -108,45 +105,41 @@ fn slot_with(
 // The slot of that room.
 fn slot_of(
     alloc: Global,
-    net: &Net,
-    failures: &Failures,
-    d: Addr,
+    setting: &Setting<'_>,
     room: Option<&Room>,
     p: Place,
     unknown: Unknown,
     route: Option<&ShapeRec>,
 ) -> Slot
-    ensures { result ≡ slot_learnt net.now.files failures.now d (option_copied room.entry) p unknown
-        (learnt_of (option_copied route.entry)) }
+    ensures { result ≡ slot_learnt setting.now.net.now.files setting.now.failures.now setting.now.d
+        (option_copied room.entry) p unknown (learnt_of (option_copied route.entry)) }
 {
     match room {
-        None => slot_alone(alloc, net, failures, d, p, route),
-        Some(_) => slot_with(alloc, net, failures, d, p, unknown, route),
+        None => slot_alone(alloc, setting, p, route),
+        Some(_) => slot_with(alloc, setting, p, unknown, route),
     }
 }
 
 // The slot at a place: an empty one off the places of the plan, and where nothing can stand.
 fn slot_at(
     alloc: Global,
-    net: &Net,
-    destinations: &Prefix,
-    rooms: &[Option<Room>],
-    failures: &Failures,
-    d: Addr,
+    setting: &Setting<'_>,
     p: Place,
     unknown: Option<&Unknown>,
     route: Option<&ShapeRec>,
 ) -> Slot
-    requires rooms { rooms.now ≡ rooms_spec.rooms_of net.now.files destinations.now }
-    ensures { result ≡ slot_without net.now.files destinations.now failures.now d p (option_copied unknown.entry)
-        (learnt_of (option_copied route.entry)) }
+    requires rooms { setting.now.rooms.now ≡ rooms_spec.rooms_of setting.now.net.now.files setting.now.destinations.now }
+    ensures { result ≡ slot_without setting.now.net.now.files setting.now.destinations.now setting.now.failures.now
+        setting.now.d p (option_copied unknown.entry) (learnt_of (option_copied route.entry)) }
 {
-    let files = net.routers();
-    let addresses = net.addresses();
+    let files = setting.net.routers();
+    let addresses = setting.net.addresses();
+    let rooms = setting.rooms;
+    let dst = setting.destinations;
     match unknown {
-        Some(unknown) if can_be_used(files, addresses, rooms, destinations, p.router, p.len) => {
+        Some(unknown) if can_be_used(files, addresses, rooms, dst, p.router, p.len) => {
             let room = room_for(files, rooms, p.router, p.len);
-            slot_of(alloc, net, failures, d, room, p, *unknown, route)
+            slot_of(alloc, setting, room, p, *unknown, route)
         }
         _ => Slot {
             ospf: None,
@@ -157,41 +150,28 @@ fn slot_at(
 }
 
 /// The slots at places, of what is open at the places of a plan: each router has one thing at each of these lengths.
-pub fn slots_at(
+pub(crate) fn slots_at(
     alloc: Global,
-    net: &Net,
-    destinations: &Prefix,
-    rooms: &[Option<Room>],
-    failures: &Failures,
-    d: Addr,
+    setting: &Setting<'_>,
     lens: &[u8],
     unknowns: &[Unknown],
     told: &[Option<ShapeRec>],
     places: &[Place],
 ) -> Result<Vec<Slot>, AllocError>
-    requires rooms { rooms.now ≡ rooms_spec.rooms_of net.now.files destinations.now }
+    requires rooms { setting.now.rooms.now ≡ rooms_spec.rooms_of setting.now.net.now.files setting.now.destinations.now }
     requires few { length lens.now ≤ constants.LENGTHS }
-    requires open { length unknowns.now ≡ length net.now.files * length lens.now }
-    requires long { length told.now ≡ length net.now.files * length lens.now }
-    ensures { IfOk result (λ made. made.items ≡ map (λ p. slot_without net.now.files destinations.now failures.now d p
-        (item_of (places_below lens.now (length net.now.files)) unknowns.now p.router p.len)
-        (learnt_of (thing_in lens.now (length net.now.files) told.now p))) places.now) }
+    requires open { length unknowns.now ≡ length setting.now.net.now.files * length lens.now }
+    requires long { length told.now ≡ length setting.now.net.now.files * length lens.now }
+    ensures { IfOk result (λ made. made.items ≡ map (λ p. slot_without setting.now.net.now.files
+        setting.now.destinations.now setting.now.failures.now setting.now.d p
+        (item_of (places_below lens.now (length setting.now.net.now.files)) unknowns.now p.router p.len)
+        (learnt_of (thing_in lens.now (length setting.now.net.now.files) told.now p))) places.now) }
 {
     let mut made = Vec::new(alloc);
     for p in places {
         let unknown = item_among(lens, unknowns, p.router, p.len);
         let route = route_there(lens, told, *p);
-        let slot = slot_at(
-            alloc,
-            net,
-            destinations,
-            rooms,
-            failures,
-            d,
-            *p,
-            unknown,
-            route,
-        );
+        let slot = slot_at(alloc, setting, *p, unknown, route);
         made.push(slot)?;
     }
     Ok(made)

@@ -7,9 +7,11 @@ use Rattle.bgp_decoding.proofs.slots.slots_at.Given as goal
 -- the slots that are there already, and those from here on
 abbrev pub invariant-loop-p : goal.invariant-loop-p
 invariant-loop-p l =
-    l.made.items ++ map (λ p. slot_without l.net.files l.destinations l.failures l.d p
-    (item_at (places_below l.lens (length l.net.files)) l.unknowns p.router p.len)
-    (learnt_of (thing_in l.lens (length l.net.files) l.told p))) (drop l.p-index l.places)
-    ≡ map (λ p. slot_without l.net.files l.destinations l.failures l.d p
-    (item_at (places_below l.lens (length l.net.files)) l.unknowns p.router p.len)
-    (learnt_of (thing_in l.lens (length l.net.files) l.told p))) l.places
+    let setting = l.setting in
+    let files = setting.net.now.files in
+    l.made.items ++ map (λ p. slot_without files setting.destinations.now setting.failures.now setting.d p
+    (item_at (places_below l.lens (length files)) l.unknowns p.router p.len)
+    (learnt_of (thing_in l.lens (length files) l.told p))) (drop l.p-index l.places)
+    ≡ map (λ p. slot_without files setting.destinations.now setting.failures.now setting.d p
+    (item_at (places_below l.lens (length files)) l.unknowns p.router p.len)
+    (learnt_of (thing_in l.lens (length files) l.told p))) l.places
