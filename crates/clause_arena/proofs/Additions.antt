@@ -290,15 +290,16 @@ joined_so lists r codes differ = record {
 
 -- ---- the whole addition
 
-placed_from : (f h g : ℕ → ℕ) (r id : ℕ) (codes : List ℕ) → ((k : ℕ) → h k ≡ f k) → IsPlaced h g r id codes
+placed_from : (f h g : ℕ → ℕ) (r id : ℕ) (codes : List ℕ) → ((k : ℕ) → k < r → h k ≡ f k)
+    → ((side : ℕ) → 2 ≤ length codes → side < 2 → word codes side < r) → IsPlaced h g r id codes
     → IsPlaced f g r id codes
-placed_from f h g r id codes same p = record {
+placed_from f h g r id codes same low p = record {
   size = p.size;
   number = p.number;
   codes_at = p.codes_at;
-  links = λ side two low. p.links side two low ∙ same (word codes side);
+  links = λ side two s. p.links side two s ∙ same (word codes side) (low side two s);
   heads = p.heads;
-  others = λ j b o. p.others j b o ∙ same j;
+  others = λ j b o. p.others j b o ∙ same j b;
 }
 
 -- what an addition leaves
@@ -307,12 +308,14 @@ pub record IsAdded (vars : ℕ) (ws refs new : List ℕ) (r id : ℕ) (codes : L
   pub adds : Adds (store vars ws refs) (store vars new (refs ++ r ∷ [])) r id codes
 
 pub added : (vars : ℕ) (ws grown new refs : List ℕ) (r id : ℕ) (codes : List ℕ) → IsSound vars ws refs
-    → ((k : ℕ) → word grown k ≡ word ws k)
+    → ((k : ℕ) → k < r → word grown k ≡ word ws k)
     → length ws ≤ length new → IsRoom vars (length new) (word ws) refs r id codes
     → IsPlaced (word grown) (word new) r id codes
     → IsAdded vars ws refs new r id codes
 added vars ws grown new refs r id codes sound same longer room placed =
-    let p = placed_from (word ws) (word grown) (word new) r id codes same placed in
+    let p = placed_from (word ws) (word grown) (word new) r id codes same
+    (λ side two low. (let b : word codes side < 2 * vars = room.below side (omega arith) in
+    let first : 2 * vars ≤ r = room.first in omega arith)) placed in
     let joined = joined_so (places ws) r codes room.differ in
     let s = settle vars new (refs ++ r ∷ []) (more_lists (places ws) r codes)
     (laid_more vars (length new) (word ws) (word new) refs r id codes (length ws) sound.laid longer room p)

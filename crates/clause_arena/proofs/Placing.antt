@@ -3,7 +3,7 @@ use Rattle.std.specs.Prelude.{ℕ, ◌≡◌, ◌≢◌, ◌+◌, ◌-◌, ◌<�
 use Rattle.std.proofs.Common.{sym, ◌∙◌, subst, inl, inr, arith, get_or}
 use Rattle.std.proofs.lemmas.Bool.{cases_eq, cases_lt}
 use Rattle.std.proofs.lemmas.List.{get_or-set_same, get_or-set_other, get_or-map, get_or_append_left}
-use Rattle.std.proofs.lemmas.List.{get_or-append_right, get_or_past, take_all, take-append-le}
+use Rattle.std.proofs.lemmas.List.{get_or-append_right, get_or_past, take_all, take-append-le, length-append, length-replicate}
 use Rattle.clause_arena.specs.Links.{word}
 use Rattle.std.proofs.Math.ListN.{set, length-set}
 use Rattle.resolution_check.specs.declared.log.Lit.{Lit}
@@ -56,14 +56,24 @@ placed_two f g h i r id codes w two low0 low1 apart p q =
           ∙ w.others j b;
     }
 
--- words with zeros behind them, as they are read
-pub grown_word : (ws : List ℕ) (n more k : ℕ) → length ws ≤ n → word (take n ws ++ replicate more 0) k ≡ word ws k
-grown_word ws n more k h =
-    rw (take_all n ws h) (elim (cases_lt k (length ws)) [
+-- words with zeros behind them and a number at a place, as they are read before it
+pub grown_word : (ws : List ℕ) (more at id k : ℕ) → k < at → word (set (ws ++ replicate more 0) at id) k ≡ word ws k
+grown_word ws more at id k low =
+    let ne : k ≢ at = omega arith in
+    get_or-set_other (ws ++ replicate more 0) at k id 0 ne ∙ elim (cases_lt k (length ws)) [
       | inl l ↦ get_or_append_left ws (replicate more 0) 0 k l
       | inr l ↦ get_or-append_right ws (replicate more 0) (length ws) k 0 refl l ∙ word_of_zeros more (k - length ws)
           ∙ sym (get_or_past ws k 0 l)
-    ])
+    ]
+
+-- how many they are
+pub grown_length : (ws : List ℕ) (n at id : ℕ) → length ws ≤ n
+    → length (set (ws ++ replicate (n - length ws) 0) at id) ≡ n
+grown_length ws n at id h = omega (arith, length-set {A = ℕ}, length-append {A = ℕ}, length-replicate {A = ℕ})
+
+-- a place among them
+pub room_made : (ws : List ℕ) (n at : ℕ) → length ws ≤ n → at < n → at < length (ws ++ replicate (n - length ws) 0)
+room_made ws n at h low = omega (arith, length-append {A = ℕ}, length-replicate {A = ℕ})
 
 -- ---- the writes
 
@@ -80,19 +90,17 @@ code_written ws lits at i v d room here value before k h =
           get_or-set_other ws (at + i) (at + k) v 0 other ∙ before k (omega arith))
     ]
 
--- the size and the number in front of the codes
-pub written_of : (old ws : List ℕ) (r id n : ℕ) (codes : List ℕ) → HasCodes (word old) (word ws) (r + 4) codes
-    → r + 1 < length ws → n ≡ length codes
-    → IsWritten (word old) (word (set (set ws r n) (r + 1) id)) r id codes
-written_of old ws r id n codes has room size =
-    let keep : (j : ℕ) → j ≢ r → j ≢ r + 1 → word (set (set ws r n) (r + 1) id) j ≡ word ws j =
-    λ j a b. get_or-set_other (set ws r n) (r + 1) j id 0 b ∙ get_or-set_other ws r j n 0 a in
+-- the size in front of the number and the codes
+pub written_of : (old ws : List ℕ) (r n : ℕ) (codes : List ℕ) → HasCodes (word old) (word ws) (r + 4) codes
+    → r < length ws → n ≡ length codes
+    → IsWritten (word old) (word (set ws r n)) r (word old (r + 1)) codes
+written_of old ws r n codes has room size =
+    let keep : (j : ℕ) → j ≢ r → word (set ws r n) j ≡ word ws j = λ j a. get_or-set_other ws r j n 0 a in
     record {
-      size = (let ne : r ≢ r + 1 = omega arith in get_or-set_other (set ws r n) (r + 1) r id 0 ne
-          ∙ get_or-set_same ws r n 0 (omega arith) ∙ size);
-      number = get_or-set_same (set ws r n) (r + 1) id 0 (omega (arith, length-set {A = ℕ}));
-      codes_at = λ k h. keep (r + 4 + k) (omega arith) (omega arith) ∙ has.codes_at k h;
-      others = λ j h. keep j (omega arith) (omega arith) ∙ has.others j (omega arith);
+      size = get_or-set_same ws r n 0 room ∙ size;
+      number = keep (r + 1) (omega arith) ∙ has.others (r + 1) (omega arith);
+      codes_at = λ k h. keep (r + 4 + k) (omega arith) ∙ has.codes_at k h;
+      others = λ j h. keep j (omega arith) ∙ has.others j (omega arith);
     }
 
 -- a place in front of a list

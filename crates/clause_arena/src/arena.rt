@@ -12,6 +12,7 @@ use crate::compacting::compact_in;
 use crate::deleting::delete_in;
 use crate::moving::move_in;
 use crate::names::{ClauseRef, Watch};
+use crate::numbers::Words;
 use crate::reading::{code, code_in, literal, number_in, size_in};
 use crate::walking::{first_in, next_in};
 use resolution_check::Lit;
@@ -21,7 +22,7 @@ use std::marker::Model;
 /// Clauses by their references, and for each literal the list of its watches.
 #[derive(Drop)]
 pub struct Arena {
-    words: Vec<u64>,
+    words: Words,
     // By number.
     refs: Vec<u64>,
     // As many words, for the references after a compaction.
@@ -35,27 +36,18 @@ impl Model for Arena {
 
     ghost Value = { Store };
 
-    ghost view = { λ a. record { vars = a.vars; words = a.words.items; refs = a.refs.items } };
+    ghost view = { λ a. record { vars = a.vars; words = a.words; refs = a.refs.items } };
 
-    ghost invariant = { λ a. IsSound a.vars a.words.items a.refs.items
+    ghost invariant = { λ a. IsSound a.vars a.words a.refs.items
         × (length a.moved.items ≡ length a.refs.items) };
 }
 
-/// So many words that are 0.
-fn zeros(alloc: Global, count: u64) -> Result<Vec<u64>, AllocError>
-    ensures { IfOk result (λ words. words.items ≡ replicate count 0) }
-{
-    let mut words = Vec::new(alloc);
-    words.resize(count as usize, 0)?;
-    Ok(words)
-}
-
 /// The heads of empty lists.
-fn no_watches(alloc: Global, vars: u64) -> Result<Vec<u64>, AllocError>
-    ensures { IfOk result (λ words. words.items ≡ replicate (vars * 2) 0) }
+fn no_watches(alloc: Global, vars: u64) -> Result<Words, AllocError>
+    ensures { IfOk result (λ words. words ≡ replicate (vars * 2) 0) }
 {
     let heads = vars.checked_mul(2).ok_or(AllocError)?;
-    zeros(alloc, heads)
+    Words::zeros(alloc, heads)
 }
 
 impl Arena {
@@ -150,6 +142,7 @@ impl Arena {
         ensures head { place_or result ≡ head self.now None (code_of lit) }
         ensures stands { IfSome result (Stands self.now (code_of lit)) }
     {
+        self.words.is_short();
         first_in(&self.words, &self.refs, self.vars, code(lit))
     }
 

@@ -7,10 +7,11 @@ ghost use Rattle.clause_arena.specs.Store.{Rises, IsSound, store};
 ghost use Rattle.clause_arena.specs.Held.{clauses};
 ghost use Rattle.clause_arena.specs.Deleted.{others, Deletes, IsUnlinked, IsFreed};
 
+use crate::numbers::Words;
 use crate::reading::{code_in, read, size_in};
 
 /// The link that leads to a place in the list of a code.
-fn link_to(words: &[u64], refs: &[u64], vars: u64, code: u64, place: u64) -> u64
+fn link_to(words: &Words, refs: &[u64], vars: u64, code: u64, place: u64) -> u64
     requires sound { IsSound vars words.now refs.now }
     requires code { code < 2 * vars }
     requires place { In place (places words.now code) }
@@ -26,25 +27,28 @@ fn link_to(words: &[u64], refs: &[u64], vars: u64, code: u64, place: u64) -> u64
 
 #[tactic(auto, using(crate::proofs::Unlinks::unlinked_of))]
 /// Takes two places from behind their links.
-fn unlink(words: &mut [u64], link: u64, place: u64, other_link: u64, other_place: u64)
+fn unlink(words: &mut Words, link: u64, place: u64, other_link: u64, other_place: u64)
     requires link { link < length words.old }
     requires place { place < length words.old }
     requires other_link { other_link < length words.old }
     requires other_place { other_place < length words.old }
     requires links { link ≢ other_link }
     requires apart { link ≢ other_place }
-    ensures { IsUnlinked (word words.old) (word words.new) link place other_link other_place }
+    ensures unlinked { IsUnlinked (word words.old) (word words.new) link place other_link other_place }
+    ensures len { length words.new ≡ length words.old }
 {
-    words[link as usize] = words[place as usize];
-    words[other_link as usize] = words[other_place as usize];
+    words.copy(place, link);
+    words.copy(other_place, other_link);
 }
 
 /// Takes the watches of a clause out of their lists.
-fn unwatch(words: &mut [u64], refs: &[u64], vars: u64, clause: u64)
+fn unwatch(words: &mut Words, refs: &[u64], vars: u64, clause: u64)
     requires sound { IsSound vars words.old refs.now }
     requires held { In clause refs.now }
-    ensures { IsFreed vars (word words.old) (word words.new) refs.now (places words.old) clause }
+    ensures freed { IsFreed vars (word words.old) (word words.new) refs.now (places words.old) clause }
+    ensures len { length words.new ≡ length words.old }
 {
+    words.is_short();
     if size_in(words, refs, vars, clause) < 2 {
         return;
     }
@@ -67,7 +71,7 @@ fn forget(refs: &mut Vec<u64>, clause: u64)
 
 /// Deletes a clause. The last vector keeps a word for each reference.
 pub(crate) fn delete_in(
-    words: &mut [u64],
+    words: &mut Words,
     refs: &mut Vec<u64>,
     moved: &mut Vec<u64>,
     vars: u64,

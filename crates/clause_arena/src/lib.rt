@@ -7,6 +7,7 @@ mod compacting;
 mod deleting;
 mod moving;
 mod names;
+mod numbers;
 mod reading;
 mod walking;
 

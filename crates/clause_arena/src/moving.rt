@@ -10,6 +10,7 @@ ghost use Rattle.clause_arena.specs.Changes.{IsClear, IsRelinked, IsTwo, IsMoved
 ghost use Rattle.clause_arena.specs.Moved.{Moves};
 
 use crate::names::Watch;
+use crate::numbers::Words;
 use crate::reading::{code_in, read};
 use crate::walking::{place_of, watch_of};
 
@@ -26,37 +27,43 @@ fn link_in(before: Option<Watch>, code: u64) -> u64
 
 #[tactic(auto, using(crate::proofs::Shifts::relinked_of))]
 /// Takes a place from behind a link and puts it in front of the list of a code.
-fn relink(words: &mut [u64], link: u64, place: u64, code: u64)
+fn relink(words: &mut Words, link: u64, place: u64, code: u64)
     requires link { link < length words.old }
     requires place { place < length words.old }
     requires code { code < length words.old }
     requires link_place { link ≢ place }
     requires link_code { link ≢ code }
     requires place_code { place ≢ code }
-    ensures { IsRelinked (word words.old) (word words.new) link place code }
+    ensures relinked { IsRelinked (word words.old) (word words.new) link place code }
+    ensures len { length words.new ≡ length words.old }
 {
-    words[link as usize] = words[place as usize];
-    words[place as usize] = words[code as usize];
-    words[code as usize] = place;
+    words.copy(place, link);
+    words.copy(code, place);
+    words.put(code, place);
 }
 
 #[tactic(auto, using(crate::proofs::Shifts::two_of))]
-/// Writes two words.
-fn write_two(words: &mut [u64], one: u64, first: u64, other: u64, second: u64)
+/// Writes two codes.
+fn write_two(words: &mut Words, one: u64, first: u64, other: u64, second: u64)
     requires one { one < length words.old }
     requires other { other < length words.old }
+    requires first { first < length words.old }
+    requires second { second < length words.old }
     requires apart { one ≢ other }
-    ensures { IsTwo (word words.old) (word words.new) one first other second }
+    ensures two { IsTwo (word words.old) (word words.new) one first other second }
+    ensures len { length words.new ≡ length words.old }
 {
-    words[one as usize] = first;
-    words[other as usize] = second;
+    words.put(one, first);
+    words.put(other, second);
 }
 
 #[tactic(auto, using(crate::proofs::Shifts::moved_of))]
 /// Moves a watch: its link, and the two codes.
-fn turn(words: &mut [u64], link: u64, place: u64, new: u64, old: u64, one: u64, other: u64)
-    requires { IsClear (length words.old) link place new one other }
-    ensures { IsMoved (word words.old) (word words.new) link place new old one other }
+fn turn(words: &mut Words, link: u64, place: u64, new: u64, old: u64, one: u64, other: u64)
+    requires clear { IsClear (length words.old) link place new one other }
+    requires old { old < length words.old }
+    ensures moved { IsMoved (word words.old) (word words.new) link place new old one other }
+    ensures len { length words.new ≡ length words.old }
 {
     relink(words, link, place, new);
     write_two(words, one, new, other, old);
@@ -64,7 +71,7 @@ fn turn(words: &mut [u64], link: u64, place: u64, new: u64, old: u64, one: u64, 
 
 /// Moves a watch and answers what came after it.
 pub(crate) fn move_in(
-    words: &mut [u64],
+    words: &mut Words,
     refs: &[u64],
     vars: u64,
     before: Option<Watch>,
@@ -83,6 +90,7 @@ pub(crate) fn move_in(
     ensures fewer { left (store vars words.new refs.now) before (own (store vars words.old refs.now) w)
         < left (store vars words.old refs.now) before (own (store vars words.old refs.now) w) }
 {
+    words.is_short();
     let side = w.side as u64;
     let old = code_in(words, refs, vars, w.clause.0, side);
     let new = code_in(words, refs, vars, w.clause.0, to);

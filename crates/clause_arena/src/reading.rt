@@ -6,6 +6,7 @@ ghost use Rattle.mw_text.specs.Members.{In};
 ghost use Rattle.clause_arena.specs.Store.{IsSound, store};
 ghost use Rattle.clause_arena.specs.Held.{lit_of, code_of, lits_of, held_in};
 
+use crate::numbers::Words;
 use resolution_check::Lit;
 
 /// The literal of a code.
@@ -31,15 +32,15 @@ pub(crate) fn code(lit: Lit) -> u64
 }
 
 /// The word at a place.
-pub(crate) fn read(words: &[u64], at: u64) -> u64
+pub(crate) fn read(words: &Words, at: u64) -> u64
     requires { at < length words.now }
     ensures { result ≡ word words.now at }
 {
-    words[at as usize]
+    words.get(at)
 }
 
 /// The size of a clause.
-pub(crate) fn size_in(words: &[u64], refs: &[u64], vars: u64, clause: u64) -> u64
+pub(crate) fn size_in(words: &Words, refs: &[u64], vars: u64, clause: u64) -> u64
     requires sound { IsSound vars words.now refs.now }
     requires held { In clause refs.now }
     ensures value { result ≡ word words.now clause }
@@ -49,18 +50,19 @@ pub(crate) fn size_in(words: &[u64], refs: &[u64], vars: u64, clause: u64) -> u6
 }
 
 /// The number of a clause.
-pub(crate) fn number_in(words: &[u64], refs: &[u64], vars: u64, clause: u64) -> u64
+pub(crate) fn number_in(words: &Words, refs: &[u64], vars: u64, clause: u64) -> u64
     requires sound { IsSound vars words.now refs.now }
     requires held { In clause refs.now }
     ensures value { result ≡ word words.now (clause + 1) }
     ensures numbered { held_in (store vars words.now refs.now) result
         ≡ Some (record { lits = lits_of (store vars words.now refs.now) clause }) }
 {
+    words.is_short();
     read(words, clause + 1)
 }
 
 /// The code of a clause's literal.
-pub(crate) fn code_in(words: &[u64], refs: &[u64], vars: u64, clause: u64, at: u64) -> u64
+pub(crate) fn code_in(words: &Words, refs: &[u64], vars: u64, clause: u64, at: u64) -> u64
     requires sound { IsSound vars words.now refs.now }
     requires held { In clause refs.now }
     requires at { at < word words.now clause }
@@ -68,5 +70,6 @@ pub(crate) fn code_in(words: &[u64], refs: &[u64], vars: u64, clause: u64, at: u
     ensures below { result < 2 * vars }
     ensures listed { slice_get (lits_of (store vars words.now refs.now) clause) at ≡ Some (lit_of result) }
 {
+    words.is_short();
     read(words, clause + 4 + at)
 }

@@ -6,6 +6,7 @@ ghost use Rattle.clause_arena.specs.Store.{IsSound, store};
 ghost use Rattle.clause_arena.specs.Watched.{place, place_or, own, Stands, head, left, watch_at};
 
 use crate::names::{ClauseRef, Watch};
+use crate::numbers::Words;
 use crate::reading::read;
 
 /// The watch whose link stands at a place, none at 0.
@@ -32,7 +33,7 @@ pub(crate) fn place_of(w: Watch) -> u64
 }
 
 /// The first watch in the list of a code.
-pub(crate) fn first_in(words: &[u64], refs: &[u64], vars: u64, code: u64) -> Option<Watch>
+pub(crate) fn first_in(words: &Words, refs: &[u64], vars: u64, code: u64) -> Option<Watch>
     requires sound { IsSound vars words.now refs.now }
     requires below { code < 2 * vars }
     ensures head { place_or result ≡ head (store vars words.now refs.now) None code }
@@ -42,7 +43,7 @@ pub(crate) fn first_in(words: &[u64], refs: &[u64], vars: u64, code: u64) -> Opt
 }
 
 /// The watch that follows another in the list of its literal.
-pub(crate) fn next_in(words: &[u64], refs: &[u64], vars: u64, w: Watch) -> Option<Watch>
+pub(crate) fn next_in(words: &Words, refs: &[u64], vars: u64, w: Watch) -> Option<Watch>
     requires sound { IsSound vars words.now refs.now }
     requires stands { let a = store vars words.now refs.now in Stands a (own a w) w }
     ensures head { let a = store vars words.now refs.now in place_or result ≡ head a (Some w) (own a w) }
@@ -50,5 +51,6 @@ pub(crate) fn next_in(words: &[u64], refs: &[u64], vars: u64, w: Watch) -> Optio
     ensures fewer { let a = store vars words.now refs.now in (before : Option Watch) → head a before (own a w) ≡ place w
         → left a (Some w) (own a w) < left a before (own a w) }
 {
+    words.is_short();
     watch_of(read(words, place_of(w)))
 }

@@ -17,13 +17,16 @@ returns-then-lits-ge2 c =
     let one : c.code.result ≡ word codes 0 = c.code.ensures ∙ sym (get_or-map code_of a.lits.now 0 _ 0 (omega arith)) in
     let other : c.code-then-lits-ge2.result ≡ word codes 1 = c.code-then-lits-ge2.ensures
     ∙ sym (get_or-map code_of a.lits.now 1 _ 0 (omega arith)) in
-    placed_two (word a.words.now) (word c.write_clause.new.words) (word c.put_link.new.words)
-    (word c.put_link-then-lits-ge2.new.words)
-    a.clause a.id codes c.write_clause.ensures two
-    (omega (arith, codes_below a.vars a.lits.now 0 c.requires.below (omega arith)))
-    (omega (arith, codes_below a.vars a.lits.now 1 c.requires.below (omega arith)))
-    (λ e. (let z : 0 ≡ 1 = codes_differ a.lits.now 0 1 c.requires.differ (omega arith) (omega arith) e in omega arith))
-    (subst (λ (u : ℕ). IsPut (word c.write_clause.new.words) (word c.put_link.new.words) u (a.clause + 2)) one
-    c.put_link.ensures)
-    (subst (λ (u : ℕ). IsPut (word c.put_link.new.words) (word c.put_link-then-lits-ge2.new.words) u (a.clause + 3))
-    other c.put_link-then-lits-ge2.ensures)
+    record {
+      placed = placed_two (word a.words.now) (word c.write_clause.new.words) (word c.put_link.new.words)
+          (word c.put_link-then-lits-ge2.new.words)
+          a.clause (word a.words.now (a.clause + 1)) codes c.write_clause.ensures.clause two
+          (omega (arith, codes_below a.vars a.lits.now 0 c.requires.below (omega arith)))
+          (omega (arith, codes_below a.vars a.lits.now 1 c.requires.below (omega arith)))
+          (λ e. (let z : 0 ≡ 1 = codes_differ a.lits.now 0 1 c.requires.differ (omega arith) (omega arith) e in omega arith))
+          (subst (λ (u : ℕ). IsPut (word c.write_clause.new.words) (word c.put_link.new.words) u (a.clause + 2)) one
+          c.put_link.ensures.put)
+          (subst (λ (u : ℕ). IsPut (word c.put_link.new.words) (word c.put_link-then-lits-ge2.new.words) u (a.clause + 3))
+          other c.put_link-then-lits-ge2.ensures.put);
+      len = c.put_link-then-lits-ge2.ensures.len ∙ c.put_link.ensures.len ∙ c.write_clause.ensures.len;
+    }

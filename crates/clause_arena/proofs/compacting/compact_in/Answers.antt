@@ -1,4 +1,4 @@
-use Rattle.std.specs.Prelude.{ℕ, List, Option, IfSome, map, take}
+use Rattle.std.specs.Prelude.{ℕ, List, Option, IfSome, map, refl}
 use Rattle.std.specs.List.{All}
 use Rattle.std.specs.Option.{option_map}
 use Rattle.std.proofs.Common.{sym, ◌∙◌, ap, subst}
@@ -13,18 +13,16 @@ use Rattle.clause_arena.proofs.Views.{clauses_same}
 use Rattle.clause_arena.proofs.compacting.compact_in.Goals as goal
 
 whole : (c : goal.After-swap)
-    → IsCompacted c.args.vars c.args.words.now.items c.truncate.new.self.items c.args.refs.now.items c.swap.new.x.items
+    → IsCompacted c.args.vars c.args.words.now c.truncate.new.self c.args.refs.now.items c.swap.new.x.items
 whole c =
     let a = c.args in
     let sw = c.slide_words-end.new.words in
     let mv = c.slide_words-end.new.moved in
-    compacted_at a.vars a.words.now.items c.deref_mut.result.now sw c.truncate.new.self.items a.refs.now.items
-    c.deref.result.now mv c.swap.new.x.items c.slide_words-end.result c.deref_mut.ensures.value c.deref.ensures.value
-    (c.truncate.ensures.items ∙ ap (take c.slide_words-end.result)
-    (taken_back a.words.now.len sw _ (c.slide_words-end.auto.words ∙ c.deref_mut.ensures.len)))
+    compacted_at a.vars a.words.now a.words.now sw c.truncate.new.self a.refs.now.items
+    c.deref.result.now mv c.swap.new.x.items c.slide_words-end.result refl c.deref.ensures.value c.truncate.ensures
     (ap (λ (v : _). v.items) c.swap.ensures.x_after
-    ∙ taken_back a.moved.now.len mv _ (c.slide_words-end.auto.moved ∙ c.deref_mut-2.ensures.len))
-    c.requires.sound c.slide_words-end.auto.words c.slide_words-end.ensures.plan c.slide_words-end.ensures.slides
+    ∙ taken_back a.moved.now.len mv _ (c.slide_words-end.auto.moved ∙ c.deref_mut.ensures.len))
+    c.requires.sound c.slide_words-end.ensures.len c.slide_words-end.ensures.plan c.slide_words-end.ensures.slides
     c.slide_words-end.ensures.dense
 
 pub returns-clause-sound : goal.returns-clause-sound
@@ -37,7 +35,7 @@ pub returns-clause-clauses : goal.returns-clause-clauses
 returns-clause-clauses c =
     let a = c.args in
     let w = whole c in
-    clauses_same a.vars a.words.now.items c.truncate.new.self.items a.refs.now.items c.swap.new.x.items
+    clauses_same a.vars a.words.now c.truncate.new.self a.refs.now.items c.swap.new.x.items
     c.requires.sound w.sound w.compacts
 
 pub returns-clause-reasons : goal.returns-clause-reasons
@@ -53,16 +51,16 @@ returns-clause-held c =
     let a = c.args in
     let w = whole c in
     let r : _ = returns-clause-reasons c in
-    subst (λ (xs : List (Option ClauseRef)). All (λ r. IfSome r (IsHeld (store a.vars c.truncate.new.self.items
+    subst (λ (xs : List (Option ClauseRef)). All (λ r. IfSome r (IsHeld (store a.vars c.truncate.new.self
     c.swap.new.x.items))) xs) (sym r)
-    (reasons_held (store a.vars a.words.now.items a.refs.now.items)
-    (store a.vars c.truncate.new.self.items c.swap.new.x.items) a.reasons.now w.compacts c.requires.held)
+    (reasons_held (store a.vars a.words.now a.refs.now.items)
+    (store a.vars c.truncate.new.self c.swap.new.x.items) a.reasons.now w.compacts c.requires.held)
 
 pub returns-clause-numbers : goal.returns-clause-numbers
 returns-clause-numbers c =
     let a = c.args in
     let w = whole c in
-    let old = store a.vars a.words.now.items a.refs.now.items in
-    let new = store a.vars c.truncate.new.self.items c.swap.new.x.items in
+    let old = store a.vars a.words.now a.refs.now.items in
+    let new = store a.vars c.truncate.new.self c.swap.new.x.items in
     ap (map (option_map (number_of new))) (returns-clause-reasons c)
     ∙ reasons_numbers old new a.reasons.now w.compacts c.requires.held

@@ -18,27 +18,27 @@ mend_heads-requires-clause-links c = λ n h.
 pub slide_all-requires-clause-laid : goal.slide_all-requires-clause-laid
 slide_all-requires-clause-laid c =
     let a = c.args in
-    subst (λ (k : ℕ). IsLaid a.vars k (word c.mend_heads.new.words) a.refs.now) (sym c.mend_heads.auto.words)
+    subst (λ (k : ℕ). IsLaid a.vars k (word c.mend_heads.new.words) a.refs.now) (sym c.mend_heads.ensures.len)
     (laid_mended a.vars (length a.words.now) (word a.words.now) (word c.mend_heads.new.words) a.refs.now
-    c.plan-end.new.moved c.requires.sound.laid c.mend_heads.ensures)
+    c.plan-end.new.moved c.requires.sound.laid c.mend_heads.ensures.mends)
 
 pub slide_all-requires-clause-plan : goal.slide_all-requires-clause-plan
 slide_all-requires-clause-plan c =
     let a = c.args in
     subst (λ (k : ℕ). IsPlan a.vars k (word c.mend_heads.new.words) a.refs.now c.plan-end.new.moved c.plan-end.result)
-    (sym c.mend_heads.auto.words)
+    (sym c.mend_heads.ensures.len)
     (plan_mended a.vars (length a.words.now) c.plan-end.result (word a.words.now) (word c.mend_heads.new.words)
-    a.refs.now c.plan-end.new.moved c.requires.sound.laid c.mend_heads.ensures c.plan-end.ensures.plan)
+    a.refs.now c.plan-end.new.moved c.requires.sound.laid c.mend_heads.ensures.mends c.plan-end.ensures.plan)
 
 pub slide_all-requires-clause-links : goal.slide_all-requires-clause-links
 slide_all-requires-clause-links c =
     let a = c.args in
     links_mended a.vars a.words.now a.refs.now c.plan-end.new.moved (word c.mend_heads.new.words) c.requires.sound
-    c.mend_heads.ensures
+    c.mend_heads.ensures.mends
 
 pub returns-clause-slides : goal.returns-clause-slides
 returns-clause-slides c =
     let a = c.args in
     slides_whole a.vars (length a.words.now) (word a.words.now) (word c.mend_heads.new.words)
-    (word c.slide_all.new.words) a.refs.now c.plan-end.new.moved c.requires.sound.laid c.mend_heads.ensures
-    c.slide_all.ensures
+    (word c.slide_all.new.words) a.refs.now c.plan-end.new.moved c.requires.sound.laid c.mend_heads.ensures.mends
+    c.slide_all.ensures.slides

@@ -12,8 +12,8 @@ pub returns-clause-sound : goal.returns-clause-sound
 returns-clause-sound c =
     let a = c.args in
     let l = less a.vars a.words.now c.unwatch.new.words a.refs.now.items a.clause c.requires.sound c.requires.held
-    c.unwatch.auto.words (subst (λ (xs : List ℕ). IsFreed a.vars (word a.words.now) (word c.unwatch.new.words) xs
-    (places a.words.now) a.clause) c.deref.ensures.value c.unwatch.ensures) in
+    c.unwatch.ensures.len (subst (λ (xs : List ℕ). IsFreed a.vars (word a.words.now) (word c.unwatch.new.words) xs
+    (places a.words.now) a.clause) c.deref.ensures.value c.unwatch.ensures.freed) in
     subst (λ (xs : List ℕ). IsSound a.vars c.unwatch.new.words xs) (sym c.forget.ensures) l.sound
 
 pub returns-clause-count : goal.returns-clause-count
@@ -27,8 +27,8 @@ pub returns-clause-deletes : goal.returns-clause-deletes
 returns-clause-deletes c =
     let a = c.args in
     let l = less a.vars a.words.now c.unwatch.new.words a.refs.now.items a.clause c.requires.sound c.requires.held
-    c.unwatch.auto.words (subst (λ (xs : List ℕ). IsFreed a.vars (word a.words.now) (word c.unwatch.new.words) xs
-    (places a.words.now) a.clause) c.deref.ensures.value c.unwatch.ensures) in
+    c.unwatch.ensures.len (subst (λ (xs : List ℕ). IsFreed a.vars (word a.words.now) (word c.unwatch.new.words) xs
+    (places a.words.now) a.clause) c.deref.ensures.value c.unwatch.ensures.freed) in
     subst (λ (xs : List ℕ). Deletes (store a.vars a.words.now a.refs.now.items)
     (store a.vars c.unwatch.new.words xs) a.clause) (sym c.forget.ensures) l.deletes
 
@@ -36,8 +36,8 @@ pub returns-clause-clauses : goal.returns-clause-clauses
 returns-clause-clauses c =
     let a = c.args in
     let l = less a.vars a.words.now c.unwatch.new.words a.refs.now.items a.clause c.requires.sound c.requires.held
-    c.unwatch.auto.words (subst (λ (xs : List ℕ). IsFreed a.vars (word a.words.now) (word c.unwatch.new.words) xs
-    (places a.words.now) a.clause) c.deref.ensures.value c.unwatch.ensures) in
+    c.unwatch.ensures.len (subst (λ (xs : List ℕ). IsFreed a.vars (word a.words.now) (word c.unwatch.new.words) xs
+    (places a.words.now) a.clause) c.deref.ensures.value c.unwatch.ensures.freed) in
     subst (λ (xs : List ℕ). clauses (store a.vars c.unwatch.new.words xs)
     ≡ filter (λ k. not (k.0 == word a.words.now (a.clause + 1))) (clauses (store a.vars a.words.now a.refs.now.items)))
     (sym c.forget.ensures)

@@ -18,8 +18,8 @@ link_in-link-requires c =
     let l : link_of a.before n < length a.words.now = k.link in
     subst (λ (u : ℕ). link_of a.before u < 18446744073709551616) (sym c.code_in-old.ensures.value) (omega arith)
 
-pub turn-requires : goal.turn-requires
-turn-requires c =
+pub turn-requires-clause-clear : goal.turn-requires-clause-clear
+turn-requires-clause-clear c =
     let a = c.args in
     clear_at a.vars a.words.now a.refs.now a.before a.w a.to c.link_in-link.result c.place_of.result
     c.code_in-new.result
@@ -36,7 +36,7 @@ read-requires c =
     (c.link_in-link.ensures
     ∙ ap (link_of a.before) c.code_in-old.ensures.value) c.place_of.ensures c.code_in-new.ensures.value in
     let l : c.link_in-link.result < length a.words.now = k.link in
-    let e : length c.turn.new.words ≡ length a.words.now = c.turn.auto.words in
+    let e : length c.turn.new.words ≡ length a.words.now = c.turn.ensures.len in
     omega arith
 
 pub watch_of-requires : goal.watch_of-requires
@@ -48,8 +48,8 @@ watch_of-requires c =
     let d = done_at a.vars a.words.now c.turn.new.words a.refs.now a.before a.w a.to c.link_in-link.result
     c.place_of.result c.code_in-new.result
     c.code_in-old.result c.requires.sound c.requires.stands c.requires.before c.requires.behind c.requires.within
-    c.turn.auto.words
-    eb c.place_of.ensures c.code_in-new.ensures.value c.code_in-old.ensures.value c.turn.ensures in
+    c.turn.ensures.len
+    eb c.place_of.ensures c.code_in-new.ensures.value c.code_in-old.ensures.value c.turn.ensures.moved in
     subst (λ (u : ℕ). (u ≡ 0) ⊎ (3 < u + 2)) (sym (c.read.ensures ∙ ap (word c.turn.new.words) eb))
     (low_or_high a.vars c.turn.new.words a.refs.now n b d.sound d.below d.link)
 
@@ -62,8 +62,8 @@ returns-clause-sound c =
     let d = done_at a.vars a.words.now c.turn.new.words a.refs.now a.before a.w a.to c.link_in-link.result
     c.place_of.result c.code_in-new.result
     c.code_in-old.result c.requires.sound c.requires.stands c.requires.before c.requires.behind c.requires.within
-    c.turn.auto.words
-    eb c.place_of.ensures c.code_in-new.ensures.value c.code_in-old.ensures.value c.turn.ensures in
+    c.turn.ensures.len
+    eb c.place_of.ensures c.code_in-new.ensures.value c.code_in-old.ensures.value c.turn.ensures.moved in
     d.sound
 
 pub returns-clause-moves : goal.returns-clause-moves
@@ -75,8 +75,8 @@ returns-clause-moves c =
     let d = done_at a.vars a.words.now c.turn.new.words a.refs.now a.before a.w a.to c.link_in-link.result
     c.place_of.result c.code_in-new.result
     c.code_in-old.result c.requires.sound c.requires.stands c.requires.before c.requires.behind c.requires.within
-    c.turn.auto.words
-    eb c.place_of.ensures c.code_in-new.ensures.value c.code_in-old.ensures.value c.turn.ensures in
+    c.turn.ensures.len
+    eb c.place_of.ensures c.code_in-new.ensures.value c.code_in-old.ensures.value c.turn.ensures.moved in
     d.moves
 
 pub returns-clause-head : goal.returns-clause-head
@@ -88,8 +88,8 @@ returns-clause-head c =
     let d = done_at a.vars a.words.now c.turn.new.words a.refs.now a.before a.w a.to c.link_in-link.result
     c.place_of.result c.code_in-new.result
     c.code_in-old.result c.requires.sound c.requires.stands c.requires.before c.requires.behind c.requires.within
-    c.turn.auto.words
-    eb c.place_of.ensures c.code_in-new.ensures.value c.code_in-old.ensures.value c.turn.ensures in
+    c.turn.ensures.len
+    eb c.place_of.ensures c.code_in-new.ensures.value c.code_in-old.ensures.value c.turn.ensures.moved in
     let l = leads a.vars c.turn.new.words a.refs.now n b d.sound d.below d.link in
     ap place_or (c.watch_of.ensures ∙ ap watch_at (c.read.ensures ∙ ap (word c.turn.new.words) eb)) ∙ l.head
 
@@ -102,8 +102,8 @@ returns-clause-stands c =
     let d = done_at a.vars a.words.now c.turn.new.words a.refs.now a.before a.w a.to c.link_in-link.result
     c.place_of.result c.code_in-new.result
     c.code_in-old.result c.requires.sound c.requires.stands c.requires.before c.requires.behind c.requires.within
-    c.turn.auto.words
-    eb c.place_of.ensures c.code_in-new.ensures.value c.code_in-old.ensures.value c.turn.ensures in
+    c.turn.ensures.len
+    eb c.place_of.ensures c.code_in-new.ensures.value c.code_in-old.ensures.value c.turn.ensures.moved in
     let l = leads a.vars c.turn.new.words a.refs.now n b d.sound d.below d.link in
     subst (λ (w : Option Watch). IfSome w (Stands (store a.vars c.turn.new.words a.refs.now) n))
     (sym (c.watch_of.ensures ∙ ap watch_at (c.read.ensures ∙ ap (word c.turn.new.words) eb))) l.stands
@@ -117,6 +117,6 @@ returns-clause-fewer c =
     let d = done_at a.vars a.words.now c.turn.new.words a.refs.now a.before a.w a.to c.link_in-link.result
     c.place_of.result c.code_in-new.result
     c.code_in-old.result c.requires.sound c.requires.stands c.requires.before c.requires.behind c.requires.within
-    c.turn.auto.words
-    eb c.place_of.ensures c.code_in-new.ensures.value c.code_in-old.ensures.value c.turn.ensures in
+    c.turn.ensures.len
+    eb c.place_of.ensures c.code_in-new.ensures.value c.code_in-old.ensures.value c.turn.ensures.moved in
     d.fewer
