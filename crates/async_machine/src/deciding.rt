@@ -11,7 +11,7 @@ ghost use Rattle.route_candidates.specs.Underlays.{IsUnderlay};
 use ios_ast::File;
 use machine_decisions::decided;
 use machine_laws::{EventRefused, State};
-use machine_sending::{install, plan_told};
+use machine_sending::{Written, install, plan_told};
 use mw_text::{Addr, Prefix, prefix_of};
 use net_model::Net;
 use route_candidates::Underlay;
@@ -122,9 +122,13 @@ fn tell(
 {
     let place = LENGTHS * router as usize + len as usize;
     let former = write(&mut state.tables, place, made.slot);
-    match plan_told(
-        alloc, net, d, state, underlay, router, len, made.bgp, made.ospf,
-    ) {
+    let slot = Written {
+        router,
+        len,
+        bgp: made.bgp,
+        ospf: made.ospf,
+    };
+    match plan_told(alloc, net, d, state, underlay, slot) {
         Ok(plan) => {
             install(state, plan);
             Ok(())

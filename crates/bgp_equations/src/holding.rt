@@ -22,16 +22,12 @@ ghost use Rattle.bgp_equations.specs.Equations.{DistancesForSessions, HaveTracke
 ghost use Rattle.bgp_equations.specs.Equations.{sending_read, slots_read};
 
 use crate::candidates::sym_candidates;
-use crate::environment::SymEnv;
 use crate::routing::Routing;
 use ios_ast::{Bgp, File};
-use net_model::Net;
 use net_parts::ends::file_of;
 use std::alloc::{AllocError, Global};
 use sym_bgp::sym_survives;
-use sym_policy::SymNet;
-use sym_rib::{SymSlot, SymTables, slot_for};
-use term_arith::Bits;
+use sym_rib::{SymSlot, slot_for};
 use term_arith::gates::{constant_node, negate};
 use term_store::{NodeId, Terms};
 
@@ -141,44 +137,35 @@ fn file_holds(
 pub fn sym_bgp_holds(
     alloc: Global,
     terms: &mut Terms,
-    net: &Net,
-    sym: &SymNet,
-    env: &SymEnv,
-    tables: &SymTables<'_>,
-    dst: &Bits,
+    routing: &Routing<'_>,
     router: u32,
-    len: u8,
 ) -> Result<NodeId, AllocError>
-    requires distances { RowsForSessions net.now.files sym.now }
-    requires sym { net_end sym.now ≤ size terms.old }
-    requires long { len ≤ 32 }
-    requires wide { length dst.now.nodes.items ≡ 32 }
-    requires dst { ids_end dst.now.nodes.items ≤ size terms.old }
-    requires ascend { Ascend tables.now.lens.now }
-    requires fits { FitsNet net.now.files net.now.tracked tables.now.lens.now env.now }
-    requires nodes { env_end env.now ≤ size terms.old }
-    requires rows { HaveTracked net.now.tracked tables.now.slots.now }
-    requires slots { slots_end tables.now.slots.now ≤ size terms.old }
+    requires distances { RowsForSessions routing.now.net.now.files routing.now.sym.now }
+    requires sym { net_end routing.now.sym.now ≤ size terms.old }
+    requires long { routing.now.len ≤ 32 }
+    requires wide { length routing.now.dst.now.nodes.items ≡ 32 }
+    requires dst { ids_end routing.now.dst.now.nodes.items ≤ size terms.old }
+    requires ascend { Ascend routing.now.tables.now.lens.now }
+    requires fits { FitsNet routing.now.net.now.files routing.now.net.now.tracked routing.now.tables.now.lens.now
+        routing.now.env.now }
+    requires nodes { env_end routing.now.env.now ≤ size terms.old }
+    requires rows { HaveTracked routing.now.net.now.tracked routing.now.tables.now.slots.now }
+    requires slots { slots_end routing.now.tables.now.slots.now ≤ size terms.old }
     ensures builds { Builds terms.old terms.new }
     ensures within { IfOk result (λ r. r.0 < size terms.new) }
-    ensures value { Gives terms.new result (λ w r. DistancesForSessions w net.now.files sym.now →
-        node_at w r ≡ is_decided_heard net.now.tracked net.now.files (failures_of w sym.now)
-        (environment_read w net.now.files tables.now.lens.now env.now) (slots_read w tables.now len) router
-        (prefix_of w dst.now len)) }
+    ensures value { Gives terms.new result (λ w r. DistancesForSessions w routing.now.net.now.files
+        routing.now.sym.now →
+        node_at w r ≡ is_decided_heard routing.now.net.now.tracked routing.now.net.now.files
+        (failures_of w routing.now.sym.now)
+        (environment_read w routing.now.net.now.files routing.now.tables.now.lens.now routing.now.env.now)
+        (slots_read w routing.now.tables.now routing.now.len) router
+        (prefix_of w routing.now.dst.now routing.now.len)) }
 {
-    let routing = Routing {
-        net,
-        sym,
-        env,
-        tables,
-        dst,
-        len,
-    };
-    let Some(file) = file_of(net.routers(), router) else {
+    let Some(file) = file_of(routing.net.routers(), router) else {
         return constant_node(terms, false);
     };
-    match slot_for(tables, router, len) {
+    match slot_for(routing.tables, router, routing.len) {
         None => constant_node(terms, false),
-        Some(slot) => file_holds(alloc, terms, &routing, router, file, slot),
+        Some(slot) => file_holds(alloc, terms, routing, router, file, slot),
     }
 }

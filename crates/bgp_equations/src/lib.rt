@@ -17,3 +17,4 @@ mod routing;
 
 pub use environment::SymEnv;
 pub use holding::sym_bgp_holds;
+pub use routing::Routing;

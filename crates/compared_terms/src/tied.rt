@@ -15,7 +15,7 @@ use common_failures::laws::read_law;
 use mw_text::List;
 use net_model::Net;
 use paired_nets::{EndPair, LinkPair, common_ends, common_links};
-use peers_beside::same_peers;
+use peers_beside::{Sides, same_peers};
 use plan_places::{lens_of, single_plan};
 use routings_beside::Side;
 use std::alloc::{AllocError, Global};
@@ -69,7 +69,8 @@ fn sym_around(
     ensures builds { Builds terms.old terms.new }
     ensures within { IfOk result (λ r. r.0 < size terms.new) }
     ensures value { Gives terms.new result (λ w r. at w r ≡ true
-        ↔ IsAround two.entry.left.now two.entry.right.now two.entry.places.now two.entry.one.now two.entry.other.now w) }
+        ↔ IsAround two.entry.left.now two.entry.right.now two.entry.places.now two.entry.one.now two.entry.other.now
+        w) }
 {
     let packet = same_packet(
         alloc,
@@ -78,17 +79,15 @@ fn sym_around(
         &two.one.world.packet,
         &two.other.world.packet,
     )?;
-    let peers = same_peers(
-        alloc,
-        terms,
-        two.places,
-        two.left,
-        two.right,
-        common.lens.as_slice(),
-        &two.one.env,
-        &two.other.env,
-        common.ends.as_slice(),
-    )?;
+    let sides = Sides {
+        places: two.places,
+        left: two.left,
+        right: two.right,
+        lens: common.lens.as_slice(),
+        a: &two.one.env,
+        b: &two.other.env,
+    };
+    let peers = same_peers(alloc, terms, &sides, common.ends.as_slice())?;
     both(terms, packet, peers)
 }
 
@@ -132,7 +131,8 @@ pub fn sym_tied(
     ensures builds { Builds terms.old terms.new }
     ensures within { IfOk result (λ r. r.0 < size terms.new) }
     ensures value { Gives terms.new result (λ w r. at w r ≡ true
-        ↔ AreTied two.entry.left.now two.entry.right.now common.now.links most two.entry.places.now two.entry.one.now two.entry.other.now w) }
+        ↔ AreTied two.entry.left.now two.entry.right.now common.now.links most two.entry.places.now two.entry.one.now
+        two.entry.other.now w) }
 {
     let around = sym_around(alloc, terms, two, common)?;
     let failing = sym_failing(alloc, terms, two, common.links.as_slice(), most)?;

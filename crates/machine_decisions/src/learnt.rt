@@ -13,7 +13,7 @@ use ios_ast::Bgp;
 use mw_text::List;
 use net_model::SessionEnd;
 use proto_bgp::Candidate;
-use route_candidates::{learnt_candidate, local_candidates};
+use route_candidates::{Heard, learnt_candidate, local_candidates};
 use std::alloc::{AllocError, Global};
 
 // What was last received over the session of the end at that place, as a candidate.
@@ -24,7 +24,8 @@ fn heard_candidate(
     at: u32,
     end: &SessionEnd,
 ) -> Result<Option<Candidate>, AllocError>
-    requires underlay { IsUnderlay decision.now.net.now.files decision.now.state.now.failures decision.now.underlay.now }
+    requires underlay { IsUnderlay decision.now.net.now.files decision.now.state.now.failures
+        decision.now.underlay.now }
     requires is { slice_get (ends_of decision.now.net.now.files) at ≡ Some end.now }
     requires within { at < length (ends_of decision.now.net.now.files) }
     ensures { IfOk result (λ made. option_map seen made
@@ -38,6 +39,7 @@ fn heard_candidate(
         return Ok(None);
     };
     let ids = state.environment.ids.as_slice();
+    let heard = Heard { at, end, received };
     learnt_candidate(
         alloc,
         decision.net,
@@ -45,9 +47,7 @@ fn heard_candidate(
         ids,
         decision.underlay,
         decision.p,
-        at,
-        end,
-        received,
+        &heard,
     )
 }
 
@@ -57,7 +57,8 @@ fn add_heard(
     out: &mut List<Candidate>,
     decision: &Decision<'_>,
 ) -> Result<(), AllocError>
-    requires underlay { IsUnderlay decision.now.net.now.files decision.now.state.now.failures decision.now.underlay.now }
+    requires underlay { IsUnderlay decision.now.net.now.files decision.now.state.now.failures
+        decision.now.underlay.now }
     ensures { OnOk result (map seen out.new ≡ map seen out.old
         ++ filter_map (heard_candidate decision.now.net.now.files decision.now.state.now decision.now.p.now)
         (filter (λ e. e.1.router == decision.now.router) (enumerate_from 0 (ends_of decision.now.net.now.files)))) }
@@ -81,7 +82,8 @@ pub(crate) fn candidates_heard(
     decision: &Decision<'_>,
     process: &Bgp,
 ) -> Result<List<Candidate>, AllocError>
-    requires underlay { IsUnderlay decision.now.net.now.files decision.now.state.now.failures decision.now.underlay.now }
+    requires underlay { IsUnderlay decision.now.net.now.files decision.now.state.now.failures
+        decision.now.underlay.now }
     requires file { slice_get decision.now.net.now.files decision.now.router ≡ Some decision.now.file.now }
     requires process { decision.now.file.now.bgp ≡ Some process.now }
     ensures { IfOk result (λ made. map seen made

@@ -8,4 +8,4 @@ mod renewing;
 mod sending;
 
 pub use places::{arriving_at, is_outside_at, session_up_at};
-pub use plans::{Plan, install, plan_renewed, plan_told};
+pub use plans::{Plan, Written, install, plan_renewed, plan_told};

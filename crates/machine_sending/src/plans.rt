@@ -22,6 +22,19 @@ pub struct Plan {
     pub adjacencies: Option<List<Change<OspfRec>>>,
 }
 
+/// A slot that was written, and which of its routes have changed.
+#[derive(Clone, Copy)]
+pub struct Written {
+    /// The number of the slot's router.
+    pub router: u32,
+    /// The slot's prefix length.
+    pub len: u8,
+    /// Whether its BGP route has changed.
+    pub bgp: bool,
+    /// Whether its OSPF route has.
+    pub ospf: bool,
+}
+
 fn change_if<M: Drop>(channels: &mut List<Channel<M>>, plan: Option<List<Change<M>>>)
     requires { IsReady channels.old plan }
     ensures { channels.new ≡ plans.changed_if channels.old plan }
@@ -97,26 +110,29 @@ fn tell_adjacencies(
     Ok(Some(changes))
 }
 
-/// What the router, whose slot for that length was written, sends: over its sessions where its BGP route has changed, and
-/// over its adjacencies where its OSPF route has.
+/// What a router sends whose slot was written: over its sessions where its BGP route has changed, and over its adjacencies
+/// where its OSPF route has.
 pub fn plan_told(
     alloc: Global,
     net: &Net,
     d: Addr,
     state: &State,
     underlay: &Underlay,
-    router: u32,
-    len: u8,
-    bgp: bool,
-    ospf: bool,
+    slot: Written,
 ) -> Result<Plan, AllocError>
     requires underlay { IsUnderlay net.now.files state.now.failures underlay.now }
     requires channels { HasChannels net.now.files state.now }
     ensures sessions { IfOk result (λ plan. LeadsTo state.now.sessions
-        (plans.sessions_told net.now.files d state.now router len bgp) plan.sessions) }
+        (plans.sessions_told net.now.files d state.now slot.router slot.len slot.bgp) plan.sessions) }
     ensures adjacencies { IfOk result (λ plan. LeadsTo state.now.adjacencies
-        (plans.adjacencies_told net.now.files d state.now router len ospf) plan.adjacencies) }
+        (plans.adjacencies_told net.now.files d state.now slot.router slot.len slot.ospf) plan.adjacencies) }
 {
+    let Written {
+        router,
+        len,
+        bgp,
+        ospf,
+    } = slot;
     let sessions = tell_sessions(alloc, net, d, state, underlay, router, len, bgp)?;
     let adjacencies = tell_adjacencies(alloc, net, d, state, underlay, router, len, ospf)?;
     Ok(Plan {

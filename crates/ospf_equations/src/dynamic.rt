@@ -12,11 +12,9 @@ ghost use Rattle.term_store.specs.Reading.{Reads, Builds, Gives};
 ghost use Rattle.term_arith.specs.Bits.{ids_end};
 ghost use Rattle.std.specs.Prelude.{length};
 
-use net_model::Net;
+use crate::origins::SlotPlace;
 use std::alloc::{AllocError, Global};
-use sym_policy::SymNet;
 use sym_rib::{SymRib, SymSlot, sym_entry};
-use term_arith::Bits;
 use term_arith::gates::both;
 use term_store::{NodeId, Terms};
 
@@ -37,27 +35,36 @@ fn bit_of(terms: &mut Terms, entry: &SymRib) -> Result<NodeId, AllocError>
 pub fn sym_dynamic(
     alloc: Global,
     terms: &mut Terms,
-    net: &Net,
-    sym: &SymNet,
-    router: u32,
-    dst: &Bits,
-    len: u8,
+    place: &SlotPlace<'_>,
     slot: &SymSlot,
     own: NodeId,
 ) -> Result<NodeId, AllocError>
-    requires long { len ≤ 32 }
-    requires wide { length dst.now.nodes.items ≡ 32 }
-    requires nodes { ids_end dst.now.nodes.items ≤ size terms.old }
-    requires down { ids_end sym.now.down ≤ size terms.old }
+    requires long { place.now.len ≤ 32 }
+    requires wide { length place.now.dst.now.nodes.items ≡ 32 }
+    requires nodes { ids_end place.now.dst.now.nodes.items ≤ size terms.old }
+    requires down { ids_end place.now.sym.now.down ≤ size terms.old }
     requires slot { slot_end slot.now ≤ size terms.old }
     requires own { own.0 < size terms.old }
     ensures builds { Builds terms.old terms.new }
     ensures within { IfOk result (λ r. r.0 < size terms.new) }
-    ensures value { Gives terms.new result (λ w r. (held : SlotOf) → StandsForSlot w net.now.tracked slot.now held →
-        at w r ≡ has_dynamic (option_and_then (λ file. entry_with net.now.files (failures_of w sym.now) router file
-        (prefix_read w dst.now len) held (at w own)) (slice_get net.now.files router))) }
+    ensures value { Gives terms.new result (λ w r. (held : SlotOf) → StandsForSlot w place.now.net.now.tracked
+        slot.now held →
+        at w r ≡ has_dynamic (option_and_then (λ file. entry_with place.now.net.now.files
+        (failures_of w place.now.sym.now) place.now.router file
+        (prefix_read w place.now.dst.now place.now.len) held (at w own))
+        (slice_get place.now.net.now.files place.now.router))) }
 {
-    let entry = sym_entry(alloc, terms, net, sym, router, dst, len, slot, own)?;
+    let entry = sym_entry(
+        alloc,
+        terms,
+        place.net,
+        place.sym,
+        place.router,
+        place.dst,
+        place.len,
+        slot,
+        own,
+    )?;
     let bit = bit_of(terms, &entry)?;
     Ok(bit)
 }

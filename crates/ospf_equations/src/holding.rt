@@ -26,13 +26,11 @@ ghost use Rattle.term_arith.specs.Bits.{ids_end};
 use crate::dynamic::sym_dynamic;
 use crate::levels::sym_held;
 use crate::origins::{SlotPlace, own_routes};
-use net_model::Net;
 use net_parts::ends::file_of;
 use std::alloc::{AllocError, Global};
 use sym_ospf::sym_better;
-use sym_policy::{SymNet, SymOspf};
+use sym_policy::SymOspf;
 use sym_rib::{SymSlot, SymTables, slot_for};
-use term_arith::Bits;
 use term_arith::gates::{agree, both, constant_node, either, negate};
 use term_store::{NodeId, Terms};
 use world_variables::SymOpen;
@@ -104,7 +102,8 @@ fn sym_runs(
     requires part { open_end part.now ≤ size terms.old }
     ensures builds { Builds terms.old terms.new }
     ensures within { IfOk result (λ r. r.0 < size terms.new) }
-    ensures value { Gives terms.new result (λ w r. (real : TablesOf) (held : SlotOf) (file : FileOf) (process : OspfOf) →
+    ensures value { Gives terms.new result (λ w r. (real : TablesOf) (held : SlotOf) (file : FileOf)
+        (process : OspfOf) →
         StandFor w place.now.net.now.tracked tables.now real → StandsForSlot w place.now.net.now.tracked slot.now held →
         slot_at real place.now.router place.now.len ≡ Some held → ospf_of w part.now.ospf ≡ held.ospf →
         slice_get place.now.net.now.files place.now.router ≡ Some file → file.ospf ≡ Some process →
@@ -113,30 +112,8 @@ fn sym_runs(
 {
     let own = own_routes(alloc, terms, place, slot)?;
     let good = sym_as_good(terms, own.as_slice(), &part.ospf)?;
-    let best = sym_held(
-        alloc,
-        terms,
-        place.net,
-        place.sym,
-        tables,
-        place.router,
-        place.dst,
-        place.len,
-        own,
-        &part.ospf,
-        limits,
-    )?;
-    let bit = sym_dynamic(
-        alloc,
-        terms,
-        place.net,
-        place.sym,
-        place.router,
-        place.dst,
-        place.len,
-        slot,
-        good,
-    )?;
+    let best = sym_held(alloc, terms, place, tables, own, &part.ospf, limits)?;
+    let bit = sym_dynamic(alloc, terms, place, slot, good)?;
     let same = agree(terms, part.dynamic, bit)?;
     let wanted = both(terms, best, same)?;
     Ok(wanted)
@@ -166,17 +143,7 @@ fn sym_closed(
         (prefix_read w place.now.dst.now place.now.len) held false)))) }
 {
     let never = constant_node(terms, false)?;
-    let bit = sym_dynamic(
-        alloc,
-        terms,
-        place.net,
-        place.sym,
-        place.router,
-        place.dst,
-        place.len,
-        slot,
-        never,
-    )?;
+    let bit = sym_dynamic(alloc, terms, place, slot, never)?;
     let same = agree(terms, part.dynamic, bit)?;
     let none = negate(terms, part.ospf.valid)?;
     let closed = both(terms, none, same)?;
@@ -231,40 +198,31 @@ fn sym_wanted(
 pub fn sym_slot_holds(
     alloc: Global,
     terms: &mut Terms,
-    net: &Net,
-    sym: &SymNet,
+    place: &SlotPlace<'_>,
     tables: &SymTables<'_>,
-    router: u32,
-    dst: &Bits,
-    len: u8,
     part: &SymOpen,
     limits: &[u32],
 ) -> Result<NodeId, AllocError>
-    requires long { len ≤ 32 }
-    requires wide { length dst.now.nodes.items ≡ 32 }
-    requires nodes { ids_end dst.now.nodes.items ≤ size terms.old }
-    requires down { ids_end sym.now.down ≤ size terms.old }
-    requires rows { HaveTracked net.now.tracked tables.now.slots.now }
+    requires long { place.now.len ≤ 32 }
+    requires wide { length place.now.dst.now.nodes.items ≡ 32 }
+    requires nodes { ids_end place.now.dst.now.nodes.items ≤ size terms.old }
+    requires down { ids_end place.now.sym.now.down ≤ size terms.old }
+    requires rows { HaveTracked place.now.net.now.tracked tables.now.slots.now }
     requires tables { slots_end tables.now.slots.now ≤ size terms.old }
     requires part { open_end part.now ≤ size terms.old }
     ensures builds { Builds terms.old terms.new }
     ensures within { IfOk result (λ r. r.0 < size terms.new) }
     ensures value { Gives terms.new result (λ w r. (real : TablesOf) (held : SlotOf) →
-        StandFor w net.now.tracked tables.now real → IsOpenIn w tables.now real router len part.now held →
-        at w r ≡ option_map_or (is_wanted net.now.files (failures_of w sym.now) (address_of w dst.now) real router len
-        (open_of w part.now) held) (slice_get net.now.files router) false) }
+        StandFor w place.now.net.now.tracked tables.now real → IsOpenIn w tables.now real place.now.router
+        place.now.len part.now held →
+        at w r ≡ option_map_or (is_wanted place.now.net.now.files (failures_of w place.now.sym.now)
+        (address_of w place.now.dst.now) real place.now.router place.now.len
+        (open_of w part.now) held) (slice_get place.now.net.now.files place.now.router) false) }
 {
-    match slot_for(tables, router, len) {
+    match slot_for(tables, place.router, place.len) {
         None => constant_node(terms, false),
         Some(slot) => {
-            let place = SlotPlace {
-                net,
-                sym,
-                router,
-                dst,
-                len,
-            };
-            let made = sym_wanted(alloc, terms, &place, tables, slot, part, limits)?;
+            let made = sym_wanted(alloc, terms, place, tables, slot, part, limits)?;
             Ok(made)
         }
     }

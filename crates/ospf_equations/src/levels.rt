@@ -22,14 +22,15 @@ ghost use Rattle.term_arith.specs.Bits.{ids_end};
 
 use crate::adjacent::{SymAdjacency, sym_adjacencies};
 use crate::offers::with_offers;
+use crate::origins::SlotPlace;
 use mw_text::List;
-use net_model::{Adjacency, Net};
+use net_model::Adjacency;
 use std::alloc::{AllocError, Global};
 use sym_ospf::{sym_best, sym_same_record};
-use sym_policy::{SymNet, SymOspf};
+use sym_policy::SymOspf;
 use sym_rib::{SymTables, slot_for};
 use term_arith::gates::{agree, both, constant_node, either, is_never, negate};
-use term_arith::{Bits, above_number, equal_number};
+use term_arith::{above_number, equal_number};
 use term_store::{NodeId, Terms};
 
 // Whether the route is there, is internal and costs no more.
@@ -198,47 +199,53 @@ fn sym_all_levels(
 
 /// Whether the held route is the best of some own ones and what the router is offered; with the limits of its cost, from
 /// which it follows without a search.
-pub fn sym_held(
+pub(crate) fn sym_held(
     alloc: Global,
     terms: &mut Terms,
-    net: &Net,
-    sym: &SymNet,
+    place: &SlotPlace<'_>,
     tables: &SymTables<'_>,
-    router: u32,
-    dst: &Bits,
-    len: u8,
     own: List<SymOspf>,
     held: &SymOspf,
     limits: &[u32],
 ) -> Result<NodeId, AllocError>
-    requires down { ids_end sym.now.down ≤ size terms.old }
-    requires long { len ≤ 32 }
+    requires down { ids_end place.now.sym.now.down ≤ size terms.old }
+    requires long { place.now.len ≤ 32 }
     requires tables { slots_end tables.now.slots.now ≤ size terms.old }
     requires own { list_end ospf_end own ≤ size terms.old }
     requires held { ospf_end held.now ≤ size terms.old }
     ensures builds { Builds terms.old terms.new }
     ensures within { IfOk result (λ r. r.0 < size terms.new) }
-    ensures value { Gives terms.new result (λ w r. (real : TablesOf) → StandFor w net.now.tracked tables.now real →
+    ensures value { Gives terms.new result (λ w r. (real : TablesOf) →
+        StandFor w place.now.net.now.tracked tables.now real →
         at w r ≡ same_ospf (ospf_of w held.now) (first_best (filter_map (ospf_of w) own
-        ++ offers_by net.now.files (failures_of w sym.now) real router (prefix_read w dst.now len)
-        (model.adjacencies net.now.files)))) }
+        ++ offers_by place.now.net.now.files (failures_of w place.now.sym.now) real place.now.router
+        (prefix_read w place.now.dst.now place.now.len)
+        (model.adjacencies place.now.net.now.files)))) }
 {
     let shown = if is_never(terms, held.valid) {
         &[]
     } else {
         limits
     };
-    let over = sym_adjacencies(alloc, terms, net, sym, router)?;
+    let over = sym_adjacencies(alloc, terms, place.net, place.sym, place.router)?;
     let levels = sym_all_levels(
         terms,
         tables,
         over.as_slice(),
-        len,
+        place.len,
         own.as_slice(),
         held,
         shown,
     )?;
-    let all = with_offers(alloc, terms, tables, over.as_slice(), dst, len, own)?;
+    let all = with_offers(
+        alloc,
+        terms,
+        tables,
+        over.as_slice(),
+        place.dst,
+        place.len,
+        own,
+    )?;
     let best = sym_best(alloc, terms, all.as_slice())?;
     let same = sym_same(terms, held, &best)?;
     let firm = both(terms, same, levels)?;

@@ -13,3 +13,4 @@ mod origins;
 pub use dynamic::{sym_dynamic, with_dynamic};
 pub use holding::sym_slot_holds;
 pub use limits::{is_meshed, limits_of};
+pub use origins::SlotPlace;

@@ -32,12 +32,17 @@ use term_store::{NodeId, Terms};
 /// The place of a slot in a network while the links of `sym` have failed: a router, and the prefix of that length of a
 /// destination.
 #[derive(Clone, Copy)]
-pub(crate) struct SlotPlace<'a> {
-    pub(crate) net: &'a Net,
-    pub(crate) sym: &'a SymNet,
-    pub(crate) router: u32,
-    pub(crate) dst: &'a Bits,
-    pub(crate) len: u8,
+pub struct SlotPlace<'a> {
+    /// The network.
+    pub net: &'a Net,
+    /// Which of its links have failed.
+    pub sym: &'a SymNet,
+    /// The router's number.
+    pub router: u32,
+    /// The destination.
+    pub dst: &'a Bits,
+    /// The length of the prefix, at most 32.
+    pub len: u8,
 }
 
 /// Puts a route at the end of some.

@@ -6,4 +6,4 @@ pub mod announced;
 pub mod laws;
 pub mod peers;
 
-pub use peers::same_peers;
+pub use peers::{Sides, same_peers};

@@ -28,16 +28,22 @@ use term_arith::gates::{both, constant_node};
 use term_store::{NodeId, Terms};
 use ties_beside::same_number;
 
-// Two networks and their environments over these prefix lengths, side by side: the nodes of the first environment stand
-// in the store, and those of the second one at these places.
+/// Two networks and their environments over the same prefix lengths, side by side: the nodes of the first environment
+/// stand in the store, and those of the second one at these places.
 #[derive(Clone, Copy)]
-struct Sides<'a> {
-    places: &'a [NodeId],
-    left: &'a Net,
-    right: &'a Net,
-    lens: &'a [u8],
-    a: &'a SymEnv,
-    b: &'a SymEnv,
+pub struct Sides<'a> {
+    /// Where the nodes of the second environment stand.
+    pub places: &'a [NodeId],
+    /// The first network.
+    pub left: &'a Net,
+    /// The second network.
+    pub right: &'a Net,
+    /// The prefix lengths, rising.
+    pub lens: &'a [u8],
+    /// The first environment.
+    pub a: &'a SymEnv,
+    /// The second environment.
+    pub b: &'a SymEnv,
 }
 
 // How many external ends stand before a place.
@@ -70,7 +76,8 @@ fn id_at(ids: &[Bits], k: usize) -> Option<&Bits>
     requires wide { All (λ id. length id.nodes.items ≡ 32) ids.now }
     ensures place { option_copied result ≡ slice_get ids.now k }
     ensures wide { IfSome result (λ id. length id.now.nodes.items ≡ 32) }
-    ensures within { IfSome result (λ id. ids_end id.now.nodes.items ≤ list_end (λ id. ids_end id.nodes.items) ids.now) }
+    ensures within { IfSome result (λ id. ids_end id.now.nodes.items ≤ list_end
+        (λ id. ids_end id.nodes.items) ids.now) }
 {
     item(ids, k)
 }
@@ -150,7 +157,8 @@ fn is_one_peer(
     requires second { env_end sides.now.b.now ≤ length sides.now.places.now }
     requires places { ids_end sides.now.places.now ≤ size terms.old }
     requires fits { FitsNet sides.now.left.now.files sides.now.left.now.tracked sides.now.lens.now sides.now.a.now }
-    requires fits_too { FitsNet sides.now.right.now.files sides.now.right.now.tracked sides.now.lens.now sides.now.b.now }
+    requires fits_too { FitsNet sides.now.right.now.files sides.now.right.now.tracked sides.now.lens.now
+        sides.now.b.now }
     requires tracked { sides.now.left.now.tracked ≡ sides.now.right.now.tracked }
     requires pair { AreOneEnd sides.now.left.now.files sides.now.right.now.files pair.now.one pair.now.other }
     ensures builds { Builds terms.old terms.new }
@@ -194,7 +202,8 @@ fn are_one_peer(
     requires second { env_end sides.now.b.now ≤ length sides.now.places.now }
     requires places { ids_end sides.now.places.now ≤ size terms.old }
     requires fits { FitsNet sides.now.left.now.files sides.now.left.now.tracked sides.now.lens.now sides.now.a.now }
-    requires fits_too { FitsNet sides.now.right.now.files sides.now.right.now.tracked sides.now.lens.now sides.now.b.now }
+    requires fits_too { FitsNet sides.now.right.now.files sides.now.right.now.tracked sides.now.lens.now
+        sides.now.b.now }
     requires tracked { sides.now.left.now.tracked ≡ sides.now.right.now.tracked }
     requires pairs { All (λ pair. AreOneEnd sides.now.left.now.files sides.now.right.now.files pair.one pair.other)
         pairs.now }
@@ -218,35 +227,25 @@ fn are_one_peer(
 pub fn same_peers(
     alloc: Global,
     terms: &mut Terms,
-    places: &[NodeId],
-    left: &Net,
-    right: &Net,
-    lens: &[u8],
-    a: &SymEnv,
-    b: &SymEnv,
+    sides: &Sides<'_>,
     pairs: &[EndPair],
 ) -> Result<NodeId, AllocError>
-    requires first { env_end a.now ≤ size terms.old }
-    requires second { env_end b.now ≤ length places.now }
-    requires places { ids_end places.now ≤ size terms.old }
-    requires lens { Ascend lens.now }
-    requires fits { FitsNet left.now.files left.now.tracked lens.now a.now }
-    requires fits_too { FitsNet right.now.files right.now.tracked lens.now b.now }
-    requires tracked { left.now.tracked ≡ right.now.tracked }
-    requires pairs { AreEndPairs left.now.files right.now.files pairs.now }
+    requires first { env_end sides.now.a.now ≤ size terms.old }
+    requires second { env_end sides.now.b.now ≤ length sides.now.places.now }
+    requires places { ids_end sides.now.places.now ≤ size terms.old }
+    requires lens { Ascend sides.now.lens.now }
+    requires fits { FitsNet sides.now.left.now.files sides.now.left.now.tracked sides.now.lens.now sides.now.a.now }
+    requires fits_too { FitsNet sides.now.right.now.files sides.now.right.now.tracked sides.now.lens.now
+        sides.now.b.now }
+    requires tracked { sides.now.left.now.tracked ≡ sides.now.right.now.tracked }
+    requires pairs { AreEndPairs sides.now.left.now.files sides.now.right.now.files pairs.now }
     ensures builds { Builds terms.old terms.new }
     ensures within { IfOk result (λ r. r.0 < size terms.new) }
-    ensures value { Gives terms.new result (λ w r. at w r ≡ true ↔ AreCommonShapes left.now.files right.now.files
-        (environment_read w left.now.files lens.now a.now)
-        (environment_read (behind places.now w) right.now.files lens.now b.now)) }
+    ensures value { Gives terms.new result (λ w r. at w r ≡ true ↔ AreCommonShapes sides.now.left.now.files
+        sides.now.right.now.files
+        (environment_read w sides.now.left.now.files sides.now.lens.now sides.now.a.now)
+        (environment_read (behind sides.now.places.now w) sides.now.right.now.files sides.now.lens.now
+        sides.now.b.now)) }
 {
-    let sides = Sides {
-        places,
-        left,
-        right,
-        lens,
-        a,
-        b,
-    };
-    are_one_peer(alloc, terms, &sides, pairs)
+    are_one_peer(alloc, terms, sides, pairs)
 }

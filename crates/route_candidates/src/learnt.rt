@@ -17,6 +17,17 @@ use proto_ospf::resolve_over;
 use route_record::{BgpMsg, BgpRec, Failures};
 use std::alloc::{AllocError, Global};
 
+/// What was last received over a session.
+#[derive(Clone, Copy)]
+pub struct Heard<'a> {
+    /// The number of the session's end at the router.
+    pub at: u32,
+    /// That end.
+    pub end: &'a SessionEnd,
+    /// The message, none where nothing was received or a withdrawal.
+    pub received: &'a Option<BgpMsg>,
+}
+
 // How many ends before that place are towards external peers.
 fn external_before(ends: &[SessionEnd], at: u32) -> usize
     requires within { at < length ends.now }
@@ -94,10 +105,9 @@ fn taken_candidate(
     })
 }
 
-/// What was last received over the session of the end at that place, as a candidate for the prefix. None where the
-/// session is down, nothing was received or a withdrawal, the router does not take the message (see `import`), or the
-/// next hop is not resolved (RFC 4271, section 9.1.2). `ids` are the identifiers of the external peers, in the order of
-/// their ends.
+/// What was last received over a session, as a candidate for the prefix. None where the session is down, nothing was
+/// received or a withdrawal, the router does not take the message (see `import`), or the next hop is not resolved
+/// (RFC 4271, section 9.1.2). `ids` are the identifiers of the external peers, in the order of their ends.
 pub fn learnt_candidate(
     alloc: Global,
     net: &Net,
@@ -105,24 +115,23 @@ pub fn learnt_candidate(
     ids: &[Addr],
     underlay: &Underlay,
     p: &Prefix,
-    at: u32,
-    end: &SessionEnd,
-    received: &Option<BgpMsg>,
+    heard: &Heard<'_>,
 ) -> Result<Option<Candidate>, AllocError>
     requires underlay { IsUnderlay net.now.files failures.now underlay.now }
-    requires is { slice_get (sessions.ends_of net.now.files) at ≡ Some end.now }
-    requires within { at < length (sessions.ends_of net.now.files) }
+    requires is { slice_get (sessions.ends_of net.now.files) heard.now.at ≡ Some heard.now.end.now }
+    requires within { heard.now.at < length (sessions.ends_of net.now.files) }
     ensures { IfOk result (λ made. option_map seen made
-        ≡ decisions.learnt_candidate net.now.files failures.now ids.now p.now at end.now received.now) }
+        ≡ decisions.learnt_candidate net.now.files failures.now ids.now p.now heard.now.at heard.now.end.now
+        heard.now.received.now) }
 {
-    let Some(msg) = received else {
+    let Some(msg) = heard.received else {
         return Ok(None);
     };
-    if !is_session_up(net, failures, underlay, at, end) {
+    if !is_session_up(net, failures, underlay, heard.at, heard.end) {
         return Ok(None);
     }
-    match import(alloc, net, at, p, msg)? {
+    match import(alloc, net, heard.at, p, msg)? {
         None => Ok(None),
-        Some(rec) => Ok(taken_candidate(net, failures, ids, underlay, at, end, rec)),
+        Some(rec) => Ok(taken_candidate(net, failures, ids, underlay, heard.at, heard.end, rec)),
     }
 }

@@ -15,7 +15,7 @@ mod underlay;
 
 pub use announced::from_outside;
 pub use held::held_from;
-pub use learnt::learnt_candidate;
+pub use learnt::{Heard, learnt_candidate};
 pub use local::local_candidates;
 pub use own::{is_own, origins};
 pub use underlay::{Underlay, is_adjacency_up, is_session_up, underlay_of};

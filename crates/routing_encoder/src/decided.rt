@@ -15,7 +15,7 @@ ghost use Rattle.term_store.specs.Reading.{Builds, Gives};
 
 use crate::slots::is_used;
 use crate::world::OpenWorld;
-use bgp_equations::sym_bgp_holds;
+use bgp_equations::{Routing, sym_bgp_holds};
 use net_model::Net;
 use plan_places::Place;
 use question_lang::Question;
@@ -62,17 +62,15 @@ pub fn sym_decided(
         let holds = constant_node(terms, true)?;
         return Ok(holds);
     }
-    let holds = sym_bgp_holds(
-        alloc,
-        terms,
+    let whole = Routing {
         net,
-        &routing.net,
-        &routing.env,
+        sym: &routing.net,
+        env: &routing.env,
         tables,
-        &routing.packet.dst,
-        p.router,
-        p.len,
-    )?;
+        dst: &routing.packet.dst,
+        len: p.len,
+    };
+    let holds = sym_bgp_holds(alloc, terms, &whole, p.router)?;
     Ok(holds)
 }
 

@@ -27,7 +27,7 @@ use crate::decided::tables_of;
 use crate::slots::{Towards, is_used, place_at};
 use crate::world::OpenWorld;
 use net_model::Net;
-use ospf_equations::{limits_of, sym_dynamic, sym_slot_holds};
+use ospf_equations::{SlotPlace, limits_of, sym_dynamic, sym_slot_holds};
 use plan_places::Place;
 use question_lang::Question;
 use route_record::Plan;
@@ -73,17 +73,14 @@ fn closed_part(
 {
     let ospf = no_route(alloc, terms)?;
     let own = constant_node(terms, false)?;
-    let dynamic = sym_dynamic(
-        alloc,
-        terms,
-        towards.net,
-        towards.sym,
-        p.router,
-        towards.dst,
-        p.len,
-        slot,
-        own,
-    )?;
+    let place = SlotPlace {
+        net: towards.net,
+        sym: towards.sym,
+        router: p.router,
+        dst: towards.dst,
+        len: p.len,
+    };
+    let dynamic = sym_dynamic(alloc, terms, &place, slot, own)?;
     Ok(SymOpen { ospf, dynamic })
 }
 
@@ -116,18 +113,14 @@ fn wanted_closed(
         }
         Some(slot) => {
             let part = closed_part(alloc, terms, towards, p, slot)?;
-            let holds = sym_slot_holds(
-                alloc,
-                terms,
-                towards.net,
-                towards.sym,
-                tables,
-                p.router,
-                towards.dst,
-                p.len,
-                &part,
-                limits,
-            )?;
+            let place = SlotPlace {
+                net: towards.net,
+                sym: towards.sym,
+                router: p.router,
+                dst: towards.dst,
+                len: p.len,
+            };
+            let holds = sym_slot_holds(alloc, terms, &place, tables, &part, limits)?;
             Ok(holds)
         }
     }
@@ -165,18 +158,14 @@ fn wanted_with(
             Ok(closed)
         }
         Some(_) => {
-            let holds = sym_slot_holds(
-                alloc,
-                terms,
-                towards.net,
-                towards.sym,
-                tables,
-                p.router,
-                towards.dst,
-                p.len,
-                part,
-                limits,
-            )?;
+            let place = SlotPlace {
+                net: towards.net,
+                sym: towards.sym,
+                router: p.router,
+                dst: towards.dst,
+                len: p.len,
+            };
+            let holds = sym_slot_holds(alloc, terms, &place, tables, part, limits)?;
             Ok(holds)
         }
     }
@@ -307,7 +296,8 @@ pub fn sym_all_wanted(
         (shape_world_from net.now.files net.now.tracked question.now plan.now w.variable from) →
         at w r ≡ are_wanted net.now.files question.now.packets.dst
         (shape_world_from net.now.files net.now.tracked question.now plan.now w.variable from) real
-        made.now.routing.frame.places (opens_from net.now.files net.now.tracked question.now plan.now w.variable from)) }
+        made.now.routing.frame.places (opens_from net.now.files net.now.tracked question.now plan.now w.variable
+        from)) }
 {
     let limits = limits_of(alloc, net, question.failures)?;
     let tables = tables_of(net, made);

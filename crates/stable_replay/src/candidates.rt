@@ -18,7 +18,7 @@ use ios_ast::{Bgp, File};
 use mw_text::{List, Prefix};
 use net_model::{Net, SessionEnd};
 use proto_bgp::Candidate;
-use route_candidates::{is_session_up, learnt_candidate, local_candidates};
+use route_candidates::{Heard, is_session_up, learnt_candidate, local_candidates};
 use route_record::Tables;
 use std::alloc::{AllocError, Global};
 
@@ -60,6 +60,11 @@ fn arriving_candidate(
     }
     let msg = arriving(alloc, routing.net, routing.env, routing.tables, p, at, end)?;
     let ids = routing.env.ids.as_slice();
+    let heard = Heard {
+        at,
+        end,
+        received: &msg,
+    };
     learnt_candidate(
         alloc,
         routing.net,
@@ -67,9 +72,7 @@ fn arriving_candidate(
         ids,
         routing.underlay,
         p,
-        at,
-        end,
-        &msg,
+        &heard,
     )
 }
 

@@ -29,7 +29,7 @@ use crate::messages::{sym_external, sym_internal};
 use crate::metrics::sym_keeps_metric;
 use crate::parts::SymCrossing;
 use crate::routers::{Session, own_address, side_of};
-use crate::through::{Applied, copied, nothing, sym_mapped};
+use crate::through::{copied, nothing, sym_mapped};
 use crate::ways::sym_crossing;
 use ios_ast::Neighbour;
 use mw_text::Addr;
@@ -40,7 +40,7 @@ use net_parts::ends::{file_of, neighbour_of};
 use net_parts::router_ids::router_id;
 use route_record::Tracked;
 use std::alloc::{AllocError, Global};
-use sym_policy::{SymBgp, path_of, sym_marked};
+use sym_policy::{Grounds, SymBgp, path_of, sym_marked};
 use term_arith::Bits;
 use term_arith::gates::{both, constant_node, negate};
 use term_store::{NodeId, Terms};
@@ -114,7 +114,7 @@ fn sym_may_go(
 fn sym_passes_out(
     alloc: Global,
     terms: &mut Terms,
-    by: &Applied<'_>,
+    by: &Grounds<'_>,
     neighbour: &Neighbour,
     held: &SymBgp,
 ) -> Result<NodeId, AllocError>
@@ -147,7 +147,7 @@ fn sym_passes_out(
 fn sym_goes(
     alloc: Global,
     terms: &mut Terms,
-    by: &Applied<'_>,
+    by: &Grounds<'_>,
     neighbour: &Neighbour,
     end: &SessionEnd,
     held: &SymBgp,
@@ -226,7 +226,7 @@ fn sym_message(
 fn sym_keeps(
     alloc: Global,
     terms: &mut Terms,
-    by: &Applied<'_>,
+    by: &Grounds<'_>,
     neighbour: &Neighbour,
     end: &SessionEnd,
     held: &SymBgp,
@@ -276,7 +276,7 @@ fn sym_sent_by(
         session.now.process.now session.now.neighbour.now session.now.end.now (prefix_of w dst.now len) s
         (crossing_at w x.now)) (bgp_of w held.now)) }
 {
-    let by = Applied {
+    let by = Grounds {
         policies: &session.file.policies,
         tracked: session.tracked,
         dst,
@@ -295,7 +295,7 @@ fn sym_sent_by(
 fn left_out(
     alloc: Global,
     terms: &mut Terms,
-    by: &Applied<'_>,
+    by: &Grounds<'_>,
     neighbour: &Neighbour,
     end: &SessionEnd,
     held: &SymBgp,

@@ -25,7 +25,7 @@ ghost use Rattle.sym_bgp.specs.Joined.{HasMarks, rest_at, rest_of_shape, with_re
 
 use crate::lists::{sym_has_cluster, sym_passes_paths, sym_passes_prefixes};
 use crate::routers::{Session, is_reflector, numbered, side_of};
-use crate::through::{Applied, nothing, sym_mapped};
+use crate::through::{nothing, sym_mapped};
 use ios_ast::{Bgp, Neighbour};
 use mw_text::Addr;
 use net_model::Net;
@@ -35,7 +35,8 @@ use net_parts::router_ids::router_id;
 use route_record::Tracked;
 use std::alloc::{AllocError, Global};
 use sym_policy::{
-    SymBgp, SymMapRec, SymPreferences, SymRest, SymRoute, joined, path_of, rest_of, sym_marked,
+    Grounds, SymBgp, SymMapRec, SymPreferences, SymRest, SymRoute, joined, path_of, rest_of,
+    sym_marked,
 };
 use term_arith::gates::{both, constant_node, negate};
 use term_arith::{Bits, above_number, constant, copy, equal_number};
@@ -140,7 +141,7 @@ fn sym_is_acceptable(
 fn sym_passes_lists(
     alloc: Global,
     terms: &mut Terms,
-    by: &Applied<'_>,
+    by: &Grounds<'_>,
     neighbour: &Neighbour,
     message: &SymBgp,
 ) -> Result<NodeId, AllocError>
@@ -194,7 +195,7 @@ fn sym_takes_in(
         (bgp_at w message.now).path))) }
 {
     let acceptable = sym_is_acceptable(alloc, terms, session, message)?;
-    let by = Applied {
+    let by = Grounds {
         policies: &session.file.policies,
         tracked: session.tracked,
         dst,
@@ -379,7 +380,7 @@ fn sym_taken_in(
     let neighbour = session.neighbour;
     let end = session.end;
     let before = sym_received(alloc, terms, tracked, there, neighbour, end, message)?;
-    let by = Applied {
+    let by = Grounds {
         policies: &session.file.policies,
         tracked,
         dst,

@@ -17,11 +17,11 @@ ghost use Rattle.sym_policy.specs.Routes.{route_at, route_end};
 ghost use Rattle.sym_bgp.specs.Joined.{HasMarks};
 
 use crate::routers::sets_metric;
-use crate::through::{Applied, seen_of};
+use crate::through::seen_of;
 use ios_ast::{MapEntry, Use};
 use policy_eval::map_named;
 use std::alloc::{AllocError, Global};
-use sym_policy::{SymBgp, SymRoute, ordered, sym_takes};
+use sym_policy::{Grounds, SymBgp, SymRoute, ordered, sym_takes};
 use term_arith::equal_number;
 use term_arith::gates::{constant_node, either, select};
 use term_store::{NodeId, Terms};
@@ -30,7 +30,7 @@ use term_store::{NodeId, Terms};
 fn sym_entry_sets(
     alloc: Global,
     terms: &mut Terms,
-    by: &Applied<'_>,
+    by: &Grounds<'_>,
     route: &SymRoute,
     entry: &MapEntry,
     behind: NodeId,
@@ -64,7 +64,7 @@ fn sym_entry_sets(
 fn sym_entries_set(
     alloc: Global,
     terms: &mut Terms,
-    by: &Applied<'_>,
+    by: &Grounds<'_>,
     route: &SymRoute,
     entries: &[&MapEntry],
 ) -> Result<NodeId, AllocError>
@@ -90,7 +90,7 @@ fn sym_entries_set(
 fn sym_deciding_sets(
     alloc: Global,
     terms: &mut Terms,
-    by: &Applied<'_>,
+    by: &Grounds<'_>,
     route: &SymRoute,
     entries: &[MapEntry],
 ) -> Result<NodeId, AllocError>
@@ -114,7 +114,7 @@ fn sym_deciding_sets(
 fn sym_sets_metric(
     alloc: Global,
     terms: &mut Terms,
-    by: &Applied<'_>,
+    by: &Grounds<'_>,
     used: &Option<Use>,
     route: &SymRoute,
 ) -> Result<NodeId, AllocError>
@@ -141,7 +141,7 @@ fn sym_sets_metric(
 pub(crate) fn sym_keeps_metric(
     alloc: Global,
     terms: &mut Terms,
-    by: &Applied<'_>,
+    by: &Grounds<'_>,
     used: &Option<Use>,
     held: &SymBgp,
 ) -> Result<NodeId, AllocError>

@@ -13,25 +13,15 @@ ghost use Rattle.sym_policy.specs.Records.{prefix_of};
 ghost use Rattle.sym_policy.specs.Routes.{route_at, route_end, HasRows};
 ghost use Rattle.sym_bgp.specs.Joined.{HasMarks, shape_through};
 
-use ios_ast::{Policies, Use};
+use ios_ast::Use;
 use route_record::{Side, Tracked};
 use std::alloc::{AllocError, Global};
 use sym_policy::{
-    SymBgp, SymMapRec, SymRoute, joined, path_of, preferences_of, rest_of, sym_through,
+    Grounds, SymBgp, SymMapRec, SymRoute, joined, path_of, preferences_of, rest_of, sym_through,
 };
+use term_arith::copy;
 use term_arith::gates::constant_node;
-use term_arith::{Bits, copy};
 use term_store::{NodeId, Terms};
-
-/// What the lists and maps of a neighbour are applied by: the policies of a file, the values that the network tracks, and
-/// the prefix, which is that of a length of an address.
-#[derive(Clone, Copy)]
-pub(crate) struct Applied<'a> {
-    pub(crate) policies: &'a Policies,
-    pub(crate) tracked: &'a Tracked,
-    pub(crate) dst: &'a Bits,
-    pub(crate) len: u8,
-}
 
 /// A copy of what route maps see of a route.
 #[tactic(auto, using(crate::proofs::JoinedRoutes::route_steps))]
@@ -108,7 +98,7 @@ pub(crate) fn nothing(
 pub(crate) fn sym_mapped(
     alloc: Global,
     terms: &mut Terms,
-    by: &Applied<'_>,
+    by: &Grounds<'_>,
     used: &Option<Use>,
     rec: SymMapRec,
     side: Side,
@@ -125,17 +115,7 @@ pub(crate) fn sym_mapped(
         ≡ option_and_then (shape_through by.now.tracked.now by.now.policies.now used.now
         (prefix_of w by.now.dst.now by.now.len) (at_external side)) (bgp_of w rec.bgp)) }
 {
-    let left = sym_through(
-        alloc,
-        terms,
-        by.tracked,
-        by.policies,
-        used,
-        by.dst,
-        by.len,
-        rec,
-        side,
-    )?;
+    let left = sym_through(alloc, terms, by, used, rec, side)?;
     let SymMapRec { bgp, .. } = left;
     Ok(bgp)
 }

@@ -41,6 +41,7 @@ pub use lists::sym_ends;
 pub use over::sym_send_over;
 pub use own::sym_own;
 pub use permits::{sym_permits_in, sym_permits_out};
+pub use sent::Sent;
 pub use statics::{sym_static, sym_statics};
 pub use still::still_forwarding;
 pub use towards::sym_bgp_hops;

@@ -6,9 +6,13 @@ use sym_policy::{SymNet, SymPacket};
 
 /// A packet that is sent through the network while the links of `sym` have failed, and the ends that its walk is to have.
 #[derive(Clone, Copy)]
-pub(crate) struct Sent<'a> {
-    pub(crate) net: &'a Net,
-    pub(crate) sym: &'a SymNet,
-    pub(crate) packet: &'a SymPacket,
-    pub(crate) aim: &'a SymAim,
+pub struct Sent<'a> {
+    /// The network.
+    pub net: &'a Net,
+    /// Which of its links have failed.
+    pub sym: &'a SymNet,
+    /// The packet.
+    pub packet: &'a SymPacket,
+    /// The ends that are sought.
+    pub aim: &'a SymAim,
 }

@@ -162,41 +162,33 @@ fn sym_static_or(
 pub fn sym_statics(
     alloc: Global,
     terms: &mut Terms,
-    net: &Net,
-    sym: &SymNet,
-    packet: &SymPacket,
-    aim: &SymAim,
+    sent: &Sent<'_>,
     router: u32,
     len: u8,
     distance: &Bits,
     routes: &[StaticRoute],
 ) -> Result<SymForwarding, AllocError>
-    requires downs { ids_end sym.now.down ≤ size terms.old }
-    requires packet { packet_end packet.now ≤ size terms.old }
-    requires aim { aim.now.here.0 < size terms.old }
+    requires downs { ids_end sent.now.sym.now.down ≤ size terms.old }
+    requires packet { packet_end sent.now.packet.now ≤ size terms.old }
+    requires aim { sent.now.aim.now.here.0 < size terms.old }
     requires distance { ids_end distance.now.nodes.items ≤ size terms.old }
     ensures builds { Builds terms.old terms.new }
     ensures within { IfOk result (λ r. forwarding_end r ≤ size terms.new) }
-    ensures value { Gives terms.new result (λ w r. IsTwin (sought_by w aim.now)
-        (flat_map (hops.static_hops net.now.files (packet_of w packet.now) (hops.all_up net.now.files (failures_of w sym.now))
-        (up_interfaces net.now.files (failures_of w sym.now) router))
+    ensures value { Gives terms.new result (λ w r. IsTwin (sought_by w sent.now.aim.now)
+        (flat_map (hops.static_hops sent.now.net.now.files (packet_of w sent.now.packet.now)
+        (hops.all_up sent.now.net.now.files (failures_of w sent.now.sym.now))
+        (up_interfaces sent.now.net.now.files (failures_of w sent.now.sym.now) router))
         (filter (λ route. route.distance == number w distance.now.nodes.items)
-        (routing.static_routes (up_interfaces net.now.files (failures_of w sym.now) router) routes.now
-        (prefix_at (address_of w packet.now.dst) len)))) (forwarding_of w r)) }
+        (routing.static_routes (up_interfaces sent.now.net.now.files (failures_of w sent.now.sym.now) router) routes.now
+        (prefix_at (address_of w sent.now.packet.now.dst) len)))) (forwarding_of w r)) }
 {
-    let sent = Sent {
-        net,
-        sym,
-        packet,
-        aim,
-    };
     let never = constant_node(terms, false)?;
     let mut rest = SymForwarding {
         next: Vec::new(alloc),
         ends: never,
     };
     for i in (0..routes.len()).rev() {
-        rest = sym_static_or(alloc, terms, &sent, router, len, distance, &routes[i], rest)?;
+        rest = sym_static_or(alloc, terms, sent, router, len, distance, &routes[i], rest)?;
     }
     Ok(rest)
 }

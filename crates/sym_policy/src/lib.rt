@@ -23,7 +23,7 @@ mod through;
 
 pub use bare::{bare_rest, no_marks, no_path};
 pub use copies::{joined, path_of, preferences_of, rest_of, route_of};
-pub use lines::sym_takes;
+pub use lines::{Grounds, sym_takes};
 pub use lists::sym_marked;
 pub use maps::sym_route_map;
 pub use named::{sym_paths_named, sym_prefixes_named};

@@ -22,11 +22,15 @@ use term_store::{NodeId, Terms};
 /// What lists and route maps judge a route by beside the route itself: the policies of its router, the values that its
 /// rows of marks stand for, and its prefix, which is the one of this length of an address.
 #[derive(Clone, Copy)]
-pub(crate) struct Grounds<'a> {
-    pub(crate) policies: &'a Policies,
-    pub(crate) tracked: &'a Tracked,
-    pub(crate) dst: &'a Bits,
-    pub(crate) len: u8,
+pub struct Grounds<'a> {
+    /// The policies of the router.
+    pub policies: &'a Policies,
+    /// The values that the network tracks.
+    pub tracked: &'a Tracked,
+    /// The address.
+    pub dst: &'a Bits,
+    /// The length of the prefix, at most 32.
+    pub len: u8,
 }
 
 /// The names of the lists of a match line.
@@ -245,7 +249,8 @@ pub fn sym_takes(
     requires nodes { route_end route.now ≤ size terms.old }
     ensures builds { Builds terms.old terms.new }
     ensures within { IfOk result (λ r. r.0 < size terms.new) }
-    ensures value { Gives terms.new result (λ w r. at w r ≡ shape_route_taken policies.now tracked.now (prefix_of w dst.now len) (route_at w route.now) entry.now) }
+    ensures value { Gives terms.new result (λ w r. at w r ≡ shape_route_taken policies.now tracked.now
+        (prefix_of w dst.now len) (route_at w route.now) entry.now) }
 {
     let grounds = Grounds {
         policies,

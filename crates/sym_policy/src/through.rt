@@ -19,9 +19,8 @@ use crate::maps::sym_route_map;
 use crate::records::SymMapRec;
 use ios_ast::{Policies, RouteMap, Use};
 use mw_text::same_bytes;
-use route_record::{Side, Tracked};
+use route_record::Side;
 use std::alloc::{AllocError, Global};
-use term_arith::Bits;
 use term_arith::gates::constant_node;
 use term_store::Terms;
 
@@ -127,38 +126,30 @@ fn applied(
 pub fn sym_through(
     alloc: Global,
     terms: &mut Terms,
-    tracked: &Tracked,
-    policies: &Policies,
+    grounds: &Grounds<'_>,
     used: &Option<Use>,
-    dst: &Bits,
-    len: u8,
     rec: SymMapRec,
     side: Side,
 ) -> Result<SymMapRec, AllocError>
-    requires long { len ≤ 32 }
-    requires wide { length dst.now.nodes.items ≡ 32 }
-    requires dst { ids_end dst.now.nodes.items ≤ size terms.old }
-    requires marks { HasMarks tracked.now rec }
+    requires long { grounds.now.len ≤ 32 }
+    requires wide { length grounds.now.dst.now.nodes.items ≡ 32 }
+    requires dst { ids_end grounds.now.dst.now.nodes.items ≤ size terms.old }
+    requires marks { HasMarks grounds.now.tracked.now rec }
     requires nodes { map_rec_end rec ≤ size terms.old }
     ensures builds { Builds terms.old terms.new }
     ensures within { IfOk result (λ r. map_rec_end r ≤ size terms.new) }
-    ensures marks { IfOk result (λ r. HasMarks tracked.now r) }
+    ensures marks { IfOk result (λ r. HasMarks grounds.now.tracked.now r) }
     ensures rest { IfOk result (λ r. KeepsRest rec r) }
     ensures value { Gives terms.new result (λ w r. map_rec_at w r
-        ≡ option_and_then (shape_through_map tracked.now policies.now used.now (prefix_of w dst.now len)
-        (at_external side)) (map_rec_at w rec)) }
+        ≡ option_and_then (shape_through_map grounds.now.tracked.now grounds.now.policies.now used.now
+        (prefix_of w grounds.now.dst.now grounds.now.len) (at_external side)) (map_rec_at w rec)) }
     ensures stands { Gives terms.new result (λ w r. (held : OptionOf Attributes)
-        → all_tracked tracked.now policies.now ≡ true
-        → map_rec_at w rec ≡ option_map (route_shape tracked.now) held
-        → map_rec_at w r ≡ option_map (route_shape tracked.now)
-        (option_and_then (through_map policies.now used.now (prefix_of w dst.now len) (at_external side)) held)) }
+        → all_tracked grounds.now.tracked.now grounds.now.policies.now ≡ true
+        → map_rec_at w rec ≡ option_map (route_shape grounds.now.tracked.now) held
+        → map_rec_at w r ≡ option_map (route_shape grounds.now.tracked.now)
+        (option_and_then (through_map grounds.now.policies.now used.now
+        (prefix_of w grounds.now.dst.now grounds.now.len) (at_external side)) held)) }
 {
-    let grounds = Grounds {
-        policies,
-        tracked,
-        dst,
-        len,
-    };
-    let left = applied(alloc, terms, &grounds, used, rec, side)?;
+    let left = applied(alloc, terms, grounds, used, rec, side)?;
     Ok(left)
 }

@@ -34,7 +34,7 @@ use net_model::Net;
 use net_parts::ends::file_of;
 use route_record::{Origin, Side, Tracked};
 use std::alloc::{AllocError, Global};
-use sym_policy::{SymBgp, SymMapRec, sym_through};
+use sym_policy::{Grounds, SymBgp, SymMapRec, sym_through};
 use term_arith::Bits;
 use term_arith::gates::is_never;
 use term_store::{NodeId, Terms};
@@ -89,17 +89,13 @@ fn mapped_bgp(
         (origins.local_route origin med)) (metric_of w metric))) }
 {
     let before = local_rec(alloc, terms, tracked, origin, metric)?;
-    let left = sym_through(
-        alloc,
-        terms,
+    let grounds = Grounds {
+        policies: &lookup.file.policies,
         tracked,
-        &lookup.file.policies,
-        used,
-        lookup.dst,
-        lookup.len,
-        before,
-        Side::Redistribution,
-    )?;
+        dst: lookup.dst,
+        len: lookup.len,
+    };
+    let left = sym_through(alloc, terms, &grounds, used, before, Side::Redistribution)?;
     let SymMapRec { bgp, .. } = left;
     Ok(bgp)
 }

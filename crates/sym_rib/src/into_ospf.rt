@@ -31,7 +31,7 @@ use net_model::Net;
 use net_parts::ends::file_of;
 use route_record::{Origin, Side, Tracked};
 use std::alloc::{AllocError, Global};
-use sym_policy::{SymBgp, SymMapRec, SymOspf, sym_through};
+use sym_policy::{Grounds, SymBgp, SymMapRec, SymOspf, sym_through};
 use term_arith::gates::{both, constant_node, negate};
 use term_arith::{Bits, choose, constant, equal_number};
 use term_store::{NodeId, Terms};
@@ -251,14 +251,17 @@ fn left_part(
         ≡ shape_left tracked.now file.now (prefix_of w dst.now len) line.now (bgp_of w bgp.now)) }
 {
     let seen = seen_rec(alloc, terms, tracked, line, bgp)?;
+    let grounds = Grounds {
+        policies: &file.policies,
+        tracked,
+        dst,
+        len,
+    };
     let left = sym_through(
         alloc,
         terms,
-        tracked,
-        &file.policies,
+        &grounds,
         &line.map,
-        dst,
-        len,
         seen,
         Side::Redistribution,
     )?;

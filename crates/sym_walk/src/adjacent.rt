@@ -23,11 +23,10 @@ ghost use Rattle.term_arith.specs.Bits.{ids_end};
 
 use crate::offers::sym_sends_over;
 use crate::stop::Stop;
-use net_model::{Adjacency, Net};
+use net_model::Adjacency;
 use std::alloc::{AllocError, Global};
 use sym_forwarding::{SymAim, SymForwarding, join_forwarding, sym_send_adjacent};
-use sym_policy::{SymNet, SymOspf, SymPacket};
-use sym_rib::SymTables;
+use sym_policy::SymOspf;
 use term_arith::gates::{constant_node, is_never};
 use term_store::Terms;
 
@@ -74,46 +73,36 @@ fn sym_adjacent_or(
 
 /// Where an OSPF entry of that length leads: over each adjacency of the router that is up and offers the route it
 /// holds.
-pub fn sym_ospf_hops(
+pub(crate) fn sym_ospf_hops(
     alloc: Global,
     terms: &mut Terms,
-    net: &Net,
-    sym: &SymNet,
-    tables: &SymTables<'_>,
-    packet: &SymPacket,
+    stop: &Stop<'_>,
     aim: &SymAim,
-    router: u32,
     len: u8,
     held: &SymOspf,
 ) -> Result<SymForwarding, AllocError>
     requires long { len ≤ 32 }
-    requires downs { ids_end sym.now.down ≤ size terms.old }
-    requires slots { slots_end tables.now.slots.now ≤ size terms.old }
-    requires packet { packet_end packet.now ≤ size terms.old }
+    requires downs { ids_end stop.now.sym.now.down ≤ size terms.old }
+    requires slots { slots_end stop.now.tables.now.slots.now ≤ size terms.old }
+    requires packet { packet_end stop.now.packet.now ≤ size terms.old }
     requires aim { aim.now.here.0 < size terms.old }
     requires held { ospf_end held.now ≤ size terms.old }
     ensures builds { Builds terms.old terms.new }
     ensures within { IfOk result (λ r. forwarding_end r ≤ size terms.new) }
     ensures value { Gives terms.new result (λ w r. IsTwin (sought_by w aim.now)
-        (option_map_or (λ h. map (hops.send_adjacent net.now.files (packet_of w packet.now)) (sent_by_ospf net.now.files
-        (failures_of w sym.now) (read_tables w tables.now) router (prefix_at (address_of w packet.now.dst) len) h))
+        (option_map_or (λ h. map (hops.send_adjacent stop.now.net.now.files (packet_of w stop.now.packet.now))
+        (sent_by_ospf stop.now.net.now.files (failures_of w stop.now.sym.now) (read_tables w stop.now.tables.now)
+        stop.now.router (prefix_at (address_of w stop.now.packet.now.dst) len) h))
         (ospf_of w held.now) []) (forwarding_of w r)) }
 {
-    let stop = Stop {
-        net,
-        sym,
-        tables,
-        packet,
-        router,
-    };
-    let all = net.adjacencies();
+    let all = stop.net.adjacencies();
     let never = constant_node(terms, false)?;
     let mut rest = SymForwarding {
         next: Vec::new(alloc),
         ends: never,
     };
     for i in (0..all.len()).rev() {
-        rest = sym_adjacent_or(alloc, terms, &stop, aim, len, held, &all[i], rest)?;
+        rest = sym_adjacent_or(alloc, terms, stop, aim, len, held, &all[i], rest)?;
     }
     Ok(rest)
 }

@@ -25,13 +25,11 @@ ghost use Rattle.term_arith.specs.Bits.{ids_end, number};
 use crate::adjacent::sym_ospf_hops;
 use crate::stop::Stop;
 use ios_ast::File;
-use net_model::Net;
 use std::alloc::{AllocError, Global};
 use sym_forwarding::{
-    SymAim, SymForwarding, choose_forwarding, sym_bgp_hops, sym_connected, sym_statics,
+    Sent, SymAim, SymForwarding, choose_forwarding, sym_bgp_hops, sym_connected, sym_statics,
 };
-use sym_policy::{SymNet, SymPacket};
-use sym_rib::{SymSlot, SymTables};
+use sym_rib::SymSlot;
 use term_arith::equal_number;
 use term_arith::gates::is_never;
 use term_store::{NodeId, Terms};
@@ -76,18 +74,7 @@ fn sym_by_ospf(
     if is_never(terms, test) {
         return Ok(rest);
     }
-    let to = sym_ospf_hops(
-        alloc,
-        terms,
-        stop.net,
-        stop.sym,
-        stop.tables,
-        stop.packet,
-        aim,
-        stop.router,
-        len,
-        &slot.ospf,
-    )?;
+    let to = sym_ospf_hops(alloc, terms, stop, aim, len, &slot.ospf)?;
     let made = choose_forwarding(alloc, terms, test, &to, &rest)?;
     Ok(made)
 }
@@ -116,20 +103,24 @@ fn sym_by_static(
         (if number w slot.now.rib.source.nodes.items == 1 then defined.static_part stop.now.net.now.files
         (packet_of w stop.now.packet.now) (hops.all_up stop.now.net.now.files (failures_of w stop.now.sym.now))
         (up_interfaces stop.now.net.now.files (failures_of w stop.now.sym.now) stop.now.router)
-        file.now.statics (prefix_at (address_of w stop.now.packet.now.dst) len) (number w slot.now.rib.distance.nodes.items)
+        file.now.statics (prefix_at (address_of w stop.now.packet.now.dst) len)
+        (number w slot.now.rib.distance.nodes.items)
         else others) (forwarding_of w r)) }
 {
     let test = sym_source(terms, slot, 1)?;
     if is_never(terms, test) {
         return Ok(rest);
     }
+    let sent = Sent {
+        net: stop.net,
+        sym: stop.sym,
+        packet: stop.packet,
+        aim,
+    };
     let to = sym_statics(
         alloc,
         terms,
-        stop.net,
-        stop.sym,
-        stop.packet,
-        aim,
+        &sent,
         stop.router,
         len,
         &slot.rib.distance,
@@ -185,43 +176,44 @@ fn sym_by_connected(
 
 /// Where the entry of a slot leads, as if there were one. The slot is that of the router for the prefix of that length of
 /// the destination. Where the router holds a BGP route there, the rows of `sym` are to be the interior distances.
-pub fn sym_entry_hops(
+pub(crate) fn sym_entry_hops(
     alloc: Global,
     terms: &mut Terms,
-    net: &Net,
-    sym: &SymNet,
-    tables: &SymTables<'_>,
-    packet: &SymPacket,
+    stop: &Stop<'_>,
     aim: &SymAim,
-    router: u32,
     file: &File,
     len: u8,
     slot: &SymSlot,
 ) -> Result<SymForwarding, AllocError>
-    requires net { net_end sym.now ≤ size terms.old }
-    requires slots { slots_end tables.now.slots.now ≤ size terms.old }
-    requires packet { packet_end packet.now ≤ size terms.old }
+    requires net { net_end stop.now.sym.now ≤ size terms.old }
+    requires slots { slots_end stop.now.tables.now.slots.now ≤ size terms.old }
+    requires packet { packet_end stop.now.packet.now ≤ size terms.old }
     requires aim { aim.now.here.0 < size terms.old }
     requires long { len ≤ 32 }
     requires slot { slot_end slot.now ≤ size terms.old }
     ensures builds { Builds terms.old terms.new }
     ensures within { IfOk result (λ r. forwarding_end r ≤ size terms.new) }
-    ensures value { Gives terms.new result (λ w r. DistancesIfNeeded w net.now.files sym.now slot.now →
+    ensures value { Gives terms.new result (λ w r. DistancesIfNeeded w stop.now.net.now.files stop.now.sym.now
+        slot.now →
         IsTwin (sought_by w aim.now)
-        (defined.entry_of w net.now.files (read_world w sym.now packet.now tables.now)
-        (hops.all_up net.now.files (failures_of w sym.now)) (up_interfaces net.now.files (failures_of w sym.now) router) router
+        (defined.entry_of w stop.now.net.now.files (read_world w stop.now.sym.now stop.now.packet.now
+        stop.now.tables.now)
+        (hops.all_up stop.now.net.now.files (failures_of w stop.now.sym.now))
+        (up_interfaces stop.now.net.now.files (failures_of w stop.now.sym.now) stop.now.router) stop.now.router
         file.now len slot.now) (forwarding_of w r)) }
 {
-    let stop = Stop {
-        net,
-        sym,
-        tables,
-        packet,
-        router,
-    };
-    let bgp = sym_bgp_hops(alloc, terms, net, sym, packet, aim, router, &slot.bgp)?;
-    let ospf = sym_by_ospf(alloc, terms, &stop, aim, len, slot, bgp)?;
-    let plain = sym_by_static(alloc, terms, &stop, aim, file, len, slot, ospf)?;
-    let made = sym_by_connected(alloc, terms, &stop, aim, len, slot, plain)?;
+    let bgp = sym_bgp_hops(
+        alloc,
+        terms,
+        stop.net,
+        stop.sym,
+        stop.packet,
+        aim,
+        stop.router,
+        &slot.bgp,
+    )?;
+    let ospf = sym_by_ospf(alloc, terms, stop, aim, len, slot, bgp)?;
+    let plain = sym_by_static(alloc, terms, stop, aim, file, len, slot, ospf)?;
+    let made = sym_by_connected(alloc, terms, stop, aim, len, slot, plain)?;
     Ok(made)
 }

@@ -10,10 +10,7 @@ mod offers;
 mod routers;
 mod stop;
 
-pub use adjacent::sym_ospf_hops;
 pub use breaks::{SymWorld, sym_breaks, sym_ends_at, world_table};
-pub use entries::sym_entry_hops;
-pub use longest::sym_hops;
 pub use routers::sym_table;
 pub use sym_forwarding::{
     SymAim, SymBeginning, SymEdge, SymForwarding, sym_begin, sym_bgp_hops, sym_broken,

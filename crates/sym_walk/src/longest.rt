@@ -27,13 +27,11 @@ ghost use Rattle.term_store.specs.Reading.{Reads, Builds, Gives};
 use crate::entries::sym_entry_hops;
 use crate::stop::Stop;
 use ios_ast::File;
-use net_model::Net;
 use question_lang::End;
 use route_record::LENGTHS;
 use std::alloc::{AllocError, Global};
 use sym_forwarding::{SymAim, SymForwarding, choose_forwarding, sym_ends, sym_own};
-use sym_policy::{SymNet, SymPacket};
-use sym_rib::{SymSlot, SymTables, slot_for};
+use sym_rib::{SymSlot, slot_for};
 use term_arith::gates::is_never;
 use term_store::Terms;
 
@@ -57,32 +55,22 @@ fn sym_by_slot(
     requires rest { forwarding_end rest ≤ size terms.old }
     ensures builds { Builds terms.old terms.new }
     ensures within { IfOk result (λ r. forwarding_end r ≤ size terms.new) }
-    ensures value { Gives terms.new result (λ w r. DistancesIfNeeded w stop.now.net.now.files stop.now.sym.now slot.now →
+    ensures value { Gives terms.new result (λ w r. DistancesIfNeeded w stop.now.net.now.files stop.now.sym.now
+        slot.now →
         (others : ListOf HopOf) →
         IsTwin (sought_by w aim.now) others (forwarding_of w rest) →
         IsTwin (sought_by w aim.now) (if at w slot.now.rib.valid then defined.entry_of w stop.now.net.now.files
         (read_world w stop.now.sym.now stop.now.packet.now stop.now.tables.now)
         (hops.all_up stop.now.net.now.files (failures_of w stop.now.sym.now))
-        (up_interfaces stop.now.net.now.files (failures_of w stop.now.sym.now) stop.now.router) stop.now.router file.now len
+        (up_interfaces stop.now.net.now.files (failures_of w stop.now.sym.now) stop.now.router) stop.now.router
+        file.now len
         slot.now else others)
         (forwarding_of w r)) }
 {
     if is_never(terms, slot.rib.valid) {
         return Ok(rest);
     }
-    let to = sym_entry_hops(
-        alloc,
-        terms,
-        stop.net,
-        stop.sym,
-        stop.tables,
-        stop.packet,
-        aim,
-        stop.router,
-        file,
-        len,
-        slot,
-    )?;
+    let to = sym_entry_hops(alloc, terms, stop, aim, file, len, slot)?;
     let made = choose_forwarding(alloc, terms, slot.rib.valid, &to, &rest)?;
     Ok(made)
 }
@@ -144,7 +132,8 @@ fn sym_longest(
         IsTwin (sought_by w aim.now)
         (defined.by_entry stop.now.net.now.files (read_world w stop.now.sym.now stop.now.packet.now stop.now.tables.now)
         stop.now.router file.now
-        (hops.longest_below (read_tables w stop.now.tables.now) stop.now.router constants.LENGTHS)) (forwarding_of w r)) }
+        (hops.longest_below (read_tables w stop.now.tables.now) stop.now.router constants.LENGTHS))
+        (forwarding_of w r)) }
 {
     let mut rest = sym_ends(alloc, terms, aim, End::NoRoute)?;
     for len in 0..LENGTHS as u8 {
@@ -155,39 +144,37 @@ fn sym_longest(
 
 /// What a router of the network does with the packet: it delivers it where the destination is an address of an
 /// interface of its own that is up, else the entry of the longest prefix decides, and without one there is no route.
-pub fn sym_hops(
+pub(crate) fn sym_hops(
     alloc: Global,
     terms: &mut Terms,
-    net: &Net,
-    sym: &SymNet,
-    tables: &SymTables<'_>,
-    packet: &SymPacket,
+    stop: &Stop<'_>,
     aim: &SymAim,
-    router: u32,
     file: &File,
 ) -> Result<SymForwarding, AllocError>
-    requires net { net_end sym.now ≤ size terms.old }
-    requires slots { slots_end tables.now.slots.now ≤ size terms.old }
-    requires packet { packet_end packet.now ≤ size terms.old }
+    requires net { net_end stop.now.sym.now ≤ size terms.old }
+    requires slots { slots_end stop.now.tables.now.slots.now ≤ size terms.old }
+    requires packet { packet_end stop.now.packet.now ≤ size terms.old }
     requires aim { aim.now.here.0 < size terms.old }
     ensures builds { Builds terms.old terms.new }
     ensures within { IfOk result (λ r. forwarding_end r ≤ size terms.new) }
-    ensures value { Gives terms.new result (λ w r. DistancesWhereNeeded w net.now.files sym.now tables.now.slots.now →
+    ensures value { Gives terms.new result (λ w r. DistancesWhereNeeded w stop.now.net.now.files stop.now.sym.now
+        stop.now.tables.now.slots.now →
         IsTwin (sought_by w aim.now)
-        (hops.hops_over net.now.files (read_world w sym.now packet.now tables.now)
-        (hops.all_up net.now.files (failures_of w sym.now))
-        (up_interfaces net.now.files (failures_of w sym.now) router) router file.now) (forwarding_of w r)) }
+        (hops.hops_over stop.now.net.now.files (read_world w stop.now.sym.now stop.now.packet.now stop.now.tables.now)
+        (hops.all_up stop.now.net.now.files (failures_of w stop.now.sym.now))
+        (up_interfaces stop.now.net.now.files (failures_of w stop.now.sym.now) stop.now.router) stop.now.router
+        file.now) (forwarding_of w r)) }
 {
-    let stop = Stop {
-        net,
-        sym,
-        tables,
-        packet,
-        router,
-    };
-    let own = sym_own(alloc, terms, net, sym, router, &packet.dst)?;
+    let own = sym_own(
+        alloc,
+        terms,
+        stop.net,
+        stop.sym,
+        stop.router,
+        &stop.packet.dst,
+    )?;
     let here = sym_ends(alloc, terms, aim, End::Delivered)?;
-    let on = sym_longest(alloc, terms, &stop, aim, file)?;
+    let on = sym_longest(alloc, terms, stop, aim, file)?;
     let made = choose_forwarding(alloc, terms, own, &here, &on)?;
     Ok(made)
 }

@@ -53,17 +53,7 @@ fn sym_next(
             Ok(none)
         }
         Some(file) => {
-            let made = sym_hops(
-                alloc,
-                terms,
-                stop.net,
-                stop.sym,
-                stop.tables,
-                stop.packet,
-                aim,
-                stop.router,
-                file,
-            )?;
+            let made = sym_hops(alloc, terms, stop, aim, file)?;
             Ok(made)
         }
     }
@@ -84,7 +74,8 @@ pub(crate) fn sym_router(
     ensures value { Gives terms.new result (λ w r.
         DistancesWhereNeeded w stop.now.net.now.files stop.now.sym.now stop.now.tables.now.slots.now →
         IsTwin
-        (is_sought kind (ends_here stop.now.net.now.files (failures_of w stop.now.sym.now) (packet_of w stop.now.packet.now)
+        (is_sought kind (ends_here stop.now.net.now.files (failures_of w stop.now.sym.now)
+        (packet_of w stop.now.packet.now)
         stop.now.router kind))
         (hops.next_hops stop.now.net.now.files (read_world w stop.now.sym.now stop.now.packet.now stop.now.tables.now)
         stop.now.router) (forwarding_of w r)) }

@@ -14,19 +14,23 @@ use Rattle.bgp_equations.proofs.holding.sym_bgp_holds.Goals as goal
 
 pub file_holds-requires-clause-row : goal.file_holds-requires-clause-row
 file_holds-requires-clause-row c =
-    let t = c.args.tables.now in
-    placed_all (λ s. HasTracked c.args.net.now.tracked s.bgp) t.lens.now t.routers t.slots.now c.args.router c.args.len
+    let routing = c.args.routing.now in
+    let t = routing.tables.now in
+    placed_all (λ s. HasTracked routing.net.now.tracked s.bgp) t.lens.now t.routers t.slots.now
+    c.args.router routing.len
     c.in-Some-slot_for.slot.now (sym c.slot_for.ensures.place ∙ ap option_copied c.in-Some-slot_for.is) c.requires.rows
 
 pub returns-in-Some-slot_for-clause-value : goal.returns-in-Some-slot_for-clause-value
 returns-in-Some-slot_for-clause-value c =
     ok_then c.file_holds.result c.file_holds.ensures.value (λ r is w reads has.
-    let files = c.args.net.now.files in
-    let slots = slots_read w c.args.tables.now c.args.len in
-    let others = sending_read w files c.args.tables.now c.args.len in
-    let decided : File → ShapeSlot → Bool = λ f slot. is_decided_shape c.args.net.now.tracked files
-    (failures_of w c.args.sym.now) (environment_read w files c.args.tables.now.lens.now c.args.env.now) others
-    c.args.router f (prefix_of w c.args.dst.now c.args.len) slot.bgp in
+    let routing = c.args.routing.now in
+    let files = routing.net.now.files in
+    let slots = slots_read w routing.tables.now routing.len in
+    let others = sending_read w files routing.tables.now routing.len in
+    let decided : File → ShapeSlot → Bool = λ f slot. is_decided_shape routing.net.now.tracked files
+    (failures_of w routing.sym.now) (environment_read w files routing.tables.now.lens.now
+    routing.env.now) others
+    c.args.router f (prefix_of w routing.dst.now routing.len) slot.bgp in
     let placed = sym c.slot_for.ensures.place ∙ ap option_copied c.in-Some-slot_for.is in
     is w reads has
     ∙ ap (λ o. option_map_or (decided c.in-Some.file.now) (option_map (slot_read w) o) false) (sym placed)

@@ -26,27 +26,28 @@ sym_best-requires c =
 
 pub returns-clause-value : goal.returns-clause-value
 returns-clause-value c = λ w reads real stand.
+    let place = c.args.place.now in
     let r4 = c.both.ensures.builds.reads w reads in
     let r3 = c.sym_same.ensures.builds.reads w r4 in
     let r2 = c.sym_best.ensures.builds.reads w r3 in
     let r1 = c.with_offers.ensures.builds.reads w r2 in
     let r0 = c.sym_all_levels.ensures.builds.reads w r1 in
     let held = ospf_of w c.args.held.now in
-    let files = c.args.net.now.files in
-    let failures = failures_of w c.args.sym.now in
-    let p = prefix_of w c.args.dst.now c.args.len in
+    let files = place.net.now.files in
+    let failures = failures_of w place.sym.now in
+    let p = prefix_of w place.dst.now place.len in
     let own = filter_map (ospf_of w) c.args.own in
-    let offers = offers_by files failures real c.args.router p (adjacencies files) in
+    let offers = offers_by files failures real place.router p (adjacencies files) in
     let read = c.in_ok-over.ensures.value w r0 real in
-    let tracked = c.args.net.now.tracked in
+    let tracked = place.net.now.tracked in
     let all = c.in_ok-all.ensures.value w r2 tracked real stand
     ∙ ap (λ over. own ++ offers_read w real p over) c.as_slice-3.ensures ∙ ap (λ l. own ++ l) (read p) in
     let is = c.in_ok-same.ensures.value w r4 ∙ ap (same_ospf held) (c.in_ok-best.ensures.value w r3
     ∙ ap first_best (ap (filter_map (ospf_of w)) c.as_slice-4.ensures ∙ all)) in
     let shown = ap₂ (λ (xs ys : List OspfRec). same_ospf held (first_best (xs ++ ys)))
     (ap (filter_map (ospf_of w)) c.as_slice-2.ensures)
-    (ap (offers_read w real (of_length c.args.len)) c.as_slice.ensures ∙ read (of_length c.args.len)
-    ∙ offers_of_length files failures real c.args.router p (adjacencies files)) in
+    (ap (offers_read w real (of_length place.len)) c.as_slice.ensures ∙ read (of_length place.len)
+    ∙ offers_of_length files failures real place.router p (adjacencies files)) in
     let follows : at w c.in_ok-same.same ≡ true → at w c.in_ok-levels.levels ≡ true =
     λ same. c.in_ok-levels.ensures.value w r1 tracked real stand (shown ∙ sym is ∙ same) in
     c.in_ok-firm.ensures.value w reads ∙ implied (at w c.in_ok-same.same) (at w c.in_ok-levels.levels) follows ∙ is

@@ -17,14 +17,15 @@ loop-i-preserved c = record {
   builds = search rules;
   within = search rules;
   value = λ w reads.
-      let net = c.args.net.now.files in
-      let failures = failures_of w c.args.sym.now in
-      let packet = packet_of w c.args.packet.now in
-      let key = prefix_of w c.args.packet.now.dst c.args.len in
+      let sent = c.args.sent.now in
+      let net = sent.net.now.files in
+      let failures = failures_of w sent.sym.now in
+      let packet = packet_of w sent.packet.now in
+      let key = prefix_of w sent.packet.now.dst c.args.len in
       let distance = number w c.args.distance.now.nodes.items in
       let all = c.args.routes.now in
       let step = c.in_ok-rest.ensures in
-      let P : List Hop → Type 0 = λ hs. IsTwin (sought_by w c.args.aim.now) hs (forwarding_of w c.in_ok-rest.rest) in
+      let P : List Hop → Type 0 = λ hs. IsTwin (sought_by w sent.aim.now) hs (forwarding_of w c.in_ok-rest.rest) in
       subst P
       (sym (routes_back net failures packet c.args.router key distance all c.loop-i.i c.index-routes-i.result
       (omega arith)
@@ -37,8 +38,9 @@ pub returns-clause-value : goal.returns-clause-value
 returns-clause-value c = λ w reads.
     let none : c.loop-i.i ≡ 0 = omega arith in
     let all = c.args.routes.now in
-    let P : List StaticRoute → Type 0 = λ xs. IsTwin (sought_by w c.args.aim.now)
-    (routes_hops c.args.net.now.files (failures_of w c.args.sym.now) (packet_of w c.args.packet.now) c.args.router
-    (prefix_of w c.args.packet.now.dst c.args.len) (number w c.args.distance.now.nodes.items) xs) (forwarding_of w
+    let sent = c.args.sent.now in
+    let P : List StaticRoute → Type 0 = λ xs. IsTwin (sought_by w sent.aim.now)
+    (routes_hops sent.net.now.files (failures_of w sent.sym.now) (packet_of w sent.packet.now) c.args.router
+    (prefix_of w sent.packet.now.dst c.args.len) (number w c.args.distance.now.nodes.items) xs) (forwarding_of w
     c.loop-i.rest) in
     subst P (ap (λ j. drop j all) none) (c.loop-i.invariant.value w reads)

@@ -15,8 +15,9 @@ abbrev pub invariant-loop-i : goal.invariant-loop-i
 invariant-loop-i l = record {
   builds : Builds l.fn.terms l.terms;
   within : forwarding_end l.rest ≤ size l.terms;
-  value : (w : Reading) → Reads w l.terms → IsTwin (sought_by w l.aim)
-      (routes_hops l.net.files (failures_of w l.sym) (packet_of w l.packet) l.router (prefix_of w l.packet.dst l.len)
+  value : (w : Reading) → Reads w l.terms → IsTwin (sought_by w l.sent.aim.now)
+      (routes_hops l.sent.net.now.files (failures_of w l.sent.sym.now) (packet_of w l.sent.packet.now) l.router
+      (prefix_of w l.sent.packet.now.dst l.len)
       (number w l.distance.nodes.items) (drop l.i l.routes))
       (forwarding_of w l.rest);
 }

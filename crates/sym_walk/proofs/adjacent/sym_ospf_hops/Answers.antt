@@ -18,34 +18,36 @@ loop-i-preserved c = record {
   builds = search rules;
   within = search rules;
   value = λ w reads.
-      let net = c.args.net.now.files in
-      let failures = failures_of w c.args.sym.now in
-      let packet = packet_of w c.args.packet.now in
-      let tables = read_tables w c.args.tables.now in
-      let key = prefix_of w c.args.packet.now.dst c.args.len in
+      let stop = c.args.stop.now in
+      let net = stop.net.now.files in
+      let failures = failures_of w stop.sym.now in
+      let packet = packet_of w stop.packet.now in
+      let tables = read_tables w stop.tables.now in
+      let key = prefix_of w stop.packet.now.dst c.args.len in
       let held = ospf_of w c.args.held.now in
       let all = c.adjacencies-all.result.now in
       let step = c.in_ok-rest.ensures in
       let P : List Hop → Type 0 = λ hs. IsTwin (sought_by w c.args.aim.now) hs (forwarding_of w c.in_ok-rest.rest) in
       subst P
-      (sym (offered_back net failures packet tables c.args.router key held all c.loop-i.i no_adjacency (omega arith)
+      (sym (offered_back net failures packet tables stop.router key held all c.loop-i.i no_adjacency (omega arith)
       (omega arith)))
-      (step.value w reads (offered_hops net failures packet tables c.args.router key held (drop c.loop-i.i all))
+      (step.value w reads (offered_hops net failures packet tables stop.router key held (drop c.loop-i.i all))
       (c.loop-i.invariant.value w (step.builds.reads w reads)));
 }
 
 pub returns-clause-value : goal.returns-clause-value
 returns-clause-value c = λ w reads.
+    let stop = c.args.stop.now in
     let none : c.loop-i.i ≡ 0 = omega arith in
-    let net = c.args.net.now.files in
-    let failures = failures_of w c.args.sym.now in
-    let packet = packet_of w c.args.packet.now in
-    let tables = read_tables w c.args.tables.now in
-    let key = prefix_of w c.args.packet.now.dst c.args.len in
+    let net = stop.net.now.files in
+    let failures = failures_of w stop.sym.now in
+    let packet = packet_of w stop.packet.now in
+    let tables = read_tables w stop.tables.now in
+    let key = prefix_of w stop.packet.now.dst c.args.len in
     let held = ospf_of w c.args.held.now in
     let all = c.adjacencies-all.result.now in
     let P : List Adjacency → Type 0 = λ xs. IsTwin (sought_by w c.args.aim.now)
-    (offered_hops net failures packet tables c.args.router key held xs) (forwarding_of w c.loop-i.rest) in
+    (offered_hops net failures packet tables stop.router key held xs) (forwarding_of w c.loop-i.rest) in
     let Q : List Hop → Type 0 = λ hs. IsTwin (sought_by w c.args.aim.now) hs (forwarding_of w c.loop-i.rest) in
-    subst Q (offered_all net failures packet tables c.args.router key held)
+    subst Q (offered_all net failures packet tables stop.router key held)
     (subst P (ap (λ j. drop j all) none ∙ c.adjacencies-all.ensures.value) (c.loop-i.invariant.value w reads))

@@ -16,7 +16,8 @@ invariant-loop-i l = record {
   builds : Builds l.fn.terms l.terms;
   within : forwarding_end l.rest ≤ size l.terms;
   value : (w : Reading) → Reads w l.terms → IsTwin (sought_by w l.aim)
-      (offered_hops l.net.files (failures_of w l.sym) (packet_of w l.packet) (read_tables w l.fn.tables) l.router
-      (prefix_of w l.packet.dst l.len) (ospf_of w l.held) (drop l.i l.all))
+      (offered_hops l.stop.net.now.files (failures_of w l.stop.sym.now) (packet_of w l.stop.packet.now)
+      (read_tables w l.stop.tables.now) l.stop.router
+      (prefix_of w l.stop.packet.now.dst l.len) (ospf_of w l.held) (drop l.i l.all))
       (forwarding_of w l.rest);
 }
