@@ -1,16 +1,20 @@
 //! Which limits of costs are looked at. Whatever they are, a formula says the same: they only help a search.
 
-ghost use Rattle.std.specs.Prelude.{◌≡◌, ◌/◌, nat_lt, length};
+ghost use Rattle.std.specs.Prelude.{◌≡◌, ◌≢◌, ◌/◌, nat_lt, length};
 ghost use Rattle.net_parts.specs.Ospf as model;
 
 use mw_text::List;
 use net_model::{Adjacency, Net, OspfInterface};
+use slot_places::rooms::dearest_interface;
 use std::alloc::{AllocError, Global};
 
 // At most so many limits, and at most so many tests of one adjacency against one limit.
 const MOST_LIMITS: u32 = 128;
 
 const MOST_TESTS: u32 = 40_000;
+
+// At most so many tests where limits reach up to all costs.
+const MOST_CLOSING: u32 = 10_000;
 
 // In a network of more adjacencies no failed link is tried.
 const MOST_TRIED: usize = 512;
@@ -28,15 +32,6 @@ fn common_divisor(a: u32, b: u32) -> u32 {
         less = rest;
     }
     1
-}
-
-// The greatest cost of an interface that runs OSPF.
-fn dearest(interfaces: &[OspfInterface]) -> u32 {
-    let mut most = 0u32;
-    for x in interfaces {
-        most = most.max(x.cost);
-    }
-    most
 }
 
 // What the costs of all interfaces that run OSPF are multiples of, and with them the costs of all internal routes.
@@ -164,22 +159,68 @@ pub fn is_meshed(net: &Net) -> bool
     routers.len() < adjacencies.len() / 2
 }
 
-/// The limits, ascending from 0: no route costs nothing, and from there each limit follows from the one before. None where
-/// the network is not meshed.
-pub fn limits_of(alloc: Global, net: &Net, failures: u32) -> Result<List<u32>, AllocError> {
+// How many limits reach up to all costs of so many bits. None where these are too many.
+fn closing_count(step: u32, bits: u8, adjacencies: u32) -> Option<u32>
+    requires { step ≢ 0 }
+{
+    if bits == 0 || bits > 31 {
+        return None;
+    }
+    let greatest = (1u32 << bits) - 1;
+    let more = if greatest % step == 0 { 1 } else { 2 };
+    let count = (greatest / step).saturating_add(more);
+    if count > MOST_LIMITS || count.saturating_mul(adjacencies) > MOST_CLOSING {
+        return None;
+    }
+    Some(count)
+}
+
+// How many limits reach up to what routes cost in a meshed network, 0 where it is not meshed.
+fn reaching_count(
+    alloc: Global,
+    net: &Net,
+    step: u32,
+    failures: u32,
+    adjacencies: u32,
+) -> Result<u32, AllocError>
+    requires step { step ≢ 0 }
+    requires adjacencies { adjacencies ≢ 0 }
+{
+    if !is_meshed(net) {
+        return Ok(0);
+    }
+    let dearest = dearest_interface(net.ospf_interfaces());
+    let most = longest(alloc, net, dearest, failures)? / step;
+    Ok(
+        most.saturating_add(1)
+            .min(MOST_LIMITS)
+            .min(MOST_TESTS / adjacencies),
+    )
+}
+
+/// The limits, ascending from 0: no route costs nothing, and from there each limit follows from the one before.
+///
+/// Some destinations of a question may have no route at a length, and then routes that support one another without an
+/// origin are to be excluded. `bits` is how many bits costs have at such a length, 0 where there is none: limits up to all
+/// these costs say that a route is there exactly where some router originates it, so that this follows from the
+/// destination and the failed links. Where they were too many, or for one prefix, limits reach up to about the greatest
+/// cost of a route while so many links may have failed, and there are none where the network is not meshed.
+pub fn limits_of(
+    alloc: Global,
+    net: &Net,
+    failures: u32,
+    bits: u8,
+) -> Result<List<u32>, AllocError> {
     let mut made = List::new(alloc);
-    let interfaces = net.ospf_interfaces();
-    let step = common_step(interfaces);
-    let adjacencies = net.adjacencies().len();
-    if step == 0 || !is_meshed(net) {
+    let step = common_step(net.ospf_interfaces());
+    if step == 0 {
         return Ok(made);
     }
-    let most = longest(alloc, net, dearest(interfaces), failures)? / step;
-    let tested = adjacencies.min(MOST_TESTS as usize) as u32;
-    let count = most
-        .saturating_add(1)
-        .min(MOST_LIMITS)
-        .min(MOST_TESTS / tested);
+    let adjacencies = net.adjacencies().len().max(1).min(MOST_TESTS as usize) as u32;
+    let count = match closing_count(step, bits, adjacencies) {
+        Some(count) => count,
+        None => reaching_count(alloc, net, step, failures, adjacencies)?,
+    };
     for at in 0..count {
         made.items.push(at.saturating_mul(step))?;
     }

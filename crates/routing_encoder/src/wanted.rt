@@ -234,6 +234,20 @@ fn sym_wanted(
     Ok(holds)
 }
 
+// How many bits the cost of an OSPF route has at lengths above that one, at which some destination of a question may have
+// none.
+fn cost_bits(rooms: &[Option<Room>], len: u8) -> u8 {
+    let mut most = 0u8;
+    for at in 0..rooms.len() {
+        if let Some(room) = &rooms[at] {
+            if at > len as usize {
+                most = most.max(room.cost);
+            }
+        }
+    }
+    most
+}
+
 // The same at all places.
 #[tactic(auto, using(crate::proofs::WantedSteps::wanted_steps))]
 fn sym_each_wanted(
@@ -299,7 +313,11 @@ pub fn sym_all_wanted(
         made.now.routing.frame.places (opens_from net.now.files net.now.tracked question.now plan.now w.variable
         from)) }
 {
-    let limits = limits_of(alloc, net, question.failures)?;
+    let bits = cost_bits(
+        made.routing.frame.rooms.as_slice(),
+        question.packets.dst.len,
+    );
+    let limits = limits_of(alloc, net, question.failures, bits)?;
     let tables = tables_of(net, made);
     let world = WorldTables {
         net,
