@@ -5,17 +5,29 @@ ghost use Rattle.std.specs.Prelude.{◌≡◌, ◌≢◌, ℕ, ◌<◌, ◌≤�
 use crate::{Choice, Decider, ScoreDecider, Value};
 use std::alloc::{AllocError, Global};
 
-/// After so many clauses that it was told of, a decider by order goes by scores.
+/// So many clauses a decider by order is told of before it may go by scores.
 const ORDERED: u64 = 1024;
 
-/// Chooses the next free variable in the order of their numbers, from 0 again after each `decay`, false first. After
-/// 1,024 `decay`s it goes by the scores that its bumps gave, as a `ScoreDecider` does: where so many clauses were not
-/// enough, the order does not fit them. It tells no bumps.
+/// A variable is far in the order where it comes after the first of so many equal parts of all.
+const PARTS: u64 = 256;
+
+/// A decider by order goes by scores where it had gone far before more than one of so many clauses.
+const SELDOM: u64 = 16;
+
+/// Chooses the next free variable in the order of their numbers, from 0 again after each `decay`, false first. Where the
+/// first variables settle the others, as a packet and the failed links do in most formulas of questions, conflicts come
+/// before it has gone far, and it keeps to the order. It goes by the scores that its bumps gave, as a `ScoreDecider` does,
+/// once it was told of 1,024 clauses and had gone beyond the first 256th of the variables before more than a sixteenth of
+/// them: then the order does not fit the formula. It tells no bumps.
 #[derive(Drop)]
 pub struct OrderDecider {
     next: u64,
     // How many clauses it was told of.
     heard: u64,
+    // Before how many of them it had gone far.
+    far: u64,
+    // Where it has gone far, if it has chosen a later variable.
+    near: u64,
     // Whether it goes by order.
     is_ordered: bool,
     scores: Option<ScoreDecider>,
@@ -62,6 +74,8 @@ impl OrderDecider {
         OrderDecider {
             next: 0,
             heard: 0,
+            far: 0,
+            near: 0,
             is_ordered: true,
             scores: None,
         }
@@ -79,6 +93,8 @@ impl Decider for OrderDecider {
     {
         self.next = 0;
         self.heard = 0;
+        self.far = 0;
+        self.near = vars / PARTS;
         self.is_ordered = true;
         let mut scores = ScoreDecider::new(alloc);
         scores.prepare(alloc, vars)?;
@@ -98,9 +114,14 @@ impl Decider for OrderDecider {
     fn decay(&mut self)
         ensures { next_of self.new ≡ 0 }
     {
+        if self.next > self.near {
+            self.far = self.far.saturating_add(1);
+        }
         self.next = 0;
         self.heard = self.heard.saturating_add(1);
-        self.is_ordered = self.heard < ORDERED;
+        if self.heard >= ORDERED && self.far > self.heard / SELDOM {
+            self.is_ordered = false;
+        }
         if let Some(scores) = &mut self.scores {
             scores.decay();
         }
