@@ -2,6 +2,7 @@
 
 ghost use Rattle.std.specs.Prelude.{◌≡◌};
 
+use crate::printed::number_in;
 use clause_arena::Arena;
 use resolution_check::Lit;
 use std::alloc::{AllocError, Global};
@@ -13,12 +14,17 @@ fn literal(var: u64, negated: bool) -> Lit
     Lit { var, negated }
 }
 
-/// The number of the third clause after the second was deleted and the others were moved together.
-fn third_number(alloc: Global) -> Result<u64, AllocError> {
+/// The number of the third clause after the second was deleted and the others were moved together, where they are
+/// numbered from this one on.
+fn third_number(alloc: Global, first: u32) -> Result<u64, AllocError> {
+    let number = u64::from(first);
     let mut arena = Arena::new(alloc, 3)?;
-    arena.add(1, &[literal(0, false), literal(1, false)])?;
-    let second = arena.add(2, &[literal(0, true), literal(2, false)])?;
-    let third = arena.add(3, &[literal(1, true), literal(2, true), literal(0, false)])?;
+    arena.add(number, &[literal(0, false), literal(1, false)])?;
+    let second = arena.add(number + 1, &[literal(0, true), literal(2, false)])?;
+    let third = arena.add(
+        number + 2,
+        &[literal(1, true), literal(2, true), literal(0, false)],
+    )?;
     arena.delete(second);
     let mut reasons = [Some(third), None];
     arena.compact(&mut reasons);
@@ -29,7 +35,10 @@ fn third_number(alloc: Global) -> Result<u64, AllocError> {
     }
 }
 
-/// Works the example, and prints the number that the reason's clause has in the end.
-pub fn show(rt: &(impl Print + AllocGlobal)) -> io::Result<()> {
-    println!(rt; "the reason is clause {}", third_number(rt.alloc())?)
+/// Works the example with clauses that are numbered from this number on, and prints the number that the reason's clause
+/// has in the end.
+pub fn show(rt: &(impl Print + AllocGlobal), first: &str) -> io::Result<()> {
+    let first = u32::try_from(number_in(first)).unwrap_or(0);
+    let number = third_number(rt.alloc(), first)?;
+    println!(rt; "the reason is clause {}", number)
 }

@@ -38,7 +38,7 @@ fn take(rt: &(impl Print + AllocGlobal), desk: &mut Desk, line: &str) -> io::Res
         "decider" => choosing::take(rt, &mut desk.chooser, order),
         "term" => terms::take(rt, &mut desk.terms, &mut desk.marked, order),
         "number" => Ok(numbers::take(rt.alloc(), &mut desk.terms, &mut desk.marked, order)?),
-        "arena" => arena::show(rt),
+        "arena" => arena::show(rt, order),
         _ => println!(rt; "{line}"),
     }
 }
