@@ -8,10 +8,16 @@ use net_model::{Adjacency, Net, OspfInterface};
 use slot_places::rooms::dearest_interface;
 use std::alloc::{AllocError, Global};
 
-// At most so many limits, and at most so many tests of one adjacency against one limit.
-const MOST_LIMITS: u32 = 128;
+// At most so many limits, and at most so many tests of one adjacency against one limit, where limits reach up to what
+// routes cost.
+const MOST_LIMITS: u32 = 2_048;
 
-const MOST_TESTS: u32 = 40_000;
+const MOST_TESTS: u32 = 250_000;
+
+// At most so many limits, and at most so many of these tests, where limits do not reach as far.
+const FEW_LIMITS: u32 = 128;
+
+const FEW_TESTS: u32 = 40_000;
 
 // At most so many tests where limits reach up to all costs.
 const MOST_CLOSING: u32 = 10_000;
@@ -169,10 +175,21 @@ fn closing_count(step: u32, bits: u8, adjacencies: u32) -> Option<u32>
     let greatest = (1u32 << bits) - 1;
     let more = if greatest % step == 0 { 1 } else { 2 };
     let count = (greatest / step).saturating_add(more);
-    if count > MOST_LIMITS || count.saturating_mul(adjacencies) > MOST_CLOSING {
+    if count > FEW_LIMITS || count.saturating_mul(adjacencies) > MOST_CLOSING {
         return None;
     }
     Some(count)
+}
+
+// So many limits, and fewer where they were too many.
+fn capped_count(count: u32, adjacencies: u32) -> u32
+    requires { adjacencies ≢ 0 }
+{
+    if count <= MOST_LIMITS && count.saturating_mul(adjacencies) <= MOST_TESTS {
+        count
+    } else {
+        count.min(FEW_LIMITS).min(FEW_TESTS / adjacencies)
+    }
 }
 
 // How many limits reach up to what routes cost in a meshed network, 0 where it is not meshed.
@@ -191,11 +208,7 @@ fn reaching_count(
     }
     let dearest = dearest_interface(net.ospf_interfaces());
     let most = longest(alloc, net, dearest, failures)? / step;
-    Ok(
-        most.saturating_add(1)
-            .min(MOST_LIMITS)
-            .min(MOST_TESTS / adjacencies),
-    )
+    Ok(capped_count(most.saturating_add(1), adjacencies))
 }
 
 /// The limits, ascending from 0: no route costs nothing, and from there each limit follows from the one before.
@@ -216,7 +229,7 @@ pub fn limits_of(
     if step == 0 {
         return Ok(made);
     }
-    let adjacencies = net.adjacencies().len().max(1).min(MOST_TESTS as usize) as u32;
+    let adjacencies = net.adjacencies().len().max(1).min(FEW_TESTS as usize) as u32;
     let count = match closing_count(step, bits, adjacencies) {
         Some(count) => count,
         None => reaching_count(alloc, net, step, failures, adjacencies)?,
