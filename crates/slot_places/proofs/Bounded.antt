@@ -99,7 +99,7 @@ module _ (files : List File) (destination : Addr) (failures : Failures) (environ
 
   behind : (k router : ℕ) (slot : Slot) (h : OspfRec) → most + suc k * step < h.cost →
       slot_at tables router len ≡ Some slot → slot.ospf ≡ Some h → HasChain k →
-      IsOrigin files failures (prefix_at destination len) router slot h ⊎ IsOffered files tables len h →
+      IsOrigin files failures (prefix_at destination len) router slot h ⊎ IsOffered files failures router tables len h →
       Chain tables len h.cost (suc (suc k))
   behind k router slot h dear here holds deeper (inl own) =
       let cheap : h.cost ≤ most = all_in (λ o. o.cost ≤ most) _ h (origins router own.file own.process slot own.at

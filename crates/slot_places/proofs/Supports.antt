@@ -20,7 +20,7 @@ use Rattle.route_record.specs.declared.Tables.{Tables}
 use Rattle.route_record.specs.declared.TheConstants.{LENGTHS}
 use Rattle.route_record.specs.Places.{slot_at}
 use Rattle.net_parts.specs.declared.adjacencies.Adjacency.{Adjacency}
-use Rattle.net_parts.specs.Ospf.{adjacencies, up_adjacencies}
+use Rattle.net_parts.specs.Ospf.{adjacencies, receives, up_adjacencies}
 use Rattle.net_parts.proofs.Heard.{held_by_offers}
 use Rattle.net_parts.specs.OspfRoutes.{better_of, extended, first_best, held_by_ospf, is_better, offer_over}
 use Rattle.net_parts.specs.OspfRoutes.{own_origins}
@@ -57,10 +57,12 @@ in_first_best (x ∷ xs) h is = by (from_fold xs h x is) where
 
 -- ---- what supports a route
 
--- the route of a router over an adjacency, which costs as much less
-pub record IsOffered (files : List File) (tables : Tables) (len : ℕ) (h : OspfRec) : Type 0 where
+-- the route of another router over an adjacency over which the router receives; it costs as much less there
+pub record IsOffered (files : List File) (failures : Failures) (router : ℕ) (tables : Tables) (len : ℕ)
+    (h : OspfRec) : Type 0 where
   pub over : Adjacency
   pub there : In over (adjacencies files)
+  pub up : receives files failures router over ≡ true
   pub slot : Slot
   pub at : slot_at tables over.to.router len ≡ Some slot
   pub held : OspfRec
@@ -84,18 +86,20 @@ by_extended cost held h is = by (nat_lt (held.cost + cost) (2 ^ 32)) is where
   by false same = cc
 
 offered : (files : List File) (failures : Failures) (tables : Tables) (p : Prefix) (router : ℕ) (h : OspfRec) →
-    In h (filter_map (offer_over tables p) (up_adjacencies files failures router)) → IsOffered files tables p.len h
+    In h (filter_map (offer_over tables p) (up_adjacencies files failures router)) →
+    IsOffered files failures router tables p.len h
 unfolding up_adjacencies
 offered files failures tables p router h there =
     let found = in-filter_map (offer_over tables p) (up_adjacencies files failures router) h there in
     let a : Adjacency = found.0 in
-    let known : In a (adjacencies files) = (in-filter _ (adjacencies files) a found.1).0 in
+    let known = in-filter (receives files failures router) (adjacencies files) a found.1 in
     option_and_then_some (extended a.cost)
     (option_and_then (λ (slot : Slot). slot.ospf) (slot_at tables a.to.router p.len)) h found.2
     (λ held holds is. option_and_then_some (λ (slot : Slot). slot.ospf) (slot_at tables a.to.router p.len) held holds
     (λ slot at holds'. record {
       over = a;
-      there = known;
+      there = known.0;
+      up = known.1;
       slot = slot;
       at = at;
       held = held;
@@ -104,16 +108,16 @@ offered files failures tables p router h there =
     }))
 
 -- a route that a router of a stable routing holds is offered or originated
-supported : (files : List File) (failures : Failures) (tables : Tables) (p : Prefix) (router : ℕ) (file : File)
+pub supported : (files : List File) (failures : Failures) (tables : Tables) (p : Prefix) (router : ℕ) (file : File)
     (slot : Slot) (h : OspfRec) → slice_get files router ≡ Some file → slot_at tables router p.len ≡ Some slot →
     held_ospf files failures tables router file p ≡ Some h →
-    IsOrigin files failures p router slot h ⊎ IsOffered files tables p.len h
+    IsOrigin files failures p router slot h ⊎ IsOffered files failures router tables p.len h
 supported files failures tables p router file slot h at here is =
     option_and_then_some (λ process. held_by_ospf files failures tables router file process p) file.ospf h is by
   where
     by : (process : Ospf) → file.ospf ≡ Some process →
         held_by_ospf files failures tables router file process p ≡ Some h →
-        IsOrigin files failures p router slot h ⊎ IsOffered files tables p.len h
+        IsOrigin files failures p router slot h ⊎ IsOffered files failures router tables p.len h
     by process runs held = choose (in-cases h (own_origins files failures router file process p slot) _
         (in_first_best _ h (ap first_best (ap (λ own. own ++ filter_map (offer_over tables p)
         (up_adjacencies files failures router)) (sym own_is))
@@ -125,7 +129,7 @@ supported files failures tables p router file slot h at here is =
 
         choose : In h (own_origins files failures router file process p slot)
             ⊎ In h (filter_map (offer_over tables p) (up_adjacencies files failures router)) →
-            IsOrigin files failures p router slot h ⊎ IsOffered files tables p.len h
+            IsOrigin files failures p router slot h ⊎ IsOffered files failures router tables p.len h
         choose (inl own) = inl (record { file = file; at = at; process = process; runs = runs; there = own })
         choose (inr other) = inr (offered files failures tables p router h other)
 
@@ -149,7 +153,7 @@ pub supports : (files : List File) (destination : Addr) (failures : Failures) (e
     (tables : Tables) (router len : ℕ) (slot : Slot) (h : OspfRec) →
     Stable files destination failures environment tables → len < LENGTHS →
     slot_at tables router len ≡ Some slot → slot.ospf ≡ Some h →
-    IsOrigin files failures (prefix_at destination len) router slot h ⊎ IsOffered files tables len h
+    IsOrigin files failures (prefix_at destination len) router slot h ⊎ IsOffered files failures router tables len h
 supports files destination failures environment tables router len slot h stable short here holds =
     let found = file_there files tables router len slot stable.size here in
     let equation = (stable.equations router len found.0 slot found.1 short here).ospf in
@@ -167,7 +171,7 @@ module _ (files : List File) (destination : Addr) (failures : Failures) (environ
 
   from_support : (most router : ℕ) (slot : Slot) (h : OspfRec) → h.cost < suc most →
       slot_at tables router len ≡ Some slot → Below most →
-      IsOrigin files failures (prefix_at destination len) router slot h ⊎ IsOffered files tables len h → P h
+      IsOrigin files failures (prefix_at destination len) router slot h ⊎ IsOffered files failures router tables len h → P h
   from_support most router slot h below here deeper (inl own) =
       all_in P _ h (origins router own.file own.process slot own.at own.runs here) own.there
   from_support most router slot h below here deeper (inr other) =

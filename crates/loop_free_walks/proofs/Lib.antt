@@ -1,0 +1,4 @@
+pub mod Hops
+pub mod Nearer
+pub mod Walks
+pub mod Plain
