@@ -6,3 +6,5 @@ pub mod Wanted
 pub mod Standing
 pub mod BareSlots
 pub mod SourceBits
+pub mod ReachedLaw
+pub mod ReachedSteps

@@ -1,3 +1,4 @@
 pub mod Adjacent
 pub mod Equations
 pub mod Levels
+pub mod Reached

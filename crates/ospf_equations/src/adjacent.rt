@@ -1,6 +1,6 @@
 //! The adjacencies over which a router receives, each with the node that says whether it is up.
 
-ghost use Rattle.std.specs.Prelude.{◌≡◌, ℕ, ◌+◌, ◌≤◌, ◌<◌, ◌==◌, ◌&&◌, IfOk, OnOk, None, ◌++◌, ◌∷◌, [], if◌then◌else◌, max};
+ghost use Rattle.std.specs.Prelude.{◌≡◌, ℕ, ◌+◌, ◌≤◌, ◌<◌, ◌==◌, ◌&&◌, IfOk, OnOk, None, map, ◌++◌, ◌∷◌, [], if◌then◌else◌, max};
 ghost use Rattle.std.specs.Option.{option_to_list};
 ghost use Rattle.mw_text.specs.declared.address.Prefix.{Prefix};
 ghost use Rattle.net_parts.specs.Ospf as model;
@@ -9,6 +9,7 @@ ghost use Rattle.route_record.specs.declared.Tables.{Tables};
 ghost use Rattle.sym_policy.specs.Held.{failures_of};
 ghost use Rattle.ospf_equations.specs.Adjacent.{offers_read, ups_end};
 ghost use Rattle.ospf_equations.specs.Equations.{offered_by, offers_by};
+ghost use Rattle.ospf_equations.specs.Reached.{up_in, up_read};
 ghost use Rattle.term_store.specs.Terms.{Reading, at, size};
 ghost use Rattle.term_store.specs.Reading.{Reads, Builds, Gives};
 ghost use Rattle.term_arith.specs.Bits.{ids_end};
@@ -57,10 +58,50 @@ fn put_adjacency(
     if a.from.router != router {
         return Ok(());
     }
+    let up = sym_both_up(alloc, terms, net, sym, a)?;
+    put_up(made, SymAdjacency { up, adjacency: *a })
+}
+
+// Whether both ends of an adjacency are up.
+fn sym_both_up(
+    alloc: Global,
+    terms: &mut Terms,
+    net: &Net,
+    sym: &SymNet,
+    a: &Adjacency,
+) -> Result<NodeId, AllocError>
+    requires down { ids_end sym.now.down ≤ size terms.old }
+    ensures builds { Builds terms.old terms.new }
+    ensures within { IfOk result (λ r. r.0 < size terms.new) }
+    ensures value { Gives terms.new result (λ w r.
+        at w r ≡ model.is_adjacency_up net.now.files (failures_of w sym.now) a.now) }
+{
     let here = sym_up_at(alloc, terms, net, sym, a.from)?;
     let there = sym_up_at(alloc, terms, net, sym, a.to)?;
-    let up = both(terms, here, there)?;
-    put_up(made, SymAdjacency { up, adjacency: *a })
+    both(terms, here, there)
+}
+
+/// All adjacencies, each with the node that says whether it is up.
+#[tactic(auto, using(crate::proofs::ReachedSteps::up_steps))]
+pub fn sym_all_up(
+    alloc: Global,
+    terms: &mut Terms,
+    net: &Net,
+    sym: &SymNet,
+) -> Result<List<SymAdjacency>, AllocError>
+    requires down { ids_end sym.now.down ≤ size terms.old }
+    ensures builds { Builds terms.old terms.new }
+    ensures within { IfOk result (λ r. ups_end r ≤ size terms.new) }
+    ensures value { Gives terms.new result (λ w r. map (up_read w) r
+        ≡ map (up_in net.now.files (failures_of w sym.now)) (model.adjacencies net.now.files)) }
+{
+    let adjacencies = net.adjacencies();
+    let mut made = List::new(alloc);
+    for a in adjacencies {
+        let up = sym_both_up(alloc, terms, net, sym, a)?;
+        put_up(&mut made, SymAdjacency { up, adjacency: *a })?;
+    }
+    Ok(made)
 }
 
 /// The adjacencies over which a router receives while they are up.

@@ -9,8 +9,10 @@ mod levels;
 mod limits;
 mod offers;
 mod origins;
+mod reached;
 
 pub use dynamic::{sym_dynamic, with_dynamic};
 pub use holding::sym_slot_holds;
 pub use limits::{is_meshed, limits_of};
 pub use origins::SlotPlace;
+pub use reached::{reached_law, sym_reached};

@@ -19,9 +19,6 @@ const FEW_LIMITS: u32 = 128;
 
 const FEW_TESTS: u32 = 40_000;
 
-// At most so many tests where limits reach up to all costs.
-const MOST_CLOSING: u32 = 10_000;
-
 // In a network of more adjacencies no failed link is tried.
 const MOST_TRIED: usize = 512;
 
@@ -156,29 +153,13 @@ fn longest(alloc: Global, net: &Net, origin: u32, failures: u32) -> Result<u32, 
 
 /// Whether the routers have more than two adjacencies each on average, as in a grid or a full mesh. Then a formula has
 /// limits of costs, and the packet and the failed links settle the rest of it. In a ring and a tree they have no more, and
-/// a search over other variables is faster there.
+/// a search over other variables is faster there for one prefix.
 pub fn is_meshed(net: &Net) -> bool
     ensures { result ≡ nat_lt (length net.now.files) (length (model.adjacencies net.now.files) / 2) }
 {
     let routers = net.routers();
     let adjacencies = net.adjacencies();
     routers.len() < adjacencies.len() / 2
-}
-
-// How many limits reach up to all costs of so many bits. None where these are too many.
-fn closing_count(step: u32, bits: u8, adjacencies: u32) -> Option<u32>
-    requires { step ≢ 0 }
-{
-    if bits == 0 || bits > 31 {
-        return None;
-    }
-    let greatest = (1u32 << bits) - 1;
-    let more = if greatest % step == 0 { 1 } else { 2 };
-    let count = (greatest / step).saturating_add(more);
-    if count > FEW_LIMITS || count.saturating_mul(adjacencies) > MOST_CLOSING {
-        return None;
-    }
-    Some(count)
 }
 
 // So many limits, and fewer where they were too many.
@@ -192,7 +173,7 @@ fn capped_count(count: u32, adjacencies: u32) -> u32
     }
 }
 
-// How many limits reach up to what routes cost in a meshed network, 0 where it is not meshed.
+// How many limits reach up to what routes cost.
 fn reaching_count(
     alloc: Global,
     net: &Net,
@@ -203,37 +184,28 @@ fn reaching_count(
     requires step { step ≢ 0 }
     requires adjacencies { adjacencies ≢ 0 }
 {
-    if !is_meshed(net) {
-        return Ok(0);
-    }
     let dearest = dearest_interface(net.ospf_interfaces());
     let most = longest(alloc, net, dearest, failures)? / step;
     Ok(capped_count(most.saturating_add(1), adjacencies))
 }
 
-/// The limits, ascending from 0: no route costs nothing, and from there each limit follows from the one before.
-///
-/// Some destinations of a question may have no route at a length, and then routes that support one another without an
-/// origin are to be excluded. `bits` is how many bits costs have at such a length, 0 where there is none: limits up to all
-/// these costs say that a route is there exactly where some router originates it, so that this follows from the
-/// destination and the failed links. Where they were too many, or for one prefix, limits reach up to about the greatest
-/// cost of a route while so many links may have failed, and there are none where the network is not meshed.
+/// The limits, ascending from 0: no route costs nothing, and from there each limit follows from the one before. They reach
+/// up to about the greatest cost of a route while so many links may have failed. There are none where the network is not
+/// meshed, but where `many` says that some destinations of a question have routes of OSPF at a length and others may have
+/// none: there they halve the conflicts in a ring, too.
 pub fn limits_of(
     alloc: Global,
     net: &Net,
     failures: u32,
-    bits: u8,
+    many: bool,
 ) -> Result<List<u32>, AllocError> {
     let mut made = List::new(alloc);
     let step = common_step(net.ospf_interfaces());
-    if step == 0 {
+    if step == 0 || !many && !is_meshed(net) {
         return Ok(made);
     }
     let adjacencies = net.adjacencies().len().max(1).min(FEW_TESTS as usize) as u32;
-    let count = match closing_count(step, bits, adjacencies) {
-        Some(count) => count,
-        None => reaching_count(alloc, net, step, failures, adjacencies)?,
-    };
+    let count = reaching_count(alloc, net, step, failures, adjacencies)?;
     for at in 0..count {
         made.items.push(at.saturating_mul(step))?;
     }

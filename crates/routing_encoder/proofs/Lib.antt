@@ -5,6 +5,7 @@ pub mod FrameSteps
 pub mod Halves
 pub mod HeardSteps
 pub mod LoopSteps
+pub mod LoopingSteps
 pub mod OpeningSteps
 pub mod OutsideSteps
 pub mod PassingRows

@@ -14,6 +14,7 @@ use Rattle.mw_text.specs.declared.address.Addr.{Addr}
 use Rattle.route_record.specs.declared.Failures.{Failures}
 use Rattle.route_record.specs.declared.Packet.{Packet}
 use Rattle.route_record.specs.declared.Plan.{Plan}
+use Rattle.route_record.specs.declared.Tables.{Tables}
 use Rattle.route_record.specs.declared.TheConstants.{LENGTHS}
 use Rattle.route_record.specs.declared.World.{World}
 use Rattle.route_record.specs.declared.tracked.Tracked.{Tracked}
@@ -40,7 +41,7 @@ use Rattle.sym_policy.specs.Records.{packet_end}
 use Rattle.sym_policy.specs.Held.{bgp_at, bgp_of, failures_of, internal_route}
 use Rattle.sym_policy.specs.Packets.{packet_of}
 use Rattle.sym_rib.specs.declared.slots.SymSlot.{SymSlot}
-use Rattle.sym_rib.specs.Worlds.{slots_end, tables_of}
+use Rattle.sym_rib.specs.Worlds.{StandForTables, slots_end, tables_of}
 use Rattle.sym_walk.specs.declared.breaks.SymWorld.{SymWorld}
 use Rattle.sym_walk.specs.Distances.{DistancesIfNeeded, DistancesWhereNeeded}
 use Rattle.sym_walk.specs.Whole.{HasSlots, whole_end, whole_of}
@@ -275,6 +276,15 @@ pub needed_by : (w : Reading) (files : List File) (net : SymNet) (world : SymWor
 needed_by w files net world slots to_net to_slots needed =
     subst (λ (n : SymNet). DistancesWhereNeeded w files n world.slots) (sym to_net)
     (subst (λ (xs : List SymSlot). DistancesWhereNeeded w files net xs) (sym to_slots) needed)
+
+-- its slots stand for the tables for which those do that it is made of
+pub stands_as : (w : Reading) (files : List File) (tracked : Tracked) (plan : Plan) (slots : List SymSlot)
+    (tables : Tables) (world : SymWorld) → world.plan ≡ plan → world.slots ≡ slots →
+    StandForTables w tracked (lens_of plan) (length files) slots tables →
+    StandForTables w tracked (lens_of world.plan) (length files) world.slots tables
+stands_as w files tracked plan slots tables world at_plan same stand =
+    subst (λ q. StandForTables w tracked (lens_of q) (length files) world.slots tables) (sym at_plan)
+    (subst (λ xs. StandForTables w tracked (lens_of plan) (length files) xs tables) (sym same) stand)
 
 -- ---- what walks want of the symbolic world
 

@@ -9,7 +9,8 @@ use Rattle.std.proofs.Math.Bool.{and_assoc, and-true}
 use Rattle.std.proofs.lemmas.Grind.{common_steps}
 use Rattle.std.proofs.lemmas.List.{drop_all, drop_more, length-map}
 use Rattle.std.proofs.lemmas.List.FromFn.{length-range_with_len}
-use Rattle.std.proofs.lemmas.Option.{same_Some, slice_get-map}
+use Rattle.std.proofs.lemmas.Option.{same_Some, slice_get-map, slice_get_within}
+use Rattle.std.proofs.lemmas.Bool.{and_parts}
 use Rattle.mw_text.specs.declared.address.Addr.{Addr}
 use Rattle.mw_text.specs.declared.address.Prefix.{Prefix}
 use Rattle.mw_text.specs.Address.{prefix_at}
@@ -24,6 +25,7 @@ use Rattle.route_record.specs.declared.TheConstants.{LENGTHS}
 use Rattle.route_record.specs.declared.tracked.Tracked.{Tracked}
 use Rattle.route_record.specs.Places.{slot_at}
 use Rattle.net_parts.specs.Entries.{entry_with}
+use Rattle.net_parts.specs.Stable.{held_ospf}
 use Rattle.route_shapes.specs.Bgp.{BgpShape, bgp_shape}
 use Rattle.bgp_shapes.specs.Candidates.{ShapeSlot, slot_shape}
 use Rattle.plan_places.specs.declared.places.Place.{Place}
@@ -46,17 +48,19 @@ use Rattle.sym_rib.specs.Sources.{entry_from}
 use Rattle.sym_rib.specs.Worlds.{StandForTables}
 use Rattle.sym_rib.proofs.TableEntries.{entry_same}
 use Rattle.world_variables.specs.declared.unknowns.Unknown.{Unknown}
-use Rattle.world_variables.specs.Slots.{has_dynamic, is_wanted}
+use Rattle.world_variables.specs.Slots.{has_dynamic, is_wanted, same_ospf}
+use Rattle.world_variables.proofs.Stability.{same_ospf-is}
 use Rattle.world_variables.specs.Symbols.{open_of}
 use Rattle.world_variables.specs.Worlds.{opens_from as unknowns_read_from, places_in}
 use Rattle.ospf_equations.specs.Equations.{StandFor}
+use Rattle.ospf_equations.specs.Reached.{AreHeld}
 use Rattle.rebuilt_routes.proofs.Options.{mapped}
 use Rattle.rebuilt_routes.proofs.RoutesDecided.{no_value}
 use Rattle.shape_worlds.specs.Worlds.{ShapeWorld, slots_for}
 use Rattle.bgp_equations.specs.Equations.{slot_read}
 use Rattle.bgp_worlds.specs.Opens.{OpenSlot, empty_shape, is_igp_wanted, open_shape, shape_slot_among, shape_slot_of}
 use Rattle.bgp_worlds.proofs.BgpSound.{open_there, slot_here}
-use Rattle.bgp_worlds.proofs.Placed.{not_made}
+use Rattle.bgp_worlds.proofs.Placed.{made, not_made}
 use Rattle.bgp_worlds.proofs.SameShapes.{learnt_shape}
 use Rattle.routing_worlds.specs.Worlds.{announced_by, bgps_read_from, dynamic_of, failures_read_from, open_with, opens_from, opens_with, shape_world_from}
 use Rattle.world_variables.specs.Packets.{packet_from}
@@ -66,7 +70,7 @@ use Rattle.routing_encoder.specs.declared.opening.OpenRouting.{OpenRouting}
 use Rattle.routing_encoder.specs.Frames.{IsFrame}
 use Rattle.routing_encoder.specs.Opened.{ReadsAs, StandsIn}
 use Rattle.routing_encoder.specs.Shapes.{ReadAsShapes}
-use Rattle.routing_encoder.specs.Wanted.{HasShapes, IsOpenAt, TellsWanted, is_wanted_place}
+use Rattle.routing_encoder.specs.Wanted.{HasShapes, IsOpenAt, TellsWanted, are_wanted, is_wanted_place}
 use Rattle.routing_encoder.proofs.Halves.{here_at, placed_has, thing_there}
 use Rattle.routing_encoder.proofs.LoopSteps.{open_below, place_short}
 use Rattle.sym_rib.proofs.OneEach.{items_at}
@@ -236,6 +240,17 @@ module _ (w : Reading) (files : List File) (tracked : Tracked) (question : Quest
       (failures_read_from files question w.variable from) opens
       (announced_by files tracked question plan w.variable from) p.router p.len o used there))
 
+  -- so they do as tables of the frame
+  pub tables_stand : (slots : List SymSlot) (tables : SymTables) →
+      ReadAsShapes files tracked question plan from w slots → length slots ≡ length (places_in files plan) →
+      tables.lens.now ≡ lens_of plan → tables.routers ≡ length files → tables.slots.now ≡ slots →
+      StandFor w tracked tables real
+  tables_stand slots tables read long lens routers same =
+      subst (λ (ls : List ℕ). StandForTables w tracked ls tables.routers tables.slots.now real) (sym lens)
+      (subst (λ (n : ℕ). StandForTables w tracked (lens_of plan) n tables.slots.now real) (sym routers)
+      (subst (λ (ss : List SymSlot). StandForTables w tracked (lens_of plan) (length files) ss real) (sym same)
+      (stand_read slots read long)))
+
   -- a symbolic slot stands there for it
   stands_open : (slots : List SymSlot) (number : ℕ) (p : Place) (o : OpenSlot) (tables : SymTables) →
       ReadAsShapes files tracked question plan from w slots → length slots ≡ length (places_in files plan) →
@@ -251,9 +266,7 @@ module _ (w : Reading) (files : List File) (tracked : Tracked) (question : Quest
       let held = held_there p o below short item used in
       let found = thing_there ps slots p.router p.len long has in
       let stand = stand_read slots read long in (
-        subst (λ (ls : List ℕ). StandForTables w tracked ls tables.routers tables.slots.now real) (sym lens)
-            (subst (λ (n : ℕ). StandForTables w tracked (lens_of plan) n tables.slots.now real) (sym routers)
-            (subst (λ (ss : List SymSlot). StandForTables w tracked (lens_of plan) (length files) ss real) (sym same) stand)),
+        tables_stand slots tables read long lens routers same,
         (
           held.0,
           record {
@@ -412,3 +425,111 @@ wanted_none test ps us i past beyond = ap₂ (all_hold test) (drop_all i ps past
 pub ruleset place_steps = (common_steps, stands_ready, open_below, place_short, items_at)
 
 pub ruleset wanted_steps = (common_steps, stands_grown, and_assoc, and-true)
+
+-- ---- what is wanted of OSPF leaves each router the route that it holds
+
+module _ (w : Reading) (files : List File) (tracked : Tracked) (question : Question) (plan : Plan) (from : ℕ)
+    (real : Tables) (shapes : HasShapes tracked real (shape_world_from files tracked question plan w.variable from)) where
+  abbrev the_world : ShapeWorld
+  the_world = shape_world_from files tracked question plan w.variable from
+
+  abbrev the_opens : List OpenSlot
+  the_opens = opens_from files tracked question plan w.variable from
+
+  abbrev the_failures : Failures
+  the_failures = failures_read_from files question w.variable from
+
+  abbrev the_dst : Addr
+  the_dst = (packet_from question.packets w.variable from).dst
+
+  pub are_held : (len : ℕ) → len < LENGTHS →
+      all_hold (is_wanted_place files question.packets.dst
+      (shape_world_from files tracked question plan w.variable from) real) (places_in files plan)
+      (opens_from files tracked question plan w.variable from) ≡ true →
+      AreHeld files (failures_read_from files question w.variable from) real
+      (prefix_at (packet_from question.packets w.variable from).dst len)
+  unfolding shape_world_from
+  are_held len short all router file slot h found here holds =
+      by_item (item_at (places_in files plan) the_opens router len) refl
+    where
+      below : router < length files
+      below = slice_get_within files router file found
+
+      shape_of : OpenSlot → ShapeSlot
+      shape_of = shape_slot_of files question.packets.dst the_failures the_dst (place router len)
+
+      shape : slot_shape tracked slot
+          ≡ option_map_or (shape_slot_of files question.packets.dst the_failures the_dst (place router len))
+          (item_at (places_in files plan) the_opens router len) empty_shape
+      shape = same_Some _ _ (ap (option_map (slot_shape tracked)) (sym here)
+          ∙ shapes_there tracked real the_world router len shapes
+          ∙ world_slot w files tracked question plan from real shapes router len below short)
+
+      route : slot.ospf ≡ (option_map_or (shape_slot_of files question.packets.dst the_failures the_dst
+          (place router len)) (item_at (places_in files plan) the_opens router len) empty_shape).ospf
+      route = ap (λ (x : ShapeSlot). x.ospf) shape
+
+      asked : (o : OpenSlot) → can_be_used files question.packets.dst router len ≡ true →
+          is_wanted_place files question.packets.dst the_world real (place router len) o ≡ true →
+          o.unknown.ospf ≡ held_ospf files the_failures real router file (prefix_at the_dst len)
+      asked o used passes =
+          let igp : is_igp_wanted files the_world real (place router len) o.unknown file slot ≡ true =
+          sym (ap (λ b. not b || option_map_or (λ (f : File).
+          option_map_or (is_igp_wanted files the_world real (place router len) o.unknown f) (slot_at real router len)
+          false) (slice_get files router) false) used
+          ∙ ap (λ x. option_map_or (λ (f : File).
+          option_map_or (is_igp_wanted files the_world real (place router len) o.unknown f) (slot_at real router len)
+          false) x false) found
+          ∙ ap (λ x. option_map_or (is_igp_wanted files the_world real (place router len) o.unknown file) x false) here)
+          ∙ passes in
+          same_ospf-is o.unknown.ospf _ (and_parts (same_ospf o.unknown.ospf
+          (held_ospf files the_failures real router file (prefix_at the_dst len))) _ igp).0
+
+      by_use : (o : OpenSlot) → item_at (places_in files plan) the_opens router len ≡ Some o → (b : Bool) →
+          can_be_used files question.packets.dst router len ≡ b →
+          held_ospf files the_failures real router file (prefix_at the_dst len) ≡ Some h
+      by_use o is true used =
+          let made_there = made (is_wanted_place files question.packets.dst the_world real) (places_in files plan)
+          the_opens router len all (placed_has (places_in files plan) the_opens router len o is) in
+          let same : made_there.item ≡ o = same_Some _ _ (sym made_there.is ∙ is) in
+          sym (asked o used (subst (λ x. is_wanted_place files question.packets.dst the_world real (place router len) x
+          ≡ true) same made_there.passes))
+          ∙ sym (route
+          ∙ ap (λ x. (option_map_or (shape_slot_of files question.packets.dst the_failures the_dst (place router len)) x
+          empty_shape).ospf) is
+          ∙ ap (λ b. (if b then open_shape files the_failures the_dst router len o else empty_shape).ospf) used)
+          ∙ holds
+      by_use o is false unused =
+          let none : slot.ospf ≡ None =
+          route
+          ∙ ap (λ x. (option_map_or (shape_slot_of files question.packets.dst the_failures the_dst (place router len)) x
+          empty_shape).ospf) is
+          ∙ ap (λ b. (if b then open_shape files the_failures the_dst router len o else empty_shape).ospf) unused in
+          let both : None ≡ Some h = sym none ∙ holds in absurd cc
+
+      by_item : (o : Option OpenSlot) → item_at (places_in files plan) the_opens router len ≡ o →
+          held_ospf files the_failures real router file (prefix_at the_dst len) ≡ Some h
+      by_item None is =
+          let none : slot.ospf ≡ None =
+          route
+          ∙ ap (λ x. (option_map_or (shape_slot_of files question.packets.dst the_failures the_dst (place router len)) x
+          empty_shape).ospf) is in
+          let both : None ≡ Some h = sym none ∙ holds in absurd cc
+      by_item (Some o) is = by_use o is (can_be_used files question.packets.dst router len) refl
+
+-- in the failed links and for the prefix that the routing of terms reads as
+pub held_as_read : (w : Reading) (files : List File) (tracked : Tracked) (question : Question) (plan : Plan) (from : ℕ)
+    (t : Store) (made : OpenRouting) (real : Tables) (len : ℕ) → len < LENGTHS →
+    StandsIn files tracked question plan t made → ReadsAs files tracked question plan from w made →
+    HasShapes tracked real (shape_world_from files tracked question plan w.variable from) →
+    are_wanted files question.packets.dst (shape_world_from files tracked question plan w.variable from) real
+    made.frame.places (opens_from files tracked question plan w.variable from) ≡ true →
+    AreHeld files (failures_of w made.net) real (prefix_at (address_of w made.packet.dst) len)
+held_as_read w files tracked question plan from t made real len short stands read has all =
+    subst (λ f. AreHeld files f real (prefix_at (address_of w made.packet.dst) len)) (sym read.failures)
+    (subst (λ d. AreHeld files (failures_read_from files question w.variable from) real (prefix_at d len))
+    (sym (ap (λ (x : Packet). x.dst) read.packet))
+    (are_held w files tracked question plan from real has len short
+    (ap (λ ps. are_wanted files question.packets.dst (shape_world_from files tracked question plan w.variable from) real ps
+    (opens_from files tracked question plan w.variable from))
+    (sym (places_are files tracked plan made.frame stands.frame)) ∙ all)))

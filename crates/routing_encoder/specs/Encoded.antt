@@ -5,6 +5,7 @@ use Rattle.route_record.specs.declared.Environment.{Environment}
 use Rattle.route_record.specs.declared.Plan.{Plan}
 use Rattle.route_record.specs.declared.tracked.Tracked.{Tracked}
 use Rattle.route_record.specs.declared.World.{World}
+use Rattle.net_parts.specs.Stable.{Stable}
 use Rattle.question_lang.specs.declared.question.Question.{Question}
 use Rattle.question_lang.specs.declared.walk.Walk.{Walk}
 use Rattle.question_lang.specs.Breaking.{Breaks}
@@ -22,8 +23,8 @@ use Rattle.bgp_equations.specs.declared.environment.SymEnv.{SymEnv}
 use Rattle.bgp_equations.specs.Environments.{FitsNet, env_end, environment_read}
 use Rattle.bgp_equations.specs.Equations.{HaveTracked}
 use Rattle.igp_variables.specs.Rows.{distances, rows_bits, rows_from}
-use Rattle.shape_worlds.specs.Worlds.{ShapeWorld, shapes_of}
-use Rattle.routing_worlds.specs.Worlds.{HasWordNetwork, announced_by, environment_from, is_routing, shape_world_from}
+use Rattle.shape_worlds.specs.Worlds.{shapes_of}
+use Rattle.routing_worlds.specs.Worlds.{HasWordNetwork, environment_from, is_routing, shape_world_from}
 use Rattle.routing_worlds.specs.Worlds.{world_bits, world_from, worlds_end}
 use Rattle.routing_encoder.specs.declared.encoding.Encoding.{Encoding}
 use Rattle.routing_encoder.specs.Opened.{routing_width}
@@ -67,7 +68,8 @@ pub record IsRoot (files : List File) (tracked : Tracked) (question : Question) 
       (walk : Option Walk) →
       shape_world_from files tracked question plan w.variable from ≡ shapes_of tracked world environment →
       is_routing files tracked question plan w.variable from ≡ true →
-      SayDistances files tracked question plan world w.variable from → Breaks files world question.kind walk →
+      SayDistances files tracked question plan world w.variable from →
+      Stable files world.packet.dst world.failures environment world.tables → Breaks files world question.kind walk →
       at w root ≡ true
 
 -- the values of all variables for a world in its environment: its own, and those of the interior distances

@@ -6,3 +6,4 @@ pub mod Decided
 pub mod Announced
 pub mod Wanted
 pub mod Encoded
+pub mod Looping

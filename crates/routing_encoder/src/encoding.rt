@@ -10,6 +10,7 @@ ghost use Rattle.routing_encoder.specs.Shapes.{ReadAsShapes};
 ghost use Rattle.term_store.specs.Terms.{Reading, at, size};
 ghost use Rattle.term_store.specs.Reading.{Builds, Gives, Reads};
 
+use crate::looping::sym_breaking;
 use crate::routing::sym_routing;
 use crate::world::{OpenWorld, open_world};
 use bgp_equations::SymEnv;
@@ -22,8 +23,8 @@ use routing_worlds::laws::{complete_law, sound_law};
 use routing_worlds::read_network;
 use slot_places::rooms_of;
 use std::alloc::{AllocError, Global};
+use sym_walk::SymWorld;
 use sym_walk::laws::tables_law;
-use sym_walk::{SymWorld, sym_breaks};
 use term_arith::gates::both;
 use term_store::{NodeId, Terms};
 use world_variables::laws::row_law;
@@ -118,7 +119,7 @@ fn root_of(
 {
     let routing = sym_routing(alloc, terms, net, question, &plan, &made)?;
     let opened = settled(made, plan);
-    let broken = sym_breaks(alloc, terms, net, question, &opened.world)?;
+    let broken = sym_breaking(alloc, terms, net, question, &opened.world)?;
     let root = both(terms, routing, broken)?;
     tables_law();
     Ok(Rooted {

@@ -24,6 +24,7 @@ ghost use Rattle.term_store.specs.Reading.{Builds, Gives};
 ghost use Rattle.term_arith.specs.Bits.{ids_end};
 
 use crate::decided::tables_of;
+use crate::reached::{some_may_have_none, sym_all_reached};
 use crate::slots::{Towards, is_used, place_at};
 use crate::world::OpenWorld;
 use net_model::Net;
@@ -41,13 +42,13 @@ use world_variables::opens::no_route;
 
 /// An open world of a question over a plan, its slots as tables, and the limits of what routes cost that are looked at.
 #[derive(Clone, Copy)]
-struct WorldTables<'a> {
-    net: &'a Net,
-    question: &'a Question,
-    plan: &'a Plan,
-    made: &'a OpenWorld,
-    tables: &'a SymTables<'a>,
-    limits: &'a [u32],
+pub(crate) struct WorldTables<'a> {
+    pub net: &'a Net,
+    pub question: &'a Question,
+    pub plan: &'a Plan,
+    pub made: &'a OpenWorld,
+    pub tables: &'a SymTables<'a>,
+    pub limits: &'a [u32],
 }
 
 // What is open of a slot without room for an OSPF route: none, and the bit of the entry by its other routes.
@@ -234,20 +235,6 @@ fn sym_wanted(
     Ok(holds)
 }
 
-// How many bits the cost of an OSPF route has at lengths above that one, at which some destination of a question may have
-// none.
-fn cost_bits(rooms: &[Option<Room>], len: u8) -> u8 {
-    let mut most = 0u8;
-    for at in 0..rooms.len() {
-        if let Some(room) = &rooms[at] {
-            if at > len as usize {
-                most = most.max(room.cost);
-            }
-        }
-    }
-    most
-}
-
 // The same at all places.
 #[tactic(auto, using(crate::proofs::WantedSteps::wanted_steps))]
 fn sym_each_wanted(
@@ -287,7 +274,8 @@ fn sym_each_wanted(
 }
 
 /// Whether what is open of OSPF in a routing is as tables want it that have the shapes of its slots: at each place the
-/// OSPF route that the router holds, and the bit of its table's entry. Where nothing can stand, nothing is asked.
+/// OSPF route that the router holds, and the bit of its table's entry. Where nothing can stand, nothing is asked. That routers
+/// with internal routes reach origins follows from this, and is said beside it for the search.
 #[tactic(auto, using(crate::proofs::DecidedSteps::stands_long))]
 pub fn sym_all_wanted(
     alloc: Global,
@@ -313,11 +301,11 @@ pub fn sym_all_wanted(
         made.now.routing.frame.places (opens_from net.now.files net.now.tracked question.now plan.now w.variable
         from)) }
 {
-    let bits = cost_bits(
+    let many = some_may_have_none(
         made.routing.frame.rooms.as_slice(),
         question.packets.dst.len,
     );
-    let limits = limits_of(alloc, net, question.failures, bits)?;
+    let limits = limits_of(alloc, net, question.failures, many)?;
     let tables = tables_of(net, made);
     let world = WorldTables {
         net,
@@ -328,5 +316,6 @@ pub fn sym_all_wanted(
         limits: limits.as_slice(),
     };
     let all = sym_each_wanted(alloc, terms, &world)?;
-    Ok(all)
+    let reached = sym_all_reached(alloc, terms, &world)?;
+    both(terms, all, reached)
 }

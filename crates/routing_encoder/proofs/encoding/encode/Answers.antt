@@ -88,7 +88,7 @@ returns-clause-encoding c =
           (c.complete_law.ensures.read files tracked question plan world environment rows v 0 fits broken.sliced
           routing here)
           (c.complete_law.ensures.passes files tracked question plan world environment rows v 0 fits
-          broken.sliced routing here) said broken.breaking.breaks;
+          broken.sliced routing here) said broken.breaking.stable broken.breaking.breaks;
       shapes = λ world environment walk broken.
           let bits = routing_bits files tracked question plan world environment in
           c.complete_law.ensures.read files tracked question plan world environment (rows_bits files world.failures)

@@ -5,22 +5,22 @@ use Rattle.plan_places.specs.Plans.{lens_of}
 use Rattle.question_lang.specs.Breaking.{Breaks}
 use Rattle.term_store.specs.Terms.{at}
 use Rattle.shape_worlds.specs.Worlds.{ShapeWorld}
-use Rattle.routing_worlds.specs.Worlds.{shape_world_from, world_from}
+use Rattle.routing_worlds.specs.Worlds.{world_from}
 use Rattle.routing_worlds.proofs.RoutingSound.{shapes_are}
 use Rattle.bgp_equations.specs.Equations.{HaveTracked}
 use Rattle.routing_encoder.proofs.OpeningSteps.{places_are}
-use Rattle.routing_encoder.proofs.RootSteps.{distances_needed, distances_said, has_environment, needed_by, stands_world, whole_is, world_nodes, world_slots}
+use Rattle.routing_encoder.proofs.RootSteps.{distances_needed, distances_said, has_environment, needed_by, stands_as, stands_world, whole_is, world_nodes, world_slots}
 use Rattle.routing_encoder.proofs.WantedSteps.{stand_read}
 use Rattle.routing_encoder.proofs.encoding.root_of.Goals as goal
 
-pub sym_breaks-requires-clause-slots : goal.sym_breaks-requires-clause-slots
-sym_breaks-requires-clause-slots c =
+pub sym_breaking-requires-clause-slots : goal.sym_breaking-requires-clause-slots
+sym_breaking-requires-clause-slots c =
     world_slots c.args.net.now.files c.args.net.now.tracked c.args.question.now c.args.plan c.args.terms.now
     c.args.made.routing c.args.made.slots c.settled-opened.result.world c.requires.stands c.requires.long
     c.settled-opened.ensures.slots c.settled-opened.ensures.plan
 
-pub sym_breaks-requires-clause-nodes : goal.sym_breaks-requires-clause-nodes
-sym_breaks-requires-clause-nodes c =
+pub sym_breaking-requires-clause-nodes : goal.sym_breaking-requires-clause-nodes
+sym_breaking-requires-clause-nodes c =
     world_nodes c.args.net.now.files c.args.net.now.tracked c.args.question.now c.args.plan c.args.terms.now
     c.sym_routing.new.terms c.args.made.routing c.args.made.slots c.settled-opened.result.world c.requires.stands
     c.requires.within c.sym_routing.ensures.builds.larger c.settled-opened.ensures.packet c.settled-opened.ensures.net
@@ -29,7 +29,7 @@ sym_breaks-requires-clause-nodes c =
 pub returns-clause-stands : goal.returns-clause-stands
 returns-clause-stands c =
     let a = c.sym_routing.ensures.builds.larger in
-    let b = c.sym_breaks.ensures.builds.larger in
+    let b = c.sym_breaking.ensures.builds.larger in
     let d = c.both.ensures.builds.larger in record {
       slots = world_slots c.args.net.now.files c.args.net.now.tracked c.args.question.now c.args.plan c.args.terms.now
           c.args.made.routing c.args.made.slots c.settled-opened.result.world c.requires.stands c.requires.long
@@ -44,7 +44,7 @@ returns-clause-stands c =
 pub returns-clause-outside : goal.returns-clause-outside
 returns-clause-outside c =
     let a = c.sym_routing.ensures.builds.larger in
-    let b = c.sym_breaks.ensures.builds.larger in
+    let b = c.sym_breaking.ensures.builds.larger in
     let d = c.both.ensures.builds.larger in
     has_environment c.args.net.now.files c.args.net.now.tracked c.args.question.now c.args.plan c.args.terms.now
     c.both.new.terms c.args.made.routing c.settled-opened.result.env c.requires.stands (omega (arith, a, b, d))
@@ -64,7 +64,7 @@ returns-clause-distances c = λ w reads from read shapes holds.
     let made = c.args.made.routing in
     let slots = c.args.made.slots in
     let r2 = c.both.ensures.builds.reads w reads in
-    let r1 = c.sym_breaks.ensures.builds.reads w r2 in
+    let r1 = c.sym_breaking.ensures.builds.reads w r2 in
     let parts = and_parts (at w c.in_ok-routing.routing) (at w c.in_ok-broken.broken)
     (sym (c.in_ok-root.ensures.value w reads) ∙ holds) in
     needed_by w files made.net c.settled-opened.result.world slots c.settled-opened.ensures.net
@@ -83,7 +83,7 @@ returns-clause-value c = λ w reads from read shapes.
     let t = c.args.terms.now in
     let world = c.settled-opened.result.world in
     let r2 = c.both.ensures.builds.reads w reads in
-    let r1 = c.sym_breaks.ensures.builds.reads w r2 in
+    let r1 = c.sym_breaking.ensures.builds.reads w r2 in
     let root = c.in_ok-root.ensures.value w reads in
     let long = c.requires.long ∙ ap length (places_are files tracked plan made.frame c.requires.stands.frame) in
     let needed = needed_by w files made.net world slots c.settled-opened.ensures.net c.settled-opened.ensures.slots in
@@ -112,7 +112,7 @@ returns-clause-value c = λ w reads from read shapes.
                   question.kind found.0 (subst P seen found.1),
             ),
           );
-      complete = λ fits other environment walk same routing say breaks.
+      complete = λ fits other environment walk same routing say stable breaks.
           let to_failures = sym (ap (λ (s : ShapeWorld). s.failures) same) in
           let given = distances_said w files tracked question plan from t made slots c.requires.stands read
           c.requires.long shapes other say to_failures in
@@ -127,5 +127,7 @@ returns-clause-value c = λ w reads from read shapes.
           (needed (distances_needed w files tracked question plan from t made slots c.requires.stands read
           c.requires.long shapes given)) walk
           (subst P (sym seen) (c.tables_law.ensures.breaks w tracked (lens_of plan) (length files) slots other stand files
-          question.kind walk breaks)));
+          question.kind walk breaks)) tracked other environment
+          (stands_as w files tracked plan slots other.tables world c.settled-opened.ensures.plan
+          c.settled-opened.ensures.slots stand) stable breaks);
     }

@@ -1,4 +1,4 @@
-use Rattle.std.proofs.Common.{◌+◌, ◌<◌, ◌&&◌, Bool, None, true, false, arith, drop, get_or, length, rules, sym, ap, ◌∙◌}
+use Rattle.std.proofs.Common.{◌+◌, ◌<◌, ◌&&◌, Bool, None, false, arith, drop, get_or, length, rules, sym, ap, ◌∙◌}
 use Rattle.std.proofs.Math.Bool.{and_assoc, and-true}
 use Rattle.std.proofs.lemmas.Option.{slice_get-get_or}
 use Rattle.plan_places.specs.declared.places.Place.{Place}
