@@ -38,9 +38,9 @@ while IFS= read -r line; do
 done <"$top/tests/networks.txt" >"$work/output"
 
 if cmp -s "$work/output" "$top/tests/networks.expected"; then
-    echo "ok: $(grep -c '^%replayed' "$top/tests/networks.txt") runs over networks with BGP, each counterexample replayed"
+    echo "ok: $(grep -c '^%replayed' "$top/tests/networks.txt") runs over networks, each counterexample replayed"
 else
     diff "$work/output" "$top/tests/networks.expected"
-    echo "FAILED: runs over networks with BGP"
+    echo "FAILED: runs over networks"
     exit 1
 fi
