@@ -19,12 +19,12 @@ fn words_of(rt: &(impl Env + AllocGlobal)) -> Result<Vec<String>, Ended> {
     }
 }
 
-// Of the deciders one follows scores, and one goes by the order of the variables.
+// Of the deciders one goes by the order of the variables, and one follows scores.
 fn run_with<L: Sink>(rt: HostRuntime, words: &[String], log: &mut L) -> Result<Ended, AllocError> {
     let alloc: Global = rt.alloc();
     let mut deciders: Vec<Box<dyn Decider>> = Vec::new(alloc);
-    deciders.push(Box::new(alloc, ScoreDecider::new(alloc))?)?;
     deciders.push(Box::new(alloc, OrderDecider::new())?)?;
+    deciders.push(Box::new(alloc, ScoreDecider::new(alloc))?)?;
     Ok(run_extra(
         alloc,
         words,

@@ -1,6 +1,7 @@
 pub mod AskedSteps
 pub mod ComingSteps
 pub mod DecidedSteps
+pub mod EndingSteps
 pub mod FrameSteps
 pub mod Halves
 pub mod HeardSteps

@@ -6,4 +6,5 @@ pub mod Decided
 pub mod Announced
 pub mod Wanted
 pub mod Encoded
+pub mod Ending
 pub mod Looping

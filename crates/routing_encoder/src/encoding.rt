@@ -11,7 +11,7 @@ ghost use Rattle.term_store.specs.Terms.{Reading, at, size};
 ghost use Rattle.term_store.specs.Reading.{Builds, Gives, Reads};
 
 use crate::looping::sym_breaking;
-use crate::routing::sym_routing;
+use crate::possible::sym_possible;
 use crate::world::{OpenWorld, open_world};
 use bgp_equations::SymEnv;
 use igp_variables::laws::rows_law;
@@ -117,7 +117,7 @@ fn root_of(
         ReadAsShapes net.now.files net.now.tracked question.now plan from w made.slots →
         IsRoot net.now.files net.now.tracked question.now plan from w r.root) }
 {
-    let routing = sym_routing(alloc, terms, net, question, &plan, &made)?;
+    let routing = sym_possible(alloc, terms, net, question, &plan, &made)?;
     let opened = settled(made, plan);
     let broken = sym_breaking(alloc, terms, net, question, &opened.world)?;
     let root = both(terms, routing, broken)?;

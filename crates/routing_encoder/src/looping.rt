@@ -19,13 +19,14 @@ ghost use Rattle.routing_encoder.specs.Looping.{is_interior_entry, is_interior_r
 ghost use Rattle.term_store.specs.Terms.{at, size};
 ghost use Rattle.term_store.specs.Reading.{Builds, Gives};
 
+use crate::ending::sym_walking;
 use ios_ast::File;
 use loop_free_walks::laws::{interior_law, loop_free_law};
 use net_model::Net;
 use question_lang::{Kind, Question};
 use std::alloc::{AllocError, Global};
 use sym_rib::{SymRib, SymSlot};
-use sym_walk::{SymWorld, sym_breaks};
+use sym_walk::SymWorld;
 use term_arith::equal_number;
 use term_arith::gates::{both, constant_node, either, implies, is_never, negate};
 use term_store::{NodeId, Terms};
@@ -86,9 +87,9 @@ fn are_plain(files: &[File]) -> bool
     files.iter().all(|file| is_plain_file(file))
 }
 
-// True where a stable routing breaks the question: where only a loop does, whether some entry is of another source, which
-// none can be where no file has static routes and none runs BGP.
-fn sym_beyond(
+/// True where a stable routing breaks the question: where only a loop does, whether some entry is of another source, which
+/// none can be where no file has static routes and none runs BGP.
+pub(crate) fn sym_beyond(
     terms: &mut Terms,
     net: &Net,
     question: &Question,
@@ -145,6 +146,6 @@ pub(crate) fn sym_breaking(
     if is_never(terms, beyond) {
         return Ok(beyond);
     }
-    let broken = sym_breaks(alloc, terms, net, question, world)?;
+    let broken = sym_walking(alloc, terms, net, question, world)?;
     both(terms, broken, beyond)
 }

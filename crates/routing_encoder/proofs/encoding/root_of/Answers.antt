@@ -22,13 +22,13 @@ sym_breaking-requires-clause-slots c =
 pub sym_breaking-requires-clause-nodes : goal.sym_breaking-requires-clause-nodes
 sym_breaking-requires-clause-nodes c =
     world_nodes c.args.net.now.files c.args.net.now.tracked c.args.question.now c.args.plan c.args.terms.now
-    c.sym_routing.new.terms c.args.made.routing c.args.made.slots c.settled-opened.result.world c.requires.stands
-    c.requires.within c.sym_routing.ensures.builds.larger c.settled-opened.ensures.packet c.settled-opened.ensures.net
+    c.sym_possible.new.terms c.args.made.routing c.args.made.slots c.settled-opened.result.world c.requires.stands
+    c.requires.within c.sym_possible.ensures.builds.larger c.settled-opened.ensures.packet c.settled-opened.ensures.net
     c.settled-opened.ensures.slots
 
 pub returns-clause-stands : goal.returns-clause-stands
 returns-clause-stands c =
-    let a = c.sym_routing.ensures.builds.larger in
+    let a = c.sym_possible.ensures.builds.larger in
     let b = c.sym_breaking.ensures.builds.larger in
     let d = c.both.ensures.builds.larger in record {
       slots = world_slots c.args.net.now.files c.args.net.now.tracked c.args.question.now c.args.plan c.args.terms.now
@@ -43,7 +43,7 @@ returns-clause-stands c =
 
 pub returns-clause-outside : goal.returns-clause-outside
 returns-clause-outside c =
-    let a = c.sym_routing.ensures.builds.larger in
+    let a = c.sym_possible.ensures.builds.larger in
     let b = c.sym_breaking.ensures.builds.larger in
     let d = c.both.ensures.builds.larger in
     has_environment c.args.net.now.files c.args.net.now.tracked c.args.question.now c.args.plan c.args.terms.now
@@ -122,7 +122,8 @@ returns-clause-value c = λ w reads from read shapes.
           c.settled-opened.ensures.plan (sym (ap (λ (s : ShapeWorld). s.packet) same)) to_failures in
           let P : World → Type 0 = λ x. Breaks files x question.kind walk in
           root ∙ and_from (at w c.in_ok-routing.routing) (at w c.in_ok-broken.broken)
-          (c.in_ok-routing.ensures.complete w r1 from read shapes fits routing given)
+          (c.in_ok-routing.ensures.complete w r1 from read shapes fits routing given tracked (lens_of plan) other environment
+          walk stand stable breaks)
           (c.in_ok-broken.ensures.complete w r2
           (needed (distances_needed w files tracked question plan from t made slots c.requires.stands read
           c.requires.long shapes given)) walk

@@ -19,7 +19,7 @@ returns-clause-complete c =
     gives_more c.both.new.terms c.both.result _ _
     (λ w r reads is needed walk breaks tracked real environment stand stable really.
     let r1 = c.both.ensures.builds.reads w reads in
-    let r0 = c.sym_breaks.ensures.builds.reads w r1 in
+    let r0 = c.sym_walking.ensures.builds.reads w r1 in
     is ∙ and_from (at w c.in_ok-broken.broken) (at w c.in_ok-beyond.beyond)
     (c.in_ok-broken.ensures.complete w r1 needed walk breaks)
     (c.in_ok-beyond.ensures.value w r0 tracked (lens_of c.args.world.now.plan) real environment walk
