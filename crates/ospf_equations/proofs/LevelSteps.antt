@@ -15,7 +15,6 @@ use Rattle.route_record.specs.declared.Tables.{Tables}
 use Rattle.net_parts.specs.declared.adjacencies.Adjacency.{Adjacency}
 use Rattle.net_parts.specs.OspfRoutes.{better_of, extended, first_best, is_better, kind_rank}
 use Rattle.net_parts.specs.Sending.{same_record}
-use Rattle.term_store.specs.Terms.{differ}
 use Rattle.sym_policy.specs.Held.{kind_of_number}
 use Rattle.ospf_equations.specs.Equations.{offers_by}
 use Rattle.ospf_equations.specs.Levels.{has_within, is_within, of_length}
@@ -111,10 +110,48 @@ pub up_within : (most : ℕ) (up within : Bool) (o : Option OspfRec) → within 
 up_within most true within o same = same
 up_within most false within o same = refl
 
--- two nodes of one value agree
-pub agrees : (b : Bool) → not (differ b b) ≡ true
-agrees true = refl
-agrees false = refl
+-- a route within a limit is within each greater one
+pub within_more : (least most : ℕ) (o : Option OspfRec) → least ≤ most → has_within least o ≡ true →
+    has_within most o ≡ true
+within_more least most None more within = within
+within_more least most (Some r) more within = by_kind (kind_rank r.kind == 0) within where
+  by_kind : (internal : Bool) → (internal && not (nat_lt least r.cost)) ≡ true →
+      (internal && not (nat_lt most r.cost)) ≡ true
+  by_kind true is = grind (arith, nat_tests, more, is)
+  by_kind false is = is
+
+-- one of some is true where one of those before, this one and those that are left is: a step that weakens this one
+pub near_step : (any here one rest all : Bool) → (all ≡ true → (any || (one || rest)) ≡ true) →
+    (one ≡ true → here ≡ true) → all ≡ true → ((any || here) || rest) ≡ true
+near_step true here one rest all before step is = refl
+near_step false here true rest all before step is = ap (λ h. h || rest) (step refl)
+near_step false true false rest all before step is = refl
+near_step false false false rest all before step is = before is
+
+-- and one that strengthens it
+pub far_step : (any here one rest all : Bool) → ((any || (one || rest)) ≡ true → all ≡ true) →
+    (here ≡ true → one ≡ true) → ((any || here) || rest) ≡ true → all ≡ true
+far_step true here one rest all before step is = before refl
+far_step false true one rest all before step is = before (ap (λ o. o || rest) (step refl))
+far_step false false true rest all before step is = before refl
+far_step false false false rest all before step is = before is
+
+-- what holds exactly where one of two does: then the first holds or what the second implies
+pub either_so : (here a b near : Bool) → here ≡ (a || b) → (b ≡ true → near ≡ true) →
+    (not here || (a || near)) ≡ true
+either_so false a b near is follows = refl
+either_so true true b near is follows = refl
+either_so true false b near is follows = follows (sym is)
+
+-- and it holds where the first does, or what implies the second
+pub so_either : (here a b far : Bool) → here ≡ (a || b) → (far ≡ true → b ≡ true) → (not (a || far) || here) ≡ true
+so_either here true b far is follows = is
+so_either here false b true is follows = is ∙ follows refl
+so_either here false b false is follows = refl
+
+pub implies_true : (a b : Bool) → (a ≡ true → b ≡ true) → (not a || b) ≡ true
+implies_true true b follows = follows refl
+implies_true false b follows = refl
 
 -- what follows from a test excludes nothing
 pub implied : (a b : Bool) → (a ≡ true → b ≡ true) → (a && b) ≡ a

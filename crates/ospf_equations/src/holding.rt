@@ -25,6 +25,7 @@ ghost use Rattle.term_arith.specs.Bits.{ids_end};
 
 use crate::dynamic::sym_dynamic;
 use crate::levels::sym_held;
+use crate::limits::AllLimits;
 use crate::origins::{SlotPlace, own_routes};
 use net_parts::ends::file_of;
 use std::alloc::{AllocError, Global};
@@ -90,7 +91,7 @@ fn sym_runs(
     tables: &SymTables<'_>,
     slot: &SymSlot,
     part: &SymOpen,
-    limits: &[u32],
+    limits: &AllLimits,
 ) -> Result<NodeId, AllocError>
     requires long { place.now.len ≤ 32 }
     requires wide { length place.now.dst.now.nodes.items ≡ 32 }
@@ -158,7 +159,7 @@ fn sym_wanted(
     tables: &SymTables<'_>,
     slot: &SymSlot,
     part: &SymOpen,
-    limits: &[u32],
+    limits: &AllLimits,
 ) -> Result<NodeId, AllocError>
     requires long { place.now.len ≤ 32 }
     requires wide { length place.now.dst.now.nodes.items ≡ 32 }
@@ -201,7 +202,7 @@ pub fn sym_slot_holds(
     place: &SlotPlace<'_>,
     tables: &SymTables<'_>,
     part: &SymOpen,
-    limits: &[u32],
+    limits: &AllLimits,
 ) -> Result<NodeId, AllocError>
     requires long { place.now.len ≤ 32 }
     requires wide { length place.now.dst.now.nodes.items ≡ 32 }

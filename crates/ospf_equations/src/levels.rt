@@ -1,6 +1,7 @@
-//! Limits of what OSPF routes cost, as terms. The least cost among some routes is at most a limit exactly where one of
-//! them is. That follows from what a router holds and says nothing new; but with it the costs follow, one after another,
-//! from which links have failed, and a search need not guess them.
+//! Limits of what OSPF routes cost, as terms. A route within a limit is one that the router originates, or a neighbour's is
+//! within a limit of its own; where a neighbour's is within a cost of its own, the router's is within its cost. That follows
+//! from what a router holds and says nothing new; but with it the costs follow, one after another, from which links have
+//! failed, and a search need not guess them.
 
 ghost use Rattle.std.specs.Prelude.{◌≡◌, ◌+◌, ◌≤◌, ◌<◌, ◌*◌, true, IfOk, None, ◌++◌, if◌then◌else◌};
 ghost use Rattle.std.specs.List.{filter_map, list_any};
@@ -21,6 +22,7 @@ ghost use Rattle.term_store.specs.Reading.{Reads, Builds, Gives};
 ghost use Rattle.term_arith.specs.Bits.{ids_end};
 
 use crate::adjacent::{SymAdjacency, sym_adjacencies};
+use crate::limits::{AllLimits, Limits};
 use crate::offers::with_offers;
 use crate::origins::SlotPlace;
 use mw_text::List;
@@ -29,7 +31,7 @@ use std::alloc::{AllocError, Global};
 use sym_ospf::{sym_best, sym_same_record};
 use sym_policy::SymOspf;
 use sym_rib::{SymTables, slot_for};
-use term_arith::gates::{agree, both, constant_node, either, is_never, negate};
+use term_arith::gates::{both, constant_node, either, implies, is_never, negate};
 use term_arith::{above_number, equal_number};
 use term_store::{NodeId, Terms};
 
@@ -95,62 +97,6 @@ fn sym_far_within(
     }
 }
 
-// Whether one of all that is offered over some adjacencies is.
-#[tactic(auto, using(crate::proofs::AdjacentSteps::within_steps))]
-fn sym_offers_within(
-    terms: &mut Terms,
-    tables: &SymTables<'_>,
-    over: &[SymAdjacency],
-    len: u8,
-    most: u32,
-) -> Result<NodeId, AllocError>
-    requires long { len ≤ 32 }
-    requires tables { slots_end tables.now.slots.now ≤ size terms.old }
-    requires over { ups_end over.now ≤ size terms.old }
-    ensures builds { Builds terms.old terms.new }
-    ensures within { IfOk result (λ r. r.0 < size terms.new) }
-    ensures value { Gives terms.new result (λ w r. (tracked : TrackedOf) (real : TablesOf) →
-        StandFor w tracked tables.now real →
-        at w r ≡ list_any (is_within most) (offers_read w real (of_length len) over.now)) }
-{
-    let mut any = constant_node(terms, false)?;
-    for s in over {
-        let here = sym_far_within(terms, tables, len, &s.adjacency, s.up, most)?;
-        any = either(terms, any, here)?;
-    }
-    Ok(any)
-}
-
-// True where the held route is the best of the own ones and the offers: it is within the limit exactly where one of
-// these is.
-fn sym_level(
-    terms: &mut Terms,
-    tables: &SymTables<'_>,
-    over: &[SymAdjacency],
-    len: u8,
-    own: &[SymOspf],
-    held: &SymOspf,
-    most: u32,
-) -> Result<NodeId, AllocError>
-    requires long { len ≤ 32 }
-    requires tables { slots_end tables.now.slots.now ≤ size terms.old }
-    requires over { ups_end over.now ≤ size terms.old }
-    requires own { list_end ospf_end own.now ≤ size terms.old }
-    requires held { ospf_end held.now ≤ size terms.old }
-    ensures builds { Builds terms.old terms.new }
-    ensures within { IfOk result (λ r. r.0 < size terms.new) }
-    ensures value { Gives terms.new result (λ w r. (tracked : TrackedOf) (real : TablesOf) →
-        StandFor w tracked tables.now real → same_ospf (ospf_of w held.now) (first_best (filter_map (ospf_of w) own.now
-        ++ offers_read w real (of_length len) over.now)) ≡ true → at w r ≡ true) }
-{
-    let here = sym_within(terms, held, most)?;
-    let own = sym_some_within(terms, own, most)?;
-    let offered = sym_offers_within(terms, tables, over, len, most)?;
-    let some = either(terms, own, offered)?;
-    let level = agree(terms, here, some)?;
-    Ok(level)
-}
-
 // Whether two routes are one, or neither is there.
 #[tactic(auto, using(crate::proofs::HoldingSteps::same_steps))]
 fn sym_same(terms: &mut Terms, a: &SymOspf, b: &SymOspf) -> Result<NodeId, AllocError>
@@ -168,45 +114,272 @@ fn sym_same(terms: &mut Terms, a: &SymOspf, b: &SymOspf) -> Result<NodeId, Alloc
     either(terms, gone, one)
 }
 
-// True where the held route is the best of the own ones and the offers, whatever the limits.
-fn sym_all_levels(
-    terms: &mut Terms,
-    tables: &SymTables<'_>,
-    over: &[SymAdjacency],
-    len: u8,
-    own: &[SymOspf],
-    held: &SymOspf,
-    limits: &[u32],
-) -> Result<NodeId, AllocError>
-    requires long { len ≤ 32 }
-    requires tables { slots_end tables.now.slots.now ≤ size terms.old }
-    requires over { ups_end over.now ≤ size terms.old }
-    requires own { list_end ospf_end own.now ≤ size terms.old }
-    requires held { ospf_end held.now ≤ size terms.old }
+/// A router's route at a length, and what it is the best of: its own routes and what it is offered over adjacencies. The
+/// far routers' routes stand in the tables, and all have limits.
+#[derive(Clone, Copy)]
+pub(crate) struct Leveled<'a, 'b> {
+    pub tables: &'a SymTables<'a>,
+    pub over: &'b [SymAdjacency],
+    pub len: u8,
+    pub own: &'b [SymOspf],
+    pub held: &'a SymOspf,
+    pub limits: &'a AllLimits,
+}
+
+// The least limit of an adjacency's far router, with the cost of the link, that is no less than a number.
+fn raised(limits: &AllLimits, len: u8, a: &Adjacency, most: u32) -> u32
+    ensures { most ≤ result }
+{
+    if a.cost > most {
+        return most;
+    }
+    limits
+        .least_from(a.to.router, len, most - a.cost)
+        .saturating_add(a.cost)
+        .max(most)
+}
+
+// The greatest cost of an adjacency's far router, with the cost of the link, that is no more than a number.
+fn lowered(limits: &AllLimits, len: u8, a: &Adjacency, most: u32) -> u32
+    ensures { result ≤ most }
+{
+    if a.cost > most {
+        return most;
+    }
+    limits
+        .greatest_to(a.to.router, len, most - a.cost)
+        .saturating_add(a.cost)
+        .min(most)
+}
+
+// True where one of all offers is within a limit.
+#[tactic(auto, using(crate::proofs::AdjacentSteps::within_steps))]
+fn sym_some_near(terms: &mut Terms, c: &Leveled<'_, '_>, most: u32) -> Result<NodeId, AllocError>
+    requires long { c.now.len ≤ 32 }
+    requires tables { slots_end c.now.tables.now.slots.now ≤ size terms.old }
+    requires over { ups_end c.now.over.now ≤ size terms.old }
     ensures builds { Builds terms.old terms.new }
     ensures within { IfOk result (λ r. r.0 < size terms.new) }
     ensures value { Gives terms.new result (λ w r. (tracked : TrackedOf) (real : TablesOf) →
-        StandFor w tracked tables.now real → same_ospf (ospf_of w held.now) (first_best (filter_map (ospf_of w) own.now
-        ++ offers_read w real (of_length len) over.now)) ≡ true → at w r ≡ true) }
+        StandFor w tracked c.now.tables.now real →
+        list_any (is_within most) (offers_read w real (of_length c.now.len) c.now.over.now) ≡ true → at w r ≡ true) }
+{
+    let over = c.over;
+    let mut any = constant_node(terms, false)?;
+    for s in over {
+        let limit = raised(c.limits, c.len, &s.adjacency, most);
+        let here = sym_far_within(terms, c.tables, c.len, &s.adjacency, s.up, limit)?;
+        any = either(terms, any, here)?;
+    }
+    Ok(any)
+}
+
+// True only where one of all offers is within a limit.
+#[tactic(auto, using(crate::proofs::AdjacentSteps::within_steps))]
+fn sym_some_far(terms: &mut Terms, c: &Leveled<'_, '_>, most: u32) -> Result<NodeId, AllocError>
+    requires long { c.now.len ≤ 32 }
+    requires tables { slots_end c.now.tables.now.slots.now ≤ size terms.old }
+    requires over { ups_end c.now.over.now ≤ size terms.old }
+    ensures builds { Builds terms.old terms.new }
+    ensures within { IfOk result (λ r. r.0 < size terms.new) }
+    ensures value { Gives terms.new result (λ w r. (tracked : TrackedOf) (real : TablesOf) →
+        StandFor w tracked c.now.tables.now real → at w r ≡ true →
+        list_any (is_within most) (offers_read w real (of_length c.now.len) c.now.over.now) ≡ true) }
+{
+    let over = c.over;
+    let mut any = constant_node(terms, false)?;
+    for s in over {
+        let limit = lowered(c.limits, c.len, &s.adjacency, most);
+        let here = sym_far_within(terms, c.tables, c.len, &s.adjacency, s.up, limit)?;
+        any = either(terms, any, here)?;
+    }
+    Ok(any)
+}
+
+// True where the held route is the best of all: within a limit it is an own one, or a neighbour's is within its own limit.
+fn sym_below(terms: &mut Terms, c: &Leveled<'_, '_>, most: u32) -> Result<NodeId, AllocError>
+    requires long { c.now.len ≤ 32 }
+    requires tables { slots_end c.now.tables.now.slots.now ≤ size terms.old }
+    requires over { ups_end c.now.over.now ≤ size terms.old }
+    requires own { list_end ospf_end c.now.own.now ≤ size terms.old }
+    requires held { ospf_end c.now.held.now ≤ size terms.old }
+    ensures builds { Builds terms.old terms.new }
+    ensures within { IfOk result (λ r. r.0 < size terms.new) }
+    ensures value { Gives terms.new result (λ w r. (tracked : TrackedOf) (real : TablesOf) →
+        StandFor w tracked c.now.tables.now real → same_ospf (ospf_of w c.now.held.now) (first_best (filter_map
+        (ospf_of w) c.now.own.now ++ offers_read w real (of_length c.now.len) c.now.over.now)) ≡ true →
+        at w r ≡ true) }
+{
+    let here = sym_within(terms, c.held, most)?;
+    let own = sym_some_within(terms, c.own, most)?;
+    let near = sym_some_near(terms, c, most)?;
+    let some = either(terms, own, near)?;
+    let level = implies(terms, here, some)?;
+    Ok(level)
+}
+
+// True where the held route is the best of all: it is within a cost where an own one is, or a neighbour's is within a cost
+// of its own.
+fn sym_at_cost(terms: &mut Terms, c: &Leveled<'_, '_>, most: u32) -> Result<NodeId, AllocError>
+    requires long { c.now.len ≤ 32 }
+    requires tables { slots_end c.now.tables.now.slots.now ≤ size terms.old }
+    requires over { ups_end c.now.over.now ≤ size terms.old }
+    requires own { list_end ospf_end c.now.own.now ≤ size terms.old }
+    requires held { ospf_end c.now.held.now ≤ size terms.old }
+    ensures builds { Builds terms.old terms.new }
+    ensures within { IfOk result (λ r. r.0 < size terms.new) }
+    ensures value { Gives terms.new result (λ w r. (tracked : TrackedOf) (real : TablesOf) →
+        StandFor w tracked c.now.tables.now real → same_ospf (ospf_of w c.now.held.now) (first_best (filter_map
+        (ospf_of w) c.now.own.now ++ offers_read w real (of_length c.now.len) c.now.over.now)) ≡ true →
+        at w r ≡ true) }
+{
+    let here = sym_within(terms, c.held, most)?;
+    let own = sym_some_within(terms, c.own, most)?;
+    let far = sym_some_far(terms, c, most)?;
+    let some = either(terms, own, far)?;
+    let level = implies(terms, some, here)?;
+    Ok(level)
+}
+
+// The same at each limit below a cost.
+fn sym_all_below(
+    terms: &mut Terms,
+    c: &Leveled<'_, '_>,
+    below: &[u32],
+) -> Result<NodeId, AllocError>
+    requires long { c.now.len ≤ 32 }
+    requires tables { slots_end c.now.tables.now.slots.now ≤ size terms.old }
+    requires over { ups_end c.now.over.now ≤ size terms.old }
+    requires own { list_end ospf_end c.now.own.now ≤ size terms.old }
+    requires held { ospf_end c.now.held.now ≤ size terms.old }
+    ensures builds { Builds terms.old terms.new }
+    ensures within { IfOk result (λ r. r.0 < size terms.new) }
+    ensures value { Gives terms.new result (λ w r. (tracked : TrackedOf) (real : TablesOf) →
+        StandFor w tracked c.now.tables.now real → same_ospf (ospf_of w c.now.held.now) (first_best (filter_map
+        (ospf_of w) c.now.own.now ++ offers_read w real (of_length c.now.len) c.now.over.now)) ≡ true →
+        at w r ≡ true) }
 {
     let mut all = constant_node(terms, true)?;
-    for most in limits {
-        let level = sym_level(terms, tables, over, len, own, held, *most)?;
+    for most in below {
+        let level = sym_below(terms, c, *most)?;
         all = both(terms, all, level)?;
     }
     Ok(all)
 }
 
+// And at each cost.
+fn sym_all_at(terms: &mut Terms, c: &Leveled<'_, '_>, costs: &[u32]) -> Result<NodeId, AllocError>
+    requires long { c.now.len ≤ 32 }
+    requires tables { slots_end c.now.tables.now.slots.now ≤ size terms.old }
+    requires over { ups_end c.now.over.now ≤ size terms.old }
+    requires own { list_end ospf_end c.now.own.now ≤ size terms.old }
+    requires held { ospf_end c.now.held.now ≤ size terms.old }
+    ensures builds { Builds terms.old terms.new }
+    ensures within { IfOk result (λ r. r.0 < size terms.new) }
+    ensures value { Gives terms.new result (λ w r. (tracked : TrackedOf) (real : TablesOf) →
+        StandFor w tracked c.now.tables.now real → same_ospf (ospf_of w c.now.held.now) (first_best (filter_map
+        (ospf_of w) c.now.own.now ++ offers_read w real (of_length c.now.len) c.now.over.now)) ≡ true →
+        at w r ≡ true) }
+{
+    let mut all = constant_node(terms, true)?;
+    for most in costs {
+        let level = sym_at_cost(terms, c, *most)?;
+        all = both(terms, all, level)?;
+    }
+    Ok(all)
+}
+
+// A route within a number is within each greater one.
+fn sym_step(terms: &mut Terms, held: &SymOspf, least: u32, next: u32) -> Result<NodeId, AllocError>
+    requires held { ospf_end held.now ≤ size terms.old }
+    ensures builds { Builds terms.old terms.new }
+    ensures within { IfOk result (λ r. r.0 < size terms.new) }
+    ensures value { Gives terms.new result (λ w r. at w r ≡ true) }
+{
+    let less = sym_within(terms, held, least)?;
+    let more = sym_within(terms, held, next.max(least))?;
+    let step = implies(terms, less, more)?;
+    Ok(step)
+}
+
+// The same of some numbers, one after another.
+fn sym_ordered(terms: &mut Terms, held: &SymOspf, numbers: &[u32]) -> Result<NodeId, AllocError>
+    requires held { ospf_end held.now ≤ size terms.old }
+    ensures builds { Builds terms.old terms.new }
+    ensures within { IfOk result (λ r. r.0 < size terms.new) }
+    ensures value { Gives terms.new result (λ w r. at w r ≡ true) }
+{
+    let mut all = constant_node(terms, true)?;
+    for at in 1..numbers.len() {
+        let step = sym_step(terms, held, numbers[at - 1], numbers[at])?;
+        all = both(terms, all, step)?;
+    }
+    Ok(all)
+}
+
+// True where the held route is the best of the own ones and the offers, whatever the limits.
+fn sym_all_levels(
+    terms: &mut Terms,
+    c: &Leveled<'_, '_>,
+    limits: &Limits,
+) -> Result<NodeId, AllocError>
+    requires long { c.now.len ≤ 32 }
+    requires tables { slots_end c.now.tables.now.slots.now ≤ size terms.old }
+    requires over { ups_end c.now.over.now ≤ size terms.old }
+    requires own { list_end ospf_end c.now.own.now ≤ size terms.old }
+    requires held { ospf_end c.now.held.now ≤ size terms.old }
+    ensures builds { Builds terms.old terms.new }
+    ensures within { IfOk result (λ r. r.0 < size terms.new) }
+    ensures value { Gives terms.new result (λ w r. (tracked : TrackedOf) (real : TablesOf) →
+        StandFor w tracked c.now.tables.now real → same_ospf (ospf_of w c.now.held.now) (first_best (filter_map
+        (ospf_of w) c.now.own.now ++ offers_read w real (of_length c.now.len) c.now.over.now)) ≡ true →
+        at w r ≡ true) }
+{
+    let below = sym_all_below(terms, c, limits.below.as_slice())?;
+    let costs = sym_all_at(terms, c, limits.costs.as_slice())?;
+    let order = sym_ordered(terms, c.held, limits.all.as_slice())?;
+    let levels = both(terms, below, costs)?;
+    let all = both(terms, levels, order)?;
+    Ok(all)
+}
+
+// The same with the limits of that router, where there can be a route.
+fn sym_levels(terms: &mut Terms, c: &Leveled<'_, '_>, router: u32) -> Result<NodeId, AllocError>
+    requires long { c.now.len ≤ 32 }
+    requires tables { slots_end c.now.tables.now.slots.now ≤ size terms.old }
+    requires over { ups_end c.now.over.now ≤ size terms.old }
+    requires own { list_end ospf_end c.now.own.now ≤ size terms.old }
+    requires held { ospf_end c.now.held.now ≤ size terms.old }
+    ensures builds { Builds terms.old terms.new }
+    ensures within { IfOk result (λ r. r.0 < size terms.new) }
+    ensures value { Gives terms.new result (λ w r. (tracked : TrackedOf) (real : TablesOf) →
+        StandFor w tracked c.now.tables.now real → same_ospf (ospf_of w c.now.held.now) (first_best (filter_map
+        (ospf_of w) c.now.own.now ++ offers_read w real (of_length c.now.len) c.now.over.now)) ≡ true →
+        at w r ≡ true) }
+{
+    let can_be = !is_never(terms, c.held.valid);
+    match c.limits.of(router, c.len) {
+        Some(limits) if can_be => {
+            let levels = sym_all_levels(terms, c, limits)?;
+            Ok(levels)
+        }
+        _ => {
+            let none = constant_node(terms, true)?;
+            Ok(none)
+        }
+    }
+}
+
 /// Whether the held route is the best of some own ones and what the router is offered; with the limits of its cost, from
 /// which it follows without a search.
-pub(crate) fn sym_held(
+pub(crate) fn sym_held<'a>(
     alloc: Global,
     terms: &mut Terms,
     place: &SlotPlace<'_>,
-    tables: &SymTables<'_>,
+    tables: &'a SymTables<'a>,
     own: List<SymOspf>,
-    held: &SymOspf,
-    limits: &[u32],
+    held: &'a SymOspf,
+    limits: &'a AllLimits,
 ) -> Result<NodeId, AllocError>
     requires down { ids_end place.now.sym.now.down ≤ size terms.old }
     requires long { place.now.len ≤ 32 }
@@ -222,21 +395,16 @@ pub(crate) fn sym_held(
         (prefix_read w place.now.dst.now place.now.len)
         (model.adjacencies place.now.net.now.files)))) }
 {
-    let shown = if is_never(terms, held.valid) {
-        &[]
-    } else {
-        limits
-    };
     let over = sym_adjacencies(alloc, terms, place.net, place.sym, place.router)?;
-    let levels = sym_all_levels(
-        terms,
+    let c = Leveled {
         tables,
-        over.as_slice(),
-        place.len,
-        own.as_slice(),
+        over: over.as_slice(),
+        len: place.len,
+        own: own.as_slice(),
         held,
-        shown,
-    )?;
+        limits,
+    };
+    let levels = sym_levels(terms, &c, place.router)?;
     let all = with_offers(
         alloc,
         terms,

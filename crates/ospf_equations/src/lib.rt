@@ -3,7 +3,9 @@
 #![tactic(auto)]
 
 mod adjacent;
+mod costs;
 mod dynamic;
+mod even;
 mod holding;
 mod levels;
 mod limits;
@@ -13,6 +15,6 @@ mod reached;
 
 pub use dynamic::{sym_dynamic, with_dynamic};
 pub use holding::sym_slot_holds;
-pub use limits::{is_meshed, limits_of};
+pub use limits::{AllLimits, limits_of};
 pub use origins::SlotPlace;
 pub use reached::{reached_law, sym_reached};

@@ -1,213 +1,453 @@
-//! Which limits of costs are looked at. Whatever they are, a formula says the same: they only help a search.
+//! Which limits of costs are looked at, by the length of a prefix and by router. Whatever they are, a formula says the
+//! same: they only help a search.
 
-ghost use Rattle.std.specs.Prelude.{◌≡◌, ◌≢◌, ◌/◌, nat_lt, length};
-ghost use Rattle.net_parts.specs.Ospf as model;
+ghost use Rattle.std.specs.Prelude.{◌≡◌, ◌≢◌, ◌<◌};
 
-use mw_text::List;
+use crate::costs::{Failed, costs_to};
+use crate::even::even_limits;
+use mw_text::{List, Prefix};
+use net_interfaces::connected::prefixes_overlap;
 use net_model::{Adjacency, Net, OspfInterface};
-use slot_places::rooms::dearest_interface;
+use net_parts::ospf::advertisement;
+use route_record::LENGTHS;
 use std::alloc::{AllocError, Global};
 
-// At most so many limits, and at most so many tests of one adjacency against one limit, where limits reach up to what
-// routes cost.
+// At most so many costs of a route, so many limits below them, and so many tests of one adjacency against one limit.
 const MOST_LIMITS: u32 = 2_048;
 
 const MOST_TESTS: u32 = 250_000;
 
-// At most so many limits, and at most so many of these tests, where limits do not reach as far.
-const FEW_LIMITS: u32 = 128;
+// Adjacencies that are looked at once for each origin and each choice of failed links: no more of these.
+const MOST_ROUNDS: u64 = 4_000_000;
 
-const FEW_TESTS: u32 = 40_000;
+// At most so many failed links are tried together.
+const MOST_FAILED: u32 = 2;
 
-// In a network of more adjacencies no failed link is tried.
-const MOST_TRIED: usize = 512;
+// Where not all choices of failed links are tried there are limits at equal steps, too, if they are so few.
+const FEW_EVEN: usize = 64;
 
-// The greatest number that divides both; 0 where both are 0. Numbers below 2^32 take no more than 47 divisions.
-fn common_divisor(a: u32, b: u32) -> u32 {
-    let mut greater = a;
-    let mut less = b;
-    for _ in 0..48u8 {
-        if less == 0 {
-            return greater;
-        }
-        let rest = greater % less;
-        greater = less;
-        less = rest;
-    }
-    1
+/// The limits of a router's route at a length, each list ascending.
+#[derive(Drop)]
+pub(crate) struct Limits {
+    /// What the route costs while no link has failed, or few.
+    pub(crate) costs: List<u32>,
+    /// One less than each of these, and what neighbours need of the router for theirs.
+    pub(crate) below: List<u32>,
+    /// All of these.
+    pub(crate) all: List<u32>,
 }
 
-// What the costs of all interfaces that run OSPF are multiples of, and with them the costs of all internal routes.
-fn common_step(interfaces: &[OspfInterface]) -> u32 {
-    let mut step = 0u32;
-    for x in interfaces {
-        step = common_divisor(step, x.cost);
-    }
-    step
+/// The limits of each router's route at each length.
+#[derive(Drop)]
+pub struct AllLimits {
+    routers: u32,
+    // how long each list of costs, and each of limits below them, can become
+    most: usize,
+    // by length, and then by router
+    each: List<Limits>,
 }
 
-// Whether an adjacency leads over the same link as another, in either direction.
-fn is_over(a: &Adjacency, link: &Adjacency) -> bool {
-    a.from == link.from && a.to == link.to || a.from == link.to && a.to == link.from
-}
-
-// The least cost over one more adjacency (Bellman's step). Whether it is less than before.
-fn relax(least: &mut List<u32>, a: &Adjacency) -> bool {
-    let far = match least.items.get(a.to.router as usize) {
+// The least of ascending numbers that is no less; the greatest number of all where there is none.
+fn least_from(numbers: &[u32], from: u32) -> u32 {
+    match numbers.get(count_less(numbers, from)) {
         None => u32::MAX,
-        Some(cost) => *cost,
-    };
-    let over = far.saturating_add(a.cost);
-    match least.items.get_mut(a.from.router as usize) {
-        Some(near) if over < *near => {
-            *near = over;
-            true
-        }
-        _ => false,
+        Some(number) => *number,
     }
 }
 
-// The same over all adjacencies but those of one failed link.
-fn relax_all(least: &mut List<u32>, adjacencies: &[Adjacency], failed: Option<&Adjacency>) -> bool {
-    let mut changed = false;
-    for a in adjacencies {
-        let is_failed = match failed {
-            None => false,
-            Some(link) => is_over(a, link),
+// The greatest of ascending numbers that is no more; 0 where there is none.
+fn greatest_to(numbers: &[u32], to: u32) -> u32 {
+    let count = numbers.partition_point(|number| *number <= to);
+    if count == 0 {
+        return 0;
+    }
+    match numbers.get(count - 1) {
+        None => 0,
+        Some(number) => *number,
+    }
+}
+
+// How many of ascending numbers are less.
+fn count_less(numbers: &[u32], number: u32) -> usize {
+    numbers.partition_point(|one| *one < number)
+}
+
+impl AllLimits {
+    // Where a router's limits stand.
+    fn place(&self, router: u32, len: u8) -> usize {
+        (len as usize)
+            .saturating_mul(self.routers as usize)
+            .saturating_add(router as usize)
+    }
+
+    /// Those of a router at a length.
+    pub(crate) fn of(&self, router: u32, len: u8) -> Option<&Limits> {
+        self.each.items.get(self.place(router, len))
+    }
+
+    /// The least limit below a cost that is no less than a number.
+    pub(crate) fn least_from(&self, router: u32, len: u8, from: u32) -> u32 {
+        match self.of(router, len) {
+            None => u32::MAX,
+            Some(limits) => least_from(limits.below.as_slice(), from),
+        }
+    }
+
+    /// The greatest cost that is no more than a number.
+    pub(crate) fn greatest_to(&self, router: u32, len: u8, to: u32) -> u32 {
+        match self.of(router, len) {
+            None => 0,
+            Some(limits) => greatest_to(limits.costs.as_slice(), to),
+        }
+    }
+}
+
+// Puts a number at its place among ascending ones, unless it is there or they are so many.
+fn insert(numbers: &mut List<u32>, number: u32, most: usize) -> Result<(), AllocError> {
+    if numbers.items.len() >= most || least_from(numbers.as_slice(), number) == number {
+        return Ok(());
+    }
+    let at = count_less(numbers.as_slice(), number).min(numbers.items.len());
+    numbers.items.insert(at, number)?;
+    Ok(())
+}
+
+// Puts all of some numbers there.
+fn insert_all(numbers: &mut List<u32>, more: &[u32]) -> Result<(), AllocError> {
+    for number in more {
+        insert(numbers, *number, usize::MAX)?;
+    }
+    Ok(())
+}
+
+// What is one below each cost.
+fn insert_below(below: &mut List<u32>, costs: &[u32]) -> Result<(), AllocError> {
+    for cost in costs {
+        insert(below, cost.saturating_sub(1), usize::MAX)?;
+    }
+    Ok(())
+}
+
+// An origin: a router that advertises a prefix of that length at a cost.
+#[derive(Clone, Copy)]
+struct Origin<'a> {
+    net: &'a Net,
+    router: u32,
+    cost: u32,
+    len: u8,
+}
+
+// Puts what a router's route costs into its list.
+fn add_cost(all: &mut AllLimits, router: u32, len: u8, cost: u32) -> Result<(), AllocError> {
+    let at = all.place(router, len);
+    let most = all.most;
+    match all.each.items.get_mut(at) {
+        Some(limits) if cost != u32::MAX => insert(&mut limits.costs, cost, most),
+        _ => Ok(()),
+    }
+}
+
+// The costs of all routers to an origin while links have failed.
+fn add_costs(
+    alloc: Global,
+    all: &mut AllLimits,
+    origin: &Origin<'_>,
+    failed: &Failed<'_>,
+) -> Result<(), AllocError> {
+    let costs = costs_to(
+        alloc,
+        origin.net,
+        origin.router as usize,
+        origin.cost,
+        failed,
+    )?;
+    for router in 0..all.routers {
+        let cost = match costs.items.get(router as usize) {
+            None => u32::MAX,
+            Some(found) => *found,
         };
-        if !is_failed && relax(least, a) {
-            changed = true;
-        }
+        add_cost(all, router, origin.len, cost)?;
     }
-    changed
+    Ok(())
 }
 
-// What each router's route costs that another originates at some cost.
-fn costs_to(
+// While a link has failed, and each other one with it. Each link is told by the adjacency that leads to the later router.
+fn add_second(
     alloc: Global,
-    net: &Net,
-    end: usize,
-    origin: u32,
-    failed: Option<&Adjacency>,
-) -> Result<List<u32>, AllocError> {
-    let count = net.routers().len();
-    let mut least = List {
-        items: vec![in alloc; u32::MAX; count]?,
+    all: &mut AllLimits,
+    origin: &Origin<'_>,
+    first: &Adjacency,
+) -> Result<(), AllocError> {
+    for link in origin.net.adjacencies() {
+        if link.from.router < link.to.router {
+            let failed = Failed {
+                first: Some(first),
+                second: Some(link),
+            };
+            add_costs(alloc, all, origin, &failed)?;
+        }
+    }
+    Ok(())
+}
+
+// While each one has failed, or each two.
+fn add_failed(
+    alloc: Global,
+    all: &mut AllLimits,
+    origin: &Origin<'_>,
+    depth: u32,
+) -> Result<(), AllocError> {
+    for link in origin.net.adjacencies() {
+        if link.from.router < link.to.router {
+            let failed = Failed {
+                first: Some(link),
+                second: None,
+            };
+            add_costs(alloc, all, origin, &failed)?;
+            if depth > 1 {
+                add_second(alloc, all, origin, link)?;
+            }
+        }
+    }
+    Ok(())
+}
+
+// While none has failed, too.
+fn add_origin(
+    alloc: Global,
+    all: &mut AllLimits,
+    origin: &Origin<'_>,
+    depth: u32,
+) -> Result<(), AllocError> {
+    let none = Failed {
+        first: None,
+        second: None,
     };
-    if let Some(first) = least.items.get_mut(end) {
-        *first = origin;
+    add_costs(alloc, all, origin, &none)?;
+    if depth > 0 {
+        add_failed(alloc, all, origin, depth)?;
     }
-    for _ in 0..count {
-        if !relax_all(&mut least, net.adjacencies(), failed) {
-            return Ok(least);
-        }
-    }
-    Ok(least)
+    Ok(())
 }
 
-// The greatest of those numbers that are costs at all, and where it stands.
-fn farthest(least: &[u32]) -> (usize, u32) {
-    let mut found = (0usize, 0u32);
-    for at in 0..least.len() {
-        let cost = least[at];
-        if cost != u32::MAX && cost > found.1 {
-            found = (at, cost);
-        }
-    }
-    found
+// Whether an interface advertises a prefix that has destinations of the question.
+fn is_origin(x: &OspfInterface, destinations: &Prefix) -> bool {
+    prefixes_overlap(&advertisement(x), destinations)
 }
 
-// The greatest cost of a route to a router while any one link has failed.
-fn farthest_without_one(
+// The costs to all such origins.
+fn add_origins(
     alloc: Global,
     net: &Net,
-    end: usize,
-    origin: u32,
-) -> Result<u32, AllocError> {
-    let mut most = 0u32;
-    for link in net.adjacencies() {
-        let costs = costs_to(alloc, net, end, origin, Some(link))?;
-        most = most.max(farthest(costs.as_slice()).1);
+    all: &mut AllLimits,
+    destinations: &Prefix,
+    depth: u32,
+) -> Result<(), AllocError> {
+    for x in net.ospf_interfaces() {
+        if is_origin(x, destinations) {
+            let origin = Origin {
+                net,
+                router: x.at.id.router,
+                cost: x.cost,
+                len: advertisement(x).len,
+            };
+            add_origin(alloc, all, &origin, depth)?;
+        }
     }
-    Ok(most)
+    Ok(())
 }
 
-// About the greatest cost of a route while so many links may have failed: to a router that is as far as any from the
-// first, and what one failed link makes it dearer for each of them.
-fn longest(alloc: Global, net: &Net, origin: u32, failures: u32) -> Result<u32, AllocError> {
-    let (end, _) = farthest(costs_to(alloc, net, 0, origin, None)?.as_slice());
-    let (_, whole) = farthest(costs_to(alloc, net, end, origin, None)?.as_slice());
-    if failures == 0 {
-        return Ok(whole);
+// How many origins there are.
+fn count_origins(net: &Net, destinations: &Prefix) -> u64 {
+    let mut count = 0u64;
+    for x in net.ospf_interfaces() {
+        if is_origin(x, destinations) {
+            count = count.saturating_add(1);
+        }
     }
-    if net.adjacencies().len() > MOST_TRIED {
-        return Ok(whole.saturating_mul(2));
-    }
-    let one = farthest_without_one(alloc, net, end, origin)?;
-    Ok(
-        one.saturating_sub(whole)
-            .saturating_mul(failures)
-            .saturating_add(whole),
-    )
+    count
 }
 
-/// Whether the routers have more than two adjacencies each on average, as in a grid or a full mesh. Then a formula has
-/// limits of costs, and the packet and the failed links settle the rest of it. In a ring and a tree they have no more, and
-/// a search over other variables is faster there for one prefix.
-pub fn is_meshed(net: &Net) -> bool
-    ensures { result ≡ nat_lt (length net.now.files) (length (model.adjacencies net.now.files) / 2) }
+// With how many failed links costs are computed; none where they are not at all.
+fn depth_for(origins: u64, adjacencies: u64, failures: u32) -> Option<u32> {
+    let none = origins.saturating_mul(adjacencies);
+    let one = none.saturating_mul(adjacencies);
+    if none > MOST_ROUNDS {
+        return None;
+    }
+    if failures == 0 || one > MOST_ROUNDS {
+        return Some(0);
+    }
+    if failures == 1 || one.saturating_mul(adjacencies) > MOST_ROUNDS {
+        return Some(1);
+    }
+    Some(MOST_FAILED)
+}
+
+// Where the near router of an adjacency has a limit, a route over it wants one of the far router's that is less than that,
+// and no less than the limit less the cost of the link.
+fn follow(all: &mut AllLimits, len: u8, a: &Adjacency, limit: u32) -> Result<(), AllocError> {
+    if a.cost > limit || all.least_from(a.from.router, len, limit) != limit {
+        return Ok(());
+    }
+    let wanted = limit - a.cost;
+    if all.least_from(a.to.router, len, wanted) < limit {
+        return Ok(());
+    }
+    let at = all.place(a.to.router, len);
+    let most = all.most;
+    match all.each.items.get_mut(at) {
+        None => Ok(()),
+        Some(far) => insert(&mut far.below, wanted, most),
+    }
+}
+
+// The same over all adjacencies.
+fn follow_all(net: &Net, all: &mut AllLimits, len: u8, limit: u32) -> Result<(), AllocError> {
+    for a in net.adjacencies() {
+        follow(all, len, a, limit)?;
+    }
+    Ok(())
+}
+
+// The greatest limit of some router at a length that is less than a number; 0 where there is none.
+fn next_limit(all: &AllLimits, len: u8, bound: u32) -> u32
+    ensures { bound ≢ 0 → result < bound }
 {
-    let routers = net.routers();
-    let adjacencies = net.adjacencies();
-    routers.len() < adjacencies.len() / 2
-}
-
-// So many limits, and fewer where they were too many.
-fn capped_count(count: u32, adjacencies: u32) -> u32
-    requires { adjacencies ≢ 0 }
-{
-    if count <= MOST_LIMITS && count.saturating_mul(adjacencies) <= MOST_TESTS {
-        count
-    } else {
-        count.min(FEW_LIMITS).min(FEW_TESTS / adjacencies)
+    let most = bound.saturating_sub(1);
+    let mut next = 0u32;
+    for router in 0..all.routers {
+        if let Some(limits) = all.of(router, len) {
+            next = next.max(greatest_to(limits.below.as_slice(), most));
+        }
     }
+    next.min(most)
 }
 
-// How many limits reach up to what routes cost.
-fn reaching_count(
+// From the greatest limit of a length down, since what follows is less.
+fn close(net: &Net, all: &mut AllLimits, len: u8) -> Result<(), AllocError> {
+    let mut limit = next_limit(all, len, u32::MAX);
+    while limit != 0 {
+        follow_all(net, all, len, limit)?;
+        limit = next_limit(all, len, limit);
+    }
+    Ok(())
+}
+
+// The same at each length.
+fn close_all(net: &Net, all: &mut AllLimits) -> Result<(), AllocError> {
+    for len in 0..LENGTHS as u8 {
+        close(net, all, len)?;
+    }
+    Ok(())
+}
+
+// What follows from the costs of each list.
+fn begin_all(all: &mut AllLimits) -> Result<(), AllocError> {
+    for limits in all.each.items.iter_mut() {
+        insert_below(&mut limits.below, limits.costs.as_slice())?;
+    }
+    Ok(())
+}
+
+fn end_one(limits: &mut Limits) -> Result<(), AllocError> {
+    insert_all(&mut limits.all, limits.costs.as_slice())?;
+    insert_all(&mut limits.all, limits.below.as_slice())
+}
+
+// All limits in one list.
+fn end_all(all: &mut AllLimits) -> Result<(), AllocError> {
+    for limits in all.each.items.iter_mut() {
+        end_one(limits)?;
+    }
+    Ok(())
+}
+
+// No limits yet.
+fn no_limits(alloc: Global, net: &Net) -> Result<AllLimits, AllocError> {
+    let routers = net.routers().len().min(u32::MAX as usize) as u32;
+    let adjacencies = net.adjacencies().len().max(1).min(u32::MAX as usize) as u32;
+    let most = MOST_LIMITS.min(MOST_TESTS / adjacencies) as usize;
+    let mut each = List::new(alloc);
+    for _ in 0..(LENGTHS as u32).saturating_mul(routers) {
+        let one = Limits {
+            costs: List::new(alloc),
+            below: List::new(alloc),
+            all: List::new(alloc),
+        };
+        each.items.push(one)?;
+    }
+    Ok(AllLimits {
+        routers,
+        most,
+        each,
+    })
+}
+
+// The same limits for all.
+fn fill(all: &mut AllLimits, even: &[u32]) -> Result<(), AllocError> {
+    for limits in all.each.items.iter_mut() {
+        fill_one(limits, even)?;
+    }
+    Ok(())
+}
+
+fn fill_one(limits: &mut Limits, even: &[u32]) -> Result<(), AllocError> {
+    insert_all(&mut limits.costs, even)?;
+    insert_all(&mut limits.below, even)?;
+    insert_all(&mut limits.all, even)
+}
+
+// Limits at equal steps for all, where these are few.
+fn fill_few(
     alloc: Global,
     net: &Net,
-    step: u32,
+    all: &mut AllLimits,
     failures: u32,
-    adjacencies: u32,
-) -> Result<u32, AllocError>
-    requires step { step ≢ 0 }
-    requires adjacencies { adjacencies ≢ 0 }
-{
-    let dearest = dearest_interface(net.ospf_interfaces());
-    let most = longest(alloc, net, dearest, failures)? / step;
-    Ok(capped_count(most.saturating_add(1), adjacencies))
+) -> Result<(), AllocError> {
+    let even = even_limits(alloc, net, failures)?;
+    if even.items.len() > FEW_EVEN {
+        return Ok(());
+    }
+    fill(all, even.as_slice())
 }
 
-/// The limits, ascending from 0: no route costs nothing, and from there each limit follows from the one before. They reach
-/// up to about the greatest cost of a route while so many links may have failed. There are none where the network is not
-/// meshed, but where `many` says that some destinations of a question have routes of OSPF at a length and others may have
-/// none: there they halve the conflicts in a ring, too.
+// The limits where costs are computed with so many failed links.
+fn fill_by_costs(
+    alloc: Global,
+    net: &Net,
+    all: &mut AllLimits,
+    destinations: &Prefix,
+    depth: u32,
+) -> Result<(), AllocError> {
+    add_origins(alloc, net, all, destinations, depth)?;
+    begin_all(all)?;
+    close_all(net, all)?;
+    end_all(all)
+}
+
+/// The limits for destinations of a question while so many links may have failed. The costs of a router at a length are those
+/// to each interface that advertises a prefix of that length in which such destinations are, while no link has failed, any
+/// one, or any two, as far as there are not too many choices. Else there are limits at equal steps. Err is want of memory.
 pub fn limits_of(
     alloc: Global,
     net: &Net,
     failures: u32,
-    many: bool,
-) -> Result<List<u32>, AllocError> {
-    let mut made = List::new(alloc);
-    let step = common_step(net.ospf_interfaces());
-    if step == 0 || !many && !is_meshed(net) {
-        return Ok(made);
+    destinations: &Prefix,
+) -> Result<AllLimits, AllocError> {
+    let mut all = no_limits(alloc, net)?;
+    let origins = count_origins(net, destinations);
+    match depth_for(origins, net.adjacencies().len() as u64, failures) {
+        None => {
+            let even = even_limits(alloc, net, failures)?;
+            fill(&mut all, even.as_slice())?;
+        }
+        Some(depth) => {
+            if depth < failures.min(MOST_FAILED) {
+                fill_few(alloc, net, &mut all, failures)?;
+            }
+            fill_by_costs(alloc, net, &mut all, destinations, depth)?;
+        }
     }
-    let adjacencies = net.adjacencies().len().max(1).min(FEW_TESTS as usize) as u32;
-    let count = reaching_count(alloc, net, step, failures, adjacencies)?;
-    for at in 0..count {
-        made.items.push(at.saturating_mul(step))?;
-    }
-    Ok(made)
+    Ok(all)
 }

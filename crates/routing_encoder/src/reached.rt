@@ -32,16 +32,6 @@ fn may_have_none(rooms: &[Option<Room>], destinations: u8, len: u8) -> bool {
     }
 }
 
-/// Whether they can at some such length.
-pub(crate) fn some_may_have_none(rooms: &[Option<Room>], destinations: u8) -> bool {
-    for len in 0..LENGTHS as u8 {
-        if may_have_none(rooms, destinations, len) {
-            return true;
-        }
-    }
-    false
-}
-
 // Whether each router that holds an internal route at a length reaches an origin, where some destination may have none.
 #[tactic(auto, using(crate::proofs::WantedSteps::place_steps))]
 fn sym_reached_at(

@@ -24,11 +24,11 @@ ghost use Rattle.term_store.specs.Reading.{Builds, Gives};
 ghost use Rattle.term_arith.specs.Bits.{ids_end};
 
 use crate::decided::tables_of;
-use crate::reached::{some_may_have_none, sym_all_reached};
+use crate::reached::sym_all_reached;
 use crate::slots::{Towards, is_used, place_at};
 use crate::world::OpenWorld;
 use net_model::Net;
-use ospf_equations::{SlotPlace, limits_of, sym_dynamic, sym_slot_holds};
+use ospf_equations::{AllLimits, SlotPlace, limits_of, sym_dynamic, sym_slot_holds};
 use plan_places::Place;
 use question_lang::Question;
 use route_record::Plan;
@@ -48,7 +48,7 @@ pub(crate) struct WorldTables<'a> {
     pub plan: &'a Plan,
     pub made: &'a OpenWorld,
     pub tables: &'a SymTables<'a>,
-    pub limits: &'a [u32],
+    pub limits: &'a AllLimits,
 }
 
 // What is open of a slot without room for an OSPF route: none, and the bit of the entry by its other routes.
@@ -92,7 +92,7 @@ fn wanted_closed(
     towards: &Towards<'_>,
     tables: &SymTables<'_>,
     p: Place,
-    limits: &[u32],
+    limits: &AllLimits,
 ) -> Result<NodeId, AllocError>
     requires short { p.len < constants.LENGTHS }
     requires wide { length towards.now.dst.now.nodes.items ≡ 32 }
@@ -136,7 +136,7 @@ fn wanted_with(
     room: Option<&Room>,
     p: Place,
     part: &SymOpen,
-    limits: &[u32],
+    limits: &AllLimits,
 ) -> Result<NodeId, AllocError>
     requires short { p.len < constants.LENGTHS }
     requires wide { length towards.now.dst.now.nodes.items ≡ 32 }
@@ -301,11 +301,7 @@ pub fn sym_all_wanted(
         made.now.routing.frame.places (opens_from net.now.files net.now.tracked question.now plan.now w.variable
         from)) }
 {
-    let many = some_may_have_none(
-        made.routing.frame.rooms.as_slice(),
-        question.packets.dst.len,
-    );
-    let limits = limits_of(alloc, net, question.failures, many)?;
+    let limits = limits_of(alloc, net, question.failures, &question.packets.dst)?;
     let tables = tables_of(net, made);
     let world = WorldTables {
         net,
@@ -313,7 +309,7 @@ pub fn sym_all_wanted(
         plan,
         made,
         tables: &tables,
-        limits: limits.as_slice(),
+        limits: &limits,
     };
     let all = sym_each_wanted(alloc, terms, &world)?;
     let reached = sym_all_reached(alloc, terms, &world)?;

@@ -1,5 +1,6 @@
-use Rattle.std.proofs.Common.{◌≡◌, Bool, None, arith, refl, sym, ap, ◌∙◌, if◌then◌else◌, ◌&&◌, true, false}
+use Rattle.std.proofs.Common.{◌≡◌, None, arith, sym, ap, ◌∙◌, if◌then◌else◌, ◌&&◌, false}
 use Rattle.std.specs.Prelude.{option_copied}
+use Rattle.std.proofs.Math.Bool.{and-false}
 use Rattle.net_parts.specs.OspfRoutes.{offer_over}
 use Rattle.term_store.specs.declared.NodeId.{NodeId}
 use Rattle.term_store.specs.Reading.{Reads}
@@ -14,10 +15,6 @@ use Rattle.ospf_equations.proofs.Standing.{no_offer, offer_placed}
 use Rattle.ospf_equations.proofs.LevelSteps.{offer_within, up_within}
 use Rattle.ospf_equations.proofs.levels.sym_far_within.Goals as goal
 
-never : (b : Bool) → (b && false) ≡ false
-never true = refl
-never false = refl
-
 pub returns-in-None-clause-value : goal.returns-in-None-clause-value
 returns-in-None-clause-value c =
     gives_more c.constant_node-in-None.new.terms c.constant_node-in-None.result _ _ by
@@ -30,7 +27,7 @@ returns-in-None-clause-value c =
         let tables = c.args.tables.now in
         let none = no_offer w tracked tables.lens.now tables.routers tables.slots.now real stand (of_length c.args.len)
         c.args.a.now (omega arith) (sym c.slot_for.ensures.place ∙ ap option_copied c.in-None.is) in
-        is ∙ sym (never (at w c.args.up)) ∙ up_within c.args.most (at w c.args.up) false
+        is ∙ sym (and-false (at w c.args.up)) ∙ up_within c.args.most (at w c.args.up) false
         (offer_over real (of_length c.args.len) c.args.a.now) (sym (ap (has_within c.args.most) none))
 
 pub returns-in_ok-there-in-Some-clause-value : goal.returns-in_ok-there-in-Some-clause-value

@@ -10,13 +10,14 @@ use Rattle.ospf_equations.specs.Adjacent.{offers_read}
 use Rattle.ospf_equations.specs.Equations.{StandFor}
 use Rattle.ospf_equations.specs.Levels.{of_length}
 use Rattle.world_variables.specs.Slots.{same_ospf}
-use Rattle.ospf_equations.proofs.levels.sym_all_levels.Given as goal
+use Rattle.ospf_equations.proofs.levels.sym_all_below.Given as goal
 
 abbrev pub invariant-loop-most : goal.invariant-loop-most
 invariant-loop-most l = record {
   builds : Builds l.fn.terms l.terms;
   within : l.all.0 < size l.terms;
-  value : (w : Reading) → Reads w l.terms → (tracked : Tracked) (real : Tables) → StandFor w tracked l.tables real →
-      same_ospf (ospf_of w l.held) (first_best (filter_map (ospf_of w) l.own
-      ++ offers_read w real (of_length l.len) l.over)) ≡ true → at w l.all ≡ true;
+  value : (w : Reading) → Reads w l.terms → (tracked : Tracked) (real : Tables) →
+      StandFor w tracked l.c.tables.now real →
+      same_ospf (ospf_of w l.c.held.now) (first_best (filter_map (ospf_of w) l.c.own.now
+      ++ offers_read w real (of_length l.c.len) l.c.over.now)) ≡ true → at w l.all ≡ true;
 }
