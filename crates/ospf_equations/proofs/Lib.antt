@@ -8,3 +8,5 @@ pub mod BareSlots
 pub mod SourceBits
 pub mod ReachedLaw
 pub mod ReachedSteps
+pub mod LeastLaw
+pub mod LeastSteps

@@ -20,6 +20,7 @@ use Rattle.slot_places.proofs.Members.{any-in}
 use Rattle.slot_places.proofs.Supports.{IsOffered, IsOrigin, all_in, file_there, supported}
 use Rattle.sym_ospf.specs.Rows.{is_internal}
 use Rattle.sym_ospf.proofs.EquationTests.{all_from}
+use Rattle.ospf_equations.specs.Least.{holds_cheaper, is_cheaper}
 use Rattle.ospf_equations.specs.Reached.{AreHeld, are_reached, has_internal, holds_internal, is_origin, is_reached, leads}
 use Rattle.ospf_equations.specs.Reached.{originates_internal}
 use Rattle.ospf_equations.proofs.ReachedSteps.{some_process}
@@ -74,15 +75,8 @@ less f g (suc n) k each below fails passes = by_place (cases_lt k n) (λ earlier
 
 -- ---- routes
 
--- an internal route that costs less
-abbrev is_cheaper : ℕ → Option OspfRec → Bool
-is_cheaper most o = option_map_or (λ h. is_internal h.kind && nat_lt h.cost most) o false
-
-abbrev cheaper : Tables → Prefix → ℕ → ℕ → Bool
-cheaper tables p most router = option_map_or (λ slot. is_cheaper most slot.ospf) (slot_at tables router p.len) false
-
-wider : (tables : Tables) (p : Prefix) (most more router : ℕ) → most ≤ more → cheaper tables p most router ≡ true →
-    cheaper tables p more router ≡ true
+wider : (tables : Tables) (p : Prefix) (most more router : ℕ) → most ≤ more → holds_cheaper tables p most router ≡ true →
+    holds_cheaper tables p more router ≡ true
 wider tables p most more router le is = by_slot (slot_at tables router p.len) is where
   by_route : (o : Option OspfRec) → is_cheaper most o ≡ true → is_cheaper more o ≡ true
   by_route None is = cc
@@ -100,13 +94,13 @@ module _ (files : List File) (failures : Failures) (tables : Tables) (p : Prefix
     (size : length tables.slots ≡ LENGTHS * length files) (short : p.len < LENGTHS)
     (costs : All (λ a. 0 < a.cost) (adjacencies files)) (held : AreHeld files failures tables p) where
   -- the router holds that internal route
-  record Holds (router : ℕ) (h : OspfRec) : Type 0 where
-    slot : Slot
-    here : slot_at tables router p.len ≡ Some slot
-    holds : slot.ospf ≡ Some h
-    internal : is_internal h.kind ≡ true
+  pub record Holds (router : ℕ) (h : OspfRec) : Type 0 where
+    pub slot : Slot
+    pub here : slot_at tables router p.len ≡ Some slot
+    pub holds : slot.ospf ≡ Some h
+    pub internal : is_internal h.kind ≡ true
 
-  is_cheap : (most router : ℕ) (h : OspfRec) → Holds router h → cheaper tables p most router ≡ nat_lt h.cost most
+  is_cheap : (most router : ℕ) (h : OspfRec) → Holds router h → holds_cheaper tables p most router ≡ nat_lt h.cost most
   is_cheap most router h is =
       ap (λ o. option_map_or (λ (slot : Slot). is_cheaper most slot.ospf) o false) is.here
       ∙ ap (is_cheaper most) is.holds
@@ -130,7 +124,7 @@ module _ (files : List File) (failures : Failures) (tables : Tables) (p : Prefix
       (own_origins files failures router own.file own.process p is.slot) h own.there is.internal)
 
   -- the far router of an adjacency holds the route that is offered over it
-  far_holds : (router : ℕ) (h : OspfRec) → is_internal h.kind ≡ true →
+  pub far_holds : (router : ℕ) (h : OspfRec) → is_internal h.kind ≡ true →
       (other : IsOffered files failures router tables p.len h) → Holds other.over.to.router other.held
   far_holds router h internal other = record {
     slot = other.slot;
@@ -139,7 +133,7 @@ module _ (files : List File) (failures : Failures) (tables : Tables) (p : Prefix
     internal = ap (λ (r : OspfRec). is_internal r.kind) (sym other.is) ∙ internal;
   }
 
-  cost_is : (router : ℕ) (h : OspfRec) (other : IsOffered files failures router tables p.len h) →
+  pub cost_is : (router : ℕ) (h : OspfRec) (other : IsOffered files failures router tables p.len h) →
       other.held.cost < h.cost
   cost_is router h other =
       let cost : h.cost ≡ other.held.cost + other.over.cost = ap (λ (r : OspfRec). r.cost) other.is in
@@ -164,29 +158,29 @@ module _ (files : List File) (failures : Failures) (tables : Tables) (p : Prefix
       slice_get_within files router found.0 found.1
 
   abbrev IsNear : ℕ → Type 0
-  IsNear n = (router : ℕ) (h : OspfRec) → Holds router h → many (cheaper tables p h.cost) (length files) ≤ n →
+  IsNear n = (router : ℕ) (h : OspfRec) → Holds router h → many (holds_cheaper tables p h.cost) (length files) ≤ n →
       is_reached files failures tables p n router ≡ true
 
   fewer_far : (router : ℕ) (h : OspfRec) (is : Holds router h) (other : IsOffered files failures router tables p.len h) →
-      many (cheaper tables p other.held.cost) (length files) < many (cheaper tables p h.cost) (length files)
+      many (holds_cheaper tables p other.held.cost) (length files) < many (holds_cheaper tables p h.cost) (length files)
   fewer_far router h is other =
       let far = far_holds router h is.internal other in
       let costs_less = cost_is router h other in
-      less (cheaper tables p other.held.cost) (cheaper tables p h.cost) (length files) other.over.to.router
+      less (holds_cheaper tables p other.held.cost) (holds_cheaper tables p h.cost) (length files) other.over.to.router
       (λ i. wider tables p other.held.cost h.cost i (omega (arith, costs_less)))
       (router_there other.over.to.router other.held far)
       (is_cheap other.held.cost other.over.to.router other.held far
       ∙ le-ltb other.held.cost other.held.cost (omega arith))
       (is_cheap h.cost other.over.to.router other.held far ∙ lt-ltb other.held.cost h.cost costs_less)
 
-  supports_it : (router : ℕ) (h : OspfRec) (is : Holds router h) →
+  pub supports_it : (router : ℕ) (h : OspfRec) (is : Holds router h) →
       IsOrigin files failures p router is.slot h ⊎ IsOffered files failures router tables p.len h
   supports_it router h is =
       let found = file_there files tables router p.len is.slot size is.here in
       supported files failures tables p router found.0 is.slot h found.1 is.here
       (held router found.0 is.slot h found.1 is.here is.holds)
 
-  from_far : (n router : ℕ) (h : OspfRec) → Holds router h → many (cheaper tables p h.cost) (length files) ≤ suc n →
+  from_far : (n router : ℕ) (h : OspfRec) → Holds router h → many (holds_cheaper tables p h.cost) (length files) ≤ suc n →
       IsNear n → (other : IsOffered files failures router tables p.len h) →
       is_reached files failures tables p (suc n) router ≡ true
   from_far n router h is few before other =
@@ -198,13 +192,13 @@ module _ (files : List File) (failures : Failures) (tables : Tables) (p : Prefix
   -- by how many routers hold a cheaper route
   near : (n : ℕ) → IsNear n
   near zero = λ router h is few. by router h is few (supports_it router h is) where
-    by : (router : ℕ) (h : OspfRec) (is : Holds router h) → many (cheaper tables p h.cost) (length files) ≤ 0 →
+    by : (router : ℕ) (h : OspfRec) (is : Holds router h) → many (holds_cheaper tables p h.cost) (length files) ≤ 0 →
         IsOrigin files failures p router is.slot h ⊎ IsOffered files failures router tables p.len h →
         is_reached files failures tables p zero router ≡ true
     by router h is few (inl own) = from_origin zero router (origin_is router h is own)
     by router h is few (inr other) = let none = fewer_far router h is other in absurd (omega (arith, none, few))
   near (suc n) = λ router h is few. by router h is few (near n) (supports_it router h is) where
-    by : (router : ℕ) (h : OspfRec) (is : Holds router h) → many (cheaper tables p h.cost) (length files) ≤ suc n →
+    by : (router : ℕ) (h : OspfRec) (is : Holds router h) → many (holds_cheaper tables p h.cost) (length files) ≤ suc n →
         IsNear n → IsOrigin files failures p router is.slot h ⊎ IsOffered files failures router tables p.len h →
         is_reached files failures tables p (suc n) router ≡ true
     by router h is few before (inl own) = from_origin (suc n) router (origin_is router h is own)
@@ -220,7 +214,7 @@ module _ (files : List File) (failures : Failures) (tables : Tables) (p : Prefix
         is_internal h.kind ≡ b → (not b || is_reached files failures tables p (length files) router) ≡ true
     by_kind slot h here holds true internal =
         near (length files) router h (record { slot = slot; here = here; holds = holds; internal = internal })
-        (at_most (cheaper tables p h.cost) (length files))
+        (at_most (holds_cheaper tables p h.cost) (length files))
     by_kind slot h here holds false external = refl
 
     by_route : (slot : Slot) (o : Option OspfRec) → slot_at tables router p.len ≡ Some slot → slot.ospf ≡ o →

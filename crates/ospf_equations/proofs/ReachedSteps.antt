@@ -42,7 +42,6 @@ use Rattle.term_store.specs.declared.NodeId.{NodeId}
 use Rattle.term_store.specs.Terms.{Reading, at}
 use Rattle.term_store.proofs.Growth.{slice_get_last, slice_get_push}
 use Rattle.ospf_equations.specs.declared.adjacent.SymAdjacency.{SymAdjacency}
-use Rattle.ospf_equations.specs.Levels.{of_length}
 use Rattle.ospf_equations.specs.Reached.{TellOrigins, TellReached, are_reached, has_internal, holds_internal, is_led}
 use Rattle.ospf_equations.specs.Reached.{is_reached, leads, originates_internal, told, up_in, up_read}
 use Rattle.ospf_equations.proofs.AdjacentSteps.{up_below, ups_end_push}
@@ -219,14 +218,14 @@ module _ (w : Reading) (tracked : Tracked) (lens : List ℕ) (routers : ℕ) (sl
     by (inr past) =
         let none : None ≡ Some s = sym (none_above lens slots routers router len past) ∙ here in absurd cc
 
-  -- which holds an internal route where that reads as one
-  pub holds_there : (router len : ℕ) (s : SymSlot) → len < LENGTHS →
+  -- of whose route is true what is true of the one that is read
+  pub holds_there : (test : Option OspfRec → Bool) (router len : ℕ) (s : SymSlot) → len < LENGTHS →
       sym_slot_at lens routers slots router len ≡ Some s →
-      has_internal (ospf_of w s.ospf) ≡ holds_internal real (of_length len) router
-  holds_there router len s short here =
+      test (ospf_of w s.ospf) ≡ option_map_or (λ slot. test slot.ospf) (slot_at real router len) false
+  holds_there test router len s short here =
       let found = something_there router len s short here in
-      ap has_internal found.2.ospf
-      ∙ sym (ap (λ o. option_map_or (λ (slot : Slot). has_internal slot.ospf) o false) found.1)
+      ap test found.2.ospf
+      ∙ sym (ap (λ o. option_map_or (λ (slot : Slot). test slot.ospf) o false) found.1)
 
 -- ---- what a router originates
 

@@ -1,4 +1,5 @@
 pub mod Adjacent
 pub mod Equations
+pub mod Least
 pub mod Levels
 pub mod Reached

@@ -3,18 +3,14 @@
 ghost use Rattle.std.specs.Prelude.{◌≢◌};
 
 use crate::costs::{Failed, costs_to};
+use crate::limits::{MOST_LIMITS, MOST_TESTS};
 use mw_text::List;
 use net_model::{Net, OspfInterface};
 use slot_places::rooms::dearest_interface;
 use std::alloc::{AllocError, Global};
 
-// At most so many limits, and at most so many tests of one adjacency against one limit, where limits reach up to what
+// At most so many limits, and at most so many tests of one adjacency against one limit, where limits do not reach as far as
 // routes cost.
-const MOST_LIMITS: u32 = 2_048;
-
-const MOST_TESTS: u32 = 250_000;
-
-// At most so many limits, and at most so many of these tests, where limits do not reach as far.
 const FEW_LIMITS: u32 = 128;
 
 const FEW_TESTS: u32 = 40_000;

@@ -35,9 +35,9 @@ use term_arith::gates::{both, constant_node, either, implies, is_never, negate};
 use term_arith::{above_number, equal_number};
 use term_store::{NodeId, Terms};
 
-// Whether the route is there, is internal and costs no more.
+/// Whether the route is there, is internal and costs no more.
 #[tactic(auto, using(crate::proofs::LevelSteps::within_is))]
-fn sym_within(terms: &mut Terms, rec: &SymOspf, most: u32) -> Result<NodeId, AllocError>
+pub(crate) fn sym_within(terms: &mut Terms, rec: &SymOspf, most: u32) -> Result<NodeId, AllocError>
     requires nodes { ospf_end rec.now ≤ size terms.old }
     ensures builds { Builds terms.old terms.new }
     ensures within { IfOk result (λ r. r.0 < size terms.new) }
@@ -290,7 +290,7 @@ fn sym_all_at(terms: &mut Terms, c: &Leveled<'_, '_>, costs: &[u32]) -> Result<N
 }
 
 // A route within a number is within each greater one.
-fn sym_step(terms: &mut Terms, held: &SymOspf, least: u32, next: u32) -> Result<NodeId, AllocError>
+fn sym_wider(terms: &mut Terms, held: &SymOspf, least: u32, next: u32) -> Result<NodeId, AllocError>
     requires held { ospf_end held.now ≤ size terms.old }
     ensures builds { Builds terms.old terms.new }
     ensures within { IfOk result (λ r. r.0 < size terms.new) }
@@ -311,7 +311,7 @@ fn sym_ordered(terms: &mut Terms, held: &SymOspf, numbers: &[u32]) -> Result<Nod
 {
     let mut all = constant_node(terms, true)?;
     for at in 1..numbers.len() {
-        let step = sym_step(terms, held, numbers[at - 1], numbers[at])?;
+        let step = sym_wider(terms, held, numbers[at - 1], numbers[at])?;
         all = both(terms, all, step)?;
     }
     Ok(all)

@@ -7,6 +7,7 @@ mod costs;
 mod dynamic;
 mod even;
 mod holding;
+mod least;
 mod levels;
 mod limits;
 mod offers;
@@ -15,6 +16,7 @@ mod reached;
 
 pub use dynamic::{sym_dynamic, with_dynamic};
 pub use holding::sym_slot_holds;
+pub use least::sym_dearer;
 pub use limits::{AllLimits, limits_of};
 pub use origins::SlotPlace;
 pub use reached::{reached_law, sym_reached};

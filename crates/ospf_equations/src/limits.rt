@@ -12,13 +12,16 @@ use net_parts::ospf::advertisement;
 use route_record::LENGTHS;
 use std::alloc::{AllocError, Global};
 
-// At most so many costs of a route, so many limits below them, and so many tests of one adjacency against one limit.
-const MOST_LIMITS: u32 = 2_048;
+/// At most so many costs of a route, so many limits below them, and so many tests of one adjacency against one limit.
+pub(crate) const MOST_LIMITS: u32 = 2_048;
 
-const MOST_TESTS: u32 = 250_000;
+pub(crate) const MOST_TESTS: u32 = 250_000;
 
 // Adjacencies that are looked at once for each origin and each choice of failed links: no more of these.
-const MOST_ROUNDS: u64 = 4_000_000;
+const MOST_ROUNDS: u64 = 16_000_000;
+
+// What the route of a router costs at least from which no origin is reached: more than any route.
+const NO_ROUTE: u32 = 1 << 30;
 
 // At most so many failed links are tried together.
 const MOST_FAILED: u32 = 2;
@@ -35,6 +38,8 @@ pub(crate) struct Limits {
     pub(crate) below: List<u32>,
     /// All of these.
     pub(crate) all: List<u32>,
+    /// What an internal route costs at least: as much as that to the nearest origin while no link has failed.
+    pub(crate) least: u32,
 }
 
 /// The limits of each router's route at each length.
@@ -85,10 +90,29 @@ impl AllLimits {
         self.each.items.get(self.place(router, len))
     }
 
-    /// The least limit below a cost that is no less than a number.
+    /// What a router's internal route at a length costs at least.
+    pub(crate) fn least_cost(&self, router: u32, len: u8) -> u32 {
+        match self.of(router, len) {
+            None => 0,
+            Some(limits) => limits.least,
+        }
+    }
+
+    /// The same of each router.
+    pub(crate) fn all_least(&self, alloc: Global, len: u8) -> Result<List<u32>, AllocError> {
+        let mut made = List::new(alloc);
+        for router in 0..self.routers {
+            made.items.push(self.least_cost(router, len))?;
+        }
+        Ok(made)
+    }
+
+    /// The least limit below a cost that is no less than a number; one less than what the route costs at least where it is
+    /// no cost.
     pub(crate) fn least_from(&self, router: u32, len: u8, from: u32) -> u32 {
         match self.of(router, len) {
             None => u32::MAX,
+            Some(limits) if from < limits.least => limits.least - 1,
             Some(limits) => least_from(limits.below.as_slice(), from),
         }
     }
@@ -120,10 +144,12 @@ fn insert_all(numbers: &mut List<u32>, more: &[u32]) -> Result<(), AllocError> {
     Ok(())
 }
 
-// What is one below each cost.
-fn insert_below(below: &mut List<u32>, costs: &[u32]) -> Result<(), AllocError> {
+// What is one below each cost but the least.
+fn insert_below(below: &mut List<u32>, costs: &[u32], least: u32) -> Result<(), AllocError> {
     for cost in costs {
-        insert(below, cost.saturating_sub(1), usize::MAX)?;
+        if *cost > least {
+            insert(below, *cost - 1, usize::MAX)?;
+        }
     }
     Ok(())
 }
@@ -142,7 +168,10 @@ fn add_cost(all: &mut AllLimits, router: u32, len: u8, cost: u32) -> Result<(), 
     let at = all.place(router, len);
     let most = all.most;
     match all.each.items.get_mut(at) {
-        Some(limits) if cost != u32::MAX => insert(&mut limits.costs, cost, most),
+        Some(limits) if cost != u32::MAX => {
+            limits.least = limits.least.min(cost);
+            insert(&mut limits.costs, cost, most)
+        }
         _ => Ok(()),
     }
 }
@@ -291,7 +320,9 @@ fn follow(all: &mut AllLimits, len: u8, a: &Adjacency, limit: u32) -> Result<(),
         return Ok(());
     }
     let wanted = limit - a.cost;
-    if all.least_from(a.to.router, len, wanted) < limit {
+    if wanted < all.least_cost(a.to.router, len)
+        || all.least_from(a.to.router, len, wanted) < limit
+    {
         return Ok(());
     }
     let at = all.place(a.to.router, len);
@@ -345,7 +376,7 @@ fn close_all(net: &Net, all: &mut AllLimits) -> Result<(), AllocError> {
 // What follows from the costs of each list.
 fn begin_all(all: &mut AllLimits) -> Result<(), AllocError> {
     for limits in all.each.items.iter_mut() {
-        insert_below(&mut limits.below, limits.costs.as_slice())?;
+        insert_below(&mut limits.below, limits.costs.as_slice(), limits.least)?;
     }
     Ok(())
 }
@@ -374,6 +405,7 @@ fn no_limits(alloc: Global, net: &Net) -> Result<AllLimits, AllocError> {
             costs: List::new(alloc),
             below: List::new(alloc),
             all: List::new(alloc),
+            least: NO_ROUTE,
         };
         each.items.push(one)?;
     }
@@ -384,10 +416,11 @@ fn no_limits(alloc: Global, net: &Net) -> Result<AllLimits, AllocError> {
     })
 }
 
-// The same limits for all.
+// The same limits for all, but those below a router's least cost.
 fn fill(all: &mut AllLimits, even: &[u32]) -> Result<(), AllocError> {
     for limits in all.each.items.iter_mut() {
-        fill_one(limits, even)?;
+        let from = count_less(even, limits.least).min(even.len());
+        fill_one(limits, &even[from..])?;
     }
     Ok(())
 }
@@ -412,18 +445,18 @@ fn fill_few(
     fill(all, even.as_slice())
 }
 
-// The limits where costs are computed with so many failed links.
-fn fill_by_costs(
+// Limits at equal steps for all, where no costs are computed: none is known that a route costs at least.
+fn fill_even(
     alloc: Global,
     net: &Net,
     all: &mut AllLimits,
-    destinations: &Prefix,
-    depth: u32,
+    failures: u32,
 ) -> Result<(), AllocError> {
-    add_origins(alloc, net, all, destinations, depth)?;
-    begin_all(all)?;
-    close_all(net, all)?;
-    end_all(all)
+    let even = even_limits(alloc, net, failures)?;
+    for limits in all.each.items.iter_mut() {
+        limits.least = 0;
+    }
+    fill(all, even.as_slice())
 }
 
 /// The limits for destinations of a question while so many links may have failed. The costs of a router at a length are those
@@ -437,17 +470,16 @@ pub fn limits_of(
 ) -> Result<AllLimits, AllocError> {
     let mut all = no_limits(alloc, net)?;
     let origins = count_origins(net, destinations);
-    match depth_for(origins, net.adjacencies().len() as u64, failures) {
-        None => {
-            let even = even_limits(alloc, net, failures)?;
-            fill(&mut all, even.as_slice())?;
-        }
-        Some(depth) => {
-            if depth < failures.min(MOST_FAILED) {
-                fill_few(alloc, net, &mut all, failures)?;
-            }
-            fill_by_costs(alloc, net, &mut all, destinations, depth)?;
-        }
+    let Some(depth) = depth_for(origins, net.adjacencies().len() as u64, failures) else {
+        fill_even(alloc, net, &mut all, failures)?;
+        return Ok(all);
+    };
+    add_origins(alloc, net, &mut all, destinations, depth)?;
+    if depth < failures.min(MOST_FAILED) {
+        fill_few(alloc, net, &mut all, failures)?;
     }
+    begin_all(&mut all)?;
+    close_all(net, &mut all)?;
+    end_all(&mut all)?;
     Ok(all)
 }

@@ -24,7 +24,7 @@ ghost use Rattle.term_store.specs.Reading.{Builds, Gives};
 ghost use Rattle.term_arith.specs.Bits.{ids_end};
 
 use crate::decided::tables_of;
-use crate::reached::sym_all_reached;
+use crate::following::sym_all_following;
 use crate::slots::{Towards, is_used, place_at};
 use crate::world::OpenWorld;
 use net_model::Net;
@@ -312,6 +312,6 @@ pub fn sym_all_wanted(
         limits: &limits,
     };
     let all = sym_each_wanted(alloc, terms, &world)?;
-    let reached = sym_all_reached(alloc, terms, &world)?;
-    both(terms, all, reached)
+    let following = sym_all_following(alloc, terms, &world)?;
+    both(terms, all, following)
 }

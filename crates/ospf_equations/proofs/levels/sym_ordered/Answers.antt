@@ -8,6 +8,6 @@ loop-at-preserved c = record {
   value = λ w reads.
       let before = c.both.ensures.builds.reads w reads in
       c.in_ok-all-2.ensures.value w reads
-      ∙ ap₂ (λ a b. a && b) (c.loop-at.invariant.value w (c.sym_step.ensures.builds.reads w before))
+      ∙ ap₂ (λ a b. a && b) (c.loop-at.invariant.value w (c.sym_wider.ensures.builds.reads w before))
       (c.in_ok-step.ensures.value w before);
 }

@@ -20,6 +20,6 @@ returns-in-Some-clause-value c =
     gives_more c.sym_internal.new.terms c.sym_internal.result _ _
     (λ w r reads is tracked real stand.
     let tables = c.args.tables.now in
-    is ∙ holds_there w tracked tables.lens.now tables.routers tables.slots.now real stand c.args.router c.args.len
-    c.in-Some.slot.now (omega arith) (sym c.slot_for.ensures.place ∙ ap option_copied c.in-Some.is))
+    is ∙ holds_there w tracked tables.lens.now tables.routers tables.slots.now real stand has_internal c.args.router
+    c.args.len c.in-Some.slot.now (omega arith) (sym c.slot_for.ensures.place ∙ ap option_copied c.in-Some.is))
     c.sym_internal.ensures.value

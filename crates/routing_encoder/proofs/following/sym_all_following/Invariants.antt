@@ -6,7 +6,7 @@ use Rattle.routing_worlds.specs.Worlds.{opens_from, shape_world_from}
 use Rattle.routing_encoder.specs.Opened.{ReadsAs, StandsIn}
 use Rattle.routing_encoder.specs.Shapes.{ReadAsShapes}
 use Rattle.routing_encoder.specs.Wanted.{HasShapes, are_wanted}
-use Rattle.routing_encoder.proofs.reached.sym_all_reached.Given as goal
+use Rattle.routing_encoder.proofs.following.sym_all_following.Given as goal
 
 -- so it is at the lengths so far
 abbrev pub invariant-loop-len : goal.invariant-loop-len

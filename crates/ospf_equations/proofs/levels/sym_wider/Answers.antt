@@ -2,7 +2,7 @@ use Rattle.std.proofs.Common.{arith, sym, ◌∙◌}
 use Rattle.term_store.specs.Terms.{at}
 use Rattle.sym_policy.specs.Held.{ospf_of}
 use Rattle.ospf_equations.proofs.LevelSteps.{implies_true, within_more}
-use Rattle.ospf_equations.proofs.levels.sym_step.Goals as goal
+use Rattle.ospf_equations.proofs.levels.sym_wider.Goals as goal
 
 pub returns-clause-value : goal.returns-clause-value
 returns-clause-value c = λ w reads.
