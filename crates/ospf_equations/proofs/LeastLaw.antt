@@ -10,7 +10,7 @@ use Rattle.std.proofs.lemmas.Bool.Decides.{nat_tests}
 use Rattle.std.proofs.lemmas.Option.{option_and_then_some, same_Some}
 use Rattle.mw_text.specs.declared.address.Addr.{Addr}
 use Rattle.mw_text.specs.declared.address.Prefix.{Prefix}
-use Rattle.mw_text.specs.Address.{covers, prefix_at, same_prefix}
+use Rattle.mw_text.specs.Address.{prefix_at, same_prefix}
 use Rattle.mw_text.specs.Members.{In}
 use Rattle.ios_ast.specs.declared.file.File.{File}
 use Rattle.ios_ast.specs.declared.ospf.DefaultOrigin.{DefaultOrigin}
@@ -33,8 +33,6 @@ use Rattle.net_parts.specs.World.{is_up}
 use Rattle.net_parts.proofs.LeastWalks.{in-cases, in-filter, in-filter_map, in-map}
 use Rattle.ios_ast.specs.Maps.{through_map}
 use Rattle.ios_ast.specs.Setting.{Attributes}
-use Rattle.slot_places.specs.Origins.{meets}
-use Rattle.slot_places.proofs.Meeting.{meets-there}
 use Rattle.slot_places.proofs.Supports.{IsOffered, IsOrigin}
 use Rattle.sym_ospf.specs.Rows.{is_internal}
 use Rattle.sym_ospf.proofs.EquationTests.{all_from}
@@ -101,9 +99,8 @@ module _ (file : File) (p : Prefix) (slot : Slot) (h : OspfRec) where
 module _ (files : List File) (failures : Failures) (tables : Tables) (d : Addr) (len : ℕ)
     (size : length tables.slots ≡ LENGTHS * length files) (short : len < LENGTHS)
     (costs : All (λ a. 0 < a.cost) (adjacencies files)) (held : AreHeld files failures tables (prefix_at d len))
-    (least : List ℕ) (destinations : Prefix) (covered : covers destinations d ≡ true)
-    (rise : list_all (rises_over least) (adjacencies files) ≡ true)
-    (begin : list_all (begins_at least len destinations) (ospf_interfaces files) ≡ true) where
+    (least : List ℕ) (rise : list_all (rises_over least) (adjacencies files) ≡ true)
+    (begin : list_all (begins_at least (prefix_at d len)) (ospf_interfaces files) ≡ true) where
   abbrev p : Prefix
   p = prefix_at d len
 
@@ -116,13 +113,11 @@ module _ (files : List File) (failures : Failures) (tables : Tables) (d : Addr) 
       let found = in-filter _ (ospf_interfaces files) x there in
       let own = and_parts (x.at.id.router == router) _ found.1 in
       let second = and_parts (same_prefix (advertisement x) p) (is_up files failures x.at) own.1 in
-      let meeting : meets destinations len (advertisement x) ≡ true =
-      meets-there (advertisement x) destinations d len second.0 covered in
-      let test : (not (meets destinations len (advertisement x))
+      let test : (not (same_prefix (advertisement x) p)
       || not (nat_lt x.cost (least_of least x.at.id.router))) ≡ true =
-      passes (begins_at least len destinations) (ospf_interfaces files) x begin found.0 in
+      passes (begins_at least p) (ospf_interfaces files) x begin found.0 in
       let more : not (nat_lt x.cost (least_of least x.at.id.router)) ≡ true =
-      ap (λ b. not b || not (nat_lt x.cost (least_of least x.at.id.router))) (sym meeting) ∙ test in
+      ap (λ b. not b || not (nat_lt x.cost (least_of least x.at.id.router))) (sym second.0) ∙ test in
       subst (λ r. least_of least r ≤ x.cost) (eqb-true x.at.id.router router own.0)
       (at_most x.cost (least_of least x.at.id.router) more)
 

@@ -2,6 +2,7 @@
 use Rattle.std.specs.Prelude.{ℕ, ◌+◌, ◌&&◌, ◌||◌, Bool, false, not, nat_lt, List, Option, slice_index_or}
 use Rattle.std.specs.Option.{option_map_or}
 use Rattle.mw_text.specs.declared.address.Prefix.{Prefix}
+use Rattle.mw_text.specs.Address.{same_prefix}
 use Rattle.mw_text.specs.Members.{all_below}
 use Rattle.route_record.specs.declared.OspfRec.{OspfRec}
 use Rattle.route_record.specs.declared.Tables.{Tables}
@@ -9,7 +10,6 @@ use Rattle.route_record.specs.Places.{slot_at}
 use Rattle.net_parts.specs.declared.adjacencies.Adjacency.{Adjacency}
 use Rattle.net_parts.specs.declared.ospf.OspfInterface.{OspfInterface}
 use Rattle.net_parts.specs.Ospf.{advertisement}
-use Rattle.slot_places.specs.Origins.{meets}
 use Rattle.sym_ospf.specs.Rows.{is_internal}
 
 -- what a router's route is said to cost at least, by router; 0 where nothing is said
@@ -20,10 +20,10 @@ least_of least router = slice_index_or least router 0
 abbrev pub rises_over : List ℕ → Adjacency → Bool
 rises_over least a = not (nat_lt (least_of least a.to.router + a.cost) (least_of least a.from.router))
 
--- and no more than an interface of the router that advertises a prefix of that length with some of the destinations
-abbrev pub begins_at : List ℕ → ℕ → Prefix → OspfInterface → Bool
-begins_at least len destinations x =
-    not (meets destinations len (advertisement x)) || not (nat_lt x.cost (least_of least x.at.id.router))
+-- and no more than an interface of the router that advertises the prefix
+abbrev pub begins_at : List ℕ → Prefix → OspfInterface → Bool
+begins_at least p x =
+    not (same_prefix (advertisement x) p) || not (nat_lt x.cost (least_of least x.at.id.router))
 
 -- there is a route, it is internal, and it costs less than that
 abbrev pub is_cheaper : ℕ → Option OspfRec → Bool

@@ -20,8 +20,8 @@ pub(crate) const MOST_TESTS: u32 = 250_000;
 // Adjacencies that are looked at once for each origin and each choice of failed links: no more of these.
 const MOST_ROUNDS: u64 = 16_000_000;
 
-// What the route of a router costs at least from which no origin is reached: more than any route.
-const NO_ROUTE: u32 = 1 << 30;
+/// What the route of a router costs at least from which no origin is reached: more than any route.
+pub(crate) const NO_ROUTE: u32 = 1 << 30;
 
 // At most so many failed links are tried together.
 const MOST_FAILED: u32 = 2;
@@ -36,7 +36,7 @@ pub(crate) struct Limits {
     pub(crate) costs: List<u32>,
     /// One less than each of these, and what neighbours need of the router for theirs.
     pub(crate) below: List<u32>,
-    /// All of these.
+    /// All of these, and one less than the least cost.
     pub(crate) all: List<u32>,
     /// What an internal route costs at least: as much as that to the nearest origin while no link has failed.
     pub(crate) least: u32,
@@ -45,6 +45,10 @@ pub(crate) struct Limits {
 /// The limits of each router's route at each length.
 #[derive(Drop)]
 pub struct AllLimits {
+    // the destinations for whose routes they are
+    destinations: List<Prefix>,
+    // whether costs are computed to where these originate
+    is_by_costs: bool,
     routers: u32,
     // how long each list of costs, and each of limits below them, can become
     most: usize,
@@ -98,13 +102,9 @@ impl AllLimits {
         }
     }
 
-    /// The same of each router.
-    pub(crate) fn all_least(&self, alloc: Global, len: u8) -> Result<List<u32>, AllocError> {
-        let mut made = List::new(alloc);
-        for router in 0..self.routers {
-            made.items.push(self.least_cost(router, len))?;
-        }
-        Ok(made)
+    /// Whether costs to an interface are looked at: it advertises a prefix that has such destinations.
+    pub(crate) fn are_for(&self, x: &OspfInterface) -> bool {
+        self.is_by_costs && is_origin(x, self.destinations.as_slice())
     }
 
     /// The least limit below a cost that is no less than a number; one less than what the route costs at least where it is
@@ -259,9 +259,12 @@ fn add_origin(
     Ok(())
 }
 
-// Whether an interface advertises a prefix that has destinations of the question.
-fn is_origin(x: &OspfInterface, destinations: &Prefix) -> bool {
-    prefixes_overlap(&advertisement(x), destinations)
+// Whether an interface advertises a prefix that has some of these destinations.
+fn is_origin(x: &OspfInterface, destinations: &[Prefix]) -> bool {
+    let advertised = advertisement(x);
+    destinations
+        .iter()
+        .any(|p| prefixes_overlap(&advertised, p))
 }
 
 // The costs to all such origins.
@@ -269,7 +272,7 @@ fn add_origins(
     alloc: Global,
     net: &Net,
     all: &mut AllLimits,
-    destinations: &Prefix,
+    destinations: &[Prefix],
     depth: u32,
 ) -> Result<(), AllocError> {
     for x in net.ospf_interfaces() {
@@ -287,7 +290,7 @@ fn add_origins(
 }
 
 // How many origins there are.
-fn count_origins(net: &Net, destinations: &Prefix) -> u64 {
+fn count_origins(net: &Net, destinations: &[Prefix]) -> u64 {
     let mut count = 0u64;
     for x in net.ospf_interfaces() {
         if is_origin(x, destinations) {
@@ -382,6 +385,7 @@ fn begin_all(all: &mut AllLimits) -> Result<(), AllocError> {
 }
 
 fn end_one(limits: &mut Limits) -> Result<(), AllocError> {
+    insert(&mut limits.all, limits.least.saturating_sub(1), usize::MAX)?;
     insert_all(&mut limits.all, limits.costs.as_slice())?;
     insert_all(&mut limits.all, limits.below.as_slice())
 }
@@ -410,6 +414,8 @@ fn no_limits(alloc: Global, net: &Net) -> Result<AllLimits, AllocError> {
         each.items.push(one)?;
     }
     Ok(AllLimits {
+        destinations: List::new(alloc),
+        is_by_costs: false,
         routers,
         most,
         each,
@@ -459,27 +465,47 @@ fn fill_even(
     fill(all, even.as_slice())
 }
 
-/// The limits for destinations of a question while so many links may have failed. The costs of a router at a length are those
+// The limits where costs are computed to where these destinations originate, with so many failed links.
+fn fill_by_costs(
+    alloc: Global,
+    net: &Net,
+    all: &mut AllLimits,
+    failures: u32,
+    destinations: &[Prefix],
+    depth: u32,
+) -> Result<(), AllocError> {
+    add_origins(alloc, net, all, destinations, depth)?;
+    if depth < failures.min(MOST_FAILED) {
+        fill_few(alloc, net, all, failures)?;
+    }
+    all.is_by_costs = true;
+    begin_all(all)?;
+    close_all(net, all)?;
+    end_all(all)
+}
+
+/// The limits of routes to some destinations while so many links may have failed. The costs of a router at a length are those
 /// to each interface that advertises a prefix of that length in which such destinations are, while no link has failed, any
 /// one, or any two, as far as there are not too many choices. Else there are limits at equal steps. Err is want of memory.
 pub fn limits_of(
     alloc: Global,
     net: &Net,
     failures: u32,
-    destinations: &Prefix,
+    destinations: List<Prefix>,
 ) -> Result<AllLimits, AllocError> {
     let mut all = no_limits(alloc, net)?;
-    let origins = count_origins(net, destinations);
-    let Some(depth) = depth_for(origins, net.adjacencies().len() as u64, failures) else {
-        fill_even(alloc, net, &mut all, failures)?;
-        return Ok(all);
-    };
-    add_origins(alloc, net, &mut all, destinations, depth)?;
-    if depth < failures.min(MOST_FAILED) {
-        fill_few(alloc, net, &mut all, failures)?;
+    let origins = count_origins(net, destinations.as_slice());
+    match depth_for(origins, net.adjacencies().len() as u64, failures) {
+        None => fill_even(alloc, net, &mut all, failures)?,
+        Some(depth) => fill_by_costs(
+            alloc,
+            net,
+            &mut all,
+            failures,
+            destinations.as_slice(),
+            depth,
+        )?,
     }
-    begin_all(&mut all)?;
-    close_all(net, &mut all)?;
-    end_all(&mut all)?;
+    all.destinations = destinations;
     Ok(all)
 }

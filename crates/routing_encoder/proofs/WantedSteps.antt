@@ -1,5 +1,5 @@
 -- Real tables of the shapes of a routing, and what they want of OSPF at its places.
-use Rattle.std.proofs.Common.{◌≡◌, ℕ, zero, suc, ◌+◌, ◌-◌, ◌*◌, ◌/◌, ◌<◌, ◌≤◌, ◌&&◌, ◌||◌, Bool, true, false, not, List, [], ◌∷◌}
+use Rattle.std.proofs.Common.{◌≡◌, ℕ, zero, suc, ◌+◌, ◌*◌, ◌<◌, ◌≤◌, ◌&&◌, ◌||◌, Bool, true, false, not, List, [], ◌∷◌}
 use Rattle.std.proofs.Common.{length, get_or, map, drop, Option, Some, None, refl, sym, ap, ap₂, subst, arith}
 use Rattle.std.proofs.Common.{◌∙◌}
 use Rattle.std.specs.Prelude.{AllPairs, option_and_then, option_map, slice_get, if◌then◌else◌}
@@ -10,12 +10,10 @@ use Rattle.std.proofs.lemmas.Grind.{common_steps}
 use Rattle.std.proofs.lemmas.List.{drop_all, drop_more, length-map}
 use Rattle.std.proofs.lemmas.List.FromFn.{length-range_with_len}
 use Rattle.std.proofs.lemmas.Option.{same_Some, slice_get-map, slice_get_within}
-use Rattle.std.proofs.Math.Nat.{add-mul-div_left, div-eq_of_lt, zero-add}
-use Rattle.std.proofs.lemmas.Bool.{and_parts, eq-eqb}
-use Rattle.std.proofs.lemmas.Nat.{pow_pos}
+use Rattle.std.proofs.lemmas.Bool.{and_parts}
 use Rattle.mw_text.specs.declared.address.Addr.{Addr}
 use Rattle.mw_text.specs.declared.address.Prefix.{Prefix}
-use Rattle.mw_text.specs.Address.{block, covers, prefix_at}
+use Rattle.mw_text.specs.Address.{prefix_at}
 use Rattle.mw_text.proofs.Lists.{all_found}
 use Rattle.ios_ast.specs.declared.file.File.{File}
 use Rattle.route_record.specs.declared.Failures.{Failures}
@@ -34,7 +32,6 @@ use Rattle.plan_places.specs.declared.places.Place.{Place}
 use Rattle.plan_places.specs.Places.{IsBefore, has_place, is_at, item_at, place, places_below}
 use Rattle.plan_places.specs.Plans.{lens_of}
 use Rattle.plan_places.specs.Tables.{all_hold, empty_slot}
-use Rattle.question_lang.specs.declared.question.PacketSet.{PacketSet}
 use Rattle.question_lang.specs.declared.question.Question.{Question}
 use Rattle.slot_places.specs.declared.rooms.Room.{Room}
 use Rattle.slot_places.specs.Rooms.{can_be_used, room_among, room_for, rooms_of}
@@ -66,9 +63,7 @@ use Rattle.bgp_worlds.proofs.BgpSound.{open_there, slot_here}
 use Rattle.bgp_worlds.proofs.Placed.{made, not_made}
 use Rattle.bgp_worlds.proofs.SameShapes.{learnt_shape}
 use Rattle.routing_worlds.specs.Worlds.{announced_by, bgps_read_from, dynamic_of, failures_read_from, open_with, opens_from, opens_with, shape_world_from}
-use Rattle.world_variables.specs.Packets.{field_width, packet_from}
-use Rattle.failed_links.specs.Rows.{number_from}
-use Rattle.failed_links.proofs.Reading.{number_from-below}
+use Rattle.world_variables.specs.Packets.{packet_from}
 use Rattle.routing_worlds.proofs.MadeAgain.{not_back}
 use Rattle.routing_encoder.specs.declared.frame.Frame.{Frame}
 use Rattle.routing_encoder.specs.declared.opening.OpenRouting.{OpenRouting}
@@ -538,14 +533,3 @@ held_as_read w files tracked question plan from t made real len short stands rea
     (ap (λ ps. are_wanted files question.packets.dst (shape_world_from files tracked question plan w.variable from) real ps
     (opens_from files tracked question plan w.variable from))
     (sym (places_are files tracked plan made.frame stands.frame)) ∙ all)))
-
--- the destination that is read is one of the question's
-pub destination_covered : (set : PacketSet) (v : ℕ → Bool) (from : ℕ) → covers set.dst (packet_from set v from).dst ≡ true
-unfolding packet_from
-destination_covered set v from =
-    let at : ℕ = from + field_width set.proto 8 + (32 - set.src.len) in
-    let low = number_from-below v at (32 - set.dst.len) in
-    eq-eqb _ _ (add-mul-div_left (number_from v at (32 - set.dst.len)) (set.dst.addr.0 / block set.dst.len)
-    (pow_pos (32 - set.dst.len))
-    ∙ ap (λ n. n + set.dst.addr.0 / block set.dst.len) (div-eq_of_lt low)
-    ∙ zero-add (set.dst.addr.0 / block set.dst.len))

@@ -124,14 +124,7 @@ fn sym_dearer_at(
         dst: &routing.packet.dst,
         len,
     };
-    let dearer = sym_dearer(
-        alloc,
-        terms,
-        &place,
-        world.tables,
-        &world.question.packets.dst,
-        world.limits,
-    )?;
+    let dearer = sym_dearer(alloc, terms, &place, world.tables, world.limits)?;
     Ok(dearer)
 }
 

@@ -16,6 +16,7 @@ mod possible;
 mod routes;
 mod routing;
 mod slots;
+mod sought;
 mod wanted;
 mod world;
 

@@ -26,6 +26,7 @@ ghost use Rattle.term_arith.specs.Bits.{ids_end};
 use crate::decided::tables_of;
 use crate::following::sym_all_following;
 use crate::slots::{Towards, is_used, place_at};
+use crate::sought::sought;
 use crate::world::OpenWorld;
 use net_model::Net;
 use ospf_equations::{AllLimits, SlotPlace, limits_of, sym_dynamic, sym_slot_holds};
@@ -301,7 +302,7 @@ pub fn sym_all_wanted(
         made.now.routing.frame.places (opens_from net.now.files net.now.tracked question.now plan.now w.variable
         from)) }
 {
-    let limits = limits_of(alloc, net, question.failures, &question.packets.dst)?;
+    let limits = limits_of(alloc, net, question.failures, sought(alloc, net, question)?)?;
     let tables = tables_of(net, made);
     let world = WorldTables {
         net,

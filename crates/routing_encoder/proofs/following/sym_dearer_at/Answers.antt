@@ -1,9 +1,7 @@
 use Rattle.std.proofs.Common.{◌*◌, arith, length, ap, ◌∙◌}
 use Rattle.route_record.specs.declared.TheConstants.{LENGTHS}
-use Rattle.mw_text.specs.Address.{covers}
-use Rattle.route_record.specs.declared.Packet.{Packet}
 use Rattle.routing_encoder.proofs.OpeningSteps.{places_are}
-use Rattle.routing_encoder.proofs.WantedSteps.{destination_covered, held_as_read, tables_stand}
+use Rattle.routing_encoder.proofs.WantedSteps.{held_as_read, tables_stand}
 use Rattle.routing_encoder.proofs.following.sym_dearer_at.Goals as goal
 
 pub returns-clause-value : goal.returns-clause-value
@@ -21,7 +19,5 @@ returns-clause-value c = λ w reads from real read shapes has all.
     (c.requires.long ∙ ap length (places_are files tracked plan made.frame stands.frame))
     (c.requires.lens ∙ stands.frame.lens) c.requires.routers c.requires.slots in
     c.in_ok-dearer.ensures.value w reads real stand (stand.long ∙ ap (λ n. LENGTHS * n) c.requires.routers)
-    (ap (covers question.packets.dst) (ap (λ (x : Packet). x.dst) read.packet)
-    ∙ destination_covered question.packets w.variable from)
     (held_as_read w files tracked question plan from c.args.terms.now made real c.args.len (omega (arith, short)) stands
     read has all)
