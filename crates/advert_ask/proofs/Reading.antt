@@ -8,12 +8,12 @@ use Rattle.mw_load.specs.Loading.{StopsAt}
 use Rattle.mw_outside.specs.Contents.{Contents}
 use Rattle.mw_outside.specs.Faults.{Rose}
 use Rattle.mw_text.specs.Reading.{following}
+use Rattle.mw_text.proofs.Found.{if_told, if_told_one}
 use Rattle.run_inputs.specs.declared.load.Stop.{Stop}
 use Rattle.run_inputs.specs.declared.load.Stop.TheVariants as stop
 use Rattle.run_inputs.specs.declared.text.Text.{Text}
 use Rattle.run_inputs.specs.Due.{Outcome, refused, text_of}
 use Rattle.run_inputs.specs.Loading.{OnStop, UnlessReadFault}
-use Rattle.run_inputs.proofs.Loading.{if_told, if_told_one}
 use Rattle.export_asks.specs.declared.ask.Ask.{Ask}
 use Rattle.advert_ask.specs.declared.loading.Loaded.{Loaded}
 use Rattle.asked_files.specs.Network.{in_order, network_of}

@@ -4,9 +4,9 @@ use Rattle.std.proofs.Common.{Option, Some, None, inl, inr, refl, sym, ap, subst
 use Rattle.std.specs.Prelude.{◌==◌, ◌&&◌, All, AllPairs, option_and_then, option_map, if◌then◌else◌}
 use Rattle.std.specs.List.{find}
 use Rattle.std.proofs.lemmas.Bool.{and_parts, eqb-true}
-use Rattle.std.proofs.lemmas.Bool.Decides.{nat_tests}
 use Rattle.std.proofs.lemmas.List.Elements.{All-append, All-cons, All-head, All-nil, All-tail, All-weaker}
 use Rattle.std.proofs.lemmas.List.Kept.{AllPairs-cons}
+use Rattle.mw_text.proofs.Numbers.{apart}
 use Rattle.net_interfaces.proofs.Pairs.{first, later, pairs_joined}
 use Rattle.route_record.specs.declared.Plan.{Plan}
 use Rattle.route_record.specs.declared.TheConstants.{LENGTHS}
@@ -92,9 +92,6 @@ pub lens_ascend : (plan : Plan) → Ascend (lens_of plan)
 lens_ascend plan = lens_up plan LENGTHS
 
 -- ---- what is found at a place
-
-apart : (a b : ℕ) → b < a → (a == b) ≡ false
-apart a b h = grind (arith, nat_tests)
 
 not_here : (p q : Place) (end len : ℕ) → IsBefore p q → is_at end len p ≡ true → is_at end len q ≡ false
 not_here p q end len (inl less) is =

@@ -1,6 +1,6 @@
 -- The shape of a path that may be announced is one of those that are rebuilt.
 use Rattle.std.proofs.Common.{◌≡◌, ℕ, suc, ◌+◌, ◌-◌, ◌≤◌, Bool, true, false, not, ◌||◌, List, [], ◌∷◌}
-use Rattle.std.proofs.Common.{length, map, filter, refl, sym, ap, subst, arith, ◌∙◌, if◌then◌else◌, get_or}
+use Rattle.std.proofs.Common.{length, map, refl, sym, ap, subst, arith, ◌∙◌, if◌then◌else◌, get_or}
 use Rattle.std.proofs.Common.{le-leb}
 use Rattle.std.specs.Prelude.{◌==◌, nat_lt, eqb}
 use Rattle.std.specs.Cmp.{IsEquivalence}
@@ -16,6 +16,7 @@ use Rattle.std.proofs.lemmas.Map.Made.{length-le_from_is_member}
 use Rattle.ios_ast.specs.Deciding.{carries}
 use Rattle.ios_ast.specs.Paths.{last_of}
 use Rattle.net_parts.specs.World.{ascends}
+use Rattle.net_parts.proofs.TrackedUp.{kept_ascends}
 use Rattle.route_shapes.specs.Shapes.{PathShape}
 use Rattle.announced_shapes.specs.Paths.{IsPathShape, taken, is_end, between}
 use Rattle.announced_shapes.specs.Paths.{are_marked, is_as_number, ends_count}
@@ -75,23 +76,6 @@ taken_ascends (t ∷ ts) (true ∷ bs) up =
     let both = and_parts (list_all (nat_lt t) ts) (ascends ts) up in
     and_from _ _ (all_taken (nat_lt t) ts bs both.0) (taken_ascends ts bs both.1)
 taken_ascends (t ∷ ts) (false ∷ bs) up = taken_ascends ts bs (and_parts (list_all (nat_lt t) ts) (ascends ts) up).1
-
-pub all_kept : (p q : ℕ → Bool) (ts : List ℕ) → list_all p ts ≡ true → list_all p (filter q ts) ≡ true
-all_kept p q [] all = refl
-all_kept p q (t ∷ ts) all = by (q t) refl (all_kept p q ts (and_parts (p t) (list_all p ts) all).1) where
-  by : (b : Bool) → q t ≡ b → list_all p (filter q ts) ≡ true → list_all p (filter q (t ∷ ts)) ≡ true
-  by true e rest = rw e (and_from _ _ (and_parts (p t) (list_all p ts) all).0 rest)
-  by false e rest = rw e rest
-
-kept_ascends : (q : ℕ → Bool) (ts : List ℕ) → ascends ts ≡ true → ascends (filter q ts) ≡ true
-kept_ascends q [] up = refl
-kept_ascends q (t ∷ ts) up =
-    let both = and_parts (list_all (nat_lt t) ts) (ascends ts) up in by (q t) refl both.0 (kept_ascends q ts both.1)
-  where
-    by : (b : Bool) → q t ≡ b → list_all (nat_lt t) ts ≡ true → ascends (filter q ts) ≡ true →
-        ascends (filter q (t ∷ ts)) ≡ true
-    by true e above rest = rw e (and_from _ _ (all_kept (nat_lt t) q ts above) rest)
-    by false e above rest = rw e rest
 
 -- ---- marks of a path
 

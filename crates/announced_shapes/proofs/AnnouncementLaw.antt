@@ -1,16 +1,16 @@
 -- What an external peer may announce has one of the shapes, and of each there is an announcement.
-use Rattle.std.proofs.Common.{◌≡◌, ℕ, ◌^◌, ◌≤◌, Bool, true, false, List, [], ◌∷◌, length, Option, Some, None}
+use Rattle.std.proofs.Common.{◌≡◌, ℕ, ◌^◌, ◌≤◌, true, false, List, [], ◌∷◌, length, Option, Some, None}
 use Rattle.std.proofs.Common.{refl, sym, ap, subst, arith, ◌∙◌, ltb-true, lt-ltb, leb-true, le-leb}
 use Rattle.std.specs.Prelude.{◌==◌, ◌&&◌, nat_lt, nat_le, is_some, slice_get, All, IfSome}
 use Rattle.std.specs.List.{list_all}
 use Rattle.std.specs.Option.{option_map_or}
 use Rattle.std.proofs.lemmas.Bool.{and_from, and_parts, eqb-true, eq-eqb}
 use Rattle.std.proofs.lemmas.List.{length-map}
-use Rattle.std.proofs.lemmas.List.Elements.{All-head, All-tail, All-cons, All-nil}
 use Rattle.ios_ast.specs.declared.bgp.Neighbour.{Neighbour}
 use Rattle.ios_ast.specs.declared.file.File.{File}
 use Rattle.ios_ast.specs.Deciding.{carries}
 use Rattle.mw_text.proofs.Lists.{all_found}
+use Rattle.mw_text.proofs.Found.{all_pass, each_passes}
 use Rattle.route_record.specs.declared.Announcement.{Announcement}
 use Rattle.route_record.specs.declared.TheConstants.{LENGTHS}
 use Rattle.route_record.specs.declared.tracked.Tracked.{Tracked}
@@ -31,18 +31,6 @@ use Rattle.announced_shapes.proofs.PathLaw.{path_again, taken_marks}
 use Rattle.announced_shapes.proofs.PlainShape.{plain, plain_shape}
 
 -- ---- tests of all of some numbers
-
-all_pass : (p : ℕ → Bool) (P : ℕ → Type 0) → ((n : ℕ) → p n ≡ true → P n) → (xs : List ℕ) → list_all p xs ≡ true →
-    All P xs
-all_pass p P each [] all = All-nil P
-all_pass p P each (x ∷ xs) all =
-    let both = and_parts (p x) (list_all p xs) all in All-cons P x xs (each x both.0) (all_pass p P each xs both.1)
-
-each_passes : (p : ℕ → Bool) (P : ℕ → Type 0) → ((n : ℕ) → P n → p n ≡ true) → (xs : List ℕ) → All P xs →
-    list_all p xs ≡ true
-each_passes p P each [] all = refl
-each_passes p P each (x ∷ xs) all =
-    and_from _ _ (each x (All-head P x xs all)) (each_passes p P each xs (All-tail P x xs all))
 
 is_number : (n : ℕ) → is_as_number n ≡ true → IsAsNumber n
 is_number n h = let both = and_parts (nat_lt 0 n) (is_word n) h in (ltb-true 0 n both.0, ltb-true n (2 ^ 32) both.1)

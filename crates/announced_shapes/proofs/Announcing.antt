@@ -5,12 +5,12 @@ use Rattle.std.specs.Prelude.{◌==◌, nat_lt, nat_le}
 use Rattle.std.specs.List.{list_all}
 use Rattle.std.proofs.lemmas.Bool.{and_from, and_parts, eq-eqb, eqb-true}
 use Rattle.std.proofs.lemmas.List.Folds.{list_all-append}
+use Rattle.mw_text.proofs.Numbers.{all_kept}
 use Rattle.net_parts.specs.Exports.{most_numbers}
 use Rattle.route_shapes.specs.Shapes.{PathShape}
 use Rattle.announced_shapes.specs.Paths.{IsPathShape, after_first, is_path_shape, taken, is_end, between}
 use Rattle.announced_shapes.specs.Paths.{rebuilt_path, are_marked}
 use Rattle.announced_shapes.specs.Paths.{is_as_number, ends_count, has_path_length, has_path_ends, has_path_marks}
-use Rattle.announced_shapes.proofs.Announced.{all_kept}
 
 pub tested : (asn : ℕ) (tracked : List ℕ) (s : PathShape) → is_path_shape asn tracked s ≡ true →
     IsPathShape asn tracked s

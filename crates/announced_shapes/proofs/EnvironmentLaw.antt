@@ -1,9 +1,8 @@
 -- Environments and their shapes.
-use Rattle.std.proofs.Common.{◌≡◌, true, List, [], ◌∷◌, map, refl, arith}
-use Rattle.std.specs.Prelude.{All, AllPairs}
-use Rattle.std.proofs.lemmas.List.Kept.{AllPairs-cons}
+use Rattle.std.proofs.Common.{◌≡◌, true, List, [], ◌∷◌, map, refl}
+use Rattle.std.specs.Prelude.{All}
 use Rattle.std.proofs.lemmas.List.Elements.{All-cons, All-head, All-nil, All-tail}
-use Rattle.net_interfaces.proofs.Pairs.{first, later}
+use Rattle.net_interfaces.proofs.Pairs.{later, pairs_map}
 use Rattle.ios_ast.specs.declared.file.File.{File}
 use Rattle.route_record.specs.declared.Environment.{Environment}
 use Rattle.route_record.specs.declared.tracked.Tracked.{Tracked}
@@ -20,15 +19,6 @@ all_map : {X Y : Type 0} (P : X → Type 0) (Q : Y → Type 0) (f : X → Y) →
 all_map P Q f each [] all = All-nil Q
 all_map P Q f each (x ∷ xs) all =
     All-cons Q (f x) (map f xs) (each x (All-head P x xs all)) (all_map P Q f each xs (All-tail P x xs all))
-
--- what is so of each two is so of what is made of them
-pairs_map : {X Y : Type 0} (P : X → X → Type 0) (Q : Y → Y → Type 0) (f : X → Y) →
-    ((a b : X) → P a b → Q (f a) (f b)) → (xs : List X) → AllPairs P xs → AllPairs Q (map f xs)
-pairs_map P Q f each [] pairs = λ i j d below within. absurd (omega (arith, within))
-pairs_map P Q f each (x ∷ xs) pairs =
-    AllPairs-cons Q (f x) (map f xs)
-    (all_map (P x) (Q (f x)) f (λ y is. each x y is) xs (first P x xs pairs))
-    (pairs_map P Q f each xs (later P x xs pairs))
 
 all_again : (files : List File) (tracked : Tracked) (shapes : List ShapeAnnouncement) →
     ascends tracked.numbers ≡ true → ascends tracked.communities ≡ true →

@@ -6,14 +6,14 @@ use Rattle.std.specs.List.{list_any}
 use Rattle.std.proofs.Math.Bool.{or-false}
 use Rattle.std.proofs.lemmas.List.{append-nil, take_all}
 use Rattle.std.proofs.lemmas.List.Folds.{list_any-append}
+use Rattle.mw_text.proofs.Found.{take_at}
 use Rattle.mw_load.specs.declared.ended.Ended.{Ended}
-use Rattle.mw_outside.specs.Taken.{Takes, TakesPart, part_more, part_of_all, takes_more}
-use Rattle.resolution_check.proofs.Variables.{take_at}
+use Rattle.mw_outside.specs.Taken.{Takes, TakesPart, part_more, part_of_all, takes_more, takes_none}
 use Rattle.run_answers.specs.declared.seen.Seen.{Seen}
 use Rattle.asked_files.specs.Ending.{NoWriteFailed, Writes, ended_by}
 use Rattle.asked_files.specs.Answering.{Answering, AnswersSo, AreAnswered, AreBegun, AreRight, IsCutShort, IsPut, TellLast}
 use Rattle.asked_files.specs.Answering.{texts_of}
-use Rattle.asked_files.proofs.Endings.{last_more, takes_none}
+use Rattle.asked_files.proofs.Endings.{last_more}
 
 -- right answers to these asks: their whole text and their sections stand, deciders tell the bumps of the last section, and
 -- it is known whether some is broken, and whether some is unknown

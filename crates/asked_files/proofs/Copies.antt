@@ -2,7 +2,7 @@
 use Rattle.std.proofs.Common.{◌≡◌, ◌∙◌, ℕ, ◌+◌, ◌<◌, ◌≤◌, List, [], ◌∷◌, ◌++◌, length, map, take, get_or, ap, sym, arith}
 use Rattle.std.proofs.lemmas.List.{length-map, map-append, take_all}
 use Rattle.mw_text.proofs.Reading.{take-read}
-use Rattle.run_inputs.proofs.Loading.{read-at}
+use Rattle.mw_text.proofs.Found.{read-at}
 
 -- one name more is copied
 pub copied_more : {S N : Type 0} (f : S → List ℕ) (g : N → List ℕ) (all : List S) (names : List N) (i : ℕ) (s : S)

@@ -1,15 +1,8 @@
 -- What is taken and told of answers one after another, and faults of them.
-use Rattle.std.proofs.Common.{◌≡◌, ℕ, List, [], ◌∷◌, ◌++◌, Option, Some, None, refl, ap, sym, subst, inl, inr}
+use Rattle.std.proofs.Common.{◌≡◌, ℕ, List, [], ◌∷◌, ◌++◌, Option, Some, refl, subst, inl, inr}
 use Rattle.std.specs.Prelude.{◌⊎◌}
 use Rattle.std.specs.List.{last_or}
-use Rattle.std.proofs.lemmas.List.{append-nil}
 use Rattle.mw_outside.specs.Faults.{Rose}
-use Rattle.mw_outside.specs.Taken.{Takes}
-
--- nothing is taken of nothing
-pub takes_none : (taken : Option (List ℕ)) → Takes taken taken []
-takes_none None = tt
-takes_none (Some bytes) = ap Some (sym (append-nil bytes))
 
 -- of one more it is the last
 pub last_more : {A : Type 0} (o : Option A) (xs : List A) (x : A) → last_or o (xs ++ x ∷ []) ≡ Some x

@@ -8,8 +8,8 @@ use Rattle.mw_load.specs.Loading as load
 use Rattle.mw_load.specs.Refused.{Refusal}
 use Rattle.mw_outside.specs.Contents.{Contents, TellsOnly}
 use Rattle.mw_text.specs.Reading.{following}
+use Rattle.mw_text.proofs.Found.{if_told_one}
 use Rattle.run_inputs.specs.Due.{refused}
-use Rattle.run_inputs.proofs.Loading.{if_told_one}
 use Rattle.asked_files.specs.Network.{loaded_as, network_of, refusal_line}
 
 pub network_read : (told : Option Contents) (names : List (List ℕ)) (files : List File) →

@@ -1,5 +1,5 @@
 -- Candidates, one after another.
-use Rattle.std.proofs.Common.{◌≡◌, ℕ, ◌+◌, ◌≤◌, ◌<◌, Bool, true, false, max, List, [], ◌∷◌, ◌++◌, drop, filter}
+use Rattle.std.proofs.Common.{◌≡◌, ℕ, ◌+◌, ◌≤◌, ◌<◌, Bool, true, false, List, [], ◌∷◌, ◌++◌, drop, filter}
 use Rattle.std.proofs.Common.{length, get_or, Option, Some, None, refl, sym, ap, subst, ◌∙◌, arith, if◌then◌else◌, append-nil}
 use Rattle.std.specs.Prelude.{IfOk, OnOk, option_and_then, slice_get}
 use Rattle.std.proofs.Common.{Result, Ok, Err}
@@ -21,18 +21,13 @@ use Rattle.term_store.specs.Terms.{Store}
 use Rattle.term_store.specs.Reading.{Builds}
 use Rattle.sym_policy.specs.declared.records.SymBgp.{SymBgp}
 use Rattle.sym_bgp.specs.declared.parts.SymCand.{SymCand}
-use Rattle.sym_bgp.specs.Candidates.{HaveMarksOf, SameMarks, candidate_end, candidates_end}
+use Rattle.sym_bgp.specs.Candidates.{HaveMarksOf, SameMarks}
 use Rattle.sym_bgp.specs.Joined.{HasMarks}
 use Rattle.sym_rib.specs.Into.{HasTracked}
 use Rattle.sym_rib.proofs.OneEach.{filter_map_push}
 use Rattle.bgp_equations.specs.Beside.{HaveAllMarks}
 
 -- ---- one more
-
-pub cands_end_push : (cs : List SymCand) (c : SymCand) →
-    candidates_end (cs ++ c ∷ []) ≡ max (candidates_end cs) (candidate_end c)
-cands_end_push [] c = omega arith
-cands_end_push (x ∷ cs) c = let rest = cands_end_push cs c in omega (arith, rest)
 
 pub marks_push : (tracked : Tracked) (cs after : List SymCand) (c : SymCand) → after ≡ cs ++ c ∷ [] →
     HaveAllMarks tracked cs → HasMarks tracked c.rec → HaveAllMarks tracked after

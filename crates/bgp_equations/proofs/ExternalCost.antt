@@ -6,8 +6,8 @@ use Rattle.std.specs.Prelude.{All, Contains, option_and_then, position, unwrap_o
 use Rattle.std.specs.List.{find, list_any}
 use Rattle.std.specs.Option.{option_map_or}
 use Rattle.std.proofs.lemmas.Bool.{and_from, and_parts, eqb-true}
-use Rattle.std.proofs.lemmas.List.Elements.{All-append, All-cons, All-contains_itself, All-filter, All-head}
-use Rattle.std.proofs.lemmas.List.Elements.{All-nil, All-tail, All-weaker, filter_passes}
+use Rattle.std.proofs.lemmas.List.Elements.{All-append, All-cons, All-contains_itself, All-filter}
+use Rattle.std.proofs.lemmas.List.Elements.{All-nil, All-weaker, filter_passes}
 use Rattle.std.proofs.lemmas.List.Folds.{Any-from_list_any}
 use Rattle.std.proofs.lemmas.Option.{same_Some, slice_get-map}
 use Rattle.std.proofs.Math.Bool.{or-true}
@@ -15,6 +15,7 @@ use Rattle.mw_text.proofs.Lists.{all_found}
 use Rattle.mw_text.specs.Members.{In}
 use Rattle.net_parts.proofs.LeastWalks.{contains-in}
 use Rattle.mw_text.specs.Address.{covers}
+use Rattle.mw_text.proofs.Found.{all_find, mapped}
 use Rattle.ios_ast.specs.declared.bgp.Bgp.{Bgp}
 use Rattle.ios_ast.specs.declared.bgp.Neighbour.{Neighbour}
 use Rattle.ios_ast.specs.declared.file.File.{File}
@@ -35,22 +36,12 @@ use Rattle.net_parts.specs.Sessions.{end_of, ends_of, far_of, has_session, is_ex
 use Rattle.net_parts.specs.Sessions.{peering, peerings, peerings_from, peerings_of, peerings_routers, sessions}
 use Rattle.net_parts.specs.Sessions.{speaking, speaks_from}
 use Rattle.net_parts.specs.World.{is_up}
-use Rattle.rebuilt_routes.proofs.Options.{mapped}
 
 -- ---- the neighbour line of a session, and the interface from which its router speaks
 
 -- one of these interfaces, of that router
 abbrev IsOwn : List Addressed → ℕ → Addressed → Type 0
 IsOwn all router x = Contains all x × ((x.id.router == router) ≡ true)
-
-found_has : {X : Type 0} (P : X → Type 0) (t : X → Bool) (xs : List X) (x : X) → All P xs → find t xs ≡ Some x → P x
-found_has P t [] x all found = absurd cc
-found_has {X} P t (y ∷ ys) x all found =
-    by (t y) found (found_has P t ys x (All-tail P y ys all))
-  where
-    by : (b : Bool) → (if b then Some y else find t ys) ≡ Some x → (find t ys ≡ Some x → P x) → P x
-    by true is rest = subst P (same_Some y x is) (All-head P y ys all)
-    by false is rest = rest is
 
 -- a line among some, and the router's own interface from which it speaks
 record IsLine (all : List Addressed) (router : ℕ) (lines : List Neighbour) (a : Peering) : Type 0 where
@@ -85,7 +76,7 @@ lines_from all own router file asn at (n ∷ rest) lines owns behind =
           line = n;
           there = place;
           named = refl;
-          own = found_has (IsOwn all router) (speaks_from file n) own source owns is;
+          own = all_find (IsOwn all router) (speaks_from file n) own source owns is;
         })
         (All-nil (IsLine all router lines))
 

@@ -6,6 +6,7 @@ use Rattle.std.proofs.lemmas.Option.{same_Some}
 use Rattle.std.proofs.lemmas.Map.Keys.{any_passes_from_place}
 use Rattle.mw_text.specs.declared.address.Addr.{Addr}
 use Rattle.mw_text.specs.declared.address.Prefix.{Prefix}
+use Rattle.mw_text.proofs.Found.{mapped}
 use Rattle.ios_ast.specs.declared.bgp.Neighbour.{Neighbour}
 use Rattle.ios_ast.specs.declared.file.File.{File}
 use Rattle.route_record.specs.declared.Failures.{Failures}
@@ -29,7 +30,7 @@ use Rattle.bgp_shapes.proofs.LengthLaw.{if_then}
 use Rattle.ios_ast.specs.declared.bgp.Bgp.{Bgp}
 use Rattle.net_parts.specs.Exports.{most_numbers, passes_prefixes}
 use Rattle.route_shapes.specs.Shapes.{RouteShape, shape_passes_paths, shape_through_map}
-use Rattle.rebuilt_routes.proofs.Options.{if_true, mapped}
+use Rattle.rebuilt_routes.proofs.Options.{if_true}
 use Rattle.sym_policy.specs.declared.records.SymBgp.{SymBgp}
 use Rattle.sym_policy.specs.Held.{internal_route}
 use Rattle.sym_bgp.specs.Joined.{HasMarks}

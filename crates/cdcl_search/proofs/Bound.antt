@@ -27,6 +27,7 @@ use Rattle.resolution_check.proofs.Chains.{resolved_has}
 use Rattle.resolution_check.proofs.Goods.{by_steps, each_push, clause_given-push, any-push, given_from_deleted}
 use Rattle.resolution_check.proofs.Literals.{all_at, all_from}
 use Rattle.resolution_check.proofs.Resolvents.{has-resolvent}
+use Rattle.resolution_check.proofs.Goods.{given_of_held}
 use Rattle.cdcl_search.specs.declared.outcome.Outcome.{Outcome}
 use Rattle.cdcl_search.specs.declared.outcome.Outcome.TheVariants.{Unsat, Sat, Unknown}
 use Rattle.cdcl_search.specs.Outcomes.{IsSearchLog, IsLogged, OnUnknown}
@@ -84,13 +85,6 @@ no_runs deleting (Delete id ∷ es) h = absurd (false≢true (sym h))
 no_runs deleting (End ∷ es) h = let rest = no_runs false es h in omega arith
 
 -- ---- one entry more: clauses that are held
-
-pub given_of_held : (es : List Entry) (id : ℕ) (c : Clause) → clause_held es id ≡ Some c → clause_given es id ≡ Some c
-given_of_held es id c there = by (is_deleted es id) (clause_given es id) there
-  where
-    by : (b : Bool) (o : Option Clause) → cond b None o ≡ Some c → o ≡ Some c
-    by true o h = absurd (cc)
-    by false o h = h
 
 pub held_both : (es : List Entry) (e : Entry) (id : ℕ)
     → clause_held (es ++ e ∷ []) id

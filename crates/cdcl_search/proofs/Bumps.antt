@@ -13,9 +13,9 @@ use Rattle.resolution_check.specs.declared.log.Entry.{Entry}
 use Rattle.resolution_check.specs.declared.log.Entry.TheVariants.{Input, Add, Delete, End}
 use Rattle.resolution_check.specs.Entries.{addition_count, additions_in}
 use Rattle.std.proofs.lemmas.List.Sums.{sum_by-cons}
+use Rattle.mw_text.proofs.Found.{take_at}
 use Rattle.cdcl_search.specs.Outcomes.{input_entries}
 use Rattle.cdcl_search.specs.Turns.{AreUntold, IsTurn, TellBumps, TellsAt, TellsMore, bumps_of, vars_of}
-use Rattle.resolution_check.proofs.Variables.{take_at}
 use Rattle.watched_search.proofs.Places.{slice_get-set_other, slice_get-set_same}
 
 -- inputs are no additions

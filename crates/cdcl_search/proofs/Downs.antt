@@ -20,8 +20,9 @@ use Rattle.resolution_check.specs.Earned.{ends_deleting, gives_input, lit_count,
 use Rattle.resolution_check.specs.Earned.{GoesUp, IsEarned, MayDelete, MayFollow}
 use Rattle.resolution_check.specs.Text.{HasText, line_of}
 use Rattle.resolution_check.proofs.Accepted.{count-push}
-use Rattle.resolution_check.proofs.Goods.{any-push, clause_given-push, each_push}
+use Rattle.resolution_check.proofs.Goods.{any-push, clause_given-push, each_push, given_of_held}
 use Rattle.resolution_check.proofs.Literals.{same_lit}
+use Rattle.resolution_check.proofs.LogLines.{text-push}
 use Rattle.clause_arena.specs.Store.{Store}
 use Rattle.clause_arena.specs.Held.{held_in}
 use Rattle.watched_search.specs.Sets.{GivesSets}
@@ -30,8 +31,7 @@ use Rattle.cdcl_search.specs.Outcomes.{adds_or_deletes, input_entries, IsCut, Is
 use Rattle.cdcl_search.specs.Going.{IsGoing}
 use Rattle.cdcl_search.specs.Reductions.{CutsDown, CutsReduced, GoesDown, GoesOnReduced, IsReducing}
 use Rattle.cdcl_search.specs.Turns.{bumps_of, vars_of}
-use Rattle.cdcl_search.proofs.Bound.{given_of_held}
-use Rattle.cdcl_search.proofs.Logs.{text-push, texts_push}
+use Rattle.cdcl_search.proofs.Logs.{texts_push}
 use Rattle.cdcl_search.proofs.Reduced.{HasThree}
 use Rattle.cdcl_search.proofs.Runs.{ends-push, runs-push}
 

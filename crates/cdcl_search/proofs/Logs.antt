@@ -11,7 +11,6 @@ use Rattle.std.proofs.lemmas.Bool.{and_parts, ltb-true, cases_Bool, eqb-true, fa
 use Rattle.std.proofs.lemmas.Bool.{false_from_ne_true}
 use Rattle.std.proofs.lemmas.List.{append-nil, length-take}
 use Rattle.std.proofs.lemmas.Option.{slice_get_within}
-use Rattle.std.proofs.lemmas.Grind.{flat_map-append}
 use Rattle.mw_outside.specs.Taken.{Takes, TakesPart, takes_more, part_of_all, part_of_none, part_stops, part_more}
 use Rattle.resolution_check.specs.declared.log.Lit.{Lit}
 use Rattle.resolution_check.specs.declared.log.Clause.{Clause}
@@ -27,10 +26,12 @@ use Rattle.resolution_check.proofs.Truth.{unsatisfiable}
 use Rattle.resolution_check.specs.Earned.{AllEarned, IsEarned, IsEarnedAddition, IsSpaced, MayFollow, IsAscending}
 use Rattle.resolution_check.specs.Earned.{GoesUp, IsAbove, gives_input, run_count}
 use Rattle.std.proofs.Math.Bool.{or-false}
+use Rattle.mw_text.proofs.Found.{take_at}
 use Rattle.resolution_check.specs.Clauses.{is_below, resolvent}
 use Rattle.resolution_check.specs.Text.{line_of, log_text, HasText}
 use Rattle.resolution_check.proofs.Goods.{each_push, clause_given-push, any-push, given_from_deleted}
 use Rattle.resolution_check.proofs.Accepted.{count-push}
+use Rattle.resolution_check.proofs.LogLines.{text-append, text-push}
 use Rattle.clause_arena.specs.Held.{clause_numbered}
 use Rattle.watched_search.specs.Sets.{AreSameSets, IsAddition}
 use Rattle.watched_search.specs.Starts.{numbered_from}
@@ -43,7 +44,6 @@ use Rattle.cdcl_search.specs.Going.{IsGoing, IsRefuted}
 use Rattle.cdcl_search.specs.Turns.{AreUntold, IsTurn, TellBumps, TellsAt, vars_of}
 use Rattle.cdcl_search.proofs.Bumps.{bumps_more, untold_inputs}
 use Rattle.cdcl_search.proofs.Runs.{runs-push}
-use Rattle.resolution_check.proofs.Variables.{take_at}
 
 -- ---- what has a text
 
@@ -111,12 +111,6 @@ inputs-append id (c ∷ cs) ds =
     let moved : (id + 1) + length cs ≡ id + length (c ∷ cs) = omega arith in
     ap (λ es. Input id c ∷ es)
     (inputs-append (id + 1) cs ds ∙ ap (λ k. input_entries (id + 1) cs ++ input_entries k ds) moved)
-
-pub text-append : (es ds : List Entry) → log_text (es ++ ds) ≡ log_text es ++ log_text ds
-text-append es ds = flat_map-append line_of es ds
-
-pub text-push : (es : List Entry) (e : Entry) → log_text (es ++ e ∷ []) ≡ log_text es ++ line_of e
-text-push es e = text-append es (e ∷ []) ∙ ap (λ t. log_text es ++ t) (append-nil (line_of e))
 
 -- the inputs so far and one more
 input_next : (cs : List Clause) (at : ℕ) (c : Clause) → slice_get cs at ≡ Some c

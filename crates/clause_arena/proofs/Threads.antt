@@ -1,6 +1,6 @@
 -- Lists in words, and what a write does to them.
 use Rattle.std.specs.Prelude.{ℕ, zero, suc, ◌≡◌, ◌≢◌, ◌<◌, ◌≤◌, ◌⊎◌, List, [], ◌∷◌, length, true, false, refl}
-use Rattle.std.specs.List.{IsDistinct, AllByRecursion}
+use Rattle.std.specs.List.{IsDistinct}
 use Rattle.std.proofs.Common.{sym, ◌∙◌, ap, subst, inl, inr, arith, cond}
 use Rattle.std.proofs.lemmas.Bool.{cases_Bool, eqb-false, ne_eqb}
 use Rattle.std.proofs.Math.Dec.{eqb}
@@ -9,6 +9,7 @@ use Rattle.std.proofs.lemmas.Map.Steps.{length-le_from_distinct_below}
 use Rattle.clause_arena.specs.Links.{word, Threads, links, places, after, cut, first}
 use Rattle.mw_text.specs.Members.{In}
 use Rattle.mw_text.proofs.Lists.{in-from_any}
+use Rattle.mw_text.proofs.Numbers.{apart_from}
 
 -- ---- what a list is
 
@@ -53,10 +54,6 @@ off_own f p ps t i =
     omega (arith, b.shorter)
 
 -- ---- the list as it is computed
-
-apart_from : (p : ℕ) (xs : List ℕ) → (In p xs → ⊥) → AllByRecursion (λ y. eqb p y ≡ false) xs
-apart_from p [] out = tt
-apart_from p (x ∷ xs) out = (ne_eqb p x (λ e. out (inl e)), apart_from p xs (λ i. out (inr i)))
 
 distinct : (f : ℕ → ℕ) (at : ℕ) (xs : List ℕ) → Threads f at xs → IsDistinct eqb xs
 unfolding IsDistinct

@@ -6,7 +6,7 @@ use Rattle.std.specs.List.{list_all}
 use Rattle.std.proofs.lemmas.Bool.{and_parts, ltb-true}
 use Rattle.std.proofs.lemmas.List.{get_or-map, length-map}
 use Rattle.std.proofs.lemmas.List.Elements.{All-append, All-cons, All-contains, All-contains_itself, All-filter}
-use Rattle.std.proofs.lemmas.List.Elements.{All-head, All-map, All-nil, All-tail, All-weaker, Contains-get_or}
+use Rattle.std.proofs.lemmas.List.Elements.{All-head, All-nil, All-tail, All-weaker, Contains-get_or}
 use Rattle.std.proofs.lemmas.List.Elements.{filter_passes}
 use Rattle.std.proofs.lemmas.List.Kept.{AllPairs-cons}
 use Rattle.net_interfaces.proofs.Pairs.{first, later}
@@ -60,15 +60,6 @@ pairs_append R (x ∷ xs) ys one other across =
     (All-append (R x) xs ys (first R x xs one)
     (All-weaker (Contains ys) (R x) (λ y there. across x y (0, omega arith, refl) there) ys (All-contains_itself ys)))
     (pairs_append R xs ys (later R x xs one) other (λ z y here there. across z y (behind x xs z here) there))
-
--- of images, where the images of two items that stand so stand as Q says
-pub pairs_map : {X Y : Type 0} (R : X → X → Type 0) (Q : Y → Y → Type 0) (f : X → Y) →
-    ((a b : X) → R a b → Q (f a) (f b)) → (xs : List X) → AllPairs R xs → AllPairs Q (map f xs)
-pairs_map R Q f each [] up = λ i j d below within. absurd (omega (arith, within))
-pairs_map R Q f each (x ∷ xs) up =
-    AllPairs-cons Q (f x) (map f xs)
-    (All-map (Q (f x)) f xs (All-weaker (R x) (λ y. Q (f x) (f y)) (λ y. each x y) xs (first R x xs up)))
-    (pairs_map R Q f each xs (later R x xs up))
 
 -- of numbers below n, one below another
 abbrev pub IsBelow : ℕ → ℕ → ℕ → Type 0

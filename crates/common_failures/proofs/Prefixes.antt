@@ -1,23 +1,24 @@
 -- The prefixes of the links of a network, by their places.
-use Rattle.std.proofs.Common.{◌≡◌, ◌∙◌, ℕ, ◌<◌, ◌≤◌, ◌&&◌, inl, inr, true, List, [], Some, Contains}
-use Rattle.std.proofs.Common.{ap, arith, eqb, eq-eqb, get_or, length, map, refl, sym}
-use Rattle.std.specs.Prelude.{◌==◌, ◌≢◌, AllPairs, slice_get}
+use Rattle.std.proofs.Common.{◌≡◌, ◌∙◌, ℕ, ◌<◌, ◌≤◌, inl, inr, true, List, [], Some, Contains}
+use Rattle.std.proofs.Common.{ap, eqb, eq-eqb, get_or, length, map, refl, sym}
+use Rattle.std.specs.Prelude.{◌≢◌, AllPairs, slice_get}
 use Rattle.std.specs.Bool.{Decides}
 use Rattle.std.specs.Cmp.{IsEquivalence}
 use Rattle.std.proofs.lemmas.Bool.{both_ways, cases_order}
-use Rattle.std.proofs.lemmas.Bool.Decides.{nat_tests}
 use Rattle.std.proofs.lemmas.Map.Made.{IsDistinct-from_AllPairs, length-le_from_is_member}
 use Rattle.std.proofs.lemmas.Map.Views.{Contains-from_any, list_any-from_Contains}
 use Rattle.std.proofs.lemmas.Option.{get_or_from_slice_get, slice_get-get_or}
 use Rattle.mw_text.specs.declared.address.Prefix.{Prefix}
 use Rattle.mw_text.specs.Address.{same_prefix}
+use Rattle.mw_text.proofs.Numbers.{flipped}
+use Rattle.net_interfaces.proofs.Pairs.{pairs_map}
 use Rattle.ios_ast.specs.declared.file.File.{File}
 use Rattle.net_model.proofs.OneSubnet.{one_prefix}
 use Rattle.net_parts.specs.declared.links.Link.{Link}
 use Rattle.net_parts.specs.World.{links_of}
 use Rattle.net_parts.proofs.Ascending.{before-apart, links_ascend}
 use Rattle.paired_nets.proofs.Pairing.{self_prefix}
-use Rattle.common_failures.proofs.Items.{IsBelow, pairs_map}
+use Rattle.common_failures.proofs.Items.{IsBelow}
 
 -- ---- prefixes
 
@@ -25,13 +26,10 @@ use Rattle.common_failures.proofs.Items.{IsBelow, pairs_map}
 prefix_decides : (p q : Prefix) → Decides (same_prefix p q) (p ≡ q)
 prefix_decides p q = (one_prefix p q, λ same. ap (same_prefix p) (sym same) ∙ self_prefix p)
 
-turned : (a b k l : ℕ) → ((a == b) && (k == l)) ≡ ((b == a) && (l == k))
-turned a b k l = grind (arith, nat_tests)
-
 prefix_laws : IsEquivalence same_prefix
 prefix_laws = record {
   refl = self_prefix;
-  symm = λ p q. turned p.addr.0 q.addr.0 p.len q.len;
+  symm = λ p q. flipped p.addr.0 q.addr.0 p.len q.len;
   congr = λ p q r same. ap (λ s. same_prefix s r) (one_prefix p q same);
 }
 

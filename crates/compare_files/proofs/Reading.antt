@@ -9,6 +9,7 @@ use Rattle.mw_load.specs.Loading.{StopsAt}
 use Rattle.mw_outside.specs.Contents.{Contents, TellsOnly}
 use Rattle.mw_outside.specs.Faults.{Rose}
 use Rattle.mw_text.specs.Reading.{following}
+use Rattle.mw_text.proofs.Found.{if_told, if_told_one}
 use Rattle.net_model.specs.Kept.{Network}
 use Rattle.net_parts.specs.Tracked.{tracked_of}
 use Rattle.paired_nets.specs.declared.refused.PairRefused.{PairRefused}
@@ -19,7 +20,6 @@ use Rattle.run_inputs.specs.declared.load.Stop.TheVariants as stop
 use Rattle.run_inputs.specs.declared.text.Text.{Text}
 use Rattle.run_inputs.specs.Due.{Outcome, refused, text_of}
 use Rattle.run_inputs.specs.Loading.{OnStop, UnlessReadFault}
-use Rattle.run_inputs.proofs.Loading.{if_told, if_told_one}
 use Rattle.same_asks.specs.declared.same.Same.{Same}
 use Rattle.asked_files.specs.Network.{network_of}
 use Rattle.compare_words.specs.Words.{Asking, Sides}

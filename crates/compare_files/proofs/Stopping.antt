@@ -10,7 +10,7 @@ use Rattle.mw_load.specs.Loading.{AreThere, StopsAt, Unloaded, placed, refused, 
 use Rattle.mw_outside.specs.Contents.{Contents, TellsOnly, get}
 use Rattle.mw_text.proofs.Reading.{read-none}
 use Rattle.mw_text.specs.Reading.{following, in_turn, with_value}
-use Rattle.run_inputs.proofs.Loading.{if_told, if_told_one}
+use Rattle.mw_text.proofs.Found.{if_told, if_told_one}
 use Rattle.asked_files.specs.Network.{network_of}
 use Rattle.asked_files.proofs.Networks.{read_of}
 

@@ -4,10 +4,10 @@ use Rattle.std.proofs.Common.{arith, get_or, inl, inr, length, refl, subst, sym,
 use Rattle.std.specs.Prelude.{◌↔◌, not, slice_get}
 use Rattle.std.proofs.lemmas.Bool.{or_cases, or_left, or_right, false≢true}
 use Rattle.std.proofs.lemmas.Option.{same_Some, slice_get-get_or, slice_get_read, slice_get_within}
+use Rattle.mw_text.proofs.Numbers.{earlier}
 use Rattle.term_store.specs.declared.NodeId.{NodeId}
 use Rattle.term_store.specs.Terms.{Reading, at, differ}
 use Rattle.joined_terms.specs.Joining.{behind}
-use Rattle.packet_fates.proofs.Spreading.{earlier}
 use Rattle.compared_terms.specs.Ties.{DifferBelow, DiffersAt}
 
 -- ---- below one place more

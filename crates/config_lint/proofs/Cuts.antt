@@ -7,8 +7,8 @@ use Rattle.std.specs.List.{concat, flat_map, zip}
 use Rattle.bstr.specs.Text.{lines_of as pieces_in}
 use Rattle.bstr.proofs.lemmas.RestLemmas.{concat-lines_of}
 use Rattle.mw_text.proofs.Lists.{drop-read}
+use Rattle.mw_text.proofs.Found.{get_or-any}
 use Rattle.config_prepare.proofs.LineTexts.{IsLine, Ends, AreLines, are_lines_of, lines_of-made}
-use Rattle.config_prepare.proofs.Steps.{get_or-any}
 use Rattle.config_lint.specs.Asides.{cut_line, cut_lines}
 
 cuts_step : (pieces : List (List ℕ)) (flags : List Bool) (i : ℕ) (piece : List ℕ) (flag : Bool) (text : List ℕ) →

@@ -1,11 +1,12 @@
 -- One line, one piece, one kind after another.
-use Rattle.std.proofs.Common.{◌≡◌, ℕ, zero, suc, ◌+◌, ◌<◌, ◌≤◌, true, List, [], ◌∷◌, ◌++◌, length, drop, get_or, Option, refl, ap}
+use Rattle.std.proofs.Common.{◌≡◌, ℕ, suc, ◌+◌, ◌<◌, ◌≤◌, true, List, [], ◌∷◌, ◌++◌, length, drop, get_or, Option, refl, ap}
 use Rattle.std.proofs.Common.{sym, ◌∙◌, append_assoc, append-nil, arith, map}
 use Rattle.std.proofs.lemmas.List.{drop_all, get_or-map, length-map}
 use Rattle.std.specs.Borrow.{Bor}
 use Rattle.mw_text.specs.declared.words.Line.{Line}
 use Rattle.mw_text.specs.Words.{numbered, text_lines}
 use Rattle.mw_text.proofs.Lists.{drop-read}
+use Rattle.mw_text.proofs.Found.{get_or-any}
 use Rattle.bstr.specs.Text.{lines_of as pieces_in, without_terminator}
 use Rattle.ios_policy_reader.specs.Heads.{is_over}
 use Rattle.config_prepare.specs.declared.kinds.Kind.{Kind}
@@ -22,12 +23,6 @@ begins_over head (word ∷ rest) over = rw over refl
 -- what is appended to the first items of a line of values, and the values of the rest
 shifted : {X : Type 0} (front : List X) (x : X) (rest : List X) → front ++ x ∷ rest ≡ (front ++ x ∷ []) ++ rest
 shifted front x rest = sym (append_assoc front (x ∷ []) rest)
-
--- what stands at a place of a list does not hang on what stands past its end
-pub get_or-any : {X : Type 0} (xs : List X) (i : ℕ) (d e : X) → i < length xs → get_or xs i d ≡ get_or xs i e
-get_or-any [] i d e within = absurd (omega arith)
-get_or-any (x ∷ xs) zero d e within = refl
-get_or-any (x ∷ xs) (suc i) d e within = get_or-any xs i d e (omega arith)
 
 -- the mark of one line more
 pub marks_step : (place : Place) (lines : List Line) (i : ℕ) (line : Line) (marks : List (Option ℕ)) → i < length lines

@@ -13,12 +13,13 @@ use Rattle.resolution_check.specs.Clauses.{opposite, is_same, has, without, reso
 use Rattle.resolution_check.specs.Entries.{resolved, resolved_from}
 use Rattle.std.proofs.Math.Seq.{take-length}
 use Rattle.std.proofs.Math.Bool.{or-false}
+use Rattle.mw_text.proofs.Found.{take_at}
 use Rattle.resolution_check.specs.Earned.{has_var, vars_differ}
 use Rattle.resolution_check.proofs.Literals.{same_lit, same_refl, opposite_twice, has-append}
 use Rattle.resolution_check.proofs.Resolvents.{resolvent-pivot, has-resolved}
 use Rattle.resolution_check.proofs.Chains.{resolved-push}
 use Rattle.resolution_check.proofs.Variables.{apart, gain, has_var_from, itself, lose, no_var, of_var}
-use Rattle.resolution_check.proofs.Variables.{same_bool, take_at, vars_differ-push}
+use Rattle.resolution_check.proofs.Variables.{same_bool, vars_differ-push}
 use Rattle.resolution_check.proofs.Values.{same_fails, not_both, some_value}
 use Rattle.resolution_check.proofs.Values.{value_of-keeps, value_of-last, value_of-other, value_of-none}
 use Rattle.clause_arena.specs.Store.{Store}

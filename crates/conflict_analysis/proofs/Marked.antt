@@ -4,12 +4,12 @@ use Rattle.std.proofs.Common.{◌&&◌, take, slice_get, Some, refl, sym, ap, �
 use Rattle.std.proofs.lemmas.Bool.{or_left, or_right, and_from}
 use Rattle.std.proofs.lemmas.List.Folds.{list_any-append, list_all-append}
 use Rattle.std.proofs.Math.Bool.{and-false}
+use Rattle.mw_text.proofs.Found.{take_at}
 use Rattle.resolution_check.specs.declared.log.Lit.{Lit}
 use Rattle.resolution_check.specs.Clauses.{is_same, has, is_below}
 use Rattle.resolution_check.specs.Earned.{has_var}
 use Rattle.resolution_check.proofs.Literals.{same_refl}
 use Rattle.resolution_check.proofs.Values.{below_at}
-use Rattle.resolution_check.proofs.Variables.{take_at}
 use Rattle.conflict_analysis.specs.Levels.{others_marked}
 
 -- what stands at a place of a clause is one of its literals

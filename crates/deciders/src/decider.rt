@@ -47,6 +47,10 @@ pub trait Decider: Drop {
         ensures { IfSome (told self.now) (λ bumps. result.now ≡ bumps) };
 }
 
+/// Of so many equal parts of all variables the first has those that settle the others in most formulas of questions: the
+/// packet and the failed links.
+pub(crate) const PARTS: u64 = 256;
+
 /// The value of a variable. One past the end is free.
 pub(crate) fn value_at(values: &[Value], var: u64) -> Value {
     values.get(var as usize).copied().unwrap_or(Value::Free)

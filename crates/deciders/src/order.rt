@@ -2,14 +2,12 @@
 
 ghost use Rattle.std.specs.Prelude.{◌≡◌, ◌≢◌, ℕ, ◌<◌, ◌≤◌, None, IfSome, true, false, length, slice_index_or};
 
+use crate::decider::PARTS;
 use crate::{Choice, Decider, ScoreDecider, Value};
 use std::alloc::{AllocError, Global};
 
 /// So many clauses a decider by order is told of before it may go by scores.
 const ORDERED: u64 = 1024;
-
-/// A variable is far in the order where it comes after the first of so many equal parts of all.
-const PARTS: u64 = 256;
 
 /// A decider by order goes by scores where it had gone far before more than one of so many clauses.
 const SELDOM: u64 = 16;

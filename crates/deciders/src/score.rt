@@ -2,7 +2,7 @@
 
 ghost use Rattle.std.specs.Prelude.{◌≡◌, ◌<◌, ◌≤◌, None};
 
-use crate::decider::value_at;
+use crate::decider::{PARTS, value_at};
 use crate::heap::{Heap, SHIFT};
 use crate::{Choice, Decider, Value};
 use std::alloc::{AllocError, Global};
@@ -21,9 +21,10 @@ struct Chosen {
     positive: bool,
 }
 
-/// Chooses a free variable of highest score, and of these the one of lowest number, with the value that it had last, false
-/// at first. It tells no bumps. No clause says which variable it chooses: that changes how long a search takes, and tests
-/// show it.
+/// Chooses a free variable of highest score, and of these the one of lowest number, with the value that it had last. At
+/// first that is true for the first 256th of the variables, among which a formula of a question has its packet and its
+/// failed links, so that it is tried with failed links first; and false for all others. It tells no bumps. No clause says
+/// which variable it chooses, nor its value: that changes how long a search takes, and tests show it.
 ///
 /// Variables leave the heap as they are chosen, or met with a value. Nobody says when they are free again, but each way
 /// back of a search comes with a `decay`: at the next `pick` the first choice that does not stand any more is looked
@@ -45,9 +46,10 @@ fn push_within<T: Drop>(items: &mut Vec<T>, item: T) {
     }
 }
 
-// As many variables, false at first.
-fn all_false(alloc: Global, count: u64) -> Result<Vec<bool>, AllocError> {
+// The values that so many variables are to have at first.
+fn first_phases(alloc: Global, count: u64) -> Result<Vec<bool>, AllocError> {
     let mut phases = Vec::new(alloc);
+    phases.resize((count / PARTS) as usize, true)?;
     phases.resize(count as usize, false)?;
     Ok(phases)
 }
@@ -136,7 +138,7 @@ impl Decider for ScoreDecider {
 
     fn prepare(&mut self, alloc: Global, vars: u64) -> Result<(), AllocError> {
         let heap = Heap::of_all(alloc, vars)?;
-        let phases = all_false(alloc, vars)?;
+        let phases = first_phases(alloc, vars)?;
         let taken = Vec::with_capacity(alloc, vars as usize)?;
         let chosen = Vec::with_capacity(alloc, vars as usize)?;
         *self = ScoreDecider {

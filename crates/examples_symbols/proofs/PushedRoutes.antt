@@ -3,15 +3,8 @@ use Rattle.std.proofs.Common.{◌≡◌, List, [], ◌∷◌, ◌++◌, max, ari
 use Rattle.sym_policy.specs.declared.records.SymOspf.{SymOspf}
 use Rattle.sym_policy.specs.Held.{ospf_end}
 use Rattle.sym_ospf.specs.Routes.{routes_end}
-use Rattle.sym_bgp.specs.declared.parts.SymCand.{SymCand}
-use Rattle.sym_bgp.specs.Candidates.{candidate_end, candidates_end}
 
 -- the end of the routes with one more
 pub routes_end_push : (xs : List SymOspf) (x : SymOspf) → routes_end (xs ++ x ∷ []) ≡ max (routes_end xs) (ospf_end x)
 routes_end_push [] x = omega arith
 routes_end_push (y ∷ xs) x = let rest = routes_end_push xs x in omega arith
-
-pub candidates_end_push : (xs : List SymCand) (x : SymCand) →
-    candidates_end (xs ++ x ∷ []) ≡ max (candidates_end xs) (candidate_end x)
-candidates_end_push [] x = omega arith
-candidates_end_push (y ∷ xs) x = let rest = candidates_end_push xs x in omega arith

@@ -1,15 +1,14 @@
 -- What goes out by shapes is what goes out.
-use Rattle.std.proofs.Common.{◌≡◌, ℕ, zero, suc, ◌==◌, ◌&&◌, Bool, true, false, if◌then◌else◌, List, [], ◌∷◌, Option}
-use Rattle.std.proofs.Common.{Some, None, is_some, length, refl, sym, ap, subst, arith, ◌∙◌}
+use Rattle.std.proofs.Common.{◌≡◌, ℕ, zero, suc, ◌==◌, ◌&&◌, Bool, true, false, List, [], Option}
+use Rattle.std.proofs.Common.{Some, None, is_some, length, refl, sym, ap, arith, ◌∙◌}
 use Rattle.std.specs.Prelude.{option_and_then, option_map, slice_get}
-use Rattle.std.specs.List.{find}
 use Rattle.std.specs.Option.{option_map_or}
 use Rattle.std.proofs.lemmas.Bool.{and_parts, true≢false}
 use Rattle.std.proofs.lemmas.Bool.Decides.{nat_tests}
-use Rattle.std.proofs.lemmas.Option.{same_Some}
 use Rattle.mw_text.specs.declared.address.Addr.{Addr}
 use Rattle.mw_text.specs.declared.address.Prefix.{Prefix}
 use Rattle.mw_text.specs.Address.{prefix_at}
+use Rattle.mw_text.proofs.Found.{find_passes}
 use Rattle.ios_ast.specs.declared.bgp.Neighbour.{Neighbour}
 use Rattle.ios_ast.specs.declared.file.File.{File}
 use Rattle.route_record.specs.declared.BgpRec.{BgpRec}
@@ -44,15 +43,6 @@ abbrev pub shapes_held : Tracked → Tables → ℕ → ℕ → Option BgpShape
 shapes_held tracked tables len router = option_map (bgp_shape tracked) (held_at tables router len)
 
 -- ---- traces
-
-find_passes : {X : Type 0} (p : X → Bool) (xs : List X) (x : X) → find p xs ≡ Some x → p x ≡ true
-find_passes p [] x found = absurd cc
-find_passes p (y ∷ ys) x found = by (p y) refl found (λ later. find_passes p ys x later)
-  where
-    by : (b : Bool) → p y ≡ b → (if b then Some y else find p ys) ≡ Some x → (find p ys ≡ Some x → p x ≡ true) →
-        p x ≡ true
-    by true passes is rest = subst (λ z. p z ≡ true) (same_Some y x is) passes
-    by false passes is rest = rest is
 
 -- two tests of numbers of which the others are known to be equal
 same_numbers : (r s t a b n : ℕ) → (r == s) ≡ true → (n == a) ≡ true →

@@ -9,6 +9,7 @@ use Rattle.std.proofs.lemmas.List.{get_or_append_left}
 use Rattle.std.proofs.lemmas.Option.{get_or_from_slice_get, same_Some, slice_get-get_or, slice_get_within}
 use Rattle.ios_ast.specs.declared.file.File.{File}
 use Rattle.mw_text.specs.declared.address.Addr.{Addr}
+use Rattle.mw_text.proofs.Numbers.{earlier}
 use Rattle.route_record.specs.declared.World.{World}
 use Rattle.packet_fates.specs.declared.fate.Fate.{Fate}
 use Rattle.packet_fates.specs.declared.fate.Fate.TheVariants.{Delivered, Left, BlackHole, Loop}
@@ -16,7 +17,6 @@ use Rattle.packet_fates.specs.Fates.{HasFate, IsCalled}
 use Rattle.term_store.specs.declared.NodeId.{NodeId}
 use Rattle.term_store.specs.Reading.{Gives}
 use Rattle.term_store.specs.Terms.{Reading, Store, at}
-use Rattle.packet_fates.proofs.Spreading.{earlier}
 use Rattle.fate_terms.specs.declared.ending.Ending.TheVariants as ends
 use Rattle.fate_terms.specs.Endings.{HasEnding}
 use Rattle.fate_terms.specs.Named.{AreFateNodes, EndsAmongCalled, EndsAtCalled}

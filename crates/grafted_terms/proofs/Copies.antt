@@ -1,22 +1,16 @@
 -- Copies of nodes: where they stand, and the values of one more of them.
-use Rattle.std.proofs.Common.{◌≡◌, ℕ, ◌+◌, ◌<◌, ◌≤◌, Bool, false, List, [], ◌∷◌, ◌++◌, take, get_or, slice_get, length, Some}
-use Rattle.std.proofs.Common.{sym, ap, subst, ◌∙◌, arith}
+use Rattle.std.proofs.Common.{◌≡◌, ℕ, ◌+◌, ◌≤◌, Bool, List, [], ◌∷◌, ◌++◌, take, slice_get, Some}
+use Rattle.std.proofs.Common.{sym, ap, subst, ◌∙◌}
 use Rattle.std.proofs.lemmas.Grind.{common_steps}
 use Rattle.std.proofs.lemmas.List.{take_more, take_all}
 use Rattle.std.proofs.lemmas.Option.{slice_get_within, get_or_from_slice_get}
-use Rattle.std.specs.Prelude.{slice_index_or}
 use Rattle.term_store.specs.declared.NodeId.{NodeId}
 use Rattle.term_store.specs.declared.Node.{Node}
 use Rattle.term_store.specs.Reading.{Stands}
 use Rattle.term_store.specs.Terms.{Store, Reading, at, gate, reading_by, values_of}
 use Rattle.term_store.proofs.Values.{values_after-append}
 use Rattle.term_arith.specs.Bits.{bits}
-use Rattle.term_arith.proofs.NumberLemmas.{ids_end_at, ids_end_push, bits_push, bits_at}
-
--- the copy of a number has its value
-pub copy_at : (w : Reading) (ids : List NodeId) (i : ℕ) (d : NodeId) → i < length ids
-    → slice_index_or (bits w ids) i false ≡ at w (get_or ids i d)
-copy_at w ids i d h = bits_at w ids i d h
+use Rattle.term_arith.proofs.NumberLemmas.{bits_push, ids_end_at, ids_end_push, node_at_place}
 
 -- one more node has one more value
 pub values_more : (nodes : List Node) (values : List Bool) (i : ℕ) (n : Node) → slice_get nodes i ≡ Some n
@@ -41,6 +35,6 @@ copies_more w copies copy from i n values here so_far value =
     ∙ ap (λ bs. bs ++ gate (reading_by values bs) n ∷ []) so_far
     ∙ sym (values_more from.nodes values i n here)
 
-pub ruleset copy_steps = (common_steps, ids_end_at, copy_at)
+pub ruleset copy_steps = (common_steps, ids_end_at, node_at_place)
 
 pub ruleset row_steps = (common_steps, ids_end_push, take_all)

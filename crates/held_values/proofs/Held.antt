@@ -11,6 +11,7 @@ use Rattle.mw_text.proofs.Lists.{all_found}
 use Rattle.mw_text.specs.declared.address.Addr.{Addr}
 use Rattle.mw_text.specs.declared.address.Prefix.{Prefix}
 use Rattle.mw_text.specs.Address.{prefix_at}
+use Rattle.mw_text.proofs.Found.{find_passes}
 use Rattle.ios_ast.specs.declared.bgp.Bgp.{Bgp}
 use Rattle.ios_ast.specs.declared.bgp.Neighbour.{Neighbour}
 use Rattle.ios_ast.specs.declared.file.File.{File}
@@ -47,7 +48,7 @@ use Rattle.net_parts.specs.World.{IsAnnouncement, IsEnvironment}
 use Rattle.bgp_shapes.proofs.EndLaw.{IsAlike, ends_alike}
 use Rattle.rebuilt_routes.specs.Clusters.{IsKeptBySessions}
 use Rattle.rebuilt_routes.proofs.Crossed.{runs_there}
-use Rattle.rebuilt_routes.proofs.Options.{find_passes, if_found, if_true}
+use Rattle.rebuilt_routes.proofs.Options.{if_found, if_true}
 use Rattle.rebuilt_routes.proofs.Plain.{IsPlain, locals_plain}
 use Rattle.rebuilt_routes.proofs.RealSources.{all_members}
 use Rattle.rebuilt_routes.proofs.ReflectorsOnce.{IsRouteSent, IsRouteTaken, route_sent_parts, route_taken_parts}

@@ -20,11 +20,12 @@ use Rattle.ios_ast.specs.declared.policies.SetAct.{SetAct}
 use Rattle.ios_ast.specs.Deciding.{carries, in_order}
 use Rattle.ios_ast.specs.Maps.{deciding, entries_named, mapped, route_taken, through_map}
 use Rattle.ios_ast.specs.Setting.{Attributes, set_all, set_one}
+use Rattle.ios_ast.proofs.Order.{ordered_all}
 use Rattle.held_values.specs.declared.numbers.HeldNumber.{HeldNumber}
 use Rattle.held_values.specs.declared.numbers.HeldNumber.TheVariants.{Weight, LocalPref, Med, NextHop, FirstAs, LastAs}
 use Rattle.held_values.specs.Values.{peers_of, said_by_process, said_in_entry, said_in_file, said_in_map, said_of_neighbour}
 use Rattle.held_values.specs.Values.{is_held_value, ospf_bits, said_of_redist, said_of_set, unsaid, values_of}
-use Rattle.rebuilt_routes.proofs.Words.{found_all, ordered_all}
+use Rattle.rebuilt_routes.proofs.Words.{found_all}
 
 -- ---- lists
 

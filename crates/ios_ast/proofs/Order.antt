@@ -5,6 +5,8 @@ use Rattle.std.proofs.lemmas.List.{drop_more}
 use Rattle.std.proofs.lemmas.Bool.{le-leb}
 use Rattle.std.proofs.lemmas.Bool.Decides.{nat_tests}
 use Rattle.std.specs.List.{find}
+use Rattle.std.specs.Prelude.{All}
+use Rattle.std.proofs.lemmas.List.Elements.{All-cons, All-head, All-tail}
 use Rattle.ios_ast.specs.Deciding.{put_by, in_order, sooner}
 
 -- no entry of the list has a number below `n`
@@ -114,3 +116,21 @@ find_read number takes es i e above within here =
     (λ x. if takes x then Some (sooner number x (find takes (in_order number (drop i es)))) else find takes
     (in_order number (drop i es)))
     (sym here)
+
+-- ---- what all entries have
+
+-- an entry that is put in brings in itself alone
+pub put_all : {E : Type 0} (P : E → Type 0) (number : E → ℕ) (e : E) (xs : List E) → P e → All P xs →
+    All P (put_by number e xs)
+put_all P number e [] here all = All-cons P e [] here all
+put_all P number e (x ∷ xs) here all =
+    by (nat_le (number e) (number x)) (put_all P number e xs here (All-tail P x xs all))
+  where
+    by : (b : Bool) → All P (put_by number e xs) → All P (if b then e ∷ x ∷ xs else x ∷ put_by number e xs)
+    by true rest = All-cons P e (x ∷ xs) here all
+    by false rest = All-cons P x (put_by number e xs) (All-head P x xs all) rest
+
+pub ordered_all : {E : Type 0} (P : E → Type 0) (number : E → ℕ) (xs : List E) → All P xs → All P (in_order number xs)
+ordered_all P number [] all = all
+ordered_all P number (x ∷ xs) all =
+    put_all P number x (in_order number xs) (All-head P x xs all) (ordered_all P number xs (All-tail P x xs all))

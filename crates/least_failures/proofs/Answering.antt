@@ -3,17 +3,16 @@ use Rattle.std.proofs.Common.{◌≡◌, ◌∙◌, ℕ, ◌+◌, ◌≤◌, Boo
 use Rattle.std.proofs.Common.{Option, Some, None, refl, ap, sym, subst, arith, append_assoc, inl, inr}
 use Rattle.std.specs.Prelude.{IfSome, slice_get}
 use Rattle.std.specs.List.{list_any}
-use Rattle.std.proofs.Math.Bool.{or-false}
 use Rattle.std.proofs.lemmas.List.{append-nil, length-take-le, take_all}
-use Rattle.std.proofs.lemmas.List.Folds.{list_any-append}
 use Rattle.std.proofs.lemmas.Option.{get_or_from_slice_get, slice_get_within}
 use Rattle.ios_ast.specs.declared.file.File.{File}
 use Rattle.mw_load.specs.declared.ended.Ended.{Ended}
-use Rattle.mw_outside.specs.Taken.{Takes, TakesPart, part_more, part_of_all, takes_more}
+use Rattle.mw_outside.specs.Taken.{Takes, TakesPart, part_more, part_of_all, takes_more, takes_none}
 use Rattle.mw_text.proofs.Reading.{take-read}
+use Rattle.mw_text.proofs.Found.{any_more}
 use Rattle.question_lang.specs.declared.question.Question.{Question}
 use Rattle.run_answers.specs.declared.seen.Seen.{Seen}
-use Rattle.asked_files.proofs.Endings.{last_more, takes_none}
+use Rattle.asked_files.proofs.Endings.{last_more}
 use Rattle.asked_files.specs.Ending.{NoWriteFailed, Writes, ended_by}
 use Rattle.least_failures.specs.Answering.{AnswersSo, AreAnswered, AreBegun, AreRight, IsCutShort, IsPut, TellLastOf}
 use Rattle.least_failures.specs.Answering.{answers_text, is_broken, is_unknown, sections_text}
@@ -34,13 +33,6 @@ pub record AreSeen (files : List File) (all : List Question) (budget : ℕ) (que
     pub text : Takes before now (answers_text files all budget questions answers)
     pub logged : Takes logged_before logged_now (sections_text questions answers)
     pub bumps : TellLastOf tolds answers
-
--- a test of one answer more
-any_more : (test : Answer → Bool) (answers : List Answer) (answer : Answer) →
-    (list_any test answers || test answer) ≡ list_any test (answers ++ answer ∷ [])
-any_more test answers answer =
-    ap (λ b. list_any test answers || b) (sym (or-false (test answer)))
-    ∙ sym (list_any-append test answers (answer ∷ []))
 
 -- one answer more is right
 right_more : (files : List File) (budget number n : ℕ) (questions : List Question) (answers : List Answer)

@@ -9,6 +9,7 @@ use Rattle.mw_load.specs.Loading.{StopsAt}
 use Rattle.mw_outside.specs.Contents.{Contents}
 use Rattle.mw_outside.specs.Faults.{Rose}
 use Rattle.mw_text.specs.Reading.{following}
+use Rattle.mw_text.proofs.Found.{if_told, if_told_one}
 use Rattle.question_lang.specs.declared.question.Question.{Question}
 use Rattle.run_inputs.specs.declared.load.Loaded.{Loaded}
 use Rattle.run_inputs.specs.declared.load.Stop.{Stop}
@@ -16,7 +17,6 @@ use Rattle.run_inputs.specs.declared.load.Stop.TheVariants as stop
 use Rattle.run_inputs.specs.declared.text.Text.{Text}
 use Rattle.run_inputs.specs.Due.{Outcome, answering, either, questions_of, refused, text_of}
 use Rattle.run_inputs.specs.Loading.{OnStop, UnlessReadFault}
-use Rattle.run_inputs.proofs.Loading.{if_told, if_told_one}
 use Rattle.asked_files.specs.Network.{network_of}
 use Rattle.asked_files.specs.Words.{Asking}
 use Rattle.least_failures.specs.Due.{IsDueBy, files_due, order_by, questions_in}

@@ -9,7 +9,7 @@ use Rattle.cdcl_search.specs.Turns.{TellBumps}
 use Rattle.cex_json.specs.declared.counterexample.Counterexample.{Counterexample}
 use Rattle.cex_json.specs.Counterexamples.{world_of}
 use Rattle.ios_ast.specs.declared.file.File.{File}
-use Rattle.mw_outside.specs.Taken.{Takes, takes_more}
+use Rattle.mw_outside.specs.Taken.{Takes, takes_more, takes_none}
 use Rattle.mw_text.proofs.Lists.{each_place-push}
 use Rattle.question_lang.specs.Breaking.{IsBreaking}
 use Rattle.question_lang.specs.declared.question.Question.{Question}
@@ -21,7 +21,7 @@ use Rattle.run_answers.specs.Answering.{IsToldSo, IsUnfinished}
 use Rattle.run_answers.specs.declared.verdict.Verdict.{Verdict}
 use Rattle.run_answers.specs.declared.verdict.Verdict.TheVariants as verdict
 use Rattle.run_answers.specs.Verdicts.{IsSection, section_text}
-use Rattle.asked_files.proofs.Endings.{last_more, takes_none}
+use Rattle.asked_files.proofs.Endings.{last_more}
 use Rattle.least_failures.specs.declared.outcome.Least.{Least}
 use Rattle.least_failures.specs.declared.outcome.Least.TheVariants.{At, NoneUpTo, Unknown}
 use Rattle.least_failures.specs.Finding.{AreExcluded, IsFound, IsUnfound, TellLast}

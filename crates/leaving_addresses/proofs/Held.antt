@@ -10,6 +10,7 @@ use Rattle.mw_text.specs.Members.{In}
 use Rattle.mw_text.specs.declared.address.Addr.{Addr}
 use Rattle.mw_text.specs.declared.address.Prefix.{Prefix}
 use Rattle.mw_text.specs.Address.{covers, prefix_at, same_prefix}
+use Rattle.mw_text.proofs.Found.{mapped}
 use Rattle.ios_ast.specs.declared.file.File.{File}
 use Rattle.ios_ast.specs.declared.file.StaticRoute.{StaticRoute}
 use Rattle.ios_ast.specs.Limits.{keeps_limits}
@@ -37,7 +38,6 @@ use Rattle.net_parts.specs.Tracked.{TracksNet, addresses_of}
 use Rattle.net_parts.specs.World.{IsEnvironment}
 use Rattle.net_parts.proofs.LeastWalks.{contains-in, filter_map-in, in-contains, in-filter, in-flat_map, in-left}
 use Rattle.net_parts.proofs.LeastWalks.{in-right}
-use Rattle.rebuilt_routes.proofs.Options.{mapped}
 use Rattle.slot_places.proofs.Members.{in-any, map-in}
 use Rattle.held_values.specs.Values.{HasHeldValues, next_hops_of}
 use Rattle.held_values.proofs.Held.{held_known}

@@ -9,6 +9,7 @@ use Rattle.mw_text.specs.Members.{In}
 use Rattle.mw_text.specs.declared.address.Addr.{Addr}
 use Rattle.mw_text.specs.declared.address.Prefix.{Prefix}
 use Rattle.mw_text.specs.Address.{covers, same_prefix}
+use Rattle.mw_text.proofs.Found.{find_passes}
 use Rattle.ios_ast.specs.declared.file.File.{File}
 use Rattle.ios_ast.specs.declared.file.StaticRoute.{StaticRoute}
 use Rattle.ios_ast.specs.declared.file.Via.{Via}
@@ -25,7 +26,6 @@ use Rattle.net_parts.specs.Routing.{up_interfaces}
 use Rattle.net_parts.specs.World.{is_failed, is_up}
 use Rattle.net_parts.proofs.LeastWalks.{in-filter, in-map}
 use Rattle.net_model.proofs.OneSubnet.{one_prefix}
-use Rattle.rebuilt_routes.proofs.Options.{find_passes}
 use Rattle.slot_places.proofs.Members.{any-in, in-any}
 use Rattle.question_lang.specs.declared.walk.End.TheVariants.{Delivered, Left, DeniedIn, DeniedOut}
 use Rattle.question_lang.specs.declared.walk.Hop.{Hop}

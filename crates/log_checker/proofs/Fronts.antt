@@ -5,7 +5,6 @@ use Rattle.std.specs.Prelude.{IfSome}
 use Rattle.std.specs.List.{onto_first, AllByRecursion}
 use Rattle.std.proofs.lemmas.List.{append-nil, length-append}
 use Rattle.std.proofs.lemmas.List.Splits.{slice_split-cons_no, slice_split-cons_yes}
-use Rattle.std.proofs.lemmas.Grind.{flat_map-append}
 use Rattle.std.proofs.Math.Seq.{drop-append-add, drop-append_seam}
 use Rattle.std.specs.Bool.{Decides}
 use Rattle.std.specs.Cmp.Lexicographic.{pointwise}
@@ -20,7 +19,7 @@ use Rattle.resolution_check.specs.Entries.{is_end}
 use Rattle.resolution_check.specs.Known.{HasRead, Known}
 use Rattle.resolution_check.specs.Text.{HasText, is_line_feed, line_of, log_text, text_of}
 use Rattle.resolution_check.proofs.Goods.{any-push}
-use Rattle.resolution_check.proofs.LogLines.{lines-log_text}
+use Rattle.resolution_check.proofs.LogLines.{lines-log_text, text-push}
 use Rattle.log_checker.specs.declared.cause.Cause.{Cause}
 use Rattle.log_checker.specs.declared.cause.Cause.TheVariants.{BadLine, InputDiffers, Refused, NotRefuted, Missing}
 use Rattle.log_checker.specs.declared.entries.Step.TheVariants.{Goes, Ends, Wrong}
@@ -108,10 +107,6 @@ pub all-push : {X : Type 0} (P : X → Type 0) (xs : List X) (x : X) → AllByRe
     AllByRecursion P (xs ++ x ∷ [])
 all-push P [] x all one = (one, tt)
 all-push P (y ∷ ys) x all one = (all.0, all-push P ys x all.1 one)
-
-text-push : (es : List Entry) (e : Entry) → log_text (es ++ e ∷ []) ≡ log_text es ++ line_of e
-text-push es e =
-    flat_map-append line_of es (e ∷ []) ∙ ap (λ t. log_text es ++ t) (append-nil (line_of e))
 
 module _ (clauses : List Clause) (old new : Known) (bytes rest line more : List ℕ) (lines : ℕ)
     (f : Front clauses old bytes rest lines) (cut : rest ≡ line ++ 10 ∷ more) where

@@ -9,6 +9,7 @@ use Rattle.std.proofs.lemmas.Option.{same_Some}
 use Rattle.mw_text.specs.declared.address.Prefix.{Prefix}
 use Rattle.mw_text.specs.Address.{prefix_at, same_prefix}
 use Rattle.mw_text.specs.Members.{In}
+use Rattle.mw_text.proofs.Found.{find_passes}
 use Rattle.ios_ast.specs.declared.file.File.{File}
 use Rattle.route_record.specs.declared.OspfRec.{OspfRec}
 use Rattle.route_record.specs.declared.RibEntry.{RibEntry}
@@ -122,13 +123,6 @@ longest_least tables router (suc n) at len s slot e entry here there below is =
 
 -- ---- hops
 
-found_passes : {X : Type 0} (p : X → Bool) (xs : List X) (x : X) → find p xs ≡ Some x → p x ≡ true
-found_passes p [] x is = cc
-found_passes {X} p (y ∷ ys) x is = by (p y) refl is (found_passes p ys x) where
-  by : (b : Bool) → p y ≡ b → (if b then Some y else find p ys) ≡ Some x → (find p ys ≡ Some x → p x ≡ true) → p x ≡ true
-  by true passes same rest = let one : y ≡ x = cc in ap p (sym one) ∙ passes
-  by false fails same rest = rest same
-
 module _ (files : List File) (world : World) where
   -- an interface of the router that is up has the destination
   abbrev pub owns : ℕ → Bool
@@ -166,7 +160,7 @@ module _ (files : List File) (world : World) where
         (filter-in (λ (y : Addressed). (y.id.router == i.router) && is_up files world.failures y) (addressed files) x
         there.0 (and_from (x.id.router == i.router) _ router there.1))
         (and_parts (x.addr.0 == world.packet.dst.0) _
-        (found_passes test (all_up files world.failures) x found)).0
+        (find_passes test (all_up files world.failures) x found)).0
 
   -- a connected subnet leads to the owner of the destination
   connected_to : (own : List Addressed) (p : Prefix) (i : IfaceId) →

@@ -1,15 +1,15 @@
 -- Walks whose hops lead nearer do not come back.
-use Rattle.std.proofs.Common.{◌≡◌, ◌≢◌, ℕ, ◌+◌, ◌<◌, ◌≤◌, Bool, true, false, List, [], ◌∷◌, ◌++◌, length, inl, inr}
+use Rattle.std.proofs.Common.{◌≡◌, ◌≢◌, ℕ, ◌+◌, ◌<◌, ◌≤◌, true, List, [], ◌∷◌, ◌++◌, length, inl, inr}
 use Rattle.std.proofs.Common.{refl, sym, ap, subst, arith}
 use Rattle.std.specs.Prelude.{◌⊎◌, All, Any, Contains, eqb}
-use Rattle.std.specs.List.{AllByRecursion, IsDistinct, list_all}
-use Rattle.std.proofs.lemmas.Bool.{eqb-true}
+use Rattle.std.specs.List.{IsDistinct, list_all}
 use Rattle.std.proofs.lemmas.List.Elements.{All-weaker}
 use Rattle.std.proofs.lemmas.Map.Keys.{IsDistinct-cons}
 use Rattle.std.proofs.lemmas.Map.Steps.{length-le_from_distinct_below}
 use Rattle.std.proofs.lemmas.Option.{slice_get_read, slice_get_within}
 use Rattle.mw_text.specs.Members.{In}
 use Rattle.mw_text.proofs.Lists.{in-from_any}
+use Rattle.mw_text.proofs.Numbers.{apart_from}
 use Rattle.slot_places.proofs.Members.{in-place}
 use Rattle.ios_ast.specs.declared.file.File.{File}
 use Rattle.route_record.specs.declared.Environment.{Environment}
@@ -33,14 +33,6 @@ use Rattle.loop_free_walks.proofs.Nearer.{IsNearer, mark, nearer, nearer_still, 
 some_member : {X : Type 0} (P : X → Type 0) (xs : List X) → Any P xs → (x : X) × In x xs × P x
 some_member P xs (i, x, below, there, is) =
     (x, in-place xs i x (slice_get_read xs (length xs) i x refl below (sym there)), is)
-
--- no item of the list is the one
-unequal : (x : ℕ) (ys : List ℕ) → (In x ys → ⊥) → AllByRecursion (λ y. eqb x y ≡ false) ys
-unequal x [] apart = tt
-unequal x (y ∷ ys) apart = (by (eqb x y) refl, unequal x ys (λ there. apart (inr there))) where
-  by : (b : Bool) → eqb x y ≡ b → eqb x y ≡ false
-  by true same = absurd (apart (inl (eqb-true x y same)))
-  by false other = other
 
 module _ (files : List File) (world : World) (environment : Environment)
     (stable : Stable files world.packet.dst world.failures environment world.tables)
@@ -73,7 +65,7 @@ module _ (files : List File) (world : World) (environment : Environment)
       LeadsTo (next_hops files world) now next →
       IsKnown (before ++ now ∷ []) (now.router ∷ seen) next.router
   step before seen now next known to = record {
-    apart = IsDistinct-cons eqb now.router seen (unequal now.router seen (new before seen now.router known)) known.apart;
+    apart = IsDistinct-cons eqb now.router seen (apart_from now.router seen (new before seen now.router known)) known.apart;
     led = led_by;
     noted = λ stood there. noted_by stood (in-cases stood before (now ∷ []) there);
     ahead = ahead_by;

@@ -5,6 +5,7 @@ use Rattle.std.specs.Prelude.{All}
 use Rattle.std.proofs.Math.ListN.{length-set}
 use Rattle.std.proofs.lemmas.Bool.{cases_eq}
 use Rattle.std.proofs.lemmas.List.{ext_get_or}
+use Rattle.mw_text.proofs.Found.{get_or-any}
 use Rattle.machine_channels.specs.declared.channels.Change.{Change}
 use Rattle.machine_laws.specs.declared.state.Channel.{Channel}
 use Rattle.machine_channels.specs.Changes.{all_changed, changed}
@@ -42,11 +43,6 @@ length_changed [] changes = refl
 length_changed (c ∷ cs) [] = refl
 length_changed (c ∷ cs) (x ∷ changes) = ap (λ n. suc n) (length_changed cs changes)
 
-same_at : {X : Type 0} (xs : List X) (k : ℕ) (d e : X) → k < length xs → get_or xs k d ≡ get_or xs k e
-same_at [] k d e h = absurd (omega arith)
-same_at (x ∷ xs) zero d e h = refl
-same_at (x ∷ xs) (suc k) d e h = same_at xs k d e (omega arith)
-
 front_at : {M : Type 0} (cs : List (Channel M)) (changes : List (Change M)) (at : ℕ) (now : List (Channel M)) (c new : Channel M) (k : ℕ)
     (d : Channel M) → (k ≡ at) ⊎ (k ≡ at → ⊥) → k < at + 1 → at < length cs → length now ≡ length cs →
     new ≡ get_or (all_changed cs changes) at c →
@@ -55,7 +51,7 @@ front_at : {M : Type 0} (cs : List (Channel M)) (changes : List (Change M)) (at 
 front_at cs changes at now c new k d (inl same) below h long made front =
     let lt : at < length now = omega arith in
     let into : at < length (all_changed cs changes) = omega (arith, length_changed cs changes) in
-    rw same (rw get_or-set_same (made ∙ same_at (all_changed cs changes) at c d into))
+    rw same (rw get_or-set_same (made ∙ get_or-any (all_changed cs changes) at c d into))
 front_at cs changes at now c new k d (inr ne) below h long made front =
     rw get_or-set_other (front k d (omega (arith, ne)))
 

@@ -7,12 +7,13 @@ use Rattle.std.specs.Option.{option_map_or, option_to_list, option_or}
 use Rattle.std.proofs.lemmas.Bool.{and_from, and_parts, cases_order, eqb-true, eq-eqb, le-ltb}
 use Rattle.std.proofs.lemmas.Bool.{le-leb, leb-true, lt-ltb, ltb-true, ne_eqb}
 use Rattle.std.proofs.lemmas.Bool.Decides.{nat_tests}
-use Rattle.std.proofs.lemmas.List.Elements.{All-append, All-cons, All-filter, All-head, All-nil, All-tail, filter_passes}
+use Rattle.std.proofs.lemmas.List.Elements.{All-append, All-cons, All-filter, All-nil, filter_passes}
 use Rattle.std.proofs.lemmas.List.Folds.{find-append}
 use Rattle.std.proofs.lemmas.List.Kept.{AllPairs-cons, AllPairs-filter}
 use Rattle.mw_text.specs.declared.address.Addr.{Addr}
 use Rattle.mw_text.specs.declared.address.Prefix.{Prefix}
 use Rattle.mw_text.specs.Address.{prefix_at}
+use Rattle.mw_text.proofs.Found.{all_pass, each_passes}
 use Rattle.ios_ast.specs.declared.bgp.Neighbour.{Neighbour}
 use Rattle.ios_ast.specs.declared.file.File.{File}
 use Rattle.route_record.specs.declared.Announcement.{Announcement}
@@ -32,11 +33,6 @@ use Rattle.machine_laws.specs.Announcing.{is_announcement, is_as_number, is_befo
 use Rattle.machine_laws.specs.Sending.{arriving_at}
 
 -- ---- the test of an announcement
-
-pass_all : (p : ℕ → Bool) (P : ℕ → Type 0) → ((n : ℕ) → p n ≡ true → P n) → (ns : List ℕ) → list_all p ns ≡ true → All P ns
-pass_all p P so [] all = All-nil P
-pass_all p P so (n ∷ ns) all =
-    let both = and_parts (p n) (list_all p ns) all in All-cons P n ns (so n both.0) (pass_all p P so ns both.1)
 
 begun : (asn : ℕ) (path : List ℕ) → begins_with asn path ≡ true → (rest : List ℕ) × (path ≡ asn ∷ rest)
 begun asn [] is = cc
@@ -77,18 +73,13 @@ may_announce files a is =
     record {
       from = of_peer files a (slice_get (ends_of files) a.end) refl first.0;
       len = ltb-true a.len LENGTHS second.0;
-      path = (leb-true (length a.path) 255 path.0, pass_all is_as_number IsAsNumber as_number a.path path.1);
+      path = (leb-true (length a.path) 255 path.0, all_pass is_as_number IsAsNumber as_number a.path path.1);
       med = ltb-true a.med 4294967296 fourth.0;
       communities = (
         communities.0,
-        pass_all is_word (λ c. c < 4294967296) (λ c h. ltb-true c 4294967296 h) a.communities communities.1,
+        all_pass is_word (λ c. c < 4294967296) (λ c h. ltb-true c 4294967296 h) a.communities communities.1,
       );
     }
-
-all_passed : (p : ℕ → Bool) (P : ℕ → Type 0) → ((n : ℕ) → P n → p n ≡ true) → (ns : List ℕ) → All P ns → list_all p ns ≡ true
-all_passed p P so [] all = refl
-all_passed p P so (n ∷ ns) all =
-    and_from (p n) (list_all p ns) (so n (All-head P n ns all)) (all_passed p P so ns (All-tail P n ns all))
 
 begins_so : (path : List ℕ) (o : Option Neighbour) →
     IfSome o (λ neighbour. (rest : List ℕ) × (path ≡ neighbour.asn ∷ rest)) →
@@ -104,11 +95,11 @@ announcement_passes files a is =
     ∙ and_from _ _ is.from.2 (begins_so a.path (neighbour_of files is.from.0) is.from.3))
     (and_from _ _ (lt-ltb a.len LENGTHS is.len)
     (and_from _ _ (and_from _ _ (le-leb (length a.path) 255 is.path.0)
-    (all_passed is_as_number IsAsNumber (λ n h. and_from (nat_lt 0 n) (is_word n) (lt-ltb 0 n h.0) (lt-ltb n 4294967296 h.1))
+    (each_passes is_as_number IsAsNumber (λ n h. and_from (nat_lt 0 n) (is_word n) (lt-ltb 0 n h.0) (lt-ltb n 4294967296 h.1))
     a.path is.path.1))
     (and_from _ _ (lt-ltb a.med 4294967296 is.med)
     (and_from _ _ is.communities.0
-    (all_passed is_word (λ c. c < 4294967296) (λ c h. lt-ltb c 4294967296 h) a.communities is.communities.1)))))
+    (each_passes is_word (λ c. c < 4294967296) (λ c h. lt-ltb c 4294967296 h) a.communities is.communities.1)))))
 
 -- ---- the announcements stay in order
 

@@ -10,6 +10,7 @@ use Rattle.std.proofs.lemmas.Bool.{eq-eqb}
 use Rattle.std.proofs.lemmas.Bool.Decides.{eqb_tells}
 use Rattle.std.proofs.lemmas.List.Sums.{fold-append}
 use Rattle.std.proofs.lemmas.Option.{slice_get-get_or}
+use Rattle.mw_text.proofs.Found.{mapped}
 use Rattle.route_record.specs.declared.TheConstants.{LENGTHS}
 use Rattle.machine_laws.specs.declared.state.Channel.{Channel}
 use Rattle.machine_laws.specs.declared.state.Mail.{Mail}
@@ -200,16 +201,12 @@ slice_get_each f n (x ∷ xs) (suc k) =
     let e : n + 1 + k ≡ n + suc k = omega arith in
     slice_get_each f (n + 1) xs k ∙ ap (λ i. option_map (f i) (slice_get xs k)) e
 
-got_from : {A B : Type 0} (f : A → B) (o : Option A) (y : B) → option_map f o ≡ Some y → (x : A) × (o ≡ Some x) × (f x ≡ y)
-got_from f None y e = cc
-got_from f (Some x) y e = (x, refl, cc)
-
 each_got : {A B : Type 0} (f : ℕ → A → B) (xs : List A) (k : ℕ) (y : B) → slice_get (each_at f 0 xs) k ≡ Some y →
     (x : A) × (slice_get xs k ≡ Some x) × (f k x ≡ y)
 each_got f xs k y e =
     let at : slice_get (each_at f 0 xs) k ≡ option_map (f k) (slice_get xs k) =
     slice_get_each f 0 xs k ∙ ap (λ i. option_map (f i) (slice_get xs k)) (zero-add k) in
-    got_from (f k) (slice_get xs k) y (sym at ∙ e)
+    mapped (f k) (slice_get xs k) y (sym at ∙ e)
 
 pub are_published : {M : Type 0} (source up : ℕ → Bool) (ex new : ℕ → ℕ → Option M) (len count : ℕ) (cs : List (Channel M)) →
     AreRight up ex count cs →

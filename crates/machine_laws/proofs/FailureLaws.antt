@@ -1,15 +1,14 @@
 -- Failed links stay places of links in ascending order.
-use Rattle.std.proofs.Common.{◌≡◌, ℕ, zero, suc, ◌<◌, Bool, true, false, not, List, [], ◌∷◌, length, refl, arith}
+use Rattle.std.proofs.Common.{ℕ, zero, suc, ◌<◌, Bool, true, false, not, List, [], ◌∷◌, length, arith}
 use Rattle.std.proofs.Common.{if◌then◌else◌}
-use Rattle.std.specs.Prelude.{◌==◌, All, count_by, filter, insert, nat_lt}
-use Rattle.std.specs.List.{list_all, list_any}
-use Rattle.std.proofs.lemmas.Bool.{and_from, and_parts}
+use Rattle.std.specs.Prelude.{◌==◌, All, count_by, insert, nat_lt}
+use Rattle.std.specs.List.{list_any}
 use Rattle.std.proofs.lemmas.List.Elements.{All-cons, All-filter, All-head, All-nil, All-tail}
 use Rattle.ios_ast.specs.declared.file.File.{File}
 use Rattle.route_record.specs.declared.Failures.{Failures}
 use Rattle.net_interfaces.specs.Values.{put_number}
-use Rattle.net_parts.specs.World.{IsFailureSet, ascends, links_of}
-use Rattle.net_parts.proofs.TrackedUp.{all_put}
+use Rattle.net_parts.specs.World.{IsFailureSet, links_of}
+use Rattle.net_parts.proofs.TrackedUp.{all_put, kept_ascends}
 use Rattle.machine_laws.specs.Events.{mended, with_cut}
 
 all_inserted : {X : Type 0} (P : X → Type 0) (xs : List X) (at : ℕ) (x : X) → All P xs → P x → All P (insert xs at x)
@@ -25,26 +24,6 @@ put_all P xs n all here = by (list_any (λ m. m == n) xs) where
   by true = all
   by false = all_inserted P xs (count_by (λ m. nat_lt m n) xs) n all here
 
-all_left : (p q : ℕ → Bool) (xs : List ℕ) → list_all p xs ≡ true → list_all p (filter q xs) ≡ true
-all_left p q [] all = refl
-all_left p q (x ∷ xs) all =
-    let both = and_parts (p x) (list_all p xs) all in by (q x) refl both.0 (all_left p q xs both.1)
-  where
-    by : (b : Bool) → q x ≡ b → p x ≡ true → list_all p (filter q xs) ≡ true → list_all p (filter q (x ∷ xs)) ≡ true
-    by true is here more = rw is (and_from (p x) (list_all p (filter q xs)) here more)
-    by false is here more = rw is more
-
-left_up : (q : ℕ → Bool) (xs : List ℕ) → ascends xs ≡ true → ascends (filter q xs) ≡ true
-left_up q [] up = refl
-left_up q (x ∷ xs) up =
-    let both = and_parts (list_all (nat_lt x) xs) (ascends xs) up in by (q x) refl both.0 (left_up q xs both.1)
-  where
-    by : (b : Bool) → q x ≡ b → list_all (nat_lt x) xs ≡ true → ascends (filter q xs) ≡ true →
-        ascends (filter q (x ∷ xs)) ≡ true
-    by true is above more =
-        rw is (and_from (list_all (nat_lt x) (filter q xs)) (ascends (filter q xs)) (all_left (nat_lt x) q xs above) more)
-    by false is above more = rw is more
-
 pub cut_is : (files : List File) (link : ℕ) (failures : Failures) → link < length (links_of files) →
     IsFailureSet files (length failures.links) failures →
     IsFailureSet files (length (with_cut link failures).links) (with_cut link failures)
@@ -57,7 +36,7 @@ cut_is files link failures h is = record {
 pub mended_is : (files : List File) (link : ℕ) (failures : Failures) → IsFailureSet files (length failures.links) failures →
     IsFailureSet files (length (mended link failures).links) (mended link failures)
 mended_is files link failures is = record {
-  ascending = left_up (λ l. not (l == link)) failures.links is.ascending;
+  ascending = kept_ascends (λ l. not (l == link)) failures.links is.ascending;
   of_links = All-filter (λ l. not (l == link)) (λ at. at < length (links_of files)) failures.links is.of_links;
   at_most = omega arith;
 }

@@ -11,6 +11,7 @@ use Rattle.std.proofs.lemmas.List.FromFn.{get_or-range_with_len, length-range_wi
 use Rattle.std.proofs.lemmas.Option.{get_or_from_slice_get, slice_get-get_or, slice_get_within}
 use Rattle.mw_text.specs.declared.address.Addr.{Addr}
 use Rattle.mw_text.specs.Address.{prefix_at}
+use Rattle.mw_text.proofs.Found.{no_value}
 use Rattle.ios_ast.specs.declared.file.File.{File}
 use Rattle.route_record.specs.declared.Slot.{Slot}
 use Rattle.route_record.specs.declared.TheConstants.{LENGTHS}
@@ -120,21 +121,17 @@ both_none : {X : Type 0} (a b : Option X) → option_or a b ≡ None → (a ≡ 
 both_none None b e = (refl, e)
 both_none (Some x) b e = cc
 
-map_none : {X Y : Type 0} (f : X → Y) (o : Option X) → option_map f o ≡ None → o ≡ None
-map_none f None e = refl
-map_none f (Some x) e = cc
-
 pub next_none : (files : List File) (d : Addr) (s : State) → next_event files d s ≡ None → IsQuiet files d s
 unfolding next_event
 next_none files d s none =
     let first = both_none (option_map DeliverBgp (position has_mail s.sessions)) _ none in
     let second = both_none (option_map DeliverOspf (position has_mail s.adjacencies)) _ first.1 in
-    let third = map_none decide_at (position (is_unsettled_at files d s) (range_with_len 0 (length s.tables.slots)))
+    let third = no_value decide_at (position (is_unsettled_at files d s) (range_with_len 0 (length s.tables.slots)))
     second.1 in
     record {
       no_mail = (
-        without_mail s.sessions (map_none DeliverBgp (position has_mail s.sessions) first.0),
-        without_mail s.adjacencies (map_none DeliverOspf (position has_mail s.adjacencies) second.0),
+        without_mail s.sessions (no_value DeliverBgp (position has_mail s.sessions) first.0),
+        without_mail s.adjacencies (no_value DeliverOspf (position has_mail s.adjacencies) second.0),
       );
       settled = λ router len file slot in_file h there.
           let within = slice_get_within s.tables.slots (LENGTHS * router + len) slot there in

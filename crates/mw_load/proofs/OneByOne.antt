@@ -8,6 +8,7 @@ use Rattle.std.specs.Option.{option_map_or}
 use Rattle.mw_outside.specs.Contents.{Contents, get, Has, TellsOnly}
 use Rattle.mw_text.proofs.Reading.{EachTo, split-read}
 use Rattle.mw_text.specs.Reading.{each}
+use Rattle.mw_text.proofs.Found.{if_told_one, read-at}
 use Rattle.mw_load.specs.declared.loading.Placed.{Placed}
 use Rattle.mw_load.specs.declared.loading.TheConstants.{MOST_BYTES}
 use Rattle.mw_load.specs.declared.refused.LoadRefused.{LoadRefused}
@@ -57,28 +58,6 @@ pub on_refused-map : (why : LoadRefused) (P P' : Refusal → Type 0) (Q Q' : Typ
 on_refused-map Fault P P' Q Q' said lines faults = faults said
 on_refused-map (Refused name line number cause) P P' Q Q' said lines faults = lines _ said
 on_refused-map Memory P P' Q Q' said lines faults = tt
-
--- facts of what is told
-pub if_told : {A : Type 0} (told : Option A) (P Q R : A → Type 0) → IfSome told P → IfSome told Q →
-    ((x : A) → P x → Q x → R x) → IfSome told R
-if_told None P Q R p q both = tt
-if_told (Some x) P Q R p q both = both x p q
-
-pub if_told_one : {A : Type 0} (told : Option A) (P R : A → Type 0) → IfSome told P → ((x : A) → P x → R x) →
-    IfSome told R
-if_told_one None P R p one = tt
-if_told_one (Some x) P R p one = one x p
-
-pub all_told : {A : Type 0} (told : Option A) (P : A → Type 0) → ((x : A) → P x) → IfSome told P
-all_told None P each = tt
-all_told (Some x) P each = each x
-
--- an item of a list of images
-pub read-at : {A B : Type 0} (f : A → B) (xs : List A) (i : ℕ) (d : A) → i < length xs →
-    f (get_or xs i d) ≡ get_or (map f xs) i (f (get_or xs i d))
-read-at f [] i d within = absurd (omega arith)
-read-at f (y ∷ ys) zero d within = refl
-read-at f (y ∷ ys) (suc i) d within = read-at f ys i d (omega arith)
 
 -- ---- names with their places
 

@@ -1,5 +1,5 @@
 -- What a sink has taken, where it tells.
-use Rattle.std.specs.Prelude.{ℕ, ◌≡◌, ◌+◌, ◌-◌, ◌<◌, min, List, ◌++◌, length, take, drop, Option, Some, None, IfSome}
+use Rattle.std.specs.Prelude.{ℕ, ◌≡◌, ◌+◌, ◌-◌, ◌<◌, min, List, [], ◌++◌, length, take, drop, Option, Some, None, IfSome}
 use Rattle.std.specs.Prelude.{refl}
 use Rattle.std.proofs.Common.{sym, ◌∙◌, ap, get_or, append_assoc, arith, take-append-drop, length-append}
 use Rattle.std.specs.List.{flat_map}
@@ -82,3 +82,8 @@ part_in_lines f before middle now lines i d within takes part =
 
 -- What leads from writes to the whole: for `#[tactic(auto, using(mw_outside::specs::Taken::parts))]` on a caller.
 pub ruleset parts = (takes_more, part_of_all, part_of_none, part_stops, part_more, part_of_lines, part_in_lines)
+
+-- No bytes.
+pub takes_none : (taken : Option (List ℕ)) → Takes taken taken []
+takes_none None = tt
+takes_none (Some bytes) = ap Some (sym (append-nil bytes))

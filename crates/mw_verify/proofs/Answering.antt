@@ -4,10 +4,9 @@ use Rattle.std.proofs.Common.{take, get_or, Option, Some, None, refl, ap, sym, s
 use Rattle.std.proofs.Common.{inr}
 use Rattle.std.specs.List.{last_or, list_any}
 use Rattle.std.specs.Prelude.{IfSome}
-use Rattle.std.proofs.Math.Bool.{or_assoc, or-false}
 use Rattle.std.proofs.lemmas.List.{append-nil}
 use Rattle.std.proofs.lemmas.Option.{slice_get_read}
-use Rattle.mw_outside.specs.Taken.{Takes, TakesPart, takes_more, part_more, part_of_all, part_of_none}
+use Rattle.mw_outside.specs.Taken.{Takes, TakesPart, part_more, part_of_all, part_of_none, takes_more, takes_none}
 use Rattle.ios_ast.specs.declared.file.File.{File}
 use Rattle.cdcl_search.specs.Turns.{TellBumps}
 use Rattle.question_lang.specs.declared.question.Question.{Question}
@@ -21,13 +20,7 @@ use Rattle.run_answers.specs.Running.{AnswersSo, AreAnswered, AreBegun, TellLast
 use Rattle.run_answers.specs.Verdicts.{Answer, AreRight, IsAnswer, answers_text, is_broken, is_broken_verdict}
 use Rattle.run_answers.specs.Verdicts.{is_unknown, is_unknown_verdict, section_text, sections_text, verdict_text}
 use Rattle.mw_text.proofs.Reading.{take-read}
-
--- a test of one answer more
-any_more : (test : Answer → Bool) (answers : List Answer) (answer : Answer) →
-    (list_any test answers || test answer) ≡ list_any test (answers ++ answer ∷ [])
-any_more test [] answer = sym (or-false (test answer))
-any_more test (x ∷ xs) answer =
-    or_assoc (test x) (list_any test xs) (test answer) ∙ ap (λ b. test x || b) (any_more test xs answer)
+use Rattle.mw_text.proofs.Found.{any_more}
 
 -- one answer more is right
 right_more : (files : List File) (budget number n : ℕ) (questions : List Question) (answers : List Answer)
@@ -93,11 +86,6 @@ told_more : (tolds : List (Option (List ℕ))) (answers : List Answer) (answer :
 told_more tolds answers answer bumps =
     let P : Option Answer → Type 0 = λ o. IfSome o (λ last. TellBumps tolds last.section) in
     subst P (sym (last_more None answers answer)) bumps
-
--- nothing is taken
-pub takes_none : (taken : Option (List ℕ)) → Takes taken taken []
-takes_none None = tt
-takes_none (Some bytes) = ap Some (sym (append-nil bytes))
 
 pub put-none : (files : List File) (questions : List Question) (budget : ℕ) (taken logged : Option (List ℕ))
     (tolds : List (Option (List ℕ))) →

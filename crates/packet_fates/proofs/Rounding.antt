@@ -2,12 +2,13 @@
 use Rattle.std.proofs.Common.{◌≡◌, ℕ, zero, suc, ◌<◌, ◌≤◌, ◌+◌, Bool, true, List, [], ◌∷◌, length, get_or, refl, subst}
 use Rattle.std.proofs.Common.{arith, ◌⊎◌, inl, inr}
 use Rattle.std.specs.Prelude.{Contains}
+use Rattle.mw_text.proofs.Numbers.{earlier}
 use Rattle.question_lang.specs.declared.walk.Hop.{Hop}
 use Rattle.question_lang.specs.declared.walk.Hop.TheVariants.{To, Ends}
 use Rattle.walk_def.specs.Marks.{known}
 use Rattle.packet_fates.specs.Reaching.{AreInside, IsRound, hops_at}
 use Rattle.packet_fates.specs.Rounds.{ComesBackBy, IsInside, SomeRound}
-use Rattle.packet_fates.proofs.Spreading.{earlier, hops_within}
+use Rattle.packet_fates.proofs.Spreading.{hops_within}
 
 -- a hop of a router of the list is inside
 pub hop_inside : (all : List (List Hop)) (router : ℕ) (hop : Hop) → AreInside all → Contains (hops_at all router) hop →

@@ -1,7 +1,7 @@
 -- Marking the routers to which hops lead.
 use Rattle.std.proofs.Common.{◌≡◌, ℕ, ◌+◌, ◌<◌, ◌≤◌, Bool, true, false, List, [], length, set, Option, Some, None}
 use Rattle.std.proofs.Common.{refl, sym, ap}
-use Rattle.std.proofs.Common.{subst, arith, ◌∙◌, ◌⊎◌, inl, inr}
+use Rattle.std.proofs.Common.{subst, arith, ◌∙◌, inl, inr}
 use Rattle.std.specs.Prelude.{Contains, IfNone, IfSome, is_some, slice_get, unwrap_or}
 use Rattle.std.proofs.lemmas.Option.{slice_get_within}
 use Rattle.net_interfaces.specs.declared.interfaces.IfaceId.{IfaceId}
@@ -9,6 +9,7 @@ use Rattle.question_lang.specs.declared.walk.Hop.{Hop}
 use Rattle.question_lang.specs.declared.walk.Hop.TheVariants.{To}
 use Rattle.walk_def.specs.Marks.{known}
 use Rattle.std.proofs.Math.ListN.{length-set}
+use Rattle.mw_text.proofs.Numbers.{earlier}
 use Rattle.walk_def.proofs.Arrivals.{known_stays}
 use Rattle.walk_def.proofs.Known.{known-set}
 use Rattle.packet_fates.specs.Reaching.{AreClosed, AreInside, AreReached, IsLedTo, Leads, here, further, hops_at}
@@ -103,9 +104,6 @@ abbrev pub ClosedBelow : List (List Hop) → List Bool → ℕ → Type 0
 ClosedBelow all marks bound =
     (from : ℕ) (i : IfaceId) → from < bound → known marks from ≡ true → Contains (hops_at all from) (To i)
     → known marks i.router ≡ true
-
-pub earlier : (from at : ℕ) → from < at + 1 → (from < at) ⊎ (from ≡ at)
-earlier from at below = grind (arith, below)
 
 pub skip_unmarked : (all : List (List Hop)) (marks : List Bool) (at : ℕ) → known marks at ≡ false →
     ClosedBelow all marks at → ClosedBelow all marks (at + 1)

@@ -28,6 +28,7 @@ use Rattle.walk_def.proofs.Members.{last-same, test-of_item}
 use Rattle.walk_def.proofs.Worlds.{begun}
 use Rattle.walk_def.specs.Marks.{is_end, is_inside, known}
 use Rattle.walk_def.specs.Sending.{AreSent}
+use Rattle.walk_def.proofs.Ends.{may_end, must_end}
 use Rattle.packet_fates.specs.declared.fate.Fate.{Fate}
 use Rattle.packet_fates.specs.declared.fate.Fate.TheVariants.{Delivered, Left, BlackHole, Loop}
 use Rattle.packet_fates.specs.Ends.{AreThose, IsEndOf, IsFateOf}
@@ -37,28 +38,6 @@ use Rattle.packet_fates.specs.Rounds.{SomeRound}
 use Rattle.packet_fates.proofs.Spreading.{hops_within, leads_on}
 
 -- ---- ends that a router gives by itself
-
-must_end : (hops : ℕ → List Hop) (before : List Start) (now : Start) (end : End) → is_end end ≡ true →
-    MayEnd hops before now end → Contains (hops now.router) (Ends end)
-must_end hops before now EndDelivered proper may = may
-must_end hops before now (EndLeft a) proper may = may
-must_end hops before now NoRoute proper may = may
-must_end hops before now Discarded proper may = may
-must_end hops before now (DeniedIn i) proper may = may
-must_end hops before now DeniedOut proper may = may
-must_end hops before now EndLoop proper may = cc
-must_end hops before now Open proper may = cc
-
-may_end : (hops : ℕ → List Hop) (before : List Start) (now : Start) (end : End) → is_end end ≡ true →
-    Contains (hops now.router) (Ends end) → MayEnd hops before now end
-may_end hops before now EndDelivered proper has = has
-may_end hops before now (EndLeft a) proper has = has
-may_end hops before now NoRoute proper has = has
-may_end hops before now Discarded proper has = has
-may_end hops before now (DeniedIn i) proper has = has
-may_end hops before now DeniedOut proper has = has
-may_end hops before now EndLoop proper has = cc
-may_end hops before now Open proper has = cc
 
 -- ---- where hops lead, a walk goes
 

@@ -5,12 +5,12 @@ use Rattle.std.proofs.Common.{subst, arith, ◌∙◌, ◌⊎◌, inl, inr}
 use Rattle.std.specs.Prelude.{Contains, slice_get}
 use Rattle.std.proofs.lemmas.List.Elements.{Contains-append_left, Contains-push, Contains-push_cases}
 use Rattle.std.proofs.lemmas.Option.{slice_get_within}
+use Rattle.mw_text.proofs.Numbers.{earlier}
 use Rattle.ios_ast.specs.declared.file.File.{File}
 use Rattle.net_parts.specs.declared.sessions.SessionEnd.{SessionEnd}
 use Rattle.net_parts.specs.Sessions.{ends_of}
 use Rattle.paired_nets.specs.declared.ends.EndPair.{EndPair}
 use Rattle.paired_nets.specs.Ends.{AreCommonEnds, AreEndPairs, AreOneEnd, ArePut, IsPairOf, with_pair}
-use Rattle.paired_nets.proofs.Pairing.{earlier}
 
 -- ---- the ends of the right network, one at a time
 

@@ -1,7 +1,7 @@
 -- The places of common links, one link of the left network at a time.
 use Rattle.std.proofs.Common.{◌≡◌, ℕ, ◌+◌, ◌<◌, ◌≤◌, Bool, true, false, ◌&&◌, List, [], ◌∷◌, ◌++◌, length, get_or}
 use Rattle.std.proofs.Common.{Option, Some}
-use Rattle.std.proofs.Common.{None, refl, sym, ap, subst, arith, ◌∙◌, ◌⊎◌, inl, inr, eqb, eq-eqb, cond}
+use Rattle.std.proofs.Common.{None, refl, sym, ap, subst, arith, ◌∙◌, inl, inr, eqb, eq-eqb, cond}
 use Rattle.std.specs.Prelude.{Contains, nat_lt, position, slice_get}
 use Rattle.std.specs.List.{position_or_len}
 use Rattle.std.proofs.lemmas.Bool.{cases_order, ltb-false}
@@ -11,6 +11,7 @@ use Rattle.std.proofs.lemmas.List.Sums.{fails_before_first}
 use Rattle.std.proofs.lemmas.Option.{get_or_from_slice_get, slice_get-get_or, slice_get_within}
 use Rattle.mw_text.specs.declared.address.Prefix.{Prefix}
 use Rattle.mw_text.specs.Address.{same_prefix}
+use Rattle.mw_text.proofs.Numbers.{earlier, not_both}
 use Rattle.ios_ast.specs.declared.file.File.{File}
 use Rattle.net_model.proofs.OneSubnet.{one_prefix}
 use Rattle.net_parts.specs.declared.links.Link.{Link}
@@ -24,10 +25,6 @@ use Rattle.paired_nets.specs.Links.{AreOneLink, ArePairs, with_pair}
 pub self_prefix : (p : Prefix) → same_prefix p p ≡ true
 self_prefix p =
     ap (λ b. b && eqb p.len p.len) (eq-eqb p.addr.0 p.addr.0 refl) ∙ eq-eqb p.len p.len refl
-
-never : (b : Bool) → b ≡ true → b ≡ false → ⊥
-never true marked unmarked = cc
-never false marked unmarked = cc
 
 -- where a list has no such place no item passes
 none_passes_at : {X : Type 0} (p : X → Bool) (xs : List X) (k : ℕ) (x : X) → position p xs ≡ None →
@@ -43,9 +40,6 @@ none_passes_at p xs k x none found = by_test (nat_lt (position_or_len p xs) (len
         ap p (sym (get_or_from_slice_get xs k x x found))
         ∙ fails_before_first p xs k x (omega (arith, past, within))
 
-pub earlier : (one at : ℕ) → one < at + 1 → (one < at) ⊎ (one ≡ at)
-earlier one at below = grind (arith, below)
-
 abbrev on : Link → Link → Bool
 on link l = same_prefix l.prefix link.prefix
 
@@ -60,13 +54,13 @@ only_place files link b k other found there same =
     let below = slice_get_within xs other b there in
     elim (cases_order other k) [
       | inl one ↦ one
-      | inr (inl less) ↦ absurd (never (on link b) here (ap (on link) (sym read) ∙ fail other less))
+      | inr (inl less) ↦ absurd (not_both (on link b) here (ap (on link) (sym read) ∙ fail other less))
       | inr (inr more) ↦ let before = links_ascend files k other link more below in
           let first : (get_or xs k link).prefix ≡ link.prefix =
           one_prefix (get_or xs k link).prefix link.prefix passes in
           let second : (get_or xs other link).prefix ≡ link.prefix = ap (λ l. l.prefix) read ∙ sym same in
           let apart = before-apart (get_or xs k link).prefix (get_or xs other link).prefix before in
-          absurd (never (same_prefix link.prefix link.prefix) (self_prefix link.prefix)
+          absurd (not_both (same_prefix link.prefix link.prefix) (self_prefix link.prefix)
           (ap (λ p. same_prefix p link.prefix) (sym first)
           ∙ ap (λ p. same_prefix (get_or xs k link).prefix p) (sym second) ∙ apart))
     ]
@@ -101,7 +95,7 @@ pairs_more left right at link None out new there place made so_far =
         | inr here ↦ let is = same_link left at one link a here there on_left in
             let one_subnet : link.prefix ≡ b.prefix = ap (λ l. l.prefix) is ∙ same in
             let passes : on link b ≡ true = ap (λ p. same_prefix b.prefix p) one_subnet ∙ self_prefix b.prefix in
-            absurd (never (on link b) passes (none_passes_at (on link) (links_of right) other b (sym place) on_right))
+            absurd (not_both (on link b) passes (none_passes_at (on link) (links_of right) other b (sym place) on_right))
       ];
     })
 pairs_more left right at link (Some k) out new there place made so_far =

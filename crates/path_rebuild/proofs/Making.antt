@@ -7,6 +7,7 @@ use Rattle.std.proofs.lemmas.Option.{same_Some}
 use Rattle.mw_text.specs.declared.address.Addr.{Addr}
 use Rattle.mw_text.specs.declared.address.Prefix.{Prefix}
 use Rattle.mw_text.specs.Address.{prefix_at}
+use Rattle.mw_text.proofs.Found.{find_passes, no_value}
 use Rattle.ios_ast.specs.declared.file.File.{File}
 use Rattle.ios_ast.specs.Limits.{keeps_limits}
 use Rattle.route_record.specs.declared.BgpRec.{BgpRec}
@@ -41,9 +42,7 @@ use Rattle.rebuilt_routes.specs.Following.{real_routes}
 use Rattle.rebuilt_routes.specs.Following.{slot_with}
 use Rattle.rebuilt_routes.proofs.Followed.{are_real}
 use Rattle.rebuilt_routes.proofs.Numbered.{from_end, numbered_place}
-use Rattle.rebuilt_routes.proofs.Options.{find_passes}
 use Rattle.rebuilt_routes.proofs.Sources.{arriving_in, routes_in}
-use Rattle.rebuilt_routes.proofs.RoutesDecided.{no_value}
 use Rattle.path_rebuild.specs.declared.Rebuilt.{Rebuilt}
 use Rattle.path_rebuild.specs.Follows.{AllFollow, AreAnnounced, IsImported, IsRebuilt, IsRebuiltSlot, Known, known_of}
 use Rattle.path_rebuild.specs.declared.ShapeRec.{ShapeRec}

@@ -3,12 +3,13 @@ use Rattle.std.proofs.Common.{◌≡◌, ℕ, zero, suc, ◌+◌, ◌*◌, ◌<�
 use Rattle.std.proofs.Common.{Some, refl, sym, ap, ap₂, subst, arith, ◌∙◌, slice_get}
 use Rattle.std.specs.Prelude.{◌&&◌, ◌↔◌, All}
 use Rattle.std.proofs.lemmas.Bool.{and_from, and_parts}
-use Rattle.std.proofs.lemmas.List.{length-drop, length-map, length-take-le, map-append, take_all, take_more}
+use Rattle.std.proofs.lemmas.List.{length-drop, length-map, length-take-le, map-append, take_all}
 use Rattle.std.proofs.lemmas.List.Elements.{All-drop, All-pop, All-push, All-take}
 use Rattle.std.proofs.lemmas.Nat.{mul-le}
-use Rattle.std.proofs.lemmas.Option.{get_or_from_slice_get, slice_get_within}
+use Rattle.std.proofs.lemmas.Option.{slice_get_within}
 use Rattle.std.proofs.Math.Nat.{suc-mul}
 use Rattle.mw_text.proofs.Lists.{all_found}
+use Rattle.mw_text.proofs.Found.{take_at}
 use Rattle.route_record.specs.declared.tracked.Tracked.{Tracked}
 use Rattle.sym_policy.specs.declared.records.SymBgp.{SymBgp}
 use Rattle.sym_rib.specs.Into.{list_end}
@@ -17,12 +18,6 @@ use Rattle.peers_beside.specs.Same.{HaveLists, row}
 use Rattle.peers_beside.proofs.RowsRead.{row_is}
 
 -- ---- one item more
-
-take_read : {X : Type 0} (xs : List X) (i : ℕ) (x : X) → slice_get xs i ≡ Some x →
-    take (i + 1) xs ≡ take i xs ++ x ∷ []
-take_read xs i x there =
-    take_more xs i x (slice_get_within xs i x there)
-    ∙ ap (λ y. take i xs ++ y ∷ []) (get_or_from_slice_get xs i x x there)
 
 last_same : {Y : Type 0} (ps qs : List Y) (y z : Y) → length ps ≡ length qs → ps ++ y ∷ [] ≡ qs ++ z ∷ [] →
     (ps ≡ qs) × (y ≡ z)
@@ -48,10 +43,10 @@ same_more {X} {Y} f g xs ys i x y all one r here there so_far next is = (
 )
   where
     left : map f (take (i + 1) xs) ≡ map f (take i xs) ++ f x ∷ []
-    left = ap (map f) (take_read xs i x here) ∙ map-append f (take i xs) (x ∷ [])
+    left = ap (map f) (take_at xs i x here) ∙ map-append f (take i xs) (x ∷ [])
 
     right : map g (take (i + 1) ys) ≡ map g (take i ys) ++ g y ∷ []
-    right = ap (map g) (take_read ys i y there) ∙ map-append g (take i ys) (y ∷ [])
+    right = ap (map g) (take_at ys i y there) ∙ map-append g (take i ys) (y ∷ [])
 
     long : length (map f (take i xs)) ≡ length (map g (take i ys))
     long =
@@ -75,9 +70,9 @@ pub all_more : {X : Type 0} (P : X → Type 0) (xs : List X) (i : ℕ) (x : X) (
 all_more P xs i x all one r there so_far next is = (
   λ holds.
       let both = and_parts all one (sym is ∙ holds) in
-      subst (All P) (sym (take_read xs i x there)) (All-push P (take i xs) x (so_far.0 both.0) (next.0 both.1)),
+      subst (All P) (sym (take_at xs i x there)) (All-push P (take i xs) x (so_far.0 both.0) (next.0 both.1)),
   λ each.
-      let both = All-pop P (take (i + 1) xs) (take i xs) (Some x) (take_read xs i x there) each in
+      let both = All-pop P (take (i + 1) xs) (take i xs) (Some x) (take_at xs i x there) each in
       is ∙ and_from all one (so_far.1 both.0) (next.1 both.1),
 )
 

@@ -12,6 +12,7 @@ use Rattle.std.proofs.lemmas.List.Elements.{All-append, All-cons, All-head, All-
 use Rattle.std.proofs.lemmas.List.Kept.{AllPairs-cons, AllPairs-filter}
 use Rattle.std.proofs.lemmas.Option.{get_or_from_slice_get, same_Some, slice_get-map, slice_get_within}
 use Rattle.mw_text.proofs.Lists.{all_at}
+use Rattle.mw_text.proofs.Found.{find_passes, mapped}
 use Rattle.ios_ast.specs.declared.bgp.Bgp.{Bgp}
 use Rattle.ios_ast.specs.declared.bgp.Neighbour.{Neighbour}
 use Rattle.ios_ast.specs.declared.file.File.{File}
@@ -30,7 +31,7 @@ use Rattle.bgp_shapes.specs.Crossings.{is_from}
 use Rattle.bgp_shapes.proofs.Once.{process_of}
 use Rattle.rebuilt_routes.specs.Following.{numbered_end}
 use Rattle.rebuilt_routes.proofs.Numbered.{IsNumbered, from_end}
-use Rattle.rebuilt_routes.proofs.Options.{find_passes, mapped, numbered_there}
+use Rattle.rebuilt_routes.proofs.Options.{numbered_there}
 
 -- of one router, the earlier has the earlier line
 abbrev IsEarlier : Peering → Peering → Type 0

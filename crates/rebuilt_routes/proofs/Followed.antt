@@ -6,6 +6,7 @@ use Rattle.std.specs.List.{find}
 use Rattle.std.specs.Option.{option_map_or}
 use Rattle.std.proofs.lemmas.Option.{same_Some}
 use Rattle.mw_text.specs.declared.address.Prefix.{Prefix}
+use Rattle.mw_text.proofs.Found.{mapped}
 use Rattle.ios_ast.specs.declared.file.File.{File}
 use Rattle.route_record.specs.declared.BgpMsg.{BgpMsg}
 use Rattle.route_record.specs.declared.BgpRec.{BgpRec}
@@ -39,7 +40,6 @@ use Rattle.rebuilt_routes.specs.Following.{own_routes, real_route, real_routes, 
 use Rattle.rebuilt_routes.proofs.Crossed.{IsShapeSent, IsShapeTaken, shape_sent_parts, shape_taken_parts, small}
 use Rattle.rebuilt_routes.proofs.Fuel.{counted, counted_few, counted_strict}
 use Rattle.rebuilt_routes.proofs.Numbered.{end_alone, has_address, numbered_is, numbered_place}
-use Rattle.rebuilt_routes.proofs.Options.{mapped}
 use Rattle.rebuilt_routes.specs.Ranks.{RanksLessBehind, rank}
 use Rattle.rebuilt_routes.proofs.Ranks.{IsKept, falls}
 

@@ -5,6 +5,7 @@ use Rattle.std.specs.Prelude.{option_map, slice_get}
 use Rattle.std.specs.Option.{option_map_or}
 use Rattle.std.proofs.lemmas.Bool.{and_parts, eqb-true}
 use Rattle.std.proofs.lemmas.Bool.Decides.{nat_tests}
+use Rattle.mw_text.proofs.Found.{find_passes}
 use Rattle.ios_ast.specs.declared.bgp.Neighbour.{Neighbour}
 use Rattle.ios_ast.specs.declared.file.File.{File}
 use Rattle.net_parts.specs.declared.sessions.SessionEnd.{SessionEnd}
@@ -12,7 +13,7 @@ use Rattle.net_parts.specs.Sessions.{ends_of, neighbour_of}
 use Rattle.bgp_shapes.specs.Crossings.{end_numbered, is_from}
 use Rattle.bgp_shapes.specs.Messages.{lacks_address}
 use Rattle.rebuilt_routes.specs.Following.{numbered_end}
-use Rattle.rebuilt_routes.proofs.Options.{find_passes, numbered_there, unnumbered_find}
+use Rattle.rebuilt_routes.proofs.Options.{numbered_there, unnumbered_find}
 
 -- an end of the router, whose neighbour has that number
 pub record IsNumbered (files : List File) (router n : ℕ) (end : SessionEnd) : Type 0 where

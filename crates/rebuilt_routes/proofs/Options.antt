@@ -1,6 +1,6 @@
 -- What is known of options that a call gives, and of the first item that passes.
 use Rattle.std.proofs.Common.{◌≡◌, ℕ, zero, suc, ◌+◌, not, ◌&&◌, ◌||◌, Bool, true, false, List, [], ◌∷◌}
-use Rattle.std.proofs.Common.{Option, Some, None, refl, sym, ap, ◌∙◌, if◌then◌else◌, arith}
+use Rattle.std.proofs.Common.{Option, Some, None, refl, ap, if◌then◌else◌, arith}
 use Rattle.std.specs.Prelude.{IfSome, option_and_then, option_map, slice_get}
 use Rattle.std.specs.List.{enumerate_from, find}
 use Rattle.std.proofs.lemmas.Option.{same_Some}
@@ -15,11 +15,6 @@ pub if_found : {X Y : Type 0} (P : Y → Type 0) (f : X → Option Y) (o : Optio
     ((x : X) → o ≡ Some x → IfSome (f x) P) → IfSome (option_and_then f o) P
 if_found P f None each = tt
 if_found P f (Some x) each = each x refl
-
-pub mapped : {X Y : Type 0} (f : X → Y) (o : Option X) (y : Y) → option_map f o ≡ Some y →
-    (x : X) × (o ≡ Some x) × (f x ≡ y)
-mapped f None y is = absurd cc
-mapped f (Some x) y is = (x, refl, same_Some (f x) y is)
 
 pub chosen : {X : Type 0} (b : Bool) (o : Option X) (x : X) → (if b then o else None) ≡ Some x →
     (b ≡ true) × (o ≡ Some x)
@@ -38,16 +33,6 @@ not_or true false c one other either = absurd cc
 not_or false b c one other either = absurd cc
 
 -- ---- the first item that passes
-
--- it passes
-pub find_passes : {X : Type 0} (p : X → Bool) (xs : List X) (x : X) → find p xs ≡ Some x → p x ≡ true
-find_passes p [] x is = absurd cc
-find_passes p (y ∷ ys) x is = by (p y) refl is (find_passes p ys x)
-  where
-    by : (b : Bool) → p y ≡ b → (if b then Some y else find p ys) ≡ Some x → (find p ys ≡ Some x → p x ≡ true) →
-        p x ≡ true
-    by true e is rest = ap p (sym (same_Some y x is)) ∙ e
-    by false e is rest = rest is
 
 -- among numbered items, it stands at its place
 pub numbered_there : {X : Type 0} (p : ℕ × X → Bool) (n : ℕ) (xs : List X) (at : ℕ) (x : X) →

@@ -7,6 +7,7 @@ use Rattle.std.specs.List.{enumerate_from, find}
 use Rattle.std.proofs.lemmas.List.Elements.{All-contains}
 use Rattle.mw_text.specs.Members.{In}
 use Rattle.mw_text.specs.declared.address.Prefix.{Prefix}
+use Rattle.mw_text.proofs.Found.{find_passes}
 use Rattle.ios_ast.specs.declared.file.File.{File}
 use Rattle.route_record.specs.declared.BgpRec.{BgpRec}
 use Rattle.route_record.specs.declared.Environment.{Environment}
@@ -26,7 +27,6 @@ use Rattle.rebuilt_routes.specs.Following.{AllFollow, AreReal, arriving_of, foll
 use Rattle.rebuilt_routes.specs.Following.{real_routes}
 use Rattle.rebuilt_routes.proofs.Followed.{are_real}
 use Rattle.rebuilt_routes.proofs.Numbered.{from_end, numbered_place}
-use Rattle.rebuilt_routes.proofs.Options.{find_passes}
 use Rattle.rebuilt_routes.proofs.Plain.{IsPlain}
 use Rattle.rebuilt_routes.proofs.ShapesFollow.{own_plain}
 use Rattle.rebuilt_routes.proofs.Supported.{IsHeardRoute}

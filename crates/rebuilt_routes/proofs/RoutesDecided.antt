@@ -9,6 +9,7 @@ use Rattle.std.proofs.lemmas.List.Elements.{All-contains, All-nil, All-weaker}
 use Rattle.mw_text.specs.Members.{In}
 use Rattle.mw_text.specs.declared.address.Addr.{Addr}
 use Rattle.mw_text.specs.declared.address.Prefix.{Prefix}
+use Rattle.mw_text.proofs.Found.{mapped, no_value}
 use Rattle.ios_ast.specs.declared.bgp.Bgp.{Bgp}
 use Rattle.ios_ast.specs.declared.file.File.{File}
 use Rattle.ios_ast.specs.Limits.{keeps_limits}
@@ -47,7 +48,6 @@ use Rattle.rebuilt_routes.specs.Following.{real_routes, slot_with}
 use Rattle.rebuilt_routes.proofs.EndsApart.{end_again}
 use Rattle.rebuilt_routes.proofs.Followed.{are_real}
 use Rattle.rebuilt_routes.proofs.Numbered.{has_address, IsNumbered}
-use Rattle.rebuilt_routes.proofs.Options.{mapped}
 use Rattle.rebuilt_routes.proofs.Plain.{IsPlain, locals_plain}
 use Rattle.rebuilt_routes.proofs.ReflectorsOnce.{IsRouteTaken, IsUnlooped, all_unlooped, heard_unlooped, once_named}
 use Rattle.rebuilt_routes.proofs.ReflectorsOnce.{route_taken_parts}
@@ -110,11 +110,6 @@ key_is tracked files router r s plain same =
       clusters = clusters i;
       address = address i;
     }
-
--- nothing comes of nothing
-pub no_value : {X Y : Type 0} (f : X → Y) (o : Option X) → option_map f o ≡ None → o ≡ None
-no_value f None is = refl
-no_value f (Some x) is = absurd cc
 
 -- local routes look at no BGP route of their slot
 local_unread : (files : List File) (router : ℕ) (file : File) (process : Bgp) (p : Prefix) (route : Option BgpRec)

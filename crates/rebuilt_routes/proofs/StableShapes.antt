@@ -36,7 +36,6 @@ use Rattle.bgp_shapes.proofs.HeldLaw.{held_complete}
 use Rattle.bgp_shapes.proofs.TrackedLaw.{tests_tracked}
 use Rattle.rebuilt_routes.specs.Clusters.{HasBoundedLists, IsKeptBySessions, NamesReflectorsOnce}
 use Rattle.rebuilt_routes.specs.Deciding.{AreDecidedShapes, is_decided_shape}
-use Rattle.rebuilt_routes.proofs.Options.{mapped}
 use Rattle.rebuilt_routes.proofs.Plain.{IsPlain, locals_plain}
 use Rattle.rebuilt_routes.proofs.ReflectorsOnce.{IsRouteTaken, IsUnlooped, all_unlooped, heard_unlooped, once_named}
 use Rattle.rebuilt_routes.proofs.ReflectorsOnce.{route_taken_parts}
@@ -46,6 +45,7 @@ use Rattle.rebuilt_routes.proofs.Sources.{routes_in, survivors_all}
 use Rattle.rebuilt_routes.proofs.Supported.{IsAnnounced, IsHeardRoute, arrived_from, has_marks, supported}
 use Rattle.net_parts.specs.Exports.{imported}
 use Rattle.mw_text.specs.Members.{In}
+use Rattle.mw_text.proofs.Found.{mapped}
 
 module _ (files : List File) (destination : Addr) (failures : Failures) (environment : Environment) (tables : Tables)
     (stable : Stable files destination failures environment tables) (len : ℕ) (below : len < LENGTHS) where

@@ -6,6 +6,7 @@ use Rattle.std.specs.Prelude.{option_map, slice_get}
 use Rattle.std.specs.List.{find, list_all}
 use Rattle.std.proofs.lemmas.List.{length-map}
 use Rattle.mw_text.specs.declared.address.Prefix.{Prefix}
+use Rattle.mw_text.proofs.Found.{mapped}
 use Rattle.ios_ast.specs.declared.bgp.Neighbour.{Neighbour}
 use Rattle.ios_ast.specs.declared.file.File.{File}
 use Rattle.ios_ast.specs.Limits.{keeps_limits}
@@ -37,7 +38,6 @@ use Rattle.rebuilt_routes.specs.Following.{arriving_of}
 use Rattle.rebuilt_routes.proofs.Crossed.{IsShapeSent, IsShapeTaken, shape_sent_parts, shape_taken_parts, small}
 use Rattle.rebuilt_routes.proofs.EndsApart.{end_again}
 use Rattle.rebuilt_routes.proofs.Numbered.{end_alone, has_address, numbered_is}
-use Rattle.rebuilt_routes.proofs.Options.{mapped}
 use Rattle.rebuilt_routes.proofs.Plain.{IsPlain}
 use Rattle.rebuilt_routes.specs.Ranks.{rank}
 use Rattle.rebuilt_routes.proofs.Ranks.{IsKept, falls}

@@ -22,9 +22,10 @@ use Rattle.ios_ast.specs.declared.policies.SetAct.{SetAct}
 use Rattle.ios_ast.specs.declared.policies.SetAct.TheVariants.{LocalPref, Metric, Weight, NoCommunity, Community}
 use Rattle.ios_ast.specs.declared.policies.SetAct.TheVariants.{Origin, Prepend, Type1}
 use Rattle.ios_ast.specs.Communities.{with_communities, with_community}
-use Rattle.ios_ast.specs.Deciding.{carries, in_order, put_by}
+use Rattle.ios_ast.specs.Deciding.{carries, in_order}
 use Rattle.ios_ast.specs.Maps.{deciding, entries_named, mapped, route_taken, through_map}
 use Rattle.ios_ast.specs.Setting.{Attributes, set_all, set_one}
+use Rattle.ios_ast.proofs.Order.{ordered_all}
 use Rattle.route_record.specs.declared.BgpMsg.{BgpMsg}
 use Rattle.route_record.specs.declared.BgpRec.{BgpRec}
 use Rattle.route_record.specs.declared.Origin.{Origin as OriginOf}
@@ -46,22 +47,6 @@ use Rattle.rebuilt_routes.specs.Words.{HasWordSets, HasWordValues, SetsWords}
 use Rattle.rebuilt_routes.proofs.Options.{if_found, if_true}
 
 -- ---- lists
-
--- an item that is put in brings in itself alone
-pub put_all : {X : Type 0} (P : X → Type 0) (number : X → ℕ) (e : X) (xs : List X) → P e → All P xs →
-    All P (put_by number e xs)
-put_all P number e [] here all = All-cons P e [] here all
-put_all P number e (x ∷ xs) here all =
-    by (nat_le (number e) (number x)) (put_all P number e xs here (All-tail P x xs all))
-  where
-    by : (b : Bool) → All P (put_by number e xs) → All P (if b then e ∷ x ∷ xs else x ∷ put_by number e xs)
-    by true rest = All-cons P e (x ∷ xs) here all
-    by false rest = All-cons P x (put_by number e xs) (All-head P x xs all) rest
-
-pub ordered_all : {X : Type 0} (P : X → Type 0) (number : X → ℕ) (xs : List X) → All P xs → All P (in_order number xs)
-ordered_all P number [] all = all
-ordered_all P number (x ∷ xs) all =
-    put_all P number x (in_order number xs) (All-head P x xs all) (ordered_all P number xs (All-tail P x xs all))
 
 pub found_all : {X : Type 0} (P : X → Type 0) (p : X → Bool) (xs : List X) → All P xs → IfSome (find p xs) P
 found_all P p [] all = tt

@@ -157,3 +157,11 @@ given_from_deleted = by_steps KeepsGood Deletes (λ id h. h) (λ es e kept earli
       | inl before ↦ earlier id before
       | inr now ↦ deleted_now es e id kept.1 now
     ]))
+
+-- a clause that is held was given
+pub given_of_held : (es : List Entry) (id : ℕ) (c : Clause) → clause_held es id ≡ Some c → clause_given es id ≡ Some c
+given_of_held es id c there = by (is_deleted es id) (clause_given es id) there
+  where
+    by : (b : Bool) (o : Option Clause) → cond b None o ≡ Some c → o ≡ Some c
+    by true o h = absurd (cc)
+    by false o h = h

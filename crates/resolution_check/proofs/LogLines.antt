@@ -3,12 +3,13 @@ use Rattle.std.proofs.Common.{◌≡◌, refl, sym, ◌∙◌, ap, ap₂, ℕ, �
 use Rattle.std.proofs.Common.{get_or, append_assoc, arith}
 use Rattle.std.specs.List.{list_all, All, AllByRecursion, slice_split, join_with_byte}
 use Rattle.std.proofs.lemmas.Bool.{and_parts, and_from, ltb-true, lt-ltb, ne_eqb}
-use Rattle.std.proofs.lemmas.List.{append_cancel_right}
+use Rattle.std.proofs.lemmas.Grind.{flat_map-append}
+use Rattle.std.proofs.lemmas.List.{append-nil, append_cancel_right}
 use Rattle.std.proofs.lemmas.List.Folds.{list_all-append}
 use Rattle.std.proofs.lemmas.List.Splits.{slice_split_at}
 use Rattle.std.proofs.lemmas.List.Sums.{AllPass-from_list_all}
 use Rattle.resolution_check.specs.declared.log.Entry.{Entry}
-use Rattle.resolution_check.specs.Text.{entry_words, text_of, HasText, log_text, is_line_feed}
+use Rattle.resolution_check.specs.Text.{entry_words, text_of, HasText, line_of, log_text, is_line_feed}
 use Rattle.resolution_check.proofs.Texts.{IsPlain}
 use Rattle.resolution_check.proofs.Lines.{words_plain, same_entry}
 
@@ -66,3 +67,11 @@ pub same_log : (ds es : List Entry) → AllByRecursion HasText ds → AllByRecur
 same_log ds es h k same =
     let lines = sym (lines-log_text ds h) ∙ ap (slice_split is_line_feed) same ∙ lines-log_text es k in
     same_texts ds es h k (append_cancel_right (map text_of ds) (map text_of es) ([] ∷ []) lines)
+
+-- ---- one entry more
+
+pub text-append : (es ds : List Entry) → log_text (es ++ ds) ≡ log_text es ++ log_text ds
+text-append es ds = flat_map-append line_of es ds
+
+pub text-push : (es : List Entry) (e : Entry) → log_text (es ++ e ∷ []) ≡ log_text es ++ line_of e
+text-push es e = text-append es (e ∷ []) ∙ ap (λ t. log_text es ++ t) (append-nil (line_of e))

@@ -1,6 +1,6 @@
 -- Variables of clauses, and tests by a variable, for what follows a trail back.
-use Rattle.std.proofs.Common.{◌≡◌, ℕ, zero, suc, ◌+◌, ◌==◌, Bool, true, false, not, cond, ◌&&◌, ◌||◌, List}
-use Rattle.std.proofs.Common.{[], ◌∷◌, ◌++◌, take, slice_get, Some, inl, inr, refl, sym, ap, ◌∙◌, add-one}
+use Rattle.std.proofs.Common.{◌≡◌, ℕ, ◌==◌, Bool, true, false, cond, ◌&&◌, List}
+use Rattle.std.proofs.Common.{[], ◌∷◌, ◌++◌, Some, inl, inr, refl, sym, ap, ◌∙◌}
 use Rattle.std.proofs.lemmas.Bool.{not-true, not_from_false, cases_Bool, eqb-true, eq-eqb, false≢true, true≢false}
 use Rattle.std.proofs.lemmas.Bool.{or_cases, or_left, or_right, and_parts, and_from, or_parts, or_from}
 use Rattle.std.specs.Bool.{beq}
@@ -73,13 +73,3 @@ lose false x h = (refl, h)
 pub gain : (b x : Bool) → b ≡ false → x ≡ true → cond b false x ≡ true
 gain true x h g = absurd (true≢false h)
 gain false x h g = g
-
--- one item more
-pub take_at : {X : Type 0} (xs : List X) (i : ℕ) (x : X) → slice_get xs i ≡ Some x
-    → take (i + 1) xs ≡ take i xs ++ x ∷ []
-take_at {X} xs i x h = ap (λ n. take n xs) (add-one i) ∙ by xs i h
-  where
-    by : (ys : List X) (k : ℕ) → slice_get ys k ≡ Some x → take (suc k) ys ≡ take k ys ++ x ∷ []
-    by [] k g = absurd cc
-    by (y ∷ ys) zero g = let e : y ≡ x = cc in ap (λ z. z ∷ []) e
-    by (y ∷ ys) (suc k) g = ap (λ l. y ∷ l) (by ys k g)

@@ -5,11 +5,12 @@ use Rattle.std.specs.Prelude.{◌==◌, All, if◌then◌else◌}
 use Rattle.std.specs.List.{list_all}
 use Rattle.std.specs.Option.{option_map_or}
 use Rattle.std.proofs.Math.Bool.{and_assoc, and-true}
-use Rattle.std.proofs.lemmas.Bool.{and_parts, eqb-true, leb-true}
+use Rattle.std.proofs.lemmas.Bool.{and_parts, leb-true}
 use Rattle.std.proofs.lemmas.Grind.{common_steps}
 use Rattle.std.proofs.lemmas.List.Elements.{All-cons, All-nil}
 use Rattle.std.proofs.lemmas.List.{drop_all}
 use Rattle.std.proofs.lemmas.Option.{same_Some}
+use Rattle.mw_text.proofs.Numbers.{apart}
 use Rattle.ios_ast.specs.declared.file.File.{File}
 use Rattle.route_record.specs.declared.Slot.{Slot}
 use Rattle.route_record.specs.declared.Tables.{Tables}
@@ -32,12 +33,6 @@ use Rattle.term_store.specs.Terms.{Reading}
 use Rattle.ospf_equations.proofs.ReachedSteps.{nothing_there, something_there}
 use Rattle.routing_encoder.specs.Looping.{is_interior_entry, is_interior_read, only_loops}
 
-above : (n m : ℕ) → m < n → (n == m) ≡ false
-above n m less = by (n == m) refl where
-  by : (b : Bool) → (n == m) ≡ b → (n == m) ≡ false
-  by true same = let is = eqb-true n m same in absurd (omega (arith, is, less))
-  by false other = other
-
 -- the test of an entry that may be there, by its numbers
 pub interior_is : (valid : Bool) (n distance : ℕ) → (not valid || ((n == 0) || (n == 3)))
     ≡ is_interior_entry (if valid then Some (record { source = source_of_number n; distance = distance }) else None)
@@ -47,8 +42,8 @@ interior_is true (suc zero) distance = refl
 interior_is true (suc (suc zero)) distance = refl
 interior_is true (suc (suc (suc zero))) distance = refl
 interior_is true (suc (suc (suc (suc n)))) distance =
-    rw (above (suc (suc (suc (suc n)))) 0 (omega arith)) (rw (above (suc (suc (suc (suc n)))) 1 (omega arith))
-    (rw (above (suc (suc (suc (suc n)))) 2 (omega arith)) (rw (above (suc (suc (suc (suc n)))) 3 (omega arith)) refl)))
+    rw (apart (suc (suc (suc (suc n)))) 0 (omega arith)) (rw (apart (suc (suc (suc (suc n)))) 1 (omega arith))
+    (rw (apart (suc (suc (suc (suc n)))) 2 (omega arith)) (rw (apart (suc (suc (suc (suc n)))) 3 (omega arith)) refl)))
 
 -- ---- one slot after another
 

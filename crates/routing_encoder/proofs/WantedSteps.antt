@@ -15,6 +15,7 @@ use Rattle.mw_text.specs.declared.address.Addr.{Addr}
 use Rattle.mw_text.specs.declared.address.Prefix.{Prefix}
 use Rattle.mw_text.specs.Address.{prefix_at}
 use Rattle.mw_text.proofs.Lists.{all_found}
+use Rattle.mw_text.proofs.Found.{mapped, no_value}
 use Rattle.ios_ast.specs.declared.file.File.{File}
 use Rattle.route_record.specs.declared.Failures.{Failures}
 use Rattle.route_record.specs.declared.Packet.{Packet}
@@ -54,8 +55,6 @@ use Rattle.world_variables.specs.Symbols.{open_of}
 use Rattle.world_variables.specs.Worlds.{opens_from as unknowns_read_from, places_in}
 use Rattle.ospf_equations.specs.Equations.{StandFor}
 use Rattle.ospf_equations.specs.Reached.{AreHeld}
-use Rattle.rebuilt_routes.proofs.Options.{mapped}
-use Rattle.rebuilt_routes.proofs.RoutesDecided.{no_value}
 use Rattle.shape_worlds.specs.Worlds.{ShapeWorld, slots_for}
 use Rattle.bgp_equations.specs.Equations.{slot_read}
 use Rattle.bgp_worlds.specs.Opens.{OpenSlot, empty_shape, is_igp_wanted, open_shape, shape_slot_among, shape_slot_of}

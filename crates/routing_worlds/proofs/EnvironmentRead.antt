@@ -10,6 +10,7 @@ use Rattle.std.proofs.lemmas.List.Elements.{All-contains}
 use Rattle.std.proofs.lemmas.Option.{same_Some}
 use Rattle.mw_text.specs.Members.{In}
 use Rattle.mw_text.specs.declared.address.Addr.{Addr}
+use Rattle.mw_text.proofs.Found.{find_passes}
 use Rattle.ios_ast.specs.declared.bgp.Neighbour.{Neighbour}
 use Rattle.ios_ast.specs.declared.file.File.{File}
 use Rattle.route_record.specs.declared.Plan.{Plan}
@@ -39,7 +40,6 @@ use Rattle.bgp_variables.specs.Rooms.{announcement_room}
 use Rattle.bgp_variables.specs.Shapes.{FitBgpRooms, FitsBgpRoom, FitsShape}
 use Rattle.bgp_variables.proofs.Fitting.{announced_fits}
 use Rattle.bgp_variables.proofs.EnvironmentReading.{fit_append}
-use Rattle.rebuilt_routes.proofs.Options.{find_passes}
 use Rattle.bgp_worlds.specs.Opens.{AnnounceAtSlices}
 use Rattle.bgp_worlds.proofs.Placed.{not_made}
 use Rattle.routing_worlds.specs.Worlds.{announced_thing, announced_things}

@@ -5,13 +5,13 @@ use Rattle.std.specs.Prelude.{AllPairs, option_map, if◌then◌else◌}
 use Rattle.std.specs.List.{find}
 use Rattle.std.proofs.lemmas.Bool.Decides.{nat_tests}
 use Rattle.mw_text.specs.Members.{In}
+use Rattle.mw_text.proofs.Found.{no_value}
 use Rattle.net_interfaces.proofs.Pairs.{first, later}
 use Rattle.plan_places.specs.declared.places.Place.{Place}
 use Rattle.plan_places.specs.Places.{IsBefore, is_at, place}
 use Rattle.slot_places.proofs.PlaceLaws.{at-is}
 use Rattle.announced_places.specs.Announced.{made_over}
 use Rattle.rebuilt_routes.proofs.RealSources.{all_members}
-use Rattle.rebuilt_routes.proofs.RoutesDecided.{no_value}
 
 find_none : {X : Type 0} (p : X → Bool) (xs : List X) → ((x : X) → In x xs → p x ≡ false) → find p xs ≡ None
 find_none p [] none = refl

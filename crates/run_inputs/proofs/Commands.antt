@@ -2,6 +2,7 @@
 use Rattle.std.proofs.Common.{◌≡◌, ℕ, suc, ◌+◌, ◌<◌, true, false, List, [], ◌∷◌, ◌++◌, length, refl, ap, sym, arith, ◌∙◌, subst}
 use Rattle.std.proofs.Common.{Option, Some, None, Result, Ok, Err, option_map}
 use Rattle.std.specs.Prelude.{IfOk, IfErr, IfSome, is_some, option_and_then}
+use Rattle.mw_text.proofs.Found.{if_told_one}
 use Rattle.mw_outside.specs.Contents.{Contents}
 use Rattle.mw_outside.specs.Faults.{Rose}
 use Rattle.mw_words.specs.Asked.{Asked, asked_of, gen, verify}
@@ -16,7 +17,7 @@ use Rattle.run_inputs.specs.declared.text.Text.{Text}
 use Rattle.simulation.specs.declared.simulating.Simulated.{Simulated}
 use Rattle.run_inputs.specs.Loading.{ComesTo, IsReady, IsSaidOf, OnStop, UnlessReadFault, WorksSo}
 use Rattle.run_inputs.specs.Order.{StopsAt, StopsIn, order_by}
-use Rattle.run_inputs.proofs.Loading.{if_told_one, on_stop-map}
+use Rattle.run_inputs.proofs.Loading.{on_stop-map}
 
 -- ---- what is due for a command
 

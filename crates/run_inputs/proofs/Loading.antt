@@ -1,7 +1,7 @@
 -- Reading and parsing one after another.
-use Rattle.std.proofs.Common.{◌≡◌, ℕ, zero, suc, ◌+◌, ◌<◌, ◌≤◌, true, false, List, [], ◌∷◌, ◌++◌, length, take, drop}
+use Rattle.std.proofs.Common.{◌≡◌, ℕ, ◌+◌, ◌<◌, ◌≤◌, true, false, List, [], ◌∷◌, ◌++◌, length, take, drop}
 use Rattle.std.proofs.Common.{get_or, Option, Some, None, Result, Ok, Err, refl, ap, sym, arith, ◌∙◌}
-use Rattle.std.proofs.Common.{cond, append_assoc, nat_le, map, subst}
+use Rattle.std.proofs.Common.{cond, append_assoc, nat_le, subst}
 use Rattle.std.proofs.lemmas.Bool.{le-leb, lt-leb}
 use Rattle.std.specs.Prelude.{IfSome, IsSomeAnd}
 use Rattle.std.proofs.Math.Seq.{get_or-append_seam, take-append_seam}
@@ -14,6 +14,7 @@ use Rattle.run_inputs.specs.Loading.{OnStop}
 use Rattle.run_inputs.specs.declared.text.Text.{Text}
 use Rattle.mw_text.proofs.Reading.{EachTo, each-one, read-done, split-read}
 use Rattle.mw_text.specs.Reading.{each, following, in_turn, with_value}
+use Rattle.mw_text.proofs.Found.{if_told, if_told_one}
 use Rattle.run_inputs.specs.Due.{Outcome, unread, refused, text_of, text_within}
 use Rattle.run_inputs.specs.Order.{StopsAt}
 use Rattle.run_inputs.specs.Texts.{too_long}
@@ -64,24 +65,6 @@ pub on_stop-map : (stop : Stop) (P P' : List ℕ → Type 0) (Q Q' : Type 0) →
 on_stop-map (Refused line) P P' Q Q' said lines faults = lines line said
 on_stop-map ReadFault P P' Q Q' said lines faults = faults said
 on_stop-map Memory P P' Q Q' said lines faults = tt
-
--- two facts of what is told
-pub if_told : {A : Type 0} (told : Option A) (P Q R : A → Type 0) → IfSome told P → IfSome told Q
-    → ((x : A) → P x → Q x → R x) → IfSome told R
-if_told None P Q R p q both = tt
-if_told (Some x) P Q R p q both = both x p q
-
-pub if_told_one : {A : Type 0} (told : Option A) (P R : A → Type 0) → IfSome told P → ((x : A) → P x → R x)
-    → IfSome told R
-if_told_one None P R p one = tt
-if_told_one (Some x) P R p one = one x p
-
--- an item of a list of images
-pub read-at : {A B : Type 0} (f : A → B) (xs : List A) (i : ℕ) (d : A) → i < length xs →
-    f (get_or xs i d) ≡ get_or (map f xs) i (f (get_or xs i d))
-read-at f [] i d within = absurd (omega arith)
-read-at f (y ∷ ys) zero d within = refl
-read-at f (y ∷ ys) (suc i) d within = read-at f ys i d (omega arith)
 
 -- a read of one of the files failed, after those before it were read
 pub stops-here : (told : Option Contents) (names : List (List ℕ)) (i : ℕ) (name : List ℕ) (texts : List Text)
@@ -170,7 +153,3 @@ third_read (Some contents) names own asked texts question text most become wante
     (text_of contents asked))) read
     ∙ ap (following (λ q. following (become texts q) (text_within most contents own))) one
     ∙ ap (following (become texts question)) two ∙ is
-
-pub all_told : {A : Type 0} (told : Option A) (P : A → Type 0) → ((x : A) → P x) → IfSome told P
-all_told None P each = tt
-all_told (Some x) P each = each x

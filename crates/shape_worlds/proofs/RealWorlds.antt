@@ -11,6 +11,7 @@ use Rattle.std.proofs.lemmas.Option.{get_or_from_slice_get, slice_get-map, slice
 use Rattle.mw_text.specs.declared.address.Prefix.{Prefix}
 use Rattle.mw_text.specs.Address.{prefix_at}
 use Rattle.mw_text.proofs.Lists.{all_found, item_there, list_ext}
+use Rattle.mw_text.proofs.Found.{mapped}
 use Rattle.ios_ast.specs.declared.file.File.{File}
 use Rattle.ios_ast.specs.Limits.{keeps_limits}
 use Rattle.route_record.specs.declared.BgpRec.{BgpRec}
@@ -35,7 +36,6 @@ use Rattle.rebuilt_routes.proofs.ShapesFollow.{all_follow}
 use Rattle.route_record.specs.Fits.{FitsBgp}
 use Rattle.rebuilt_routes.specs.Deciding.{AreDecided, AreDecidedShapes, HaveRealRoutes, is_decided_shape}
 use Rattle.rebuilt_routes.specs.Following.{AllFollow, held_at, real_routes, slot_with}
-use Rattle.rebuilt_routes.proofs.Options.{mapped}
 use Rattle.rebuilt_routes.proofs.RoutesDecided.{are_decided}
 use Rattle.rebuilt_routes.proofs.StableShapes.{shapes_decided}
 use Rattle.shape_worlds.specs.Worlds.{IsRealWorld, ShapeWorld, environment_of, has_all_marks, is_decided_at}

@@ -8,8 +8,8 @@ use Rattle.std.proofs.Common.{get_or}
 use Rattle.std.specs.List.{cons_option, filter_map, find, list_any}
 use Rattle.std.specs.Option.{option_map_or}
 use Rattle.std.proofs.Math.Bool.{and-true}
-use Rattle.std.proofs.Math.Nat.{div-div-eq-div-mul, le-max_left, le-max_right, mul-div_cancel}
-use Rattle.std.proofs.lemmas.Nat.{pow-add, pow_pos}
+use Rattle.std.proofs.Math.Nat.{le-max_left, le-max_right, mul-div_cancel}
+use Rattle.std.proofs.lemmas.Nat.{pow_pos}
 use Rattle.std.proofs.lemmas.Bool.{cases_lt, eqb-true, eq-eqb, or_parts, le-leb, leb-true}
 use Rattle.std.proofs.lemmas.List.Elements.{All-cons, All-head, All-nil, All-tail}
 use Rattle.mw_text.proofs.Lists.{all_found, filter_none}
@@ -17,6 +17,8 @@ use Rattle.mw_text.specs.declared.address.Addr.{Addr}
 use Rattle.mw_text.specs.declared.address.Prefix.{Prefix}
 use Rattle.mw_text.specs.Address.{block, covers, prefix_at, same_prefix}
 use Rattle.mw_text.specs.Text.{same_text}
+use Rattle.mw_text.proofs.Found.{all_find}
+use Rattle.mw_text.proofs.Numbers.{coarser}
 use Rattle.ios_ast.specs.declared.bgp.Bgp.{Bgp}
 use Rattle.ios_ast.specs.declared.bgp.BgpNet.{BgpNet}
 use Rattle.ios_ast.specs.declared.file.File.{File}
@@ -36,12 +38,13 @@ use Rattle.net_interfaces.specs.declared.interfaces.Addressed.{Addressed}
 use Rattle.net_parts.specs.declared.ospf.OspfInterface.{OspfInterface}
 use Rattle.net_interfaces.specs.Interfaces.{addressed}
 use Rattle.ios_ast.specs.Maps.{entries_named}
+use Rattle.ios_ast.proofs.Order.{ordered_all}
 use Rattle.net_parts.specs.Origins.{is_classful}
 use Rattle.net_parts.specs.Ospf.{advertisement, ospf_at, ospf_interfaces}
 use Rattle.net_parts.specs.World.{is_up}
 use Rattle.net_parts.specs.Routing.{counts}
 use Rattle.net_parts.proofs.LeastWalks.{ospf_at-same}
-use Rattle.sliced_routings.proofs.Found.{all_find, all_in_order, find_alike}
+use Rattle.sliced_routings.proofs.Found.{find_alike}
 use Rattle.alike_prefixes.specs.Alike.{IsBare, NamesAnother, TakesClassAlike}
 use Rattle.alike_prefixes.specs.Moving.{ArePlain}
 use Rattle.sliced_routings.specs.Cuts.{asks_access, bounds, bounds_class, bounds_entry, bounds_list, bounds_loopback}
@@ -192,18 +195,6 @@ list_any_alike f g [] all = refl
 list_any_alike f g (x ∷ xs) all = ap₂ (λ a b. a || b) (All-head (λ y. f y ≡ g y) x xs all)
     (list_any_alike f g xs (All-tail (λ y. f y ≡ g y) x xs all))
 
-coarser : (a b long short : ℕ) → short ≤ long → a / block long ≡ b / block long → a / block short ≡ b / block short
-coarser a b long short le same = one a ∙ ap (λ n. n / 2 ^ more) same ∙ sym (one b) where
-  more : ℕ
-  more = (32 - short) - (32 - long)
-
-  bits_of : (32 - long) + more ≡ 32 - short
-  bits_of = omega (arith, le)
-
-  one : (n : ℕ) → n / block short ≡ n / block long / 2 ^ more
-  one n = ap (λ k. n / 2 ^ k) (sym bits_of) ∙ ap (λ k. n / k) (pow-add 2 (32 - long) more)
-      ∙ sym (div-div-eq-div-mul n (2 ^ (32 - long)) (2 ^ more))
-
 -- a prefix sees no more of an address than its own bits
 covers_cut : (e : Prefix) (d : Addr) (len : ℕ) → e.len ≤ len → covers e (prefix_at d len).addr ≡ covers e d
 covers_cut e d len le = ap (λ n. n == e.addr.0 / block e.len)
@@ -281,7 +272,7 @@ module _ (files : List File) (d : Addr) (a l : ℕ) (before : a < l)
       prefix_permitted x.entries (prefix_at d l) ≡ prefix_permitted x.entries (prefix_at d a)
   permitted_alike x apart = ap (λ o. option_map_or (λ e. e.permit) o false)
       (find_alike (λ e. prefix_taken e (prefix_at d l)) (λ e. prefix_taken e (prefix_at d a)) _
-      (all_in_order (λ e. prefix_taken e (prefix_at d l) ≡ prefix_taken e (prefix_at d a)) (λ e. e.seq) x.entries
+      (ordered_all (λ e. prefix_taken e (prefix_at d l) ≡ prefix_taken e (prefix_at d a)) (λ e. e.seq) x.entries
       (λ k e within. taken_alike (get_or x.entries k e) (λ j more less. apart j more less k e within))))
 
   named_alike : (router : ℕ) (file : File) (named : Use) → slice_get files router ≡ Some file →
@@ -331,7 +322,7 @@ module _ (files : List File) (d : Addr) (a l : ℕ) (before : a < l)
       by None gone = refl
       by (Some m) there = find_alike (route_taken file.policies (prefix_at d l) r)
           (route_taken file.policies (prefix_at d a) r) _
-          (all_in_order (λ e. route_taken file.policies (prefix_at d l) r e ≡ route_taken file.policies
+          (ordered_all (λ e. route_taken file.policies (prefix_at d l) r e ≡ route_taken file.policies
           (prefix_at d a) r e)
           (λ e. e.seq) m.entries (λ k e within. entry_alike router file r (get_or m.entries k e) at
           (all_find (λ y. All (λ z. All (λ x. is_access x ≡ false) z.matches) y.entries) _ file.policies.maps m

@@ -1,15 +1,15 @@
 -- Walks are the same when routes are moved and every router keeps its longest prefix.
-use Rattle.std.proofs.Common.{◌≡◌, ℕ, zero, suc, ◌*◌, ◌<◌, ◌≤◌, Bool, true, false, eqb, cond, List, [], ◌∷◌}
+use Rattle.std.proofs.Common.{◌≡◌, ℕ, zero, suc, ◌*◌, ◌<◌, ◌≤◌, false, eqb, cond, List, [], ◌∷◌}
 use Rattle.std.proofs.Common.{length}
 use Rattle.std.proofs.Common.{Option, Some, None, inl, inr, refl, sym, ap, subst, arith, ◌∙◌}
 use Rattle.std.specs.Prelude.{◌⊎◌, ◌≢◌, ◌==◌, All, filter, map, slice_get, option_map, option_and_then}
-use Rattle.std.specs.Prelude.{if◌then◌else◌, ◌||◌}
-use Rattle.std.specs.List.{find, flat_map, list_any}
+use Rattle.std.specs.List.{flat_map, list_any}
 use Rattle.std.specs.Option.{option_map_or}
 use Rattle.std.proofs.lemmas.Bool.{cases_lt}
 use Rattle.std.proofs.lemmas.Option.{same_Some}
 use Rattle.mw_text.specs.declared.address.Prefix.{Prefix}
 use Rattle.mw_text.specs.Address.{prefix_at, same_prefix}
+use Rattle.mw_text.proofs.Found.{none_found}
 use Rattle.ios_ast.specs.declared.file.File.{File}
 use Rattle.ios_ast.specs.declared.file.StaticRoute.{StaticRoute}
 use Rattle.route_record.specs.declared.Failures.{Failures}
@@ -115,14 +115,6 @@ longest_cases tables router (suc n) = by (entry_at tables router n) refl (longes
     here = longer.here;
     none = last (suc longer.len) gone longer.none;
   })
-
-none_found : {A : Type 0} (p : A → Bool) (xs : List A) → list_any p xs ≡ false → find p xs ≡ None
-none_found p [] none = refl
-none_found p (x ∷ xs) none = by (p x) none (none_found p xs) where
-  by : (b : Bool) → (b || list_any p xs) ≡ false → (list_any p xs ≡ false → find p xs ≡ None) →
-      (if b then Some x else find p xs) ≡ None
-  by true some rest = cc
-  by false none' rest = rest none'
 
 module _ (files : List File) (world : World) (to from : ℕ → Option ℕ) (moves : IsMove files world.packet.dst to from)
     (size : length world.tables.slots ≡ LENGTHS * length files) where

@@ -1,27 +1,16 @@
 -- A prefix of some destination of a set shares an address with the set.
-use Rattle.std.proofs.Common.{◌≡◌, ℕ, ◌+◌, ◌-◌, ◌*◌, ◌/◌, ◌^◌, ◌<◌, ◌≤◌, Bool, true, false, ◌||◌, inl, inr, refl}
+use Rattle.std.proofs.Common.{◌≡◌, ℕ, ◌-◌, ◌*◌, ◌/◌, ◌<◌, ◌≤◌, Bool, true, false, ◌||◌, inl, inr, refl}
 use Rattle.std.proofs.Common.{sym, ap, subst, arith, ◌∙◌, min}
 use Rattle.std.specs.Prelude.{◌⊎◌}
 use Rattle.std.proofs.lemmas.Bool.{and_from, and_parts, cases_lt, eqb-true, eq-eqb}
-use Rattle.std.proofs.Math.Nat.{div-div-eq-div-mul, mul-div_cancel}
-use Rattle.std.proofs.lemmas.Nat.{pow-add, pow_pos}
+use Rattle.std.proofs.Math.Nat.{mul-div_cancel}
+use Rattle.std.proofs.lemmas.Nat.{pow_pos}
 use Rattle.mw_text.specs.declared.address.Addr.{Addr}
 use Rattle.mw_text.specs.declared.address.Prefix.{Prefix}
 use Rattle.mw_text.specs.Address.{block, covers, prefix_at, same_prefix}
+use Rattle.mw_text.proofs.Numbers.{coarser}
 use Rattle.net_interfaces.specs.Connected.{overlap}
 use Rattle.slot_places.specs.Origins.{meets}
-
-coarser : (a b long short : ℕ) → short ≤ long → a / block long ≡ b / block long → a / block short ≡ b / block short
-coarser a b long short le same = one a ∙ ap (λ n. n / 2 ^ more) same ∙ sym (one b) where
-  more : ℕ
-  more = (32 - short) - (32 - long)
-
-  bits_of : (32 - long) + more ≡ 32 - short
-  bits_of = omega (arith, le)
-
-  one : (n : ℕ) → n / block short ≡ n / block long / 2 ^ more
-  one n = ap (λ k. n / 2 ^ k) (sym bits_of) ∙ ap (λ k. n / k) (pow-add 2 (32 - long) more)
-      ∙ sym (div-div-eq-div-mul n (2 ^ (32 - long)) (2 ^ more))
 
 -- the shorter of two prefixes covers the other's address
 covering : (p q : Prefix) → (q.len < p.len) ⊎ (p.len ≤ q.len) →

@@ -11,3 +11,4 @@ pub mod WaySteps
 pub mod MetricSteps
 pub mod Sent
 pub mod StandsFor
+pub mod CandidatesEnd

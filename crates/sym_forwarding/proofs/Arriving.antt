@@ -9,14 +9,13 @@ use Rattle.mw_text.proofs.Lists.{item_there}
 use Rattle.net_interfaces.specs.declared.interfaces.IfaceId.{IfaceId}
 use Rattle.question_lang.specs.declared.question.Start.{Start}
 use Rattle.question_lang.specs.declared.walk.End.{End}
-use Rattle.question_lang.specs.declared.walk.End.TheVariants.{Delivered, Left, NoRoute, Discarded, DeniedIn, DeniedOut}
-use Rattle.question_lang.specs.declared.walk.End.TheVariants.{Loop, Open}
 use Rattle.question_lang.specs.declared.walk.Hop.{Hop}
 use Rattle.question_lang.specs.declared.walk.Hop.TheVariants.{To, Ends}
-use Rattle.question_lang.specs.Walks.{GoesOn, MayEnd}
+use Rattle.question_lang.specs.Walks.{GoesOn}
 use Rattle.walk_def.proofs.Members.{last-same}
 use Rattle.walk_def.specs.Arriving.{LastIn}
 use Rattle.walk_def.specs.Marks.{is_end, known}
+use Rattle.walk_def.proofs.Ends.{may_end, must_end}
 use Rattle.sym_forwarding.specs.Layers.{Forwarding, arrives, arriving, ends_or_sends, sends_on}
 use Rattle.sym_forwarding.proofs.Edges.{Stands, leading, led, sends_below}
 use Rattle.sym_forwarding.proofs.Marks.{Below, count, count_most, known_mapped, mapped_known, same_or_more}
@@ -86,29 +85,6 @@ arrives_by table router f found h =
     ∙ mapped_known (ends_or_sends (arriving table (length table))) table router f found h
 
 -- ---- ends of walks
-
--- an end that a router gives is one of its hops
-pub must_end : (hops : ℕ → List Hop) (before : List Start) (now : Start) (end : End) → is_end end ≡ true →
-    MayEnd hops before now end → Contains (hops now.router) (Ends end)
-must_end hops before now Delivered proper may = may
-must_end hops before now (Left a) proper may = may
-must_end hops before now NoRoute proper may = may
-must_end hops before now Discarded proper may = may
-must_end hops before now (DeniedIn i) proper may = may
-must_end hops before now DeniedOut proper may = may
-must_end hops before now Loop proper may = cc
-must_end hops before now Open proper may = cc
-
-pub may_end : (hops : ℕ → List Hop) (before : List Start) (now : Start) (end : End) → is_end end ≡ true →
-    Contains (hops now.router) (Ends end) → MayEnd hops before now end
-may_end hops before now Delivered proper has = has
-may_end hops before now (Left a) proper has = has
-may_end hops before now NoRoute proper has = has
-may_end hops before now Discarded proper has = has
-may_end hops before now (DeniedIn i) proper has = has
-may_end hops before now DeniedOut proper has = has
-may_end hops before now Loop proper has = cc
-may_end hops before now Open proper has = cc
 
 -- ---- a walk that ends so makes its start marked
 

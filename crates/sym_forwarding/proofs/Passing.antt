@@ -12,9 +12,9 @@ use Rattle.question_lang.specs.declared.walk.Hop.{Hop}
 use Rattle.question_lang.specs.declared.walk.Hop.TheVariants.{To, Ends}
 use Rattle.question_lang.specs.Walks.{GoesOn}
 use Rattle.walk_def.specs.Marks.{is_end, is_inside}
+use Rattle.walk_def.proofs.Ends.{may_end, must_end}
 use Rattle.sym_forwarding.specs.Layers.{Forwarding, silent}
 use Rattle.sym_forwarding.specs.Forwardings.{IsForwarding}
-use Rattle.sym_forwarding.proofs.Arriving.{may_end, must_end}
 use Rattle.sym_forwarding.proofs.Edges.{Stands}
 
 -- the hops of all routers but one

@@ -1,12 +1,13 @@
 -- Where static routes lead, one route at a time.
-use Rattle.std.proofs.Common.{◌≡◌, ℕ, ◌-◌, ◌<◌, ◌≤◌, Bool, true, false, ◌&&◌, ◌||◌, not, cond, List, [], ◌∷◌}
-use Rattle.std.proofs.Common.{◌++◌, length, get_or, drop, Some, None, refl, sym, ap, ◌∙◌, eqb}
+use Rattle.std.proofs.Common.{◌≡◌, ℕ, ◌-◌, ◌<◌, ◌≤◌, Bool, true, false, ◌&&◌, not, cond, List, [], ◌∷◌}
+use Rattle.std.proofs.Common.{◌++◌, length, get_or, drop, refl, sym, ap, ◌∙◌, eqb}
 use Rattle.std.specs.Prelude.{filter}
-use Rattle.std.specs.List.{find, flat_map, list_any}
+use Rattle.std.specs.List.{flat_map, list_any}
 use Rattle.std.specs.Option.{option_map_or}
 use Rattle.mw_text.specs.declared.address.Addr.{Addr}
 use Rattle.mw_text.specs.declared.address.Prefix.{Prefix}
 use Rattle.mw_text.specs.Address.{covers, same_prefix}
+use Rattle.mw_text.proofs.Found.{none_found}
 use Rattle.ios_ast.specs.declared.file.File.{File}
 use Rattle.ios_ast.specs.declared.file.StaticRoute.{StaticRoute}
 use Rattle.ios_ast.specs.declared.file.Via.{Via}
@@ -19,14 +20,6 @@ use Rattle.question_lang.specs.declared.walk.Hop.{Hop}
 use Rattle.question_lang.specs.Hops.{all_up, send_over, send_to, static_hops}
 use Rattle.sym_forwarding.specs.Statics.{is_taken, leads_on, route_hops, routes_hops}
 use Rattle.sym_forwarding.proofs.OwnerHops.{back}
-
-none_found : {A : Type 0} (p : A → Bool) (xs : List A) → list_any p xs ≡ false → find p xs ≡ None
-none_found {A} p [] h = refl
-none_found {A} p (x ∷ xs) h = by_first (p x) (none_found p xs) h where
-  by_first : (b : Bool) → (list_any p xs ≡ false → find p xs ≡ None) → (b || list_any p xs) ≡ false →
-      cond b (Some x) (find p xs) ≡ None
-  by_first true rest e = cc
-  by_first false rest e = rest e
 
 -- over no interface, where none has the address on its subnet
 send_nowhere : (files : List File) (packet : Packet) (up own : List Addressed) (a : Addr) →

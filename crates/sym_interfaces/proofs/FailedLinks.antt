@@ -12,13 +12,14 @@ use Rattle.std.proofs.lemmas.List.Sums.{prefix_len_passes}
 use Rattle.std.proofs.lemmas.Option.{slice_get_cases}
 use Rattle.mw_text.specs.declared.address.Prefix.{Prefix}
 use Rattle.mw_text.specs.Address.{same_prefix}
+use Rattle.mw_text.proofs.Numbers.{flipped}
 use Rattle.ios_ast.specs.declared.file.File.{File}
 use Rattle.net_parts.specs.declared.links.Link.{Link}
 use Rattle.net_parts.specs.World.{IsBefore, is_failed, links_of}
 use Rattle.term_store.specs.declared.NodeId.{NodeId}
 use Rattle.term_store.specs.Terms.{Reading, at}
 use Rattle.term_arith.specs.Bits.{bits}
-use Rattle.term_arith.proofs.NumberLemmas.{bits_at, ids_end_at, length_bits}
+use Rattle.term_arith.proofs.NumberLemmas.{ids_end_at, length_bits, node_at_place}
 use Rattle.sym_policy.specs.declared.records.SymNet.{SymNet}
 use Rattle.sym_policy.specs.Held.{failures_of, positions}
 
@@ -52,9 +53,6 @@ one_position f (false ∷ bs) (suc n) first k is here other =
 -- the link at that place has the prefix
 abbrev has_at : List Link → Prefix → ℕ → Bool
 has_at links p k = option_map_or (λ link. same_prefix p link.prefix) (slice_get links k) false
-
-flipped : (a b c d : ℕ) → ((a == b) && (c == d)) ≡ ((b == a) && (d == c))
-flipped a b c d = grind (arith, nat_tests)
 
 flip : (p q : Prefix) → same_prefix p q ≡ same_prefix q p
 flip p q = flipped p.addr.0 q.addr.0 p.len q.len
@@ -145,11 +143,6 @@ pub failed_at : (w : Reading) (net : SymNet) (files : List File) (p : Prefix) �
     (position (λ link. same_prefix link.prefix p) (links_of files)) false
 unfolding failures_of
 failed_at w net files p up = by_place (links_of files) p (bits w net.down) up
-
--- the value of the node at a place, and false past the last
-pub node_at_place : (w : Reading) (ids : List NodeId) (k : ℕ) (d : NodeId) → k < length ids
-    → slice_index_or (bits w ids) k false ≡ at w (get_or ids k d)
-node_at_place w ids k d within = bits_at w ids k d within
 
 pub no_node : (w : Reading) (ids : List NodeId) (k : ℕ) → length ids ≤ k → slice_index_or (bits w ids) k false ≡ false
 no_node w ids k past = get_or_past (bits w ids) k false (omega (arith, past, length_bits w ids))

@@ -1,6 +1,7 @@
 -- Lists of nodes, item by item: their ends, their bits and the numbers of these.
 use Rattle.std.proofs.Common.{◌≡◌, ℕ, ◌+◌, ◌*◌, ◌/◌, ◌%◌, ◌^◌, nat_eq, ◌<◌, ◌≤◌, zero, suc, max, Bool, true, false}
 use Rattle.std.proofs.Common.{not, nat_lt}
+use Rattle.std.specs.Prelude.{slice_index_or}
 use Rattle.std.proofs.Common.{if◌then◌else◌, List, [], ◌∷◌, ◌++◌, take, drop, get_or, length, refl, sym, ap, subst}
 use Rattle.std.proofs.Common.{◌∙◌, arith}
 use Rattle.std.proofs.lemmas.List.{drop_more, drop_all, take_more, map-append, get_or-map, length-map}
@@ -134,6 +135,11 @@ length_bits w ids = length-map ids (at w)
 pub bits_at : (w : Reading) (ids : List NodeId) (i : ℕ) (d : NodeId) → i < length ids
     → get_or (bits w ids) i false ≡ at w (get_or ids i d)
 bits_at w ids i d h = get_or-map (at w) ids i d false h
+
+-- the value of the node at a place
+pub node_at_place : (w : Reading) (ids : List NodeId) (k : ℕ) (d : NodeId) → k < length ids
+    → slice_index_or (bits w ids) k false ≡ at w (get_or ids k d)
+node_at_place w ids k d within = bits_at w ids k d within
 
 -- a number is below the power of its width
 pub number_below : (w : Reading) (ids : List NodeId) → number w ids < 2 ^ length ids

@@ -8,13 +8,11 @@ use Rattle.std.proofs.lemmas.Bool.Decides.{nat_tests}
 use Rattle.std.proofs.lemmas.Cmp.{nat_eq_equiv}
 use Rattle.std.proofs.lemmas.List.{get_or_past}
 use Rattle.std.proofs.lemmas.Map.Views.{Contains-from_any, list_any-from_Contains}
+use Rattle.mw_text.proofs.Numbers.{apart}
 use Rattle.sym_policy.specs.Held.{positions}
 
 unlike_more : (a b : ℕ) → a < b → (a == b) ≡ false
 unlike_more a b less = grind (arith, nat_tests)
-
-unlike_less : (a b : ℕ) → b < a → (a == b) ≡ false
-unlike_less a b less = grind (arith, nat_tests)
 
 none_at : (q : ℕ) (bs : List Bool) (first : ℕ) → q < first → list_any (nat_eq q) (positions first bs) ≡ false
 none_at q [] first less = refl
@@ -27,7 +25,7 @@ any_at q [] n first is = sym (get_or_past [] n false (omega arith))
 any_at q (true ∷ bs) zero first is = rw (eq-eqb q first (omega (arith, is))) refl
 any_at q (false ∷ bs) zero first is = none_at q bs (suc first) (omega (arith, is))
 any_at q (true ∷ bs) (suc n) first is =
-    rw (unlike_less q first (omega (arith, is))) (any_at q bs n (suc first) (omega (arith, is)))
+    rw (apart q first (omega (arith, is))) (any_at q bs n (suc first) (omega (arith, is)))
 any_at q (false ∷ bs) (suc n) first is = any_at q bs n (suc first) (omega (arith, is))
 
 -- a value that is true has its number there

@@ -10,7 +10,7 @@ use Rattle.resolution_check.specs.declared.log.Entry.{Entry}
 use Rattle.resolution_check.specs.declared.log.Entry.TheVariants.{Input, Add, Delete, End}
 use Rattle.resolution_check.specs.Entries.{EachAfter, IsSound, KeepsGood, clause_by, clause_given}
 use Rattle.resolution_check.specs.Entries.{clause_held, deletes, has_ended, is_deleted, is_end, is_given}
-use Rattle.resolution_check.proofs.Goods.{any-push, clause_given-push}
+use Rattle.resolution_check.proofs.Goods.{any-push, clause_given-push, given_of_held}
 use Rattle.trimmed_logs.specs.Trimmed.{is_addition, is_input, is_used_by, uses}
 use Rattle.trimmed_logs.specs.Kept.{kept, numbered, with_name}
 use Rattle.trimmed_logs.proofs.Chains.{AreNamed, is_among, resolved_named}
@@ -69,14 +69,6 @@ not_given es id h = split (clause_given es id) refl h
     split None is k = is
     split (Some c) is k = absurd (true≢false k)
 
--- what is held was given
-pub given_held : (es : List Entry) (id : ℕ) (c : Clause) → clause_held es id ≡ Some c → clause_given es id ≡ Some c
-given_held es id c h = split (is_deleted es id) (clause_given es id) h
-  where
-    split : (b : Bool) (o : Option Clause) → cond b None o ≡ Some c → o ≡ Some c
-    split true o k = absurd (cc)
-    split false o k = k
-
 -- and what is given is held where nothing is deleted
 pub held_given : (es : List Entry) (id : ℕ) (c : Clause) → is_deleted es id ≡ false → clause_given es id ≡ Some c →
     clause_held es id ≡ Some c
@@ -107,7 +99,7 @@ pub add_sound : (next : ℕ) (names : ℕ → ℕ) (done out : List Entry) (id :
     IsSound done (Add id clause chain) → KeepsGood out (Add next clause (map names chain))
 add_sound next names done out id clause chain below whole open_end named (new, r, is, inside) =
     let names_held : AreNamed (clause_held done) (clause_held out) names chain =
-    λ n c among h. held_given out (names n) c (whole (names n)) (named n c among (given_held done n c h)) in (
+    λ n c among h. held_given out (names n) c (whole (names n)) (named n c among (given_of_held done n c h)) in (
       open_end,
       (
         next_new next out below,

@@ -11,3 +11,4 @@ pub mod EachOnce
 pub mod Going
 pub mod Arrivals
 pub mod Lasts
+pub mod Ends

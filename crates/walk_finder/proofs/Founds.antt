@@ -1,5 +1,5 @@
 -- What was found breaks the question, or nothing was.
-use Rattle.std.proofs.Common.{◌≡◌, Bool, true, false, List, Option, Some, None, refl}
+use Rattle.std.proofs.Common.{◌≡◌, List, Option, Some, None, refl}
 use Rattle.std.specs.Prelude.{IfSome}
 use Rattle.ios_ast.specs.declared.file.File.{File}
 use Rattle.route_record.specs.declared.World.{World}
@@ -12,10 +12,6 @@ pub found_breaks : {P : Walk → Type 0} (files : List File) (world : World) (ki
     Breaks files world kind found
 found_breaks files world kind None some breaks none = absurd (none refl)
 found_breaks files world kind (Some walk) some breaks none = breaks walk some
-
-pub not_both : (b : Bool) → b ≡ true → b ≡ false → ⊥
-not_both true marked unmarked = cc
-not_both false marked unmarked = cc
 
 pub both_some : {A : Type 0} (P Q : A → Type 0) (found : Option A) → IfSome found P → IfSome found Q →
     IfSome found (λ x. P x × Q x)

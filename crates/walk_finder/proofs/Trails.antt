@@ -16,8 +16,8 @@ use Rattle.walk_def.proofs.Following.{Begun, Followed, begun-step, followed-step
 use Rattle.walk_def.proofs.Known.{unknown_count}
 use Rattle.walk_def.specs.Arriving.{leads_to_known}
 use Rattle.walk_def.specs.Marks.{known}
+use Rattle.walk_def.proofs.Ends.{may_end}
 use Rattle.sym_forwarding.specs.Layers.{Forwarding, arriving, going}
-use Rattle.sym_forwarding.proofs.Arriving.{may_end}
 use Rattle.walk_finder.specs.declared.rows.Row.{Row}
 use Rattle.walk_finder.specs.Following.{Arrives, Follows}
 use Rattle.walk_finder.specs.Layers.{AreLayers, layer}

@@ -12,10 +12,10 @@ use Rattle.resolution_check.specs.Clauses.{has}
 use Rattle.resolution_check.specs.Trails.{holds, AllFail}
 use Rattle.resolution_check.proofs.Literals.{same_lit}
 use Rattle.resolution_check.proofs.Values.{some_value}
-use Rattle.resolution_check.proofs.Variables.{take_at}
 use Rattle.clause_arena.specs.declared.names.ClauseRef.{ClauseRef}
 use Rattle.clause_arena.specs.Links.{word}
 use Rattle.mw_text.specs.Members.{In}
+use Rattle.mw_text.proofs.Found.{take_at}
 use Rattle.clause_arena.specs.Store.{Store, IsSound}
 use Rattle.clause_arena.specs.Held.{clause_numbered, lits_of, code_of, clauses, held_in}
 use Rattle.clause_arena.specs.Changes.{Adds}

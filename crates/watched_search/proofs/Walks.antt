@@ -10,7 +10,7 @@ use Rattle.mw_text.proofs.Lists.{beq-true}
 use Rattle.resolution_check.specs.declared.log.Lit.{Lit}
 use Rattle.resolution_check.specs.Trails.{value_of, is_value, holds, fails}
 use Rattle.resolution_check.proofs.Values.{not_both, value_of-keeps, value_of-last, value_of-other}
-use Rattle.resolution_check.proofs.Variables.{take_at}
+use Rattle.mw_text.proofs.Found.{take_at}
 use Rattle.clause_arena.specs.declared.names.Watch.{Watch}
 use Rattle.clause_arena.specs.Links.{word, Threads, places, after, cut, first}
 use Rattle.mw_text.specs.Members.{In}

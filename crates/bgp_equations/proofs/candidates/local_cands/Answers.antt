@@ -1,9 +1,10 @@
 use Rattle.std.proofs.Common.{arith, ap, subst, sym, ◌∙◌}
 use Rattle.sym_policy.specs.Held.{bgp_end, bgp_of}
 use Rattle.sym_bgp.specs.Candidates.{candidate_of, candidates_end}
+use Rattle.sym_bgp.proofs.CandidatesEnd.{candidates_end_push}
 use Rattle.sym_rib.specs.Into.{HasTracked}
 use Rattle.bgp_equations.specs.Equations.{local_with}
-use Rattle.bgp_equations.proofs.CandidateSteps.{builds_join, cands_end_push, marks_push}
+use Rattle.bgp_equations.proofs.CandidateSteps.{builds_join, marks_push}
 use Rattle.bgp_equations.proofs.LocalSteps.{end_item, local_more}
 use Rattle.bgp_equations.proofs.candidates.local_cands.Goals as goal
 
@@ -21,7 +22,7 @@ loop-rec-preserved c =
     let made = c.in_ok-cand.ensures in
     let put = c.in_ok-put_cand.ensures in
     let i = c.loop-rec.rec-index in
-    let pushed = ap candidates_end put ∙ cands_end_push c.loop-rec.cands c.in_ok-cand.cand in
+    let pushed = ap candidates_end put ∙ candidates_end_push c.loop-rec.cands c.in_ok-cand.cand in
     let here = made.within in
     let so_far = before.within in
     let more = made.builds.larger in

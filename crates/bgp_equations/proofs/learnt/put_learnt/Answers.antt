@@ -4,15 +4,16 @@ use Rattle.std.specs.Option.{option_to_list}
 use Rattle.std.proofs.lemmas.Result.{on_ok_weaker}
 use Rattle.silent_routers.specs.Silent.{is_behind_silent}
 use Rattle.sym_bgp.specs.Candidates.{candidate_of, candidates_end}
+use Rattle.sym_bgp.proofs.CandidatesEnd.{candidates_end_push}
 use Rattle.bgp_equations.specs.Equations.{learnt_read}
-use Rattle.bgp_equations.proofs.CandidateSteps.{cands_end_push, if_on, marks_push, nothing_put, one_put}
+use Rattle.bgp_equations.proofs.CandidateSteps.{if_on, marks_push, nothing_put, one_put}
 use Rattle.bgp_equations.proofs.HeardOnly.{heard_parts, learnt_heard, unheard}
 use Rattle.bgp_equations.proofs.learnt.put_learnt.Goals as goal
 
 pub returns-clause-within : goal.returns-clause-within
 returns-clause-within c =
     on_ok_weaker c.put_cand.result (λ is.
-    let pushed = ap candidates_end is ∙ cands_end_push c.args.cands.now c.in_ok-cand.cand in
+    let pushed = ap candidates_end is ∙ candidates_end_push c.args.cands.now c.in_ok-cand.cand in
     let here = c.in_ok-cand.ensures.within in
     let before = c.requires.before in
     let more = c.in_ok-cand.ensures.builds.larger in

@@ -11,7 +11,8 @@ use Rattle.mw_text.proofs.Lists.{each_place-push}
 use Rattle.std.proofs.lemmas.Result.{err_from_is_err_and}
 use Rattle.mw_text.specs.Reading.{with_value}
 use Rattle.mw_text.proofs.Reading.{EachTo, read-none, read-done, each-one, each-refused}
-use Rattle.mw_load.proofs.OneByOne.{all_told, if_told, if_told_one, length-placed, on_refused-map, placed-at}
+use Rattle.mw_text.proofs.Found.{all_told, if_told, if_told_one}
+use Rattle.mw_load.proofs.OneByOne.{length-placed, on_refused-map, placed-at}
 use Rattle.mw_load.proofs.OneByOne.{stops-here, at-place}
 use Rattle.mw_load.proofs.loading.read_texts.Goals as goal
 

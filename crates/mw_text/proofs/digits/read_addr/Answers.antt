@@ -1,4 +1,4 @@
-use Rattle.std.proofs.Common.{◌≡◌, sym, ◌∙◌}
+use Rattle.std.proofs.Common.{sym, ◌∙◌}
 use Rattle.mw_text.proofs.Octets.{addr_of_cuts}
 use Rattle.mw_text.proofs.digits.read_addr.Goals as goal
 

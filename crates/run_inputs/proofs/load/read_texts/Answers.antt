@@ -12,7 +12,8 @@ use Rattle.mw_text.proofs.Lists.{each_place-push}
 use Rattle.std.proofs.lemmas.Result.{err_from_is_err_and}
 use Rattle.mw_text.specs.Reading.{with_value}
 use Rattle.mw_text.proofs.Reading.{EachTo, read-none, read-done, each-one, each-refused}
-use Rattle.run_inputs.proofs.Loading.{all_told, on_stop-map, if_told, if_told_one, read-at, stops-here}
+use Rattle.mw_text.proofs.Found.{all_told, if_told, if_told_one, read-at}
+use Rattle.run_inputs.proofs.Loading.{on_stop-map, stops-here}
 use Rattle.run_inputs.proofs.load.read_texts.Goals as goal
 
 pub loop-name-init : goal.loop-name-init

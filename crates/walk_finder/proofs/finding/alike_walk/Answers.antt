@@ -1,5 +1,6 @@
 use Rattle.std.proofs.Common.{◌≡◌, List, true, false, sym, ap, subst, ◌∙◌}
 use Rattle.std.specs.Prelude.{IfSome}
+use Rattle.mw_text.proofs.Numbers.{not_both}
 use Rattle.question_lang.specs.declared.question.Kind.{Kind}
 use Rattle.question_lang.specs.declared.question.Kind.TheVariants.{Alike}
 use Rattle.question_lang.specs.declared.question.Start.{Start}
@@ -10,7 +11,7 @@ use Rattle.walk_finder.specs.declared.rows.Row.{Row}
 use Rattle.walk_finder.specs.Following.{Arrives}
 use Rattle.walk_finder.specs.Rows.{table_of}
 use Rattle.walk_finder.specs.Sought.{AreRows}
-use Rattle.walk_finder.proofs.Founds.{both_some, found_breaks, not_both}
+use Rattle.walk_finder.proofs.Founds.{both_some, found_breaks}
 use Rattle.walk_finder.proofs.Leading.{some_none}
 use Rattle.walk_finder.proofs.Others.{alike_marks, first_breaks, second_breaks}
 use Rattle.walk_finder.proofs.finding.alike_walk.Goals as goal

@@ -1,4 +1,5 @@
 use Rattle.std.proofs.Common.{List, sym, subst}
+use Rattle.mw_text.proofs.Numbers.{not_both}
 use Rattle.question_lang.specs.declared.question.Kind.{Kind}
 use Rattle.question_lang.specs.declared.question.Kind.TheVariants.{Isolate}
 use Rattle.sym_forwarding.specs.Layers.{arrives}
@@ -6,7 +7,7 @@ use Rattle.walk_finder.specs.declared.rows.Row.{Row}
 use Rattle.walk_finder.specs.Rows.{table_of}
 use Rattle.walk_finder.specs.Sought.{AreRows}
 use Rattle.walk_finder.proofs.ByKind.{isolate_begins, isolate_breaks}
-use Rattle.walk_finder.proofs.Founds.{found_breaks, not_both}
+use Rattle.walk_finder.proofs.Founds.{found_breaks}
 use Rattle.walk_finder.proofs.finding.isolate_walk.Goals as goal
 
 pub returns : goal.returns

@@ -1,9 +1,10 @@
 use Rattle.std.proofs.Common.{◌∙◌}
+use Rattle.mw_text.proofs.Numbers.{not_both}
 use Rattle.question_lang.specs.declared.question.Kind.{Kind}
 use Rattle.question_lang.specs.declared.question.Kind.TheVariants.{Waypoint}
 use Rattle.sym_forwarding.specs.Layers.{arrives}
 use Rattle.walk_finder.specs.Rows.{table_of}
-use Rattle.walk_finder.proofs.Founds.{found_breaks, not_both}
+use Rattle.walk_finder.proofs.Founds.{found_breaks}
 use Rattle.walk_finder.proofs.Others.{waypoint_begins, waypoint_breaks}
 use Rattle.walk_finder.proofs.finding.waypoint_walk.Goals as goal
 
