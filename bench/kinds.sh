@@ -46,7 +46,7 @@ def network(name, ends, last, cost=lambda link: None):
             f"waypoint from N0 to router N{last} via N1",
             "noloop from N0",
             "noblackhole from N0",
-            f"within {2 * len(interfaces)} from N0",
+            f"within {min(63, 2 * len(interfaces))} from N0",
             f"alike N0 N1 to router N{last}",
         ]
         for kind in kinds:
