@@ -3,6 +3,7 @@ use Rattle.std.proofs.Common.{◌≡◌, ◌≢◌, ℕ, ◌+◌, ◌<◌, ◌�
 use Rattle.std.proofs.Common.{refl, sym, ap, subst, arith}
 use Rattle.std.specs.Prelude.{◌⊎◌, All, Any, Contains, eqb}
 use Rattle.std.specs.List.{IsDistinct, list_all}
+use Rattle.std.proofs.lemmas.Bool.{ltb-true}
 use Rattle.std.proofs.lemmas.List.Elements.{All-weaker}
 use Rattle.std.proofs.lemmas.Map.Keys.{IsDistinct-cons}
 use Rattle.std.proofs.lemmas.Map.Steps.{length-le_from_distinct_below}
@@ -26,6 +27,9 @@ use Rattle.question_lang.specs.declared.walk.End.TheVariants.{Loop}
 use Rattle.question_lang.specs.declared.walk.Hop.TheVariants.{To}
 use Rattle.question_lang.specs.Hops.{next_hops}
 use Rattle.question_lang.specs.Walks.{GoesOn, IsWalkOver, LeadsTo}
+use Rattle.walk_def.proofs.Inside.{next_hops_inside}
+use Rattle.walk_def.proofs.Members.{test-of_item}
+use Rattle.walk_def.specs.Marks.{is_inside}
 use Rattle.loop_free_walks.specs.Entries.{AreInterior}
 use Rattle.loop_free_walks.proofs.Hops.{leads}
 use Rattle.loop_free_walks.proofs.Nearer.{IsNearer, mark, nearer, nearer_still, never_nearer}
@@ -106,19 +110,36 @@ module _ (files : List File) (world : World) (environment : Environment)
   no_loop (next ∷ rest) before seen now end goes known =
       no_loop rest (before ++ now ∷ []) (now.router ∷ seen) next end goes.1 (step before seen now next known goes.0)
 
-  few : (before : List Start) (seen : List ℕ) (now : ℕ) → IsKnown before seen now → length seen ≤ length files
-  few before seen now known =
-      length-le_from_distinct_below seen (length files) known.apart (λ q there.
-      let can = known.led q (in-from_any q seen there) in
-      let led = leads files world interior q can.0 can.1 in slice_get_within files q led.file led.found)
+  few : (before : List Start) (seen : List ℕ) (now : ℕ) → IsKnown before seen now → now < length files →
+      length (now ∷ seen) ≤ length files
+  few before seen now known inside =
+      length-le_from_distinct_below (now ∷ seen) (length files)
+      (IsDistinct-cons eqb now seen (apart_from now seen (new before seen now known)) known.apart)
+      (λ q there. below q (in-from_any q (now ∷ seen) there))
+    where
+      below : (q : ℕ) → In q (now ∷ seen) → q < length files
+      below q (inl same) = subst (λ r. r < length files) (sym same) inside
+      below q (inr later) =
+          let can = known.led q later in
+          let led = leads files world interior q can.0 can.1 in slice_get_within files q led.file led.found
+
+  -- a hop leads to a router of the network
+  led_inside : (router : ℕ) (i : IfaceId) → Contains (next_hops files world router) (To i) → i.router < length files
+  led_inside router i sends =
+      ltb-true i.router (length files)
+      (test-of_item (is_inside (length files)) (next_hops files world router) (To i)
+      (next_hops_inside files world router) sends)
 
   not_long : (rest : List Start) (before : List Start) (seen : List ℕ) (now : Start) (end : End) →
       GoesOn (next_hops files world) before (now ∷ rest) end → IsKnown before seen now.router →
-      length seen + length (now ∷ rest) ≤ length files + 1
-  not_long [] before seen now end goes known = let some = few before seen now.router known in omega (arith, some)
-  not_long (next ∷ rest) before seen now end goes known =
+      now.router < length files → length seen + length (now ∷ rest) ≤ length files
+  not_long [] before seen now end goes known inside =
+      let some = few before seen now.router known inside in omega (arith, some)
+  not_long (next ∷ rest) before seen now end goes known inside =
+      let to = goes.0 in
       let later = not_long rest (before ++ now ∷ []) (now.router ∷ seen) next end goes.1
-      (step before seen now next known goes.0) in
+      (step before seen now next known to)
+      (led_inside now.router (record { router = next.router; at = to.0 }) to.2) in
       omega (arith, later)
 
   first : (start : Start) → IsKnown [] [] start.router
@@ -134,10 +155,16 @@ module _ (files : List File) (world : World) (environment : Environment)
   not_looping [] end denied = λ is. subst (λ e. IsWalkOver files world [] e) is denied
   not_looping (start ∷ rest) end walk = no_loop rest [] [] start end walk.1 (first start)
 
-  pub not_longer : (hops : List Start) (end : End) → IsWalkOver files world hops end → length hops ≤ length files + 1
-  not_longer [] end denied = omega arith
-  not_longer (start ∷ rest) end walk =
-      let long = not_long rest [] [] start end walk.1 (first start) in omega (arith, long)
+  pub not_longer : (hops : List Start) (end : End) → IsWalkOver files world hops end → 1 < length hops →
+      length hops ≤ length files
+  not_longer [] end denied some = absurd (omega (arith, some))
+  not_longer (start ∷ []) end walk some = absurd (omega (arith, some))
+  not_longer (start ∷ next ∷ rest) end walk some =
+      let to = walk.1.0 in
+      let led = leads files world interior start.router (record { router = next.router; at = to.0 }) to.2 in
+      let long = not_long (next ∷ rest) [] [] start end walk.1 (first start)
+      (slice_get_within files start.router led.file led.found) in
+      omega (arith, long)
 
 pub some_cost : (files : List File) → list_all keeps_limits files ≡ true → All (λ a. 0 < a.cost) (adjacencies files)
 some_cost files limits =

@@ -1,6 +1,6 @@
 //! The law on walks that do not loop. Its function only carries it.
 
-ghost use Rattle.std.specs.Prelude.{◌≡◌, ◌≢◌, ◌≤◌, ◌+◌, List as ListOf, true, length};
+ghost use Rattle.std.specs.Prelude.{◌≡◌, ◌≢◌, ◌<◌, ◌≤◌, List as ListOf, true, length};
 ghost use Rattle.std.specs.List.{list_all};
 ghost use Rattle.ios_ast.specs.declared.file.File.{File as FileOf};
 ghost use Rattle.net_interfaces.specs.Limits.{keeps_limits};
@@ -13,7 +13,7 @@ ghost use Rattle.route_record.specs.declared.World.{World as WorldOf};
 ghost use Rattle.loop_free_walks.specs.Entries.{AreInterior, is_plain};
 
 /// In a stable routing whose table entries are all of connected subnets or of OSPF no walk of the packet ends in a loop, and
-/// none is longer than there are routers, and one. With each hop either the longest prefix with an entry is longer, or the
+/// one of more than one router has no more of them than there are. With each hop either the longest prefix with an entry is longer, or the
 /// OSPF route for it costs less, and a connected subnet leads to the router that has the destination.
 pub fn loop_free_law()
     ensures loops { (files : ListOf FileOf) (world : WorldOf) (environment : EnvironmentOf) →
@@ -23,7 +23,7 @@ pub fn loop_free_law()
     ensures short { (files : ListOf FileOf) (world : WorldOf) (environment : EnvironmentOf) →
         Stable files world.packet.dst world.failures environment world.tables → list_all keeps_limits files ≡ true →
         AreInterior world.tables → (walk : WalkOf) → IsWalk files world walk →
-        length walk.hops ≤ length files + 1 }
+        1 < length walk.hops → length walk.hops ≤ length files }
 {}
 
 /// In a stable routing of files without static routes and BGP processes all table entries are of connected subnets or of

@@ -94,16 +94,16 @@ all_interior w tracked lens routers slots tables stand all router len slot short
 
 -- ---- questions
 
--- where no walk loops and none is longer than there are routers, and one, nothing breaks such a question
+-- where no walk loops and none comes to more routers than there are, nothing breaks such a question
 pub unbroken : (files : List File) (world : World) → ((walk : Walk) → IsWalk files world walk → walk.end ≢ Loop) →
-    ((walk : Walk) → IsWalk files world walk → length walk.hops ≤ length files + 1) → (kind : Kind) →
+    ((walk : Walk) → IsWalk files world walk → 1 < length walk.hops → length walk.hops ≤ length files) → (kind : Kind) →
     (walk : Option Walk) → only_loops kind (length files) ≡ true → Breaks files world kind walk → ⊥
 unbroken files world loops short (NoLoop start) (Some walk) only breaks = loops walk breaks.0 breaks.1.1
 unbroken files world loops short (NoLoop start) None only breaks = cc
 unbroken files world loops short (Within most start) (Some walk) only breaks =
-    let few = short walk breaks.0 in
     let long = breaks.1.1 in
-    let most_is : length files ≤ most = leb-true (length files) most only in
+    let few = short walk breaks.0 (omega (arith, long)) in
+    let most_is : length files ≤ most + 1 = leb-true (length files) (most + 1) only in
     absurd (omega (arith, few, long, most_is))
 unbroken files world loops short (Within most start) None only breaks = cc
 unbroken files world loops short (Reach start target) walk only breaks = cc

@@ -61,14 +61,14 @@ fn sym_all_interior(terms: &mut Terms, slots: &[SymSlot]) -> Result<NodeId, Allo
     Ok(all)
 }
 
-// Whether a question about so many routers is broken by loops alone: it asks for none, or for at least as many hops as
-// there are routers.
+// Whether a question about so many routers is broken by loops alone: it asks for none, or for at least as many hops as a
+// walk has that comes to each router once.
 fn is_of_loops(kind: &Kind, routers: usize) -> bool
     ensures { result ≡ only_loops kind.now routers }
 {
     match kind {
         Kind::NoLoop(_) => true,
-        Kind::Within(most, _) => routers <= *most as usize,
+        Kind::Within(most, _) => routers <= *most as usize + 1,
         _ => false,
     }
 }
