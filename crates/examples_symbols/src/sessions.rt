@@ -107,7 +107,7 @@ fn put_candidate(candidates: &mut List<SymCand>, next: SymCand) -> Result<(), Al
     Ok(())
 }
 
-#[tactic(auto, using(crate::proofs::PushedRoutes::candidates_end_push))]
+#[tactic(auto, using(sym_bgp::proofs::CandidatesEnd::candidates_end_push))]
 fn fresh_candidates(
     alloc: Global,
     terms: &mut Terms,
