@@ -15,11 +15,11 @@ use Rattle.std.proofs.lemmas.Bool.Decides.{nat_tests}
 use Rattle.std.proofs.lemmas.Map.Made.{length-le_from_is_member}
 use Rattle.ios_ast.specs.Deciding.{carries}
 use Rattle.ios_ast.specs.Paths.{last_of}
-use Rattle.net_parts.specs.World.{ascends}
+use Rattle.net_parts.specs.World.{ascends, is_as_number}
 use Rattle.net_parts.proofs.TrackedUp.{kept_ascends}
 use Rattle.route_shapes.specs.Shapes.{PathShape}
 use Rattle.announced_shapes.specs.Paths.{IsPathShape, taken, is_end, between}
-use Rattle.announced_shapes.specs.Paths.{are_marked, is_as_number, ends_count}
+use Rattle.announced_shapes.specs.Paths.{are_marked, ends_count}
 use Rattle.announced_shapes.proofs.PathLaw.{carries-filter}
 use Rattle.announced_shapes.proofs.PlainShape.{plain_shape}
 

@@ -1,5 +1,5 @@
 -- What an external peer may announce has one of the shapes, and of each there is an announcement.
-use Rattle.std.proofs.Common.{◌≡◌, ℕ, ◌^◌, ◌≤◌, true, false, List, [], ◌∷◌, length, Option, Some, None}
+use Rattle.std.proofs.Common.{◌≡◌, ℕ, ◌^◌, ◌≤◌, true, false, List, ◌∷◌, length, Option, Some, None}
 use Rattle.std.proofs.Common.{refl, sym, ap, subst, arith, ◌∙◌, ltb-true, lt-ltb, leb-true, le-leb}
 use Rattle.std.specs.Prelude.{◌==◌, ◌&&◌, nat_lt, nat_le, is_some, slice_get, All, IfSome}
 use Rattle.std.specs.List.{list_all}
@@ -18,25 +18,20 @@ use Rattle.route_record.specs.Fits.{IsWord}
 use Rattle.route_record.proofs.OriginCodes.{code_again, code_small}
 use Rattle.net_parts.specs.declared.sessions.SessionEnd.{SessionEnd}
 use Rattle.net_parts.specs.Sessions.{IsPlaced, ends_of, is_outside, neighbour_of}
-use Rattle.net_parts.specs.World.{IsAnnouncement, IsAsNumber, ascends}
+use Rattle.net_parts.proofs.AsNumbers.{as_number, number_passes}
+use Rattle.net_parts.specs.World.{IsAnnouncement, IsAsNumber, ascends, is_as_number, is_word}
 use Rattle.net_parts.proofs.EndPlaces.{ends_placed}
 use Rattle.route_shapes.specs.Shapes.{PathShape, path_shape}
 use Rattle.bgp_shapes.specs.Candidates.{ShapeAnnouncement, announcement_shape}
 use Rattle.announced_shapes.specs.Announcements.{IsAnnouncementShape, IsPeersPath, has_communities, has_ranges}
 use Rattle.announced_shapes.specs.Announcements.{is_announcement_shape, is_peers_path, rebuilt_announcement}
-use Rattle.announced_shapes.specs.Paths.{IsPathShape, is_as_number, is_path_shape, is_word, rebuilt_path, taken}
+use Rattle.announced_shapes.specs.Paths.{IsPathShape, is_path_shape, rebuilt_path, taken}
 use Rattle.announced_shapes.proofs.Announced.{announced_path, taken_ascends, taken_words}
 use Rattle.announced_shapes.proofs.Announcing.{passes, rebuilt_first, rebuilt_numbers, tested}
 use Rattle.announced_shapes.proofs.PathLaw.{path_again, taken_marks}
 use Rattle.announced_shapes.proofs.PlainShape.{plain, plain_shape}
 
 -- ---- tests of all of some numbers
-
-is_number : (n : ℕ) → is_as_number n ≡ true → IsAsNumber n
-is_number n h = let both = and_parts (nat_lt 0 n) (is_word n) h in (ltb-true 0 n both.0, ltb-true n (2 ^ 32) both.1)
-
-number_passes : (n : ℕ) → IsAsNumber n → is_as_number n ≡ true
-number_passes n is = and_from _ _ (lt-ltb 0 n is.0) (lt-ltb n (2 ^ 32) is.1)
 
 -- ---- the test
 
@@ -160,7 +155,7 @@ rebuilt_is files tracked s numbers communities is =
       len = is.len;
       path = (
         path_short asn tracked.numbers s.path numbers is.peer.path,
-        all_pass is_as_number IsAsNumber is_number (rebuilt_path tracked.numbers s.path)
+        all_pass is_as_number IsAsNumber as_number (rebuilt_path tracked.numbers s.path)
             (rebuilt_numbers asn tracked.numbers s.path is.peer.path),
       );
       med = is.med;

@@ -8,9 +8,10 @@ use Rattle.std.proofs.lemmas.List.Folds.{list_all-append}
 use Rattle.mw_text.proofs.Numbers.{all_kept}
 use Rattle.net_parts.specs.Exports.{most_numbers}
 use Rattle.route_shapes.specs.Shapes.{PathShape}
+use Rattle.net_parts.specs.World.{is_as_number}
 use Rattle.announced_shapes.specs.Paths.{IsPathShape, after_first, is_path_shape, taken, is_end, between}
 use Rattle.announced_shapes.specs.Paths.{rebuilt_path, are_marked}
-use Rattle.announced_shapes.specs.Paths.{is_as_number, ends_count, has_path_length, has_path_ends, has_path_marks}
+use Rattle.announced_shapes.specs.Paths.{ends_count, has_path_length, has_path_ends, has_path_marks}
 
 pub tested : (asn : ℕ) (tracked : List ℕ) (s : PathShape) → is_path_shape asn tracked s ≡ true →
     IsPathShape asn tracked s

@@ -13,7 +13,8 @@ use Rattle.route_record.specs.Origins.{origin_of_code}
 use Rattle.net_parts.specs.declared.sessions.SessionEnd.{SessionEnd}
 use Rattle.net_parts.specs.Sessions.{ends_of, is_outside, neighbour_of}
 use Rattle.bgp_shapes.specs.Candidates.{ShapeAnnouncement}
-use Rattle.announced_shapes.specs.Paths.{IsPathShape, is_path_shape, is_word, rebuilt_path, taken}
+use Rattle.net_parts.specs.World.{is_word}
+use Rattle.announced_shapes.specs.Paths.{IsPathShape, is_path_shape, rebuilt_path, taken}
 
 -- the announcement of a shape: its communities are the tracked ones that are marked
 abbrev pub rebuilt_announcement : Tracked → ShapeAnnouncement → Announcement

@@ -4,6 +4,7 @@ use Rattle.std.specs.Prelude.{◌≡◌, ℕ, ◌+◌, ◌-◌, ◌^◌, ◌==�
 use Rattle.std.specs.Prelude.{List, [], ◌∷◌, ◌++◌, length, filter, replicate, if◌then◌else◌}
 use Rattle.std.specs.List.{list_all}
 use Rattle.net_parts.specs.Exports.{most_numbers}
+use Rattle.net_parts.specs.World.{is_as_number}
 use Rattle.route_shapes.specs.Shapes.{PathShape}
 
 -- the tracked values that are marked
@@ -34,13 +35,6 @@ abbrev pub are_marked : (ℕ → Bool) → List ℕ → List Bool → Bool
 are_marked is [] bs = true
 are_marked is (t ∷ ts) [] = true
 are_marked is (t ∷ ts) (b ∷ bs) = (not (is t) || b) && are_marked is ts bs
-
--- a number of 32 bits, and an AS number (RFC 6793; RFC 7607)
-abbrev pub is_word : ℕ → Bool
-is_word n = nat_lt n (2 ^ 32)
-
-abbrev pub is_as_number : ℕ → Bool
-is_as_number n = nat_lt 0 n && is_word n
 
 -- how many numbers the two ends of a path are
 abbrev pub ends_count : PathShape → ℕ

@@ -3,10 +3,8 @@ use Rattle.std.proofs.Common.{◌≡◌, ◌∙◌, ℕ, ◌+◌, ◌≤◌, Boo
 use Rattle.std.proofs.Common.{Option, Some, None, refl, ap, sym, subst, append_assoc, inl, inr}
 use Rattle.std.specs.Prelude.{IfSome, slice_get}
 use Rattle.std.specs.List.{list_any}
-use Rattle.std.proofs.Math.Bool.{or-false}
 use Rattle.std.proofs.lemmas.List.{append-nil, take_all}
-use Rattle.std.proofs.lemmas.List.Folds.{list_any-append}
-use Rattle.mw_text.proofs.Found.{take_at}
+use Rattle.mw_text.proofs.Found.{any_more, take_at}
 use Rattle.mw_load.specs.declared.ended.Ended.{Ended}
 use Rattle.mw_outside.specs.Taken.{Takes, TakesPart, part_more, part_of_all, takes_more, takes_none}
 use Rattle.run_answers.specs.declared.seen.Seen.{Seen}
@@ -27,13 +25,6 @@ pub record AreSeen {Q A : Type 0} (k : Answering Q A) (asks : List Q)
     pub text : Takes before now (texts_of k.lines asks answers)
     pub logged : Takes logged_before logged_now (texts_of k.section asks answers)
     pub bumps : TellLast k tolds answers
-
--- a test of one answer more
-any_more : {A : Type 0} (test : A → Bool) (answers : List A) (answer : A) →
-    (list_any test answers || test answer) ≡ list_any test (answers ++ answer ∷ [])
-any_more test answers answer =
-    ap (λ b. list_any test answers || b) (sym (or-false (test answer)))
-    ∙ sym (list_any-append test answers (answer ∷ []))
 
 -- one answer more is right
 right_more : {Q A : Type 0} (k : Answering Q A) (asks : List Q) (answers : List A) (ask : Q) (answer : A) →

@@ -6,7 +6,7 @@ ghost use Rattle.std.specs.Option.{option_map_or, option_to_list};
 ghost use Rattle.machine_laws.specs.Announcing as announcing;
 ghost use Rattle.machine_laws.specs.Sending.{is_outside_at};
 ghost use Rattle.net_parts.specs.Sessions.{ends_of};
-ghost use Rattle.net_parts.specs.World.{ascends};
+ghost use Rattle.net_parts.specs.World as world;
 
 use machine_sending::is_outside_at;
 use mw_text::List;
@@ -49,19 +49,19 @@ fn is_of_peer(net: &Net, path: &[u32], at: u32) -> bool
 }
 
 fn is_word(n: u32) -> bool
-    ensures { result ≡ announcing.is_word n }
+    ensures { result ≡ world.is_word n }
 {
     u64::from(n) < 0x1_0000_0000
 }
 
 fn is_as_number(n: u32) -> bool
-    ensures { result ≡ announcing.is_as_number n }
+    ensures { result ≡ world.is_as_number n }
 {
     n > 0 && is_word(n)
 }
 
 fn are_as_numbers(numbers: &[u32]) -> bool
-    ensures { result ≡ list_all announcing.is_as_number numbers.now }
+    ensures { result ≡ list_all world.is_as_number numbers.now }
 {
     numbers.iter().all(|n| is_as_number(*n))
 }
@@ -74,7 +74,7 @@ fn is_path(path: &[u32]) -> bool
 
 #[tactic(auto, using(crate::proofs::Ascending::not_up))]
 fn do_ascend(numbers: &[u32]) -> bool
-    ensures { result ≡ ascends numbers.now }
+    ensures { result ≡ world.ascends numbers.now }
 {
     for at in 1..numbers.len() {
         if numbers[at - 1] >= numbers[at] {
@@ -85,7 +85,7 @@ fn do_ascend(numbers: &[u32]) -> bool
 }
 
 fn are_words(numbers: &[u32]) -> bool
-    ensures { result ≡ list_all announcing.is_word numbers.now }
+    ensures { result ≡ list_all world.is_word numbers.now }
 {
     numbers.iter().all(|n| is_word(*n))
 }

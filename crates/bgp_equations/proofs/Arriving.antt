@@ -28,10 +28,9 @@ use Rattle.sym_policy.specs.Held.{bgp_of}
 use Rattle.sym_policy.specs.Records.{address_of}
 use Rattle.sym_policy.specs.Routes.{IsBare}
 use Rattle.sym_policy.proofs.SameNodes.{bgp_within}
-use Rattle.sym_bgp.specs.Joined.{HasMarks, rest_at, with_rest}
+use Rattle.sym_bgp.specs.Joined.{rest_at, with_rest}
 use Rattle.sym_bgp.proofs.JoinedRoutes.{route_steps}
 use Rattle.sym_bgp.proofs.Sent.{sent_there}
-use Rattle.sym_rib.specs.Into.{HasTracked}
 use Rattle.bgp_equations.specs.declared.environment.SymEnv.{SymEnv}
 use Rattle.bgp_equations.specs.Environments.{environment_read, message_of}
 use Rattle.bgp_equations.proofs.Environments.{item_map}
@@ -61,9 +60,6 @@ announced_made w tracked peer t seen rest bare is = λ i. with_rest (is i) (reco
 })
 
 pub ruleset message_steps = (route_steps, bgp_within, sent_there, announced_made)
-
-pub marks_of : (tracked : Tracked) (s : SymBgp) → HasTracked tracked s → HasMarks tracked s
-marks_of tracked s has = record { numbers = has.numbers; communities = has.communities; clusters = has.clusters }
 
 -- ---- from an external peer
 

@@ -22,19 +22,18 @@ use Rattle.term_store.specs.Reading.{Builds}
 use Rattle.sym_policy.specs.declared.records.SymBgp.{SymBgp}
 use Rattle.sym_bgp.specs.declared.parts.SymCand.{SymCand}
 use Rattle.sym_bgp.specs.Candidates.{HaveMarksOf, SameMarks}
-use Rattle.sym_bgp.specs.Joined.{HasMarks}
-use Rattle.sym_rib.specs.Into.{HasTracked}
+use Rattle.sym_policy.specs.MapRecs.{HasTracked}
 use Rattle.sym_rib.proofs.OneEach.{filter_map_push}
 use Rattle.bgp_equations.specs.Beside.{HaveAllMarks}
 
 -- ---- one more
 
 pub marks_push : (tracked : Tracked) (cs after : List SymCand) (c : SymCand) → after ≡ cs ++ c ∷ [] →
-    HaveAllMarks tracked cs → HasMarks tracked c.rec → HaveAllMarks tracked after
+    HaveAllMarks tracked cs → HasTracked tracked c.rec → HaveAllMarks tracked after
 marks_push tracked cs after c is before here =
     subst (HaveAllMarks tracked) (sym is)
-    (All-append (λ (x : SymCand). HasMarks tracked x.rec) cs (c ∷ []) before
-    (All-cons (λ (x : SymCand). HasMarks tracked x.rec) c [] here (All-nil (λ (x : SymCand). HasMarks tracked x.rec))))
+    (All-append (λ (x : SymCand). HasTracked tracked x.rec) cs (c ∷ []) before
+    (All-cons (λ (x : SymCand). HasTracked tracked x.rec) c [] here (All-nil (λ (x : SymCand). HasTracked tracked x.rec))))
 
 pub none_put : {X : Type 0} (xs : List X) (b : Bool) (o : Option X) → b ≡ false →
     xs ≡ xs ++ option_to_list (if b then o else None)
@@ -119,7 +118,7 @@ numbered_none {X} test F xs i past =
 pub same_marks : (tracked : Tracked) (cands : List SymCand) (held : SymBgp) → HaveAllMarks tracked cands →
     HasTracked tracked held → HaveMarksOf held cands
 same_marks tracked cands held all has =
-    All-weaker (λ (c : SymCand). HasMarks tracked c.rec) (λ c. SameMarks c.rec held) (λ c is. record {
+    All-weaker (λ (c : SymCand). HasTracked tracked c.rec) (λ c. SameMarks c.rec held) (λ c is. record {
       numbers = is.numbers ∙ sym has.numbers;
       communities = is.communities ∙ sym has.communities;
       clusters = is.clusters ∙ sym has.clusters;

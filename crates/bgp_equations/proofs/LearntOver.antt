@@ -33,7 +33,7 @@ use Rattle.route_shapes.specs.Shapes.{RouteShape, shape_passes_paths, shape_thro
 use Rattle.rebuilt_routes.proofs.Options.{if_true}
 use Rattle.sym_policy.specs.declared.records.SymBgp.{SymBgp}
 use Rattle.sym_policy.specs.Held.{internal_route}
-use Rattle.sym_bgp.specs.Joined.{HasMarks}
+use Rattle.sym_policy.specs.MapRecs.{HasTracked}
 use Rattle.bgp_equations.specs.Equations.{has_inner}
 use Rattle.bgp_equations.proofs.ExternalCost.{external_cost}
 
@@ -265,7 +265,7 @@ inner_there files at k end there far =
 
 -- a route of which it is said elsewhere whether it is there keeps its rows
 pub remarked : (tracked : Tracked) (a b : SymBgp) → b.numbers ≡ a.numbers → b.communities ≡ a.communities →
-    b.clusters ≡ a.clusters → HasMarks tracked a → HasMarks tracked b
+    b.clusters ≡ a.clusters → HasTracked tracked a → HasTracked tracked b
 remarked tracked a b numbers communities clusters has = record {
   numbers = ap (λ (n : _). length n.nodes.items) numbers ∙ has.numbers;
   communities = ap (λ (n : _). length n.nodes.items) communities ∙ has.communities;

@@ -17,8 +17,8 @@ use Rattle.sym_policy.specs.declared.records.SymBgp.{SymBgp}
 use Rattle.sym_policy.specs.declared.records.SymMapRec.{SymMapRec}
 use Rattle.sym_policy.specs.Held.{bgp_end, bgp_of}
 use Rattle.sym_policy.specs.SameNodes.{IsJoined, IsRest, IsSeen}
-use Rattle.sym_bgp.specs.Joined.{HasMarks}
-use Rattle.sym_rib.specs.Into.{HasTracked, list_end}
+use Rattle.sym_policy.specs.MapRecs.{HasTracked}
+use Rattle.sym_rib.specs.Into.{list_end}
 use Rattle.sym_rib.proofs.OneEach.{filter_map_push}
 use Rattle.std.proofs.Common.{arith, filter, ◌==◌}
 use Rattle.std.specs.List.{enumerate_from}
@@ -122,7 +122,7 @@ copy_end a route rest made s t h =
 
 pub copy_marks : (tracked : Tracked) (a : SymBgp) (route : SymRoute) (rest : SymRest) (made : SymMapRec) →
     IsSeen (record { bgp = a; type1 = a.valid }) route → IsRest a rest → IsJoined a.valid route rest made →
-    HasTracked tracked a → HasMarks tracked made.bgp
+    HasTracked tracked a → HasTracked tracked made.bgp
 copy_marks tracked a route rest made s t h has =
     let c = is_copy a route rest made s t h in record {
       numbers = ap length c.numbers ∙ has.numbers;

@@ -7,7 +7,7 @@ use Rattle.term_arith.specs.Bits.{ids_end, number}
 use Rattle.sym_policy.specs.declared.records.SymBgp.{SymBgp}
 use Rattle.sym_policy.specs.Held.{bgp_at}
 use Rattle.sym_bgp.specs.declared.parts.SymCand.{SymCand}
-use Rattle.sym_bgp.specs.Joined.{HasMarks}
+use Rattle.sym_policy.specs.MapRecs.{HasTracked}
 use Rattle.bgp_equations.specs.declared.parts.SymBeside.{SymBeside}
 
 abbrev pub candidate_with : Reading → SymBgp → SymBeside → Option ShapeCandidate
@@ -26,4 +26,4 @@ beside_end b =
 
 -- the routes of candidates have one node for each tracked value
 abbrev pub HaveAllMarks : Tracked → List SymCand → Type 0
-HaveAllMarks tracked cands = All (λ c. HasMarks tracked c.rec) cands
+HaveAllMarks tracked cands = All (λ c. HasTracked tracked c.rec) cands

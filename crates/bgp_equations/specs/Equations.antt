@@ -22,7 +22,7 @@ use Rattle.sym_policy.specs.Records.{address_of, prefix_of}
 use Rattle.sym_ospf.specs.Rows.{HasDistances}
 use Rattle.sym_rib.specs.declared.slots.SymSlot.{SymSlot}
 use Rattle.sym_rib.specs.declared.slots.SymTables.{SymTables}
-use Rattle.sym_rib.specs.Into.{HasTracked}
+use Rattle.sym_policy.specs.MapRecs.{HasTracked}
 use Rattle.sym_rib.specs.Slots.{rib_of}
 use Rattle.sym_rib.specs.Worlds.{slot_placed}
 use Rattle.bgp_equations.specs.declared.environment.SymEnv.{SymEnv}

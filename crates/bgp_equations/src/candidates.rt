@@ -17,9 +17,9 @@ ghost use Rattle.sym_policy.specs.Records.{prefix_of};
 ghost use Rattle.sym_policy.specs.SameNodes.{IsSeen};
 ghost use Rattle.route_record.specs.declared.tracked.Tracked.{Tracked as TrackedOf};
 ghost use Rattle.sym_bgp.specs.Candidates.{candidate_of, candidate_end, candidates_end};
-ghost use Rattle.sym_bgp.specs.Joined.{HasMarks};
 ghost use Rattle.sym_ospf.specs.Rows.{net_end};
-ghost use Rattle.sym_rib.specs.Into.{HasTracked, list_end};
+ghost use Rattle.sym_policy.specs.MapRecs.{HasTracked};
+ghost use Rattle.sym_rib.specs.Into.{list_end};
 ghost use Rattle.sym_rib.specs.Slots.{slot_end};
 ghost use Rattle.sym_rib.specs.Worlds.{slot_placed, slots_end};
 ghost use Rattle.bgp_equations.specs.Beside.{HaveAllMarks};
@@ -58,7 +58,7 @@ fn copy_seen(alloc: Global, rec: &SymBgp) -> Result<SymRoute, AllocError>
 #[tactic(auto, using(crate::proofs::LocalSteps::copy_steps))]
 fn copy_bgp(alloc: Global, rec: &SymBgp) -> Result<SymBgp, AllocError>
     ensures within { IfOk result (λ r. bgp_end r ≡ bgp_end rec.now) }
-    ensures marks { IfOk result (λ r. (tracked : TrackedOf) → HasTracked tracked rec.now → HasMarks tracked r) }
+    ensures marks { IfOk result (λ r. (tracked : TrackedOf) → HasTracked tracked rec.now → HasTracked tracked r) }
     ensures value { IfOk result (λ r. (w : Reading) → bgp_of w r ≡ bgp_of w rec.now) }
 {
     let rest = rest_of(alloc, rec)?;
@@ -79,7 +79,7 @@ fn local_cand(
     requires { bgp_end rec.now ≤ size terms.old }
     ensures builds { Builds terms.old terms.new }
     ensures within { IfOk result (λ r. candidate_end r ≤ size terms.new) }
-    ensures marks { IfOk result (λ r. (tracked : TrackedOf) → HasTracked tracked rec.now → HasMarks tracked r.rec) }
+    ensures marks { IfOk result (λ r. (tracked : TrackedOf) → HasTracked tracked rec.now → HasTracked tracked r.rec) }
     ensures value { Gives terms.new result (λ w r. candidate_of w r ≡ option_map (local_with id.0) (bgp_of w rec.now)) }
 {
     let external = constant_node(terms, false)?;

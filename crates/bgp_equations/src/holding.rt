@@ -14,7 +14,7 @@ ghost use Rattle.announced_places.specs.Announced.{Ascend};
 ghost use Rattle.sym_policy.specs.Held.{bgp_of, bgp_end, failures_of};
 ghost use Rattle.sym_policy.specs.Records.{prefix_of};
 ghost use Rattle.sym_ospf.specs.Rows.{net_end};
-ghost use Rattle.sym_rib.specs.Into.{HasTracked};
+ghost use Rattle.sym_policy.specs.MapRecs.{HasTracked};
 ghost use Rattle.sym_rib.specs.Slots.{slot_end};
 ghost use Rattle.sym_rib.specs.Worlds.{slot_placed, slots_end};
 ghost use Rattle.bgp_equations.specs.Environments.{FitsNet, env_end, environment_read};

@@ -14,7 +14,7 @@ ghost use Rattle.sym_policy.specs.Held.{bgp_at, bgp_end, bgp_of, failures_of};
 ghost use Rattle.sym_policy.specs.Records.{address_of, prefix_of};
 ghost use Rattle.sym_bgp.specs.Candidates.{candidate_of, candidate_end, candidates_end};
 ghost use Rattle.silent_routers.specs.Silent as silent;
-ghost use Rattle.sym_bgp.specs.Joined.{HasMarks};
+ghost use Rattle.sym_policy.specs.MapRecs.{HasTracked};
 ghost use Rattle.sym_ospf.specs.Rows.{net_end};
 ghost use Rattle.sym_rib.specs.Worlds.{slots_end};
 ghost use Rattle.bgp_equations.specs.Beside.{HaveAllMarks, beside_end, candidate_with};
@@ -39,7 +39,7 @@ use term_store::Terms;
 #[tactic(auto, using(crate::proofs::LearntOver::remarked))]
 fn with_beside(rec: SymBgp, beside: SymBeside) -> SymCand
     ensures within { candidate_end result ≤ max (bgp_end rec) (beside_end beside) }
-    ensures marks { (tracked : TrackedOf) → HasMarks tracked rec → HasMarks tracked result.rec }
+    ensures marks { (tracked : TrackedOf) → HasTracked tracked rec → HasTracked tracked result.rec }
     ensures value { (w : Reading) → candidate_of w result ≡ candidate_with w rec beside }
 {
     let mut rec = rec;
@@ -74,7 +74,7 @@ fn learnt(
     requires slots { slots_end routing.now.tables.now.slots.now ≤ size terms.old }
     ensures builds { Builds terms.old terms.new }
     ensures within { IfOk result (λ r. candidate_end r ≤ size terms.new) }
-    ensures marks { IfOk result (λ r. HasMarks routing.now.net.now.tracked r.rec) }
+    ensures marks { IfOk result (λ r. HasTracked routing.now.net.now.tracked r.rec) }
     ensures value { Gives terms.new result (λ w r.
         DistancesForSessions w routing.now.net.now.files routing.now.sym.now →
         candidate_of w r

@@ -17,8 +17,7 @@ ghost use Rattle.sym_policy.specs.Held.{bgp_at, bgp_end, bgp_of};
 ghost use Rattle.sym_policy.specs.Records.{prefix_of};
 ghost use Rattle.sym_policy.specs.Routes.{path_at, path_end, preferences_at, preferences_end, rest_end, route_at};
 ghost use Rattle.sym_policy.specs.Routes.{route_end, HasRows, IsBare};
-ghost use Rattle.sym_bgp.specs.Joined.{HasMarks};
-ghost use Rattle.sym_rib.specs.Into.{HasTracked};
+ghost use Rattle.sym_policy.specs.MapRecs.{HasTracked};
 ghost use Rattle.sym_rib.specs.Slots.{slot_end};
 ghost use Rattle.sym_rib.specs.Worlds.{slot_placed, slots_end};
 ghost use Rattle.bgp_equations.specs.Environments.{environment_read, env_end, FitsNet, HasLists, message_of};
@@ -138,7 +137,7 @@ fn announced_message(
     requires nodes { bgp_end rec.now ≤ size terms.old }
     ensures builds { Builds terms.old terms.new }
     ensures within { IfOk result (λ r. bgp_end r ≤ size terms.new) }
-    ensures marks { IfOk result (λ r. HasMarks tracked.now r) }
+    ensures marks { IfOk result (λ r. HasTracked tracked.now r) }
     ensures value { Gives terms.new result (λ w r. bgp_of w r
         ≡ option_map (message_of tracked.now peer) (bgp_of w rec.now)) }
 {
@@ -150,11 +149,10 @@ fn announced_message(
 }
 
 /// No message.
-#[tactic(auto, using(crate::proofs::Arriving::marks_of))]
 fn nothing(alloc: Global, terms: &mut Terms, tracked: &Tracked) -> Result<SymBgp, AllocError>
     ensures builds { Builds terms.old terms.new }
     ensures within { IfOk result (λ r. bgp_end r ≤ size terms.new) }
-    ensures marks { IfOk result (λ r. HasMarks tracked.now r) }
+    ensures marks { IfOk result (λ r. HasTracked tracked.now r) }
     ensures value { Gives terms.new result (λ w r. bgp_of w r ≡ None) }
 {
     let none = no_bgp(alloc, terms, tracked)?;
@@ -173,7 +171,7 @@ fn of_peer(
     requires nodes { IfSome rec (λ s. bgp_end s.now ≤ size terms.old) }
     ensures builds { Builds terms.old terms.new }
     ensures within { IfOk result (λ r. bgp_end r ≤ size terms.new) }
-    ensures marks { IfOk result (λ r. HasMarks tracked.now r) }
+    ensures marks { IfOk result (λ r. HasTracked tracked.now r) }
     ensures value { Gives terms.new result (λ w r. bgp_of w r
         ≡ option_and_then (λ n. option_map (message_of tracked.now n.addr)
         (option_and_then (bgp_of w) (option_copied rec.entry))) (option_copied neighbour.entry)) }
@@ -203,7 +201,7 @@ fn outer_message(
     requires nodes { env_end routing.now.env.now ≤ size terms.old }
     ensures builds { Builds terms.old terms.new }
     ensures within { IfOk result (λ r. bgp_end r ≤ size terms.new) }
-    ensures marks { IfOk result (λ r. HasMarks routing.now.net.now.tracked r) }
+    ensures marks { IfOk result (λ r. HasTracked routing.now.net.now.tracked r) }
     ensures value { Gives terms.new result (λ w r. (p : PrefixOf) → p.len ≡ routing.now.len → bgp_of w r
         ≡ shape_arriving routing.now.net.now.tracked routing.now.net.now.files
         (environment_read w routing.now.net.now.files routing.now.tables.now.lens.now routing.now.env.now)
@@ -234,7 +232,7 @@ fn exported(
     requires slots { slots_end routing.now.tables.now.slots.now ≤ size terms.old }
     ensures builds { Builds terms.old terms.new }
     ensures within { IfOk result (λ r. bgp_end r ≤ size terms.new) }
-    ensures marks { IfOk result (λ r. HasMarks routing.now.net.now.tracked r) }
+    ensures marks { IfOk result (λ r. HasTracked routing.now.net.now.tracked r) }
     ensures value { Gives terms.new result (λ w r. bgp_of w r
         ≡ option_and_then (shape_exported routing.now.net.now.tracked routing.now.net.now.files far.now
         (prefix_of w routing.now.dst.now routing.now.len))
@@ -268,7 +266,7 @@ fn inner_message(
     requires slots { slots_end routing.now.tables.now.slots.now ≤ size terms.old }
     ensures builds { Builds terms.old terms.new }
     ensures within { IfOk result (λ r. bgp_end r ≤ size terms.new) }
-    ensures marks { IfOk result (λ r. HasMarks routing.now.net.now.tracked r) }
+    ensures marks { IfOk result (λ r. HasTracked routing.now.net.now.tracked r) }
     ensures value { Gives terms.new result (λ w r. bgp_of w r ≡ option_and_then (λ far.
         option_and_then (shape_exported routing.now.net.now.tracked routing.now.net.now.files far
         (prefix_of w routing.now.dst.now routing.now.len))
@@ -304,7 +302,7 @@ fn message(
     requires slots { slots_end routing.now.tables.now.slots.now ≤ size terms.old }
     ensures builds { Builds terms.old terms.new }
     ensures within { IfOk result (λ r. bgp_end r ≤ size terms.new) }
-    ensures marks { IfOk result (λ r. HasMarks routing.now.net.now.tracked r) }
+    ensures marks { IfOk result (λ r. HasTracked routing.now.net.now.tracked r) }
     ensures value { Gives terms.new result (λ w r. bgp_of w r
         ≡ shape_arriving routing.now.net.now.tracked routing.now.net.now.files
         (environment_read w routing.now.net.now.files routing.now.tables.now.lens.now routing.now.env.now)
@@ -337,7 +335,7 @@ pub(crate) fn arrived(
     requires slots { slots_end routing.now.tables.now.slots.now ≤ size terms.old }
     ensures builds { Builds terms.old terms.new }
     ensures within { IfOk result (λ r. bgp_end r ≤ size terms.new) }
-    ensures marks { IfOk result (λ r. HasMarks routing.now.net.now.tracked r) }
+    ensures marks { IfOk result (λ r. HasTracked routing.now.net.now.tracked r) }
     ensures value { Gives terms.new result (λ w r. bgp_of w r
         ≡ option_and_then (shape_imported routing.now.net.now.tracked routing.now.net.now.files end.now
         (prefix_of w routing.now.dst.now routing.now.len))

@@ -165,8 +165,8 @@ meet_alike a b met =
 
 -- what a filter lets pass stands in the list before it, at a place
 pub record IsAt {X : Type 0} (xs : List X) (x : X) : Type 0 where
-  k : ℕ
-  there : slice_get xs k ≡ Some x
+  pub k : ℕ
+  pub there : slice_get xs k ≡ Some x
 
 pub all_there : {X : Type 0} (xs : List X) → All (IsAt xs) xs
 all_there [] = All-nil (IsAt [])

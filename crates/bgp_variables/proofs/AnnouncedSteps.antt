@@ -16,7 +16,8 @@ use Rattle.term_store.specs.Reading.{Builds}
 use Rattle.term_arith.proofs.NumberLemmas.{ids_end_at}
 use Rattle.term_arith.specs.Bits.{bits, number, number_of}
 use Rattle.failed_links.proofs.Reading.{number-below}
-use Rattle.announced_shapes.specs.Paths.{are_marked, has_path_ends, has_path_length, has_path_marks, is_as_number}
+use Rattle.net_parts.specs.World.{is_as_number}
+use Rattle.announced_shapes.specs.Paths.{are_marked, has_path_ends, has_path_length, has_path_marks}
 use Rattle.announced_shapes.specs.Paths.{is_path_shape, taken}
 use Rattle.rebuilt_routes.proofs.Ranks.{small_bit}
 use Rattle.bgp_variables.specs.Announced.{are_fit, inner_count, is_announced, is_one_of}

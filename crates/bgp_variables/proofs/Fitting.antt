@@ -25,13 +25,13 @@ use Rattle.route_record.specs.declared.Slot.{Slot}
 use Rattle.route_record.specs.declared.Tables.{Tables}
 use Rattle.route_record.specs.declared.TheConstants.{LENGTHS}
 use Rattle.route_record.specs.declared.tracked.Tracked.{Tracked}
-use Rattle.route_record.specs.Fits.{FitsBgp, FitsSlot, IsAddress}
+use Rattle.route_record.specs.Fits.{FitsBgp, FitsSlot}
 use Rattle.route_record.specs.Origins.{origin_code}
 use Rattle.route_record.specs.Places.{slot_at}
 use Rattle.route_record.specs.Shape.{has_address, saturated}
 use Rattle.route_record.proofs.Saturated.{saturated-none, saturated-small}
 use Rattle.net_parts.specs.Tracked.{TracksNet}
-use Rattle.net_parts.specs.World.{IsEnvironment}
+use Rattle.net_parts.specs.World.{IsEnvironment, is_as_number, is_word}
 use Rattle.route_record.specs.declared.tracked.TheConstants.{MOST_TRACKED}
 use Rattle.net_parts.specs.Decisions.{DecidedByBgp}
 use Rattle.net_parts.specs.Stable.{Stable}
@@ -46,7 +46,7 @@ use Rattle.slot_places.specs.declared.fields.Field.TheVariants.{Addresses, Among
 use Rattle.slot_places.specs.Values.{FitsField, width_for}
 use Rattle.slot_places.proofs.Widths.{in_width}
 use Rattle.bgp_shapes.specs.Candidates.{ShapeAnnouncement, shape_announced}
-use Rattle.announced_shapes.specs.Paths.{IsPathShape, is_as_number, is_word}
+use Rattle.announced_shapes.specs.Paths.{IsPathShape}
 use Rattle.world_variables.proofs.Worlds.{value_small}
 use Rattle.bgp_variables.specs.Marks.{FitMarks}
 use Rattle.bgp_variables.specs.Rooms.{announcement_room, bgp_room, held_room, of_addresses, of_words, only, reflected}

@@ -17,7 +17,7 @@ use Rattle.sym_policy.specs.SameNodes.{IsJoined}
 use Rattle.sym_policy.proofs.SameNodes.{bgp_within, joined_within}
 use Rattle.sym_bgp.specs.Joined.{rest_at, with_rest}
 use Rattle.sym_bgp.proofs.JoinedRoutes.{joined_of}
-use Rattle.sym_rib.specs.Into.{HasTracked}
+use Rattle.sym_policy.specs.MapRecs.{HasTracked}
 use Rattle.failed_links.proofs.Steps.{grows_grown}
 use Rattle.bgp_variables.specs.declared.rooms.BgpRoom.{BgpRoom}
 use Rattle.bgp_variables.specs.Parts.{HasMarksOf, HasSeenMarks, rest_from, rest_width, seen_from, seen_width}

@@ -16,7 +16,8 @@ use Rattle.route_shapes.specs.Bgp.{BgpShape}
 use Rattle.bgp_shapes.specs.Candidates.{ShapeAnnouncement}
 use Rattle.failed_links.proofs.Reading.{number_from-below}
 use Rattle.announced_shapes.specs.Announcements.{has_communities, has_ranges, is_announcement_shape, is_peers_path}
-use Rattle.announced_shapes.specs.Paths.{is_path_shape, is_word, taken}
+use Rattle.net_parts.specs.World.{is_word}
+use Rattle.announced_shapes.specs.Paths.{is_path_shape, taken}
 use Rattle.announced_places.specs.Environments.{announcement_of}
 use Rattle.bgp_variables.specs.Announced.{is_announced}
 use Rattle.bgp_variables.specs.Marks.{mark_width, marks_from}

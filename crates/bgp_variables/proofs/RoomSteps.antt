@@ -5,7 +5,7 @@ use Rattle.slot_places.specs.declared.fields.Field.TheVariants.{Addresses, Among
 use Rattle.slot_places.specs.declared.fields.Field.{Field}
 use Rattle.slot_places.specs.Values.{width_for}
 use Rattle.slot_places.proofs.Widths.{few}
-use Rattle.announced_shapes.specs.Paths.{is_word}
+use Rattle.net_parts.specs.World.{is_word}
 use Rattle.held_values.specs.Rooms.{values_room}
 use Rattle.std.specs.Prelude.{IfSome, nat_le, option_map}
 use Rattle.std.specs.List.{All, list_all}

@@ -3,7 +3,8 @@ use Rattle.std.specs.Prelude.{ℕ, ◌==◌, ◌&&◌, ◌||◌, Bool, List, fil
 use Rattle.std.specs.List.{list_all}
 use Rattle.route_record.specs.declared.tracked.Tracked.{Tracked}
 use Rattle.route_shapes.specs.Bgp.{BgpShape}
-use Rattle.announced_shapes.specs.Paths.{are_marked, is_as_number, is_path_shape, taken}
+use Rattle.net_parts.specs.World.{is_as_number}
+use Rattle.announced_shapes.specs.Paths.{are_marked, is_path_shape, taken}
 
 -- the peer of that AS may announce the path, and the origin is one of the three that there are (RFC 4271, section 4.3)
 abbrev pub is_announced : Tracked → ℕ → BgpShape → Bool

@@ -5,7 +5,7 @@ use Rattle.std.specs.List.{list_all}
 use Rattle.ios_ast.specs.declared.bgp.Neighbour.{Neighbour}
 use Rattle.ios_ast.specs.declared.file.File.{File}
 use Rattle.route_record.specs.declared.tracked.Tracked.{Tracked}
-use Rattle.announced_shapes.specs.Paths.{is_word}
+use Rattle.net_parts.specs.World.{is_word}
 use Rattle.held_values.specs.Rooms.{values_room}
 use Rattle.plan_places.specs.declared.places.Place.{Place}
 use Rattle.slot_places.specs.declared.fields.Field.{Field}

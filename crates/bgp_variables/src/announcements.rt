@@ -6,7 +6,8 @@ ghost use Rattle.term_store.specs.Terms.{Reading, at, size};
 ghost use Rattle.term_store.specs.Reading.{Reads, Builds, Gives};
 ghost use Rattle.term_arith.specs.Bits.{bits, number, ids_end};
 ghost use Rattle.sym_policy.specs.Held.{bgp_at, bgp_end};
-ghost use Rattle.announced_shapes.specs.Paths.{is_as_number, has_path_ends, has_path_length, has_path_marks};
+ghost use Rattle.net_parts.specs.World.{is_as_number};
+ghost use Rattle.announced_shapes.specs.Paths.{has_path_ends, has_path_length, has_path_marks};
 ghost use Rattle.bgp_variables.specs.Announced.{are_fit, inner_count, is_announced, is_one_of};
 
 use route_record::Tracked;

@@ -20,14 +20,13 @@ ghost use Rattle.net_parts.specs.declared.sessions.SessionEnd.{SessionEnd as Ses
 ghost use Rattle.net_parts.specs.Sessions.{ends_of, is_outside, neighbour_of};
 ghost use Rattle.net_parts.specs.Stable.{Stable};
 ghost use Rattle.net_parts.specs.Tracked.{TracksNet};
-ghost use Rattle.net_parts.specs.World.{IsEnvironment};
+ghost use Rattle.net_parts.specs.World.{IsEnvironment, is_word};
 ghost use Rattle.route_shapes.specs.Bgp.{BgpShape, bgp_shape};
 ghost use Rattle.failed_links.specs.Rows.{IsAt};
 ghost use Rattle.bgp_shapes.specs.Candidates.{ShapeAnnouncement, ShapeEnvironment, ShapeSlot, shape_announced, shape_arriving};
 ghost use Rattle.announced_places.specs.Announced.{Ascend};
 ghost use Rattle.announced_places.specs.Environments.{announcement_of, environment_of};
 ghost use Rattle.announced_shapes.specs.Announcements.{IsAnnouncementShape, is_announcement_shape};
-ghost use Rattle.announced_shapes.specs.Paths.{is_word};
 ghost use Rattle.bgp_variables.specs.Announced.{is_announced};
 ghost use Rattle.bgp_variables.specs.declared.rooms.BgpRoom.{BgpRoom as BgpRoomOf};
 ghost use Rattle.bgp_variables.specs.Environments.{announced_from, announced_rooms, arrivals, environment_bits, environment_width, ids_from, peers_count};

@@ -1,9 +1,9 @@
 //! What the parts of a BGP route can be.
 
 ghost use Rattle.std.specs.Prelude.{◌≡◌, IfOk, length, replicate};
+ghost use Rattle.net_parts.specs.World as world;
 ghost use Rattle.slot_places.specs.declared.fields.Field.TheVariants.{Bits};
 ghost use Rattle.std.specs.List.{list_all};
-ghost use Rattle.announced_shapes.specs.Paths as paths;
 ghost use Rattle.held_values.specs.Rooms.{values_room};
 ghost use Rattle.bgp_variables.specs.Rooms as rooms;
 ghost use Rattle.bgp_variables.specs.Shapes.{IsRoomOf};
@@ -112,14 +112,14 @@ fn no_reflection(alloc: Global, tracked: &Tracked) -> Result<Reflection, AllocEr
 }
 
 fn is_word(n: u32) -> bool
-    ensures { result ≡ paths.is_word n }
+    ensures { result ≡ world.is_word n }
 {
     let _n = n;
     true
 }
 
 fn are_words(values: &[u32]) -> bool
-    ensures { result ≡ list_all paths.is_word values.now }
+    ensures { result ≡ list_all world.is_word values.now }
 {
     values.iter().all(|n| is_word(*n))
 }

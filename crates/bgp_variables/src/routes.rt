@@ -6,7 +6,7 @@ ghost use Rattle.term_store.specs.Terms.{Reading, at, size};
 ghost use Rattle.term_store.specs.Reading.{Reads, Builds, Grows, Gives};
 ghost use Rattle.term_arith.specs.Bits.{number, ids_end};
 ghost use Rattle.sym_policy.specs.Held.{bgp_of, bgp_end};
-ghost use Rattle.sym_rib.specs.Into.{HasTracked};
+ghost use Rattle.sym_policy.specs.MapRecs.{HasTracked};
 ghost use Rattle.bgp_variables.specs.Parts.{HasMarksOf};
 ghost use Rattle.bgp_variables.specs.Shapes.{IsBgpRoom, IsRoomOf, bgp_from, bgp_width, shape_width};
 

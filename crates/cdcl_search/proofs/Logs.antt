@@ -1,6 +1,6 @@
 -- The log of a search: its entries and their lines.
 use Rattle.resolution_check.proofs.Values.{below_larger}
-use Rattle.std.proofs.Common.{◌*◌, ◌≡◌, ℕ, ◌+◌, ◌<◌, ◌≤◌, ◌^◌, ◌==◌, Bool, true, false, cond, ◌||◌, List, []}
+use Rattle.std.proofs.Common.{◌*◌, ◌/◌, ◌-◌, min, ◌≡◌, ℕ, ◌+◌, ◌<◌, ◌≤◌, ◌^◌, ◌==◌, Bool, true, false, cond, ◌||◌, List, []}
 use Rattle.std.proofs.Common.{◌∷◌, ◌++◌, length, take, drop, slice_get, Option, Some, None, is_some, Result, Ok, Err}
 use Rattle.std.proofs.Common.{IfOk, refl, sym, ap, ap₂, subst, ◌∙◌, arith, inl, inr, add-zero, append_assoc}
 use Rattle.std.proofs.Common.{take-append-drop}
@@ -9,7 +9,9 @@ use Rattle.std.specs.Option.{option_or, option_map_or, ok_or}
 use Rattle.std.specs.List.{list_all, list_any, AllByRecursion}
 use Rattle.std.proofs.lemmas.Bool.{and_parts, ltb-true, cases_Bool, eqb-true, false≢true}
 use Rattle.std.proofs.lemmas.Bool.{false_from_ne_true}
-use Rattle.std.proofs.lemmas.List.{append-nil, length-take}
+use Rattle.std.proofs.lemmas.List.{append-nil, length-take, take_min}
+use Rattle.std.proofs.lemmas.List.Folds.{list_all-append}
+use Rattle.std.proofs.Math.Seq.{take-add}
 use Rattle.std.proofs.lemmas.Option.{slice_get_within}
 use Rattle.mw_outside.specs.Taken.{Takes, TakesPart, takes_more, part_of_all, part_of_none, part_stops, part_more}
 use Rattle.resolution_check.specs.declared.log.Lit.{Lit}
@@ -113,45 +115,76 @@ inputs-append id (c ∷ cs) ds =
     (inputs-append (id + 1) cs ds ∙ ap (λ k. input_entries (id + 1) cs ++ input_entries k ds) moved)
 
 -- the inputs so far and one more
-input_next : (cs : List Clause) (at : ℕ) (c : Clause) → slice_get cs at ≡ Some c
-    → input_entries 1 (take (at + 1) cs) ≡ input_entries 1 (take at cs) ++ Input (at + 1) c ∷ []
-input_next cs at c there =
+input_next : (first : ℕ) (cs : List Clause) (at : ℕ) (c : Clause) → slice_get cs at ≡ Some c
+    → input_entries first (take (at + 1) cs) ≡ input_entries first (take at cs) ++ Input (first + at) c ∷ []
+input_next first cs at c there =
     let within : at < length cs = slice_get_within cs at c there in
     let front = length-take at cs in
-    let number : 1 + length (take at cs) ≡ at + 1 = omega arith in
-    ap (input_entries 1) (take_at cs at c there) ∙ inputs-append 1 (take at cs) (c ∷ [])
-    ∙ ap (λ k. input_entries 1 (take at cs) ++ Input k c ∷ []) number
+    let number : first + length (take at cs) ≡ first + at = omega arith in
+    ap (input_entries first) (take_at cs at c there) ∙ inputs-append first (take at cs) (c ∷ [])
+    ∙ ap (λ k. input_entries first (take at cs) ++ Input k c ∷ []) number
 
-text_next : (cs : List Clause) (at : ℕ) (c : Clause) → slice_get cs at ≡ Some c
-    → log_text (input_entries 1 (take (at + 1) cs))
-    ≡ log_text (input_entries 1 (take at cs)) ++ line_of (Input (at + 1) c)
-text_next cs at c there =
-    ap log_text (input_next cs at c there) ∙ text-push (input_entries 1 (take at cs)) (Input (at + 1) c)
+pub text_next : (first : ℕ) (cs : List Clause) (at : ℕ) (c : Clause) → slice_get cs at ≡ Some c
+    → log_text (input_entries first (take (at + 1) cs))
+    ≡ log_text (input_entries first (take at cs)) ++ line_of (Input (first + at) c)
+text_next first cs at c there =
+    ap log_text (input_next first cs at c there) ∙ text-push (input_entries first (take at cs)) (Input (first + at) c)
 
-pub inputs_more : (before middle now : Option (List ℕ)) (cs : List Clause) (at : ℕ) (c : Clause)
-    → slice_get cs at ≡ Some c
-    → Takes before middle (log_text (input_entries 1 (take at cs))) → Takes middle now (line_of (Input (at + 1) c))
-    → Takes before now (log_text (input_entries 1 (take (at + 1) cs)))
-inputs_more before middle now cs at c there first second =
+-- and some more
+text_pieces : (cs : List Clause) (from count : ℕ) → from ≤ length cs
+    → log_text (input_entries 1 (take (from + count) cs))
+    ≡ log_text (input_entries 1 (take from cs)) ++ log_text (input_entries (from + 1) (take count (drop from cs)))
+text_pieces cs from count within =
+    let front = length-take from cs in
+    let number : 1 + length (take from cs) ≡ from + 1 = omega arith in
+    ap (λ ds. log_text (input_entries 1 ds)) (take-add from count cs)
+    ∙ ap log_text (inputs-append 1 (take from cs) (take count (drop from cs)))
+    ∙ text-append (input_entries 1 (take from cs)) _
+    ∙ ap (λ k. log_text (input_entries 1 (take from cs)) ++ log_text (input_entries k (take count (drop from cs)))) number
+
+pub pieces_more : (before middle now : Option (List ℕ)) (cs : List Clause) (from count : ℕ) → from ≤ length cs
+    → Takes before middle (log_text (input_entries 1 (take from cs)))
+    → Takes middle now (log_text (input_entries (from + 1) (take count (drop from cs))))
+    → Takes before now (log_text (input_entries 1 (take (from + count) cs)))
+pieces_more before middle now cs from count within first second =
     let P : List ℕ → Type 0 = λ t. Takes before now t in
-    subst P (sym (text_next cs at c there)) (takes_more before middle now _ _ first second)
+    subst P (sym (text_pieces cs from count within)) (takes_more before middle now _ _ first second)
 
-pub inputs_part : (before middle now : Option (List ℕ)) (cs : List Clause) (at : ℕ) (c : Clause)
-    → slice_get cs at ≡ Some c
-    → Takes before middle (log_text (input_entries 1 (take at cs)))
-    → TakesPart middle now (line_of (Input (at + 1) c)) → TakesPart before now (log_text (input_entries 1 cs))
-inputs_part before middle now cs at c there first second =
-    let front = take (at + 1) cs in
-    let rest = drop (at + 1) cs in
+pub pieces_part : (before middle now : Option (List ℕ)) (cs : List Clause) (from count : ℕ) → from ≤ length cs
+    → Takes before middle (log_text (input_entries 1 (take from cs)))
+    → TakesPart middle now (log_text (input_entries (from + 1) (take count (drop from cs))))
+    → TakesPart before now (log_text (input_entries 1 cs))
+pieces_part before middle now cs from count within first second =
+    let front = take (from + count) cs in
+    let rest = drop (from + count) cs in
     let whole : log_text (input_entries 1 front) ++ log_text (input_entries (1 + length front) rest)
     ≡ log_text (input_entries 1 cs) =
     sym (text-append (input_entries 1 front) (input_entries (1 + length front) rest))
     ∙ ap log_text (sym (inputs-append 1 front rest))
-    ∙ ap (λ ds. log_text (input_entries 1 ds)) (take-append-drop (at + 1) cs) in
+    ∙ ap (λ ds. log_text (input_entries 1 ds)) (take-append-drop (from + count) cs) in
     let P : List ℕ → Type 0 = λ t. TakesPart before now t in
     subst P whole
     (part_stops before now (log_text (input_entries 1 front)) (log_text (input_entries (1 + length front) rest))
-    (subst P (sym (text_next cs at c there)) (part_more before middle now _ _ first second)))
+    (subst P (sym (text_pieces cs from count within)) (part_more before middle now _ _ first second)))
+
+-- the end of a piece, and what holds of all
+pub next_piece : (cs : List Clause) (from : ℕ) → from ≤ length cs
+    → take (from + (min (from + 512) (length cs) - from)) cs ≡ take (from + 512) cs
+next_piece cs from within = ap (λ k. take k cs) (omega (arith, within)) ∙ take_min (from + 512) cs
+
+pub all_part : (p : Clause → Bool) (cs : List Clause) (from count : ℕ) → list_all p cs ≡ true
+    → list_all p (take count (drop from cs)) ≡ true
+all_part p cs from count all =
+    let rest = (and_parts _ _ (sym (list_all-append p (take from cs) (drop from cs))
+    ∙ ap (list_all p) (take-append-drop from cs) ∙ all)).1 in
+    (and_parts _ _ (sym (list_all-append p (take count (drop from cs)) (drop count (drop from cs)))
+    ∙ ap (list_all p) (take-append-drop count (drop from cs)) ∙ rest)).0
+
+pub piece_within : (len piece : ℕ) → piece < len / 512 + 1 → piece * 512 ≤ len
+piece_within len piece before = omega (arith, before)
+
+pub pieces_all : (len piece : ℕ) → len / 512 + 1 ≤ piece → len ≤ piece * 512
+pieces_all len piece last = omega (arith, last)
 
 -- ---- lists of entries so far, and the next number
 

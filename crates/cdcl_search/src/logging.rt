@@ -3,6 +3,7 @@
 ghost use Rattle.resolution_check.specs.Clauses.{is_below};
 ghost use Rattle.std.specs.Prelude.{◌≡◌, ◌<◌, ◌≤◌, ◌^◌, true, IfOk, OnOk, length};
 ghost use Rattle.std.specs.List.{list_all};
+ghost use Rattle.std.specs.String.{string_bytes};
 ghost use Rattle.mw_outside.specs.Faults.{Rose};
 ghost use Rattle.mw_outside.specs.Taken.{Takes, TakesPart};
 ghost use Rattle.resolution_check.specs.Text.{line_of, log_text, HasText};
@@ -11,15 +12,11 @@ ghost use Rattle.cdcl_search.specs.Outcomes.{OnLogFault, UnlessLogFault, input_e
 use crate::outcome::SolveFault;
 use mw_outside::Sink;
 use mw_text::List;
-use resolution_check::{Clause, Entry, Lit, write_entry};
+use resolution_check::{Clause, Entry, Lit, put_input, write_entry};
 use std::alloc::{AllocError, Global};
 
-/// The same clause once more.
-fn copy_of(clause: &Clause) -> Result<Clause, AllocError>
-    ensures { IfOk result (λ copy. copy ≡ clause.now) }
-{
-    clause.clone()
-}
+/// So many inputs are written at once.
+const PIECE: usize = 512;
 
 /// The line of an entry.
 fn line_text(alloc: Global, entry: &Entry) -> Result<List<u8>, AllocError>
@@ -46,26 +43,38 @@ fn write_line<L: Sink>(alloc: Global, log: &mut L, entry: &Entry) -> Result<(), 
     Ok(())
 }
 
-/// Writes a clause as the input of this number.
+/// The lines of clauses as inputs, numbered from one on.
+fn inputs_text(alloc: Global, first: u64, clauses: &[Clause]) -> Result<String, AllocError>
+    requires first { first ≤ 2 ^ 63 }
+    requires small { list_all (λ c. is_below (2 ^ 63) c.lits) clauses.now ≡ true }
+    ensures { IfOk result (λ text. string_bytes text ≡ log_text (input_entries first clauses.now)) }
+{
+    let mut text = String::new(alloc);
+    for (at, clause) in clauses.iter().enumerate() {
+        put_input(&mut text, first + at as u64, clause.lits.as_slice())?;
+    }
+    Ok(text)
+}
+
+/// Writes clauses as inputs, numbered from one on, at once.
 #[tactic(auto, using(mw_outside::specs::Taken::parts))]
-fn write_input<L: Sink>(
+fn write_piece<L: Sink>(
     alloc: Global,
     log: &mut L,
-    id: u64,
-    clause: &Clause,
+    first: u64,
+    clauses: &[Clause],
 ) -> Result<(), SolveFault>
-    requires { HasText (Entry.Input id clause.now) }
-    ensures takes { OnOk result (Takes (L.taken log.old) (L.taken log.new) (line_of (Entry.Input id clause.now))) }
-    ensures part { TakesPart (L.taken log.old) (L.taken log.new) (line_of (Entry.Input id clause.now)) }
+    requires first { first ≤ 2 ^ 63 }
+    requires small { list_all (λ c. is_below (2 ^ 63) c.lits) clauses.now ≡ true }
+    ensures takes { OnOk result (Takes (L.taken log.old) (L.taken log.new) (log_text (input_entries first clauses.now))) }
+    ensures part { TakesPart (L.taken log.old) (L.taken log.new) (log_text (input_entries first clauses.now)) }
     ensures fault { OnLogFault result (Rose (L.faults log.old) (L.faults log.new)) }
     ensures stays { UnlessLogFault result (L.faults log.new ≡ L.faults log.old) }
     ensures later { L.faults log.old ≤ L.faults log.new }
 {
-    let input = Entry::Input {
-        id,
-        clause: copy_of(clause)?,
-    };
-    write_line(alloc, log, &input)
+    let text = inputs_text(alloc, first, clauses)?;
+    log.write(text.as_bytes())?;
+    Ok(())
 }
 
 /// Writes the clauses as inputs, numbered from 1.
@@ -82,8 +91,10 @@ pub(crate) fn write_inputs<L: Sink>(
     ensures stays { UnlessLogFault result (L.faults log.new ≡ L.faults log.old) }
     ensures later { L.faults log.old ≤ L.faults log.new }
 {
-    for (at, clause) in clauses.iter().enumerate() {
-        write_input(alloc, log, at as u64 + 1, clause)?;
+    for piece in 0..clauses.len() / PIECE + 1 {
+        let from = piece * PIECE;
+        let to = (from + PIECE).min(clauses.len());
+        write_piece(alloc, log, from as u64 + 1, &clauses[from..to])?;
     }
     Ok(())
 }

@@ -3,9 +3,8 @@
 ghost use Rattle.std.specs.Prelude.{◌≡◌, ◌≤◌, IfOk, length, true};
 ghost use Rattle.term_store.specs.Terms.{size};
 ghost use Rattle.term_arith.specs.Bits.{ids_end};
-ghost use Rattle.sym_policy.specs.MapRecs.{HasMarks};
+ghost use Rattle.sym_policy.specs.MapRecs.{HasMarks, HasTracked};
 ghost use Rattle.sym_rib.specs.Slots.{slot_end};
-ghost use Rattle.sym_rib.specs.Into.{HasTracked};
 
 use crate::fresh::{fresh_bgp, fresh_ospf, fresh_slot};
 use crate::rows::{fresh_links, fresh_net, fresh_rows, has_rows};

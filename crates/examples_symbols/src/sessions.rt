@@ -6,7 +6,7 @@ ghost use Rattle.term_arith.specs.Bits.{ids_end};
 ghost use Rattle.net_parts.specs.Sessions.{ends_of};
 ghost use Rattle.sym_policy.specs.Held.{bgp_end};
 ghost use Rattle.sym_bgp.specs.Candidates.{HaveMarksOf, SameMarks, candidate_end, candidates_end};
-ghost use Rattle.sym_bgp.specs.Joined.{HasMarks};
+ghost use Rattle.sym_policy.specs.MapRecs.{HasTracked};
 
 use crate::fresh::fresh_bgp;
 use mw_text::List;
@@ -20,7 +20,7 @@ use term_store::{NodeId, Terms};
 
 /// Whether the route has a node for each value that is tracked.
 fn has_marks(tracked: &Tracked, bgp: &SymBgp) -> bool
-    ensures { result ≡ true → HasMarks tracked.now bgp.now }
+    ensures { result ≡ true → HasTracked tracked.now bgp.now }
 {
     bgp.numbers.nodes.as_slice().len() == tracked.numbers.as_slice().len()
         && bgp.communities.nodes.as_slice().len() == tracked.communities.as_slice().len()

@@ -19,10 +19,6 @@ use Rattle.net_parts.specs.Resolution.{session_up}
 use Rattle.net_parts.specs.Exports.{is_towards}
 use Rattle.net_parts.specs.Sessions.{ends_of, is_outside}
 use Rattle.route_shapes.specs.Bgp.{BgpShape}
-use Rattle.route_record.specs.declared.tracked.Tracked.{Tracked}
-use Rattle.sym_policy.specs.declared.records.SymBgp.{SymBgp}
-use Rattle.sym_rib.specs.Into.{HasTracked}
-use Rattle.sym_bgp.specs.Joined.{HasMarks}
 use Rattle.export_asks.specs.declared.ask.AskPeer.{AskPeer}
 use Rattle.export_asks.specs.Exported.{end_to, is_end_to}
 
@@ -49,10 +45,6 @@ one_entry e p permits = by (prefix_taken e p)
     by : (b : Bool) → option_map_or (λ (x : PrefixEntry). x.permit) (if b then Some e else None) false ≡ b
     by true = permits
     by false = refl
-
--- what the slots have the routes of them have
-pub marks_of : (tracked : Tracked) (s : SymBgp) → HasTracked tracked s → HasMarks tracked s
-marks_of tracked s has = record { numbers = has.numbers; communities = has.communities; clusters = has.clusters }
 
 -- the end towards an ask's peer is one with an external peer
 pub end_outside : (files : List File) (peer : AskPeer) (o : Option ℕ) → o ≡ end_to files peer →

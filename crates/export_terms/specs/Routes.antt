@@ -8,7 +8,7 @@ use Rattle.term_store.specs.Terms.{Reading, at}
 use Rattle.sym_policy.specs.Held.{bgp_of}
 use Rattle.sym_rib.specs.declared.slots.SymSlot.{SymSlot}
 use Rattle.sym_rib.specs.declared.slots.SymTables.{SymTables}
-use Rattle.sym_rib.specs.Into.{HasTracked}
+use Rattle.sym_policy.specs.MapRecs.{HasTracked}
 use Rattle.sym_rib.specs.Worlds.{sym_slot_at}
 
 -- the routes of all routers at one length, by their shapes, where each of so many routers has a slot at each of these

@@ -30,7 +30,7 @@ use Rattle.net_parts.specs.Exports.{own_address}
 use Rattle.net_parts.specs.Sessions.{end_of, ends_of, far_of, has_session, is_external_peer, meet, names_other}
 use Rattle.net_parts.specs.Sessions.{neighbour_of, peering, peerings, peerings_from, peerings_of, peerings_routers}
 use Rattle.net_parts.specs.Sessions.{sessions, speaking, speaks_from}
-use Rattle.bgp_shapes.proofs.EndLaw.{any_filtered, meet_back, position_there}
+use Rattle.bgp_shapes.proofs.EndLaw.{IsAt, all_there, any_filtered, meet_back, position_there}
 use Rattle.bgp_shapes.proofs.Once.{process_of}
 use Rattle.rebuilt_routes.proofs.Words.{found_all}
 
@@ -280,17 +280,6 @@ session_lines files =
     (lines_routers (addressed files) (found_router 0 files) 0 files))
 
 -- ---- the far end
-
--- what a filter lets pass stands in the list before it, at a place
-record IsAt {X : Type 0} (xs : List X) (x : X) : Type 0 where
-  k : ℕ
-  there : slice_get xs k ≡ Some x
-
-all_there : {X : Type 0} (xs : List X) → All (IsAt xs) xs
-all_there [] = All-nil (IsAt [])
-all_there (x ∷ xs) =
-    All-cons (IsAt (x ∷ xs)) x xs (record { k = zero; there = refl })
-    (All-weaker (IsAt xs) (IsAt (x ∷ xs)) (λ y is. record { k = suc is.k; there = is.there }) xs (all_there xs))
 
 -- a session, with its line
 record Stands (files : List File) (a : Peering) : Type 0 where

@@ -12,9 +12,10 @@ ghost use Rattle.route_record.specs.declared.Environment.{Environment as Environ
 ghost use Rattle.route_record.specs.declared.World.{World as WorldOf};
 ghost use Rattle.loop_free_walks.specs.Entries.{AreInterior, is_plain};
 
-/// In a stable routing whose table entries are all of connected subnets or of OSPF no walk of the packet ends in a loop, and
-/// one of more than one router has no more of them than there are. With each hop either the longest prefix with an entry is longer, or the
-/// OSPF route for it costs less, and a connected subnet leads to the router that has the destination.
+/// In a stable routing whose table entries are all of connected subnets or of OSPF no walk of the packet ends in a
+/// loop, and one of more than one router has no more of them than there are. With each hop either the longest prefix
+/// with an entry is longer, or the OSPF route for it costs less, and a connected subnet leads to the router that has
+/// the destination.
 pub fn loop_free_law()
     ensures loops { (files : ListOf FileOf) (world : WorldOf) (environment : EnvironmentOf) →
         Stable files world.packet.dst world.failures environment world.tables → list_all keeps_limits files ≡ true →

@@ -27,9 +27,10 @@ use Rattle.net_parts.specs.declared.sessions.SessionEnd.{SessionEnd}
 use Rattle.net_parts.specs.Decisions.{arriving}
 use Rattle.net_parts.specs.Exports.{announced_message}
 use Rattle.net_parts.specs.Sessions.{ends_of, is_outside, neighbour_of}
-use Rattle.net_parts.specs.World.{BeginsWithPeer, IsAnnouncement, IsAsNumber, IsEarlier, ascends}
+use Rattle.net_parts.proofs.AsNumbers.{as_number, number_passes}
+use Rattle.net_parts.specs.World.{BeginsWithPeer, IsAnnouncement, IsAsNumber, IsEarlier, ascends, is_as_number, is_word}
 use Rattle.machine_laws.specs.Announcing.{announced_with, are_communities, begins_with, is_about, is_after}
-use Rattle.machine_laws.specs.Announcing.{is_announcement, is_as_number, is_before, is_path, is_peers, is_word}
+use Rattle.machine_laws.specs.Announcing.{is_announcement, is_before, is_path, is_peers}
 use Rattle.machine_laws.specs.Sending.{arriving_at}
 
 -- ---- the test of an announcement
@@ -53,10 +54,6 @@ of_peer files a (Some end) there is =
     let both = and_parts (is_outside end.far)
     (option_map_or (λ neighbour. begins_with neighbour.asn a.path) (neighbour_of files end) true) is in
     (end, there, both.0, begun_by a.path (neighbour_of files end) both.1)
-
-as_number : (n : ℕ) → is_as_number n ≡ true → IsAsNumber n
-as_number n is =
-    let both = and_parts (nat_lt 0 n) (is_word n) is in (ltb-true 0 n both.0, ltb-true n 4294967296 both.1)
 
 -- what passes the test may be announced
 pub may_announce : (files : List File) (a : Announcement) → is_announcement files a ≡ true → IsAnnouncement files a
@@ -95,8 +92,7 @@ announcement_passes files a is =
     ∙ and_from _ _ is.from.2 (begins_so a.path (neighbour_of files is.from.0) is.from.3))
     (and_from _ _ (lt-ltb a.len LENGTHS is.len)
     (and_from _ _ (and_from _ _ (le-leb (length a.path) 255 is.path.0)
-    (each_passes is_as_number IsAsNumber (λ n h. and_from (nat_lt 0 n) (is_word n) (lt-ltb 0 n h.0) (lt-ltb n 4294967296 h.1))
-    a.path is.path.1))
+    (each_passes is_as_number IsAsNumber number_passes a.path is.path.1))
     (and_from _ _ (lt-ltb a.med 4294967296 is.med)
     (and_from _ _ is.communities.0
     (each_passes is_word (λ c. c < 4294967296) (λ c h. lt-ltb c 4294967296 h) a.communities is.communities.1)))))

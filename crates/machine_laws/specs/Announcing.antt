@@ -8,7 +8,7 @@ use Rattle.route_record.specs.declared.Announcement.{Announcement}
 use Rattle.route_record.specs.declared.TheConstants.{LENGTHS}
 use Rattle.net_parts.specs.declared.sessions.SessionEnd.{SessionEnd}
 use Rattle.net_parts.specs.Sessions.{ends_of, is_outside, neighbour_of}
-use Rattle.net_parts.specs.World.{ascends}
+use Rattle.net_parts.specs.World.{ascends, is_as_number, is_word}
 
 abbrev pub begins_with : ℕ → List ℕ → Bool
 begins_with asn [] = false
@@ -18,12 +18,6 @@ begins_with asn (x ∷ rest) = x == asn
 abbrev pub is_peers : List File → List ℕ → SessionEnd → Bool
 is_peers files path end =
     is_outside end.far && option_map_or (λ neighbour. begins_with neighbour.asn path) (neighbour_of files end) true
-
-abbrev pub is_as_number : ℕ → Bool
-is_as_number n = nat_lt 0 n && nat_lt n (2 ^ 32)
-
-abbrev pub is_word : ℕ → Bool
-is_word n = nat_lt n (2 ^ 32)
 
 abbrev pub is_path : List ℕ → Bool
 is_path path = nat_le (length path) 255 && list_all is_as_number path

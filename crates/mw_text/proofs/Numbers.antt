@@ -1,6 +1,6 @@
 -- Numbers that differ, and those that are compared two by two.
 use Rattle.std.proofs.Common.{◌≡◌, ℕ, ◌+◌, ◌-◌, ◌/◌, ◌^◌, ◌<◌, ◌≤◌, ◌==◌, ◌&&◌, Bool, true, false, eqb, List, []}
-use Rattle.std.proofs.Common.{◌∷◌, inl, inr, refl, sym, ap, ◌∙◌, arith}
+use Rattle.std.proofs.Common.{◌∷◌, length, inl, inr, refl, sym, ap, ◌∙◌, arith}
 use Rattle.std.specs.Prelude.{filter, ◌⊎◌}
 use Rattle.std.specs.List.{AllByRecursion, list_all}
 use Rattle.std.proofs.lemmas.Bool.{and_from, and_parts, ne_eqb}
@@ -8,7 +8,7 @@ use Rattle.std.proofs.lemmas.Bool.Decides.{nat_tests}
 use Rattle.std.proofs.Math.Nat.{div-div-eq-div-mul}
 use Rattle.std.proofs.lemmas.Nat.{pow-add}
 use Rattle.mw_text.specs.Address.{block}
-use Rattle.mw_text.specs.Members.{In}
+use Rattle.mw_text.specs.Members.{In, count}
 
 -- a greater number is another
 pub apart : (a b : ℕ) → b < a → (a == b) ≡ false
@@ -52,3 +52,11 @@ coarser a b long short le same = one a ∙ ap (λ n. n / 2 ^ more) same ∙ sym 
   one : (n : ℕ) → n / block short ≡ n / block long / 2 ^ more
   one n = ap (λ k. n / 2 ^ k) (sym bits_of) ∙ ap (λ k. n / k) (pow-add 2 (32 - long) more)
       ∙ sym (div-div-eq-div-mul n (2 ^ (32 - long)) (2 ^ more))
+
+-- ---- marks
+
+-- no more marks are set than there are
+pub count_few : (bs : List Bool) → count bs ≤ length bs
+count_few [] = omega arith
+count_few (true ∷ bs) = let rest = count_few bs in omega (arith, rest)
+count_few (false ∷ bs) = let rest = count_few bs in omega (arith, rest)

@@ -15,8 +15,8 @@ pub struct Prefix {
     pub len: u8,
 }
 
-// How many addresses share their first `len` bits.
-fn block_size(len: u8) -> u64
+/// How many addresses share their first `len` bits (RFC 4632, section 3.1). A length above 32 counts as 32.
+pub fn block_size(len: u8) -> u64
     ensures { result ≡ Rattle.mw_text.specs.Address.block len }
 {
     1u64 << (32 - len.min(32))

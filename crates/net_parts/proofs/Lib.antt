@@ -1,4 +1,5 @@
 pub mod Order
+pub mod AsNumbers
 pub mod Ascending
 pub mod FewLinks
 pub mod TrackedUp

@@ -97,6 +97,13 @@ BeginsWithPeer files end path =
 abbrev pub IsAsNumber : ℕ → Type 0
 IsAsNumber n = (0 < n) × (n < 2 ^ 32)
 
+-- a number of 32 bits, and an AS number (RFC 6793; RFC 7607), as tests
+abbrev pub is_word : ℕ → Bool
+is_word n = nat_lt n (2 ^ 32)
+
+abbrev pub is_as_number : ℕ → Bool
+is_as_number n = nat_lt 0 n && is_word n
+
 -- what an external peer may announce for one prefix length (RFC 4271, section 4.3; RFC 1997)
 pub record IsAnnouncement (files : List File) (announcement : Announcement) : Type 0 where
   pub from : (end : SessionEnd) × (slice_get (ends_of files) announcement.end ≡ Some end) × IsTrue (is_outside end.far)

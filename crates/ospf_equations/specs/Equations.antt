@@ -22,7 +22,7 @@ use Rattle.sym_policy.specs.Held.{bgp_of, failures_of, internal_route, ospf_of}
 use Rattle.sym_policy.specs.Records.{address_of}
 use Rattle.sym_rib.specs.declared.slots.SymSlot.{SymSlot}
 use Rattle.sym_rib.specs.declared.slots.SymTables.{SymTables}
-use Rattle.sym_rib.specs.Into.{HasTracked}
+use Rattle.sym_policy.specs.MapRecs.{HasTracked}
 use Rattle.sym_rib.specs.Worlds.{StandForTables, slot_of as slot_read, slot_placed}
 use Rattle.world_variables.specs.declared.opens.SymOpen.{SymOpen}
 use Rattle.world_variables.specs.Slots.{open_slot}

@@ -2,7 +2,7 @@
 
 ghost use Rattle.std.specs.Prelude.{◌≢◌};
 
-use crate::costs::{Failed, costs_to};
+use crate::costs::{Failed, Graph, costs_to};
 use crate::limits::{MOST_LIMITS, MOST_TESTS};
 use mw_text::List;
 use net_model::{Net, OspfInterface};
@@ -43,12 +43,12 @@ fn common_step(interfaces: &[OspfInterface]) -> u32 {
 }
 
 // The greatest of those numbers that are costs at all, and where it stands.
-fn farthest(least: &[u32]) -> (usize, u32) {
-    let mut found = (0usize, 0u32);
+fn farthest(least: &[u32]) -> (u32, u32) {
+    let mut found = (0u32, 0u32);
     for at in 0..least.len() {
         let cost = least[at];
         if cost != u32::MAX && cost > found.1 {
-            found = (at, cost);
+            found = (at.min(u32::MAX as usize) as u32, cost);
         }
     }
     found
@@ -57,17 +57,18 @@ fn farthest(least: &[u32]) -> (usize, u32) {
 // The greatest cost of a route to a router while any one link has failed.
 fn farthest_without_one(
     alloc: Global,
-    net: &Net,
-    end: usize,
+    graph: &Graph,
+    end: u32,
     origin: u32,
 ) -> Result<u32, AllocError> {
+    let links = graph.links(alloc)?;
     let mut most = 0u32;
-    for link in net.adjacencies() {
+    for over in links.as_slice() {
         let failed = Failed {
-            first: Some(link),
+            first: Some(over.edge.link),
             second: None,
         };
-        let costs = costs_to(alloc, net, end, origin, &failed)?;
+        let costs = costs_to(alloc, graph, end, origin, &failed)?;
         most = most.max(farthest(costs.as_slice()).1);
     }
     Ok(most)
@@ -75,20 +76,26 @@ fn farthest_without_one(
 
 // About the greatest cost of a route while so many links may have failed: to a router that is as far as any from the
 // first, and what one failed link makes it dearer for each of them.
-fn longest(alloc: Global, net: &Net, origin: u32, failures: u32) -> Result<u32, AllocError> {
+fn longest(
+    alloc: Global,
+    net: &Net,
+    graph: &Graph,
+    origin: u32,
+    failures: u32,
+) -> Result<u32, AllocError> {
     let none = Failed {
         first: None,
         second: None,
     };
-    let (end, _) = farthest(costs_to(alloc, net, 0, origin, &none)?.as_slice());
-    let (_, whole) = farthest(costs_to(alloc, net, end, origin, &none)?.as_slice());
+    let (end, _) = farthest(costs_to(alloc, graph, 0, origin, &none)?.as_slice());
+    let (_, whole) = farthest(costs_to(alloc, graph, end, origin, &none)?.as_slice());
     if failures == 0 {
         return Ok(whole);
     }
     if net.adjacencies().len() > MOST_TRIED {
         return Ok(whole.saturating_mul(2));
     }
-    let one = farthest_without_one(alloc, net, end, origin)?;
+    let one = farthest_without_one(alloc, graph, end, origin)?;
     Ok(
         one.saturating_sub(whole)
             .saturating_mul(failures)
@@ -111,6 +118,7 @@ fn capped_count(count: u32, adjacencies: u32) -> u32
 fn reaching_count(
     alloc: Global,
     net: &Net,
+    graph: &Graph,
     step: u32,
     failures: u32,
     adjacencies: u32,
@@ -119,7 +127,7 @@ fn reaching_count(
     requires adjacencies { adjacencies ≢ 0 }
 {
     let dearest = dearest_interface(net.ospf_interfaces());
-    let most = longest(alloc, net, dearest, failures)? / step;
+    let most = longest(alloc, net, graph, dearest, failures)? / step;
     Ok(capped_count(most.saturating_add(1), adjacencies))
 }
 
@@ -128,6 +136,7 @@ fn reaching_count(
 pub(crate) fn even_limits(
     alloc: Global,
     net: &Net,
+    graph: &Graph,
     failures: u32,
 ) -> Result<List<u32>, AllocError> {
     let mut made = List::new(alloc);
@@ -136,7 +145,7 @@ pub(crate) fn even_limits(
         return Ok(made);
     }
     let adjacencies = net.adjacencies().len().max(1).min(FEW_TESTS as usize) as u32;
-    let count = reaching_count(alloc, net, step, failures, adjacencies)?;
+    let count = reaching_count(alloc, net, graph, step, failures, adjacencies)?;
     for at in 0..count {
         made.items.push(at.saturating_mul(step))?;
     }

@@ -19,7 +19,7 @@ ghost use Rattle.term_store.specs.Terms.{at, size};
 ghost use Rattle.term_store.specs.Reading.{Builds, Gives};
 ghost use Rattle.term_arith.specs.Bits.{ids_end};
 
-use crate::costs::{Failed, costs_to};
+use crate::costs::{Failed, Graph, costs_to};
 use crate::levels::sym_within;
 use crate::limits::{AllLimits, NO_ROUTE};
 use crate::origins::SlotPlace;
@@ -81,7 +81,7 @@ fn keep_lesser(least: &mut [u32], others: &[u32]) {
 }
 
 // What each router's route costs at least to the interfaces that advertise a prefix, while no link has failed.
-fn least_to(alloc: Global, net: &Net, p: &Prefix) -> Result<List<u32>, AllocError> {
+fn least_to(alloc: Global, net: &Net, graph: &Graph, p: &Prefix) -> Result<List<u32>, AllocError> {
     let mut least = List {
         items: vec![in alloc; NO_ROUTE; net.routers().len()]?,
     };
@@ -91,7 +91,7 @@ fn least_to(alloc: Global, net: &Net, p: &Prefix) -> Result<List<u32>, AllocErro
                 first: None,
                 second: None,
             };
-            let costs = costs_to(alloc, net, x.at.id.router as usize, x.cost, &none)?;
+            let costs = costs_to(alloc, graph, x.at.id.router, x.cost, &none)?;
             keep_lesser(&mut least.items, costs.as_slice());
         }
     }
@@ -214,7 +214,7 @@ fn sym_dearer_to(
     if p.len != place.len || !limits.are_for(x) {
         return constant_node(terms, true);
     }
-    let least = least_to(alloc, place.net, &p)?;
+    let least = least_to(alloc, place.net, limits.graph(), &p)?;
     let so = sym_dearer_by(terms, place, tables, &p, least.as_slice())?;
     Ok(so)
 }

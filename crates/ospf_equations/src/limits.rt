@@ -3,7 +3,7 @@
 
 ghost use Rattle.std.specs.Prelude.{◌≡◌, ◌≢◌, ◌<◌};
 
-use crate::costs::{Failed, costs_to};
+use crate::costs::{Failed, Graph, Over, costs_to};
 use crate::even::even_limits;
 use mw_text::{List, Prefix};
 use net_interfaces::connected::prefixes_overlap;
@@ -17,7 +17,7 @@ pub(crate) const MOST_LIMITS: u32 = 2_048;
 
 pub(crate) const MOST_TESTS: u32 = 250_000;
 
-// Adjacencies that are looked at once for each origin and each choice of failed links: no more of these.
+// Adjacencies, once for each origin and each choice of failed links: no more of these.
 const MOST_ROUNDS: u64 = 16_000_000;
 
 /// What the route of a router costs at least from which no origin is reached: more than any route.
@@ -47,6 +47,7 @@ pub(crate) struct Limits {
 pub struct AllLimits {
     // the destinations for whose routes they are
     destinations: List<Prefix>,
+    graph: Graph,
     // whether costs are computed to where these originate
     is_by_costs: bool,
     routers: u32,
@@ -100,6 +101,11 @@ impl AllLimits {
             None => 0,
             Some(limits) => limits.least,
         }
+    }
+
+    /// The adjacencies of the network.
+    pub(crate) fn graph(&self) -> &Graph {
+        &self.graph
     }
 
     /// Whether costs to an interface are looked at: it advertises a prefix that has such destinations.
@@ -157,7 +163,7 @@ fn insert_below(below: &mut List<u32>, costs: &[u32], least: u32) -> Result<(), 
 // An origin: a router that advertises a prefix of that length at a cost.
 #[derive(Clone, Copy)]
 struct Origin<'a> {
-    net: &'a Net,
+    graph: &'a Graph,
     router: u32,
     cost: u32,
     len: u8,
@@ -176,85 +182,99 @@ fn add_cost(all: &mut AllLimits, router: u32, len: u8, cost: u32) -> Result<(), 
     }
 }
 
-// The costs of all routers to an origin while links have failed.
-fn add_costs(
-    alloc: Global,
-    all: &mut AllLimits,
-    origin: &Origin<'_>,
-    failed: &Failed<'_>,
-) -> Result<(), AllocError> {
-    let costs = costs_to(
-        alloc,
-        origin.net,
-        origin.router as usize,
-        origin.cost,
-        failed,
-    )?;
+// The costs of all routers to an origin.
+fn add_costs(all: &mut AllLimits, len: u8, costs: &[u32]) -> Result<(), AllocError> {
     for router in 0..all.routers {
-        let cost = match costs.items.get(router as usize) {
+        let cost = match costs.get(router as usize) {
             None => u32::MAX,
             Some(found) => *found,
         };
-        add_cost(all, router, origin.len, cost)?;
+        add_cost(all, router, len, cost)?;
     }
     Ok(())
 }
 
-// While a link has failed, and each other one with it. Each link is told by the adjacency that leads to the later router.
-fn add_second(
-    alloc: Global,
-    all: &mut AllLimits,
-    origin: &Origin<'_>,
-    first: &Adjacency,
-) -> Result<(), AllocError> {
-    for link in origin.net.adjacencies() {
-        if link.from.router < link.to.router {
-            let failed = Failed {
-                first: Some(first),
-                second: Some(link),
-            };
-            add_costs(alloc, all, origin, &failed)?;
-        }
-    }
-    Ok(())
-}
-
-// While each one has failed, or each two.
+// While a router's link has failed, and links before it that leave these costs; none where it leaves them, too.
 fn add_failed(
     alloc: Global,
     all: &mut AllLimits,
     origin: &Origin<'_>,
-    depth: u32,
+    before: &[u32],
+    over: &Over,
+    failed: &Failed,
+) -> Result<Option<List<u32>>, AllocError> {
+    if !origin.graph.needs(before, over, failed) {
+        return Ok(None);
+    }
+    let costs = costs_to(alloc, origin.graph, origin.router, origin.cost, failed)?;
+    add_costs(all, origin.len, costs.as_slice())?;
+    Ok(Some(costs))
+}
+
+// While a link has failed that leaves these costs, and each later one.
+fn add_second(
+    alloc: Global,
+    all: &mut AllLimits,
+    origin: &Origin<'_>,
+    before: &[u32],
+    links: &[Over],
+    first: u32,
 ) -> Result<(), AllocError> {
-    for link in origin.net.adjacencies() {
-        if link.from.router < link.to.router {
-            let failed = Failed {
-                first: Some(link),
-                second: None,
-            };
-            add_costs(alloc, all, origin, &failed)?;
-            if depth > 1 {
-                add_second(alloc, all, origin, link)?;
-            }
-        }
+    for over in links {
+        let failed = Failed {
+            first: Some(first),
+            second: Some(over.edge.link),
+        };
+        add_failed(alloc, all, origin, before, over, &failed)?;
     }
     Ok(())
 }
 
-// While none has failed, too.
+// While the first of some links has failed, and each later one with it where two are tried.
+fn add_first(
+    alloc: Global,
+    all: &mut AllLimits,
+    origin: &Origin<'_>,
+    before: &[u32],
+    links: &[Over],
+    depth: u32,
+) -> Result<(), AllocError> {
+    let Some((over, later)) = links.split_first() else {
+        return Ok(());
+    };
+    let failed = Failed {
+        first: Some(over.edge.link),
+        second: None,
+    };
+    let costs = add_failed(alloc, all, origin, before, over, &failed)?;
+    if depth < MOST_FAILED {
+        return Ok(());
+    }
+    match costs {
+        None => add_second(alloc, all, origin, before, later, over.edge.link),
+        Some(costs) => add_second(alloc, all, origin, costs.as_slice(), later, over.edge.link),
+    }
+}
+
+// While none has failed, and while each one has, or each two.
 fn add_origin(
     alloc: Global,
     all: &mut AllLimits,
     origin: &Origin<'_>,
+    links: &[Over],
     depth: u32,
 ) -> Result<(), AllocError> {
     let none = Failed {
         first: None,
         second: None,
     };
-    add_costs(alloc, all, origin, &none)?;
-    if depth > 0 {
-        add_failed(alloc, all, origin, depth)?;
+    let costs = costs_to(alloc, origin.graph, origin.router, origin.cost, &none)?;
+    add_costs(all, origin.len, costs.as_slice())?;
+    if depth == 0 {
+        return Ok(());
+    }
+    for at in 0..links.len() {
+        add_first(alloc, all, origin, costs.as_slice(), &links[at..], depth)?;
     }
     Ok(())
 }
@@ -271,19 +291,21 @@ fn is_origin(x: &OspfInterface, destinations: &[Prefix]) -> bool {
 fn add_origins(
     alloc: Global,
     net: &Net,
+    graph: &Graph,
     all: &mut AllLimits,
     destinations: &[Prefix],
     depth: u32,
 ) -> Result<(), AllocError> {
+    let links = graph.links(alloc)?;
     for x in net.ospf_interfaces() {
         if is_origin(x, destinations) {
             let origin = Origin {
-                net,
+                graph,
                 router: x.at.id.router,
                 cost: x.cost,
                 len: advertisement(x).len,
             };
-            add_origin(alloc, all, &origin, depth)?;
+            add_origin(alloc, all, &origin, links.as_slice(), depth)?;
         }
     }
     Ok(())
@@ -415,6 +437,7 @@ fn no_limits(alloc: Global, net: &Net) -> Result<AllLimits, AllocError> {
     }
     Ok(AllLimits {
         destinations: List::new(alloc),
+        graph: Graph::none(alloc),
         is_by_costs: false,
         routers,
         most,
@@ -441,10 +464,11 @@ fn fill_one(limits: &mut Limits, even: &[u32]) -> Result<(), AllocError> {
 fn fill_few(
     alloc: Global,
     net: &Net,
+    graph: &Graph,
     all: &mut AllLimits,
     failures: u32,
 ) -> Result<(), AllocError> {
-    let even = even_limits(alloc, net, failures)?;
+    let even = even_limits(alloc, net, graph, failures)?;
     if even.items.len() > FEW_EVEN {
         return Ok(());
     }
@@ -455,10 +479,11 @@ fn fill_few(
 fn fill_even(
     alloc: Global,
     net: &Net,
+    graph: &Graph,
     all: &mut AllLimits,
     failures: u32,
 ) -> Result<(), AllocError> {
-    let even = even_limits(alloc, net, failures)?;
+    let even = even_limits(alloc, net, graph, failures)?;
     for limits in all.each.items.iter_mut() {
         limits.least = 0;
     }
@@ -469,14 +494,15 @@ fn fill_even(
 fn fill_by_costs(
     alloc: Global,
     net: &Net,
+    graph: &Graph,
     all: &mut AllLimits,
     failures: u32,
     destinations: &[Prefix],
     depth: u32,
 ) -> Result<(), AllocError> {
-    add_origins(alloc, net, all, destinations, depth)?;
+    add_origins(alloc, net, graph, all, destinations, depth)?;
     if depth < failures.min(MOST_FAILED) {
-        fill_few(alloc, net, all, failures)?;
+        fill_few(alloc, net, graph, all, failures)?;
     }
     all.is_by_costs = true;
     begin_all(all)?;
@@ -493,13 +519,15 @@ pub fn limits_of(
     failures: u32,
     destinations: List<Prefix>,
 ) -> Result<AllLimits, AllocError> {
+    let graph = Graph::of(alloc, net)?;
     let mut all = no_limits(alloc, net)?;
     let origins = count_origins(net, destinations.as_slice());
     match depth_for(origins, net.adjacencies().len() as u64, failures) {
-        None => fill_even(alloc, net, &mut all, failures)?,
+        None => fill_even(alloc, net, &graph, &mut all, failures)?,
         Some(depth) => fill_by_costs(
             alloc,
             net,
+            &graph,
             &mut all,
             failures,
             destinations.as_slice(),
@@ -507,5 +535,6 @@ pub fn limits_of(
         )?,
     }
     all.destinations = destinations;
+    all.graph = graph;
     Ok(all)
 }

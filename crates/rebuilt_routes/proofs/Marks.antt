@@ -4,12 +4,7 @@ use Rattle.std.proofs.Common.{length, refl, sym, if◌then◌else◌, arith}
 use Rattle.std.proofs.lemmas.Bool.{eq-eqb, eqb-true}
 use Rattle.ios_ast.specs.Deciding.{carries}
 use Rattle.route_shapes.specs.Shapes.{marked, marks_with}
-use Rattle.rebuilt_routes.specs.Ranks.{count}
-
-pub count_few : (bs : List Bool) → count bs ≤ length bs
-count_few [] = omega arith
-count_few (true ∷ bs) = let rest = count_few bs in omega (arith, rest)
-count_few (false ∷ bs) = let rest = count_few bs in omega (arith, rest)
+use Rattle.mw_text.specs.Members.{count}
 
 -- there is a mark for each value as before
 pub long_with : (ts values : List ℕ) (beside : Bool) (bs : List Bool) → length bs ≡ length ts →

@@ -27,8 +27,10 @@ use Rattle.bgp_shapes.proofs.EndLaw.{IsAlike, ends_alike}
 use Rattle.bgp_shapes.proofs.Once.{process_of}
 use Rattle.rebuilt_routes.proofs.Options.{not_or}
 use Rattle.rebuilt_routes.proofs.Crossed.{IsShapeSent, IsShapeTaken}
-use Rattle.rebuilt_routes.specs.Ranks.{count, over_internal, rank}
-use Rattle.rebuilt_routes.proofs.Marks.{count_few, count_more}
+use Rattle.mw_text.specs.Members.{count}
+use Rattle.mw_text.proofs.Numbers.{count_few}
+use Rattle.rebuilt_routes.specs.Ranks.{over_internal, rank}
+use Rattle.rebuilt_routes.proofs.Marks.{count_more}
 
 -- a route that a router may hold: its path is counted, and where it was learnt a reflector does not find its own cluster
 -- in it

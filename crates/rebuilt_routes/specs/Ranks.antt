@@ -1,6 +1,7 @@
 -- The rank of a held shape, which is less at the router behind the session over which it was learnt.
-use Rattle.std.specs.Prelude.{◌≡◌, ◌<◌, ◌+◌, ◌*◌, ℕ, Bool, List, [], ◌∷◌, Option, Some, slice_get, if◌then◌else◌}
+use Rattle.std.specs.Prelude.{◌≡◌, ◌<◌, ◌+◌, ◌*◌, ℕ, List, ◌∷◌, Option, Some, slice_get, if◌then◌else◌}
 use Rattle.std.specs.Option.{option_map_or}
+use Rattle.mw_text.specs.Members.{count}
 use Rattle.ios_ast.specs.declared.file.File.{File}
 use Rattle.route_record.specs.declared.tracked.TheConstants.{MOST_TRACKED}
 use Rattle.net_parts.specs.declared.sessions.Far.TheVariants.{Inside}
@@ -10,11 +11,6 @@ use Rattle.route_shapes.specs.Bgp.{BgpShape}
 use Rattle.bgp_shapes.specs.Candidates.{ShapeSlot}
 use Rattle.bgp_shapes.specs.Crossings.{end_numbered}
 use Rattle.rebuilt_routes.specs.Following.{held_at, numbered_end}
-
--- how many values are marked
-abbrev pub count : List Bool → ℕ
-count [] = 0
-count (b ∷ bs) = (if b then 1 else 0) + count bs
 
 -- whether the route was learnt over an internal session
 abbrev pub over_internal : List File → ℕ → BgpShape → ℕ

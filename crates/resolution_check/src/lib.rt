@@ -14,4 +14,4 @@ mod writing;
 pub use checking::Checker;
 pub use log::{Bad, Clause, Entry, LineRefused, Lit, has_literal};
 pub use reading::read_entry;
-pub use writing::write_entry;
+pub use writing::{put_input, write_entry};

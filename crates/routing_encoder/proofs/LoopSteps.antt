@@ -21,7 +21,8 @@ use Rattle.term_store.specs.Terms.{Reading}
 use Rattle.sym_policy.specs.declared.records.SymBgp.{SymBgp}
 use Rattle.sym_policy.specs.Held.{bgp_end}
 use Rattle.sym_rib.specs.declared.slots.SymSlot.{SymSlot}
-use Rattle.sym_rib.specs.Into.{HasTracked, list_end}
+use Rattle.sym_policy.specs.MapRecs.{HasTracked}
+use Rattle.sym_rib.specs.Into.{list_end}
 use Rattle.sym_rib.proofs.SlotPlaces.{slots_end_push}
 use Rattle.sym_rib.proofs.OneEach.{items_at}
 use Rattle.world_variables.specs.declared.opens.SymOpen.{SymOpen}

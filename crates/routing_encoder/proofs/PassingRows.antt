@@ -38,7 +38,7 @@ use Rattle.routing_encoder.specs.declared.opening.OpenRouting.{OpenRouting}
 use Rattle.routing_encoder.specs.Opened.{ReadsAs, StandsIn}
 use Rattle.failed_links.proofs.Reading.{number_from-below}
 use Rattle.announced_shapes.specs.Announcements.{is_announcement_shape}
-use Rattle.announced_shapes.specs.Paths.{is_word}
+use Rattle.net_parts.specs.World.{is_word}
 use Rattle.announced_places.specs.Announced.{Ascend, made_over, places_among}
 use Rattle.announced_places.specs.Environments.{announcement_of, environment_of, is_outer, stands_at}
 use Rattle.announced_places.proofs.ExternalPlaces.{environment_ordered}

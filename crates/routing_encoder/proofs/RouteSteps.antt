@@ -11,7 +11,7 @@ use Rattle.plan_places.specs.declared.places.Place.{Place}
 use Rattle.failed_links.proofs.Steps.{grows_grown}
 use Rattle.sym_policy.specs.declared.records.SymBgp.{SymBgp}
 use Rattle.sym_policy.specs.Held.{bgp_of}
-use Rattle.sym_rib.specs.Into.{HasTracked}
+use Rattle.sym_policy.specs.MapRecs.{HasTracked}
 use Rattle.sym_rib.proofs.OneEach.{items_at, list_end_push}
 use Rattle.term_store.specs.Terms.{Reading}
 use Rattle.bgp_variables.specs.declared.rooms.BgpRoom.{BgpRoom}

@@ -20,7 +20,7 @@ use Rattle.term_store.specs.Terms.{Reading, Store, at}
 use Rattle.sym_policy.specs.declared.records.SymBgp.{SymBgp}
 use Rattle.sym_policy.specs.Held.{bgp_at, bgp_of}
 use Rattle.sym_rib.specs.declared.slots.SymSlot.{SymSlot}
-use Rattle.sym_rib.specs.Into.{HasTracked}
+use Rattle.sym_policy.specs.MapRecs.{HasTracked}
 use Rattle.world_variables.specs.Packets.{is_in_set, packet_from}
 use Rattle.world_variables.specs.Worlds.{places_in}
 use Rattle.world_variables.proofs.Stability.{item_all}

@@ -5,34 +5,19 @@ use Rattle.mw_text.specs.declared.address.Addr.{Addr}
 use Rattle.mw_text.specs.Address.{prefix_at}
 use Rattle.ios_ast.specs.declared.file.File.{File}
 use Rattle.route_record.specs.declared.Failures.{Failures}
-use Rattle.route_record.specs.declared.tracked.Tracked.{Tracked}
 use Rattle.term_store.specs.Terms.{Reading, at}
 use Rattle.term_arith.specs.Bits.{number}
 use Rattle.route_shapes.specs.Bgp.{BgpShape}
 use Rattle.bgp_shapes.specs.Candidates.{ShapeSlot}
 use Rattle.plan_places.specs.declared.places.Place.{Place}
-use Rattle.sym_policy.specs.declared.parts.SymRest.{SymRest}
-use Rattle.sym_policy.specs.declared.parts.SymRoute.{SymRoute}
 use Rattle.sym_policy.specs.declared.records.SymBgp.{SymBgp}
-use Rattle.sym_policy.specs.declared.records.SymMapRec.{SymMapRec}
 use Rattle.sym_policy.specs.Held.{bgp_at, bgp_of}
-use Rattle.sym_policy.specs.SameNodes.{IsJoined, IsRest, IsSeen}
-use Rattle.sym_rib.specs.Into.{HasTracked}
 use Rattle.sym_rib.specs.Slots.{learnt_of}
 use Rattle.sym_rib.specs.Sources.{entry_from}
 use Rattle.world_variables.specs.declared.unknowns.Unknown.{Unknown}
 use Rattle.bgp_worlds.specs.Opens.{open_shape}
 use Rattle.routing_worlds.specs.Worlds.{open_with}
 use Rattle.world_variables.proofs.Stability.{same_bit}
-use Rattle.bgp_equations.proofs.LocalSteps.{copy_marks}
-
--- a copy has as many marks
-pub copy_tracked : (tracked : Tracked) (a : SymBgp) (route : SymRoute) (rest : SymRest) (made : SymMapRec) →
-    IsSeen (record { bgp = a; type1 = a.valid }) route → IsRest a rest → IsJoined a.valid route rest made →
-    HasTracked tracked a → HasTracked tracked made.bgp
-copy_tracked tracked a route rest made s t h has =
-    let marks = copy_marks tracked a route rest made s t h has in
-    record { numbers = marks.numbers; communities = marks.communities; clusters = marks.clusters }
 
 -- where a route was learnt is its number
 pub learnt_is : (w : Reading) (s : SymBgp) → learnt_of w s ≡ option_map (λ x. x.from) (bgp_of w s)

@@ -10,7 +10,8 @@ use Rattle.sym_ospf.specs.Rows.{net_end}
 use Rattle.sym_policy.specs.Held.{bgp_end, bgp_of, failures_of, ospf_of}
 use Rattle.sym_policy.specs.Packets.{packet_of}
 use Rattle.sym_policy.specs.Records.{packet_end}
-use Rattle.sym_rib.specs.Into.{HasTracked, list_end}
+use Rattle.sym_policy.specs.MapRecs.{HasTracked}
+use Rattle.sym_rib.specs.Into.{list_end}
 use Rattle.bgp_equations.specs.Environments.{FitsNet, env_end, environment_read}
 use Rattle.igp_variables.specs.Rows.{HasRows, rows_from, rows_width}
 use Rattle.bgp_variables.specs.Environments.{announced_from}

@@ -7,7 +7,7 @@ ghost use Rattle.route_record.specs.declared.tracked.TheConstants as constants;
 ghost use Rattle.net_parts.specs.Sessions.{ends_of};
 ghost use Rattle.sym_policy.specs.Held.{bgp_end, bgp_of};
 ghost use Rattle.sym_rib.specs.Into.{list_end};
-ghost use Rattle.announced_shapes.specs.Paths.{is_word};
+ghost use Rattle.net_parts.specs.World.{is_word};
 ghost use Rattle.bgp_equations.specs.Environments.{HasLists};
 ghost use Rattle.shape_worlds.specs.Worlds.{may_be_announced};
 ghost use Rattle.routing_worlds.specs.Worlds.{announced_by};

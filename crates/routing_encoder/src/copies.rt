@@ -5,7 +5,7 @@ ghost use Rattle.route_record.specs.declared.tracked.Tracked.{Tracked};
 ghost use Rattle.term_store.specs.Terms.{Reading};
 ghost use Rattle.sym_policy.specs.Held.{bgp_end, bgp_of};
 ghost use Rattle.sym_policy.specs.SameNodes.{IsSeen};
-ghost use Rattle.sym_rib.specs.Into.{HasTracked};
+ghost use Rattle.sym_policy.specs.MapRecs.{HasTracked};
 
 use std::alloc::{AllocError, Global};
 use sym_policy::{SymBgp, SymMapRec, SymRoute, joined, path_of, preferences_of, rest_of};
@@ -27,7 +27,7 @@ fn copy_seen(alloc: Global, rec: &SymBgp) -> Result<SymRoute, AllocError>
 }
 
 /// A copy of a route.
-#[tactic(auto, using(bgp_equations::proofs::LocalSteps::copy_read, bgp_equations::proofs::LocalSteps::copy_end, crate::proofs::SlotSteps::copy_tracked))]
+#[tactic(auto, using(bgp_equations::proofs::LocalSteps::copy_read, bgp_equations::proofs::LocalSteps::copy_end, bgp_equations::proofs::LocalSteps::copy_marks))]
 pub fn copy_bgp(alloc: Global, rec: &SymBgp) -> Result<SymBgp, AllocError>
     ensures within { IfOk result (λ r. bgp_end r ≡ bgp_end rec.now) }
     ensures rows { IfOk result (λ r. (tracked : Tracked) → HasTracked tracked rec.now → HasTracked tracked r) }

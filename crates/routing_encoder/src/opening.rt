@@ -3,7 +3,8 @@
 
 ghost use Rattle.std.specs.Prelude.{◌≡◌, ◌+◌, ◌≤◌, All, IfOk, OnOk, length, map};
 ghost use Rattle.sym_policy.specs.Held.{bgp_end, bgp_of};
-ghost use Rattle.sym_rib.specs.Into.{HasTracked, list_end};
+ghost use Rattle.sym_policy.specs.MapRecs.{HasTracked};
+ghost use Rattle.sym_rib.specs.Into.{list_end};
 ghost use Rattle.bgp_variables.specs.Shapes.{bgps_from, bgps_width};
 ghost use Rattle.bgp_variables.specs.Rooms.{bgp_rooms};
 ghost use Rattle.world_variables.specs.Symbols.{open_of, opens_end};

@@ -2,6 +2,7 @@
 //! long a search takes, and no answer.
 
 use ios_ast::File;
+use mw_text::address::block_size;
 use mw_text::{List, Prefix};
 use net_interfaces::Addressed;
 use net_interfaces::connected::prefixes_overlap;
@@ -53,11 +54,6 @@ fn at_target(
     }
 }
 
-// How many addresses a prefix has.
-fn count_of(p: &Prefix) -> u64 {
-    1 << (32 - p.len.min(32))
-}
-
 // Whether an interface is one of the router, if one is named.
 fn is_of(x: &Addressed, router: Option<u32>) -> bool {
     match router {
@@ -71,10 +67,10 @@ fn may_have_all(net: &Net, router: Option<u32>, destinations: &Prefix) -> bool {
     let mut count: u64 = 0;
     for x in net.addresses() {
         if is_of(x, router) && prefixes_overlap(&x.subnet, destinations) {
-            count = count.saturating_add(count_of(&shared(&x.subnet, destinations)));
+            count = count.saturating_add(block_size(shared(&x.subnet, destinations).len));
         }
     }
-    count >= count_of(destinations)
+    count >= block_size(destinations.len)
 }
 
 // Whether some destination cannot be delivered at a target, so that a packet to it does not reach the target.

@@ -5,7 +5,7 @@ use Rattle.std.specs.List.{list_all}
 use Rattle.std.proofs.lemmas.Bool.{and_from}
 use Rattle.std.proofs.lemmas.List.Elements.{All-head, All-tail}
 use Rattle.route_record.specs.Fits.{IsWord}
-use Rattle.announced_shapes.specs.Paths.{is_word}
+use Rattle.net_parts.specs.World.{is_word}
 
 pub words_pass : (ns : List ℕ) → All IsWord ns → list_all is_word ns ≡ true
 words_pass [] fit = refl

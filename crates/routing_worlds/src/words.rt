@@ -3,7 +3,7 @@
 ghost use Rattle.std.specs.Prelude.{◌≡◌, ◌<◌, ◌^◌, All, true};
 ghost use Rattle.std.specs.List.{list_all};
 ghost use Rattle.route_record.specs.Fits.{IsAddress, IsWord};
-ghost use Rattle.announced_shapes.specs.Paths.{is_word};
+ghost use Rattle.net_parts.specs.World.{is_word};
 ghost use Rattle.rebuilt_routes.specs.Words.{HasWordSets, SetsWords};
 ghost use Rattle.slot_places.specs.Rooms.{rooms_of};
 ghost use Rattle.world_variables.specs.Packets.{FitsSet};

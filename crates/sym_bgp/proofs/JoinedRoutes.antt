@@ -15,11 +15,11 @@ use Rattle.sym_policy.specs.declared.parts.SymRoute.{SymRoute}
 use Rattle.sym_policy.specs.declared.records.SymBgp.{SymBgp}
 use Rattle.sym_policy.specs.declared.records.SymMapRec.{SymMapRec}
 use Rattle.sym_policy.specs.Held.{bgp_at, bgp_of}
-use Rattle.sym_policy.specs.MapRecs.{KeepsRest, attributes_at, map_rec_at}
+use Rattle.sym_policy.specs.MapRecs.{HasTracked, KeepsRest, attributes_at, map_rec_at}
 use Rattle.sym_policy.specs.Routes.{preferences_at, route_at}
 use Rattle.sym_policy.specs.SameNodes.{HasPreferences, IsJoined, IsRest}
 use Rattle.sym_policy.proofs.SameNodes.{joined_steps}
-use Rattle.sym_bgp.specs.Joined.{HasMarks, rest_at, with_rest}
+use Rattle.sym_bgp.specs.Joined.{rest_at, with_rest}
 
 -- a route that is put together is read as its parts are
 pub joined_read : (there : NodeId) (route : SymRoute) (rest : SymRest) (rec : SymMapRec) →
@@ -54,7 +54,7 @@ joined_of there route rest rec h w =
 pub joined_all_marks : (tracked : Tracked) (there : NodeId) (route : SymRoute) (rest : SymRest) (rec : SymMapRec) →
     IsJoined there route rest rec → length route.path.numbers.nodes.items ≡ length tracked.numbers →
     length route.communities.nodes.items ≡ length tracked.communities →
-    length rest.clusters.nodes.items ≡ length tracked.clusters → HasMarks tracked rec.bgp
+    length rest.clusters.nodes.items ≡ length tracked.clusters → HasTracked tracked rec.bgp
 joined_all_marks tracked there route rest rec h numbers communities clusters = record {
   numbers = sym (ap length h.seen.path.numbers) ∙ numbers;
   communities = sym (ap length h.seen.communities) ∙ communities;

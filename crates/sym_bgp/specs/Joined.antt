@@ -1,5 +1,5 @@
 -- Routes of what route maps see of them and of the rest.
-use Rattle.std.specs.Prelude.{◌≡◌, ℕ, ◌+◌, ◌^◌, ◌&&◌, Bool, true, if◌then◌else◌, List, [], ◌∷◌, Option, length}
+use Rattle.std.specs.Prelude.{◌≡◌, ℕ, ◌+◌, ◌^◌, ◌&&◌, Bool, true, if◌then◌else◌, List, [], ◌∷◌, Option}
 use Rattle.std.specs.Prelude.{option_map}
 use Rattle.term_store.specs.Terms.{Reading}
 use Rattle.term_arith.specs.Bits.{bits, number}
@@ -20,7 +20,6 @@ use Rattle.bgp_shapes.specs.Crossings.{Crossing}
 use Rattle.bgp_shapes.specs.Exporting.{external_shape, internal_shape}
 use Rattle.bgp_shapes.specs.Messages.{lacks_address, seen_by_maps, with_seen}
 use Rattle.sym_policy.specs.declared.parts.SymRest.{SymRest}
-use Rattle.sym_policy.specs.declared.records.SymBgp.{SymBgp}
 
 -- what no map sees of a route
 pub record RestShape : Type 0 where
@@ -76,12 +75,6 @@ sent_of tracked files process neighbour end keeps x t =
     if end.internal
     then internal_shape tracked neighbour (own_address files end) (router_id files end.router) t x (seen_by_maps t)
     else external_shape tracked process neighbour (own_address files end) keeps (seen_by_maps t)
-
--- there is one node for each tracked value
-pub record HasMarks (tracked : Tracked) (s : SymBgp) : Type 0 where
-  pub numbers : length s.numbers.nodes.items ≡ length tracked.numbers
-  pub communities : length s.communities.nodes.items ≡ length tracked.communities
-  pub clusters : length s.clusters.nodes.items ≡ length tracked.clusters
 
 -- a route as the map leaves it that is applied, if one is
 abbrev pub shape_through : Tracked → Policies → Option Use → Prefix → Bool → BgpShape → Option BgpShape

@@ -18,10 +18,10 @@ ghost use Rattle.bgp_shapes.specs.Crossings.{crossing, end_numbered};
 ghost use Rattle.bgp_shapes.specs.Exporting as exporting;
 ghost use Rattle.bgp_shapes.specs.Messages.{message_shape, seen_by_maps, shape_sets_metric};
 ghost use Rattle.sym_policy.specs.Held.{bgp_at, bgp_end, bgp_of, StandsForBgp};
-ghost use Rattle.sym_policy.specs.MapRecs.{map_rec_end};
+ghost use Rattle.sym_policy.specs.MapRecs.{HasTracked, map_rec_end};
 ghost use Rattle.sym_policy.specs.Records.{prefix_of};
 ghost use Rattle.sym_policy.specs.Routes.{path_at, path_end};
-ghost use Rattle.sym_bgp.specs.Joined.{HasMarks, sent_of, shape_through};
+ghost use Rattle.sym_bgp.specs.Joined.{sent_of, shape_through};
 ghost use Rattle.sym_bgp.specs.Ways.{crossing_at, crossing_end};
 
 use crate::lists::{sym_passes_paths, sym_passes_prefixes};
@@ -186,13 +186,13 @@ fn sym_message(
 ) -> Result<SymBgp, AllocError>
     requires own { own ≡ exports.own_address session.now.files.now session.now.end.now }
     requires id { session.now.id ≡ exports.router_id session.now.files.now session.now.end.now.router }
-    requires marks { HasMarks session.now.tracked.now left.now }
+    requires marks { HasTracked session.now.tracked.now left.now }
     requires keeps { keeps.0 < size terms.old }
     requires way { crossing_end x.now ≤ size terms.old }
     requires nodes { bgp_end left.now ≤ size terms.old }
     ensures builds { Builds terms.old terms.new }
     ensures within { IfOk result (λ r. bgp_end r ≤ size terms.new) }
-    ensures marks { IfOk result (λ r. HasMarks session.now.tracked.now r) }
+    ensures marks { IfOk result (λ r. HasTracked session.now.tracked.now r) }
     ensures value { Gives terms.new result (λ w r. bgp_of w r ≡ option_map
         (sent_of session.now.tracked.now session.now.files.now session.now.process.now session.now.neighbour.now
         session.now.end.now (at w keeps) (crossing_at w x.now)) (bgp_of w left.now)) }
@@ -234,7 +234,7 @@ fn sym_keeps(
     requires long { by.now.len ≤ 32 }
     requires wide { length by.now.dst.now.nodes.items ≡ 32 }
     requires dst { ids_end by.now.dst.now.nodes.items ≤ size terms.old }
-    requires marks { HasMarks by.now.tracked.now held.now }
+    requires marks { HasTracked by.now.tracked.now held.now }
     requires nodes { bgp_end held.now ≤ size terms.old }
     ensures builds { Builds terms.old terms.new }
     ensures within { IfOk result (λ r. r.0 < size terms.new) }
@@ -265,12 +265,12 @@ fn sym_sent_by(
     requires long { len ≤ 32 }
     requires wide { length dst.now.nodes.items ≡ 32 }
     requires dst { ids_end dst.now.nodes.items ≤ size terms.old }
-    requires marks { HasMarks session.now.tracked.now held.now }
+    requires marks { HasTracked session.now.tracked.now held.now }
     requires way { crossing_end x.now ≤ size terms.old }
     requires nodes { bgp_end held.now ≤ size terms.old }
     ensures builds { Builds terms.old terms.new }
     ensures within { IfOk result (λ r. bgp_end r ≤ size terms.new) }
-    ensures marks { IfOk result (λ r. HasMarks session.now.tracked.now r) }
+    ensures marks { IfOk result (λ r. HasTracked session.now.tracked.now r) }
     ensures value { Gives terms.new result (λ w r. bgp_of w r ≡ option_and_then
         (λ s. exporting.shape_sent_by session.now.tracked.now session.now.files.now session.now.file.now
         session.now.process.now session.now.neighbour.now session.now.end.now (prefix_of w dst.now len) s
@@ -304,12 +304,12 @@ fn left_out(
     requires long { by.now.len ≤ 32 }
     requires wide { length by.now.dst.now.nodes.items ≡ 32 }
     requires dst { ids_end by.now.dst.now.nodes.items ≤ size terms.old }
-    requires marks { HasMarks by.now.tracked.now held.now }
+    requires marks { HasTracked by.now.tracked.now held.now }
     requires goes { goes.0 < size terms.old }
     requires nodes { bgp_end held.now ≤ size terms.old }
     ensures builds { Builds terms.old terms.new }
     ensures within { IfOk result (λ r. bgp_end r ≤ size terms.new) }
-    ensures marks { IfOk result (λ r. HasMarks by.now.tracked.now r) }
+    ensures marks { IfOk result (λ r. HasTracked by.now.tracked.now r) }
     ensures value { Gives terms.new result (λ w r. bgp_of w r ≡ option_and_then
         (shape_through by.now.tracked.now by.now.policies.now neighbour.now.map_out
         (prefix_of w by.now.dst.now by.now.len) (not end.now.internal))
@@ -340,11 +340,11 @@ fn sym_sent(
     requires long { len ≤ 32 }
     requires wide { length dst.now.nodes.items ≡ 32 }
     requires dst { ids_end dst.now.nodes.items ≤ size terms.old }
-    requires marks { HasMarks session.now.tracked.now held.now }
+    requires marks { HasTracked session.now.tracked.now held.now }
     requires nodes { bgp_end held.now ≤ size terms.old }
     ensures builds { Builds terms.old terms.new }
     ensures within { IfOk result (λ r. bgp_end r ≤ size terms.new) }
-    ensures marks { IfOk result (λ r. HasMarks session.now.tracked.now r) }
+    ensures marks { IfOk result (λ r. HasTracked session.now.tracked.now r) }
     ensures value { Gives terms.new result (λ w r. bgp_of w r ≡ option_and_then
         (exporting.shape_sent session.now.tracked.now session.now.files.now session.now.file.now session.now.process.now
         session.now.neighbour.now session.now.end.now (prefix_of w dst.now len)) (bgp_of w held.now)) }
@@ -371,11 +371,11 @@ fn sym_exported(
     requires long { len ≤ 32 }
     requires wide { length dst.now.nodes.items ≡ 32 }
     requires dst { ids_end dst.now.nodes.items ≤ size terms.old }
-    requires marks { HasMarks net.now.tracked held.now }
+    requires marks { HasTracked net.now.tracked held.now }
     requires nodes { bgp_end held.now ≤ size terms.old }
     ensures builds { Builds terms.old terms.new }
     ensures within { IfOk result (λ r. bgp_end r ≤ size terms.new) }
-    ensures marks { IfOk result (λ r. HasMarks net.now.tracked r) }
+    ensures marks { IfOk result (λ r. HasTracked net.now.tracked r) }
     ensures value { Gives terms.new result (λ w r. bgp_of w r
         ≡ option_and_then (exporting.shape_exported net.now.tracked net.now.files end.now (prefix_of w dst.now len))
         (bgp_of w held.now)) }
@@ -423,11 +423,11 @@ fn export_at(
     requires long { len ≤ 32 }
     requires wide { length dst.now.nodes.items ≡ 32 }
     requires dst { ids_end dst.now.nodes.items ≤ size terms.old }
-    requires marks { HasMarks net.now.tracked held.now }
+    requires marks { HasTracked net.now.tracked held.now }
     requires nodes { bgp_end held.now ≤ size terms.old }
     ensures builds { Builds terms.old terms.new }
     ensures within { IfOk result (λ r. bgp_end r ≤ size terms.new) }
-    ensures marks { IfOk result (λ r. HasMarks net.now.tracked r) }
+    ensures marks { IfOk result (λ r. HasTracked net.now.tracked r) }
     ensures value { Gives terms.new result (λ w r. bgp_of w r ≡ option_and_then (λ s. option_and_then (λ at.
         exporting.shape_exported net.now.tracked net.now.files at (prefix_of w dst.now len) s)
         (slice_get (ends_of net.now.files) end)) (bgp_of w held.now)) }
@@ -460,11 +460,11 @@ pub fn sym_export(
     requires long { len ≤ 32 }
     requires wide { length dst.now.nodes.items ≡ 32 }
     requires dst { ids_end dst.now.nodes.items ≤ size terms.old }
-    requires marks { HasMarks net.now.tracked held.now }
+    requires marks { HasTracked net.now.tracked held.now }
     requires nodes { bgp_end held.now ≤ size terms.old }
     ensures builds { Builds terms.old terms.new }
     ensures within { IfOk result (λ r. bgp_end r ≤ size terms.new) }
-    ensures marks { IfOk result (λ r. HasMarks net.now.tracked r) }
+    ensures marks { IfOk result (λ r. HasTracked net.now.tracked r) }
     ensures value { Gives terms.new result (λ w r. bgp_of w r ≡ option_and_then (λ s. option_and_then (λ at.
         exporting.shape_exported net.now.tracked net.now.files at (prefix_of w dst.now len) s)
         (slice_get (ends_of net.now.files) end)) (bgp_of w held.now)) }

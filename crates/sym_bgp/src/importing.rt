@@ -16,12 +16,12 @@ ghost use Rattle.route_shapes.specs.Shapes.{marked, shape_passes_paths};
 ghost use Rattle.bgp_shapes.specs.Importing as importing;
 ghost use Rattle.bgp_shapes.specs.Messages.{message_shape, seen_by_maps};
 ghost use Rattle.sym_policy.specs.Held.{bgp_at, bgp_end, bgp_of, StandsForBgp};
-ghost use Rattle.sym_policy.specs.MapRecs.{map_rec_end};
+ghost use Rattle.sym_policy.specs.MapRecs.{HasTracked, map_rec_end};
 ghost use Rattle.sym_policy.specs.Records.{prefix_of};
 ghost use Rattle.sym_policy.specs.Routes.{path_at, path_end, preferences_at, preferences_end, rest_end, route_at};
 ghost use Rattle.sym_policy.specs.Routes.{route_end};
 ghost use Rattle.sym_policy.specs.Routes.{HasRows};
-ghost use Rattle.sym_bgp.specs.Joined.{HasMarks, rest_at, rest_of_shape, with_rest};
+ghost use Rattle.sym_bgp.specs.Joined.{rest_at, rest_of_shape, with_rest};
 
 use crate::lists::{sym_has_cluster, sym_passes_paths, sym_passes_prefixes};
 use crate::routers::{Session, is_reflector, numbered, side_of};
@@ -265,7 +265,7 @@ fn received_seen(
     end: &SessionEnd,
     message: &SymBgp,
 ) -> Result<SymRoute, AllocError>
-    requires marks { HasMarks tracked.now message.now }
+    requires marks { HasTracked tracked.now message.now }
     requires nodes { bgp_end message.now ≤ size terms.old }
     ensures builds { Builds terms.old terms.new }
     ensures within { IfOk result (λ r. route_end r ≤ size terms.new) }
@@ -316,12 +316,12 @@ fn sym_received(
     end: &SessionEnd,
     message: &SymBgp,
 ) -> Result<SymMapRec, AllocError>
-    requires marks { HasMarks tracked.now message.now }
+    requires marks { HasTracked tracked.now message.now }
     requires there { there.0 < size terms.old }
     requires nodes { bgp_end message.now ≤ size terms.old }
     ensures builds { Builds terms.old terms.new }
     ensures within { IfOk result (λ r. map_rec_end r ≤ size terms.new) }
-    ensures marks { IfOk result (λ r. HasMarks tracked.now r.bgp) }
+    ensures marks { IfOk result (λ r. HasTracked tracked.now r.bgp) }
     ensures type1 { Gives terms.new result (λ w r. at w r.type1 ≡ false) }
     ensures value { Gives terms.new result (λ w r. bgp_of w r.bgp
         ≡ (if at w there then Some (importing.shape_received neighbour.now end.now (bgp_at w message.now)) else None)) }
@@ -336,11 +336,11 @@ fn sym_received(
 /// A route whose path is not too long.
 #[tactic(auto, using(crate::proofs::TakenIn::short_there))]
 fn if_short(terms: &mut Terms, tracked: &Tracked, route: SymBgp) -> Result<SymBgp, AllocError>
-    requires marks { HasMarks tracked.now route }
+    requires marks { HasTracked tracked.now route }
     requires nodes { bgp_end route ≤ size terms.old }
     ensures builds { Builds terms.old terms.new }
     ensures within { IfOk result (λ r. bgp_end r ≤ size terms.new) }
-    ensures marks { IfOk result (λ r. HasMarks tracked.now r) }
+    ensures marks { IfOk result (λ r. HasTracked tracked.now r) }
     ensures value { Gives terms.new result (λ w r. bgp_of w r
         ≡ option_and_then importing.shape_if_short (bgp_of w route)) }
 {
@@ -364,11 +364,11 @@ fn sym_taken_in(
     requires long { len ≤ 32 }
     requires wide { length dst.now.nodes.items ≡ 32 }
     requires dst { ids_end dst.now.nodes.items ≤ size terms.old }
-    requires marks { HasMarks session.now.tracked.now message.now }
+    requires marks { HasTracked session.now.tracked.now message.now }
     requires nodes { bgp_end message.now ≤ size terms.old }
     ensures builds { Builds terms.old terms.new }
     ensures within { IfOk result (λ r. bgp_end r ≤ size terms.new) }
-    ensures marks { IfOk result (λ r. HasMarks session.now.tracked.now r) }
+    ensures marks { IfOk result (λ r. HasTracked session.now.tracked.now r) }
     ensures value { Gives terms.new result (λ w r. bgp_of w r ≡ option_and_then
         (importing.shape_taken_in session.now.tracked.now session.now.files.now session.now.file.now
         session.now.process.now session.now.neighbour.now session.now.end.now (prefix_of w dst.now len))
@@ -409,11 +409,11 @@ fn sym_imported(
     requires long { len ≤ 32 }
     requires wide { length dst.now.nodes.items ≡ 32 }
     requires dst { ids_end dst.now.nodes.items ≤ size terms.old }
-    requires marks { HasMarks net.now.tracked message.now }
+    requires marks { HasTracked net.now.tracked message.now }
     requires nodes { bgp_end message.now ≤ size terms.old }
     ensures builds { Builds terms.old terms.new }
     ensures within { IfOk result (λ r. bgp_end r ≤ size terms.new) }
-    ensures marks { IfOk result (λ r. HasMarks net.now.tracked r) }
+    ensures marks { IfOk result (λ r. HasTracked net.now.tracked r) }
     ensures value { Gives terms.new result (λ w r. bgp_of w r
         ≡ option_and_then (importing.shape_imported net.now.tracked net.now.files end.now (prefix_of w dst.now len))
         (bgp_of w message.now)) }
@@ -452,11 +452,11 @@ fn import_at(
     requires long { len ≤ 32 }
     requires wide { length dst.now.nodes.items ≡ 32 }
     requires dst { ids_end dst.now.nodes.items ≤ size terms.old }
-    requires marks { HasMarks net.now.tracked message.now }
+    requires marks { HasTracked net.now.tracked message.now }
     requires nodes { bgp_end message.now ≤ size terms.old }
     ensures builds { Builds terms.old terms.new }
     ensures within { IfOk result (λ r. bgp_end r ≤ size terms.new) }
-    ensures marks { IfOk result (λ r. HasMarks net.now.tracked r) }
+    ensures marks { IfOk result (λ r. HasTracked net.now.tracked r) }
     ensures value { Gives terms.new result (λ w r. bgp_of w r ≡ option_and_then (λ s. option_and_then (λ at.
         importing.shape_imported net.now.tracked net.now.files at (prefix_of w dst.now len) s)
         (slice_get (ends_of net.now.files) end)) (bgp_of w message.now)) }
@@ -488,11 +488,11 @@ pub fn sym_import(
     requires long { len ≤ 32 }
     requires wide { length dst.now.nodes.items ≡ 32 }
     requires dst { ids_end dst.now.nodes.items ≤ size terms.old }
-    requires marks { HasMarks net.now.tracked message.now }
+    requires marks { HasTracked net.now.tracked message.now }
     requires nodes { bgp_end message.now ≤ size terms.old }
     ensures builds { Builds terms.old terms.new }
     ensures within { IfOk result (λ r. bgp_end r ≤ size terms.new) }
-    ensures marks { IfOk result (λ r. HasMarks net.now.tracked r) }
+    ensures marks { IfOk result (λ r. HasTracked net.now.tracked r) }
     ensures value { Gives terms.new result (λ w r. bgp_of w r ≡ option_and_then (λ s. option_and_then (λ at.
         importing.shape_imported net.now.tracked net.now.files at (prefix_of w dst.now len) s)
         (slice_get (ends_of net.now.files) end)) (bgp_of w message.now)) }

@@ -16,7 +16,8 @@ ghost use Rattle.sym_policy.specs.Held.{bgp_at, bgp_end, bgp_of};
 ghost use Rattle.sym_policy.specs.Routes.{path_at, path_end, preferences_at, preferences_end, rest_end, route_at};
 ghost use Rattle.sym_policy.specs.Routes.{route_end};
 ghost use Rattle.sym_policy.specs.Routes.{HasRows, IsBare};
-ghost use Rattle.sym_bgp.specs.Joined.{HasMarks, rest_at, rest_sent, with_rest};
+ghost use Rattle.sym_policy.specs.MapRecs.{HasTracked};
+ghost use Rattle.sym_bgp.specs.Joined.{rest_at, rest_sent, with_rest};
 ghost use Rattle.sym_bgp.specs.Ways.{crossing_at, crossing_end};
 
 use crate::candidates::lacks;
@@ -126,7 +127,7 @@ fn external_path(
     process: &Bgp,
     left: &SymBgp,
 ) -> Result<SymPath, AllocError>
-    requires marks { HasMarks tracked.now left.now }
+    requires marks { HasTracked tracked.now left.now }
     requires nodes { bgp_end left.now ≤ size terms.old }
     ensures builds { Builds terms.old terms.new }
     ensures within { IfOk result (λ r. path_end r ≤ size terms.new) }
@@ -150,7 +151,7 @@ fn external_seen(
     keeps: NodeId,
     left: &SymBgp,
 ) -> Result<SymRoute, AllocError>
-    requires marks { HasMarks tracked.now left.now }
+    requires marks { HasTracked tracked.now left.now }
     requires keeps { keeps.0 < size terms.old }
     requires nodes { bgp_end left.now ≤ size terms.old }
     ensures builds { Builds terms.old terms.new }
@@ -210,12 +211,12 @@ pub(crate) fn sym_external(
     keeps: NodeId,
     left: &SymBgp,
 ) -> Result<SymBgp, AllocError>
-    requires marks { HasMarks tracked.now left.now }
+    requires marks { HasTracked tracked.now left.now }
     requires keeps { keeps.0 < size terms.old }
     requires nodes { bgp_end left.now ≤ size terms.old }
     ensures builds { Builds terms.old terms.new }
     ensures within { IfOk result (λ r. bgp_end r ≤ size terms.new) }
-    ensures marks { IfOk result (λ r. HasMarks tracked.now r) }
+    ensures marks { IfOk result (λ r. HasTracked tracked.now r) }
     ensures value { Gives terms.new result (λ w r. bgp_of w r ≡ option_map
         (λ t. exporting.external_shape tracked.now process.now neighbour.now own (at w keeps) (seen_by_maps t))
         (bgp_of w left.now)) }
@@ -262,7 +263,7 @@ fn internal_seen(
     neighbour: &Neighbour,
     left: &SymBgp,
 ) -> Result<SymRoute, AllocError>
-    requires marks { HasMarks tracked.now left.now }
+    requires marks { HasTracked tracked.now left.now }
     requires nodes { bgp_end left.now ≤ size terms.old }
     ensures builds { Builds terms.old terms.new }
     ensures within { IfOk result (λ r. route_end r ≤ size terms.new) }
@@ -427,7 +428,7 @@ fn internal_rest(
     x: &SymCrossing,
     left: &SymBgp,
 ) -> Result<SymRest, AllocError>
-    requires marks { HasMarks tracked.now left.now }
+    requires marks { HasTracked tracked.now left.now }
     requires way { crossing_end x.now ≤ size terms.old }
     requires nodes { bgp_end left.now ≤ size terms.old }
     ensures builds { Builds terms.old terms.new }
@@ -464,12 +465,12 @@ pub(crate) fn sym_internal(
     x: &SymCrossing,
     left: &SymBgp,
 ) -> Result<SymBgp, AllocError>
-    requires marks { HasMarks tracked.now left.now }
+    requires marks { HasTracked tracked.now left.now }
     requires way { crossing_end x.now ≤ size terms.old }
     requires nodes { bgp_end left.now ≤ size terms.old }
     ensures builds { Builds terms.old terms.new }
     ensures within { IfOk result (λ r. bgp_end r ≤ size terms.new) }
-    ensures marks { IfOk result (λ r. HasMarks tracked.now r) }
+    ensures marks { IfOk result (λ r. HasTracked tracked.now r) }
     ensures value { Gives terms.new result (λ w r. bgp_of w r ≡ option_map
         (λ t. exporting.internal_shape tracked.now neighbour.now own id t (crossing_at w x.now) (seen_by_maps t))
         (bgp_of w left.now)) }

@@ -14,7 +14,7 @@ ghost use Rattle.sym_policy.specs.Held.{bgp_at, bgp_end};
 ghost use Rattle.sym_policy.specs.Order.{entries_of};
 ghost use Rattle.sym_policy.specs.Records.{prefix_of};
 ghost use Rattle.sym_policy.specs.Routes.{route_at, route_end};
-ghost use Rattle.sym_bgp.specs.Joined.{HasMarks};
+ghost use Rattle.sym_policy.specs.MapRecs.{HasTracked};
 
 use crate::routers::sets_metric;
 use crate::through::seen_of;
@@ -148,7 +148,7 @@ pub(crate) fn sym_keeps_metric(
     requires long { by.now.len ≤ 32 }
     requires wide { length by.now.dst.now.nodes.items ≡ 32 }
     requires dst { ids_end by.now.dst.now.nodes.items ≤ size terms.old }
-    requires marks { HasMarks by.now.tracked.now held.now }
+    requires marks { HasTracked by.now.tracked.now held.now }
     requires nodes { bgp_end held.now ≤ size terms.old }
     ensures builds { Builds terms.old terms.new }
     ensures within { IfOk result (λ r. r.0 < size terms.new) }

@@ -8,10 +8,10 @@ ghost use Rattle.term_arith.specs.Bits.{bits, ids_end};
 ghost use Rattle.route_record.specs.Sides.{at_external};
 ghost use Rattle.bgp_shapes.specs.Messages.{seen_by_maps};
 ghost use Rattle.sym_policy.specs.Held.{bgp_at, bgp_end, bgp_of};
-ghost use Rattle.sym_policy.specs.MapRecs.{map_rec_end};
+ghost use Rattle.sym_policy.specs.MapRecs.{HasTracked, map_rec_end};
 ghost use Rattle.sym_policy.specs.Records.{prefix_of};
 ghost use Rattle.sym_policy.specs.Routes.{route_at, route_end, HasRows};
-ghost use Rattle.sym_bgp.specs.Joined.{HasMarks, shape_through};
+ghost use Rattle.sym_bgp.specs.Joined.{shape_through};
 
 use ios_ast::Use;
 use route_record::{Side, Tracked};
@@ -31,7 +31,7 @@ pub(crate) fn seen_of(
     tracked: &Tracked,
     held: &SymBgp,
 ) -> Result<SymRoute, AllocError>
-    requires marks { HasMarks tracked.now held.now }
+    requires marks { HasTracked tracked.now held.now }
     requires nodes { bgp_end held.now ≤ size terms.old }
     ensures builds { Builds terms.old terms.new }
     ensures within { IfOk result (λ r. route_end r ≤ size terms.new) }
@@ -59,12 +59,12 @@ pub(crate) fn copied(
     there: NodeId,
     held: &SymBgp,
 ) -> Result<SymMapRec, AllocError>
-    requires marks { HasMarks tracked.now held.now }
+    requires marks { HasTracked tracked.now held.now }
     requires there { there.0 < size terms.old }
     requires nodes { bgp_end held.now ≤ size terms.old }
     ensures builds { Builds terms.old terms.new }
     ensures within { IfOk result (λ r. map_rec_end r ≤ size terms.new) }
-    ensures marks { IfOk result (λ r. HasMarks tracked.now r.bgp) }
+    ensures marks { IfOk result (λ r. HasTracked tracked.now r.bgp) }
     ensures type1 { Gives terms.new result (λ w r. at w r.type1 ≡ false) }
     ensures value { Gives terms.new result (λ w r. bgp_of w r.bgp
         ≡ (if at w there then Some (bgp_at w held.now) else None)) }
@@ -81,11 +81,11 @@ pub(crate) fn nothing(
     tracked: &Tracked,
     held: &SymBgp,
 ) -> Result<SymBgp, AllocError>
-    requires marks { HasMarks tracked.now held.now }
+    requires marks { HasTracked tracked.now held.now }
     requires nodes { bgp_end held.now ≤ size terms.old }
     ensures builds { Builds terms.old terms.new }
     ensures within { IfOk result (λ r. bgp_end r ≤ size terms.new) }
-    ensures marks { IfOk result (λ r. HasMarks tracked.now r) }
+    ensures marks { IfOk result (λ r. HasTracked tracked.now r) }
     ensures value { Gives terms.new result (λ w r. bgp_of w r ≡ None) }
 {
     let never = constant_node(terms, false)?;
@@ -106,11 +106,11 @@ pub(crate) fn sym_mapped(
     requires long { by.now.len ≤ 32 }
     requires wide { length by.now.dst.now.nodes.items ≡ 32 }
     requires dst { ids_end by.now.dst.now.nodes.items ≤ size terms.old }
-    requires marks { HasMarks by.now.tracked.now rec.bgp }
+    requires marks { HasTracked by.now.tracked.now rec.bgp }
     requires nodes { map_rec_end rec ≤ size terms.old }
     ensures builds { Builds terms.old terms.new }
     ensures within { IfOk result (λ r. bgp_end r ≤ size terms.new) }
-    ensures marks { IfOk result (λ r. HasMarks by.now.tracked.now r) }
+    ensures marks { IfOk result (λ r. HasTracked by.now.tracked.now r) }
     ensures value { Gives terms.new result (λ w r. at w rec.type1 ≡ false → bgp_of w r
         ≡ option_and_then (shape_through by.now.tracked.now by.now.policies.now used.now
         (prefix_of w by.now.dst.now by.now.len) (at_external side)) (bgp_of w rec.bgp)) }

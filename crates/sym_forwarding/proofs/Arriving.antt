@@ -18,7 +18,9 @@ use Rattle.walk_def.specs.Marks.{is_end, known}
 use Rattle.walk_def.proofs.Ends.{may_end, must_end}
 use Rattle.sym_forwarding.specs.Layers.{Forwarding, arrives, arriving, ends_or_sends, sends_on}
 use Rattle.sym_forwarding.proofs.Edges.{Stands, leading, led, sends_below}
-use Rattle.sym_forwarding.proofs.Marks.{Below, count, count_most, known_mapped, mapped_known, same_or_more}
+use Rattle.mw_text.specs.Members.{count}
+use Rattle.mw_text.proofs.Numbers.{count_few}
+use Rattle.sym_forwarding.proofs.Marks.{Below, known_mapped, mapped_known, same_or_more}
 
 -- ---- the layers settle
 
@@ -67,7 +69,7 @@ all_arrived table =
       | inl same ↦ same
       | inr enough ↦ absurd
           (
-          let most = count_most (arriving table (suc (length table))) in
+          let most = count_few (arriving table (suc (length table))) in
           let long = arriving_long table (suc (length table)) in omega (arith, most, long)
           )
     ]

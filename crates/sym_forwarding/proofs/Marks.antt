@@ -2,6 +2,7 @@
 use Rattle.std.proofs.Common.{◌≡◌, ℕ, zero, suc, ◌<◌, ◌≤◌, Bool, true, false, List, [], ◌∷◌, length, map}
 use Rattle.std.proofs.Common.{◌⊎◌, inl, inr, Some, refl, ap, arith, ◌∙◌}
 use Rattle.std.specs.Prelude.{slice_get}
+use Rattle.mw_text.specs.Members.{count}
 use Rattle.walk_def.specs.Marks.{known}
 
 -- what a mark says of the item at its place
@@ -20,17 +21,6 @@ mapped_known test (y ∷ ys) (suc k) x found h = mapped_known test ys k x found 
 -- each mark of the first is one of the second
 abbrev pub Below : List Bool → List Bool → Type 0
 Below xs ys = (k : ℕ) → known xs k ≡ true → known ys k ≡ true
-
--- the marks that are set
-abbrev pub count : List Bool → ℕ
-count [] = zero
-count (true ∷ xs) = suc (count xs)
-count (false ∷ xs) = count xs
-
-pub count_most : (xs : List Bool) → count xs ≤ length xs
-count_most [] = omega arith
-count_most (true ∷ xs) = let rest = count_most xs in omega arith
-count_most (false ∷ xs) = let rest = count_most xs in omega arith
 
 -- marks that others are below are the same marks, or more
 one_more : (x y : Bool) (xs ys : List Bool) → (x ≡ true → y ≡ true) → (xs ≡ ys) ⊎ (count xs < count ys) →

@@ -4,6 +4,7 @@ use Rattle.term_store.specs.Terms.{Store, Reading, size, at}
 use Rattle.term_store.specs.Reading.{Reads}
 use Rattle.term_arith.specs.Bits.{bits, number, ids_end}
 use Rattle.route_record.specs.declared.tracked.Tracked.{Tracked}
+use Rattle.sym_policy.specs.declared.records.SymBgp.{SymBgp}
 use Rattle.sym_policy.specs.declared.records.SymMapRec.{SymMapRec}
 use Rattle.sym_policy.specs.declared.parts.SymMade.{SymMade}
 use Rattle.sym_policy.specs.Routes.{made_at}
@@ -57,6 +58,12 @@ map_rec_end rec = max (rec.bgp.valid.0 + 1) (max (seen_end rec) (kept_end rec))
 pub record HasMarks (tracked : Tracked) (rec : SymMapRec) : Type 0 where
   pub numbers : length rec.bgp.numbers.nodes.items ≡ length tracked.numbers
   pub communities : length rec.bgp.communities.nodes.items ≡ length tracked.communities
+
+-- there is one node for each tracked number, community and cluster
+pub record HasTracked (tracked : Tracked) (s : SymBgp) : Type 0 where
+  pub numbers : length s.numbers.nodes.items ≡ length tracked.numbers
+  pub communities : length s.communities.nodes.items ≡ length tracked.communities
+  pub clusters : length s.clusters.nodes.items ≡ length tracked.clusters
 
 -- what route maps never set has the same nodes in both records
 pub record KeepsRest (a b : SymMapRec) : Type 0 where

@@ -7,11 +7,10 @@ use Rattle.route_record.specs.declared.tracked.Tracked.{Tracked}
 use Rattle.sym_policy.specs.declared.parts.SymRest.{SymRest}
 use Rattle.sym_policy.specs.declared.parts.SymRoute.{SymRoute}
 use Rattle.sym_policy.specs.declared.records.SymMapRec.{SymMapRec}
-use Rattle.sym_policy.specs.MapRecs.{HasMarks, KeepsRest}
+use Rattle.sym_policy.specs.MapRecs.{HasMarks, HasTracked, KeepsRest}
 use Rattle.sym_policy.specs.Routes.{HasRows, IsBare}
 use Rattle.sym_policy.specs.SameNodes.{IsJoined}
 use Rattle.sym_policy.proofs.SameNodes.{joined_steps}
-use Rattle.sym_rib.specs.Into.{HasTracked}
 use Rattle.sym_rib.specs.Known.{IsOwn}
 
 pub own_joined : (w : Reading) (tracked : Tracked) (there : NodeId) (route : SymRoute) (rest : SymRest)

@@ -2,8 +2,7 @@
 
 ghost use Rattle.std.specs.Prelude.{◌≡◌, ℕ, ◌+◌, ◌≤◌, Bool, IfOk, None, max};
 ghost use Rattle.sym_policy.specs.Held.{bgp_of, bgp_end, ospf_of, ospf_end};
-ghost use Rattle.sym_policy.specs.MapRecs.{map_rec_end};
-ghost use Rattle.sym_rib.specs.Into.{HasTracked};
+ghost use Rattle.sym_policy.specs.MapRecs.{HasTracked, map_rec_end};
 ghost use Rattle.sym_rib.specs.Slots.{slot_end, StandsForSlot};
 ghost use Rattle.term_store.specs.Terms.{Reading, size, at};
 ghost use Rattle.term_store.specs.Reading.{Reads, Builds, Gives};

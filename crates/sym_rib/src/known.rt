@@ -4,10 +4,9 @@ ghost use Rattle.std.specs.Prelude.{◌≡◌, ℕ, ◌+◌, ◌^◌, ◌<◌, �
 ghost use Rattle.ios_ast.specs.Deciding.{carries};
 ghost use Rattle.route_record.specs.Origins.{origin_code};
 ghost use Rattle.route_shapes.specs.Shapes.{path_shape, route_shape};
-ghost use Rattle.sym_policy.specs.MapRecs.{attributes_at, map_rec_end, HasMarks};
+ghost use Rattle.sym_policy.specs.MapRecs.{HasMarks, HasTracked, attributes_at, map_rec_end};
 ghost use Rattle.sym_policy.specs.Routes.{preferences_at, preferences_end, rest_end, route_at, route_end, HasRows};
 ghost use Rattle.sym_policy.specs.Routes.{IsBare};
-ghost use Rattle.sym_rib.specs.Into.{HasTracked};
 ghost use Rattle.sym_rib.specs.Known.{known_attributes, IsOwn};
 ghost use Rattle.sym_rib.specs.KnownParts.{HasPartsOf, PutsParts};
 ghost use Rattle.term_store.specs.Terms.{Reading, size, at};

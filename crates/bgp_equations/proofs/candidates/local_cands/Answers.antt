@@ -2,7 +2,7 @@ use Rattle.std.proofs.Common.{arith, ap, subst, sym, ◌∙◌}
 use Rattle.sym_policy.specs.Held.{bgp_end, bgp_of}
 use Rattle.sym_bgp.specs.Candidates.{candidate_of, candidates_end}
 use Rattle.sym_bgp.proofs.CandidatesEnd.{candidates_end_push}
-use Rattle.sym_rib.specs.Into.{HasTracked}
+use Rattle.sym_policy.specs.MapRecs.{HasTracked}
 use Rattle.bgp_equations.specs.Equations.{local_with}
 use Rattle.bgp_equations.proofs.CandidateSteps.{builds_join, marks_push}
 use Rattle.bgp_equations.proofs.LocalSteps.{end_item, local_more}

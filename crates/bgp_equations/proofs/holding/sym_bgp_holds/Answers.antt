@@ -6,7 +6,7 @@ use Rattle.bgp_shapes.specs.Candidates.{ShapeSlot}
 use Rattle.rebuilt_routes.specs.Deciding.{is_decided_shape}
 use Rattle.sym_policy.specs.Held.{failures_of}
 use Rattle.sym_policy.specs.Records.{prefix_of}
-use Rattle.sym_rib.specs.Into.{HasTracked}
+use Rattle.sym_policy.specs.MapRecs.{HasTracked}
 use Rattle.sym_rib.proofs.SlotPlaces.{placed_all}
 use Rattle.bgp_equations.specs.Environments.{environment_read}
 use Rattle.bgp_equations.specs.Equations.{sending_read, slot_read, slots_read}

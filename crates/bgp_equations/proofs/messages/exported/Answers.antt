@@ -5,19 +5,17 @@ use Rattle.bgp_shapes.specs.Candidates.{ShapeSlot}
 use Rattle.bgp_shapes.specs.Exporting.{shape_exported}
 use Rattle.sym_policy.specs.Held.{bgp_of}
 use Rattle.sym_policy.specs.Records.{prefix_of}
-use Rattle.sym_rib.specs.Into.{HasTracked}
+use Rattle.sym_policy.specs.MapRecs.{HasTracked}
 use Rattle.sym_rib.proofs.SlotPlaces.{placed_all}
 use Rattle.bgp_equations.specs.Equations.{slot_read}
-use Rattle.bgp_equations.proofs.Arriving.{marks_of}
 use Rattle.bgp_equations.proofs.messages.exported.Goals as goal
 
 pub sym_export-requires-clause-marks : goal.sym_export-requires-clause-marks
 sym_export-requires-clause-marks c =
     let routing = c.args.routing.now in
     let t = routing.tables.now in
-    marks_of routing.net.now.tracked c.in-Some.slot.now.bgp
-    (placed_all (λ s. HasTracked routing.net.now.tracked s.bgp) t.lens.now t.routers t.slots.now c.args.far.now.router
-    routing.len c.in-Some.slot.now (sym c.slot_for.ensures.place ∙ ap option_copied c.in-Some.is) c.requires.rows)
+    placed_all (λ s. HasTracked routing.net.now.tracked s.bgp) t.lens.now t.routers t.slots.now c.args.far.now.router
+    routing.len c.in-Some.slot.now (sym c.slot_for.ensures.place ∙ ap option_copied c.in-Some.is) c.requires.rows
 
 pub returns-in-None-clause-value : goal.returns-in-None-clause-value
 returns-in-None-clause-value c =

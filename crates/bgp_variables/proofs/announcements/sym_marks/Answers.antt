@@ -1,7 +1,7 @@
 use Rattle.std.proofs.Common.{◌≡◌, ◌<◌, ◌&&◌, ◌||◌, not, arith, length, subst, ◌∙◌, get_or}
 use Rattle.term_store.specs.Terms.{at}
 use Rattle.sym_policy.specs.Held.{bgp_at}
-use Rattle.announced_shapes.specs.Paths.{is_as_number}
+use Rattle.net_parts.specs.World.{is_as_number}
 use Rattle.bgp_variables.specs.Announced.{is_one_of}
 use Rattle.bgp_variables.proofs.AnnouncedSteps.{few_more, fit_more, inner_more, mark_chain}
 use Rattle.bgp_variables.proofs.announcements.sym_marks.Goals as goal

@@ -3,7 +3,8 @@ use Rattle.term_store.specs.Terms.{Reading, size}
 use Rattle.term_store.specs.Reading.{Reads, Grows}
 use Rattle.net_parts.specs.Sessions.{ends_of}
 use Rattle.sym_policy.specs.Held.{bgp_end, bgp_of}
-use Rattle.sym_rib.specs.Into.{HasTracked, list_end}
+use Rattle.sym_policy.specs.MapRecs.{HasTracked}
+use Rattle.sym_rib.specs.Into.{list_end}
 use Rattle.bgp_variables.specs.Environments.{rooms_over}
 use Rattle.bgp_variables.specs.Shapes.{bgps_from, bgps_width}
 use Rattle.bgp_variables.proofs.environments.open_announced.Given as goal

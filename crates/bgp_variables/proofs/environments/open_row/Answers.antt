@@ -5,7 +5,7 @@ use Rattle.std.proofs.lemmas.List.{length-append}
 use Rattle.std.proofs.lemmas.List.Elements.{All-push}
 use Rattle.failed_links.proofs.Steps.{grows_grown}
 use Rattle.sym_policy.specs.Held.{bgp_of}
-use Rattle.sym_rib.specs.Into.{HasTracked}
+use Rattle.sym_policy.specs.MapRecs.{HasTracked}
 use Rattle.term_store.specs.Terms.{size}
 use Rattle.bgp_variables.specs.Shapes.{bgps_from, bgps_width}
 use Rattle.bgp_variables.proofs.EnvironmentSteps.{bgps_width_next, copies_next, row_read, row_within}

@@ -3,7 +3,8 @@ use Rattle.std.specs.Option.{option_copied}
 use Rattle.term_store.specs.Terms.{Reading, size}
 use Rattle.term_store.specs.Reading.{Reads, Grows}
 use Rattle.sym_policy.specs.Held.{bgp_end, bgp_of}
-use Rattle.sym_rib.specs.Into.{HasTracked, list_end}
+use Rattle.sym_policy.specs.MapRecs.{HasTracked}
+use Rattle.sym_rib.specs.Into.{list_end}
 use Rattle.bgp_variables.specs.Shapes.{bgps_from, bgps_width}
 use Rattle.bgp_variables.proofs.environments.open_row.Given as goal
 

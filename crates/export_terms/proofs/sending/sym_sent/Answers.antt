@@ -5,19 +5,18 @@ use Rattle.bgp_shapes.specs.Exporting.{shape_exported}
 use Rattle.sym_policy.specs.Held.{bgp_at, bgp_of}
 use Rattle.sym_policy.specs.Records.{prefix_of}
 use Rattle.sym_rib.specs.declared.slots.SymSlot.{SymSlot}
-use Rattle.sym_rib.specs.Into.{HasTracked}
+use Rattle.sym_policy.specs.MapRecs.{HasTracked}
 use Rattle.sym_rib.proofs.SlotPlaces.{placed_all}
 use Rattle.term_store.specs.Terms.{at}
-use Rattle.export_terms.proofs.Sent.{marks_of, there_where}
+use Rattle.export_terms.proofs.Sent.{there_where}
 use Rattle.export_terms.proofs.sending.sym_sent.Goals as goal
 
 pub sym_export-requires-clause-marks : goal.sym_export-requires-clause-marks
 sym_export-requires-clause-marks c =
     let asked = c.args.asked.now in
     let t = asked.tables.now in
-    marks_of asked.net.now.tracked c.in-Some.slot.now.bgp
-    (placed_all (λ s. HasTracked asked.net.now.tracked s.bgp) t.lens.now t.routers t.slots.now c.args.end.now.router
-    c.args.len c.in-Some.slot.now (sym c.slot_for.ensures.place ∙ ap option_copied c.in-Some.is) c.requires.rows)
+    placed_all (λ s. HasTracked asked.net.now.tracked s.bgp) t.lens.now t.routers t.slots.now c.args.end.now.router
+    c.args.len c.in-Some.slot.now (sym c.slot_for.ensures.place ∙ ap option_copied c.in-Some.is) c.requires.rows
 
 pub returns-in-None-clause-value : goal.returns-in-None-clause-value
 returns-in-None-clause-value c =

@@ -1,7 +1,7 @@
 use Rattle.std.proofs.Common.{◌≡◌, Some, None, arith, sym, ap, ◌∙◌}
 use Rattle.std.specs.Prelude.{option_copied}
 use Rattle.sym_rib.specs.declared.slots.SymSlot.{SymSlot}
-use Rattle.sym_rib.specs.Into.{HasTracked}
+use Rattle.sym_policy.specs.MapRecs.{HasTracked}
 use Rattle.sym_rib.specs.Worlds.{slot_placed}
 use Rattle.sym_rib.proofs.SlotPlaces.{placed_all}
 use Rattle.ospf_equations.proofs.HoldingSteps.{gives_more}

@@ -6,7 +6,7 @@ use Rattle.route_record.specs.declared.Tables.{Tables}
 use Rattle.sym_policy.specs.Held.{failures_of}
 use Rattle.sym_policy.specs.Records.{prefix_of}
 use Rattle.sym_rib.specs.declared.slots.SymSlot.{SymSlot}
-use Rattle.sym_rib.specs.Into.{HasTracked}
+use Rattle.sym_policy.specs.MapRecs.{HasTracked}
 use Rattle.sym_rib.specs.Worlds.{slot_placed}
 use Rattle.sym_rib.proofs.SlotPlaces.{placed_all}
 use Rattle.term_store.specs.declared.NodeId.{NodeId}

@@ -4,22 +4,8 @@ use Rattle.std.specs.String.{string_bytes}
 use Rattle.std.specs.Fmt.{decimal}
 use Rattle.std.proofs.lemmas.Result.{on_ok_weaker}
 use Rattle.resolution_check.specs.Text.{lit_text, zero_text, text_of, after_space}
-use Rattle.resolution_check.proofs.Written.{input_written, addition_written}
+use Rattle.resolution_check.proofs.Written.{addition_written}
 use Rattle.resolution_check.proofs.writing.write_words.Goals as goal
-
-pub returns-in_ok-write_number-in-Input : goal.returns-in_ok-write_number-in-Input
-returns-in_ok-write_number-in-Input c =
-    let old = string_bytes c.args.out.now in
-    let id = c.in-Input.id in
-    let head =
-    c.in_ok-write_number-in-Input.ensures
-    ∙ ap (λ s. s ++ after_space (decimal id)) c.in_ok-push_str-in-Input.ensures.bytes in
-    on_ok_weaker c.write_lits.result (λ e. e
-    ∙ ap (λ s. (s ++ flat_map after_space (map lit_text c.as_slice.result.now)) ++ after_space zero_text) head
-    ∙ ap (λ d. (((old ++ codes "i") ++ after_space (decimal id)) ++ flat_map after_space (map lit_text d))
-    ++ after_space zero_text) c.as_slice.ensures
-    ∙ input_written old id c.in-Input.clause
-    ∙ ap (λ d. old ++ text_of d) (sym c.in-Input.is)) c.write_lits.ensures
 
 pub returns-in_ok-write_lits-in-Add : goal.returns-in_ok-write_lits-in-Add
 returns-in_ok-write_lits-in-Add c =

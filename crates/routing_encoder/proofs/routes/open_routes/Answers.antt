@@ -3,7 +3,7 @@ use Rattle.std.proofs.lemmas.List.{length-append}
 use Rattle.std.proofs.lemmas.List.Elements.{All-push}
 use Rattle.failed_links.proofs.Steps.{grows_grown}
 use Rattle.term_store.specs.Terms.{size}
-use Rattle.sym_rib.specs.Into.{HasTracked}
+use Rattle.sym_policy.specs.MapRecs.{HasTracked}
 use Rattle.bgp_variables.proofs.EnvironmentSteps.{row_within}
 use Rattle.routing_encoder.proofs.RouteSteps.{route_read, route_width}
 use Rattle.routing_encoder.proofs.routes.open_routes.Goals as goal

@@ -6,7 +6,7 @@ use Rattle.net_parts.specs.Origins.{by_network}
 use Rattle.sym_policy.specs.Held.{bgp_of}
 use Rattle.route_shapes.specs.Bgp.{bgp_shape}
 use Rattle.sym_policy.specs.Records.{prefix_of}
-use Rattle.sym_rib.specs.Into.{HasTracked}
+use Rattle.sym_policy.specs.MapRecs.{HasTracked}
 use Rattle.sym_rib.proofs.OneEach.{all_put, lines_step, list_end-append}
 use Rattle.sym_rib.proofs.into_bgp.by_networks.Goals as goal
 

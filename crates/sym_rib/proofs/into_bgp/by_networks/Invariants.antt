@@ -8,7 +8,8 @@ use Rattle.sym_policy.specs.Records.{prefix_of}
 use Rattle.route_shapes.specs.Shapes.{all_tracked}
 use Rattle.term_store.specs.Terms.{Reading, size}
 use Rattle.term_store.specs.Reading.{Reads, Builds}
-use Rattle.sym_rib.specs.Into.{HasTracked, list_end}
+use Rattle.sym_policy.specs.MapRecs.{HasTracked}
+use Rattle.sym_rib.specs.Into.{list_end}
 use Rattle.sym_rib.specs.Slots.{StandsBesideBgp}
 use Rattle.sym_rib.proofs.into_bgp.by_networks.Given as goal
 
