@@ -31,7 +31,7 @@ one_more true false xs ys below rest = let both = below refl in cc
 one_more false true xs ys below (inl same) = let counts : count xs ≡ count ys = ap count same in inr (omega arith)
 one_more false true xs ys below (inr less) = inr (omega arith)
 one_more false false xs ys below (inl same) = inl (ap (λ zs. false ∷ zs) same)
-one_more false false xs ys below (inr less) = inr less
+one_more false false xs ys below (inr less) = inr (omega (arith, less))
 
 pub same_or_more : (xs ys : List Bool) → length xs ≡ length ys → Below xs ys → (xs ≡ ys) ⊎ (count xs < count ys)
 same_or_more [] [] long below = inl refl
