@@ -10,29 +10,10 @@ ghost use Rattle.route_shapes.specs.Shapes.{path_shape};
 ghost use Rattle.sym_policy.specs.Routes.{path_at, path_end, rest_end, IsBare};
 
 use crate::parts::{SymPath, SymRest};
-use mw_text::List;
 use route_record::Tracked;
 use std::alloc::{AllocError, Global};
-use term_arith::gates::constant_node;
-use term_arith::lists::put;
-use term_arith::{Bits, constant};
-use term_store::{NodeId, Terms};
-
-/// So many nodes that are false.
-#[tactic(auto, using(crate::proofs::BareRows::row_steps))]
-pub fn no_marks(alloc: Global, terms: &mut Terms, count: usize) -> Result<Bits, AllocError>
-    ensures builds { Builds terms.old terms.new }
-    ensures within { IfOk result (λ r. ids_end r.nodes.items ≤ size terms.new) }
-    ensures width { IfOk result (λ r. length r.nodes.items ≡ count) }
-    ensures value { Gives terms.new result (λ w r. bits w r.nodes.items ≡ replicate count false) }
-{
-    let mut nodes = List::new(alloc);
-    for i in 0..count {
-        let node = constant_node(terms, false)?;
-        put(&mut nodes, node)?;
-    }
-    Ok(Bits { nodes: nodes.items })
-}
+use term_arith::{Bits, constant, zeros};
+use term_store::Terms;
 
 /// The empty path.
 #[tactic(auto, using(crate::proofs::BareRows::empty_path))]
@@ -45,7 +26,7 @@ pub fn no_path(alloc: Global, terms: &mut Terms, tracked: &Tracked) -> Result<Sy
     let len = constant(alloc, terms, 0, 32)?;
     let first = constant(alloc, terms, 0, 32)?;
     let last = constant(alloc, terms, 0, 32)?;
-    let numbers = no_marks(alloc, terms, tracked.numbers.as_slice().len())?;
+    let numbers = zeros(alloc, terms, tracked.numbers.as_slice().len())?;
     Ok(SymPath {
         len,
         first,
@@ -72,7 +53,7 @@ pub fn bare_rest(
     let originator = constant(alloc, terms, 0, 33)?;
     let from = constant(alloc, terms, 0, 33)?;
     let cluster_len = constant(alloc, terms, 0, 32)?;
-    let clusters = no_marks(alloc, terms, tracked.clusters.as_slice().len())?;
+    let clusters = zeros(alloc, terms, tracked.clusters.as_slice().len())?;
     Ok(SymRest {
         next_hop,
         originator,

@@ -21,7 +21,7 @@ mod routes;
 mod sets;
 mod through;
 
-pub use bare::{bare_rest, no_marks, no_path};
+pub use bare::{bare_rest, no_path};
 pub use copies::{joined, path_of, preferences_of, rest_of, route_of};
 pub use lines::{Grounds, sym_takes};
 pub use lists::sym_marked;

@@ -17,11 +17,10 @@ use crate::known_parts::HeldParts;
 use route_record::{Origin, Tracked};
 use std::alloc::{AllocError, Global};
 use sym_policy::{
-    SymBgp, SymMapRec, SymPreferences, SymRest, SymRoute, bare_rest, joined, no_marks, no_path,
-    path_of,
+    SymBgp, SymMapRec, SymPreferences, SymRest, SymRoute, bare_rest, joined, no_path, path_of,
 };
 use term_arith::gates::constant_node;
-use term_arith::{Bits, constant, copy};
+use term_arith::{Bits, constant, copy, zeros};
 use term_store::{NodeId, Terms};
 
 /// What is known of a route with an empty path and no communities, beside its metric.
@@ -104,7 +103,7 @@ fn known_route(
     }) }
 {
     let type1 = constant_node(terms, type1)?;
-    let communities = no_marks(alloc, terms, tracked.communities.as_slice().len())?;
+    let communities = zeros(alloc, terms, tracked.communities.as_slice().len())?;
     let path = no_path(alloc, terms, tracked)?;
     Ok(SymRoute {
         preferences,

@@ -1,6 +1,6 @@
 -- Lists of nodes, item by item: their ends, their bits and the numbers of these.
 use Rattle.std.proofs.Common.{◌≡◌, ℕ, ◌+◌, ◌*◌, ◌/◌, ◌%◌, ◌^◌, nat_eq, ◌<◌, ◌≤◌, zero, suc, max, Bool, true, false}
-use Rattle.std.proofs.Common.{not, nat_lt}
+use Rattle.std.proofs.Common.{not, nat_lt, replicate}
 use Rattle.std.specs.Prelude.{slice_index_or}
 use Rattle.std.proofs.Common.{if◌then◌else◌, List, [], ◌∷◌, ◌++◌, take, drop, get_or, length, refl, sym, ap, subst}
 use Rattle.std.proofs.Common.{◌∙◌, arith}
@@ -40,6 +40,21 @@ ids_end_at (id ∷ ids) (suc i) d h = let rest = ids_end_at ids i d (omega arith
 pub ids_end_push : (ids : List NodeId) (id : NodeId) → ids_end (ids ++ id ∷ []) ≡ max (ids_end ids) (id.0 + 1)
 ids_end_push [] id = omega arith
 ids_end_push (x ∷ ids) id = let rest = ids_end_push ids id in omega arith
+
+-- the same node again and again
+pub ids_end_same : (n : ℕ) (id : NodeId) (size : ℕ) → id.0 < size → ids_end (replicate n id) ≤ size
+ids_end_same zero id size within = omega arith
+ids_end_same (suc n) id size within = let rest = ids_end_same n id size within in omega (arith, rest, within)
+
+pub bits_same : (w : Reading) (n : ℕ) (id : NodeId) → at w id ≡ false → bits w (replicate n id) ≡ replicate n false
+bits_same w zero id none = refl
+bits_same w (suc n) id none = rw none (ap (λ bs. false ∷ bs) (bits_same w n id none))
+
+pub number_same : (w : Reading) (n : ℕ) (id : NodeId) → at w id ≡ false → number w (replicate n id) ≡ 0
+number_same w zero id none = refl
+number_same w (suc n) id none = let rest = number_same w n id none in rw none (omega (arith, rest))
+
+pub ruleset zero_steps = (ids_end_same, bits_same, number_same)
 
 -- a number's lowest bit, and the rest
 pub number_drop : (w : Reading) (ids : List NodeId) (i : ℕ) (d : NodeId) → i < length ids

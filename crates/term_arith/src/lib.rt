@@ -14,7 +14,7 @@ mod sum;
 mod values;
 
 pub use compare::{above_number, choose, equal, equal_number, less};
-pub use constants::constant;
+pub use constants::{constant, zeros};
 pub use count::at_most;
 pub use lists::{copy, fresh_bits};
 pub use masked::equal_masked;
