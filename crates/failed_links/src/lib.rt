@@ -6,5 +6,5 @@ mod links;
 mod values;
 
 pub use failures::{downs_size, failures_at};
-pub use links::{downs_of, none_down};
+pub use links::{downs_at, none_down, put_unmarked};
 pub use values::{number_at, value_at};

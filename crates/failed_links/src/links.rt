@@ -1,18 +1,17 @@
-//! The failed links as terms: a new variable for each link, and none where no link may fail.
+//! The failed links as terms: a variable for each link, and none where no link may fail.
 
 ghost use Rattle.std.specs.Prelude.{◌≡◌, ◌+◌, ◌≤◌, ◌<◌, IfOk, OnOk, length};
 ghost use Rattle.term_store.specs.Terms.{size};
-ghost use Rattle.term_store.specs.Reading.{Builds, Grows, Gives};
+ghost use Rattle.term_store.specs.Reading.{Builds, Gives};
 ghost use Rattle.term_arith.specs.Bits.{bits, ids_end};
 ghost use Rattle.failed_links.specs.Failures.{downs_from, downs_width, none_of};
 ghost use Rattle.failed_links.specs.Rows.{row};
 
 use mw_text::List;
-use net_model::Link;
 use std::alloc::{AllocError, Global};
 use term_arith::gates::constant_node;
 use term_arith::lists::put;
-use term_store::{NodeId, Terms};
+use term_store::{Node, NodeId, Terms};
 
 /// So many nodes that are false.
 #[tactic(auto, using(crate::proofs::Steps::none_steps))]
@@ -30,41 +29,61 @@ pub fn none_down(alloc: Global, terms: &mut Terms, links: usize) -> Result<List<
     Ok(downs)
 }
 
-// A new variable for each link.
+// The variables of so many links, from a first one on.
 #[tactic(auto, using(crate::proofs::Steps::row_steps))]
-fn fresh_row(alloc: Global, terms: &mut Terms, links: &[Link]) -> Result<List<NodeId>, AllocError>
-    ensures grows { Grows terms.old terms.new }
+fn row_of(
+    alloc: Global,
+    terms: &mut Terms,
+    first: u64,
+    links: usize,
+) -> Result<List<NodeId>, AllocError>
+    requires there { first + links ≤ terms.old.vars }
+    ensures builds { Builds terms.old terms.new }
     ensures within { IfOk result (λ r. ids_end r ≤ size terms.new) }
-    ensures length { IfOk result (λ r. length r ≡ length links.now) }
-    ensures vars { OnOk result (terms.new.vars ≡ terms.old.vars + length links.now) }
-    ensures value { Gives terms.new result (λ w r. bits w r ≡ row w.variable terms.old.vars (length links.now)) }
+    ensures length { IfOk result (λ r. length r ≡ links) }
+    ensures value { Gives terms.new result (λ w r. bits w r ≡ row w.variable first links) }
 {
+    let _few = terms.vars();
     let mut nodes = List::new(alloc);
-    for i in 0..links.len() {
-        let node = terms.fresh()?;
+    for i in 0..links {
+        let node = terms.add(Node::Var(first + i as u64))?;
         put(&mut nodes, node)?;
     }
     Ok(nodes)
 }
 
-/// Which of some links are down, where at most so many are.
-#[tactic(auto, using(crate::proofs::Steps::grows_built), unfolding(crate::specs::Failures::downs_from, crate::specs::Failures::downs_width))]
-pub fn downs_of(
+/// Puts the variables of the links that are not marked into the store, so that theirs are the lower nodes.
+pub fn put_unmarked(terms: &mut Terms, first: u64, marked: &[bool]) -> Result<(), AllocError>
+    requires there { first + length marked.now ≤ terms.old.vars }
+    ensures builds { Builds terms.old terms.new }
+{
+    let _few = terms.vars();
+    for i in 0..marked.len() {
+        if !marked[i] {
+            terms.add(Node::Var(first + i as u64))?;
+        }
+    }
+    Ok(())
+}
+
+/// Which of some links are down, where at most so many are: by the variables of the store from a first one on.
+#[tactic(auto, unfolding(crate::specs::Failures::downs_from, crate::specs::Failures::downs_width))]
+pub fn downs_at(
     alloc: Global,
     terms: &mut Terms,
+    first: u64,
     most: u32,
-    links: &[Link],
+    links: usize,
 ) -> Result<List<NodeId>, AllocError>
-    ensures grows { Grows terms.old terms.new }
+    requires there { first + downs_width most links ≤ terms.old.vars }
+    ensures builds { Builds terms.old terms.new }
     ensures within { IfOk result (λ r. ids_end r ≤ size terms.new) }
-    ensures length { IfOk result (λ r. length r ≡ length links.now) }
-    ensures vars { OnOk result (terms.new.vars ≡ terms.old.vars + downs_width most (length links.now)) }
-    ensures value { Gives terms.new result (λ w r.
-        bits w r ≡ downs_from most (length links.now) w.variable terms.old.vars) }
+    ensures length { IfOk result (λ r. length r ≡ links) }
+    ensures value { Gives terms.new result (λ w r. bits w r ≡ downs_from most links w.variable first) }
 {
     if most == 0 {
-        none_down(alloc, terms, links.len())
+        none_down(alloc, terms, links)
     } else {
-        fresh_row(alloc, terms, links)
+        row_of(alloc, terms, first, links)
     }
 }

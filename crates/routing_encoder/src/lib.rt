@@ -10,6 +10,7 @@ mod ending;
 mod following;
 mod frame;
 mod looping;
+mod near;
 mod opening;
 mod outside;
 mod possible;

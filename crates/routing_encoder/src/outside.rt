@@ -18,18 +18,19 @@ ghost use Rattle.bgp_variables.specs.Environments.{announced_from, environment_w
 ghost use Rattle.world_variables.specs.Packets.{packet_from};
 ghost use Rattle.world_variables.specs.Worlds.{downs_start, slots_start};
 
+use crate::near::near_links;
 use bgp_equations::SymEnv;
 use bgp_variables::{open_announced, open_ids};
-use failed_links::downs_of;
+use failed_links::{downs_at, put_unmarked};
 use igp_variables::open_rows;
 use mw_text::List;
 use net_model::Net;
 use net_parts::ends::is_outside;
-use question_lang::Question;
+use question_lang::{Kind, Question};
 use std::alloc::{AllocError, Global};
 use sym_policy::{SymNet, SymOspf, SymPacket};
 use term_store::Terms;
-use world_variables::packet_in;
+use world_variables::{packet_in, packet_size};
 
 /// The packet and the failed links of a world.
 #[derive(Drop)]
@@ -38,8 +39,41 @@ pub struct Outside {
     pub net: SymNet,
 }
 
+// Takes a variable for each link. Those of links that are not at the packet's start become nodes here, before the packet's:
+// a search by order then decides them first, all up, and the links at the start last. Where a few failed links break a
+// question, most often some at the start do.
+#[tactic(auto, using(failed_links::proofs::Steps::grows_grown, failed_links::proofs::Steps::grows_built))]
+fn open_links(alloc: Global, terms: &mut Terms, net: &Net, kind: &Kind) -> Result<(), AllocError>
+    ensures grows { Grows terms.old terms.new }
+    ensures vars { OnOk result (terms.new.vars ≡ terms.old.vars + length (links_of net.now.files)) }
+{
+    let first = terms.vars();
+    let near = near_links(alloc, net, kind)?;
+    terms.reserve(near.items.len() as u64)?;
+    put_unmarked(terms, first, near.items.as_slice())
+}
+
+// Takes the variables of the packet of a question, and of its links where some may fail.
+#[tactic(auto, using(failed_links::proofs::Steps::grows_grown), unfolding(failed_links::specs::Failures::downs_width))]
+fn open_variables(
+    alloc: Global,
+    terms: &mut Terms,
+    net: &Net,
+    question: &Question,
+) -> Result<(), AllocError>
+    ensures grows { Grows terms.old terms.new }
+    ensures vars { OnOk result (terms.new.vars ≡ slots_start net.now.files question.now terms.old.vars) }
+{
+    terms.reserve(packet_size(question.packets) as u64)?;
+    if question.failures == 0 {
+        Ok(())
+    } else {
+        open_links(alloc, terms, net, &question.kind)
+    }
+}
+
 /// The packet of a question's set, and at most so many failed links as it allows: their variables are new.
-#[tactic(auto, using(failed_links::proofs::Steps::grows_grown), unfolding(failed_links::specs::Failures::failures_from, sym_policy::specs::Held::failures_of))]
+#[tactic(auto, using(failed_links::proofs::Steps::grows_grown, failed_links::proofs::Steps::grows_built), unfolding(failed_links::specs::Failures::failures_from, sym_policy::specs::Held::failures_of))]
 pub fn open_outside(
     alloc: Global,
     terms: &mut Terms,
@@ -56,8 +90,12 @@ pub fn open_outside(
         ≡ failures_from question.now.failures (length (links_of net.now.files)) w.variable
         (downs_start question.now terms.old.vars)) }
 {
-    let packet = packet_in(alloc, terms, question.packets)?;
-    let down = downs_of(alloc, terms, question.failures, net.links())?;
+    let first = terms.vars();
+    open_variables(alloc, terms, net, question)?;
+    let _few = terms.vars();
+    let packet = packet_in(alloc, terms, first, question.packets)?;
+    let downs = first + packet_size(question.packets) as u64;
+    let down = downs_at(alloc, terms, downs, question.failures, net.links().len())?;
     let net = SymNet {
         down,
         igp: List::new(alloc),

@@ -1,6 +1,6 @@
 //! Arithmetic over terms: numbers as lists of nodes, and gates over nodes.
 //!
-//! No call here adds a variable. What a call says of its result holds under every reading of the store
+//! `fresh_bits` alone adds variables. What a call says of its result holds under every reading of the store
 //! (`term_store`), so it holds while the store grows.
 #![tactic(auto)]
 
@@ -16,7 +16,7 @@ mod values;
 pub use compare::{above_number, choose, equal, equal_number, less};
 pub use constants::{constant, zeros};
 pub use count::at_most;
-pub use lists::{copy, fresh_bits};
+pub use lists::{bits_at, copy, fresh_bits};
 pub use masked::equal_masked;
 pub use sum::{Summed, add, add_within};
 use term_store::NodeId;

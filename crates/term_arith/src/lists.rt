@@ -10,7 +10,7 @@ use crate::Bits;
 use crate::gates::{both, constant_node, either};
 use mw_text::List;
 use std::alloc::{AllocError, Global};
-use term_store::{NodeId, Terms};
+use term_store::{Node, NodeId, Terms};
 
 /// True where all nodes are.
 #[tactic(auto, using(crate::proofs::NumberLemmas::ids_end_at))]
@@ -62,6 +62,24 @@ pub fn fresh_bits(alloc: Global, terms: &mut Terms, width: u8) -> Result<Bits, A
     let mut nodes = List::new(alloc);
     for i in 0..width {
         let node = terms.fresh()?;
+        put(&mut nodes, node)?;
+    }
+    Ok(Bits { nodes: nodes.items })
+}
+
+/// The number of these variables of the store, lowest bit first.
+#[tactic(auto, using(crate::proofs::NumberLemmas::fresh_steps))]
+pub fn bits_at(alloc: Global, terms: &mut Terms, first: u64, width: u8) -> Result<Bits, AllocError>
+    requires there { first + width ≤ terms.old.vars }
+    ensures builds { Builds terms.old terms.new }
+    ensures within { IfOk result (λ r. ids_end r.nodes.items ≤ size terms.new) }
+    ensures width { IfOk result (λ r. length r.nodes.items ≡ width) }
+    ensures value { Gives terms.new result (λ w r. bits w r.nodes.items ≡ variables w first width) }
+{
+    let _few = terms.vars();
+    let mut nodes = List::new(alloc);
+    for i in 0..width {
+        let node = terms.add(Node::Var(first + u64::from(i)))?;
         put(&mut nodes, node)?;
     }
     Ok(Bits { nodes: nodes.items })

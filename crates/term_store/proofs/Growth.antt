@@ -51,15 +51,23 @@ IsBelow-more l v l' v' (Or a b) h g p = (omega arith, omega arith)
 IsBelow-more l v l' v' (Xor a b) h g p = (omega arith, omega arith)
 IsBelow-more l v l' v' (Ite c a b) h g p = (omega arith, omega arith, omega arith)
 
+-- more variables change nothing
+pub IsSound-more : (nodes : List Node) (vars vars' : ℕ) → IsSound nodes vars → vars ≤ vars'
+    → vars' ≤ 9223372036854775808 → IsSound nodes vars'
+IsSound-more nodes vars vars' sound more few = record {
+  below = λ i m h. IsBelow-more i vars i vars' m (omega arith) more (sound.below i m h);
+  few = few;
+}
+
 -- a node above its operands may be put last
 pub IsSound-push : (nodes : List Node) (vars vars' : ℕ) (n : Node) → IsSound nodes vars → vars ≤ vars'
-    → vars' ≤ length nodes + 1 → IsBelow (length nodes) vars' n → IsSound (nodes ++ n ∷ []) vars'
-IsSound-push nodes vars vars' n sound more counted fits = record {
+    → vars' ≤ 9223372036854775808 → IsBelow (length nodes) vars' n → IsSound (nodes ++ n ∷ []) vars'
+IsSound-push nodes vars vars' n sound more few fits = record {
   below = λ i m h. ⊎_elim
       (λ old. IsBelow-more i vars i vars' m (omega arith) more (sound.below i m old))
       (λ last. subst (λ x. IsBelow i vars' x) (sym last.1) (subst (λ k. IsBelow k vars' n) (sym last.0) fits))
       (push_cases nodes n m i h);
-  counted = subst (λ k. vars' ≤ k) (sym (length_push nodes n)) counted;
+  few = few;
 }
 
 -- a node of the store is above its operands

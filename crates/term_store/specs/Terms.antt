@@ -24,10 +24,10 @@ IsBelow limit vars (Or a b) = (a.0 < limit) × (b.0 < limit)
 IsBelow limit vars (Xor a b) = (a.0 < limit) × (b.0 < limit)
 IsBelow limit vars (Ite c a b) = (c.0 < limit) × (a.0 < limit) × (b.0 < limit)
 
--- each node stands above its operands, and each variable has a node
+-- each node stands above its operands, and there are at most 2^63 variables
 pub record IsSound (nodes : List Node) (vars : ℕ) : Type 0 where
   pub below : (i : ℕ) (n : Node) → slice_get nodes i ≡ Some n → IsBelow i vars n
-  pub counted : vars ≤ length nodes
+  pub few : vars ≤ 9223372036854775808
 
 -- no node stands at two numbers
 abbrev pub StandsOnce : List Node → Type 0

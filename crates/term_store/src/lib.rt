@@ -18,6 +18,9 @@ use std::marker::Model;
 #[derive(Debug, Clone, Copy, PartialEq, Eq, Hash)]
 pub struct NodeId(pub u64);
 
+/// How many variables a store may have.
+const MOST_VARS: u64 = 9223372036854775808;
+
 /// A node: a constant, a variable by its number, or a gate over nodes of the store.
 #[derive(Clone, Copy, PartialEq, Eq, Hash)]
 pub enum Node {
@@ -84,9 +87,28 @@ impl Terms {
     {
         let number = self.nodes.len();
         let var = self.vars;
+        if var >= MOST_VARS {
+            return Err(AllocError);
+        }
         put(&mut self.nodes, Node::Var(var))?;
         self.vars = var + 1;
         Ok(NodeId(number as u64))
+    }
+
+    /// Takes the next variables, so many of them, without nodes: each has its node where it is first added. Where there
+    /// would be more than 2^63, it answers want of memory.
+    pub fn reserve(&mut self, count: u64) -> Result<(), AllocError>
+        ensures nodes { self.new.nodes ≡ self.old.nodes }
+        ensures vars { OnOk result (self.new.vars ≡ self.old.vars + count) }
+        ensures unchanged { OnErr result (self.new ≡ self.old) }
+
+        ensures grows { Grows self.old self.new }
+    {
+        if count > MOST_VARS - self.vars {
+            return Err(AllocError);
+        }
+        self.vars += count;
+        Ok(())
     }
 
     /// Answers the number of the node that is equal to this one. Where there is none, the node is put last.
@@ -133,7 +155,7 @@ impl Terms {
     /// How many variables there are.
     pub fn vars(&self) -> u64
         ensures vars { result ≡ self.now.vars }
-        ensures counted { result ≤ size self.now }
+        ensures few { result ≤ 2 ^ 63 }
     {
         self.vars
     }

@@ -20,7 +20,7 @@ use route_record::{OspfKind, OspfRec, Packet};
 use slot_places::{Field, Room};
 
 // How many variables a field has.
-fn field_width(fixed: Option<u16>, width: u8) -> u8
+pub(crate) fn field_width(fixed: Option<u16>, width: u8) -> u8
     ensures { result ≡ packets.field_width fixed width }
 {
     match fixed {

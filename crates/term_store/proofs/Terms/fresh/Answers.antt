@@ -9,7 +9,6 @@ pub invariant_of-self-2 : goal.invariant_of-self-2
 invariant_of-self-2 c =
     let old = c.self.invariant in
     let e = Puts-next_var _ _ _ old c.in_ok-put.ensures.puts in
-    let counted = old.counted in
     let next : c.self.inside.vars ≤ c.self.inside.vars + 1 = omega arith in
     subst (λ l. IsSound l (c.self.inside.vars + 1)) (sym e) (IsSound-push _ _ _ _ old next (omega arith) (omega arith))
 
