@@ -18,7 +18,7 @@ ghost use Rattle.bgp_variables.specs.Environments.{announced_from, environment_w
 ghost use Rattle.world_variables.specs.Packets.{packet_from};
 ghost use Rattle.world_variables.specs.Worlds.{downs_start, slots_start};
 
-use crate::near::near_links;
+use crate::last::last_links;
 use bgp_equations::SymEnv;
 use bgp_variables::{open_announced, open_ids};
 use failed_links::{downs_at, put_unmarked};
@@ -26,7 +26,7 @@ use igp_variables::open_rows;
 use mw_text::List;
 use net_model::Net;
 use net_parts::ends::is_outside;
-use question_lang::{Kind, Question};
+use question_lang::Question;
 use std::alloc::{AllocError, Global};
 use sym_policy::{SymNet, SymOspf, SymPacket};
 use term_store::Terms;
@@ -39,18 +39,23 @@ pub struct Outside {
     pub net: SymNet,
 }
 
-// Takes a variable for each link. Those of links that are not at the packet's start become nodes here, before the packet's:
-// a search by order then decides them first, all up, and the links at the start last. Where a few failed links break a
-// question, most often some at the start do.
+// Takes a variable for each link. Of most questions those of links that are not at the packet's start become nodes here,
+// before the packet's: a search by order then decides them first, all up, and the links at the start last. Where a few
+// failed links break a question, most often some at the start do.
 #[tactic(auto, using(failed_links::proofs::Steps::grows_grown, failed_links::proofs::Steps::grows_built))]
-fn open_links(alloc: Global, terms: &mut Terms, net: &Net, kind: &Kind) -> Result<(), AllocError>
+fn open_links(
+    alloc: Global,
+    terms: &mut Terms,
+    net: &Net,
+    question: &Question,
+) -> Result<(), AllocError>
     ensures grows { Grows terms.old terms.new }
     ensures vars { OnOk result (terms.new.vars ≡ terms.old.vars + length (links_of net.now.files)) }
 {
     let first = terms.vars();
-    let near = near_links(alloc, net, kind)?;
-    terms.reserve(near.items.len() as u64)?;
-    put_unmarked(terms, first, near.items.as_slice())
+    let last = last_links(alloc, net, question)?;
+    terms.reserve(last.items.len() as u64)?;
+    put_unmarked(terms, first, last.items.as_slice())
 }
 
 // Takes the variables of the packet of a question, and of its links where some may fail.
@@ -68,7 +73,7 @@ fn open_variables(
     if question.failures == 0 {
         Ok(())
     } else {
-        open_links(alloc, terms, net, &question.kind)
+        open_links(alloc, terms, net, question)
     }
 }
 

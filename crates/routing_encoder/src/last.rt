@@ -1,12 +1,12 @@
-//! Which links are at the routers where the packets of a question begin. Their variables become nodes after all others,
-//! so that a search that decides by order comes to them last.
+//! Which links' variables become nodes after those of a question's packet, so that a search that decides by order comes to
+//! them last: of most questions those at the routers where its packets begin.
 
 ghost use Rattle.std.specs.Prelude.{◌≡◌, ◌++◌, ◌∷◌, [], IfOk, OnOk, length};
 ghost use Rattle.net_parts.specs.World.{links_of};
 
 use mw_text::List;
 use net_model::{Link, Net};
-use question_lang::Kind;
+use question_lang::{Kind, Question};
 use std::alloc::{AllocError, Global};
 
 // Whether packets of a question of the kind begin at the router.
@@ -31,23 +31,33 @@ fn is_near(kind: &Kind, link: &Link) -> bool {
         .any(|iface| begins_at(kind, iface.router))
 }
 
-// Puts whether one more link is there at the end.
-fn put_near(made: &mut List<bool>, near: bool) -> Result<(), AllocError>
-    ensures { OnOk result (made.new ≡ made.old ++ near ∷ []) }
+// Whether all links come last: where two routers are to do alike with packets while any one link has failed. Such questions
+// mostly hold, and then fewer clauses are learnt with the packet decided before all links.
+fn are_all_last(question: &Question) -> bool {
+    match &question.kind {
+        Kind::Alike(_, _, _) => question.failures < 2,
+        _ => false,
+    }
+}
+
+// Puts whether one more link comes last at the end.
+fn put_last(made: &mut List<bool>, last: bool) -> Result<(), AllocError>
+    ensures { OnOk result (made.new ≡ made.old ++ last ∷ []) }
 {
-    made.items.push(near)?;
+    made.items.push(last)?;
     Ok(())
 }
 
-/// For each link, whether it is at a router where packets of a question of the kind begin.
+/// For each link, whether its variable comes after those of the packet.
 #[tactic(auto, using(failed_links::proofs::Steps::row_steps))]
-pub fn near_links(alloc: Global, net: &Net, kind: &Kind) -> Result<List<bool>, AllocError>
+pub fn last_links(alloc: Global, net: &Net, question: &Question) -> Result<List<bool>, AllocError>
     ensures { IfOk result (λ r. length r ≡ length (links_of net.now.files)) }
 {
     let links = net.links();
-    let mut near = List::new(alloc);
+    let mut last = List::new(alloc);
     for i in 0..links.len() {
-        put_near(&mut near, is_near(kind, &links[i]))?;
+        let here = are_all_last(question) || is_near(&question.kind, &links[i]);
+        put_last(&mut last, here)?;
     }
-    Ok(near)
+    Ok(last)
 }
