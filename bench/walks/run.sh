@@ -15,7 +15,8 @@ if [ -z "${PROGRAM:-}" ]; then
     walks=$work/crates/walk_nodes
     mkdir -p "$walks/src" "$work/crates/random_networks/src"
     # The crates that the program and its networks name, and all that they stand on.
-    for crate in $("$top/bench/below.sh" sym_walk question_lang sym_rib sym_policy ios_reader); do
+    known=$("$top/bench/below.sh" sym_walk question_lang sym_rib sym_policy ios_reader)
+    for crate in $known; do
         cp -r "$top/crates/$crate" "$work/crates/$crate"
         rm -rf "$work/crates/$crate/out"
         grep "^$crate:" "$top/crates.txt" >> "$work/crates.txt"
@@ -26,10 +27,8 @@ if [ -z "${PROGRAM:-}" ]; then
     # The world of new variables.
     cp "$top/bench/random/worlds/symbolic.rt.in" "$walks/src/symbolic.rt"
     cp "$top/bench/walks/main.rt.in" "$walks/src/main.rt"
-    cat >> "$work/crates.txt" <<'END'
-random_networks: sym_rib sym_ospf sym_policy term_arith term_store net_model ios_reader ios_ast route_record mw_text
-walk_nodes: random_networks sym_walk question_lang sym_rib sym_policy net_model term_arith term_store route_record mw_text
-END
+    echo random_networks: $known >> "$work/crates.txt"
+    echo walk_nodes: random_networks $known >> "$work/crates.txt"
     "$top/tools/optimised_build.sh" "$walks" "$work/walk_nodes"
     PROGRAM=$work/walk_nodes
 fi
