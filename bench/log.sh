@@ -19,7 +19,8 @@ mkdir "$work/crates/bench_log/src"
 cp "$top/bench/log/main.rt.in" "$work/crates/bench_log/src/main.rt"
 echo '0 additions accepted' > "$work/crates/bench_log/stdout"
 cp "$top/HANDLES" "$work/"
-printf 'mw_text: bstr\nresolution_check: mw_text thiserror\nbench_log: mw_text resolution_check\n' > "$work/crates.txt"
+grep -E '^(mw_text|resolution_check):' "$top/crates.txt" > "$work/crates.txt"
+echo 'bench_log: mw_text resolution_check' >> "$work/crates.txt"
 cd "$work"
 rt all check > "$work/check.txt" 2>&1 || { tail -20 "$work/check.txt"; exit 1; }
 for crate in mw_text resolution_check; do (cd "crates/$crate" && rt lib > /dev/null); done
