@@ -13,10 +13,12 @@ const FIRST_STEP: u64 = 1 << 20;
 /// Above this the step and all scores are made smaller.
 const GREATEST_STEP: u64 = 1 << 40;
 
-/// A choice that was made: how many variables had been taken out before, the variable and its value.
+/// A choice that was made: how many variables had been taken out before, from where on variables without a score were
+/// looked at, the variable and its value.
 #[derive(Clone, Copy)]
 struct Chosen {
     taken_before: usize,
+    next_before: u64,
     var: u64,
     positive: bool,
 }
@@ -26,12 +28,16 @@ struct Chosen {
 /// failed links, so that it is tried with failed links first; and false for all others. It tells no bumps. No clause says
 /// which variable it chooses, nor its value: that changes how long a search takes, and tests show it.
 ///
-/// Variables leave the heap as they are chosen, or met with a value. Nobody says when they are free again, but each way
-/// back of a search comes with a `decay`: at the next `pick` the first choice that does not stand any more is looked
-/// for, and what left the heap from then on is put back.
+/// Variables come into the heap when they are bumped first, and leave it as they are chosen, or met with a value. Those that
+/// were never bumped come after them, in their order: most variables of a large formula get their values from others, and
+/// to pass them one by one costs far less than to take them out of a heap. Nobody says when variables are free again, but
+/// each way back of a search comes with a `decay`: at the next `pick` the first choice that does not stand any more is
+/// looked for, what left the heap from then on is put back, and the others are looked at from where they were then.
 #[derive(Drop)]
 pub struct ScoreDecider {
     heap: Heap,
+    // Those before it that have no score were met with a value.
+    next: u64,
     step: u64,
     phases: Vec<bool>,
     taken: Vec<u64>,
@@ -78,6 +84,7 @@ impl ScoreDecider {
     {
         ScoreDecider {
             heap: Heap::new(alloc),
+            next: 0,
             step: FIRST_STEP,
             phases: Vec::new(alloc),
             taken: Vec::new(alloc),
@@ -95,6 +102,7 @@ impl ScoreDecider {
         else {
             return;
         };
+        self.next = self.chosen[first].next_before;
         let from = self.chosen[first].taken_before.min(self.taken.len());
         for var in &self.taken[from..] {
             self.heap.put(*var);
@@ -103,8 +111,8 @@ impl ScoreDecider {
         self.chosen.truncate(first);
     }
 
-    // Takes variables out, highest score first, up to one that is free.
-    fn next_free(&mut self, values: &[Value]) -> Option<u64> {
+    // Takes variables out of the heap, highest score first, up to one that is free.
+    fn next_scored(&mut self, values: &[Value]) -> Option<u64> {
         while let Some(var) = self.heap.pop() {
             let value = value_at(values, var);
             if value == Value::Free {
@@ -116,20 +124,50 @@ impl ScoreDecider {
         None
     }
 
+    // Passes the variables that have a value, up to one that is free.
+    fn next_unscored(&mut self, values: &[Value]) -> Option<u64> {
+        let count = values.len() as u64;
+        for var in self.next..count {
+            let value = value_at(values, var);
+            if value == Value::Free {
+                self.next = var;
+                return Some(var);
+            }
+            note_phase(&mut self.phases, var, value);
+        }
+        self.next = count;
+        None
+    }
+
     // Keeps a choice.
     fn choose(&mut self, var: u64) -> Choice {
         let positive = self.phases.get(var as usize).copied().unwrap_or(false);
-        let taken_before = self.taken.len();
-        push_within(
-            &mut self.chosen,
-            Chosen {
-                taken_before,
-                var,
-                positive,
-            },
-        );
-        push_within(&mut self.taken, var);
+        let chosen = Chosen {
+            taken_before: self.taken.len(),
+            next_before: self.next,
+            var,
+            positive,
+        };
+        push_within(&mut self.chosen, chosen);
         Choice { var, positive }
+    }
+
+    // Chooses a variable of highest score, and keeps that it was taken out.
+    fn choose_scored(&mut self, var: u64) -> Choice {
+        let choice = self.choose(var);
+        push_within(&mut self.taken, var);
+        choice
+    }
+
+    // Chooses a variable that has no score, where one is free.
+    fn choose_unscored(&mut self, values: &[Value]) -> Choice {
+        match self.next_unscored(values) {
+            Some(var) => self.choose(var),
+            None => Choice {
+                var: values.len() as u64,
+                positive: false,
+            },
+        }
     }
 }
 
@@ -137,12 +175,13 @@ impl Decider for ScoreDecider {
     ghost told = { λ _. None };
 
     fn prepare(&mut self, alloc: Global, vars: u64) -> Result<(), AllocError> {
-        let heap = Heap::of_all(alloc, vars)?;
+        let heap = Heap::with_room(alloc, vars)?;
         let phases = first_phases(alloc, vars)?;
         let taken = Vec::with_capacity(alloc, vars as usize)?;
         let chosen = Vec::with_capacity(alloc, vars as usize)?;
         *self = ScoreDecider {
             heap,
+            next: 0,
             step: FIRST_STEP,
             phases,
             taken,
@@ -153,6 +192,9 @@ impl Decider for ScoreDecider {
     }
 
     fn bump(&mut self, var: u64) {
+        if self.heap.is_unscored(var) {
+            self.heap.put(var);
+        }
         self.heap.raise(var, self.step);
     }
 
@@ -170,12 +212,9 @@ impl Decider for ScoreDecider {
             self.put_back(values);
             self.is_stale = false;
         }
-        match self.next_free(values) {
-            Some(var) => self.choose(var),
-            None => Choice {
-                var: values.len() as u64,
-                positive: false,
-            },
+        match self.next_scored(values) {
+            Some(var) => self.choose_scored(var),
+            None => self.choose_unscored(values),
         }
     }
 

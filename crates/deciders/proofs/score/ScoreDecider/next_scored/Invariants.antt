@@ -1,4 +1,4 @@
-use Rattle.deciders.proofs.score.ScoreDecider.next_free.Given as goal
+use Rattle.deciders.proofs.score.ScoreDecider.next_scored.Given as goal
 
 abbrev pub decreases-loop-var : goal.decreases-loop-var
 decreases-loop-var l = l.self.heap.count
